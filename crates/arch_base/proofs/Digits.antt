@@ -1,0 +1,57 @@
+-- Decimals and the values of digits.
+use Rattle.std.proofs.Common.{Bool, drop-cons, ◌⊎◌, inl, inr, ◌≡◌, ◌≢◌, ◌<◌, ◌≤◌, ◌^◌, ◌+◌, ◌-◌, ◌*◌, ℕ, zero, suc, true, List, [], ◌∷◌, length, get_or, drop, Option, Some, None, IfSome, IfNone, refl, sym, ◌∙◌, ap, subst, arith}
+use Rattle.std.proofs.lemmas.List.{at_drop_all}
+use Rattle.std.specs.Fmt.{decimal as printed}
+use Rattle.std.specs.Str.{all_ascii_digits}
+use Rattle.std.proofs.lemmas.Fmt.{decimal-digits_value, digits_decimal, digits_value-decimal, decimal_nonempty, first_decimal, decimal_digit}
+use Rattle.std.proofs.lemmas.Str.Parse.{IsNumeralModel, numerals_by_fold, tells_all_ascii_digits}
+use Rattle.arch_base.specs.Decimals.{read_on, IsValue}
+
+-- the value of digits, as std reads them
+pub digits_model : IsNumeralModel (λ ds. all_ascii_digits ds ≡ true) (read_on 0)
+digits_model = numerals_by_fold _ tells_all_ascii_digits read_on (record {
+  empty = λ n. refl;
+  more = λ n c cs k. let e : 10 * n + (c - 48) ≡ n * 10 + (c - 48) = omega arith in ap (λ m. read_on m cs) e;
+})
+
+-- digits without a leading zero are the decimal of their value
+pub printed-value : (text : List ℕ) (found : Option ℕ) → 0 < length text → (get_or text 0 0 ≡ 48 → length text ≡ 1) → IsValue text found → IfSome found (λ value. text ≡ printed value)
+printed-value text None some lead h = tt
+printed-value text (Some value) some lead h =
+    let small : read_on 0 text < 2 ^ 64 = omega (arith, h.1, h.2) in
+    sym (decimal-digits_value digits_model text h.0 some lead small) ∙ ap printed (sym h.1)
+
+-- where no value is found, the text is no decimal
+pub printed-none : (text : List ℕ) (found : Option ℕ) → IsValue text found → IfNone found ((value : ℕ) → value < 2 ^ 64 → text ≢ printed value)
+printed-none text None h = λ value small is.
+    let wide : 2 ^ 64 ≤ read_on 0 text = h (subst (λ ds. all_ascii_digits ds ≡ true) (sym is) (digits_decimal digits_model value small)) in
+    let same : read_on 0 text ≡ value = ap (read_on 0) is ∙ digits_value-decimal digits_model value small in
+    omega arith
+printed-none text (Some value) h = tt
+
+-- no decimal is empty, and none but that of zero begins with a zero
+pub printed-padded : (text : List ℕ) → (length text ≡ 0) ⊎ ((get_or text 0 0 ≡ 48) × (1 < length text)) → (value : ℕ) → value < 2 ^ 64 → text ≢ printed value
+printed-padded text (inl empty) value small is = let some : 0 < length (printed value) = decimal_nonempty value small in omega (arith, ap length is)
+printed-padded text (inr padded) zero small is = let one : length (printed 0) ≡ 1 = ap length (decimal_digit 0 (omega arith)) in omega (arith, padded.1, ap length is)
+printed-padded text (inr padded) (suc n) small is =
+    let first : 48 < get_or (printed (suc n)) 0 0 = first_decimal (suc n) (omega arith) small in
+    omega (arith, padded.0, ap (λ ds. get_or ds 0 0) is)
+
+-- the number read on is no less than the one before
+pub le-read_on : (n : ℕ) (ds : List ℕ) → n ≤ read_on n ds
+le-read_on n [] = omega arith
+le-read_on n (c ∷ cs) = omega (arith, le-read_on (10 * n + (c - 48)) cs)
+
+-- where one more digit does not fit, the value does not
+pub read_on-wide : (n : ℕ) (i : ℕ) (text : List ℕ) (all : ℕ) → i < length text → read_on n (drop i text) ≡ all → 2 ^ 64 ≤ 10 * n + (get_or text i 0 - 48) → 2 ^ 64 ≤ all
+read_on-wide n i text all here is wide =
+    let next : read_on n (drop i text) ≡ read_on (10 * n + (get_or text i 0 - 48)) (drop (suc i) text) = ap (read_on n) (drop-cons text i 0 here) in
+    omega (arith, le-read_on (10 * n + (get_or text i 0 - 48)) (drop (suc i) text))
+
+-- behind the last byte nothing is read on
+pub read_on-end : (n : ℕ) (i : ℕ) (text : List ℕ) (all : ℕ) → length text ≤ i → read_on n (drop i text) ≡ all → n ≡ all
+read_on-end n i text all past is = sym (at_drop_all (read_on n) text i past) ∙ is
+
+-- and all of nothing are digits
+pub digits-end : (i : ℕ) (text : List ℕ) (all : Bool) → length text ≤ i → all_ascii_digits (drop i text) ≡ all → all ≡ true
+digits-end i text all past is = sym is ∙ at_drop_all all_ascii_digits text i past

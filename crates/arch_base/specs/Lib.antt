@@ -1,0 +1,5 @@
+pub mod Counts
+pub mod Decimals
+pub mod Ids
+pub mod Names
+pub mod Configs
