@@ -1,11 +1,12 @@
 -- Decimals and the values of digits.
-use Rattle.std.proofs.Common.{Bool, drop-cons, ◌⊎◌, inl, inr, ◌≡◌, ◌≢◌, ◌<◌, ◌≤◌, ◌^◌, ◌+◌, ◌-◌, ◌*◌, ℕ, zero, suc, true, List, [], ◌∷◌, length, get_or, drop, Option, Some, None, IfSome, IfNone, refl, sym, ◌∙◌, ap, subst, arith}
+use Rattle.std.proofs.Common.{false, not, ◌&&◌, ◌==◌, nat_lt, if◌then◌else◌, slice_index, MatchOption, Bool, drop-cons, ◌⊎◌, inl, inr, ◌≡◌, ◌≢◌, ◌<◌, ◌≤◌, ◌^◌, ◌+◌, ◌-◌, ◌*◌, ℕ, zero, suc, true, List, [], ◌∷◌, length, get_or, drop, Option, Some, None, IfSome, IfNone, refl, sym, ◌∙◌, ap, subst, arith}
 use Rattle.std.proofs.lemmas.List.{at_drop_all}
 use Rattle.std.specs.Fmt.{decimal as printed}
 use Rattle.std.specs.Str.{all_ascii_digits}
 use Rattle.std.proofs.lemmas.Fmt.{decimal-digits_value, digits_decimal, digits_value-decimal, decimal_nonempty, first_decimal, decimal_digit}
 use Rattle.std.proofs.lemmas.Str.Parse.{IsNumeralModel, numerals_by_fold, tells_all_ascii_digits}
-use Rattle.arch_base.specs.Decimals.{read_on, IsValue}
+use Rattle.std.proofs.lemmas.Bool.Decides.{nat_tests}
+use Rattle.arch_base.specs.Decimals.{read_on, IsValue, IsPadded, decimal_of}
 
 -- the value of digits, as std reads them
 pub digits_model : IsNumeralModel (λ ds. all_ascii_digits ds ≡ true) (read_on 0)
@@ -55,3 +56,39 @@ read_on-end n i text all past is = sym (at_drop_all (read_on n) text i past) ∙
 -- and all of nothing are digits
 pub digits-end : (i : ℕ) (text : List ℕ) (all : Bool) → length text ≤ i → all_ascii_digits (drop i text) ≡ all → all ≡ true
 digits-end i text all past is = sym is ∙ at_drop_all all_ascii_digits text i past
+
+-- a text has a digit, and no zero that others follow
+abbrev is_sound : List ℕ → Bool
+is_sound text = not (slice_index text 0 == 48 && nat_lt 1 (length text))
+
+abbrev read_if : Bool → Bool → Bool → Bool → ℕ → Option ℕ
+read_if a b d f value = if a && b && d && f then Some value else None
+
+-- where a text is padded, no number is read
+pub decimal_of-padded : (text : List ℕ) → IsPadded text true → decimal_of text ≡ None
+decimal_of-padded text (inl empty) = let a : nat_lt 0 (length text) ≡ false = grind (arith, nat_tests) in rw a refl
+decimal_of-padded text (inr padded) =
+    let a : nat_lt 0 (length text) ≡ true = grind (arith, nat_tests, padded.1) in
+    let b : is_sound text ≡ false = grind (arith, nat_tests, padded.0, padded.1) in
+    ap (λ x. read_if x (is_sound text) (all_ascii_digits text) (nat_lt (read_on 0 text) 18446744073709551616) (read_on 0 text)) a
+    ∙ ap (λ x. read_if true x (all_ascii_digits text) (nat_lt (read_on 0 text) 18446744073709551616) (read_on 0 text)) b
+    ∙ refl
+
+-- what is read of digits that are not padded
+read_value : (d f : Bool) (value : ℕ) (found : Option ℕ) → (f ≡ true → value < 2 ^ 64) → (f ≡ false → 2 ^ 64 ≤ value)
+    → MatchOption found (d ≡ true → 2 ^ 64 ≤ value) (λ v. (d ≡ true) × (v ≡ value) × (v < 2 ^ 64)) → found ≡ read_if true true d f value
+read_value true true value None small wide h = absurd (omega (arith, h refl, small refl))
+read_value true false value None small wide h = refl
+read_value false f value None small wide h = refl
+read_value true true value (Some v) small wide h = ap Some h.1
+read_value true false value (Some v) small wide h = absurd (omega (arith, h.1, h.2, wide refl))
+read_value false f value (Some v) small wide h = absurd (cc h.0)
+
+-- the value of digits that are not padded
+pub decimal_of-value : (text : List ℕ) (found : Option ℕ) → IsPadded text false → IsValue text found → found ≡ decimal_of text
+decimal_of-value text found sound h =
+    let a : nat_lt 0 (length text) ≡ true = grind (arith, nat_tests, sound.0) in
+    let b : is_sound text ≡ true = grind (arith, nat_tests, sound.1) in
+    read_value (all_ascii_digits text) (nat_lt (read_on 0 text) 18446744073709551616) (read_on 0 text) found (λ t. grind (arith, nat_tests)) (λ t. grind (arith, nat_tests)) h
+    ∙ sym (ap (λ x. read_if x (is_sound text) (all_ascii_digits text) (nat_lt (read_on 0 text) 18446744073709551616) (read_on 0 text)) a
+    ∙ ap (λ x. read_if true x (all_ascii_digits text) (nat_lt (read_on 0 text) 18446744073709551616) (read_on 0 text)) b)

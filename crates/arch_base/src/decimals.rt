@@ -1,7 +1,7 @@
 //! Numbers in digits.
 ghost use Rattle.std.specs.Prelude.{◌≡◌, ◌≢◌, ◌<◌, ◌≤◌, ◌^◌, ◌+◌, ◌-◌, ◌*◌, ℕ, IfOk, IfSome, IfNone, MatchOption};
 ghost use Rattle.std.specs.Fmt.{decimal as printed};
-ghost use Rattle.arch_base.specs.Decimals.{IsPadded, IsValue};
+ghost use Rattle.arch_base.specs.Decimals.{IsPadded, IsValue, decimal_of};
 
 use crate::sequence::{Bytes, NoMemory};
 use std::alloc::Global;
@@ -16,6 +16,7 @@ pub fn decimal(alloc: Global, value: u64) -> Result<Bytes, NoMemory>
 
 /// The number that a text spells: `0`, or digits without a leading zero, of a value below 2^64.
 pub fn read_decimal(text: &[u8]) -> Option<u64>
+    ensures value { result ≡ decimal_of text.now }
     ensures found { IfSome result (λ value. text.now ≡ printed value) }
     ensures none { IfNone result ((value : ℕ) → value < 2 ^ 64 → text.now ≢ printed value) }
 {

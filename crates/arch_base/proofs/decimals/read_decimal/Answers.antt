@@ -1,5 +1,5 @@
-use Rattle.arch_base.proofs.Digits.{printed-value, printed-none, printed-padded}
-use Rattle.std.proofs.Common.{subst}
+use Rattle.arch_base.proofs.Digits.{printed-value, printed-none, printed-padded, decimal_of-padded, decimal_of-value}
+use Rattle.std.proofs.Common.{subst, sym}
 use Rattle.arch_base.specs.Decimals.{IsPadded}
 use Rattle.arch_base.proofs.decimals.read_decimal.Goals as goal
 
@@ -13,3 +13,9 @@ returns-clause-found c =
 
 pub returns-clause-none : goal.returns-clause-none
 returns-clause-none c = printed-none c.args.text.now c.value_of.result c.value_of.ensures
+
+pub returns-then-is_padded-clause-value : goal.returns-then-is_padded-clause-value
+returns-then-is_padded-clause-value c = sym (decimal_of-padded c.args.text.now (subst (IsPadded c.args.text.now) c.if-is_padded.true c.is_padded.ensures))
+
+pub returns-clause-value : goal.returns-clause-value
+returns-clause-value c = decimal_of-value c.args.text.now c.value_of.result (subst (IsPadded c.args.text.now) c.if-is_padded.false c.is_padded.ensures) c.value_of.ensures
