@@ -1,0 +1,7 @@
+pub mod Fronts
+pub mod Ordinals
+pub mod Dividing
+pub mod Numerals
+pub mod Placing
+pub mod Lines
+pub mod Unambiguous

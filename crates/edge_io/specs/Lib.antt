@@ -1,1 +1,9 @@
 pub mod Taken
+pub mod Left
+pub mod Listed
+pub mod MemSources
+pub mod MemSinks
+pub mod Events
+pub mod Scripts
+pub mod Spans
+pub mod Parsing

@@ -1,5 +1,5 @@
 -- The bytes that a sink or a connection has taken, where it tells them.
-use Rattle.std.specs.Prelude.{◌≡◌, ◌≢◌, ◌+◌, ◌-◌, ◌^◌, ℕ, List, ◌++◌, take, min, Option, Some, None, Result, MatchResult}
+use Rattle.std.specs.Prelude.{◌≡◌, ℕ, List, ◌++◌, take, Option, Some, None, Result, MatchResult}
 
 -- what was taken, and then these bytes; untold stays untold
 abbrev pub plus : Option (List ℕ) → List ℕ → Option (List ℕ)

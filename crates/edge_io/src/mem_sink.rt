@@ -1,0 +1,105 @@
+//! A sink in memory.
+ghost use Rattle.std.specs.Prelude.{◌≡◌, ◌≤◌, ◌+◌, ◌-◌, ◌^◌, ◌++◌, ℕ, List, [], Option, Some, refl};
+ghost use Rattle.arch_base.specs.Counts.{HasCause};
+ghost use Rattle.edge_io.specs.Taken.{Took};
+ghost use Rattle.edge_io.specs.MemSinks.{Writing, Writes};
+
+use crate::mem_source::is_listed;
+use crate::{Sink, SinkFault};
+use arch_base::{Bytes, Numbers};
+use std::alloc::Global;
+use std::marker::Model;
+
+/// A sink in memory, of which listed writes fail. A write that finds no memory fails too, and is counted apart.
+#[derive(Drop)]
+pub struct MemSink {
+    bytes: Bytes,
+    listed: Numbers,
+    calls: u64,
+    faults: u64,
+    starved: u64,
+}
+
+// A clause sees the bytes, the listed ordinals and the three counts. Where no call is listed, want of memory is the only
+// fault.
+impl Model for MemSink {
+    ghost use Rattle.std.specs.Prelude.{◌≡◌, []};
+    ghost use Rattle.edge_io.specs.MemSinks.{Writing};
+
+    ghost Value = { Writing };
+
+    ghost view = { λ s. record { taken = s.bytes; listed = s.listed; calls = s.calls; faults = s.faults; starved = s.starved } };
+
+    ghost invariant = { λ s. s.listed ≡ [] → s.starved ≡ s.faults };
+}
+
+impl MemSink {
+    /// An empty sink, which fails the writes whose ordinals, from 1, are among `faults`.
+    pub fn new(alloc: Global, faults: Numbers) -> Self
+        ensures { result ≡ record { taken = []; listed = faults; calls = 0; faults = 0; starved = 0 } }
+    {
+        MemSink {
+            bytes: Bytes::new(alloc),
+            listed: faults,
+            calls: 0,
+            faults: 0,
+            starved: 0,
+        }
+    }
+
+    /// The bytes that were taken.
+    pub fn taken(&self) -> &[u8]
+        ensures { result.now ≡ self.now.taken }
+    {
+        self.bytes.as_slice()
+    }
+
+    /// How often a write found no memory. Where no call is listed, no write failed otherwise.
+    pub fn starved(&self) -> u64
+        ensures value { result ≡ self.now.starved }
+        ensures only { self.now.listed ≡ [] → result ≡ self.now.faults }
+    {
+        self.starved
+    }
+
+    /// Empties what was taken, and keeps the counts.
+    pub fn clear(&mut self)
+        ensures { self.new ≡ record self.old { taken = [] } }
+    {
+        self.bytes.truncate(0);
+    }
+}
+
+impl Sink for MemSink {
+    ghost taken = { λ s. Some s.taken };
+
+    ghost faults = { λ s. s.faults };
+
+    ghost alike = { λ s t. t.listed ≡ s.listed };
+
+    ghost alike_same = { λ s. refl };
+
+    fn write(&mut self, bytes: &[u8]) -> Result<(), SinkFault>
+        ensures took { Took result bytes.now (Some self.old.taken) (Some self.new.taken) }
+        ensures cause { HasCause self.old.faults self.new.faults result }
+        ensures alike { self.new.listed ≡ self.old.listed }
+        ensures writes { Writes result bytes.now self.old self.new }
+    {
+        let fails = is_listed(&self.listed, self.calls);
+        self.calls = self.calls.saturating_add(1);
+        if fails {
+            self.faults = self.faults.saturating_add(1);
+            return Err(SinkFault);
+        }
+        if self.bytes.push_slice(bytes).is_err() {
+            self.faults = self.faults.saturating_add(1);
+            self.starved = self.starved.saturating_add(1);
+            return Err(SinkFault);
+        }
+        Ok(())
+    }
+
+    ghost use Rattle.std.proofs.Common.{◌∙◌};
+
+    ghost alike_joined = { λ s t u p q. q ∙ p };
+}

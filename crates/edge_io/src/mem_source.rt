@@ -1,0 +1,93 @@
+//! A source in memory.
+ghost use Rattle.std.specs.Prelude.{◌≡◌, ◌≤◌, ◌<◌, ◌+◌, ◌-◌, ◌^◌, ℕ, List, Option, Some, length, IfOk, OnErr};
+ghost use Rattle.arch_base.specs.Counts.{IsCaused};
+ghost use Rattle.edge_io.specs.Left.{Gave};
+ghost use Rattle.edge_io.specs.Listed.{raised, is_listed};
+ghost use Rattle.edge_io.specs.MemSources.{Reading, Reads};
+
+use crate::{Source, SourceFault};
+use arch_base::{Bytes, Numbers};
+use std::alloc::Global;
+use std::marker::Model;
+
+/// A source in memory, of which listed reads fail. It takes no memory.
+#[derive(Drop)]
+pub struct MemSource {
+    bytes: Bytes,
+    at: usize,
+    listed: Numbers,
+    calls: u64,
+    faults: u64,
+}
+
+// A clause sees the bytes that are left, the listed ordinals and the two counts.
+impl Model for MemSource {
+    ghost use Rattle.std.specs.Prelude.{◌≤◌, length, drop};
+    ghost use Rattle.edge_io.specs.MemSources.{Reading};
+
+    ghost Value = { Reading };
+
+    ghost view = { λ s. record { left = drop s.at s.bytes; listed = s.listed; calls = s.calls; faults = s.faults } };
+
+    ghost invariant = { λ s. s.at ≤ length s.bytes };
+}
+
+impl MemSource {
+    /// A source of these bytes, which fails the reads whose ordinals, from 1, are among `faults`.
+    pub fn new(_alloc: Global, bytes: Bytes, faults: Numbers) -> Self
+        ensures { result ≡ record { left = bytes; listed = faults; calls = 0; faults = 0 } }
+    {
+        MemSource {
+            bytes,
+            at: 0,
+            listed: faults,
+            calls: 0,
+            faults: 0,
+        }
+    }
+
+    /// How often a call found no memory: never, since none is taken.
+    pub fn starved(&self) -> u64
+        ensures { result ≡ 0 }
+    {
+        0
+    }
+}
+
+impl Source for MemSource {
+    ghost left = { λ s. Some s.left };
+
+    ghost faults = { λ s. s.faults };
+
+    fn read(&mut self, into: &mut [u8]) -> Result<usize, SourceFault>
+        requires { 0 < length into.old }
+        ensures within { IfOk result (λ count. count ≤ length into.new) }
+        ensures gave { IfOk result (λ count. Gave count into.new (Some self.old.left) (Some self.new.left)) }
+        ensures failed { OnErr result (Some self.new.left ≡ Some self.old.left) }
+        ensures cause { IsCaused self.old.faults self.new.faults result }
+        ensures reads { Reads result into.old into.new self.old self.new }
+    {
+        let fails = is_listed(&self.listed, self.calls);
+        self.calls = self.calls.saturating_add(1);
+        if fails {
+            self.faults = self.faults.saturating_add(1);
+            return Err(SourceFault);
+        }
+        let left = &self.bytes.as_slice()[self.at..];
+        let count = left.len().min(into.len());
+        into[..count].copy_from_slice(&left[..count]);
+        self.at += count;
+        Ok(count)
+    }
+}
+
+/// Whether the call behind so many calls is listed.
+pub(crate) fn is_listed(listed: &Numbers, calls: u64) -> bool
+    ensures { result ≡ is_listed listed.now calls }
+{
+    let ordinals = listed.as_slice();
+    match calls.checked_add(1) {
+        Some(ordinal) => ordinals.contains(&ordinal),
+        None => false,
+    }
+}

@@ -1,0 +1,124 @@
+//! Lists of events, each with its piece of bytes.
+ghost use Rattle.std.specs.Prelude.{◌≡◌, ◌<◌, ◌^◌, ◌++◌, ◌∷◌, [], List, ℕ, length, IfOk, OnOk, IsSome};
+ghost use Rattle.std.specs.Option.{option_copied};
+ghost use Rattle.edge_io.specs.Events.{piece_len};
+ghost use Rattle.edge_io.specs.Scripts.{event_at, piece_at};
+
+use crate::events::{Event, What};
+use arch_base::{Bytes, NoMemory, Sequence};
+use std::alloc::{AllocError, Global};
+use std::marker::Model;
+use thiserror::Error;
+
+/// Why bytes are no script.
+#[derive(Debug, Drop, PartialEq, Eq, Error)]
+pub enum ScriptRefusal {
+    /// The event of this number, from 1, is the first that isn't of the form or isn't whole.
+    #[error("event {event} is bad")]
+    Bad { event: u64 },
+    /// Memory was wanted, and there was none.
+    #[error("out of memory")]
+    NoMemory,
+}
+
+impl From<NoMemory> for ScriptRefusal {
+    ghost use Rattle.std.specs.Prelude.{◌≡◌};
+    ghost use Rattle.edge_io.specs.declared.scripts.ScriptRefusal.TheVariants.{NoMemory};
+
+    ghost from_gives = { λ _ e. e ≡ NoMemory };
+
+    fn from(_refused: NoMemory) -> ScriptRefusal {
+        ScriptRefusal::NoMemory
+    }
+}
+
+/// An event, and where its piece begins.
+#[derive(Clone, Copy, Debug, Drop)]
+pub struct Placed {
+    pub event: Event,
+    pub start: usize,
+}
+
+/// The events of a script, each with its piece. It is made by `script` alone.
+#[derive(Debug, Drop)]
+pub struct Script {
+    pieces: Bytes,
+    placed: Sequence<Placed>,
+}
+
+// A clause sees the list of the events, each with its piece.
+impl Model for Script {
+    ghost use Rattle.std.specs.Prelude.{List};
+    ghost use Rattle.edge_io.specs.Scripts.{Arrival};
+    ghost use Rattle.edge_io.specs.Spans.{arrivals_of, AllWithin};
+
+    ghost Value = { List Arrival };
+
+    ghost view = { λ s. arrivals_of s.pieces s.placed };
+
+    ghost invariant = { λ s. AllWithin s.pieces s.placed };
+}
+
+impl Script {
+    /// The script without events, with room for so many bytes of pieces.
+    pub(crate) fn new(alloc: Global, room: usize) -> Result<Script, NoMemory>
+        ensures { IfOk result (λ made. made ≡ []) }
+    {
+        let pieces = Vec::with_capacity(alloc, room)?;
+        Ok(Script {
+            pieces: Bytes::from_vec(pieces),
+            placed: Sequence::new(alloc),
+        })
+    }
+
+    /// Puts an event with its piece behind the others.
+    pub(crate) fn push(&mut self, event: Event, piece: &[u8]) -> Result<(), NoMemory>
+        requires { length piece.now ≡ piece_len event.what }
+        ensures { OnOk result (self.new ≡ self.old ++ (event, piece.now) ∷ []) }
+    {
+        let start = self.pieces.as_slice().len();
+        self.pieces.push_slice(piece)?;
+        self.placed.push(Placed { event, start })
+    }
+
+    /// How many events there are.
+    pub(crate) fn count(&self) -> u64
+        ensures value { result ≡ length self.now }
+        ensures small { result < 2 ^ 63 }
+    {
+        self.placed.as_slice().len() as u64
+    }
+
+    /// The event at a place, from 0, or None where there are at most so many. It takes no memory.
+    pub fn event(&self, i: u64) -> Option<&Event>
+        ensures value { option_copied result ≡ event_at self.now i }
+        ensures small { IsSome result → i < 2 ^ 63 }
+    {
+        let placed = self.placed.as_slice().get(i as usize)?;
+        Some(&placed.event)
+    }
+
+    /// The piece of the event at a place, from 0. It is empty where the event has none, and where there is no event. It
+    /// takes no memory.
+    pub fn piece(&self, i: u64) -> &[u8]
+        ensures { result.now ≡ piece_at self.now i }
+    {
+        match self.placed.as_slice().get(i as usize) {
+            Some(placed) => {
+                let behind = &self.pieces.as_slice()[placed.start..];
+                &behind[..piece_len(placed.event.what)]
+            }
+            None => &[],
+        }
+    }
+}
+
+/// The length of the piece that comes with what happened.
+pub(crate) fn piece_len(what: What) -> usize
+    ensures { result ≡ piece_len what }
+{
+    match what {
+        What::Bytes { len, .. } => len,
+        _ => 0,
+    }
+}
