@@ -1,0 +1,6 @@
+-- What the line at the front is.
+use Rattle.line_door.proofs.Fronts.{line_law}
+use Rattle.line_door.proofs.laws.line_law.Goals as goal
+
+pub returns : goal.returns
+returns c = line_law

@@ -1,0 +1,121 @@
+//! Tables worked out by hand: where lines end, what is dropped of them, and what a failing sink leaves.
+ghost use Rattle.std.specs.Prelude.{Some, refl};
+ghost use Rattle.std.proofs.Common.{◌∙◌};
+
+use crate::{
+    Ahead, cut_law, line_content, line_law, next_in, pieces_law, plain_law, say, say_line,
+};
+use arch_base::Bytes;
+use edge_io::{Sink, SinkFault};
+use std::alloc::Global;
+
+/// A sink in memory that takes so many writes, and fails after them.
+#[derive(Drop)]
+struct Taker {
+    bytes: Bytes,
+    left: u64,
+    faults: u64,
+}
+
+impl Taker {
+    fn new(alloc: Global, left: u64) -> Self {
+        Taker {
+            bytes: Bytes::new(alloc),
+            left,
+            faults: 0,
+        }
+    }
+}
+
+impl Sink for Taker {
+    ghost taken = { λ s. Some s.bytes };
+
+    ghost faults = { λ s. s.faults };
+
+    ghost alike = { λ s t. Unit {0} };
+
+    ghost alike_same = { λ s. tt };
+
+    ghost alike_joined = { λ s t u p q. tt };
+
+    fn write(&mut self, bytes: &[u8]) -> Result<(), SinkFault> {
+        if self.left == 0 || self.bytes.push_slice(bytes).is_err() {
+            self.faults = self.faults.saturating_add(1);
+            return Err(SinkFault);
+        }
+        self.left -= 1;
+        Ok(())
+    }
+}
+
+#[test]
+fn lines_end_at_their_line_feed(rt: HostRuntime) {
+    let first: [(&[u8], Ahead); 9] = [
+        (b"", Ahead::More),
+        (b"\n", Ahead::Line(0)),
+        (b"ab\r\n", Ahead::Line(3)),
+        (b"abc\ndef\n", Ahead::Line(3)),
+        (b"abcdefg", Ahead::More),
+        (b"abcdefg\n", Ahead::Line(7)),
+        (b"abcdefgh", Ahead::Long),
+        (b"abcdefgh\n", Ahead::Long),
+        (b"a\0b\r", Ahead::More),
+    ];
+    for (piece, want) in first {
+        assert!(rt; next_in(b"", piece, 8) == want);
+    }
+    let behind: [(&[u8], Ahead); 6] = [
+        (b"\n", Ahead::Line(0)),
+        (b"d\ne\n", Ahead::Line(1)),
+        (b"defg", Ahead::More),
+        (b"defg\n", Ahead::Line(4)),
+        (b"defgh", Ahead::Long),
+        (b"defgh\n", Ahead::Long),
+    ];
+    for (piece, want) in behind {
+        assert!(rt; next_in(b"abc", piece, 8) == want);
+    }
+}
+
+#[test]
+fn a_line_of_512_bytes_is_read(rt: HostRuntime) {
+    let mut piece = [b'a'; 600];
+    assert!(rt; next_in(b"", &piece[..511], 512) == Ahead::More);
+    assert!(rt; next_in(b"", &piece[..512], 512) == Ahead::Long);
+    piece[512] = b'\n';
+    assert!(rt; next_in(b"", &piece, 512) == Ahead::Long);
+    piece[511] = b'\n';
+    assert!(rt; next_in(b"", &piece, 512) == Ahead::Line(511));
+}
+
+#[test]
+fn one_carriage_return_is_dropped(rt: HostRuntime) {
+    let table: [(&[u8], &[u8]); 6] = [
+        (b"", b""),
+        (b"\r", b""),
+        (b"abc", b"abc"),
+        (b"abc\r", b"abc"),
+        (b"abc\r\r", b"abc\r"),
+        (b"a\rb", b"a\rb"),
+    ];
+    for (line, want) in table {
+        assert!(rt; line_content(line) == want);
+    }
+}
+
+#[test]
+fn words_stop_where_the_sink_fails(rt: HostRuntime) {
+    let alloc = rt.alloc();
+    let mut sink = Taker::new(alloc, 3);
+    assert!(rt; say(b"ab", &mut sink));
+    assert!(rt; say_line(b"cd", &mut sink));
+    assert!(rt; !say(b"ef", &mut sink));
+    assert!(rt; sink.bytes.as_slice() == b"abcd\n".as_slice() && sink.faults == 1);
+    let mut short = Taker::new(alloc, 1);
+    assert!(rt; !say_line(b"cd", &mut short));
+    assert!(rt; short.bytes.as_slice() == b"cd".as_slice() && short.faults == 1);
+    cut_law();
+    pieces_law();
+    plain_law();
+    line_law();
+}
