@@ -1,0 +1,16 @@
+pub mod Trims
+pub mod LineEnds
+pub mod FieldNames
+pub mod FirstFields
+pub mod KeptLines
+pub mod IdPieces
+pub mod Bodied
+pub mod CleanLines
+pub mod FormLines
+pub mod FormLaws
+pub mod PieceEnds
+pub mod IdLines
+pub mod Blanks
+pub mod Squeezes
+pub mod Hashes
+pub mod Distincts

@@ -1,0 +1,28 @@
+-- What stands behind a piece at the front of a text.
+use Rattle.std.specs.Prelude.{◌≡◌, ℕ, List, [], ◌∷◌, ◌++◌, Option, MatchOption}
+use Rattle.std.specs.Borrow.{Bor}
+use Rattle.std.specs.List.{concat}
+use Rattle.mail_reader.specs.Lines.{after_header}
+use Rattle.mail_reader.specs.Stored.{clean_lines, kept_fields}
+use Rattle.mail_reader.specs.declared.storing.Place.{Place}
+use Rattle.mail_reader.specs.declared.storing.Place.TheVariants.{Start, Kept, Dropped}
+
+-- a text doesn't begin with a piece
+abbrev pub NotBegun : List ℕ → List ℕ → Type 0
+NotBegun text piece = (more : List ℕ) → text ≡ piece ++ more → ⊥
+
+-- what follows a piece at the front of a text, or None where the text doesn't begin with it
+abbrev pub Follows : List ℕ → List ℕ → Option (Bor (List ℕ)) → Type 0
+Follows text piece found = MatchOption found (NotBegun text piece) (λ more. text ≡ piece ++ more.now)
+
+-- what is kept of a line at its place
+abbrev pub piece_at : Place → List ℕ → List ℕ
+piece_at Start line = []
+piece_at Kept line = line
+piece_at Dropped line = []
+
+-- what follows the kept fields of bytes in a text, and what follows the header in the bytes
+abbrev pub FollowsFields : List ℕ → List ℕ → Option (Bor (List ℕ) × Bor (List ℕ)) → Type 0
+FollowsFields text bytes found =
+    MatchOption found (NotBegun text (concat (kept_fields (clean_lines bytes))))
+    (λ behind. (text ≡ concat (kept_fields (clean_lines bytes)) ++ behind.0.now) × (clean_lines behind.1.now ≡ after_header (clean_lines bytes)))

@@ -1,0 +1,71 @@
+-- What holds of the storage form, and of the fields of any text.
+use Rattle.std.specs.Prelude.{◌≡◌, ℕ, ◌+◌, ◌<◌, ◌≤◌, true, false, List, [], ◌∷◌, ◌++◌, Some, map, length, slice_index, codes}
+use Rattle.std.specs.List.{concat, AllPass}
+use Rattle.mail_reader.specs.Lines.{is_field_line, lines_of, after_header}
+use Rattle.mail_reader.specs.Fields.{FieldText, fields_of}
+use Rattle.mail_reader.specs.Stored.{storage_form, content_of, is_dropped}
+use Rattle.mail_reader.specs.Ids.{is_id_byte, own_id}
+use Rattle.mail_reader.specs.Bodies.{body_of}
+
+-- A storage form is its own storage form: storing it again changes nothing.
+abbrev pub StoredOnce : Type 0
+StoredOnce = (bytes text : List ℕ) → storage_form bytes ≡ Some text → storage_form text ≡ Some text
+
+-- it has a field, ends with a line feed, and has no carriage return directly before a line feed
+pub record IsClean (text : List ℕ) : Type 0 where
+  pub field : 0 < length (fields_of text)
+  pub ended : (front : List ℕ) × (text ≡ front ++ 10 ∷ [])
+  pub no_returns : (k : ℕ) → slice_index text k ≡ 13 → slice_index text (k + 1) ≡ 10 → ⊥
+
+-- Each storage form is clean.
+abbrev pub FormsAreClean : Type 0
+FormsAreClean = (bytes text : List ℕ) → storage_form bytes ≡ Some text → IsClean text
+
+-- The bytes of the fields of a text, one after another.
+abbrev pub wholes : List FieldText → List ℕ
+wholes fields = concat (map (λ (field : FieldText). field.whole) fields)
+
+-- Of any text the fields, one after another, are the front: so each lies in it, at the place where those before it end.
+abbrev pub FieldsAreFront : Type 0
+FieldsAreFront = (text : List ℕ) → text ≡ wholes (fields_of text) ++ concat (after_header (lines_of text))
+
+-- The fields of a storage form in order, an empty line and the body are the form.
+abbrev pub FormIsParts : Type 0
+FormIsParts = (bytes text : List ℕ) → storage_form bytes ≡ Some text → text ≡ wholes (fields_of text) ++ 10 ∷ body_of text
+
+-- a field on one line that is kept as it is
+pub record IsKeptLine (line : List ℕ) : Type 0 where
+  pub content : List ℕ
+  pub is : line ≡ content ++ 10 ∷ []
+  pub no_feed : (k : ℕ) → slice_index content k ≡ 10 → ⊥
+  pub no_return : content_of content ≡ content
+  pub field : is_field_line line ≡ true
+  pub stays : is_dropped line ≡ false
+
+-- A field on one line in front of a storage form makes a storage form as it is.
+abbrev pub FieldInFront : Type 0
+FieldInFront = (bytes text line : List ℕ) → storage_form bytes ≡ Some text → IsKeptLine line → storage_form (line ++ text) ≡ Some (line ++ text)
+
+-- A storage form is at most two bytes longer than what it is made of.
+abbrev pub FormsAreShort : Type 0
+FormsAreShort = (bytes text : List ℕ) → storage_form bytes ≡ Some text → length text ≤ length bytes + 2
+
+-- a piece of 1 to 248 bytes of an id between brackets
+pub record IsId (id : List ℕ) : Type 0 where
+  pub inside : List ℕ
+  pub is : id ≡ 60 ∷ (inside ++ 62 ∷ [])
+  pub some : 1 ≤ length inside
+  pub short : length inside ≤ 248
+  pub bytes : AllPass is_id_byte inside
+
+-- the line of a Message-ID field
+abbrev pub id_line : List ℕ → List ℕ
+id_line id = codes "Message-ID: " ++ (id ++ 10 ∷ [])
+
+-- The own id of a text with such a line in front is the id in that line.
+abbrev pub OwnIdInFront : Type 0
+OwnIdInFront = (text id : List ℕ) → IsId id → own_id (id_line id ++ text) ≡ Some id
+
+-- Such a line is a field on one line that is kept as it is.
+abbrev pub IdLineIsKept : Type 0
+IdLineIsKept = (id : List ℕ) → IsId id → IsKeptLine (id_line id)

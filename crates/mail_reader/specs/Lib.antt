@@ -1,0 +1,14 @@
+pub mod Lines
+pub mod Fields
+pub mod Stored
+pub mod Ids
+pub mod Bodies
+pub mod Values
+pub mod References
+pub mod Content
+pub mod StorageTexts
+pub mod Reading
+pub mod Keeping
+pub mod Laws
+pub mod Checking
+pub mod Hashing
