@@ -1,0 +1,97 @@
+-- What deliveries keep.
+use Rattle.std.proofs.Common.{◌⊎◌, inl, inr, ◌≡◌, ◌+◌, ◌-◌, ◌<◌, ◌≤◌, ◌==◌, ℕ, Bool, true, false, nat_lt, List, [], ◌∷◌, ◌++◌, length, Option, Some, None, Result, Ok, Err, refl, sym, ◌∙◌, ap, subst, arith, if◌then◌else◌}
+use Rattle.std.proofs.lemmas.Bool.Decides.{nat_tests}
+use Rattle.mail_reader.specs.Stored.{stored}
+use Rattle.mail_reader.specs.Ids.{own_id}
+use Rattle.mail_reader.specs.declared.storing.StoredRefusal.{StoredRefusal}
+use Rattle.mail_reader.specs.declared.storing.StoredRefusal.TheVariants as stored_refusal
+use Rattle.arch_model.specs.Archives.{Entry, Archive, has_id, text_of, with_entry}
+use Rattle.arch_model.specs.Delivery.{Done, refused, delivered, delivered_new, delivered_text, delivered_form}
+use Rattle.arch_model.specs.Laws.{IsNumbered, KeepsNumbers, StaysNumbered, ShowsDelivered}
+use Rattle.arch_model.specs.declared.answer.Answer.{Answer}
+use Rattle.arch_model.specs.declared.answer.Answer.TheVariants as named
+
+-- what a delivery comes to: a refusal that leaves the archive, or one more entry
+pub data Comes (a : Archive) (bytes : List ℕ) (moment : ℕ) : Done → Type 0 where
+  Refused : (answer : Answer) → ((number : ℕ) → answer ≡ named.Ok number → ⊥) → Comes a bytes moment (refused a answer)
+  Accepted : (text : List ℕ) → stored bytes ≡ Ok text → Comes a bytes moment (record { archive = with_entry a 0 text moment; answer = named.Ok a.next })
+
+comes_new : (a : Archive) (bytes text : List ℕ) (moment : ℕ) (t : Bool) → stored bytes ≡ Ok text → Comes a bytes moment (if t then refused a (named.Full a.config.max) else record { archive = with_entry a 0 text moment; answer = named.Ok a.next })
+comes_new a bytes text moment true is = Refused (named.Full a.config.max) (λ number e. cc e)
+comes_new a bytes text moment false is = Accepted text is
+
+comes_id : (a : Archive) (bytes text : List ℕ) (moment : ℕ) (t : Bool) → stored bytes ≡ Ok text → Comes a bytes moment (if t then refused a named.NotYet else delivered_new a text moment)
+comes_id a bytes text moment true is = Refused named.NotYet (λ number e. cc e)
+comes_id a bytes text moment false is = comes_new a bytes text moment (nat_lt a.config.max a.next) is
+
+comes_text : (a : Archive) (bytes text : List ℕ) (moment : ℕ) (id : Option (List ℕ)) → stored bytes ≡ Ok text → Comes a bytes moment (delivered_text a text moment id)
+comes_text a bytes text moment None is = Refused named.NotYet (λ number e. cc e)
+comes_text a bytes text moment (Some id) is = comes_id a bytes text moment (has_id a.entries id) is
+
+comes_form : (a : Archive) (bytes : List ℕ) (moment : ℕ) (form : Result (List ℕ) StoredRefusal) → stored bytes ≡ form → Comes a bytes moment (delivered_form a moment form)
+comes_form a bytes moment (Ok text) is = comes_text a bytes text moment (own_id text) is
+comes_form a bytes moment (Err stored_refusal.NoFields) is = Refused named.NoFields (λ number e. cc e)
+comes_form a bytes moment (Err (stored_refusal.TooLarge len)) is = Refused (named.TooLarge len) (λ number e. cc e)
+comes_form a bytes moment (Err stored_refusal.NoMemory) is = Refused named.NoMemory (λ number e. cc e)
+
+pub comes : (a : Archive) (bytes : List ℕ) (moment : ℕ) → Comes a bytes moment (delivered a bytes moment)
+comes a bytes moment = comes_form a bytes moment (stored bytes) refl
+
+front_step : (e : Entry) (es fs : List Entry) (n : ℕ) (text : List ℕ) (t : Bool) → (e.number == n) ≡ t → (text_of es n ≡ Some text → text_of (es ++ fs) n ≡ Some text) → text_of (e ∷ es) n ≡ Some text → text_of ((e ∷ es) ++ fs) n ≡ Some text
+front_step e es fs n text true is later h = rw is (rw is at h)
+front_step e es fs n text false is later h = rw is (later (rw is at h))
+
+-- what is found in front stays found
+text_of-front : (es fs : List Entry) (n : ℕ) (text : List ℕ) → text_of es n ≡ Some text → text_of (es ++ fs) n ≡ Some text
+text_of-front [] fs n text h = absurd (cc h)
+text_of-front (e ∷ es) fs n text h = front_step e es fs n text (e.number == n) refl (text_of-front es fs n text) h
+
+none_step : (e : Entry) (n : ℕ) (text : List ℕ) (t : Bool) → (e.number == n) ≡ t → text_of (e ∷ []) n ≡ Some text → (text_of [] n ≡ Some text) ⊎ (e.number ≡ n)
+none_step e n text true is h = inr (grind (arith, nat_tests))
+none_step e n text false is h = let none : None ≡ Some text = rw is at h in absurd (cc)
+
+either_step : (x e : Entry) (es : List Entry) (n : ℕ) (text : List ℕ) (t : Bool) → (x.number == n) ≡ t → (text_of (es ++ e ∷ []) n ≡ Some text → (text_of es n ≡ Some text) ⊎ (e.number ≡ n)) → text_of ((x ∷ es) ++ e ∷ []) n ≡ Some text → (text_of (x ∷ es) n ≡ Some text) ⊎ (e.number ≡ n)
+either_step x e es n text true is later h = inl (rw is (rw is at h))
+either_step x e es n text false is later h = rw is (later (rw is at h))
+
+-- what is found is found in front or behind it
+text_of-either : (es : List Entry) (e : Entry) (n : ℕ) (text : List ℕ) → text_of (es ++ e ∷ []) n ≡ Some text → (text_of es n ≡ Some text) ⊎ (e.number ≡ n)
+text_of-either [] e n text h = none_step e n text (e.number == n) refl h
+text_of-either (x ∷ es) e n text h = either_step x e es n text (x.number == n) refl (text_of-either es e n text) h
+
+last_step : (x e : Entry) (es : List Entry) (t : Bool) → (x.number == e.number) ≡ t → (((text : List ℕ) → text_of es e.number ≡ Some text → ⊥) → text_of (es ++ e ∷ []) e.number ≡ Some e.text)
+    → ((text : List ℕ) → text_of (x ∷ es) e.number ≡ Some text → ⊥) → text_of ((x ∷ es) ++ e ∷ []) e.number ≡ Some e.text
+last_step x e es true is later none = absurd (none x.text (rw is refl))
+last_step x e es false is later none = rw is (later (λ text h. none text (rw is h)))
+
+-- the last entry is found where none in front has its number
+text_of-last : (es : List Entry) (e : Entry) → ((text : List ℕ) → text_of es e.number ≡ Some text → ⊥) → text_of (es ++ e ∷ []) e.number ≡ Some e.text
+text_of-last [] e none = let same : (e.number == e.number) ≡ true = grind (arith, nat_tests) in rw same refl
+text_of-last (x ∷ es) e none = last_step x e es (x.number == e.number) refl (text_of-last es e) none
+
+keeps_by : (a : Archive) (bytes : List ℕ) (moment n : ℕ) (text : List ℕ) (d : Done) → Comes a bytes moment d → text_of a.entries n ≡ Some text → text_of d.archive.entries n ≡ Some text
+keeps_by a bytes moment n text d (Refused answer other) h = h
+keeps_by a bytes moment n text d (Accepted form is) h = text_of-front a.entries _ n text h
+
+pub keeps-numbers : KeepsNumbers
+keeps-numbers a bytes moment n text h = keeps_by a bytes moment n text (delivered a bytes moment) (comes a bytes moment) h
+
+numbered_by : (a : Archive) (bytes : List ℕ) (moment : ℕ) (d : Done) → Comes a bytes moment d → 1 ≤ a.next → IsNumbered a → (1 ≤ d.archive.next) × IsNumbered d.archive
+numbered_by a bytes moment d (Refused answer other) some h = (some, h)
+numbered_by a bytes moment d (Accepted form is) some h = (
+  omega arith,
+  λ n text found. elim (text_of-either a.entries _ n text found) [ inl before ↦ (let r = h n text before in (r.0, omega (arith, r.1))) | inr last ↦ (omega (arith, last), omega (arith, last)) ],
+)
+
+pub stays-numbered : StaysNumbered
+stays-numbered a bytes moment some h = numbered_by a bytes moment (delivered a bytes moment) (comes a bytes moment) some h
+
+shows_by : (a : Archive) (bytes : List ℕ) (moment number : ℕ) (d : Done) → Comes a bytes moment d → IsNumbered a → d.answer ≡ named.Ok number → (text : List ℕ) × (stored bytes ≡ Ok text) × (text_of d.archive.entries number ≡ Some text)
+shows_by a bytes moment number d (Refused answer other) h e = absurd (other number e)
+shows_by a bytes moment number d (Accepted form is) h e =
+    let same : a.next ≡ number = cc in
+    (form, is, subst (λ n. text_of (a.entries ++ record { number = a.next; epoch = 0; text = form; moment = moment } ∷ []) n ≡ Some form) same
+      (text_of-last a.entries (record { number = a.next; epoch = 0; text = form; moment = moment }) (λ text found. omega (arith, (h a.next text found).1))))
+
+pub shows-delivered : ShowsDelivered
+shows-delivered a bytes moment number h e = shows_by a bytes moment number (delivered a bytes moment) (comes a bytes moment) h e

@@ -1,0 +1,5 @@
+use Rattle.arch_model.proofs.Delivered.{stays-numbered}
+use Rattle.arch_model.proofs.laws.numbers_rise.Goals as goal
+
+pub returns : goal.returns
+returns c = stays-numbered

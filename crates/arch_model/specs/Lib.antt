@@ -1,0 +1,4 @@
+pub mod Archives
+pub mod Delivery
+pub mod Laws
+pub mod Memory
