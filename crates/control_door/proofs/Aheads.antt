@@ -1,0 +1,76 @@
+-- What stands at the front where more bytes come behind it.
+use Rattle.std.proofs.Common.{◌≡◌, ◌≢◌, ◌+◌, ◌-◌, ◌<◌, ◌≤◌, ℕ, Bool, true, false, nat_le, List, [], ◌∷◌, ◌++◌, length, take, drop, Option, Some, None, refl, sym, ◌∙◌, ap, subst, arith, if◌then◌else◌, inl, inr, ◌⊎◌, length-append, length-take, length-drop}
+use Rattle.std.proofs.lemmas.List.{take-append-le, drop-append-le}
+use Rattle.std.proofs.lemmas.Bool.Decides.{nat_tests}
+use Rattle.line_door.specs.Lines as line
+use Rattle.line_door.proofs.Fronts.{front-goes_on, front-stays_long, front-shorter}
+use Rattle.control_door.specs.declared.order.Order.{Order}
+use Rattle.control_door.specs.declared.order.Order.TheVariants.{Deliver, TooMuch, Show, Quit, Bad}
+use Rattle.control_door.specs.Orders.{order_of}
+use Rattle.control_door.specs.Requests.{Request, Delivers, Shows, Quits, Mistakes, Exceeds, Ahead, Asked, Unfinished, asked_by, asked_at, ahead, is_asked, is_request, line_limit}
+
+-- a message that is whole
+pub asked_by-whole : (size : ℕ) (rest : List ℕ) → size ≤ length rest → asked_by (Deliver size) rest ≡ Asked (Delivers (take size rest)) (drop size rest)
+asked_by-whole size rest h = let t : nat_le size (length rest) ≡ true = grind (arith, nat_tests) in rw t refl
+
+-- and one that isn't
+pub asked_by-part : (size : ℕ) (rest : List ℕ) → length rest < size → asked_by (Deliver size) rest ≡ Unfinished
+asked_by-part size rest h = let t : nat_le size (length rest) ≡ false = grind (arith, nat_tests) in rw t refl
+
+-- what more bytes make of what stands at the front: a request stays, with more behind it
+pub data Goes (q : List ℕ) : Ahead → Ahead → Type 0 where
+  Same : (request : Request) (rest : List ℕ) → Goes q (Asked request rest) (Asked request (rest ++ q))
+  Over : Goes q (Asked Exceeds []) (Asked Exceeds [])
+  Open : (next : Ahead) → Goes q Unfinished next
+
+deliver_goes : (q : List ℕ) (size : ℕ) (rest : List ℕ) (t : Bool) → nat_le size (length rest) ≡ t → Goes q (asked_by (Deliver size) rest) (asked_by (Deliver size) (rest ++ q))
+deliver_goes q size rest true h =
+    let fits : size ≤ length rest = grind (arith, nat_tests) in
+    let more : size ≤ length (rest ++ q) = omega (arith, length-append rest q) in
+    rw (asked_by-whole size rest fits, asked_by-whole size (rest ++ q) more, take-append-le size rest q fits, drop-append-le size rest q fits) (Same (Delivers (take size rest)) (drop size rest))
+deliver_goes q size rest false h = rw h (Open (asked_by (Deliver size) (rest ++ q)))
+
+asked_by-goes : (q : List ℕ) (order : Order) (rest : List ℕ) → Goes q (asked_by order rest) (asked_by order (rest ++ q))
+asked_by-goes q (Deliver size) rest = deliver_goes q size rest (nat_le size (length rest)) refl
+asked_by-goes q TooMuch rest = Same Exceeds rest
+asked_by-goes q (Show number) rest = Same (Shows number) rest
+asked_by-goes q Quit rest = Same Quits rest
+asked_by-goes q Bad rest = Same Mistakes rest
+
+asked_at-goes : (bytes q : List ℕ) (f : line.Front) → line.front line_limit bytes ≡ f → Goes q (asked_at f) (ahead (bytes ++ q))
+asked_at-goes bytes q (line.Whole text rest) h = rw (front-goes_on line_limit bytes q text rest h) (asked_by-goes q (order_of (line.content text)) rest)
+asked_at-goes bytes q line.Long h = rw (front-stays_long line_limit bytes q h) Over
+asked_at-goes bytes q line.Partial h = Open (ahead (bytes ++ q))
+
+-- more bytes behind those of a session
+pub ahead-goes : (bytes q : List ℕ) → Goes q (ahead bytes) (ahead (bytes ++ q))
+ahead-goes bytes q = asked_at-goes bytes q (line.front line_limit bytes) refl
+
+-- what follows a request is shorter
+shorter_by : (size n : ℕ) (rest bytes : List ℕ) (request : Request) (behind : List ℕ) (t : Bool) → nat_le size (length rest) ≡ t → length rest < n → asked_by (Deliver size) rest ≡ Asked request behind → length behind < n
+shorter_by size n rest bytes request behind true h short is =
+    let fits : size ≤ length rest = grind (arith, nat_tests) in
+    let same : Asked (Delivers (take size rest)) (drop size rest) ≡ Asked request behind = sym (asked_by-whole size rest fits) ∙ is in
+    let back : drop size rest ≡ behind = cc in
+    omega (arith, length-drop size rest, ap length back)
+shorter_by size n rest bytes request behind false h short is = let no : Unfinished ≡ Asked request behind = rw h at is in absurd (cc)
+
+asked_by-shorter : (n : ℕ) (order : Order) (rest : List ℕ) (request : Request) (behind : List ℕ) → length rest < n → asked_by order rest ≡ Asked request behind → length behind < n
+asked_by-shorter n (Deliver size) rest request behind short is = shorter_by size n rest [] request behind (nat_le size (length rest)) refl short is
+asked_by-shorter n TooMuch rest request behind short is = let e : rest ≡ behind = cc in omega (arith, ap length e)
+asked_by-shorter n (Show number) rest request behind short is = let e : rest ≡ behind = cc in omega (arith, ap length e)
+asked_by-shorter n Quit rest request behind short is = let e : rest ≡ behind = cc in omega (arith, ap length e)
+asked_by-shorter n Bad rest request behind short is = let e : rest ≡ behind = cc in omega (arith, ap length e)
+
+asked_at-shorter : (bytes : List ℕ) (f : line.Front) (request : Request) (behind : List ℕ) → line.front line_limit bytes ≡ f → asked_at f ≡ Asked request behind → (request ≡ Exceeds) ⊎ (length behind < length bytes)
+asked_at-shorter bytes (line.Whole text rest) request behind h is = inr (asked_by-shorter (length bytes) (order_of (line.content text)) rest request behind (front-shorter line_limit bytes text rest h) is)
+asked_at-shorter bytes line.Long request behind h is = inl (cc)
+asked_at-shorter bytes line.Partial request behind h is = absurd (cc is)
+
+pub ahead-shorter : (bytes : List ℕ) (request : Request) (behind : List ℕ) → ahead bytes ≡ Asked request behind → (request ≡ Exceeds) ⊎ (length behind < length bytes)
+ahead-shorter bytes request behind is = asked_at-shorter bytes (line.front line_limit bytes) request behind refl is
+
+-- no request stands there: it is the beginning of one
+pub unfinished : (a : Ahead) → is_asked a ≡ false → a ≡ Unfinished
+unfinished (Asked request rest) h = absurd (cc h)
+unfinished Unfinished h = refl

@@ -1,0 +1,3 @@
+pub mod Aheads
+pub mod Holding
+pub mod Doors

@@ -1,0 +1,12 @@
+use Rattle.std.proofs.Common.{◌++◌, ◌∷◌, [], decimal, append_assoc, sym, ap, subst, ◌∙◌, List, ℕ, ◌≡◌}
+use Rattle.line_door.proofs.Acting.{Says-then, Says-first}
+use Rattle.line_door.specs.Phrases.{Says}
+use Rattle.control_door.proofs.replies.say_number.Goals as goal
+
+pub returns-then-not-say-clause-said : goal.returns-then-not-say-clause-said
+returns-then-not-say-clause-said g c = rw append_assoc (Says-first c.args.words.now (decimal c.args.number ++ 10 ∷ []) _ _ _ _ c.if-not-say.ensures.said)
+
+pub returns-clause-said : goal.returns-clause-said
+returns-clause-said g c =
+    let digits : c.as_bytes.result.now ≡ decimal c.args.number = c.as_bytes.ensures.value ∙ c.format.ensures.text in
+    rw append_assoc (Says-then c.args.words.now (decimal c.args.number ++ 10 ∷ []) _ _ _ _ _ _ _ c.if-not-say.ensures.said (rw digits at c.say_line.ensures.said))

@@ -1,0 +1,13 @@
+use Rattle.std.proofs.Common.{◌≡◌, ◌++◌, ◌∙◌, Some, arith, sym, ap, is_ok, true, not, if◌then◌else◌}
+use Rattle.control_door.proofs.Holding.{keeps, closes-keeping}
+use Rattle.control_door.proofs.session.Session.keep.Goals as goal
+
+pub returns-then-is_err-clause-turn : goal.returns-then-is_err-clause-turn
+returns-then-is_err-clause-turn g c = λ moment a. closes-keeping moment a (c.args.self.now ++ c.args.piece.now) c.args.payload _ _ _ c.requires (omega arith) c.say_memory.ensures.said
+
+pub returns-clause-turn : goal.returns-clause-turn
+returns-clause-turn g c = λ moment a.
+    let ok : is_ok c.push_slice.result ≡ true = c.is_err.ensures.negation ∙ ap not c.if-is_err.false in
+    let pushed = rw ok at c.push_slice.ensures in
+    let kept : c.push_slice.new.self ≡ c.args.self.now ++ c.args.piece.now = pushed ∙ ap (λ h. h ++ c.args.piece.now) c.self.view_is in
+    rw kept (keeps moment a (c.args.self.now ++ c.args.piece.now) c.args.payload _ c.requires)

@@ -1,0 +1,1 @@
+use Rattle.control_door.proofs.session.Session.line.Goals as goal

@@ -1,0 +1,73 @@
+-- What the control door answers: its session is the bytes that are not answered yet, and its requests read and change an archive.
+use Rattle.std.specs.Prelude.{ℕ, false, List, [], ◌∷◌, ◌++◌, length, codes, decimal, Option, Some, None}
+use Rattle.line_door.specs.Acts.{Said, Way, Plain, Memory, Disk}
+use Rattle.line_door.specs.Plain.{silent}
+use Rattle.arch_model.specs.Archives.{Archive, text_of}
+use Rattle.arch_model.specs.Delivery.{Done, delivered, answer_line}
+use Rattle.control_door.specs.Requests.{Request, Delivers, Shows, Quits, Mistakes, Exceeds, Ahead, Asked, Unfinished, ahead}
+
+-- a line of a reply ends with a line feed
+abbrev pub reply_line : List ℕ → List ℕ
+reply_line words = words ++ 10 ∷ []
+
+abbrev pub memory_word : List ℕ
+memory_word = reply_line (codes "12 no memory")
+
+abbrev pub bad_word : List ℕ
+bad_word = reply_line (codes "13 bad line")
+
+-- the text of a number, behind a line with its length; or that it has none
+abbrev pub shown : ℕ → Option (List ℕ) → List ℕ
+shown number None = reply_line (codes "7 not live " ++ decimal number)
+shown number (Some text) = reply_line (codes "text " ++ decimal (length text)) ++ text
+
+-- the session goes on with these bytes
+abbrev pub goes_on : List ℕ → List ℕ → Archive → Said (List ℕ) Archive
+goes_on rest words a = record { next = Some rest; words = words; streamed = false; after = a }
+
+-- the session is closed
+abbrev pub closes : List ℕ → Archive → Said (List ℕ) Archive
+closes words a = record { next = None; words = words; streamed = false; after = a }
+
+-- the archive and the line of an answer
+abbrev pub delivers : Done → List ℕ → Said (List ℕ) Archive
+delivers done rest = goes_on rest (reply_line (answer_line done.answer)) done.archive
+
+-- a request at a moment, answered by the rules
+abbrev pub answered : ℕ → Archive → Request → List ℕ → Said (List ℕ) Archive
+answered moment a (Delivers message) rest = delivers (delivered a message moment) rest
+answered moment a (Shows number) rest = goes_on rest (shown number (text_of a.entries number)) a
+answered moment a Quits rest = closes [] a
+answered moment a Mistakes rest = goes_on rest bad_word a
+answered moment a Exceeds rest = closes bad_word a
+
+-- a delivery for which there is no memory leaves the archive as it was; nothing else wants memory
+abbrev pub refused_memory : ℕ → Archive → Request → List ℕ → Said (List ℕ) Archive
+refused_memory moment a (Delivers message) rest = goes_on rest memory_word a
+refused_memory moment a (Shows number) rest = answered moment a (Shows number) rest
+refused_memory moment a Quits rest = answered moment a Quits rest
+refused_memory moment a Mistakes rest = answered moment a Mistakes rest
+refused_memory moment a Exceeds rest = answered moment a Exceeds rest
+
+abbrev pub said_to : ℕ → Archive → Request → List ℕ → Way → Said (List ℕ) Archive
+said_to moment a request rest Plain = answered moment a request rest
+said_to moment a request rest Memory = refused_memory moment a request rest
+said_to moment a request rest Disk = answered moment a request rest
+
+-- the beginning of a request is kept without a word; where there is no memory for it, the word for that closes
+abbrev pub said_keeping : Archive → List ℕ → Way → Said (List ℕ) Archive
+said_keeping a bytes Plain = silent a bytes
+said_keeping a bytes Memory = closes memory_word a
+said_keeping a bytes Disk = silent a bytes
+
+abbrev pub said_at : ℕ → Archive → List ℕ → Ahead → Way → Said (List ℕ) Archive
+said_at moment a bytes (Asked request rest) way = said_to moment a request rest way
+said_at moment a bytes Unfinished way = said_keeping a bytes way
+
+-- what the door says at a moment to a session with these bytes
+abbrev pub said : ℕ → Archive → List ℕ → Way → Said (List ℕ) Archive
+said moment a bytes way = said_at moment a bytes (ahead bytes) way
+
+-- a piece stands behind the bytes of a session
+abbrev pub with_piece : List ℕ → List ℕ → List ℕ
+with_piece piece bytes = bytes ++ piece

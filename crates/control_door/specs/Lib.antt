@@ -1,0 +1,5 @@
+pub mod Orders
+pub mod Requests
+pub mod Door
+pub mod Sessions
+pub mod Laws

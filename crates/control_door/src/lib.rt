@@ -1,0 +1,11 @@
+//! The control door: a connection over which messages are delivered and shown.
+#![tactic(auto)]
+
+mod laws;
+mod order;
+mod replies;
+mod session;
+
+pub use laws::cut_laws;
+pub use order::{Order, read_order};
+pub use session::Session;
