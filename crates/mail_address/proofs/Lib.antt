@@ -1,0 +1,5 @@
+pub mod Cutting
+pub mod Seeking
+pub mod Spacing
+pub mod Parting
+pub mod Plain

@@ -1,0 +1,54 @@
+-- What holds of the addresses of a list.
+use Rattle.std.specs.Prelude.{◌≡◌, ℕ, Bool, ◌&&◌, not, ◌==◌, List, [], ◌∷◌, ◌++◌, codes, map}
+use Rattle.std.specs.List.{All, AllPass}
+use Rattle.mail_address.specs.declared.address.AddressKind.TheVariants.{Mailbox}
+use Rattle.mail_address.specs.declared.address.Address.{Address}
+use Rattle.mail_address.specs.Words.{joined_words}
+use Rattle.mail_address.specs.Addresses.{addresses_of}
+
+-- A value without bytes has no addresses.
+abbrev pub EmptyValue : Type 0
+EmptyValue = addresses_of [] ≡ []
+
+-- a byte without a meaning of its own in an address list: none of `"`, `(`, `)`, `,`, `:`, `;`, `<`, `>`, `@` and `\`
+-- (RFC 5322, section 3.2.3)
+abbrev pub is_plain : ℕ → Bool
+is_plain b =
+    not (b == 34) && not (b == 40) && not (b == 41) && not (b == 44) && not (b == 58) && not (b == 59) && not (b == 60) && not (b == 62)
+    && not (b == 64)
+    && not (b == 92)
+
+-- such a byte other than a space
+abbrev pub is_plain_letter : ℕ → Bool
+is_plain_letter b = is_plain b && not (b == 32)
+
+-- a mailbox: its name, and what stands before and behind the `@`
+pub record PlainMailbox : Type 0 where
+  pub name : List ℕ
+  pub local_part : List ℕ
+  pub host : List ℕ
+
+-- a mailbox of plain words, of which those of the name stand one space apart
+pub record IsPlain (mailbox : PlainMailbox) : Type 0 where
+  pub name : AllPass is_plain mailbox.name
+  pub words : joined_words mailbox.name ≡ mailbox.name
+  pub local_part : AllPass is_plain_letter mailbox.local_part
+  pub host : AllPass is_plain_letter mailbox.host
+
+-- `NAME <LOCAL@HOST>`
+abbrev pub spelled : PlainMailbox → List ℕ
+spelled mailbox = mailbox.name ++ (codes " <" ++ (mailbox.local_part ++ (codes "@" ++ (mailbox.host ++ codes ">"))))
+
+-- mailboxes so spelled, joined by `, `
+abbrev pub spelled_list : List PlainMailbox → List ℕ
+spelled_list [] = []
+spelled_list (mailbox ∷ []) = spelled mailbox
+spelled_list (mailbox ∷ next ∷ mailboxes) = spelled mailbox ++ (codes ", " ++ spelled_list (next ∷ mailboxes))
+
+-- the address that says a mailbox
+abbrev pub address_with : PlainMailbox → Address
+address_with mailbox = record { kind = Mailbox; name = mailbox.name; mailbox = mailbox.local_part; host = mailbox.host }
+
+-- A list of plain mailboxes is read back as they are.
+abbrev pub PlainReadBack : Type 0
+PlainReadBack = (mailboxes : List PlainMailbox) → All IsPlain mailboxes → addresses_of (spelled_list mailboxes) ≡ map address_with mailboxes

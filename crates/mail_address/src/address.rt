@@ -1,0 +1,44 @@
+//! Addresses, and lists of them.
+ghost use Rattle.std.specs.Prelude.{◌≡◌};
+
+use arch_base::{Bytes, Duplicate, NoMemory, Sequence};
+
+/// What a member of an address list is (RFC 5322, section 3.4).
+#[derive(Debug, Clone, Copy, PartialEq, Eq, Drop)]
+pub enum AddressKind {
+    /// A mailbox, with or without a name.
+    Mailbox,
+    /// The start of a group. The mailboxes up to its end are its members.
+    GroupStart,
+    /// The end of the group that was started last.
+    GroupEnd,
+}
+
+/// A member of an address list.
+#[derive(Debug, Drop)]
+pub struct Address {
+    /// What it is.
+    pub kind: AddressKind,
+    /// The name of a mailbox or of a group, without its quotes, comments and backslashes; may be empty. Encoded words
+    /// stay as they are written.
+    pub name: Bytes,
+    /// What stands before the last `@` of a mailbox's address, or the whole address where it has no `@`. It is empty at
+    /// the start and end of a group.
+    pub mailbox: Bytes,
+    /// What stands behind that `@`; may be empty.
+    pub host: Bytes,
+}
+
+/// Addresses, in order.
+pub type Addresses = Sequence<Address>;
+
+impl Duplicate for Address {
+    fn duplicate(&self) -> Result<Address, NoMemory> {
+        Ok(Address {
+            kind: self.kind,
+            name: self.name.copy()?,
+            mailbox: self.mailbox.copy()?,
+            host: self.host.copy()?,
+        })
+    }
+}

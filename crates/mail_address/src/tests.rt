@@ -1,0 +1,116 @@
+use super::*;
+use arch_base::{Bytes, Duplicate, NoMemory};
+use std::alloc::Global;
+use std::test::Fail;
+
+/// A value, and its addresses as `shown` writes them.
+type Row = (&'static [u8], &'static [u8]);
+
+/// Items with a name before brackets, or without one.
+const NAMES: [Row; 12] = [
+    (b"", b""),
+    (b"A\\nn <a@b>", b"M Ann|a|b;"),
+    (b"a@b (Ann (x) \\( \"Lee\")", b"M Ann ( Lee|a|b;"),
+    (b"<a@b> (Ann)", b"M |a|b;"),
+    (b"(Ann) <a@b>", b"M |a|b;"),
+    (b"a@b (x) ()", b"M |a|b;"),
+    (b"=?utf-8?Q?(x)?= <a@b>", b"M =?utf-8?Q??=|a|b;"),
+    (
+        b"  \"Ann  \\\"Q\\\"\"   Lee  <a@b>",
+        b"M Ann \"Q\" Lee|a|b;",
+    ),
+    (b"A\\ <a@b>", b"M A|a|b;"),
+    (b"a@b (x\\", b"M x|a|b;"),
+    (b"a@b (c\\)d)", b"M c)d|a|b;"),
+    (b"a@b (x (y)) c", b"M x|a|bc;"),
+];
+
+/// Addresses with quoted strings, comments, brackets and routes.
+const ADDRESSES: [Row; 12] = [
+    (b"n <\"a>b\"@x>", b"M n|\"a>b\"|x;"),
+    (b"A <a@b, c@d", b"M A|a@b,c|d;"),
+    (b"A <a@b, C <d@e>", b"M A|a@b,C<d|e;"),
+    (b"< @x:a@b (c:d)>", b"M |a|b;"),
+    (b"\"x <a@b", b"M |\"x <a|b;"),
+    (b"\"a@b\"", b"M |\"a|b\";"),
+    (b"(a <b> c) d@e", b"M a <b> c|d|e;"),
+    (b"n <a@(>)b>", b"M n|a|b;"),
+    (b"a@b > c", b"M |a|b>c;"),
+    (b"<\"a  b\" @ c>", b"M |\"a  b\"|c;"),
+    (b"root", b"M |root|;"),
+    (b"<@x:\"y:a@b>", b"M |a|b>;"),
+];
+
+/// Lists and groups, and items that tell nothing.
+const GROUPS: [Row; 15] = [
+    (b"g: @x:a@b;", b"G g||;M |a|b;E ||;"),
+    (b"Ann <a@b>: c", b"G Ann <a@b>||;M |c|;E ||;"),
+    (b":;", b"G ||;E ||;"),
+    (b"<>", b""),
+    (b"\"\"<>", b""),
+    (b"<@x:>", b""),
+    (b"<@>", b"M ||;"),
+    (
+        b"Team: Ann <ann@x>, \"Lee, B.\" <lee@y>; c@z",
+        b"G Team||;M Ann|ann|x;M Lee, B.|lee|y;E ||;M |c|z;",
+    ),
+    (b"a@b; c@d", b"M |a|b;M |c|d;"),
+    (b"g: a:b@c;", b"G g||;M |a:b|c;E ||;"),
+    (b"g: a@b", b"G g||;M |a|b;E ||;"),
+    (b"\"a,b\"@c, (x,y) d@e", b"M |\"a,b\"|c;M x,y|d|e;"),
+    (b"<a@b> <c, d> \"e, f\" (g, h), i@j", b"M |a|b;M |i|j;"),
+    (b", ,a@b,", b"M |a|b;"),
+    (b"Ann Lee <ann@x>, Bo <bo@y>", b"M Ann Lee|ann|x;M Bo|bo|y;"),
+];
+
+#[test]
+fn reads_names(rt: HostRuntime) -> Result<(), Fail> {
+    for (value, want) in NAMES {
+        assert!(rt; is_read_as(rt.alloc(), value, want)?, "{value:?}");
+    }
+    Ok(())
+}
+
+#[test]
+fn reads_addresses(rt: HostRuntime) -> Result<(), Fail> {
+    for (value, want) in ADDRESSES {
+        assert!(rt; is_read_as(rt.alloc(), value, want)?, "{value:?}");
+    }
+    Ok(())
+}
+
+#[test]
+fn reads_lists_and_groups(rt: HostRuntime) -> Result<(), Fail> {
+    for (value, want) in GROUPS {
+        assert!(rt; is_read_as(rt.alloc(), value, want)?, "{value:?}");
+    }
+    empty_value();
+    plain_read_back();
+    Ok(())
+}
+
+/// Whether a value, and the copy of its addresses, are read as is wanted.
+fn is_read_as(alloc: Global, value: &[u8], want: &[u8]) -> Result<bool, NoMemory> {
+    let addresses = list(alloc, value)?;
+    let twin = addresses.duplicate()?;
+    Ok(shown(alloc, &addresses)?.as_slice() == want && shown(alloc, &twin)?.as_slice() == want)
+}
+
+/// Addresses as a line of text: the kind by its letter, the name, the mailbox and the host.
+fn shown(alloc: Global, addresses: &Addresses) -> Result<Bytes, NoMemory> {
+    let mut text = Bytes::new(alloc);
+    for address in addresses.as_slice() {
+        text.push_slice(match address.kind {
+            AddressKind::Mailbox => b"M ",
+            AddressKind::GroupStart => b"G ",
+            AddressKind::GroupEnd => b"E ",
+        })?;
+        text.push_slice(address.name.as_slice())?;
+        text.push(b'|')?;
+        text.push_slice(address.mailbox.as_slice())?;
+        text.push(b'|')?;
+        text.push_slice(address.host.as_slice())?;
+        text.push(b';')?;
+    }
+    Ok(text)
+}
