@@ -1,0 +1,7 @@
+mod DateLemmas
+mod OneLemmas
+mod PartLemmas
+mod PrintLemmas
+mod ReadLemmas
+mod WordLemmas
+mod WrittenLemmas

@@ -1,0 +1,80 @@
+-- The text of a date, part by part.
+use Rattle.std.specs.Prelude.{◌≡◌, ℕ, ◌≤◌, ◌⊎◌, true, List, [], ◌∷◌, ◌++◌, length, Some}
+use Rattle.std.specs.List.{list_all}
+use Rattle.mail_date.specs.declared.moment.Moment.{Moment}
+use Rattle.mail_date.specs.declared.moment.CivilDate.{CivilDate}
+use Rattle.mail_date.specs.Words.{is_white, is_word_byte, is_day_name}
+use Rattle.mail_date.specs.Pieces.{day_of, month_of, year_of, clock_of, zone_of}
+use Rattle.mail_date.specs.Dates.{joined, IsMomentOf}
+
+-- white space, or nothing
+abbrev pub IsWhite : List ℕ → Type 0
+IsWhite text = list_all is_white text ≡ true
+
+-- white space between two parts: at least one byte
+pub record IsGap (text : List ℕ) : Type 0 where
+  pub some : 1 ≤ length text
+  pub white : IsWhite text
+
+-- a part itself has no white space
+pub record IsWord (text : List ℕ) : Type 0 where
+  pub some : 1 ≤ length text
+  pub bytes : list_all is_word_byte text ≡ true
+
+-- a day's name of three letters and a comma, with white space before and behind, or none
+pub record IsDayOpening (text : List ℕ) : Type 0 where
+  pub before : List ℕ
+  pub behind : List ℕ
+  pub first : ℕ
+  pub second : ℕ
+  pub third : ℕ
+  pub whole : text ≡ before ++ (first ∷ second ∷ third ∷ 44 ∷ behind)
+  pub named : is_day_name (first ∷ second ∷ third ∷ []) ≡ true
+  pub white_before : IsWhite before
+  pub white_behind : IsWhite behind
+
+-- what stands before the day of the month
+abbrev pub IsOpening : List ℕ → Type 0
+IsOpening text = IsWhite text ⊎ IsDayOpening text
+
+-- white space, a parenthesis and anything
+pub record IsCommentEnding (text : List ℕ) : Type 0 where
+  pub gap : List ℕ
+  pub comment : List ℕ
+  pub whole : text ≡ gap ++ (40 ∷ comment)
+  pub is_gap : IsGap gap
+
+-- what stands behind the zone
+abbrev pub IsEnding : List ℕ → Type 0
+IsEnding text = IsWhite text ⊎ IsCommentEnding text
+
+-- The parts of a text that spells a date: `[Day,] D Mon YYYY hh:mm[:ss] zone`, and white space and a comment.
+pub record DateParts (text : List ℕ) (date : CivilDate) : Type 0 where
+  pub opening : List ℕ
+  pub day : List ℕ
+  pub after_day : List ℕ
+  pub month : List ℕ
+  pub after_month : List ℕ
+  pub year : List ℕ
+  pub after_year : List ℕ
+  pub clock : List ℕ
+  pub after_clock : List ℕ
+  pub zone : List ℕ
+  pub ending : List ℕ
+  pub whole : text ≡ opening ++ (day ++ (after_day ++ (month ++ (after_month ++ (year ++ (after_year ++ (clock ++ (after_clock ++ (zone ++ ending)))))))))
+  pub opens : IsOpening opening
+  pub is_day : IsWord day
+  pub gap_after_day : IsGap after_day
+  pub is_month : IsWord month
+  pub gap_after_month : IsGap after_month
+  pub is_year : IsWord year
+  pub gap_after_year : IsGap after_year
+  pub is_clock : IsWord clock
+  pub gap_after_clock : IsGap after_clock
+  pub is_zone : IsWord zone
+  pub ends : IsEnding ending
+  pub value : joined (day_of day) (month_of month) (year_of year) (clock_of clock) (zone_of zone) ≡ Some date
+
+-- a text spells a moment: it is put together from the parts of a date that names the moment
+abbrev pub Spells : List ℕ → Moment → Type 0
+Spells text moment = (date : CivilDate) × DateParts text date × IsMomentOf date moment

@@ -1,0 +1,17 @@
+//! Dates of mails: what the value of a Date field says, and the ways in which a moment is printed.
+#![tactic(auto)]
+
+mod laws;
+mod moment;
+mod pieces;
+mod printing;
+mod reading;
+#[cfg(test)]
+mod tests;
+mod words;
+
+pub use laws::{printed_date_is_one, spelled_moment_is_one, written_date_is_spelled};
+pub use moment::{CivilDate, Moment};
+pub use pieces::Clock;
+pub use printing::{print_imap, print_page, print_rfc3339};
+pub use reading::read;

@@ -1,0 +1,128 @@
+//! Moments as they are printed.
+ghost use Rattle.std.specs.Prelude.{◌≡◌, ◌≤◌, ◌<◌};
+ghost use Rattle.mail_date.specs.Pieces.{IsZone};
+ghost use Rattle.mail_date.specs.Dates.{last_second};
+ghost use Rattle.mail_date.specs.Printed.{sign_of, tens_or_space, imap_text, rfc3339_text, page_text, Prints, PrintsUtc};
+
+use crate::moment::{Moment, shown_date, utc_date};
+use crate::pieces::MONTHS;
+
+/// `dd-Mon-yyyy hh:mm:ss +zzzz` (RFC 3501, 9), the day in two places padded by a space.
+///
+/// Where the moment's seconds and its zone together lie outside 0 to 253402300799, it is printed in zone `+0000`.
+pub fn print_imap(moment: &Moment) -> [u8; 26]
+    requires bound { moment.now.secs ≤ last_second }
+    requires zone { IsZone moment.now.zone }
+    ensures { Prints imap_text moment.now result }
+{
+    let date = shown_date(moment);
+    let [m0, m1, m2] = MONTHS[date.month as usize - 1];
+    let (century, year) = ((date.year / 100) as u8, (date.year % 100) as u8);
+    let offset = date.zone.unsigned_abs();
+    let (hours, minutes) = ((offset / 60) as u8, (offset % 60) as u8);
+    [
+        tens_or_space(date.day),
+        b'0' + date.day % 10,
+        b'-',
+        m0,
+        m1,
+        m2,
+        b'-',
+        b'0' + century / 10,
+        b'0' + century % 10,
+        b'0' + year / 10,
+        b'0' + year % 10,
+        b' ',
+        b'0' + date.hour / 10,
+        b'0' + date.hour % 10,
+        b':',
+        b'0' + date.minute / 10,
+        b'0' + date.minute % 10,
+        b':',
+        b'0' + date.second / 10,
+        b'0' + date.second % 10,
+        b' ',
+        sign_of(date.zone),
+        b'0' + hours / 10,
+        b'0' + hours % 10,
+        b'0' + minutes / 10,
+        b'0' + minutes % 10,
+    ]
+}
+
+/// The first place of a number in two places.
+fn tens_or_space(number: u8) -> u8
+    requires { number < 100 }
+    ensures { result ≡ tens_or_space number }
+{
+    if number < 10 {
+        b' '
+    } else {
+        b'0' + number / 10
+    }
+}
+
+/// The sign of a zone.
+fn sign_of(zone: i16) -> u8
+    ensures { result ≡ sign_of zone }
+{
+    if zone < 0 { b'-' } else { b'+' }
+}
+
+/// `YYYY-MM-DDThh:mm:ssZ` (RFC 3339, 5.6), in UTC, of seconds since 1970, from 0 to 253402300799.
+pub fn print_rfc3339(secs: u64) -> [u8; 20]
+    requires { secs ≤ last_second }
+    ensures { PrintsUtc rfc3339_text secs result }
+{
+    let date = utc_date(secs);
+    let (century, year) = ((date.year / 100) as u8, (date.year % 100) as u8);
+    [
+        b'0' + century / 10,
+        b'0' + century % 10,
+        b'0' + year / 10,
+        b'0' + year % 10,
+        b'-',
+        b'0' + date.month / 10,
+        b'0' + date.month % 10,
+        b'-',
+        b'0' + date.day / 10,
+        b'0' + date.day % 10,
+        b'T',
+        b'0' + date.hour / 10,
+        b'0' + date.hour % 10,
+        b':',
+        b'0' + date.minute / 10,
+        b'0' + date.minute % 10,
+        b':',
+        b'0' + date.second / 10,
+        b'0' + date.second % 10,
+        b'Z',
+    ]
+}
+
+/// `YYYY-MM-DD hh:mm`, in UTC, of seconds since 1970, from 0 to 253402300799.
+pub fn print_page(secs: u64) -> [u8; 16]
+    requires { secs ≤ last_second }
+    ensures { PrintsUtc page_text secs result }
+{
+    let date = utc_date(secs);
+    let (century, year) = ((date.year / 100) as u8, (date.year % 100) as u8);
+    [
+        b'0' + century / 10,
+        b'0' + century % 10,
+        b'0' + year / 10,
+        b'0' + year % 10,
+        b'-',
+        b'0' + date.month / 10,
+        b'0' + date.month % 10,
+        b'-',
+        b'0' + date.day / 10,
+        b'0' + date.day % 10,
+        b' ',
+        b'0' + date.hour / 10,
+        b'0' + date.hour % 10,
+        b':',
+        b'0' + date.minute / 10,
+        b'0' + date.minute % 10,
+    ]
+}

@@ -1,0 +1,171 @@
+//! Dates worked out by hand and by `date -u -d`.
+
+use crate::{
+    Moment, print_imap, print_page, print_rfc3339, printed_date_is_one, read,
+    spelled_moment_is_one, written_date_is_spelled,
+};
+
+/// Values that are read, with seconds and zone.
+const READ: [(&[u8], u64, i16); 34] = [
+    (b"Thu, 31 Dec 1998 23:59:60 +0000", 915_148_799, 0),
+    (b"Thu, 1 Feb 2024 11:59:57 +0100 (CET)", 1_706_785_197, 60),
+    (b"Thu,1 Feb 2024 11:59:57 +0100", 1_706_785_197, 60),
+    (
+        b" \t\r\nThu, \t 01\tFeb\r2024\n11:59:57  +0100 \t",
+        1_706_785_197,
+        60,
+    ),
+    (
+        b"1 Feb 2024 11:59:57 +0100\n(CET) and (anything",
+        1_706_785_197,
+        60,
+    ),
+    (b"1 Feb 2024 11:59:57 +0100 (\0", 1_706_785_197, 60),
+    (b"tHU, 1 fEB 2024 11:59:57 +0100", 1_706_785_197, 60),
+    (b"Mon, 1 FEB 2024 11:59:57 +0100", 1_706_785_197, 60),
+    (b"1 Feb 2024 10:01:40 -0000", 1_706_781_700, 0),
+    (b"1 Feb 2024 10:00 +0000", 1_706_781_600, 0),
+    (b"1 Jan 2024 00:04:60 +0059", 1_704_063_959, 59),
+    (b"9 Mar 2021 07:08:09 -0330", 1_615_286_289, -210),
+    (b"29 Feb 2024 12:00:00 +0000", 1_709_208_000, 0),
+    (b"29 Feb 2000 00:00 +0000", 951_782_400, 0),
+    (b"1 Jan 1970 00:00:00 +0000", 0, 0),
+    (b"1 Jan 1970 00:01 +0001", 0, 1),
+    (b"1 Jan 1970 23:59 +2359", 0, 1439),
+    (b"31 Dec 9999 23:59:59 +0000", 253_402_300_799, 0),
+    (b"31 Dec 9999 00:00:59 -2359", 253_402_300_799, -1439),
+    (b"1 Feb 2024 11:59:57 GMT", 1_706_788_797, 0),
+    (b"1 Feb 2024 11:59:57 ut", 1_706_788_797, 0),
+    (b"1 Feb 2024 11:59:57 EST", 1_706_806_797, -300),
+    (b"1 Feb 2024 11:59:57 EDT", 1_706_803_197, -240),
+    (b"1 Feb 2024 11:59:57 CST", 1_706_810_397, -360),
+    (b"1 Feb 2024 11:59:57 CDT", 1_706_806_797, -300),
+    (b"1 Feb 2024 11:59:57 MST", 1_706_813_997, -420),
+    (b"1 Feb 2024 11:59:57 mdt", 1_706_810_397, -360),
+    (b"1 Feb 2024 11:59:57 PST", 1_706_817_597, -480),
+    (b"1 Feb 2024 11:59:57 PDT", 1_706_813_997, -420),
+    (b"Fri, 31 Jul 2020 00:00 GMT", 1_596_153_600, 0),
+    (b"Sat, 15 Aug 2020 00:00 GMT", 1_597_449_600, 0),
+    (b"Sun, 30 Nov 2020 00:00 GMT", 1_606_694_400, 0),
+    (b"Tue, 30 Jun 2020 00:00 GMT", 1_593_475_200, 0),
+    (b"Wed, 30 Sep 2020 00:00 GMT", 1_601_424_000, 0),
+];
+
+/// Values that are refused.
+const REFUSED: [&[u8]; 40] = [
+    b"",
+    b"Thu,",
+    b"1 Feb 2024 11:59:57",
+    b"1 Feb 2024 11:59:57 +0100(CET)",
+    b"1 Feb 2024 11:59:57 +0100 CET",
+    b"Thu , 1 Feb 2024 11:59:57 +0100",
+    b"Thu 1 Feb 2024 11:59:57 +0100",
+    b"Thu, Thu, 1 Feb 2024 11:59:57 +0100",
+    b"Thx, 1 Feb 2024 11:59:57 +0100",
+    b"Thursday, 1 Feb 2024 11:59:57 +0100",
+    b"1 Feb 2024\x0011:59:57 +0100",
+    b"1\0Feb 2024 11:59:57 +0100",
+    b"1 Feb 2024 11:59:57 UTC",
+    b"1 Feb 2024 11:59:57 Z",
+    b"1 Feb 2024 11:59:57 A",
+    b"1 Feb 2024 11:59:57 CET",
+    b"1 Feb 2024 11:59:57 0100",
+    b"1 Feb 2024 11:59:57 +100",
+    b"1 Feb 2024 11:59:57 +2400",
+    b"1 Feb 2024 11:59:57 +0060",
+    b"1 Feb 24 11:59:57 +0100",
+    b"1 Feb 02024 11:59:57 +0100",
+    b"001 Feb 2024 11:59:57 +0100",
+    b"30 Feb 2024 11:59:57 +0100",
+    b"29 Feb 2100 11:59:57 +0100",
+    b"31 Apr 2024 11:59:57 +0100",
+    b"0 Feb 2024 11:59:57 +0100",
+    b"1 Foo 2024 11:59:57 +0100",
+    b"1 February 2024 11:59:57 +0100",
+    b"1 Feb 2024 24:00:00 +0100",
+    b"1 Feb 2024 11:60:00 +0100",
+    b"1 Feb 2024 11:59:61 +0100",
+    b"1 Feb 2024 1:59:57 +0100",
+    b"1 Feb 2024 11:59: 57 +0100",
+    b"1 Feb 2024 11:59:5 +0100",
+    b"31 Dec 1969 23:59:59 +0000",
+    b"31 Dec 1969 23:59:59 -0100",
+    b"1 Jan 1970 00:00 +0001",
+    b"31 Dec 9999 23:59:59 -0001",
+    b"1 Feb-2024 11:59:57 +0100",
+];
+
+#[test]
+fn dates_are_read(rt: HostRuntime) {
+    for (value, secs, zone) in READ {
+        assert_eq!(rt;
+            read(value),
+            Some(Moment { secs, zone }),
+            "at {secs} {zone}"
+        );
+    }
+}
+
+#[test]
+fn other_values_are_refused(rt: HostRuntime) {
+    for (place, value) in REFUSED.iter().enumerate() {
+        assert_eq!(rt; read(value), None, "at {place}");
+    }
+}
+
+#[test]
+fn moments_are_printed(rt: HostRuntime) {
+    let utc = Moment {
+        secs: 1_706_781_700,
+        zone: 0,
+    };
+    assert_eq!(rt;
+        print_imap(&utc).as_slice(),
+        b" 1-Feb-2024 10:01:40 +0000".as_slice()
+    );
+    let west = Moment {
+        secs: 1_615_286_289,
+        zone: -210,
+    };
+    assert_eq!(rt;
+        print_imap(&west).as_slice(),
+        b" 9-Mar-2021 07:08:09 -0330".as_slice()
+    );
+    let first = Moment { secs: 0, zone: -1 };
+    assert_eq!(rt;
+        print_imap(&first).as_slice(),
+        b" 1-Jan-1970 00:00:00 +0000".as_slice()
+    );
+    let last = Moment {
+        secs: 253_402_300_799,
+        zone: 1,
+    };
+    assert_eq!(rt;
+        print_imap(&last).as_slice(),
+        b"31-Dec-9999 23:59:59 +0000".as_slice()
+    );
+    let late = Moment {
+        secs: 253_402_300_799,
+        zone: -1439,
+    };
+    assert_eq!(rt;
+        print_imap(&late).as_slice(),
+        b"31-Dec-9999 00:00:59 -2359".as_slice()
+    );
+    assert_eq!(rt;
+        print_rfc3339(1).as_slice(),
+        b"1970-01-01T00:00:01Z".as_slice()
+    );
+    assert_eq!(rt;
+        print_rfc3339(253_402_300_799).as_slice(),
+        b"9999-12-31T23:59:59Z".as_slice()
+    );
+    assert_eq!(rt;
+        print_page(1_706_781_600).as_slice(),
+        b"2024-02-01 10:00".as_slice()
+    );
+    assert_eq!(rt; print_page(0).as_slice(), b"1970-01-01 00:00".as_slice());
+    spelled_moment_is_one();
+    printed_date_is_one();
+    written_date_is_spelled();
+}
