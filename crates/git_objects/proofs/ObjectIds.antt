@@ -1,0 +1,48 @@
+-- Ids of objects have twenty bytes.
+use Rattle.std.proofs.Common.{◌≡◌, ◌<◌, ◌*◌, ℕ, zero, suc, List, [], ◌∷◌, ◌++◌, length, get_or, length-append, refl, arith}
+use Rattle.std.specs.Int.{byte_at, bytes_high_first, to_be_bytes}
+use Rattle.sha1.specs.Sha1.{sha1, digest_bytes}
+use Rattle.arch_base.specs.Ids.{IsId}
+use Rattle.git_objects.specs.Objects.{id_of}
+use mir.Syntax.{w32}
+use Rattle.std.specs.Prelude.{slice_index}
+
+-- each is a byte
+abbrev AreBytes : List ℕ → Type 0
+AreBytes [] = Unit {0}
+AreBytes (b ∷ bs) = (b < 256) × AreBytes bs
+
+AreBytes-append : (xs ys : List ℕ) → AreBytes xs → AreBytes ys → AreBytes (xs ++ ys)
+AreBytes-append [] ys h k = k
+AreBytes-append (x ∷ xs) ys h k = (h.0, AreBytes-append xs ys h.1 k)
+
+AreBytes-at : (xs : List ℕ) (k : ℕ) → AreBytes xs → get_or xs k 0 < 256
+AreBytes-at [] k h = omega arith
+AreBytes-at (x ∷ xs) zero h = h.0
+AreBytes-at (x ∷ xs) (suc k) h = AreBytes-at xs k h.1
+
+byte_at-small : (k n : ℕ) → byte_at k n < 256
+byte_at-small zero n = omega arith
+byte_at-small (suc k) n = omega arith
+
+AreBytes-number : (k n : ℕ) → AreBytes (bytes_high_first k n)
+AreBytes-number zero n = tt
+AreBytes-number (suc k) n = (byte_at-small k n, AreBytes-number k n)
+
+-- the bytes of a digest
+AreBytes-digest : (h : List ℕ) (n : ℕ) → AreBytes (digest_bytes h n)
+unfolding digest_bytes
+AreBytes-digest h zero = tt
+AreBytes-digest h (suc n) = AreBytes-append (digest_bytes h n) (to_be_bytes w32 (slice_index h n)) (AreBytes-digest h n) (AreBytes-number 4 (slice_index h n))
+
+length-digest : (h : List ℕ) (n : ℕ) → length (digest_bytes h n) ≡ 4 * n
+unfolding digest_bytes
+length-digest h zero = refl
+length-digest h (suc n) =
+    let four : length (to_be_bytes w32 (slice_index h n)) ≡ 4 = refl in
+    omega (arith, length-append (digest_bytes h n) (to_be_bytes w32 (slice_index h n)), length-digest h n, four)
+
+-- the id of any bytes is one
+pub IsId-id_of : (text : List ℕ) → IsId (id_of text)
+unfolding sha1
+IsId-id_of text = record { len = length-digest _ 5; bytes = λ k. AreBytes-at (sha1 text) k (AreBytes-digest _ 5) }

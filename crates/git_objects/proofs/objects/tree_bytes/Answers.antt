@@ -1,0 +1,7 @@
+use Rattle.std.proofs.Common.{rules}
+use Rattle.git_objects.proofs.Spellings.{tree-written}
+use Rattle.git_objects.proofs.objects.tree_bytes.Goals as goal
+
+pub returns : goal.returns
+returns c =
+    tree-written c.args.name c.args.id.now c.copy_from_slice.new.self c.copy_from_slice-2.new.self (search rules) c.copy_from_slice.ensures.after c.copy_from_slice-2.ensures.after

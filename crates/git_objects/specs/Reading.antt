@@ -1,0 +1,54 @@
+-- What the readers of objects and commits answer.
+use Rattle.std.specs.Prelude.{◌≡◌, ◌≢◌, ◌-◌, ◌≤◌, ℕ, List, ◌++◌, length, slice_range, Option, Some, None, Result, Ok, Err, MatchOption}
+use Rattle.arch_base.specs.declared.sequence.NoMemory.{NoMemory}
+use Rattle.git_objects.specs.declared.objects.Object.{Object}
+use Rattle.git_objects.specs.declared.objects.Object.TheVariants.{Blob, Tree, Commit}
+use Rattle.git_objects.specs.declared.commits.Commit.{Commit as CommitRecord}
+use Rattle.git_objects.specs.Objects.{GitObject, BlobOf, TreeOf, CommitOf, IsObject, spelling}
+use Rattle.git_objects.specs.Commits.{IsContentOf, HoldsNoCommit}
+use Rattle.git_objects.specs.declared.commit_reading.Parts.{Parts}
+
+-- the object that a reader shows
+abbrev pub shown : Object → GitObject
+shown (Blob content) = BlobOf content.now
+shown (Tree name id) = TreeOf name id
+shown (Commit content) = CommitOf content.now
+
+-- bytes begin with the spelling of this object, which takes so many of them
+pub record IsFront (bytes : List ℕ) (object : GitObject) (len : ℕ) : Type 0 where
+  pub valid : IsObject object
+  pub inside : len ≤ length bytes
+  pub spelled : slice_range bytes 0 len ≡ spelling object
+
+-- the content that is lent is the piece of the bytes that ends where the object does
+abbrev pub LendsPiece : List ℕ → Object → ℕ → Type 0
+LendsPiece bytes (Blob content) len = (length content.now ≤ len) × (content.now ≡ slice_range bytes (len - length content.now) len)
+LendsPiece bytes (Tree name id) len = Unit {0}
+LendsPiece bytes (Commit content) len = (length content.now ≤ len) × (content.now ≡ slice_range bytes (len - length content.now) len)
+
+-- no object's spelling stands at the front of the bytes
+abbrev pub HasNoObject : List ℕ → Type 0
+HasNoObject bytes = (object : GitObject) (rest : List ℕ) → IsObject object → bytes ≢ spelling object ++ rest
+
+-- what is found is this object, with the length of its spelling
+abbrev pub Finds : Option (Object × ℕ) → GitObject → Type 0
+Finds found object = MatchOption found ⊥ (λ f. (shown f.0 ≡ object) × (f.1 ≡ length (spelling object)))
+
+-- the commit of the parts that a reader lends
+abbrev pub commit_of : Parts → CommitRecord
+commit_of parts = record {
+  tree = parts.tree;
+  parent = parts.parent;
+  author = parts.author.now;
+  email = parts.email.now;
+  secs = parts.secs;
+  zone = parts.zone;
+  committed = parts.committed;
+  subject = parts.subject.now;
+}
+
+-- a commit is read where the bytes hold one, and none where they hold none
+abbrev pub ReadsCommit : List ℕ → Result (Option CommitRecord) NoMemory → Type 0
+ReadsCommit bytes (Err e) = Unit {0}
+ReadsCommit bytes (Ok None) = HoldsNoCommit bytes
+ReadsCommit bytes (Ok (Some c)) = IsContentOf bytes c
