@@ -1,0 +1,98 @@
+-- The symbols of bytes, read again.
+use Rattle.std.proofs.Common.{◌≡◌, ◌<◌, ◌+◌, ◌*◌, ◌/◌, ◌%◌, ◌∙◌, ℕ, suc, zero, Bool, true, false, cond, not, ◌&&◌, nat_eq, List, [], ◌∷◌, ◌++◌, replicate, length, get_or, Option, Some, None, refl, ap, arith, eqb-true}
+use Rattle.std.specs.List.{cons_option}
+use Rattle.std.proofs.lemmas.Bool.{agree_below_at}
+use Rattle.base64.specs.Rfc4648.{encode_symbols, padding_len}
+use Rattle.base64.specs.Engines.{standard}
+use Rattle.base64.specs.GeneralPurpose.{encode_of, IsBytes}
+use Rattle.mime_words.specs.Base64.{six_bits, sextets, packed, unbase64}
+
+-- a number that is found
+abbrev is_found : Option ℕ → ℕ → Bool
+is_found None i = false
+is_found (Some v) i = nat_eq v i
+
+-- the symbol at a place isn't `=`, and stands for the place
+abbrev stands_for : List ℕ → ℕ → Bool
+stands_for t i = not (nat_eq (get_or t i 0) 61) && is_found (six_bits (get_or t i 0)) i
+
+abbrev Stand : List ℕ → Type 0
+Stand t = (i : ℕ) → i < 64 → stands_for t i ≡ true
+
+read_by : (e : Bool) (found : Option ℕ) (i : ℕ) (later : List ℕ) → (not e && is_found found i) ≡ true → cond e [] (cons_option found later) ≡ i ∷ later
+read_by true found i later h = cc
+read_by false None i later h = cc
+read_by false (Some v) i later h = ap (λ x. x ∷ later) (eqb-true v i h)
+
+symbol : (t : List ℕ) → Stand t → (i : ℕ) (rest : List ℕ) → i < 64 → sextets (get_or t i 0 ∷ rest) ≡ i ∷ sextets rest
+symbol t h i rest l = read_by (nat_eq (get_or t i 0) 61) (six_bits (get_or t i 0)) i (sextets rest) (h i l)
+
+no_symbols : (k : ℕ) → sextets (replicate k 61) ≡ []
+no_symbols zero = refl
+no_symbols (suc k) = refl
+
+-- so many six bits are the bytes that they were made of
+three : (a b c : ℕ) (later : List ℕ) → a < 256 → b < 256 → c < 256
+    → packed ((a / 4) ∷ (a % 4 * 16 + b / 16) ∷ (b % 16 * 4 + c / 64) ∷ (c % 64) ∷ later) ≡ a ∷ b ∷ c ∷ packed later
+three a b c later la lb lc =
+    let x : 4 * (a / 4) + (a % 4 * 16 + b / 16) / 16 ≡ a = omega arith in
+    let y : (a % 4 * 16 + b / 16) % 16 * 16 + (b % 16 * 4 + c / 64) / 4 ≡ b = omega arith in
+    let z : (b % 16 * 4 + c / 64) % 4 * 64 + c % 64 ≡ c = omega arith in
+    λ i. x i ∷ y i ∷ z i ∷ packed later
+
+two : (a b : ℕ) → a < 256 → b < 256 → packed ((a / 4) ∷ (a % 4 * 16 + b / 16) ∷ (b % 16 * 4) ∷ []) ≡ a ∷ b ∷ []
+two a b la lb =
+    let x : 4 * (a / 4) + (a % 4 * 16 + b / 16) / 16 ≡ a = omega arith in
+    let y : (a % 4 * 16 + b / 16) % 16 * 16 + (b % 16 * 4) / 4 ≡ b = omega arith in
+    λ i. x i ∷ y i ∷ []
+
+one : (a : ℕ) → a < 256 → packed ((a / 4) ∷ (a % 4 * 16) ∷ []) ≡ a ∷ []
+one a la =
+    let x : 4 * (a / 4) + (a % 4 * 16) / 16 ≡ a = omega arith in
+    λ i. x i ∷ []
+
+onto : (t : List ℕ) → Stand t → (i : ℕ) (rest later : List ℕ) → i < 64 → sextets rest ≡ later → sextets (get_or t i 0 ∷ rest) ≡ i ∷ later
+onto t h i rest later l e = symbol t h i rest l ∙ ap (λ xs. i ∷ xs) e
+
+-- two, three and four symbols
+two_symbols : (t : List ℕ) → Stand t → (i j : ℕ) (rest later : List ℕ) → i < 64 → j < 64 → sextets rest ≡ later
+    → sextets (get_or t i 0 ∷ get_or t j 0 ∷ rest) ≡ i ∷ j ∷ later
+two_symbols t h i j rest later li lj e = onto t h i (get_or t j 0 ∷ rest) (j ∷ later) li (onto t h j rest later lj e)
+
+three_symbols : (t : List ℕ) → Stand t → (i j k : ℕ) (rest later : List ℕ) → i < 64 → j < 64 → k < 64 → sextets rest ≡ later
+    → sextets (get_or t i 0 ∷ get_or t j 0 ∷ get_or t k 0 ∷ rest) ≡ i ∷ j ∷ k ∷ later
+three_symbols t h i j k rest later li lj lk e =
+    onto t h i (get_or t j 0 ∷ get_or t k 0 ∷ rest) (j ∷ k ∷ later) li (two_symbols t h j k rest later lj lk e)
+
+four_symbols : (t : List ℕ) → Stand t → (i j k l : ℕ) (rest later : List ℕ) → i < 64 → j < 64 → k < 64 → l < 64 → sextets rest ≡ later
+    → sextets (get_or t i 0 ∷ get_or t j 0 ∷ get_or t k 0 ∷ get_or t l 0 ∷ rest) ≡ i ∷ j ∷ k ∷ l ∷ later
+four_symbols t h i j k l rest later li lj lk ll e =
+    onto t h i (get_or t j 0 ∷ get_or t k 0 ∷ get_or t l 0 ∷ rest) (j ∷ k ∷ l ∷ later) li (three_symbols t h j k l rest later lj lk ll e)
+
+-- symbols of bytes and any padding
+symbols : (t : List ℕ) → Stand t → (k : ℕ) (m : List ℕ) → IsBytes m → packed (sextets (encode_symbols t m ++ replicate k 61)) ≡ m
+unfolding encode_symbols
+symbols t h k [] bytes = ap packed (no_symbols k)
+symbols t h k (a ∷ []) bytes =
+    let la : a < 256 = bytes 0 in
+    ap packed (two_symbols t h (a / 4) (a % 4 * 16) (replicate k 61) [] (omega arith) (omega arith) (no_symbols k)) ∙ one a la
+symbols t h k (a ∷ b ∷ []) bytes =
+    let la : a < 256 = bytes 0 in
+    let lb : b < 256 = bytes 1 in
+    ap packed (three_symbols t h (a / 4) (a % 4 * 16 + b / 16) (b % 16 * 4) (replicate k 61) [] (omega arith) (omega arith) (omega arith) (no_symbols k))
+    ∙ two a b la lb
+symbols t h k (a ∷ b ∷ c ∷ rest) bytes =
+    let la : a < 256 = bytes 0 in
+    let lb : b < 256 = bytes 1 in
+    let lc : c < 256 = bytes 2 in
+    ap packed (four_symbols t h (a / 4) (a % 4 * 16 + b / 16) (b % 16 * 4 + c / 64) (c % 64) (encode_symbols t rest ++ replicate k 61)
+    (sextets (encode_symbols t rest ++ replicate k 61)) (omega arith) (omega arith) (omega arith) (omega arith) refl)
+    ∙ three a b c (sextets (encode_symbols t rest ++ replicate k 61)) la lb lc
+    ∙ ap (λ xs. a ∷ b ∷ c ∷ xs) (symbols t h k rest (λ i. bytes (suc (suc (suc i)))))
+
+standard_stands : Stand standard.encode_table
+standard_stands i l = agree_below_at (stands_for standard.encode_table) (λ _. true) 64 i refl l
+
+pub encoded : (m : List ℕ) → IsBytes m → unbase64 (encode_of standard m) ≡ m
+unfolding unbase64
+encoded m bytes = symbols standard.encode_table standard_stands (padding_len (length m)) m bytes

@@ -1,0 +1,6 @@
+pub mod Base64
+pub mod Quoted
+pub mod Words
+pub mod Decoding
+pub mod Writing
+pub mod Laws

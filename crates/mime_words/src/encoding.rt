@@ -1,0 +1,21 @@
+//! The encodings of words.
+ghost use Rattle.std.specs.Prelude.{◌≡◌};
+ghost use Rattle.mime_words.specs.Words.{encoding_of};
+
+/// How the bytes of a word are written.
+#[derive(Debug, Clone, Copy, PartialEq, Eq, Drop)]
+pub enum Encoding {
+    Base64,
+    Quoted,
+}
+
+/// The encoding of a letter in either case.
+pub fn encoding_of(letter: u8) -> Option<Encoding>
+    ensures { result ≡ encoding_of letter }
+{
+    match letter {
+        b'B' | b'b' => Some(Encoding::Base64),
+        b'Q' | b'q' => Some(Encoding::Quoted),
+        _ => None,
+    }
+}

@@ -1,0 +1,17 @@
+//! What holds of decoding, for every value.
+ghost use Rattle.mime_words.specs.Laws.{ValueWithoutWords, EncodedBytes, WordsAreSpelled};
+
+/// A value without `=?` is the UTF-8 that stands there, with U+FFFD for what is none.
+pub fn value_without_words()
+    ensures { ValueWithoutWords }
+{}
+
+/// Base64 as it is written by RFC 4648, section 4, stands for the bytes that it was made of.
+pub fn encoded_bytes()
+    ensures { EncodedBytes }
+{}
+
+/// An encoded word is found at the front of bytes exactly where they begin as RFC 2047, section 2, spells it.
+pub fn words_are_spelled()
+    ensures { WordsAreSpelled }
+{}

@@ -1,0 +1,181 @@
+//! Encoded words at the front of a value (RFC 2047, section 2).
+ghost use Rattle.std.specs.Prelude.{◌≡◌, ◌≤◌, ◌<◌, ◌+◌, length, IfSome, option_copied};
+ghost use Rattle.std.specs.List.{prefix_len};
+ghost use Rattle.mime_words.specs.Words.{is_charset_byte, is_text_byte, behind_opening, encoding_at, is_closing, closed_word, opened_word, word_at};
+ghost use Rattle.mime_words.specs.Writing.{IsFront, FindsWord, IsWordOf};
+
+use crate::charset::{Charset, charset_of};
+use crate::encoding::{Encoding, encoding_of};
+
+/// A word of a charset that is read: its charset, its encoding, and its encoded text.
+#[derive(Debug, Clone, Copy, Drop)]
+pub struct Word<'a> {
+    pub charset: Charset,
+    pub encoding: Encoding,
+    pub text: &'a [u8],
+}
+
+/// The first word of a value that is read, with the text before it and the bytes behind it.
+#[derive(Debug, Clone, Copy, Drop)]
+pub struct Found<'a> {
+    pub before: &'a [u8],
+    pub word: Word<'a>,
+    pub rest: &'a [u8],
+}
+
+/// What stands at the front of bytes: so many bytes of text, or a word that is read, of so many bytes.
+#[derive(Debug, Clone, Copy, Drop)]
+pub enum Front<'a> {
+    Text(usize),
+    Decoded(Word<'a>, usize),
+}
+
+/// The first word of a value that is read, or None where all of the value is text.
+pub fn first_word(value: &[u8]) -> Option<Found<'_>>
+    ensures { FindsWord value.now result }
+{
+    let mut at = 0;
+    while at < value.len() {
+        match read_front(&value[at..]) {
+            Front::Text(len) => at += len,
+            Front::Decoded(word, len) => {
+                return Some(Found {
+                    before: &value[..at],
+                    word,
+                    rest: &value[at + len..],
+                });
+            }
+        }
+    }
+    None
+}
+
+/// What stands at the front of bytes.
+fn read_front(bytes: &[u8]) -> Front<'_>
+    requires { 0 < length bytes.now }
+    ensures { IsFront bytes.now result }
+{
+    let Some(word) = word_at(bytes) else {
+        return Front::Text(1);
+    };
+    let len = word.charset.len() + word.text.len() + 7;
+    match charset_of(word.charset) {
+        None => Front::Text(len),
+        Some(charset) => Front::Decoded(
+            Word {
+                charset,
+                encoding: word.encoding,
+                text: word.text,
+            },
+            len,
+        ),
+    }
+}
+
+/// An encoded word: its charset's name, its encoding and its encoded text.
+#[derive(Debug, Clone, Copy, Drop)]
+pub struct EncodedWord<'a> {
+    pub charset: &'a [u8],
+    pub encoding: Encoding,
+    pub text: &'a [u8],
+}
+
+/// The encoded word that bytes begin with.
+fn word_at(bytes: &[u8]) -> Option<EncodedWord<'_>>
+    ensures { IsWordOf (word_at bytes.now) (length bytes.now) result }
+{
+    opened_word(behind_opening(bytes)?)
+}
+
+/// The encoded word whose `=?` stands before bytes.
+fn opened_word(inside: &[u8]) -> Option<EncodedWord<'_>>
+    ensures { IsWordOf (opened_word inside.now) (length inside.now + 2) result }
+{
+    let len = charset_len(inside);
+    if len == 0 {
+        return None;
+    }
+    let (charset, behind) = inside.split_at(len);
+    let encoding = encoding_at(behind)?;
+    closed_word(charset, &behind[3..], encoding)
+}
+
+/// The encoded word of a charset's name and an encoding, with the encoded text and `?=` at the front of bytes.
+fn closed_word<'a>(
+    charset: &'a [u8],
+    behind: &'a [u8],
+    encoding: Encoding,
+) -> Option<EncodedWord<'a>>
+    ensures { IsWordOf (closed_word charset.now behind.now encoding) (length charset.now + length behind.now + 5) result }
+{
+    let (text, end) = behind.split_at(text_len(behind));
+    if !is_closing(end) {
+        return None;
+    }
+    Some(EncodedWord {
+        charset,
+        encoding,
+        text,
+    })
+}
+
+/// What follows `=?`.
+fn behind_opening(bytes: &[u8]) -> Option<&[u8]>
+    ensures { option_copied result ≡ behind_opening bytes.now }
+{
+    match bytes {
+        [b'=', b'?', inside @ ..] => Some(inside),
+        _ => None,
+    }
+}
+
+/// The encoding whose letter stands between two `?`, at the front.
+fn encoding_at(bytes: &[u8]) -> Option<Encoding>
+    ensures value { result ≡ encoding_at bytes.now }
+    ensures long { IfSome result (λ _. 3 ≤ length bytes.now) }
+{
+    match bytes {
+        [b'?', letter, b'?', ..] => encoding_of(*letter),
+        _ => None,
+    }
+}
+
+/// Whether `?=` stands at the front.
+fn is_closing(bytes: &[u8]) -> bool
+    ensures { result ≡ is_closing bytes.now }
+{
+    matches!(bytes, [b'?', b'=', ..])
+}
+
+/// How many bytes of a charset's name bytes begin with.
+fn charset_len(bytes: &[u8]) -> usize
+    ensures value { result ≡ prefix_len is_charset_byte bytes.now }
+    ensures within { result ≤ length bytes.now }
+{
+    bytes
+        .iter()
+        .take_while(|byte| is_charset_byte(**byte))
+        .count()
+}
+
+/// How many bytes of an encoded text bytes begin with.
+fn text_len(bytes: &[u8]) -> usize
+    ensures value { result ≡ prefix_len is_text_byte bytes.now }
+    ensures within { result ≤ length bytes.now }
+{
+    bytes.iter().take_while(|byte| is_text_byte(**byte)).count()
+}
+
+/// Whether a byte may stand in a charset's name.
+fn is_charset_byte(byte: u8) -> bool
+    ensures { result ≡ is_charset_byte byte }
+{
+    byte != b'?' && byte != b' '
+}
+
+/// Whether a byte may stand in an encoded text.
+fn is_text_byte(byte: u8) -> bool
+    ensures { result ≡ is_text_byte byte }
+{
+    byte.is_ascii_graphic() && byte != b'?'
+}
