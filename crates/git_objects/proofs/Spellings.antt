@@ -139,3 +139,8 @@ small-behind content word file id k e back small =
     let here : get_or content (length word + (2 + k)) 0 ≡ get_or id k 0 =
     ap (λ l. get_or l (length word + (2 + k)) 0) e ∙ get_or-append-add word file (2 + k) 0 ∙ sym (get_or-drop 2 file k 0) ∙ ap (λ l. get_or l k 0) (sym back) in
     omega (arith, here, small)
+
+-- the spelling of a tree has 37 bytes
+pub length-tree_spelling : (name : ℕ) (id : Id20) → length id.0 ≡ 20 → length (tree_spelling name id) ≡ 37
+unfolding digits
+length-tree_spelling name id h = rw (length-tree_content name id h) (omega (arith, length-tree_content name id h))
