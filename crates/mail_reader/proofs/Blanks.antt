@@ -1,5 +1,5 @@
 -- What is blank at the ends of a value.
-use Rattle.std.proofs.Common.{◌≡◌, ℕ, ◌+◌, ◌-◌, ◌<◌, Bool, true, false, cond, eqb, not, ◌&&◌, ◌||◌, List, [], ◌∷◌, ◌++◌, length, take, map, get_or, refl, sym, ap, ◌∙◌}
+use Rattle.std.proofs.Common.{◌≡◌, ℕ, Bool, true, false, cond, eqb, not, ◌||◌, List, [], ◌∷◌, ◌++◌, map, refl, sym, ap, ◌∙◌}
 use Rattle.std.specs.List.{filter}
 use Rattle.std.proofs.lemmas.Bool.{eqb-true, or_parts}
 use Rattle.std.proofs.lemmas.List.{append-nil}
@@ -45,5 +45,5 @@ pub end_other : (xs : List ℕ) (y : ℕ) → is_blank y ≡ false → without_e
 end_other xs y h =
     let both = or_parts (eqb y 10) (eqb (space_for y) 32) h in
     let is : unfolded (xs ++ y ∷ []) ≡ unfolded xs ++ space_for y ∷ [] =
-        unfolded-append xs (y ∷ []) ∙ ap (λ t. unfolded xs ++ t) (unfolded-cons y [] ∙ ap (λ t. unfolded_by t y []) both.0) in
+    unfolded-append xs (y ∷ []) ∙ ap (λ t. unfolded xs ++ t) (unfolded-cons y [] ∙ ap (λ t. unfolded_by t y []) both.0) in
     ap (without_end 32) is ∙ without_end-push_other 32 (unfolded xs) (space_for y) both.1 ∙ sym is

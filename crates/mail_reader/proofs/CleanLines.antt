@@ -62,6 +62,7 @@ all_clean (suc n) bytes h = step bytes h (all_clean n) (split_at_feed bytes)
     last : (xs : List ℕ) → NoFeed xs → AllClean (clean_lines xs)
     last [] free = rw clean_lines-none tt
     last (x ∷ xs) free = rw (clean_lines-last (x ∷ xs) free (omega arith)) (clean_content (x ∷ xs) free, tt)
+
     step : (bytes : List ℕ) → length bytes ≤ suc n → ((later : List ℕ) → length later ≤ n → AllClean (clean_lines later)) → NoFeed bytes ⊎ SplitsAt bytes → AllClean (clean_lines bytes)
     step bytes h ih (inl free) = last bytes free
     step bytes h ih (inr s) =
@@ -161,12 +162,12 @@ no_returns-clean (l ∷ ls) h k r f =
     by_place : (content rest : List ℕ) (k : ℕ) → NoFeed content → content_of content ≡ content → get_or (content ++ (10 ∷ rest)) k 0 ≡ 13
         → get_or (content ++ (10 ∷ rest)) (k + 1) 0 ≡ 10 → ((j : ℕ) → get_or rest j 0 ≡ 13 → get_or rest (j + 1) 0 ≡ 10 → ⊥) → ⊥
     by_place content rest k free same r f later = elim (cases_order (k + 1) (length content)) [
-        inl last ↦ no_return_last content k last same (sym (get_or_append_left content (10 ∷ rest) 0 k (omega arith)) ∙ r)
+      | inl last ↦ no_return_last content k last same (sym (get_or_append_left content (10 ∷ rest) 0 k (omega arith)) ∙ r)
       | inr (inl within) ↦ no_feed_at content (k + 1) free (sym (get_or_append_left content (10 ∷ rest) 0 (k + 1) within) ∙ f)
       | inr (inr past) ↦ by_rest (k - length content) (sym (get_or-append_right content (10 ∷ rest) (length content) k 0 refl (omega arith)) ∙ r)
           (let same : k - length content + 1 ≡ k + 1 - length content = omega arith in
           ap (λ i. get_or (10 ∷ rest) i 0) same ∙ sym (get_or-append_right content (10 ∷ rest) (length content) (k + 1) 0 refl (omega arith)) ∙ f)
-      ]
+    ]
       where
         by_rest : (i : ℕ) → get_or (10 ∷ rest) i 0 ≡ 13 → get_or (10 ∷ rest) (i + 1) 0 ≡ 10 → ⊥
         by_rest zero r f = absurd (omega arith)

@@ -31,6 +31,7 @@ no_field-continuation (b ∷ bs) h = step (is_name_byte b) (by_value b h)
   where
     by_value : (c : ℕ) → (eqb c 32 || eqb c 9) ≡ true → is_name_byte c ≡ false
     by_value c q = grind (arith, nat_tests)
+
     step : (t : Bool) → t ≡ false → (ltb 0 (cond t (1 + prefix_len is_name_byte bs) 0) && eqb (get_or (b ∷ bs) (cond t (1 + prefix_len is_name_byte bs) 0) 0) 58) ≡ false
     step true q = absurd (true≢false q)
     step false q = refl
@@ -60,9 +61,9 @@ unfolding is_field_line
 no_field-past_feed line h =
     let all : prefix_len is_name_byte line ≡ length line = omega (arith, prefix_len-le-length is_name_byte line) in
     let len : prefix_len is_name_byte (line ++ 10 ∷ []) ≡ length line =
-        prefix_len-append is_name_byte line (10 ∷ []) ∙ rw (all, eq-eqb (length line) (length line) refl) (add-zero (length line)) in
+    prefix_len-append is_name_byte line (10 ∷ []) ∙ rw (all, eq-eqb (length line) (length line) refl) (add-zero (length line)) in
     let byte : get_or (line ++ 10 ∷ []) (prefix_len is_name_byte (line ++ 10 ∷ [])) 0 ≡ 10 =
-        get_or_push line 10 0 (prefix_len is_name_byte (line ++ 10 ∷ [])) (sym len) in
+    get_or_push line 10 0 (prefix_len is_name_byte (line ++ 10 ∷ [])) (sym len) in
     and_right (ltb 0 (prefix_len is_name_byte (line ++ 10 ∷ []))) (eqb (get_or (line ++ 10 ∷ []) (prefix_len is_name_byte (line ++ 10 ∷ [])) 0) 58) (rw byte refl)
 
 -- a line feed at the end changes nothing

@@ -54,9 +54,9 @@ pub Continuing-more : (bytes : List ℕ) (n m : ℕ) → Continuing bytes n → 
 Continuing-more bytes n m h l e c =
     let later = parts_of (front (lines_of (drop (n + m) bytes))) in
     let here : parts_of (front (lines_of (drop n bytes))) ≡ (take m (drop n bytes) ++ (parts_of (front (lines_of (drop (n + m) bytes)))).0, (parts_of (front (lines_of (drop (n + m) bytes)))).1) =
-        ap (λ ls. parts_of (front ls)) e ∙ parts-continued (take m (drop n bytes)) (lines_of (drop m (drop n bytes))) c ∙ rw (drop-drop m n bytes) refl in
+    ap (λ ls. parts_of (front ls)) e ∙ parts-continued (take m (drop n bytes)) (lines_of (drop m (drop n bytes))) c ∙ rw (drop-drop m n bytes) refl in
     let rest : behind (lines_of (drop n bytes)) ≡ behind (lines_of (drop (n + m) bytes)) =
-        ap behind e ∙ behind-continued (take m (drop n bytes)) (lines_of (drop m (drop n bytes))) c ∙ rw (drop-drop m n bytes) refl in
+    ap behind e ∙ behind-continued (take m (drop n bytes)) (lines_of (drop m (drop n bytes))) c ∙ rw (drop-drop m n bytes) refl in
     record {
       within = omega (arith, h.within, length-drop n bytes);
       parts = h.parts ∙ rw here (ap (λ t. (t, (parts_of (front (lines_of (drop (n + m) bytes)))).1)) (sym (append_assoc (take n bytes) (take m (drop n bytes)) (parts_of (front (lines_of (drop (n + m) bytes)))).0) ∙ ap (λ t. t ++ (parts_of (front (lines_of (drop (n + m) bytes)))).0) (take-two bytes n m)));
@@ -77,6 +77,7 @@ Stops-at line lines c = record { parts = by_parts (is_field_line line) (is_conti
     by_parts : (f c : Bool) → is_field_line line ≡ f → c ≡ false → parts_of (cond (f || c) (line ∷ front lines) []) ≡ ([], (parts_of (cond f (line ∷ front lines) [])).1)
     by_parts true c q e = rw q refl
     by_parts false c q e = rw e refl
+
     by_behind : (f c : Bool) → c ≡ false → cond (f || c) (behind lines) (line ∷ lines) ≡ cond f (behind lines) (line ∷ lines)
     by_behind true c e = refl
     by_behind false c e = rw e refl
@@ -139,9 +140,11 @@ length-fields_of text =
         onto : (b n : ℕ) (ls : List (List ℕ)) → length ls ≤ n → length (onto_first b ls) ≤ suc n
         onto b n [] h = omega arith
         onto b n (l ∷ ls) h = omega arith
+
         step : (t : Bool) (b : ℕ) (ls : List (List ℕ)) (n : ℕ) → length ls ≤ n → length (cond t ((b ∷ []) ∷ ls) (onto_first b ls)) ≤ suc n
         step true b ls n h = omega arith
         step false b ls n h = onto b n ls h
+
     of_front : (ls : List (List ℕ)) → length (front ls) ≤ length ls
     of_front [] = omega arith
     of_front (l ∷ ls) = step (is_field_line l || is_continuation l) l (front ls) (length ls) (of_front ls)
@@ -149,6 +152,7 @@ length-fields_of text =
         step : (t : Bool) (l : List ℕ) (fs : List (List ℕ)) (n : ℕ) → length fs ≤ n → length (cond t (l ∷ fs) []) ≤ suc n
         step true l fs n h = omega arith
         step false l fs n h = omega arith
+
     of_header : (ls : List (List ℕ)) → length (header_lines ls) ≤ length ls
     of_header [] = omega arith
     of_header (l ∷ ls) = step (is_field_line l) l (front ls) (length ls) (of_front ls)
@@ -156,6 +160,7 @@ length-fields_of text =
         step : (t : Bool) (l : List ℕ) (fs : List (List ℕ)) (n : ℕ) → length fs ≤ n → length (cond t (l ∷ fs) []) ≤ suc n
         step true l fs n h = omega arith
         step false l fs n h = omega arith
+
     of_parts : (ls : List (List ℕ)) → length (parts_of ls).1 ≤ length ls
     of_parts [] = omega arith
     of_parts (l ∷ ls) = step (is_field_line l) l (parts_of ls) (length ls) (of_parts ls)

@@ -1,16 +1,16 @@
 -- The laws of storage forms, and that the fields of a text are its front.
-use Rattle.std.proofs.Common.{◌≡◌, ℕ, ◌+◌, ◌-◌, ◌<◌, ◌≤◌, zero, suc, Bool, true, false, cond, eqb, ◌&&◌, ◌||◌, List, [], ◌∷◌, ◌++◌, Option, None, Some, length, take, drop, map, get_or, refl, sym, ap, ◌∙◌, subst, append_assoc, arith, length-append, ⊎_elim}
+use Rattle.std.proofs.Common.{◌≡◌, ℕ, ◌+◌, ◌<◌, ◌≤◌, suc, Bool, true, false, cond, eqb, ◌&&◌, ◌||◌, List, [], ◌∷◌, ◌++◌, Option, None, Some, length, map, get_or, refl, sym, ap, ◌∙◌, append_assoc, arith, length-append, ⊎_elim}
 use Rattle.std.specs.List.{concat}
 use Rattle.std.proofs.lemmas.Bool.{eqb-true, cases_lt}
 use Rattle.mail_reader.specs.Lines.{lines_of, is_field_line, is_continuation, is_empty_line, front, behind, header_lines, after_header, after_empty}
-use Rattle.mail_reader.specs.Fields.{FieldText, parts_of, field_of, fields_of}
-use Rattle.mail_reader.specs.Stored.{all_of, ended, ends_line, without_returns, clean_lines, is_mailbox_line, after_mailbox_line, kept_fields, body_lines, is_dropped, storage_form}
+use Rattle.mail_reader.specs.Fields.{parts_of, field_of, fields_of}
+use Rattle.mail_reader.specs.Stored.{ended, ends_line, without_returns, clean_lines, is_mailbox_line, after_mailbox_line, kept_fields, body_lines, storage_form}
 use Rattle.mail_reader.specs.Bodies.{body_of}
 use Rattle.mail_reader.specs.Keeping.{next_place}
-use Rattle.mail_reader.specs.Laws.{StoredOnce, IsClean, FormsAreClean, wholes, FieldsAreFront, FormIsParts, IsKeptLine, FieldInFront, FormsAreShort}
+use Rattle.mail_reader.specs.Laws.{StoredOnce, FormsAreClean, wholes, FieldsAreFront, FormIsParts, IsKeptLine, FieldInFront, FormsAreShort}
 use Rattle.mail_reader.specs.declared.storing.Place.{Place}
 use Rattle.mail_reader.specs.declared.storing.Place.TheVariants.{Start, Kept, Dropped}
-use Rattle.mail_reader.proofs.Trims.{NoFeed, NoByte-all}
+use Rattle.mail_reader.proofs.Trims.{NoByte-all}
 use Rattle.mail_reader.proofs.LineEnds.{concat-lines_of}
 use Rattle.mail_reader.proofs.FirstFields.{parts_by}
 use Rattle.mail_reader.proofs.KeptLines.{kept_at, kept_from, behind_at, behind_from, kept_from-start, behind_from-start}
@@ -92,7 +92,7 @@ unfolding fields_of
 fields_front text =
     let lines = lines_of text in
     let header : concat (header_lines lines) ≡ wholes (map field_of (parts_of (header_lines lines)).1) =
-        concat-parts (header_lines lines) ∙ ap (λ t. t ++ concat (parts_of (header_lines lines)).1) (header-first lines) ∙ sym (wholes-fields (parts_of (header_lines lines)).1) in
+    concat-parts (header_lines lines) ∙ ap (λ t. t ++ concat (parts_of (header_lines lines)).1) (header-first lines) ∙ sym (wholes-fields (parts_of (header_lines lines)).1) in
     sym (concat-lines_of text) ∙ concat-header lines ∙ ap (λ t. t ++ concat (after_header lines)) header
 
 pub parts : FormIsParts
@@ -100,7 +100,7 @@ unfolding body_of
 parts bytes text e =
     let f = form_lines bytes text e in
     let behind : after_header (lines_of text) ≡ (10 ∷ []) ∷ f.rest =
-        ap after_header (all_lines text f) ∙ sym (behind_from-start (f.first ∷ (f.kept ++ (10 ∷ []) ∷ f.rest))) ∙ f.again.behind in
+    ap after_header (all_lines text f) ∙ sym (behind_from-start (f.first ∷ (f.kept ++ (10 ∷ []) ∷ f.rest))) ∙ f.again.behind in
     let rest : concat (after_header (lines_of text)) ≡ 10 ∷ concat (after_empty (after_header (lines_of text))) = rw behind refl in
     fields_front text ∙ ap (λ t. wholes (fields_of text) ++ t) rest
 
@@ -135,12 +135,13 @@ form_bytes bytes text e =
     let lines = after_mailbox_line (clean_lines bytes) in
     let fields : concat (kept_from Start (after_mailbox_line (clean_lines bytes))) ≡ concat (kept_fields (after_mailbox_line (clean_lines bytes))) = kept_from-start lines in
     ⊎_elim (λ (some : 0 < length (concat (kept_fields (after_mailbox_line (clean_lines bytes))))).
-        ap length (some_is (sym e ∙ storage_form-some bytes some)) ∙ length-append (concat (kept_fields lines)) (10 ∷ concat (body_lines lines)) ∙ omega (arith, ap length fields))
-      (λ (none : length (concat (kept_fields (after_mailbox_line (clean_lines bytes)))) ≤ 0). none_some (sym (storage_form-none bytes (omega arith)) ∙ e))
-      (cases_lt 0 (length (concat (kept_fields lines))))
+    ap length (some_is (sym e ∙ storage_form-some bytes some)) ∙ length-append (concat (kept_fields lines)) (10 ∷ concat (body_lines lines)) ∙ omega (arith, ap length fields))
+    (λ (none : length (concat (kept_fields (after_mailbox_line (clean_lines bytes)))) ≤ 0). none_some (sym (storage_form-none bytes (omega arith)) ∙ e))
+    (cases_lt 0 (length (concat (kept_fields lines))))
   where
     none_some : {X : Type 0} → None ≡ Some text → X
     none_some h = cc
+
     some_is : {xs : List ℕ} → Some text ≡ Some xs → text ≡ xs
     some_is h = cc
 

@@ -115,14 +115,14 @@ pub form_at : (l : List ℕ) (kept rest : List (List ℕ)) → AllClean (l ∷ k
 form_at l kept rest clean clean_rest field h =
     let lines = (l ∷ kept) ++ (10 ∷ []) ∷ rest in
     let is : after_mailbox_line (clean_lines (concat lines)) ≡ lines =
-        ap after_mailbox_line (clean_lines-concat lines (AllClean-append (l ∷ kept) ((10 ∷ []) ∷ rest) clean (clean_empty, clean_rest)))
-        ∙ same_mailbox l (kept ++ (10 ∷ []) ∷ rest) field in
+    ap after_mailbox_line (clean_lines-concat lines (AllClean-append (l ∷ kept) ((10 ∷ []) ∷ rest) clean (clean_empty, clean_rest)))
+    ∙ same_mailbox l (kept ++ (10 ∷ []) ∷ rest) field in
     let fields : concat (kept_fields (after_mailbox_line (clean_lines (concat lines)))) ≡ concat (l ∷ kept) =
-        ap (λ ls. concat (kept_fields ls)) is ∙ sym (kept_from-start lines) ∙ ap concat h.kept in
+    ap (λ ls. concat (kept_fields ls)) is ∙ sym (kept_from-start lines) ∙ ap concat h.kept in
     let body : concat (body_lines (after_mailbox_line (clean_lines (concat lines)))) ≡ concat rest =
-        ap (λ ls. concat (body_lines ls)) is ∙ ap (λ ls. concat (after_empty ls)) (sym (behind_from-start lines) ∙ h.behind) in
+    ap (λ ls. concat (body_lines ls)) is ∙ ap (λ ls. concat (after_empty ls)) (sym (behind_from-start lines) ∙ h.behind) in
     let some : 0 < length (concat (kept_fields (after_mailbox_line (clean_lines (concat lines))))) =
-        omega (arith, ap length fields, length-append l (concat kept), some_field l field) in
+    omega (arith, ap length fields, length-append l (concat kept), some_field l field) in
     storage_form-some (concat lines) some ∙ rw (fields, body) (ap Some (sym (concat-append (l ∷ kept) ((10 ∷ []) ∷ rest))))
 
 -- a storage form, taken apart
@@ -143,13 +143,15 @@ form_lines bytes text e =
     let clean : AllClean (after_mailbox_line (clean_lines bytes)) = AllClean-after_mailbox (clean_lines bytes) (AllClean-lines bytes) in
     let fields : concat (kept_from Start (after_mailbox_line (clean_lines bytes))) ≡ concat (kept_fields (after_mailbox_line (clean_lines bytes))) = kept_from-start lines in
     from_kept (kept_from Start lines) (body_lines lines) (AllClean-kept Start lines clean) (AllClean-body lines clean) (starts_field lines).0 (again Start Start tt lines (body_lines lines))
-      (λ none. none_some (sym (storage_form-none bytes (ap length (sym fields ∙ ap concat none))) ∙ e))
-      (λ some. some_is (sym e ∙ storage_form-some bytes (omega (arith, ap length fields, some)) ∙ rw (sym fields) (ap Some (sym (concat-append (kept_from Start lines) ((10 ∷ []) ∷ body_lines lines))))))
+    (λ none. none_some (sym (storage_form-none bytes (ap length (sym fields ∙ ap concat none))) ∙ e))
+    (λ some. some_is (sym e ∙ storage_form-some bytes (omega (arith, ap length fields, some)) ∙ rw (sym fields) (ap Some (sym (concat-append (kept_from Start lines) ((10 ∷ []) ∷ body_lines lines))))))
   where
     none_some : None ≡ Some text → ⊥
     none_some h = cc
+
     some_is : {xs : List ℕ} → Some text ≡ Some xs → text ≡ xs
     some_is h = cc
+
     from_kept : (kept rest : List (List ℕ)) → AllClean kept → AllClean rest → StartsField kept → Again Start kept rest
         → (kept ≡ [] → ⊥) → (0 < length (concat kept) → text ≡ concat (kept ++ (10 ∷ []) ∷ rest)) → FormLines text
     from_kept [] rest clean clean_rest field h none is = absurd (none refl)

@@ -1,16 +1,16 @@
 -- The line of a Message-ID field that an id is put in.
-use Rattle.std.proofs.Common.{◌≡◌, ℕ, ◌+◌, ◌-◌, ◌<◌, ◌≤◌, zero, suc, Bool, true, false, cond, eqb, leb, ◌&&◌, List, [], ◌∷◌, ◌++◌, Option, None, Some, length, take, drop, map, get_or, refl, sym, ap, ◌∙◌, append_assoc, arith, length-append, codes, add-zero, subst}
+use Rattle.std.proofs.Common.{◌≡◌, ℕ, ◌+◌, true, eqb, List, [], ◌∷◌, ◌++◌, Some, length, take, map, refl, sym, ap, ◌∙◌, append_assoc, arith, length-append, codes, add-zero, subst}
 use Rattle.std.specs.List.{AllPass, prefix_len, list_all}
 use Rattle.std.specs.Prelude.{option_and_then}
 use Rattle.std.proofs.lemmas.Bool.{eqb-true, and_parts, le-leb, eq-eqb, false_from_ne_true, both_ways}
-use Rattle.std.proofs.lemmas.List.{get_or_at, take_at, append-nil}
+use Rattle.std.proofs.lemmas.List.{get_or_at, take_at}
 use Rattle.std.proofs.lemmas.List.Folds.{prefix_len-append}
 use Rattle.std.proofs.lemmas.List.Sums.{list_all-from_AllPass}
-use Rattle.mail_reader.specs.Lines.{is_name_byte, is_field_line, lines_of, header_lines, front}
+use Rattle.mail_reader.specs.Lines.{is_field_line, lines_of, header_lines, front}
 use Rattle.mail_reader.specs.Fields.{FieldText, parts_of, field_of, fields_of, is_named, without_feed, first_named}
 use Rattle.mail_reader.specs.Stored.{content_of, is_dropped}
 use Rattle.mail_reader.specs.Ids.{is_id_byte, id_len, closes_id, ids_of, first_of, own_id}
-use Rattle.mail_reader.specs.Laws.{IsId, id_line, OwnIdInFront, IsKeptLine, IdLineIsKept}
+use Rattle.mail_reader.specs.Laws.{IsId, id_line, OwnIdInFront, IdLineIsKept}
 use Rattle.mail_reader.proofs.Trims.{NoByte, NoFeed, without_end-push_other}
 use Rattle.mail_reader.proofs.LineEnds.{lines_of-at}
 use Rattle.mail_reader.proofs.CleanLines.{no_feed_at}
@@ -45,10 +45,10 @@ first-id id more h =
     let inside = h.inside in
     let len : id_len (inside ++ 62 ∷ more) ≡ length inside = id_len-at inside more h.bytes in
     let closed : closes_id (inside ++ 62 ∷ more) ≡ true =
-        rw (len, le-leb 1 (length inside) h.some, le-leb (length inside) 248 h.short, get_or_at inside 62 more 0 (length inside) refl) refl in
+    rw (len, le-leb 1 (length inside) h.some, le-leb (length inside) 248 h.short, get_or_at inside 62 more 0 (length inside) refl) refl in
     let is : id ++ more ≡ 60 ∷ (inside ++ 62 ∷ more) = ap (λ t. t ++ more) h.is ∙ ap (λ t. 60 ∷ t) (append_assoc inside (62 ∷ []) more) in
     let piece : take (id_len (inside ++ 62 ∷ more) + 1) (inside ++ 62 ∷ more) ≡ inside ++ 62 ∷ [] =
-        ap (λ n. take (n + 1) (inside ++ 62 ∷ more)) len ∙ ap (take (length inside + 1)) (sym (append_assoc inside (62 ∷ []) more)) ∙ take_at (inside ++ 62 ∷ []) more (length inside + 1) (length-append inside (62 ∷ [])) in
+    ap (λ n. take (n + 1) (inside ++ 62 ∷ more)) len ∙ ap (take (length inside + 1)) (sym (append_assoc inside (62 ∷ []) more)) ∙ take_at (inside ++ 62 ∷ []) more (length inside + 1) (length-append inside (62 ∷ [])) in
     ap (λ t. first_of (ids_of t)) is ∙ rw closed (ap (λ t. Some (60 ∷ t)) piece ∙ ap Some (sym h.is))
 
 -- a line feed at the end of more than one piece is dropped from the last
@@ -61,9 +61,9 @@ without_feed-append (x ∷ w ∷ xs) y ys = ap (λ t. x ∷ t) (without_feed-app
 id_content : (id : List ℕ) → IsId id → NoFeed (codes "Message-ID: " ++ id)
 id_content id h =
     NoByte-append 10 (codes "Message-ID: ") id (refl, (refl, (refl, (refl, (refl, (refl, (refl, (refl, (refl, (refl, (refl, (refl, tt))))))))))))
-      (let free = free_of_feed h.inside (list_all-from_AllPass is_id_byte h.inside h.bytes) in
-      let P : List ℕ → Type 0 = λ t. NoFeed t in
-      subst P (sym h.is) (refl, NoByte-append 10 h.inside (62 ∷ []) free (refl, tt)))
+    (let free = free_of_feed h.inside (list_all-from_AllPass is_id_byte h.inside h.bytes) in
+    let P : List ℕ → Type 0 = λ t. NoFeed t in
+    subst P (sym h.is) (refl, NoByte-append 10 h.inside (62 ∷ []) free (refl, tt)))
 
 id_field_line : (id : List ℕ) → is_field_line (id_line id) ≡ true
 unfolding is_field_line

@@ -37,7 +37,7 @@ ids_of-closed value piece len h closed e =
     let split = piece-split piece h.bracket h.some in
     let two : len + 2 ≡ suc (len + 1) = omega arith in
     let at : take (len + 2) piece ≡ 60 ∷ take (id_len (drop 1 piece) + 1) (drop 1 piece) =
-        ap (take (len + 2)) split ∙ rw two (ap (λ n. 60 ∷ take (n + 1) (drop 1 piece)) e) in
+    ap (take (len + 2)) split ∙ rw two (ap (λ n. 60 ∷ take (n + 1) (drop 1 piece)) e) in
     h.ids ∙ ap ids_of split ∙ rw closed (ap (λ t. t ∷ ids_of (drop 1 piece)) (sym at))
 
 -- and one that isn't

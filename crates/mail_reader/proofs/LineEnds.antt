@@ -72,6 +72,7 @@ concat-lines_of (x ∷ xs) = step (eqb x 10) x (lines_of xs) xs (concat-lines_of
     joined : (b : ℕ) (ls : List (List ℕ)) → concat (onto_first b ls) ≡ b ∷ concat ls
     joined b [] = refl
     joined b (l ∷ ls) = refl
+
     step : (t : Bool) (b : ℕ) (ls : List (List ℕ)) (ys : List ℕ) → concat ls ≡ ys → concat (cond t ((b ∷ []) ∷ ls) (onto_first b ls)) ≡ b ∷ ys
     step true b ls ys e = ap (λ t. b ∷ t) e
     step false b ls ys e = joined b ls ∙ ap (λ t. b ∷ t) e

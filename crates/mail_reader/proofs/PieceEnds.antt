@@ -121,10 +121,11 @@ pub is_form-not : (bytes text : List ℕ) → NotBegun text (form_fields bytes) 
 is_form-not bytes text h = (
   λ t. absurd (false≢true t),
   λ e. absurd (⊎_elim (λ (some : 0 < length (form_fields bytes)). h (10 ∷ form_body bytes) (same_some text (form_fields bytes ++ (10 ∷ form_body bytes)) (sym e ∙ storage_form-some bytes some)))
-    (λ (none : length (form_fields bytes) ≤ 0). apart (sym (storage_form-none bytes (omega arith)) ∙ e)) (cases_lt 0 (length (form_fields bytes)))),
+      (λ (none : length (form_fields bytes) ≤ 0). apart (sym (storage_form-none bytes (omega arith)) ∙ e)) (cases_lt 0 (length (form_fields bytes)))),
 )
   where
     apart : None ≡ Some text → ⊥
     apart k = cc
+
     same_some : (xs ys : List ℕ) → Some xs ≡ Some ys → xs ≡ ys
     same_some xs ys k = cc

@@ -1,11 +1,11 @@
 -- Runs of spaces made one, byte by byte.
 use Rattle.std.proofs.Common.{◌≡◌, ℕ, Bool, true, false, cond, eqb, ◌&&◌, List, [], ◌∷◌, ◌++◌, refl, sym, ap, ◌∙◌}
-use Rattle.std.proofs.lemmas.Bool.{eqb-true, and_parts, cases_Bool}
+use Rattle.std.proofs.lemmas.Bool.{eqb-true}
 use Rattle.mail_reader.specs.Stored.{all_of, without_end}
 use Rattle.mail_reader.specs.Values.{space_for, unfolded}
-use Rattle.mail_reader.specs.Content.{begins_space, squeezed}
+use Rattle.mail_reader.specs.Content.{squeezed}
 use Rattle.mail_reader.specs.Hashing.{waiting, given_at, waits_behind}
-use Rattle.mail_reader.proofs.Blanks.{unfolded_by, unfolded-cons}
+use Rattle.mail_reader.proofs.Blanks.{unfolded-cons}
 
 -- what bytes give, where a space waits or none does
 abbrev pub given_from : Bool → List ℕ → List ℕ
@@ -44,6 +44,6 @@ given_is [] true h = h
 given_is [] false h = refl
 given_is (b ∷ bs) spaced h =
     step (eqb b 10) (eqb (space_for b) 32) (space_for b) spaced (unfolded bs) (λ next. given_from next bs) refl
-      (ap (λ t. without_end 32 (waiting spaced ++ t)) (sym (unfolded-cons b bs)) ∙ h ∙ ap (λ t. waiting spaced ++ t) (unfolded-cons b bs))
-      (λ next k. given_is bs next k)
+    (ap (λ t. without_end 32 (waiting spaced ++ t)) (sym (unfolded-cons b bs)) ∙ h ∙ ap (λ t. waiting spaced ++ t) (unfolded-cons b bs))
+    (λ next k. given_is bs next k)
     ∙ ap (λ t. squeezed (waiting spaced ++ t)) (sym (unfolded-cons b bs))

@@ -6,11 +6,10 @@ ghost use Rattle.mail_reader.specs.Values.{flat_of};
 ghost use Rattle.mail_reader.specs.Content.{content_id_of, counted, counted_field, squeezed};
 ghost use Rattle.mail_reader.specs.Hashing.{Took, given_at, waiting, waits_behind};
 
-use sha2::{Digest, Sha256};
-
 use crate::header::Fields;
 use crate::reading::{body, is_same_name};
 use crate::values::{space_for, trim};
+use sha2::{Digest, Sha256};
 
 /// The content id of a text: the SHA-256 (FIPS 180-4) of its fields Subject, From, Date, References, In-Reply-To, To
 /// and Cc, each with its name in lower case, a colon and its flat value with each run of spaces made one, of a line

@@ -5,10 +5,9 @@ ghost use Rattle.mail_reader.specs.Lines.{lines_of, is_name_byte};
 ghost use Rattle.mail_reader.specs.Fields.{fields_of, field_of, without_feed};
 ghost use Rattle.mail_reader.specs.Reading.{shown, Continues, IsFirstField, HasNoField};
 
+use crate::lines::{is_continuation, is_field_line, name_len};
 use memchr::memchr;
 use std::marker::Model;
-
-use crate::lines::{is_continuation, is_field_line, name_len};
 
 /// A field of a header (RFC 5322, section 2.2), lent from the text that it stands in.
 #[derive(Debug, Clone, Copy, Drop)]

@@ -4,47 +4,39 @@ ghost use Rattle.mail_reader.specs.Laws.{StoredOnce, FormsAreClean, FieldsAreFro
 /// Storing a storage form gives it back unchanged.
 pub fn stored_once()
     ensures { StoredOnce }
-{
-}
+{}
 
 /// A storage form has a field, ends with a line feed, and has no carriage return directly before a line feed.
 pub fn forms_are_clean()
     ensures { FormsAreClean }
-{
-}
+{}
 
 /// The fields of any text, one after another, are its front.
 pub fn fields_are_front()
     ensures { FieldsAreFront }
-{
-}
+{}
 
 /// The fields of a storage form in order, an empty line and the body are the form.
 pub fn form_is_parts()
     ensures { FormIsParts }
-{
-}
+{}
 
 /// A field on one line that is kept as it is, in front of a storage form, leaves a storage form.
 pub fn field_in_front()
     ensures { FieldInFront }
-{
-}
+{}
 
 /// A storage form is at most two bytes longer than what it is made of.
 pub fn forms_are_short()
     ensures { FormsAreShort }
-{
-}
+{}
 
 /// The own id of a text with a Message-ID field on one line in front is the id in that field.
 pub fn own_id_in_front()
     ensures { OwnIdInFront }
-{
-}
+{}
 
 /// The line of a Message-ID field with an id is a field on one line that is kept as it is.
 pub fn id_line_is_kept()
     ensures { IdLineIsKept }
-{
-}
+{}

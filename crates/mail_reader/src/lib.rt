@@ -17,10 +17,13 @@ pub use content::content_id;
 pub use header::{Field, Fields};
 pub use ids::Ids;
 pub use laws::{
-    field_in_front, fields_are_front, form_is_parts, forms_are_clean, forms_are_short, id_line_is_kept,
-    own_id_in_front, stored_once,
+    field_in_front, fields_are_front, form_is_parts, forms_are_clean, forms_are_short,
+    id_line_is_kept, own_id_in_front, stored_once,
 };
 pub use reading::{body, fields, own_id};
 pub use references::refs_of;
 pub use storing::{StoredRefusal, stored};
 pub use values::flat;
+
+#[cfg(test)]
+mod tests;

@@ -5,14 +5,13 @@ ghost use Rattle.mail_reader.specs.Fields.{fields_of};
 ghost use Rattle.mail_reader.specs.Ids.{ids_of};
 ghost use Rattle.mail_reader.specs.References.{refs_of, ids_in, last, put_new, shown_all};
 
+use crate::header::Fields;
+use crate::ids::Ids;
+use crate::reading::is_same_name;
 use arch_base::{Bytes, NoMemory, Texts};
 use std::alloc::Global;
 use std::collections::BTreeSet;
 use std::marker::Model;
-
-use crate::header::Fields;
-use crate::ids::Ids;
-use crate::reading::is_same_name;
 
 /// How many references count.
 const MAX_REFS: usize = 200;

@@ -5,12 +5,11 @@ ghost use Rattle.mail_reader.specs.Lines.{is_field_line, after_header, after_emp
 ghost use Rattle.mail_reader.specs.Stored.{Gives, stored, clean_lines, kept_fields, after_mailbox_line, is_mailbox_line, is_dropped};
 ghost use Rattle.mail_reader.specs.Keeping.{next_place};
 
+use crate::lines::{first_line, is_continuation, is_field_line, name_len};
+use crate::reading::is_same_name;
 use arch_base::{Bytes, NoMemory};
 use std::alloc::Global;
 use thiserror::Error;
-
-use crate::lines::{first_line, is_continuation, is_field_line, name_len};
-use crate::reading::is_same_name;
 
 /// Why a message isn't kept.
 #[derive(Debug, Drop, PartialEq, Eq, Error)]

@@ -1,8 +1,7 @@
-use Rattle.std.proofs.Common.{◌≡◌, ◌++◌, ◌∷◌, [], Some, refl, sym, ap, ◌∙◌, rules}
+use Rattle.std.proofs.Common.{◌≡◌, ◌++◌, ◌∷◌, [], sym, ap, ◌∙◌, rules}
 use Rattle.std.specs.List.{concat}
-use Rattle.std.proofs.lemmas.List.{nil_from_length, append-nil}
+use Rattle.std.proofs.lemmas.List.{nil_from_length}
 use Rattle.mail_reader.specs.Stored.{clean_lines, kept_fields}
-use Rattle.mail_reader.specs.Keeping.{next_place}
 use Rattle.mail_reader.specs.Checking.{piece_at}
 use Rattle.mail_reader.proofs.LineEnds.{clean_lines-none}
 use Rattle.mail_reader.proofs.KeptLines.{kept_from, behind_from, kept_from-start, behind_from-start}
@@ -37,8 +36,7 @@ loop-place-preserved c =
 pub returns : goal.returns
 returns c =
     let nil : c.loop-place.rest.now ≡ [] = nil_from_length c.loop-place.rest.now (search rules) in
-    let none : clean_lines c.loop-place.rest.now ≡ [] = ap clean_lines nil ∙ clean_lines-none in
-    (
+    let none : clean_lines c.loop-place.rest.now ≡ [] = ap clean_lines nil ∙ clean_lines-none in (
       Ahead-all c.args.text.now _ c.loop-place.left.now _ c.loop-place.invariant.ahead (ap (λ ls. concat (kept_from c.loop-place.place ls)) none),
       none ∙ sym (ap (λ ls. behind_from c.loop-place.place ls) none) ∙ c.loop-place.invariant.after,
     )

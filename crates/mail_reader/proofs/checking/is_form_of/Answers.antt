@@ -1,4 +1,4 @@
-use Rattle.std.proofs.Common.{◌≡◌, ◌++◌, length, sym, ap, ◌∙◌}
+use Rattle.std.proofs.Common.{◌≡◌, ◌++◌, length, ap, ◌∙◌}
 use Rattle.std.specs.List.{concat}
 use Rattle.std.proofs.lemmas.Bool.{le-ltb}
 use Rattle.mail_reader.specs.Lines.{after_header, after_empty}
@@ -11,7 +11,7 @@ pub returns-then-left-text : goal.returns-then-left-text
 returns-then-left-text c =
     let begins : c.args.text.now ≡ form_fields c.args.bytes.now ++ c.in-Some.left.now = rw c.after_mailbox_line.ensures at c.in-Some.ensures.0 in
     let body : concat (clean_lines c.after_empty_line.result.now) ≡ form_body c.args.bytes.now =
-        ap concat (c.after_empty_line.ensures ∙ ap after_empty (c.in-Some.ensures.1 ∙ ap after_header c.after_mailbox_line.ensures)) in
+    ap concat (c.after_empty_line.ensures ∙ ap after_empty (c.in-Some.ensures.1 ∙ ap after_header c.after_mailbox_line.ensures)) in
     is_form-some c.args.bytes.now c.args.text.now c.in-Some.left.now c.is_body_of.result begins c.if-left-text.true (rw body at c.is_body_of.ensures)
 
 pub returns-else-left-text : goal.returns-else-left-text

@@ -1,4 +1,4 @@
-use Rattle.std.proofs.Common.{◌≡◌, ◌++◌, ◌∷◌, [], ap, ◌∙◌, codes}
+use Rattle.std.proofs.Common.{◌++◌, ◌∷◌, [], ap, ◌∙◌, codes}
 use Rattle.sha2.specs.Sha256.{sha256}
 use Rattle.mail_reader.specs.Fields.{fields_of}
 use Rattle.mail_reader.specs.Content.{content_id_of, counted}

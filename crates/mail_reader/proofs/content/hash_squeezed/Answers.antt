@@ -1,9 +1,9 @@
-use Rattle.std.proofs.Common.{◌≡◌, ℕ, ◌+◌, List, [], ◌∷◌, ◌++◌, drop, length, get_or, false, sym, ap, ◌∙◌, refl, append_assoc, arith, rules}
+use Rattle.std.proofs.Common.{◌≡◌, ◌+◌, [], ◌++◌, drop, get_or, false, sym, ap, ◌∙◌, refl, append_assoc, arith}
 use Rattle.std.proofs.lemmas.List.{drop_more, drop_all, append-nil}
 use Rattle.mail_reader.specs.Stored.{without_end}
 use Rattle.mail_reader.specs.Values.{flat_of, unfolded, without_front}
 use Rattle.mail_reader.specs.Content.{squeezed}
-use Rattle.mail_reader.specs.Hashing.{Took, given_at, waits_behind}
+use Rattle.mail_reader.specs.Hashing.{given_at}
 use Rattle.mail_reader.proofs.Trims.{without_end-twice}
 use Rattle.mail_reader.proofs.Squeezes.{given_from, given_is, NoEnd}
 use Rattle.mail_reader.proofs.Hashes.{Took-none, Took-then, Took-same}
@@ -19,8 +19,7 @@ loop-byte-preserved c =
     let byte = get_or items i 0 in
     let given = given_at c.loop-byte.spaced byte in
     let next : given_from c.loop-byte.spaced (drop i items) ≡ given ++ given_from c.hash_spaced-spaced.result (drop (i + 1) items) =
-        ap (given_from c.loop-byte.spaced) (drop_more items i 0 c.loop-byte-test.true) ∙ ap (λ t. given ++ given_from t (drop (i + 1) items)) (sym c.hash_spaced-spaced.ensures.waits) in
-    (
+    ap (given_from c.loop-byte.spaced) (drop_more items i 0 c.loop-byte-test.true) ∙ ap (λ t. given ++ given_from t (drop (i + 1) items)) (sym c.hash_spaced-spaced.ensures.waits) in (
       c.loop-byte.invariant.0 ++ given,
       (
         Took-then c.args.hasher.now c.loop-byte.hasher c.hash_spaced-spaced.new.hasher c.loop-byte.invariant.0 given c.loop-byte.invariant.1.0 c.hash_spaced-spaced.ensures.took,
@@ -35,8 +34,8 @@ returns c =
     let i = c.loop-byte.byte-index in
     let none : drop i items ≡ [] = drop_all i items (omega arith) in
     let no_end : NoEnd (unfolded items) =
-        ap (without_end 32) c.trim-byte-items.ensures ∙ without_end-twice 32 (without_front (unfolded c.args.value.now)) ∙ sym c.trim-byte-items.ensures in
+    ap (without_end 32) c.trim-byte-items.ensures ∙ without_end-twice 32 (without_front (unfolded c.args.value.now)) ∙ sym c.trim-byte-items.ensures in
     let is : c.loop-byte.invariant.0 ≡ squeezed (flat_of c.args.value.now) =
-        sym (append-nil c.loop-byte.invariant.0) ∙ ap (λ t. c.loop-byte.invariant.0 ++ given_from c.loop-byte.spaced t) (sym none) ∙ c.loop-byte.invariant.1.1
-        ∙ given_is items false no_end ∙ ap squeezed c.trim-byte-items.ensures in
+    sym (append-nil c.loop-byte.invariant.0) ∙ ap (λ t. c.loop-byte.invariant.0 ++ given_from c.loop-byte.spaced t) (sym none) ∙ c.loop-byte.invariant.1.1
+    ∙ given_is items false no_end ∙ ap squeezed c.trim-byte-items.ensures in
     Took-same c.args.hasher.now c.loop-byte.hasher c.loop-byte.invariant.0 _ is c.loop-byte.invariant.1.0

@@ -1,4 +1,4 @@
-use Rattle.std.proofs.Common.{◌≡◌, ◌-◌, ◌<◌, ◌∷◌, [], ◌++◌, true, false, length, get_or, take, sym, ap, ◌∙◌, arith}
+use Rattle.std.proofs.Common.{◌-◌, ◌<◌, length, get_or, take, sym, ap, ◌∙◌, arith}
 use Rattle.mail_reader.specs.Stored.{without_end}
 use Rattle.mail_reader.specs.Values.{unfolded}
 use Rattle.mail_reader.proofs.Trims.{front_and_last}
