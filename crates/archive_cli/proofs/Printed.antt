@@ -1,0 +1,113 @@
+-- What is printed of what is due.
+use Rattle.std.proofs.Common.{◌≡◌, ◌≤◌, ◌<◌, inl, inr, ℕ, Bool, true, false, List, [], ◌++◌, length, codes, decimal, Option, Some, None, Err, ◌+◌, refl, sym, ◌∙◌, ap, subst, append_assoc, arith, length-append, if◌then◌else◌}
+use Rattle.edge_io.specs.Left.{before, IsUsedUp}
+use Rattle.edge_io.specs.Scripts.{Arrival, IsScript, IsBad}
+use Rattle.line_door.specs.Phrases.{Says}
+use Rattle.line_door.proofs.Acting.{Says-then, Says-first}
+use Rattle.std.proofs.lemmas.List.{append-nil}
+use Rattle.archive_cli.specs.Words.{IsJob, AsksFor}
+use Rattle.archive_cli.specs.Frames.{line}
+use Rattle.archive_cli.specs.Turns.{World, Transcript, before_stop}
+use Rattle.archive_cli.specs.Plays.{PlaysSome}
+use Rattle.archive_cli.specs.Program.{Edges, IsInput, IsDue, Ends, Ran, start, input_limit, TookAtMost}
+use Rattle.archive_cli.specs.Printing.{Printed, Exactly, IsReplayDue, Replayed, IsPieceRead}
+use Rattle.archive_cli.specs.declared.reading.InputRefusal.{InputRefusal}
+use Rattle.archive_cli.specs.declared.reading.InputRefusal.TheVariants.{Fault, TooLong, NoMemory}
+use Rattle.archive_cli.specs.declared.words.Job.{Job}
+use Rattle.archive_cli.specs.declared.words.Job.TheVariants.{Replay}
+
+module _ (out : Option (List ℕ)) (lost : ℕ) (out' : Option (List ℕ)) (lost' : ℕ) where
+  -- what is due by one rule is due by another
+  pub printed-as : (due other : ℕ → List ℕ → Type 0) (status : ℕ) → Printed due status out lost out' lost' → ((s : ℕ) (words : List ℕ) → due s words → other s words) → Printed other status out lost out' lost'
+  printed-as due other status p f = record { due_status = p.due_status; words = p.words; is_due = f p.due_status p.words p.is_due; whole = p.whole; said = p.said; status_is = p.status_is }
+
+  -- the same words, written otherwise
+  pub printed-same : (words others : List ℕ) (code status : ℕ) → words ≡ others → Printed (Exactly words code) status out lost out' lost' → Printed (Exactly others code) status out lost out' lost'
+  printed-same words others code status same p = printed-as (Exactly words code) (Exactly others code) status p (λ s w e. record { status_is = e.status_is; words_is = e.words_is ∙ same })
+
+  -- the first of two pieces was lost
+  pub printed-first : (first second : List ℕ) (code : ℕ) → Says first out lost out' lost' false → Printed (Exactly (first ++ second) code) 6 out lost out' lost'
+  printed-first first second code said = record { due_status = code; words = first ++ second; is_due = record { status_is = refl; words_is = refl }; whole = false; said = Says-first first second out out' lost lost' said; status_is = refl }
+
+-- one piece, and then what is printed
+pub printed-then : (first second : List ℕ) (code status : ℕ) (out middle out' : Option (List ℕ)) (lost between lost' : ℕ) → Says first out lost middle between true → Printed (Exactly second code) status middle between out' lost' → Printed (Exactly (first ++ second) code) status out lost out' lost'
+printed-then first second code status out middle out' lost between lost' said p = record {
+  due_status = code;
+  words = first ++ second;
+  is_due = record { status_is = refl; words_is = refl };
+  whole = p.whole;
+  said = Says-then first second out middle out' lost between lost' p.whole said (subst (λ w. Says w middle between out' lost' p.whole) p.is_due.words_is p.said);
+  status_is = p.status_is ∙ ap (λ s. if p.whole then s else 6) p.is_due.status_is;
+}
+
+-- a script that is bad
+pub due-bad : (name text : List ℕ) (event : ℕ) → length text ≤ input_limit → IsBad event text → (s : ℕ) (words : List ℕ) → Exactly (line (codes "bad script " ++ decimal event)) 9 s words → IsReplayDue name text s words
+due-bad name text event short bad s words e = inl (inr (inl (record { short = short; event = event; bad = bad; status_is = e.status_is; printed_is = e.words_is })))
+
+-- a script for which there is no memory
+pub due-none : (name text : List ℕ) (s : ℕ) (words : List ℕ) → Exactly (line (codes "12 no memory")) 7 s words → IsReplayDue name text s words
+due-none name text s words e = inr (record { status_is = e.status_is; frames = []; played = inl refl; printed_is = e.words_is })
+
+-- a script whose events were turned
+pub due-played : (name text frames : List ℕ) (arrivals : List Arrival) (after : World) → length text ≤ input_limit → IsScript arrivals text → Transcript (before_stop arrivals) (start name) frames after → (s : ℕ) (words : List ℕ) → Exactly frames 0 s words → IsReplayDue name text s words
+due-played name text frames arrivals after short script played s words e =
+    inl (inr (inr (record { short = short; arrivals = arrivals; script = script; after = after; status_is = e.status_is; transcript = subst (λ w. Transcript (before_stop arrivals) (start name) w after) (sym e.words_is) played })))
+
+-- a script some of whose events were turned
+pub due-part : (name text frames : List ℕ) (arrivals : List Arrival) → length text ≤ input_limit → IsScript arrivals text → PlaysSome (before_stop arrivals) (start name) frames → (s : ℕ) (words : List ℕ) → Exactly (frames ++ line (codes "12 no memory")) 7 s words → IsReplayDue name text s words
+due-part name text frames arrivals short script played s words e = inr (record { status_is = e.status_is; frames = frames; played = inr (record { short = short; arrivals = arrivals; script = script; played = played }); printed_is = e.words_is })
+
+-- an input that is too long
+pub due-long : (name input : List ℕ) → input_limit < length input → (s : ℕ) (words : List ℕ) → Exactly (line (codes "script too long")) 9 s words → IsReplayDue name input s words
+due-long name input long s words e = inl (inl (record { long = long; status_is = e.status_is; printed_is = e.words_is }))
+
+-- there is some input
+pub some-input : (left : Option (List ℕ)) → (input : List ℕ) × IsInput left input
+some-input None = ([], tt)
+some-input (Some bytes) = (bytes, refl)
+
+-- what was read of an input that is used up is all of it
+pub input-whole : (left now : Option (List ℕ)) (bytes : List ℕ) → left ≡ before bytes now → IsUsedUp now → IsInput left bytes
+input-whole left None bytes is used = rw is tt
+input-whole left (Some more) bytes is used = rw (is, used) (append-nil bytes)
+
+-- an input of which much was read
+pub input-long : (left now : Option (List ℕ)) (bytes : List ℕ) (limit : ℕ) → left ≡ before bytes now → limit < length bytes → (input : List ℕ) × IsInput left input × (limit < length input)
+input-long left None bytes limit is long = (bytes, rw is tt, long)
+input-long left (Some more) bytes limit is long = (bytes ++ more, rw is refl, omega (arith, length-append bytes more, long))
+
+-- bytes that were read, and then more of them
+pub before-before : (left now later : Option (List ℕ)) (bytes more : List ℕ) → left ≡ before bytes now → now ≡ before more later → left ≡ before (bytes ++ more) later
+before-before left now None bytes more is next = is ∙ ap (before bytes) next
+before-before left now (Some rest) bytes more is next = is ∙ ap (before bytes) next ∙ ap Some (sym (append_assoc bytes more rest))
+
+ran_by : (words : List (List ℕ)) (input : List ℕ) (status : ℕ) (i j : Edges) (due_status : ℕ) (printed : List ℕ) (whole : Bool) → IsInput i.left input → IsDue words input due_status printed → Says printed i.taken i.lost j.taken j.lost whole → status ≡ (if whole then due_status else 6) → Ran words status i j
+ran_by words input status i j due_status printed true told due said is =
+    inl (record { input = input; told = told; printed = printed; due = subst (λ s. IsDue words input s printed) (sym is) due; taken_is = said.1; lost_kept = said.0 })
+ran_by words input status i j due_status printed false told due said is =
+    inr (inr (record { status_is = is; rose = said.1; input = input; told = told; due_status = due_status; printed = printed; due = due; count = said.2.0; taken_is = said.2.1 }))
+
+-- what was printed of what is due is a run
+pub ran-printed : (words : List (List ℕ)) (input : List ℕ) (status : ℕ) (i j : Edges) (due : ℕ → List ℕ → Type 0) → IsInput i.left input → ((s : ℕ) (printed : List ℕ) → due s printed → IsDue words input s printed) → Printed due status i.taken i.lost j.taken j.lost → Ran words status i j
+ran-printed words input status i j due told f p = ran_by words input status i j p.due_status p.words p.whole told (f p.due_status p.words p.is_due) p.said p.status_is
+
+-- words that end with exactly these bytes, whatever the input
+pub ran-exactly : (words : List (List ℕ)) (job : Option Job) (text : List ℕ) (code status : ℕ) (i j : Edges) → IsJob words job → ((input : List ℕ) → Ends job input code text) → Printed (Exactly text code) status i.taken i.lost j.taken j.lost → Ran words status i j
+ran-exactly words job text code status i j asked ends p =
+    let given = some-input i.left in
+    ran-printed words given.0 status i j (Exactly text code) given.1 (λ s printed e. inl (record { job = job; asked = asked; ends = subst (λ w. Ends job given.0 s w) (sym e.words_is) (subst (λ c. Ends job given.0 c text) (sym e.status_is) (ends given.0)) })) p
+
+due_job : (words : List (List ℕ)) (name input : List ℕ) (s : ℕ) (printed : List ℕ) → AsksFor words (Replay name) → IsReplayDue name input s printed → IsDue words input s printed
+due_job words name input s printed asked (inl replays) = inl (record { job = Some (Replay name); asked = asked; ends = replays })
+due_job words name input s printed asked (inr short) = inr (record { name = name; asked = asked; stops = short })
+
+-- a script that was run is a run
+pub ran-replayed : (words : List (List ℕ)) (name : List ℕ) (status : ℕ) (i j : Edges) → AsksFor words (Replay name) → Replayed name status i j → Ran words status i j
+ran-replayed words name status i j asked (inl r) = ran-printed words r.0 status i j (IsReplayDue name r.0) r.1 (λ s printed due. due_job words name r.0 s printed asked due) r.2
+ran-replayed words name status i j asked (inr r) = inr (inl (record { name = name; asked = asked; status_is = r.0; rose = r.1; taken_is = r.2; lost_kept = r.3 }))
+
+-- what a read that was refused took of the input, behind what was taken before
+pub took-refused : (refused : InputRefusal) (start left left' : Option (List ℕ)) (bytes bytes' : List ℕ) (faults faults' : ℕ) → IsPieceRead (Err refused) left left' bytes bytes' faults faults' → start ≡ before bytes left → length bytes ≤ input_limit → TookAtMost (input_limit + 1) start left'
+took-refused Fault start left left' bytes bytes' faults faults' h read few = record { bytes = bytes; taken = read ∙ ap (before bytes) (sym h.0); few = omega arith }
+took-refused TooLong start left left' bytes bytes' faults faults' h read few = absurd h
+took-refused NoMemory start left left' bytes bytes' faults faults' h read few = record { bytes = bytes ++ h.0; taken = before-before start left left' bytes h.0 read h.1; few = omega (arith, length-append bytes h.0, h.2) }

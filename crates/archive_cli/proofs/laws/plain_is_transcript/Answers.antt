@@ -1,0 +1,5 @@
+use Rattle.archive_cli.proofs.Transcripts.{plain-transcript}
+use Rattle.archive_cli.proofs.laws.plain_is_transcript.Goals as goal
+
+pub returns : goal.returns
+returns c = plain-transcript

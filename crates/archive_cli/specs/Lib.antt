@@ -1,0 +1,7 @@
+pub mod Words
+pub mod Frames
+pub mod Turns
+pub mod Plays
+pub mod Program
+pub mod Printing
+pub mod Laws

@@ -1,0 +1,52 @@
+-- What is printed of what is due, and what is read of the input.
+use Rattle.std.specs.Prelude.{◌≡◌, ◌<◌, ◌≤◌, ◌⊎◌, ◌+◌, ℕ, Bool, List, ◌++◌, length, Option, Result, Ok, Err, if◌then◌else◌}
+use Rattle.arch_base.specs.Counts.{Rose}
+use Rattle.line_door.specs.Phrases.{Says}
+use Rattle.archive_cli.specs.Program.{Edges, IsInput, input_limit, Replays, StopsShort}
+use Rattle.edge_io.specs.Left.{before, IsUsedUp}
+use Rattle.archive_cli.specs.declared.reading.Piece.{Piece}
+use Rattle.archive_cli.specs.declared.reading.Piece.TheVariants.{End, More}
+use Rattle.archive_cli.specs.declared.reading.InputRefusal.{InputRefusal}
+use Rattle.archive_cli.specs.declared.reading.InputRefusal.TheVariants.{Fault, TooLong, NoMemory}
+
+-- Something was due, with a status. It was printed whole, which gives that status, or the output failed, which gives 6.
+pub record Printed (due : ℕ → List ℕ → Type 0) (status : ℕ) (out : Option (List ℕ)) (lost : ℕ) (out' : Option (List ℕ)) (lost' : ℕ) : Type 0 where
+  pub due_status : ℕ
+  pub words : List ℕ
+  pub is_due : due due_status words
+  pub whole : Bool
+  pub said : Says words out lost out' lost' whole
+  pub status_is : status ≡ (if whole then due_status else 6)
+
+-- these words are due, with this status
+pub record Exactly (words : List ℕ) (status : ℕ) (due_status : ℕ) (printed : List ℕ) : Type 0 where
+  pub status_is : due_status ≡ status
+  pub words_is : printed ≡ words
+
+-- what a script of this name on an input is due to print
+abbrev pub IsReplayDue : List ℕ → List ℕ → ℕ → List ℕ → Type 0
+IsReplayDue name input status printed = Replays name input status printed ⊎ StopsShort name input status printed
+
+-- One piece more of the input was put behind the bytes, and they are at most one more than there may be; or none is left; or the
+-- source failed, or there was no memory for the piece, which was taken all the same.
+abbrev pub IsPieceRead : Result Piece InputRefusal → Option (List ℕ) → Option (List ℕ) → List ℕ → List ℕ → ℕ → ℕ → Type 0
+IsPieceRead (Ok End) left left' bytes bytes' faults faults' = (left ≡ left') × IsUsedUp left' × (bytes' ≡ bytes)
+IsPieceRead (Ok More) left left' bytes bytes' faults faults' =
+    (piece : List ℕ) × (left ≡ before piece left') × (bytes' ≡ bytes ++ piece) × (0 < length piece) × (length bytes + length piece ≤ input_limit + 1)
+IsPieceRead (Err Fault) left left' bytes bytes' faults faults' = (left' ≡ left) × Rose faults faults'
+IsPieceRead (Err TooLong) left left' bytes bytes' faults faults' = ⊥
+IsPieceRead (Err NoMemory) left left' bytes bytes' faults faults' =
+    (piece : List ℕ) × (left ≡ before piece left') × (length bytes + length piece ≤ input_limit + 1)
+
+-- the whole input was read, or it is too long, or the source failed; want of memory is free
+abbrev pub IsRead : Option (List ℕ) → ℕ → Result (List ℕ) InputRefusal → ℕ → Type 0
+IsRead left faults (Ok bytes) faults' = IsInput left bytes × (length bytes ≤ input_limit)
+IsRead left faults (Err TooLong) faults' = (input : List ℕ) × IsInput left input × (input_limit < length input)
+IsRead left faults (Err Fault) faults' = Rose faults faults'
+IsRead left faults (Err NoMemory) faults' = Unit {0}
+
+-- a script on the input was run: what was due is printed, or the input failed and nothing is
+abbrev pub Replayed : List ℕ → ℕ → Edges → Edges → Type 0
+Replayed name status i j =
+    ((input : List ℕ) × IsInput i.left input × Printed (IsReplayDue name input) status i.taken i.lost j.taken j.lost)
+    ⊎ ((status ≡ 6) × Rose i.unread j.unread × (j.taken ≡ i.taken) × (j.lost ≡ i.lost))

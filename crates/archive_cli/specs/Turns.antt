@@ -1,0 +1,126 @@
+-- What the events of a script make of an archive and its one connection.
+use Rattle.std.specs.Prelude.{◌≡◌, ◌++◌, ℕ, Bool, true, false, List, [], ◌∷◌, length, Option, Some, None, is_none}
+use Rattle.edge_io.specs.Scripts.{Arrival}
+use Rattle.edge_io.specs.declared.events.What.{What}
+use Rattle.edge_io.specs.declared.events.What.TheVariants.{Opened, Bytes, Ended, Quiet, Stop}
+use Rattle.line_door.specs.Acts.{Said, outside}
+use Rattle.line_door.specs.Course.{talk, Fed}
+use Rattle.line_door.specs.Plain.{plain}
+use Rattle.arch_model.specs.Archives.{Archive}
+use Rattle.control_door.specs.Requests.{is_request}
+use Rattle.control_door.specs.Door.{said}
+use Rattle.archive_cli.specs.Frames.{frame}
+
+-- the session of the connection, which is its bytes that are not answered yet, or none; and the archive
+pub record World : Type 0 where
+  pub session : Option (List ℕ)
+  pub archive : Archive
+
+-- the connection that an event is about
+abbrev pub conn_of : What → ℕ
+conn_of (Opened conn door) = conn
+conn_of (Bytes conn len) = conn
+conn_of (Ended conn) = conn
+conn_of Quiet = 0
+conn_of Stop = 0
+
+-- nothing was written, and the connection was not closed
+pub record Silent (bytes : List ℕ) (closed : Bool) : Type 0 where
+  pub bytes_is : bytes ≡ []
+  pub closed_is : closed ≡ false
+
+-- nothing happened
+pub record Passed (w : World) (bytes : List ℕ) (closed : Bool) (v : World) : Type 0 where
+  pub silent : Silent bytes closed
+  pub same : v ≡ w
+
+-- the session of the connection is now this one
+pub record Changed (w : World) (session : Option (List ℕ)) (bytes : List ℕ) (closed : Bool) (v : World) : Type 0 where
+  pub silent : Silent bytes closed
+  pub same : v ≡ record { session = session; archive = w.archive }
+
+-- a session took a piece: its requests were answered, and the connection is closed where no session is left
+pub record FedTo (moment : ℕ) (held piece : List ℕ) (w : World) (bytes : List ℕ) (closed : Bool) (v : World) : Type 0 where
+  pub closed_is : closed ≡ is_none v.session
+  pub fed : Fed (said moment) is_request (talk (Some (held ++ piece)) w.archive (outside (Some []) 0 0)) (talk v.session v.archive (outside (Some bytes) 0 0))
+
+-- a piece comes to the session that is there; without one it is passed over
+abbrev pub CameTo : Option (List ℕ) → ℕ → List ℕ → World → List ℕ → Bool → World → Type 0
+CameTo None moment piece w bytes closed v = Passed w bytes closed v
+CameTo (Some held) moment piece w bytes closed v = FedTo moment held piece w bytes closed v
+
+-- one event is taken to its end: what it wrote, whether it closed the connection, and the world behind it. Opening a
+-- connection that is open ends its session without a word.
+abbrev pub TurnedBy : What → ℕ → List ℕ → World → List ℕ → Bool → World → Type 0
+TurnedBy (Opened conn door) moment piece w bytes closed v = Changed w (Some []) bytes closed v
+TurnedBy (Bytes conn len) moment piece w bytes closed v = CameTo w.session moment piece w bytes closed v
+TurnedBy (Ended conn) moment piece w bytes closed v = Changed w None bytes closed v
+TurnedBy Quiet moment piece w bytes closed v = Passed w bytes closed v
+TurnedBy Stop moment piece w bytes closed v = Passed w bytes closed v
+
+-- the events before the first stop
+abbrev pub is_stop : What → Bool
+is_stop (Opened conn door) = false
+is_stop (Bytes conn len) = false
+is_stop (Ended conn) = false
+is_stop Quiet = false
+is_stop Stop = true
+
+abbrev pub kept_unless : Bool → Arrival → List Arrival → List Arrival
+kept_unless true arrival arrivals = []
+kept_unless false arrival arrivals = arrival ∷ arrivals
+
+abbrev pub before_stop : List Arrival → List Arrival
+before_stop [] = []
+before_stop (arrival ∷ arrivals) = kept_unless (is_stop arrival.0.what) arrival (before_stop arrivals)
+
+-- one event with what it printed
+pub record Turned (arrival : Arrival) (w : World) (printed : List ℕ) (v : World) : Type 0 where
+  pub bytes : List ℕ
+  pub closed : Bool
+  pub turn : TurnedBy arrival.0.what arrival.0.moment arrival.1 w bytes closed v
+  pub printed_is : printed ≡ frame (conn_of arrival.0.what) bytes closed
+
+-- events, one after another, with all that they printed
+abbrev pub Transcript : List Arrival → World → List ℕ → World → Type 0
+Transcript [] w printed v = (printed ≡ []) × (v ≡ w)
+Transcript (arrival ∷ arrivals) w printed v =
+    (m : World) × (first : List ℕ) × (rest : List ℕ) × Turned arrival w first m × Transcript arrivals m rest v × (printed ≡ first ++ rest)
+
+-- The same as a function, without any want of memory.
+
+abbrev pub world : Option (List ℕ) → Archive → World
+world session archive = record { session = session; archive = archive }
+
+pub record Turn : Type 0 where
+  pub bytes : List ℕ
+  pub closed : Bool
+  pub after : World
+
+abbrev pub silent_turn : World → Turn
+silent_turn v = record { bytes = []; closed = false; after = v }
+
+abbrev pub said_turn : Said (List ℕ) Archive → Turn
+said_turn s = record { bytes = s.words; closed = is_none s.next; after = world s.next s.after }
+
+abbrev pub plain_piece : Option (List ℕ) → ℕ → List ℕ → World → Turn
+plain_piece None moment piece w = silent_turn w
+plain_piece (Some held) moment piece w = said_turn (plain (said moment) is_request (λ bytes. length bytes) w.archive (held ++ piece))
+
+abbrev pub plain_turn : What → ℕ → List ℕ → World → Turn
+plain_turn (Opened conn door) moment piece w = silent_turn (world (Some []) w.archive)
+plain_turn (Bytes conn len) moment piece w = plain_piece w.session moment piece w
+plain_turn (Ended conn) moment piece w = silent_turn (world None w.archive)
+plain_turn Quiet moment piece w = silent_turn w
+plain_turn Stop moment piece w = silent_turn w
+
+abbrev pub framed : What → Turn → List ℕ
+framed what t = frame (conn_of what) t.bytes t.closed
+
+-- what events print, and the world behind them
+abbrev pub plain_transcript : List Arrival → World → List ℕ × World
+plain_transcript [] w = ([], w)
+plain_transcript (arrival ∷ arrivals) w =
+    let t = plain_turn arrival.0.what arrival.0.moment arrival.1 w in
+    let later = plain_transcript arrivals t.after in
+    (framed arrival.0.what t ++ later.0, later.1)

@@ -1,0 +1,36 @@
+//! The words of the command line, as the system hands them over.
+use crate::program::{print_no_memory, run};
+use edge_io::{Sink, Source};
+use std::alloc::Global;
+use std::env::Args;
+use std::io::{self, ErrorKind};
+
+/// Runs the program with the arguments behind its name. Arguments that aren't all UTF-8 are no words of the grammar.
+pub(crate) fn run_arguments<S: Source, O: Sink>(
+    alloc: Global,
+    arguments: io::Result<Args>,
+    input: &mut S,
+    out: &mut O,
+) -> u8 {
+    let arguments = match arguments {
+        Ok(arguments) => arguments,
+        Err(refused) if refused.kind() == ErrorKind::OutOfMemory => return print_no_memory(out),
+        Err(_) => return run(alloc, &[], input, out),
+    };
+    let mut owned = Vec::new(alloc);
+    for argument in arguments {
+        if owned.push(argument).is_err() {
+            return print_no_memory(out);
+        }
+    }
+    let mut words = Vec::new(alloc);
+    for argument in owned.as_slice() {
+        if words.push(argument.as_str()).is_err() {
+            return print_no_memory(out);
+        }
+    }
+    match words.as_slice() {
+        [] => run(alloc, &[], input, out),
+        [_program, words @ ..] => run(alloc, words, input, out),
+    }
+}

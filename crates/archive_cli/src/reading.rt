@@ -1,0 +1,88 @@
+//! The input, read to its end.
+ghost use Rattle.std.specs.Prelude.{◌≡◌, ◌≤◌, ◌<◌, ◌+◌, ℕ, IfOk, length};
+ghost use Rattle.archive_cli.specs.Program.{TookAtMost, input_limit};
+ghost use Rattle.archive_cli.specs.Printing.{IsRead, IsPieceRead};
+
+use arch_base::{Bytes, NoMemory};
+use edge_io::{Source, SourceFault};
+use std::alloc::{AllocError, Global};
+use thiserror::Error;
+
+/// Why an input isn't read.
+#[derive(Debug, Drop, Error)]
+pub enum InputRefusal {
+    /// The source failed.
+    #[error("the input failed")]
+    Fault,
+    /// It has more bytes than are read.
+    #[error("the input is too long")]
+    TooLong,
+    /// Memory was wanted, and there was none.
+    #[error("out of memory")]
+    NoMemory,
+}
+
+/// The greatest length of an input.
+const INPUT_LIMIT: usize = 268_435_456;
+
+/// How many bytes are asked for at once.
+const BUFFER_LEN: usize = 65_536;
+
+/// The whole input, of which at most 268,435,457 bytes are taken: one that has so many is too long.
+pub(crate) fn read_input<S: Source>(alloc: Global, input: &mut S) -> Result<Bytes, InputRefusal>
+    ensures read { IsRead (S.left input.old) (S.faults input.old) result (S.faults input.new) }
+    ensures later { S.faults input.old ≤ S.faults input.new }
+    ensures few { TookAtMost (input_limit + 1) (S.left input.old) (S.left input.new) }
+{
+    let Ok(mut buffer) = new_buffer(alloc) else {
+        return Err(InputRefusal::NoMemory);
+    };
+    let mut bytes = Bytes::new(alloc);
+    'pieces: while bytes.as_slice().len() <= INPUT_LIMIT {
+        match read_piece(input, buffer.as_mut_slice(), &mut bytes) {
+            Err(refused) => return Err(refused),
+            Ok(Piece::End) => return Ok(bytes),
+            Ok(Piece::More) => {}
+        }
+    }
+    Err(InputRefusal::TooLong)
+}
+
+/// What one read of the input came to.
+enum Piece {
+    /// None is left.
+    End,
+    /// Some bytes were taken.
+    More,
+}
+
+/// Puts one piece more of the input behind the bytes, and at most one byte more than there may be in all. Where there is no memory
+/// for it, the bytes stay.
+fn read_piece<S: Source>(
+    input: &mut S,
+    buffer: &mut [u8],
+    bytes: &mut Bytes,
+) -> Result<Piece, InputRefusal>
+    requires buffer { 0 < length buffer.old }
+    requires room { length bytes.old ≤ input_limit }
+    ensures read { IsPieceRead result (S.left input.old) (S.left input.new) bytes.old bytes.new (S.faults input.old) (S.faults input.new) }
+    ensures later { S.faults input.old ≤ S.faults input.new }
+{
+    let room = (INPUT_LIMIT + 1 - bytes.as_slice().len()).min(buffer.len());
+    let into = buffer.split_at_mut(room).0;
+    match input.read(into) {
+        Err(SourceFault) => Err(InputRefusal::Fault),
+        Ok(0) => Ok(Piece::End),
+        Ok(count) => match bytes.push_slice(&into[..count]) {
+            Ok(()) => Ok(Piece::More),
+            Err(NoMemory) => Err(InputRefusal::NoMemory),
+        },
+    }
+}
+
+/// A buffer for reads.
+fn new_buffer(alloc: Global) -> Result<Vec<u8>, AllocError>
+    ensures { IfOk result (λ buffer. length buffer.items ≡ BUFFER_LEN) }
+{
+    vec![in alloc; 0u8; BUFFER_LEN]
+}
