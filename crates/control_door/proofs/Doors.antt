@@ -6,7 +6,7 @@ use Rattle.line_door.specs.Cuts.{CutDoor, said_with}
 use Rattle.line_door.proofs.Cutting.{door_laws}
 use Rattle.arch_model.specs.Archives.{Archive}
 use Rattle.control_door.specs.Requests.{Request, Delivers, Shows, Quits, Mistakes, Exceeds, Ahead, Asked, Unfinished, ahead, is_asked, is_request}
-use Rattle.control_door.specs.Door.{said, said_at, said_to, answered, with_piece}
+use Rattle.control_door.specs.Door.{said, said_at, said_to, answered, unkept, with_piece}
 use Rattle.control_door.specs.Laws.{ControlLaws}
 use Rattle.control_door.proofs.Aheads.{Goes, Same, Over, Open, ahead-goes, ahead-shorter, unfinished}
 
@@ -42,9 +42,13 @@ goes_said moment a bytes q way x y (Same request rest) h = request_behind moment
 goes_said moment a bytes q way x y Over h = over_behind moment a q way
 goes_said moment a bytes q way x y (Open next) h = absurd (cc h)
 
+unkept-either : (a : Archive) (bytes : List ℕ) → ((unkept a bytes).next ≡ None) ⊎ (unkept a bytes ≡ silent a bytes)
+unkept-either a [] = inr refl
+unkept-either a (byte ∷ bytes) = inl refl
+
 kept : (moment : ℕ) (a : Archive) (bytes : List ℕ) (way : Way) (x : Ahead) → x ≡ Unfinished → ((said_at moment a bytes x way).next ≡ None) ⊎ (said_at moment a bytes x way ≡ silent a bytes)
 kept moment a bytes Plain x h = rw h (inr refl)
-kept moment a bytes Memory x h = rw h (inl refl)
+kept moment a bytes Memory x h = rw h (unkept-either a bytes)
 kept moment a bytes Disk x h = rw h (inr refl)
 
 -- what is left open by an answer is what follows its request, or its door closes

@@ -22,7 +22,7 @@ use Rattle.control_door.specs.declared.session.Turn.TheVariants.{Went, Kept, Clo
 use Rattle.control_door.specs.Orders.{order_of}
 use Rattle.control_door.specs.Requests as requests
 use Rattle.control_door.specs.Requests.{Request, Shows, Quits, Mistakes, Exceeds, Ahead, Asked, Unfinished, asked_by, ahead, is_asked, is_request, line_limit}
-use Rattle.control_door.specs.Door.{said, said_to, said_at, answered, goes_on, closes, delivers, memory_word, bad_word, shown, reply_line}
+use Rattle.control_door.specs.Door.{said, said_to, said_at, answered, goes_on, closes, unkept, delivers, memory_word, bad_word, shown, reply_line}
 use Rattle.control_door.specs.Sessions.{IsHeld, IsPayload, IsTurn}
 use Rattle.control_door.proofs.Aheads.{asked_by-whole, asked_by-part}
 
@@ -51,11 +51,24 @@ keeps moment a bytes payload i h =
     let part = held-unfinished bytes payload h in
     (ap is_asked part, acts-silent (said moment a bytes) (silent a bytes) i i (Some bytes) a (rw part refl) refl refl refl (omega arith) refl refl)
 
+-- an empty piece leaves what was held
+pub keeps-nothing : (moment : ℕ) (a : Archive) (old piece : List ℕ) (payload : Option Payload) (i : Outside) → piece ≡ [] → IsHeld (old ++ piece) payload → (is_request (old ++ piece) ≡ false) × Acts (said moment a (old ++ piece)) i (Some old) a i
+keeps-nothing moment a old piece payload i none h =
+    let same : old ++ piece ≡ old = ap (λ (p : List ℕ). old ++ p) none ∙ append-nil old in
+    subst (λ (kept : List ℕ). (is_request (old ++ piece) ≡ false) × Acts (said moment a (old ++ piece)) i (Some kept) a i) same (keeps moment a (old ++ piece) payload i h)
+
+-- what is kept isn't empty where the piece isn't
+unkept-closes : (a : Archive) (old piece : List ℕ) → 0 < length piece → unkept a (old ++ piece) ≡ closes memory_word a
+unkept-closes a (byte ∷ old) piece some = refl
+unkept-closes a [] (byte ∷ piece) some = refl
+unkept-closes a [] [] some = absurd (omega (arith, some))
+
 -- or the word for want of memory closes
-pub closes-keeping : (moment : ℕ) (a : Archive) (bytes : List ℕ) (payload : Option Payload) (i j : Outside) (ok : Bool) → IsHeld bytes payload → i.disk ≤ j.disk → Says memory_word i.out i.lost j.out j.lost ok → Acts (said moment a bytes) i None a j
-closes-keeping moment a bytes payload i j ok h later words =
-    let part = held-unfinished bytes payload h in
-    acts-closing (said moment a bytes) Memory (closes memory_word a) i j a ok (rw part refl) refl (λ d. absurd (cc d)) later words refl
+pub closes-keeping : (moment : ℕ) (a : Archive) (old piece : List ℕ) (payload : Option Payload) (i j : Outside) (ok : Bool) → 0 < length piece → IsHeld (old ++ piece) payload → i.disk ≤ j.disk → Says memory_word i.out i.lost j.out j.lost ok
+    → Acts (said moment a (old ++ piece)) i None a j
+closes-keeping moment a old piece payload i j ok some h later words =
+    let part = held-unfinished (old ++ piece) payload h in
+    acts-closing (said moment a (old ++ piece)) Memory (closes memory_word a) i j a ok (rw part (unkept-closes a old piece some)) refl (λ d. absurd (cc d)) later words refl
 
 -- what is said to a request is what is said to the bytes that begin with it
 pub acts-asked : (moment : ℕ) (a : Archive) (bytes : List ℕ) (request : Request) (rest : List ℕ) (i : Outside) (held : Option (List ℕ)) (b : Archive) (j : Outside) → ahead bytes ≡ Asked request rest → Acts (said_to moment a request rest) i held b j → Acts (said moment a bytes) i held b j
@@ -139,8 +152,8 @@ payload-whole old piece start end h long =
     let fits : h.size ≤ length (h.rest ++ piece) = omega (arith, length-append h.rest piece, size_is, long) in
     let at : ahead (old ++ piece) ≡ asked_by (Deliver h.size) (h.rest ++ piece) = ahead-line (old ++ piece) h.text (h.rest ++ piece) (Deliver h.size) (front-goes_on line_limit old piece h.text h.rest h.front) h.order in
     let message : take h.size (h.rest ++ piece) ≡ drop start (old ++ take n piece) =
-        ap (λ s. take s (h.rest ++ piece)) size_is ∙ take-append-add h.rest piece n
-        ∙ sym (ap (λ s. drop s (old ++ take n piece)) h.starts ∙ ap (λ t. drop (length h.text + 1) (t ++ take n piece)) (front-joined line_limit old h.text h.rest h.front) ∙ behind-line h.text h.rest (take n piece)) in
+    ap (λ s. take s (h.rest ++ piece)) size_is ∙ take-append-add h.rest piece n
+    ∙ sym (ap (λ s. drop s (old ++ take n piece)) h.starts ∙ ap (λ t. drop (length h.text + 1) (t ++ take n piece)) (front-joined line_limit old h.text h.rest h.front) ∙ behind-line h.text h.rest (take n piece)) in
     let behind : drop h.size (h.rest ++ piece) ≡ drop n piece = ap (λ s. drop s (h.rest ++ piece)) size_is ∙ drop-append-add h.rest piece n in
     at ∙ asked_by-whole h.size (h.rest ++ piece) fits ∙ ap (λ m. Asked (requests.Delivers m) (drop h.size (h.rest ++ piece))) message ∙ ap (Asked (requests.Delivers (drop start (old ++ take n piece)))) behind
 

@@ -54,10 +54,15 @@ said_to moment a request rest Plain = answered moment a request rest
 said_to moment a request rest Memory = refused_memory moment a request rest
 said_to moment a request rest Disk = answered moment a request rest
 
--- the beginning of a request is kept without a word; where there is no memory for it, the word for that closes
+-- where there is no memory for the beginning of a request, the word for that closes; an empty rest wants no memory
+abbrev pub unkept : Archive → List ℕ → Said (List ℕ) Archive
+unkept a [] = silent a []
+unkept a (byte ∷ bytes) = closes memory_word a
+
+-- the beginning of a request is kept without a word, or there is no memory for it
 abbrev pub said_keeping : Archive → List ℕ → Way → Said (List ℕ) Archive
 said_keeping a bytes Plain = silent a bytes
-said_keeping a bytes Memory = closes memory_word a
+said_keeping a bytes Memory = unkept a bytes
 said_keeping a bytes Disk = silent a bytes
 
 abbrev pub said_at : ℕ → Archive → List ℕ → Ahead → Way → Said (List ℕ) Archive

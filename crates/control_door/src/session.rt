@@ -120,7 +120,7 @@ impl Session {
         }
     }
 
-    /// Keeps a piece of a request whose end isn't there.
+    /// Keeps a piece of a request whose end isn't there. An empty piece wants no memory.
     fn keep<O: Sink>(&mut self, piece: &[u8], payload: Option<Payload>, out: &mut O) -> Turn
         requires { IsHeld (self.old ++ piece.now) payload }
         ensures turn { (moment : ℕ) (a : Archive) → IsTurn moment a self.old piece.now
@@ -129,6 +129,10 @@ impl Session {
             (outside (O.taken out.new) 0 (O.faults out.new)) }
         ensures sink { O.alike out.old out.new }
     {
+        if piece.is_empty() {
+            self.payload = payload;
+            return Turn::Kept;
+        }
         if self.held.push_slice(piece).is_err() {
             let _ = say_memory(out);
             return Turn::Closed;

@@ -23,4 +23,4 @@ returns-clause-turn g c =
     let acts = rw (last, c.self.view_is) at (c.say_joined-said.ensures.acts (drop n piece)) in
     let some : 0 < n = omega (arith, c.requires.missing) in
     rw (c.went.ensures, held) (turn-went c.args.moment c.args.archive.now old piece (Delivers (drop c.args.payload.start (old ++ take n piece))) n _ _ _ _ _
-      (payload-whole old piece c.args.payload.start c.args.payload.end c.requires long) some long c.say_joined-said.ensures.emptied acts)
+    (payload-whole old piece c.args.payload.start c.args.payload.end c.requires long) some long c.say_joined-said.ensures.emptied acts)

@@ -1,9 +1,17 @@
-use Rattle.std.proofs.Common.{◌≡◌, ◌++◌, ◌∙◌, Some, arith, sym, ap, is_ok, true, not, if◌then◌else◌}
-use Rattle.control_door.proofs.Holding.{keeps, closes-keeping}
+use Rattle.std.proofs.Common.{◌≡◌, ◌++◌, ◌∙◌, ◌<◌, [], Some, List, ℕ, length, arith, sym, ap, subst, is_ok, true, not, if◌then◌else◌}
+use Rattle.std.proofs.lemmas.List.{append-nil, nil_from_length}
+use Rattle.std.proofs.lemmas.Bool.Decides.{nat_tests}
+use Rattle.control_door.specs.Sessions.{IsHeld}
+use Rattle.control_door.proofs.Holding.{keeps, keeps-nothing, closes-keeping}
 use Rattle.control_door.proofs.session.Session.keep.Goals as goal
 
+pub returns-then-is_empty-clause-turn : goal.returns-then-is_empty-clause-turn
+returns-then-is_empty-clause-turn g c = λ moment a.
+    let none : c.args.piece.now ≡ [] = nil_from_length c.args.piece.now (grind (arith, nat_tests)) in
+    rw c.self.view_is (keeps-nothing moment a c.args.self.now c.args.piece.now c.args.payload _ none c.requires)
+
 pub returns-then-is_err-clause-turn : goal.returns-then-is_err-clause-turn
-returns-then-is_err-clause-turn g c = λ moment a. closes-keeping moment a (c.args.self.now ++ c.args.piece.now) c.args.payload _ _ _ c.requires (omega arith) c.say_memory.ensures.said
+returns-then-is_err-clause-turn g c = λ moment a. closes-keeping moment a c.args.self.now c.args.piece.now c.args.payload _ _ _ (grind (arith, nat_tests)) c.requires (omega arith) c.say_memory.ensures.said
 
 pub returns-clause-turn : goal.returns-clause-turn
 returns-clause-turn g c = λ moment a.

@@ -13,7 +13,7 @@ returns-then-size-behind-clause-turn g c =
     let acts = rw message at (c.say_delivered-said.ensures.acts (drop n piece)) in
     let within : n ≤ length piece = omega (arith, fits, length-drop (c.args.len + 1) piece, c.requires.within) in
     rw c.went.ensures (turn-went c.args.moment c.args.archive.now c.args.self.now piece (Delivers (take c.args.size (drop (c.args.len + 1) piece))) n _ _ _ _ _
-      (message-whole c.args.self.now piece c.args.len c.args.size c.requires.line c.requires.order fits) (omega arith) within c.clear.ensures acts)
+    (message-whole c.args.self.now piece c.args.len c.args.size c.requires.line c.requires.order fits) (omega arith) within c.clear.ensures acts)
 
 pub overflow_add-end : goal.overflow_add-end
 overflow_add-end g c =

@@ -1,0 +1,289 @@
+//! Streams worked out by hand from the rules of the control door, each fed in every way that its length allows.
+ghost use Rattle.arch_base.specs.Configs.{IsConfig};
+
+use crate::{Order, Session, cut_laws, read_order};
+use arch_base::{Config, Name, Numbers};
+use arch_model::MemArchive;
+use edge_io::MemSink;
+use std::alloc::Global;
+
+/// What is sent, what is answered, and whether the connection is then still open.
+type Row = (&'static [u8], &'static [u8], bool);
+
+/// Lines of every kind.
+const LINES: [Row; 31] = [
+    (b"", b"", true),
+    (b"\n", b"13 bad line\n", true),
+    (b"\r\n", b"13 bad line\n", true),
+    (b"show 1", b"", true),
+    (b"show 1\n", b"7 not live 1\n", true),
+    (b"show 1\r\n", b"7 not live 1\n", true),
+    (b"show 1\r\r\n", b"13 bad line\n", true),
+    (b"Show 12\n", b"7 not live 12\n", true),
+    (b"show  1\n", b"13 bad line\n", true),
+    (b" show 1\n", b"13 bad line\n", true),
+    (b"show 1 \n", b"13 bad line\n", true),
+    (b"show\t1\n", b"13 bad line\n", true),
+    (b"show 1\0\n", b"13 bad line\n", true),
+    (b"\0\0\n", b"13 bad line\n", true),
+    (b"show 0\n", b"13 bad line\n", true),
+    (b"show 01\n", b"13 bad line\n", true),
+    (b"show 2147483647\n", b"7 not live 2147483647\n", true),
+    (b"show 2147483648\n", b"13 bad line\n", true),
+    (b"show\nshow \n", b"13 bad line\n13 bad line\n", true),
+    (b"quit", b"", true),
+    (b"quit\n", b"", false),
+    (b"QUIT\r\n", b"", false),
+    (b"quit \n", b"13 bad line\n", true),
+    (b"quitt\nqui\n", b"13 bad line\n13 bad line\n", true),
+    (b"x\nquit\nshow 1\n", b"13 bad line\n", false),
+    (b"epochs\nreindex\n", b"13 bad line\n13 bad line\n", true),
+    (b"remove 1\nthread 1\n", b"13 bad line\n13 bad line\n", true),
+    (b"purge 1\nshow 2\n", b"13 bad line\n7 not live 2\n", true),
+    (b"edit 1 5\nquit\nshow 1\n", b"13 bad line\n", false),
+    (
+        b"edit 1 9000001\nabc\n",
+        b"13 bad line\n13 bad line\n",
+        true,
+    ),
+    (
+        b"show 1\nshow 2\r\nsh",
+        b"7 not live 1\n7 not live 2\n",
+        true,
+    ),
+];
+
+/// Deliveries.
+const DELIVERIES: [Row; 19] = [
+    (b"deliver 0\n", b"3 no fields\n", true),
+    (
+        b"deliver 0\r\nshow 1\n",
+        b"3 no fields\n7 not live 1\n",
+        true,
+    ),
+    (
+        b"DELIVER 5\nab\r\ncshow 1\n",
+        b"3 no fields\n7 not live 1\n",
+        true,
+    ),
+    (b"deliver 4\nA: b", b"15 not yet\n", true),
+    (b"deliver 5\nquit\n", b"3 no fields\n", true),
+    (b"deliver 2\n\0\0quit\nx\n", b"3 no fields\n", false),
+    (b"deliver 5\nquit", b"", true),
+    (b"deliver 9000000\nquit\n", b"", true),
+    (b"deliver 9000001\nquit\n", b"13 bad line\n", false),
+    (
+        b"deliver 18446744073709551615\nx\n",
+        b"13 bad line\n",
+        false,
+    ),
+    (
+        b"deliver 18446744073709551616\nx\n",
+        b"13 bad line\n13 bad line\n",
+        true,
+    ),
+    (b"deliver 01\nx\n", b"13 bad line\n13 bad line\n", true),
+    (b"deliver x\nshow 1\n", b"13 bad line\n7 not live 1\n", true),
+    (b"deliver\ndeliver \n", b"13 bad line\n13 bad line\n", true),
+    (b"deliver  5\nquit\n", b"13 bad line\n", false),
+    (
+        b"deliver 22\nMessage-ID: <a@x>\n\nhi\nshow 1\n",
+        b"1 ok 1\ntext 22\nMessage-ID: <a@x>\n\nhi\n",
+        true,
+    ),
+    (
+        b"deliver 19\nMessage-ID: <b@x>\r\nShow 1\r\nquit\n",
+        b"1 ok 1\ntext 19\nMessage-ID: <b@x>\n\n",
+        false,
+    ),
+    (
+        b"deliver 18\nMessage-ID: <a@x>\ndeliver 18\nMessage-ID: <a@x>\nshow 2\n",
+        b"1 ok 1\n15 not yet\n7 not live 2\n",
+        true,
+    ),
+    (
+        b"deliver 18\nMessage-ID: <a@x>\ndeliver 18\nmessage-id: <c@x>\nshow 2\nshow 1\n",
+        b"1 ok 1\n1 ok 2\ntext 19\nmessage-id: <c@x>\n\ntext 19\nMessage-ID: <a@x>\n\n",
+        true,
+    ),
+];
+
+/// One connection, and an archive of its own.
+#[derive(Drop)]
+struct Connection {
+    session: Session,
+    archive: MemArchive,
+    out: MemSink,
+    open: bool,
+}
+
+impl Connection {
+    fn new(alloc: Global, name: Name) -> Self {
+        Connection {
+            session: Session::open(alloc),
+            archive: MemArchive::new(alloc, config(name)),
+            out: MemSink::new(alloc, Numbers::new(alloc)),
+            open: true,
+        }
+    }
+
+    /// Feeds a piece where the connection is still open.
+    fn hear(&mut self, piece: &[u8]) {
+        if self.open {
+            self.open = self
+                .session
+                .feed(piece, 1_706_781_700, &mut self.archive, &mut self.out);
+        }
+    }
+
+    /// Whether the answers are these bytes, and the connection is open or not.
+    fn was_answered(&self, words: &[u8], open: bool) -> bool {
+        self.out.taken() == words && self.open == open
+    }
+}
+
+/// The settings of an archive of this name.
+fn config(name: Name) -> Config
+    ensures { IsConfig result }
+{
+    Config {
+        name,
+        limit: 1_073_741_824,
+        slice: 50_000,
+        max: 2_147_483_647,
+        mirror: false,
+        born: 1,
+    }
+}
+
+/// Whether a stream that is cut in two after so many bytes is answered so.
+fn is_answered_cut(alloc: Global, name: &Name, row: Row, place: usize) -> bool {
+    let (stream, words, open) = row;
+    let place = place.min(stream.len());
+    let (front, back) = stream.split_at(place);
+    let mut connection = Connection::new(alloc, name.copy());
+    connection.hear(front);
+    connection.hear(back);
+    connection.was_answered(words, open)
+}
+
+/// Whether a stream that comes byte by byte is answered so.
+fn is_answered_by_bytes(alloc: Global, name: &Name, row: Row) -> bool {
+    let (stream, words, open) = row;
+    let mut connection = Connection::new(alloc, name.copy());
+    for piece in stream.chunks(1) {
+        connection.hear(piece);
+    }
+    connection.was_answered(words, open)
+}
+
+/// Whether a stream is answered so, whole, byte by byte and cut at every place in two.
+fn is_answered(alloc: Global, name: &Name, row: Row) -> bool {
+    for place in 0..row.0.len() + 1 {
+        if !is_answered_cut(alloc, name, row, place) {
+            return false;
+        }
+    }
+    is_answered_by_bytes(alloc, name, row)
+}
+
+#[test]
+fn streams_are_answered_however_cut(rt: HostRuntime) {
+    cut_laws();
+    let Some(name) = Name::read(b"list") else {
+        return assert!(rt; false);
+    };
+    for row in LINES {
+        assert!(rt; is_answered(rt.alloc(), &name, row), "{:?}", row.0);
+    }
+    for row in DELIVERIES {
+        assert!(rt; is_answered(rt.alloc(), &name, row), "{:?}", row.0);
+    }
+}
+
+/// A line of so many bytes with its line feed, cut in two, and what follows it.
+fn long_line_is_answered(
+    alloc: Global,
+    name: &Name,
+    len: usize,
+    place: usize,
+    words: &[u8],
+    open: bool,
+) -> bool {
+    let mut stream = [b'a'; 520];
+    if len == 0 || len > 513 || place > 520 {
+        return false;
+    }
+    stream[len - 1] = b'\n';
+    stream[len] = b'\n';
+    let mut connection = Connection::new(alloc, name.copy());
+    let (front, back) = stream.split_at(place);
+    connection.hear(front);
+    connection.hear(back);
+    connection.was_answered(words, open)
+}
+
+#[test]
+fn orders_are_read(rt: HostRuntime) {
+    let orders: [(&[u8], Order); 9] = [
+        (b"deliver 0", Order::Deliver(0)),
+        (b"dELIVER 9000000", Order::Deliver(9_000_000)),
+        (b"deliver 9000001", Order::TooMuch),
+        (b"deliver 18446744073709551616", Order::Bad),
+        (b"show 1", Order::Show(1)),
+        (b"sHOW 2147483647", Order::Show(2_147_483_647)),
+        (b"show 0", Order::Bad),
+        (b"Quit", Order::Quit),
+        (b"quit\r", Order::Bad),
+    ];
+    for (line, order) in orders {
+        assert!(rt; read_order(line) == order);
+    }
+}
+
+#[test]
+fn lines_have_at_most_512_bytes(rt: HostRuntime) {
+    let Some(name) = Name::read(b"list") else {
+        return assert!(rt; false);
+    };
+    for place in [0, 1, 300, 510, 511, 512, 513, 514, 520] {
+        assert!(rt;
+            long_line_is_answered(
+                rt.alloc(),
+                &name,
+                511,
+                place,
+                b"13 bad line\n13 bad line\n",
+                true
+            )
+        );
+        assert!(rt;
+            long_line_is_answered(
+                rt.alloc(),
+                &name,
+                512,
+                place,
+                b"13 bad line\n13 bad line\n",
+                true
+            )
+        );
+        assert!(rt; long_line_is_answered(rt.alloc(), &name, 513, place, b"13 bad line\n", false));
+    }
+}
+
+#[test]
+fn a_line_is_too_long_at_512_bytes(rt: HostRuntime) {
+    let Some(name) = Name::read(b"list") else {
+        return assert!(rt; false);
+    };
+    let stream = [b'a'; 512];
+    for place in [0, 1, 511] {
+        let mut connection = Connection::new(rt.alloc(), name.copy());
+        let (front, back) = stream.split_at(place);
+        connection.hear(front);
+        connection.hear(&back[..back.len() - 1]);
+        assert!(rt; connection.was_answered(b"", true));
+        connection.hear(b"a");
+        assert!(rt; connection.was_answered(b"13 bad line\n", false));
+    }
+}
