@@ -1,0 +1,24 @@
+//! A text that takes the place of another one.
+ghost use Rattle.std.specs.Prelude.{◌≡◌, ◌≤◌, ℕ, List, OnOk};
+ghost use Rattle.arch_base.specs.Counts.{IsCaused};
+ghost use Rattle.disk_model.specs.Disk.{WhereTold, LeavesOnly};
+ghost use Rattle.disk_model.specs.declared.name.FileName.{FileName};
+ghost use Rattle.disk_client.specs.Texts.{HasSize, EachFile, IsReady, StandsFor, StandsForEither};
+
+use disk_model::{Disk, DiskFault, FileName, write_and_sync};
+
+/// Puts a text of eight bytes in the place of the first one of a file of seventeen bytes: a gate and two texts, of
+/// which the second stands where the gate is 1. It writes the second text, syncs, opens the gate, and syncs.
+pub fn change_text<D: Disk>(disk: &mut D, name: FileName, text: &[u8; 8]) -> Result<(), DiskFault>
+    requires size { WhereTold (HasSize name) (D.content disk.old) }
+    // A crash at any moment leaves the old text or the new one.
+    ensures any_moment { (old : List ℕ) → EachFile name (IsReady old) (D.content disk.old)
+        → LeavesOnly D.moment D.left_since disk.old disk.new (StandsForEither name old text.now) }
+    // After Ok it leaves the new one.
+    ensures done { (old : List ℕ) → EachFile name (IsReady old) (D.content disk.old)
+        → OnOk result (EachFile name (StandsFor text.now) (D.content disk.new)) }
+    ensures cause { IsCaused (D.faults disk.old) (D.faults disk.new) result }
+{
+    write_and_sync(disk, name, 9, text)?;
+    write_and_sync(disk, name, 0, &[1])
+}

@@ -1,0 +1,2 @@
+mod FileMaps
+mod Steps

@@ -1,0 +1,11 @@
+pub mod Name
+pub mod Disk
+pub mod Laws
+pub mod Moments
+pub mod Images
+pub mod Fuse
+pub mod Synced
+pub mod Plan
+pub mod Record
+pub mod Applied
+pub mod Memory

@@ -1,0 +1,82 @@
+-- What a write and a sync of one range of a file leave.
+use Rattle.std.specs.Prelude.{◌≡◌, ◌≢◌, ◌+◌, ◌<◌, ◌≤◌, ℕ, Option, Some, None, List, length, refl}
+use Rattle.std.proofs.Common.{◌∙◌, ap, sym, subst, arith}
+use Rattle.disk_model.specs.declared.name.FileName.{FileName}
+use Rattle.disk_model.specs.Disk.{File, Files, Kept, Content, Image, Told, OneFile, Fits, Within, exact, write_sure, bytes_of, overlay, Wrote, Tore, Synced, ReadsFit}
+use Rattle.disk_model.specs.Laws.{Origin, FrontOrigin, Fits-Within, Fits-exact, write_wider, write_origin, write_front}
+
+-- during the write and the sync: this file as a crash in the write may leave it, and each other file as before
+pub record IsWriting (name : FileName) (at n : ℕ) (k : Content) (image : Files) : Type 0 where
+  pub here : Fits (write_sure at n (k name).seen (k name).sure) (image name)
+  pub elsewhere : (other : FileName) → other ≢ name → Fits (k other).sure (image other)
+
+-- the same, where the disk tells its content
+abbrev pub Writing : FileName → ℕ → ℕ → Option Content → Files → Type 0
+Writing name at n None image = Unit {0}
+Writing name at n (Some k) image = IsWriting name at n k image
+
+-- what reads give is on the disk, and a crash leaves nothing else
+abbrev pub IsSettled : Content → Type 0
+IsSettled k = (name : FileName) → Within (k name).sure (exact (k name).seen)
+
+-- after them: the bytes stand in this file, no other file reads otherwise, and all of it is on the disk
+pub record IsWritten (name : FileName) (at : ℕ) (bytes : List ℕ) (old new : Content) : Type 0 where
+  pub here : (new name).seen ≡ Some (overlay at bytes (bytes_of (old name).seen))
+  pub elsewhere : (other : FileName) → other ≢ name → (new other).seen ≡ (old other).seen
+  pub settled : IsSettled new
+
+-- before the write
+pub writing_at_start : (name : FileName) (at n : ℕ) (content : Option Content) (image : Files) → Image content image → Writing name at n content image
+writing_at_start name at n None image left = tt
+writing_at_start name at n (Some k) image left = record {
+  here = Fits-Within (k name).sure (write_sure at n (k name).seen (k name).sure) (image name) (write_wider at n (k name).seen (k name).sure) (left name);
+  elsewhere = λ other apart. left other;
+}
+
+-- after a write that answers Ok
+pub writing_wrote : (name : FileName) (at : ℕ) (bytes : List ℕ) (old new : Option Content) (image : Files) → Told (OneFile name (Wrote at bytes)) old new → Image new image → Writing name at (length bytes) old image
+writing_wrote name at bytes None None image told left = tt
+writing_wrote name at bytes None (Some m) image told left = absurd told
+writing_wrote name at bytes (Some k) None image told left = absurd told
+writing_wrote name at bytes (Some k) (Some m) image told left = record {
+  here = Fits-Within (m name).sure (write_sure at (length bytes) (k name).seen (k name).sure) (image name) told.here.crash (left name);
+  elsewhere = λ other apart. let P : Kept → Type 0 = λ kept. Fits kept.sure (image other) in subst P (told.elsewhere other apart) (left other);
+}
+
+-- after one that fails
+pub writing_tore : (name : FileName) (at n : ℕ) (old new : Option Content) (image : Files) → Told (OneFile name (Tore at n)) old new → Image new image → Writing name at n old image
+writing_tore name at n None None image told left = tt
+writing_tore name at n None (Some m) image told left = absurd told
+writing_tore name at n (Some k) None image told left = absurd told
+writing_tore name at n (Some k) (Some m) image told left = record {
+  here = Fits-Within (m name).sure (write_sure at n (k name).seen (k name).sure) (image name) told.here.crash (left name);
+  elsewhere = λ other apart. let P : Kept → Type 0 = λ kept. Fits kept.sure (image other) in subst P (told.elsewhere other apart) (left other);
+}
+
+-- after a sync behind it that answers Ok
+pub written_synced : (name : FileName) (at : ℕ) (bytes : List ℕ) (old mid new : Option Content) → Told (OneFile name (Wrote at bytes)) old mid → Told Synced mid new → Told (IsWritten name at bytes) old new
+written_synced name at bytes None None None wrote synced = tt
+written_synced name at bytes None None (Some n) wrote synced = absurd synced
+written_synced name at bytes None (Some m) new wrote synced = absurd wrote
+written_synced name at bytes (Some k) None new wrote synced = absurd wrote
+written_synced name at bytes (Some k) (Some m) None wrote synced = absurd synced
+written_synced name at bytes (Some k) (Some m) (Some n) wrote synced = record {
+  here = synced.seen name ∙ wrote.here.seen;
+  elsewhere = λ other apart. synced.seen other ∙ ap (λ (kept : Kept). kept.seen) (wrote.elsewhere other apart);
+  settled = λ other. let P : File → Type 0 = λ file. Within (n other).sure (exact file) in subst P (sym (synced.seen other)) (synced.crash other);
+}
+
+-- a write inside a file leaves a file from before it, with other bytes in the range
+pub writing_inside : (name : FileName) (at n : ℕ) (k : Content) (image : Files) → ReadsFit (Some k) → at + n ≤ length (bytes_of (k name).seen) → 0 < n → IsWriting name at n k image → Origin at n (k name).sure (image name)
+writing_inside name at n k image fit inside some w = of_seen (k name).seen (fit k refl name) inside w.here where
+  of_seen : (seen : File) → Fits (k name).sure seen → at + n ≤ length (bytes_of seen) → Fits (write_sure at n seen (k name).sure) (image name) → Origin at n (k name).sure (image name)
+  of_seen None fits within here = absurd (omega (arith, within, some))
+  of_seen (Some seen) fits within here = write_origin at n (k name).sure seen (image name) fits within here
+
+-- a write at a place or behind it leaves the front of a file from before it
+pub writing_behind : (name : FileName) (at n : ℕ) (k : Content) (image : Files) → ReadsFit (Some k) → at ≤ length (bytes_of (k name).seen) → IsWriting name at n k image → FrontOrigin at (k name).sure (image name)
+writing_behind name at n k image fit behind w = write_front at n (k name).sure (k name).seen (image name) (fit k refl name) behind w.here
+
+-- what is settled is left as it reads
+pub settled_image : (k : Content) (image : Files) → IsSettled k → Image (Some k) image → (name : FileName) → image name ≡ (k name).seen
+settled_image k image settled left name = Fits-exact (k name).seen (image name) (Fits-Within (k name).sure (exact (k name).seen) (image name) (settled name) (left name))

@@ -1,0 +1,97 @@
+//! Files kept in memory, by their names.
+ghost use Rattle.std.specs.Prelude.{◌≡◌, ◌+◌, ◌-◌, ℕ, Some, None, min, take, drop, length, ◌++◌, slice_get, IfOk, OnOk, OnErr};
+ghost use Rattle.std.specs.BTreeMap.{keys, IsOrdered};
+ghost use Rattle.disk_model.specs.declared.name.FileName.{FileName};
+ghost use Rattle.disk_model.specs.Disk.{bytes_of, overlay, cut_file};
+ghost use Rattle.disk_model.specs.Record.{file_at, SetsFile, SameFiles};
+
+use crate::FileName;
+use std::alloc::{AllocError, Global};
+use std::collections::BTreeMap;
+
+/// The bytes of each file that is there.
+pub type Contents = BTreeMap<FileName, Vec<u8>>;
+
+/// Writes bytes over those of a file, and past its end.
+fn patch(file: &mut Vec<u8>, place: u64, bytes: &[u8]) -> Result<(), AllocError>
+    ensures ok { OnOk result (file.new.items ≡ overlay place bytes.now file.old.items) }
+    ensures err { OnErr result (file.new.items ≡ file.old.items) }
+{
+    let start = if place < file.len() as u64 {
+        place as usize
+    } else {
+        file.len()
+    };
+    let end = start + bytes.len();
+    if end > file.len() {
+        file.resize(end, 0)?;
+    }
+    file[start..end].copy_from_slice(bytes);
+    Ok(())
+}
+
+/// Writes to a file by its name, or makes it.
+pub fn put(
+    alloc: Global,
+    files: &mut Contents,
+    name: FileName,
+    place: u64,
+    bytes: &[u8],
+) -> Result<(), AllocError>
+    ensures ok { OnOk result (SetsFile files.old files.new name (Some (overlay place bytes.now (bytes_of (file_at files.old name))))) }
+    ensures err { OnErr result (SameFiles files.old files.new) }
+{
+    match files.get_mut(&name) {
+        Some(file) => patch(file, place, bytes),
+        None => {
+            let file = bytes.to_vec(alloc)?;
+            files.insert(name, file)?;
+            Ok(())
+        }
+    }
+}
+
+/// Cuts a file to a length, where it is there and longer.
+pub fn trim(files: &mut Contents, name: FileName, length: u64)
+    ensures { SetsFile files.old files.new name (cut_file length (file_at files.old name)) }
+{
+    if let Some(file) = files.get_mut(&name) {
+        file.truncate(length as usize);
+    }
+}
+
+/// Takes a file away, where it is there.
+pub fn drop_file(files: &mut Contents, name: FileName)
+    ensures { SetsFile files.old files.new name None }
+{
+    files.remove(&name);
+}
+
+/// The name at a place, in the order of names.
+pub fn name_in_order(files: &Contents, index: u64) -> Option<FileName>
+    ensures name { result ≡ slice_get (keys files.now) index }
+    ensures ordered { IsOrdered ⟦<FileName as Ord>⟧.cmp files.now }
+{
+    files.keys().nth(index as usize).copied()
+}
+
+/// Copies the bytes from a place on to the front of a buffer, and answers how many.
+pub fn copy_out(file: &[u8], place: u64, into: &mut [u8]) -> usize
+    ensures count { result ≡ min (length into.old) (length file.now - place) }
+    ensures bytes { into.new ≡ take result (drop place file.now) ++ drop result into.old }
+{
+    if place >= file.len() as u64 {
+        return 0;
+    }
+    let rest = &file[place as usize..];
+    let count = rest.len().min(into.len());
+    into[..count].copy_from_slice(&rest[..count]);
+    count
+}
+
+/// The same files once more.
+pub fn copy(files: &Contents) -> Result<Contents, AllocError>
+    ensures { IfOk result (SameFiles files.now) }
+{
+    files.clone()
+}

@@ -1,0 +1,20 @@
+//! A disk of named files that says what a crash may leave, and two disks to try programs on.
+#![tactic(auto)]
+
+mod again;
+mod change;
+mod disk;
+mod files;
+mod fuse;
+mod memory;
+mod name;
+mod plan;
+mod refusal;
+mod settle;
+
+pub use disk::{Disk, DiskFault};
+pub use fuse::FuseDisk;
+pub use memory::MemDisk;
+pub use name::{FileKind, FileName};
+pub use refusal::WalkRefusal;
+pub use settle::write_and_sync;
