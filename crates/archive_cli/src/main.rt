@@ -23,3 +23,6 @@ fn main(rt: HostRuntime) -> ExitCode {
     let mut output = StandardOutput::new(io::writer(&rt));
     ExitCode::from(run_arguments(alloc, env::args(&rt), &mut input, &mut output))
 }
+
+#[cfg(test)]
+mod tests;
