@@ -89,9 +89,12 @@ stays-numbered a bytes moment some h = numbered_by a bytes moment (delivered a b
 shows_by : (a : Archive) (bytes : List ℕ) (moment number : ℕ) (d : Done) → Comes a bytes moment d → IsNumbered a → d.answer ≡ named.Ok number → (text : List ℕ) × (stored bytes ≡ Ok text) × (text_of d.archive.entries number ≡ Some text)
 shows_by a bytes moment number d (Refused answer other) h e = absurd (other number e)
 shows_by a bytes moment number d (Accepted form is) h e =
-    let same : a.next ≡ number = cc in
-    (form, is, subst (λ n. text_of (a.entries ++ record { number = a.next; epoch = 0; text = form; moment = moment } ∷ []) n ≡ Some form) same
-      (text_of-last a.entries (record { number = a.next; epoch = 0; text = form; moment = moment }) (λ text found. omega (arith, (h a.next text found).1))))
+    let same : a.next ≡ number = cc in (
+      form,
+      is,
+      subst (λ n. text_of (a.entries ++ record { number = a.next; epoch = 0; text = form; moment = moment } ∷ []) n ≡ Some form) same
+          (text_of-last a.entries (record { number = a.next; epoch = 0; text = form; moment = moment }) (λ text found. omega (arith, (h a.next text found).1))),
+    )
 
 pub shows-delivered : ShowsDelivered
 shows-delivered a bytes moment number h e = shows_by a bytes moment number (delivered a bytes moment) (comes a bytes moment) h e

@@ -27,7 +27,7 @@ abbrev pub with_entry : Archive → ℕ → List ℕ → ℕ → Archive
 with_entry a epoch text moment = record {
   config = a.config;
   entries = a.entries ++ record { number = a.next; epoch = epoch; text = text; moment = moment } ∷ [];
-  next = a.next + 1
+  next = a.next + 1;
 }
 
 -- the text of the entry with a number, where there is one
