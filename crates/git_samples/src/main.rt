@@ -1,0 +1,150 @@
+//! Prints sample objects as `git_objects` spells and names them, for real git to judge: `tests/git` puts each into a
+//! repository. A line an object: `TYPE ID SIZE SPELLING`, with the size of the spelling and its bytes in hex. The last
+//! commits printed are a chain.
+#![tactic(auto)]
+
+ghost use Rattle.std.specs.Prelude.{◌≡◌, IsTrue};
+ghost use Rattle.std.specs.List.{list_all};
+ghost use Rattle.git_objects.specs.CleanText.{IsClean, is_clean_byte as clean_byte};
+ghost use Rattle.git_objects.specs.Commits.{IsZone};
+
+mod samples;
+
+use anyhow::anyhow;
+use arch_base::{Bytes, NoMemory, ObjectId, decimal};
+use git_objects::{Commit, blob_id, commit_bytes, object_id, tree_bytes};
+use samples::{ALONE, BLOBS, CHAIN, Sample};
+use std::alloc::Global;
+
+/// Prints blobs, trees of one file, commits without a parent, and a chain of commits.
+fn main(rt: HostRuntime) -> anyhow::Result<()> {
+    let alloc = rt.alloc();
+    for content in &BLOBS {
+        print_blob(&rt, alloc, content)?;
+    }
+    print_blob(&rt, alloc, every_byte(alloc)?.as_slice())?;
+    let kept = tree_bytes(b'm', &blob_id(b"hello\n"));
+    let dropped = tree_bytes(b'd', &blob_id(b""));
+    print_object(&rt, alloc, "tree", &object_id(&kept), &kept)?;
+    print_object(&rt, alloc, "tree", &object_id(&dropped), &dropped)?;
+    for sample in &ALONE {
+        print_commit(&rt, alloc, &object_id(&dropped), None, sample)?;
+    }
+    let mut parent = None;
+    for sample in &CHAIN {
+        parent = Some(print_commit(&rt, alloc, &object_id(&kept), parent, sample)?);
+    }
+    Ok(())
+}
+
+/// Every byte, sixteen times over: 4096 bytes.
+fn every_byte(alloc: Global) -> Result<Bytes, NoMemory> {
+    let mut bytes = Bytes::new(alloc);
+    for at in 0..4096u16 {
+        bytes.push((at % 256) as u8)?;
+    }
+    Ok(bytes)
+}
+
+/// Prints the blob of a content.
+fn print_blob(rt: &impl Print, alloc: Global, content: &[u8]) -> anyhow::Result<()> {
+    let mut spelling = Bytes::new(alloc);
+    spelling.push_slice(b"blob ")?;
+    spelling.push_slice(decimal(alloc, content.len() as u64)?.as_slice())?;
+    spelling.push(0)?;
+    spelling.push_slice(content)?;
+    print_object(rt, alloc, "blob", &blob_id(content), spelling.as_slice())
+}
+
+/// Prints a commit, and gives its id.
+fn print_commit(
+    rt: &impl Print,
+    alloc: Global,
+    tree: &ObjectId,
+    parent: Option<ObjectId>,
+    sample: &Sample,
+) -> anyhow::Result<ObjectId> {
+    let commit = Commit {
+        tree: *tree,
+        parent,
+        author: text(alloc, sample.author)?,
+        email: text(alloc, sample.email)?,
+        secs: sample.secs,
+        zone: sample.zone,
+        committed: sample.committed,
+        subject: text(alloc, sample.subject)?,
+    };
+    let Some(spelling) = spelled(alloc, &commit)? else {
+        return Err(anyhow!("a sample is not clean"));
+    };
+    let id = object_id(spelling.as_slice());
+    print_object(rt, alloc, "commit", &id, spelling.as_slice())?;
+    Ok(id)
+}
+
+/// The bytes of a text.
+fn text(alloc: Global, text: &str) -> Result<Bytes, NoMemory> {
+    let mut bytes = Bytes::new(alloc);
+    bytes.push_slice(text.as_bytes())?;
+    Ok(bytes)
+}
+
+/// The spelling of a commit, or None where a text or the time zone may not stand in one.
+fn spelled(alloc: Global, commit: &Commit) -> Result<Option<Bytes>, NoMemory> {
+    let clean = is_clean(commit.author.as_slice())
+        && is_clean(commit.email.as_slice())
+        && is_clean(commit.subject.as_slice());
+    if !clean || !is_zone(commit.zone) {
+        return Ok(None);
+    }
+    Ok(Some(commit_bytes(alloc, commit)?))
+}
+
+/// Whether a time zone is less than a day away from UTC.
+fn is_zone(zone: i16) -> bool
+    ensures { IsTrue result → IsZone zone }
+{
+    zone > -1440 && zone < 1440
+}
+
+/// Whether a text is clean.
+fn is_clean(text: &[u8]) -> bool
+    ensures { IsTrue result → IsClean text.now }
+{
+    if text.is_empty() {
+        return true;
+    }
+    if text[0] == b' ' || text[text.len() - 1] == b' ' {
+        return false;
+    }
+    are_clean_bytes(text)
+}
+
+/// Whether clean text may hold each of the bytes.
+fn are_clean_bytes(bytes: &[u8]) -> bool
+    ensures { result ≡ list_all clean_byte bytes.now }
+{
+    bytes.iter().all(|byte| is_clean_byte(*byte))
+}
+
+/// Whether clean text may hold a byte.
+fn is_clean_byte(byte: u8) -> bool
+    ensures { result ≡ clean_byte byte }
+{
+    byte >= 32 && byte != 127 && byte != b'<' && byte != b'>'
+}
+
+/// Prints the line of an object.
+fn print_object(
+    rt: &impl Print,
+    alloc: Global,
+    kind: &str,
+    id: &ObjectId,
+    spelling: &[u8],
+) -> anyhow::Result<()> {
+    let id = hex::encode(alloc, id.0.as_slice())?;
+    let size = spelling.len();
+    let spelling = hex::encode(alloc, spelling)?;
+    println!(rt; "{kind} {id} {size} {spelling}")?;
+    Ok(())
+}
