@@ -1,3 +1,12 @@
 pub mod Numbers
-pub mod Ids
-pub mod Delivered
+pub mod Maps
+pub mod Owners
+pub mod Ends
+pub mod MadeIds
+pub mod Candidates
+pub mod Deliveries
+pub mod Keeping
+pub mod EpochSteps
+pub mod FirstChoice
+mod Texts
+pub mod EpochLemmas

@@ -1,7 +1,7 @@
 -- An archive as one list of entries, without files.
-use Rattle.std.specs.Prelude.{◌≡◌, ◌+◌, ℕ, Bool, false, ◌==◌, List, [], ◌∷◌, ◌++◌, Option, Some, None, if◌then◌else◌}
-use Rattle.std.specs.List.{list_any}
+use Rattle.std.specs.Prelude.{◌+◌, ℕ, Bool, false, ◌==◌, List, [], ◌∷◌, ◌++◌, Option, Some, None, if◌then◌else◌}
 use Rattle.std.specs.Str.{bytes_eq}
+use Rattle.std.specs.List.{filter}
 use Rattle.arch_base.specs.declared.config.Config.{Config}
 use Rattle.mail_reader.specs.Ids.{own_id}
 
@@ -40,6 +40,11 @@ abbrev pub is_id : List ℕ → Option (List ℕ) → Bool
 is_id id None = false
 is_id id (Some own) = bytes_eq id own
 
--- whether an entry has this id as its own (RFC 5322, section 3.6.4)
-abbrev pub has_id : List Entry → List ℕ → Bool
-has_id entries id = list_any (λ e. is_id id (own_id e.text)) entries
+-- the entry that has an id as its own (RFC 5322, section 3.6.4), where there is one
+abbrev pub owner : List Entry → List ℕ → Option Entry
+owner [] id = None
+owner (e ∷ es) id = if is_id id (own_id e.text) then Some e else owner es id
+
+-- the entries of an epoch, in order
+abbrev pub in_epoch : List Entry → ℕ → List Entry
+in_epoch entries epoch = filter (λ (e : Entry). e.epoch == epoch) entries

@@ -1,12 +1,48 @@
 -- What a delivery does to an archive, and what it is answered.
-use Rattle.std.specs.Prelude.{◌≡◌, ◌+◌, ℕ, nat_lt, List, [], ◌∷◌, ◌++◌, codes, decimal, Option, Some, None, Result, Ok, Err, if◌then◌else◌}
+use Rattle.std.specs.Prelude.{◌≡◌, ◌+◌, ℕ, Bool, not, ◌&&◌, ◌||◌, ◌==◌, nat_lt, List, [], ◌∷◌, ◌++◌, length, codes, decimal, Option, Some, None, Result, Ok, Err, if◌then◌else◌}
+use Rattle.std.specs.Str.{bytes_eq}
+use Rattle.hex.specs.Hex.{encode_lower}
+use Rattle.arch_base.specs.declared.ids.Id20.{Id20}
 use Rattle.mail_reader.specs.Stored.{stored}
-use Rattle.mail_reader.specs.Ids.{own_id}
 use Rattle.mail_reader.specs.declared.storing.StoredRefusal.{StoredRefusal}
 use Rattle.mail_reader.specs.declared.storing.StoredRefusal.TheVariants as stored_refusal
-use Rattle.arch_model.specs.Archives.{Archive, has_id, with_entry}
+use Rattle.git_objects.specs.Objects.{blob_id_of}
+use Rattle.arch_model.specs.Archives.{Entry, Archive, with_entry, in_epoch}
+use Rattle.arch_model.specs.Epochs.{epoch_bytes}
+use Rattle.arch_model.specs.Candidates.{choice_of}
+use Rattle.arch_model.specs.declared.choice.Choice.{Choice}
+use Rattle.arch_model.specs.declared.choice.Choice.TheVariants.{Take, Repeat}
 use Rattle.arch_model.specs.declared.answer.Answer.{Answer}
 use Rattle.arch_model.specs.declared.answer.Answer.TheVariants as answer
+
+-- the greater of two numbers
+abbrev pub greater : ℕ → ℕ → ℕ
+greater m n = if nat_lt m n then n else m
+
+-- the last epoch: the greatest one of an entry, or 0
+abbrev pub last_epoch : List Entry → ℕ
+last_epoch [] = 0
+last_epoch (e ∷ es) = greater e.epoch (last_epoch es)
+
+-- whether an epoch of a length takes one more entry: it is shorter than the limit, or it is the greatest one, 63, which grows
+-- without end
+abbrev pub takes_more : ℕ → ℕ → ℕ → Bool
+takes_more limit epoch len = epoch == 63 || nat_lt len limit
+
+-- the epoch of a new entry: the last one where that takes one more, and else the next one (public-inbox-v2-format, "GIT EPOCHS")
+abbrev pub new_epoch : Archive → ℕ
+new_epoch a =
+    if takes_more a.config.limit (last_epoch a.entries) (length (epoch_bytes (in_epoch a.entries (last_epoch a.entries)))) then last_epoch a.entries
+    else last_epoch a.entries + 1
+
+-- whether an entry has the blob id of a text, and another text
+abbrev pub clashes : List ℕ → Entry → Bool
+clashes text e = bytes_eq (blob_id_of text).0 (blob_id_of e.text).0 && not (bytes_eq text e.text)
+
+-- the number of the first entry that has the blob id of a text and another text, where there is one
+abbrev pub collision : List Entry → List ℕ → Option ℕ
+collision [] text = None
+collision (e ∷ es) text = if clashes text e then Some e.number else collision es text
 
 -- an archive, and the answer that goes with it
 pub record Done : Type 0 where
@@ -16,42 +52,55 @@ pub record Done : Type 0 where
 abbrev pub refused : Archive → Answer → Done
 refused a answer = record { archive = a; answer = answer }
 
--- a text with an own id that no entry has takes the next number, where that is not above the greatest one
+-- a text takes the next number, where that is not above the greatest one
 abbrev pub delivered_new : Archive → List ℕ → ℕ → Done
 delivered_new a text moment =
     if nat_lt a.config.max a.next then refused a (answer.Full a.config.max)
-    else record { archive = with_entry a 0 text moment; answer = answer.Ok a.next }
+    else record { archive = with_entry a (new_epoch a) text moment; answer = answer.Ok a.next (blob_id_of text) }
 
--- a text without an own id, or with one that an entry has, is not taken yet
-abbrev pub delivered_text : Archive → List ℕ → ℕ → Option (List ℕ) → Done
-delivered_text a text moment None = refused a answer.NotYet
-delivered_text a text moment (Some id) = if has_id a.entries id then refused a answer.NotYet else delivered_new a text moment
+-- a text that is to be kept, unless another one has its blob id
+abbrev pub delivered_kept : Archive → List ℕ → ℕ → Option ℕ → Done
+delivered_kept a text moment (Some number) = refused a (answer.Collision number)
+delivered_kept a text moment None = delivered_new a text moment
+
+-- what the candidates for the id come to
+abbrev pub delivered_choice : Archive → ℕ → Choice → Done
+delivered_choice a moment (Repeat number) = refused a (answer.Duplicate number)
+delivered_choice a moment (Take text) = delivered_kept a text moment (collision a.entries text)
 
 -- the bytes of a message are brought into storage form, or refused
 abbrev pub delivered_form : Archive → ℕ → Result (List ℕ) StoredRefusal → Done
-delivered_form a moment (Ok text) = delivered_text a text moment (own_id text)
+delivered_form a moment (Ok text) = delivered_choice a moment (choice_of a text)
 delivered_form a moment (Err stored_refusal.NoFields) = refused a answer.NoFields
 delivered_form a moment (Err (stored_refusal.TooLarge len)) = refused a (answer.TooLarge len)
 delivered_form a moment (Err stored_refusal.NoMemory) = refused a answer.NoMemory
 
--- what the delivery of bytes at a moment comes to
+-- what the delivery of bytes at a moment comes to: a mirror takes none
 abbrev pub delivered : Archive → List ℕ → ℕ → Done
-delivered a bytes moment = delivered_form a moment (stored bytes)
+delivered a bytes moment = if a.config.mirror then refused a answer.IsMirror else delivered_form a moment (stored bytes)
 
 -- what a call answered, and the archive behind it, are what is wanted; for want of memory all is as before
 abbrev pub Delivers : Archive → Answer → Archive → Done → Type 0
 Delivers old answer.NoMemory new wanted = new ≡ old
-Delivers old (answer.Ok number) new wanted = wanted ≡ record { archive = new; answer = answer.Ok number }
+Delivers old (answer.Ok number id) new wanted = wanted ≡ record { archive = new; answer = answer.Ok number id }
+Delivers old (answer.Duplicate number) new wanted = wanted ≡ record { archive = new; answer = answer.Duplicate number }
 Delivers old answer.NoFields new wanted = wanted ≡ record { archive = new; answer = answer.NoFields }
 Delivers old (answer.TooLarge len) new wanted = wanted ≡ record { archive = new; answer = answer.TooLarge len }
-Delivers old answer.NotYet new wanted = wanted ≡ record { archive = new; answer = answer.NotYet }
 Delivers old (answer.Full max) new wanted = wanted ≡ record { archive = new; answer = answer.Full max }
+Delivers old (answer.Collision number) new wanted = wanted ≡ record { archive = new; answer = answer.Collision number }
+Delivers old (answer.NotLive number) new wanted = wanted ≡ record { archive = new; answer = answer.NotLive number }
+Delivers old (answer.NoText number) new wanted = wanted ≡ record { archive = new; answer = answer.NoText number }
+Delivers old answer.IsMirror new wanted = wanted ≡ record { archive = new; answer = answer.IsMirror }
 
 -- the line of an answer, without its line feed
 abbrev pub answer_line : Answer → List ℕ
-answer_line (answer.Ok number) = codes "1 ok " ++ decimal number
+answer_line (answer.Ok number id) = codes "1 ok " ++ (decimal number ++ 32 ∷ encode_lower id.0)
+answer_line (answer.Duplicate number) = codes "2 duplicate " ++ decimal number
 answer_line answer.NoFields = codes "3 no fields"
 answer_line (answer.TooLarge len) = codes "4 too large " ++ decimal len
 answer_line (answer.Full max) = codes "5 full " ++ decimal max
+answer_line (answer.Collision number) = codes "6 collision " ++ decimal number
+answer_line (answer.NotLive number) = codes "7 not live " ++ decimal number
+answer_line (answer.NoText number) = codes "8 no text " ++ decimal number
+answer_line answer.IsMirror = codes "9 is mirror"
 answer_line answer.NoMemory = codes "12 no memory"
-answer_line answer.NotYet = codes "15 not yet"

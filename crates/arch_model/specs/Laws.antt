@@ -1,9 +1,17 @@
 -- What holds of deliveries.
-use Rattle.std.specs.Prelude.{◌≡◌, ◌<◌, ◌≤◌, ℕ, List, Some, Ok}
+use Rattle.std.specs.Prelude.{◌≡◌, ◌<◌, ◌≤◌, ◌^◌, ℕ, zero, suc, List, Option, Some, None, Ok, length}
+use Rattle.arch_base.specs.declared.ids.Id20.{Id20}
 use Rattle.mail_reader.specs.Stored.{stored}
-use Rattle.arch_model.specs.Archives.{Archive, text_of}
+use Rattle.mail_reader.specs.Ids.{own_id}
+use Rattle.mail_reader.specs.Content.{content_id_of}
+use Rattle.arch_model.specs.Archives.{Entry, Archive, owner, text_of}
+use Rattle.arch_model.specs.Candidates.{made_id, with_made, met, choice_of}
 use Rattle.arch_model.specs.Delivery.{delivered}
 use Rattle.arch_model.specs.declared.answer.Answer.TheVariants as answer
+use Rattle.arch_model.specs.declared.choice.Meeting.{Meeting}
+use Rattle.arch_model.specs.declared.choice.Meeting.TheVariants.{Free, Same, Other}
+use Rattle.arch_model.specs.declared.choice.Choice.{Choice}
+use Rattle.arch_model.specs.declared.choice.Choice.TheVariants.{Take, Repeat}
 
 -- each number that has a text is below the next one, and none is 0
 abbrev pub IsNumbered : Archive → Type 0
@@ -18,8 +26,41 @@ KeepsNumbers =
 abbrev pub StaysNumbered : Type 0
 StaysNumbered = (a : Archive) (bytes : List ℕ) (moment : ℕ) → 1 ≤ a.next → IsNumbered a → (1 ≤ (delivered a bytes moment).archive.next) × IsNumbered (delivered a bytes moment).archive
 
--- One message in, the same message out: the number of an accepted message has the storage form of its bytes.
+-- One message in, the same message out: the number of an accepted message has the text that the candidates for its id came to,
+-- which is the storage form of its bytes with a Message-ID field in front or none.
 abbrev pub ShowsDelivered : Type 0
 ShowsDelivered =
-    (a : Archive) (bytes : List ℕ) (moment number : ℕ) → IsNumbered a → (delivered a bytes moment).answer ≡ answer.Ok number →
-    (text : List ℕ) × (stored bytes ≡ Ok text) × (text_of (delivered a bytes moment).archive.entries number ≡ Some text)
+    (a : Archive) (bytes : List ℕ) (moment number : ℕ) (id : Id20) → IsNumbered a → (delivered a bytes moment).answer ≡ answer.Ok number id →
+    (text : List ℕ) × (kept : List ℕ) × (stored bytes ≡ Ok text) × (choice_of a text ≡ Take kept) × (text_of (delivered a bytes moment).archive.entries number ≡ Some kept)
+
+-- the candidates for the id of a text in order: its own id, where it has one, and then the made ones
+abbrev pub candidate : List ℕ → List ℕ → Option (List ℕ) → ℕ → List ℕ
+candidate name text None k = made_id name text k
+candidate name text (Some id) zero = id
+candidate name text (Some id) (suc k) = made_id name text k
+
+-- the text as it is kept with that candidate
+abbrev pub kept_with : List ℕ → List ℕ → Option (List ℕ) → ℕ → List ℕ
+kept_with name text None k = with_made name text k
+kept_with name text (Some id) zero = text
+kept_with name text (Some id) (suc k) = with_made name text k
+
+-- how the k-th candidate meets the messages of an archive
+abbrev pub meeting : Archive → List ℕ → ℕ → Meeting
+meeting a text k = met (owner a.entries (candidate a.config.name text (own_id text) k)) (content_id_of text)
+
+-- what a candidate that isn't passed over decides
+abbrev pub Decides : Meeting → List ℕ → Choice → Type 0
+Decides Free text choice = choice ≡ Take text
+Decides (Same number) text choice = choice ≡ Repeat number
+Decides Other text choice = ⊥
+
+-- the k-th candidate decides, and all before it are passed over
+abbrev pub IsChosenAt : Archive → List ℕ → ℕ → Choice → Type 0
+IsChosenAt a text k choice =
+    ((j : ℕ) → j < k → meeting a text j ≡ Other) × Decides (meeting a text k) (kept_with a.config.name text (own_id text) k) choice
+
+-- Some candidate decides, and what it decides is the choice; nothing else is decided by one behind passed ones.
+abbrev pub FirstDecides : Type 0
+FirstDecides =
+    (a : Archive) (text : List ℕ) → length a.entries < 2 ^ 63 → ((k : ℕ) × IsChosenAt a text k (choice_of a text)) × ((k : ℕ) (choice : Choice) → IsChosenAt a text k choice → choice ≡ choice_of a text)

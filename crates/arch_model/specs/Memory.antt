@@ -1,29 +1,125 @@
 -- What an archive in memory holds.
-use Rattle.std.specs.Prelude.{◌≡◌, ◌+◌, ◌≤◌, ℕ, List, [], ◌∷◌, length}
+use Rattle.std.specs.Prelude.{◌≡◌, ◌+◌, ◌-◌, ◌≤◌, ◌==◌, ◌||◌, nat_lt, ℕ, take, Bool, true, false, Result, Ok, Err, List, [], ◌∷◌, ◌++◌, length, Option, Some, None, option_map, if◌then◌else◌}
+use Rattle.std.specs.Str.{bytes_eq}
 use Rattle.std.specs.Ordering.{nat_cmp}
 use Rattle.std.specs.Cmp.Lexicographic.{slice_cmp}
-use Rattle.std.specs.BTreeSet.{BTreeSet, contains_by}
+use Rattle.std.specs.BTreeMap.{BTreeMap, get_by}
 use Rattle.std.specs.Global.{Vec}
 use Rattle.arch_base.specs.Configs.{IsConfig}
 use Rattle.arch_base.specs.declared.config.Config.{Config}
-use Rattle.arch_model.specs.Archives.{Entry, Archive, has_id}
+use Rattle.arch_base.specs.declared.ids.Id20.{Id20}
+use Rattle.mail_reader.specs.Ids.{own_id}
+use Rattle.mail_reader.specs.Content.{content_id_of}
+use Rattle.git_objects.specs.Objects.{blob_id_of}
+use Rattle.arch_model.specs.Archives.{Entry, Archive, owner, in_epoch}
+use Rattle.arch_model.specs.Delivery.{last_epoch}
+use Rattle.arch_model.specs.Epochs.{epoch_bytes, last_commit, commit_id, entry_bytes, magic}
 use Rattle.arch_model.specs.declared.kept.Kept.{Kept}
+use Rattle.arch_model.specs.declared.kept.Owner.{Owner}
+use Rattle.arch_model.specs.declared.kept.End.{End}
+use Rattle.arch_base.specs.declared.sequence.NoMemory.{NoMemory}
+use Rattle.arch_model.specs.declared.choice.Meeting.{Meeting}
+use Rattle.arch_model.specs.declared.choice.Meeting.TheVariants.{Free, Same, Other}
+use Rattle.arch_model.specs.declared.index.Index.{Index}
+use Rattle.arch_model.specs.declared.choice.Choice.{Choice}
+use Rattle.arch_model.specs.declared.choice.Choice.TheVariants.{Take, Repeat}
 
--- the entries of kept messages, the first of which has this number; all stand in epoch 0
+-- the entries of kept messages, the first of which has this number
 abbrev pub entries_from : ℕ → List Kept → List Entry
 entries_from n [] = []
-entries_from n (k ∷ ks) = record { number = n; epoch = 0; text = k.text; moment = k.moment } ∷ entries_from (n + 1) ks
+entries_from n (k ∷ ks) = record { number = n; epoch = k.epoch; text = k.text; moment = k.moment } ∷ entries_from (n + 1) ks
 
 -- the archive of kept messages
 abbrev pub archive_of : Config → List Kept → Archive
 archive_of config kept = record { config = config; entries = entries_from 1 kept; next = length kept + 1 }
 
--- a set has just the ids of kept messages
-abbrev pub HasIds : List Kept → BTreeSet (Vec ℕ) → Type 0
-HasIds kept ids = (id : List ℕ) → contains_by (λ (k : Vec ℕ). slice_cmp nat_cmp id k.items) ids ≡ has_id (entries_from 1 kept) id
+-- what is kept of an entry as the one that has an id
+abbrev pub owner_of : Entry → Owner
+owner_of e = record { number = e.number; content = content_id_of e.text }
 
--- the settings are as they may be, no number is above the greatest, and the ids are those of the messages
-pub record IsKept (config : Config) (kept : List Kept) (ids : BTreeSet (Vec ℕ)) : Type 0 where
+-- the number of the first entry with a blob id
+abbrev pub blob_number : List Entry → List ℕ → Option ℕ
+blob_number [] blob = None
+blob_number (e ∷ es) blob = if bytes_eq blob (blob_id_of e.text).0 then Some e.number else blob_number es blob
+
+-- what a map by ids has for an id
+abbrev pub owner_in : BTreeMap (Vec ℕ) Owner → List ℕ → Option Owner
+owner_in owners id = get_by (λ (k : Vec ℕ). slice_cmp nat_cmp id k.items) owners
+
+-- what a map by blob ids has for one
+abbrev pub number_in : BTreeMap (List ℕ) ℕ → List ℕ → Option ℕ
+number_in blobs blob = get_by (λ (k : List ℕ). slice_cmp nat_cmp blob k) blobs
+
+-- an index has the entries by their ids, and their numbers by their blob ids
+pub record IsIndex (entries : List Entry) (index : Index) : Type 0 where
+  pub owners : (id : List ℕ) → owner_in index.owners id ≡ option_map owner_of (owner entries id)
+  pub blobs : (blob : List ℕ) → number_in index.blobs blob ≡ blob_number entries blob
+
+-- an index got one more id and one more blob id
+pub record Puts (old new : Index) (id : List ℕ) (blob : Id20) (message : Owner) : Type 0 where
+  pub owners : (q : List ℕ) → owner_in new.owners q ≡ (if bytes_eq q id then Some message else owner_in old.owners q)
+  pub blobs : (q : List ℕ) → number_in new.blobs q ≡ (if bytes_eq q blob.0 then Some message.number else number_in old.blobs q)
+
+-- two indexes have the same
+pub record HasSame (old new : Index) : Type 0 where
+  pub owners : (q : List ℕ) → owner_in new.owners q ≡ owner_in old.owners q
+  pub blobs : (q : List ℕ) → number_in new.blobs q ≡ number_in old.blobs q
+
+-- a text has an own id that no entry has
+abbrev pub IsFree : List Entry → List ℕ → Type 0
+IsFree entries text = (id : List ℕ) × (own_id text ≡ Some id) × (owner entries id ≡ None)
+
+-- a text that is taken has an own id that no entry has
+abbrev pub TakesFree : List Entry → Choice → Type 0
+TakesFree entries (Take text) = IsFree entries text
+TakesFree entries (Repeat number) = Unit {0}
+
+-- what is kept of an epoch is its room and its last commit
+pub record IsEnd (limit : ℕ) (entries : List Entry) (end_ : End) : Type 0 where
+  pub room : end_.room ≡ limit - length (epoch_bytes (in_epoch entries end_.epoch))
+  pub parent : end_.parent ≡ last_commit None (in_epoch entries end_.epoch)
+  pub small : end_.epoch ≤ 63
+
+-- the settings are as they may be, no number is above the greatest, the index has the messages, and the end is that of the last
+-- epoch
+pub record IsKept (config : Config) (kept : List Kept) (index : Index) (end_ : End) : Type 0 where
   pub settings : IsConfig config
   pub numbers : length kept ≤ config.max
-  pub has_ids : HasIds kept ids
+  pub indexed : IsIndex (entries_from 1 kept) index
+  pub last : end_.epoch ≡ last_epoch (entries_from 1 kept)
+  pub ends : IsEnd config.limit (entries_from 1 kept) end_
+
+-- what stands in front of an entry's bytes: an epoch's first bytes, where the entry has no parent
+abbrev pub front_bytes : Option Id20 → List ℕ
+front_bytes None = magic
+front_bytes (Some id) = []
+
+-- the end that a new entry stands behind
+abbrev pub end_for_new : ℕ → End → End
+end_for_new limit end_ = if end_.epoch == 63 || nat_lt 0 end_.room then end_ else record { epoch = end_.epoch + 1; room = limit; parent = None }
+
+-- the end behind one more entry
+abbrev pub end_after : End → List ℕ → ℕ → End
+end_after end_ text moment = record {
+  epoch = end_.epoch;
+  room = end_.room - length (front_bytes end_.parent ++ entry_bytes text moment end_.parent);
+  parent = Some (commit_id text moment end_.parent);
+}
+
+-- bytes have others at their front
+abbrev pub Grows : List ℕ → List ℕ → Type 0
+Grows old new = take (length old) new ≡ old
+
+-- how a candidate for an id meets the message that has it
+abbrev pub met_owner : Owner → List ℕ → Meeting
+met_owner message content = if bytes_eq message.content content then Same message.number else Other
+
+-- whether there is an entry
+abbrev pub has_entry : List Entry → Bool
+has_entry [] = false
+has_entry (e ∷ es) = true
+
+-- bytes got those of an epoch, and it was said whether it has an entry; or for want of memory they are as before
+abbrev pub GivesEpoch : List ℕ → List ℕ → Result Bool NoMemory → List Entry → Type 0
+GivesEpoch old new (Ok found) entries = (new ≡ old ++ epoch_bytes entries) × (found ≡ has_entry entries)
+GivesEpoch old new (Err refused) entries = new ≡ old

@@ -1,5 +1,5 @@
 //! What holds of deliveries, for every archive, message and moment.
-ghost use Rattle.arch_model.specs.Laws.{KeepsNumbers, StaysNumbered, ShowsDelivered};
+ghost use Rattle.arch_model.specs.Laws.{FirstDecides, KeepsNumbers, StaysNumbered, ShowsDelivered};
 
 /// A delivery leaves each number with its text.
 pub fn numbers_keep_their_texts()
@@ -11,7 +11,13 @@ pub fn numbers_rise()
     ensures { StaysNumbered }
 {}
 
-/// The number of an accepted message has the storage form of its bytes.
+/// The number of an accepted message has the text that the candidates for its id came to.
 pub fn delivered_is_shown()
     ensures { ShowsDelivered }
+{}
+
+/// Of the candidates for an id the first that isn't passed over decides, and there is always one: fewer than 2^63 messages leave
+/// a made id free.
+pub fn first_candidate_decides()
+    ensures { FirstDecides }
 {}

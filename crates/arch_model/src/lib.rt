@@ -2,10 +2,23 @@
 #![tactic(auto)]
 
 mod answer;
+mod choice;
+mod commits;
+mod facts;
+mod index;
 mod kept;
 mod laws;
+mod made;
 mod memory;
 
 pub use answer::Answer;
-pub use laws::{delivered_is_shown, numbers_keep_their_texts, numbers_rise};
+pub use commits::{entry_commit, epoch_grows, push_entry};
+pub use laws::{
+    delivered_is_shown, first_candidate_decides, numbers_keep_their_texts, numbers_rise,
+};
 pub use memory::MemArchive;
+
+#[cfg(test)]
+mod commit_tests;
+#[cfg(test)]
+mod tests;

@@ -5,3 +5,4 @@ mod PrintLemmas
 mod ReadLemmas
 mod WordLemmas
 mod WrittenLemmas
+mod MomentLemmas

@@ -1,11 +1,12 @@
 -- Laws of these definitions.
-use Rattle.std.specs.Prelude.{◌≡◌, ℕ, ◌≤◌, List, Option, Some}
+use Rattle.std.specs.Prelude.{◌≡◌, ◌↔◌, ℕ, ◌≤◌, List, Option, Some}
 use Rattle.mail_date.specs.declared.moment.Moment.{Moment}
 use Rattle.mail_date.specs.declared.moment.CivilDate.{CivilDate}
 use Rattle.mail_date.specs.Dates.{last_second}
 use Rattle.mail_date.specs.Parts.{Spells}
 use Rattle.mail_date.specs.Pieces.{IsZone}
 use Rattle.mail_date.specs.Printed.{IsDateAt, mail_text}
+use Rattle.mail_date.specs.Reading.{moment_in}
 
 -- a text spells at most one moment
 abbrev pub SpelledMomentIsOne : Type 0
@@ -26,3 +27,7 @@ abbrev pub GivesWrittenMoment : List ℕ → Option Moment → Type 0
 GivesWrittenMoment text answer =
     (moment : Moment) (date : CivilDate)
     → IsDateAt moment date → moment.secs ≤ last_second → IsZone moment.zone → text ≡ mail_text date → answer ≡ Some moment
+
+-- the moment in a text is the one that it spells, and none where it spells none
+abbrev pub MomentIsSpelled : Type 0
+MomentIsSpelled = (text : List ℕ) (moment : Moment) → moment_in text ≡ Some moment ↔ Spells text moment

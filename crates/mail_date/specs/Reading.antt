@@ -1,10 +1,12 @@
 -- How a date is read by its words. That what is read is put together from the parts of a date, and that each such text is
 -- read, is proved of it.
-use Rattle.std.specs.Prelude.{ℕ, Bool, true, ◌==◌, List, [], ◌∷◌, slice_index, Option, None, if◌then◌else◌}
+use Rattle.std.specs.Prelude.{ℕ, ℤ, pos, negsuc, Bool, true, ◌==◌, ◌&&◌, nat_le, List, [], ◌∷◌, slice_index, Option, Some, None, option_and_then, if◌then◌else◌}
+use Rattle.jiff_core.specs.Calendar.{days_in_month}
+use Rattle.mail_date.specs.declared.moment.Moment.{Moment}
 use Rattle.mail_date.specs.declared.moment.CivilDate.{CivilDate}
 use Rattle.mail_date.specs.Words.{words_of, without_day}
 use Rattle.mail_date.specs.Pieces.{day_of, month_of, year_of, clock_of, zone_of}
-use Rattle.mail_date.specs.Dates.{joined}
+use Rattle.mail_date.specs.Dates.{joined, last_second, seconds_of}
 
 -- nothing follows a date, or words of which the first begins with a parenthesis: a comment
 abbrev pub is_comment : List (List ℕ) → Bool
@@ -21,3 +23,26 @@ date_of_words _ = None
 -- the date that a text spells, after a day's name and comma or none
 abbrev pub date_of : List ℕ → Option CivilDate
 date_of text = date_of_words (words_of (without_day text))
+
+-- whether the calendar has the day, in a year from 1970 to 9999
+abbrev pub is_valid_day : CivilDate → Bool
+is_valid_day date =
+    nat_le 1970 date.year && nat_le date.year 9999 && nat_le 1 date.month && nat_le date.month 12 && nat_le 1 date.day
+    && nat_le date.day (days_in_month (pos date.year) date.month)
+
+-- whether a clock shows the time, which may be that of a leap second
+abbrev pub is_valid_time : CivilDate → Bool
+is_valid_time date = nat_le date.hour 23 && nat_le date.minute 59 && nat_le date.second 60
+
+-- the moment of so many seconds since 1970, up to the year 9999
+abbrev pub moment_from : ℤ → ℤ → Option Moment
+moment_from (pos secs) zone = if nat_le secs last_second then Some (record { secs = secs; zone = zone }) else None
+moment_from (negsuc n) zone = None
+
+-- the moment of a date
+abbrev pub moment_at : CivilDate → Option Moment
+moment_at date = if is_valid_day date && is_valid_time date then moment_from (seconds_of date) date.zone else None
+
+-- The moment that a text spells, where it spells one.
+unfoldable pub moment_in : List ℕ → Option Moment
+moment_in text = option_and_then moment_at (date_of text)

@@ -3,7 +3,7 @@ ghost use Rattle.std.specs.Prelude.{◌≡◌, ◌≤◌, IfSome, IfNone};
 ghost use Rattle.mail_date.specs.Words.{words_of};
 ghost use Rattle.mail_date.specs.Pieces.{IsZone};
 ghost use Rattle.mail_date.specs.Dates.{last_second};
-ghost use Rattle.mail_date.specs.Reading.{is_comment, date_of, date_of_words};
+ghost use Rattle.mail_date.specs.Reading.{is_comment, date_of, date_of_words, moment_in};
 ghost use Rattle.mail_date.specs.Parts.{Spells};
 ghost use Rattle.mail_date.specs.Laws.{GivesWrittenMoment};
 
@@ -19,6 +19,7 @@ use crate::words::{first_word, without_day};
 /// for any other value, for a day that the calendar doesn't have, and for a moment that in UTC lies before 1970 or after
 /// 9999. What is read can be printed.
 pub fn read(value: &[u8]) -> Option<Moment>
+    ensures value { result ≡ moment_in value.now }
     ensures spelled { IfSome result (Spells value.now) }
     ensures refused { IfNone result ((moment : Moment) → Spells value.now moment → ⊥) }
     ensures again { GivesWrittenMoment value.now result }

@@ -1,7 +1,7 @@
 //! Dates worked out by hand and by `date -u -d`.
 
 use crate::{
-    Moment, print_imap, print_page, print_rfc3339, printed_date_is_one, read,
+    Moment, moment_is_spelled, print_imap, print_page, print_rfc3339, printed_date_is_one, read,
     spelled_moment_is_one, written_date_is_spelled,
 };
 
@@ -165,6 +165,7 @@ fn moments_are_printed(rt: HostRuntime) {
         b"2024-02-01 10:00".as_slice()
     );
     assert_eq!(rt; print_page(0).as_slice(), b"1970-01-01 00:00".as_slice());
+    moment_is_spelled();
     spelled_moment_is_one();
     printed_date_is_one();
     written_date_is_spelled();

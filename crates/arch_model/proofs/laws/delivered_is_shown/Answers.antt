@@ -1,4 +1,4 @@
-use Rattle.arch_model.proofs.Delivered.{shows-delivered}
+use Rattle.arch_model.proofs.Deliveries.{shows-delivered}
 use Rattle.arch_model.proofs.laws.delivered_is_shown.Goals as goal
 
 pub returns : goal.returns

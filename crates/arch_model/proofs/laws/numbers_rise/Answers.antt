@@ -1,4 +1,4 @@
-use Rattle.arch_model.proofs.Delivered.{stays-numbered}
+use Rattle.arch_model.proofs.Deliveries.{stays-numbered}
 use Rattle.arch_model.proofs.laws.numbers_rise.Goals as goal
 
 pub returns : goal.returns

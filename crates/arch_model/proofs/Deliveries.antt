@@ -2,40 +2,49 @@
 use Rattle.std.proofs.Common.{◌⊎◌, inl, inr, ◌≡◌, ◌+◌, ◌-◌, ◌<◌, ◌≤◌, ◌==◌, ℕ, Bool, true, false, nat_lt, List, [], ◌∷◌, ◌++◌, length, Option, Some, None, Result, Ok, Err, refl, sym, ◌∙◌, ap, subst, arith, if◌then◌else◌}
 use Rattle.std.proofs.lemmas.Bool.Decides.{nat_tests}
 use Rattle.mail_reader.specs.Stored.{stored}
-use Rattle.mail_reader.specs.Ids.{own_id}
 use Rattle.mail_reader.specs.declared.storing.StoredRefusal.{StoredRefusal}
 use Rattle.mail_reader.specs.declared.storing.StoredRefusal.TheVariants as stored_refusal
-use Rattle.arch_model.specs.Archives.{Entry, Archive, has_id, text_of, with_entry}
-use Rattle.arch_model.specs.Delivery.{Done, refused, delivered, delivered_new, delivered_text, delivered_form}
+use Rattle.arch_base.specs.declared.ids.Id20.{Id20}
+use Rattle.git_objects.specs.Objects.{blob_id_of}
+use Rattle.arch_model.specs.Archives.{Entry, Archive, text_of, with_entry}
+use Rattle.arch_model.specs.Candidates.{choice_of}
+use Rattle.arch_model.specs.Delivery.{Done, refused, collision, delivered, delivered_new, delivered_kept, delivered_choice, delivered_form, new_epoch}
+use Rattle.arch_model.specs.declared.choice.Choice.{Choice}
+use Rattle.arch_model.specs.declared.choice.Choice.TheVariants.{Take, Repeat}
 use Rattle.arch_model.specs.Laws.{IsNumbered, KeepsNumbers, StaysNumbered, ShowsDelivered}
 use Rattle.arch_model.specs.declared.answer.Answer.{Answer}
 use Rattle.arch_model.specs.declared.answer.Answer.TheVariants as named
 
 -- what a delivery comes to: a refusal that leaves the archive, or one more entry
 pub data Comes (a : Archive) (bytes : List ℕ) (moment : ℕ) : Done → Type 0 where
-  Refused : (answer : Answer) → ((number : ℕ) → answer ≡ named.Ok number → ⊥) → Comes a bytes moment (refused a answer)
-  Accepted : (text : List ℕ) → stored bytes ≡ Ok text → Comes a bytes moment (record { archive = with_entry a 0 text moment; answer = named.Ok a.next })
+  Refused : (answer : Answer) → ((number : ℕ) (id : Id20) → answer ≡ named.Ok number id → ⊥) → Comes a bytes moment (refused a answer)
+  Accepted : (text kept : List ℕ) → stored bytes ≡ Ok text → choice_of a text ≡ Take kept → Comes a bytes moment (record { archive = with_entry a (new_epoch a) kept moment; answer = named.Ok a.next (blob_id_of kept) })
 
-comes_new : (a : Archive) (bytes text : List ℕ) (moment : ℕ) (t : Bool) → stored bytes ≡ Ok text → Comes a bytes moment (if t then refused a (named.Full a.config.max) else record { archive = with_entry a 0 text moment; answer = named.Ok a.next })
-comes_new a bytes text moment true is = Refused (named.Full a.config.max) (λ number e. cc e)
-comes_new a bytes text moment false is = Accepted text is
+comes_new : (a : Archive) (bytes text kept : List ℕ) (moment : ℕ) (t : Bool) → stored bytes ≡ Ok text → choice_of a text ≡ Take kept
+    → Comes a bytes moment (if t then refused a (named.Full a.config.max) else record { archive = with_entry a (new_epoch a) kept moment; answer = named.Ok a.next (blob_id_of kept) })
+comes_new a bytes text kept moment true is takes = Refused (named.Full a.config.max) (λ number id e. cc e)
+comes_new a bytes text kept moment false is takes = Accepted text kept is takes
 
-comes_id : (a : Archive) (bytes text : List ℕ) (moment : ℕ) (t : Bool) → stored bytes ≡ Ok text → Comes a bytes moment (if t then refused a named.NotYet else delivered_new a text moment)
-comes_id a bytes text moment true is = Refused named.NotYet (λ number e. cc e)
-comes_id a bytes text moment false is = comes_new a bytes text moment (nat_lt a.config.max a.next) is
+comes_kept : (a : Archive) (bytes text kept : List ℕ) (moment : ℕ) (clash : Option ℕ) → stored bytes ≡ Ok text → choice_of a text ≡ Take kept → Comes a bytes moment (delivered_kept a kept moment clash)
+comes_kept a bytes text kept moment (Some n) is takes = Refused (named.Collision n) (λ number id e. cc e)
+comes_kept a bytes text kept moment None is takes = comes_new a bytes text kept moment (nat_lt a.config.max a.next) is takes
 
-comes_text : (a : Archive) (bytes text : List ℕ) (moment : ℕ) (id : Option (List ℕ)) → stored bytes ≡ Ok text → Comes a bytes moment (delivered_text a text moment id)
-comes_text a bytes text moment None is = Refused named.NotYet (λ number e. cc e)
-comes_text a bytes text moment (Some id) is = comes_id a bytes text moment (has_id a.entries id) is
+comes_choice : (a : Archive) (bytes text : List ℕ) (moment : ℕ) (choice : Choice) → stored bytes ≡ Ok text → choice_of a text ≡ choice → Comes a bytes moment (delivered_choice a moment choice)
+comes_choice a bytes text moment (Repeat n) is takes = Refused (named.Duplicate n) (λ number id e. cc e)
+comes_choice a bytes text moment (Take kept) is takes = comes_kept a bytes text kept moment (collision a.entries kept) is takes
 
 comes_form : (a : Archive) (bytes : List ℕ) (moment : ℕ) (form : Result (List ℕ) StoredRefusal) → stored bytes ≡ form → Comes a bytes moment (delivered_form a moment form)
-comes_form a bytes moment (Ok text) is = comes_text a bytes text moment (own_id text) is
-comes_form a bytes moment (Err stored_refusal.NoFields) is = Refused named.NoFields (λ number e. cc e)
-comes_form a bytes moment (Err (stored_refusal.TooLarge len)) is = Refused (named.TooLarge len) (λ number e. cc e)
-comes_form a bytes moment (Err stored_refusal.NoMemory) is = Refused named.NoMemory (λ number e. cc e)
+comes_form a bytes moment (Ok text) is = comes_choice a bytes text moment (choice_of a text) is refl
+comes_form a bytes moment (Err stored_refusal.NoFields) is = Refused named.NoFields (λ number id e. cc e)
+comes_form a bytes moment (Err (stored_refusal.TooLarge len)) is = Refused (named.TooLarge len) (λ number id e. cc e)
+comes_form a bytes moment (Err stored_refusal.NoMemory) is = Refused named.NoMemory (λ number id e. cc e)
+
+comes_mirror : (a : Archive) (bytes : List ℕ) (moment : ℕ) (mirror : Bool) → Comes a bytes moment (if mirror then refused a named.IsMirror else delivered_form a moment (stored bytes))
+comes_mirror a bytes moment true = Refused named.IsMirror (λ number id e. cc e)
+comes_mirror a bytes moment false = comes_form a bytes moment (stored bytes) refl
 
 pub comes : (a : Archive) (bytes : List ℕ) (moment : ℕ) → Comes a bytes moment (delivered a bytes moment)
-comes a bytes moment = comes_form a bytes moment (stored bytes) refl
+comes a bytes moment = comes_mirror a bytes moment a.config.mirror
 
 front_step : (e : Entry) (es fs : List Entry) (n : ℕ) (text : List ℕ) (t : Bool) → (e.number == n) ≡ t → (text_of es n ≡ Some text → text_of (es ++ fs) n ≡ Some text) → text_of (e ∷ es) n ≡ Some text → text_of ((e ∷ es) ++ fs) n ≡ Some text
 front_step e es fs n text true is later h = rw is (rw is at h)
@@ -71,14 +80,14 @@ text_of-last (x ∷ es) e none = last_step x e es (x.number == e.number) refl (t
 
 keeps_by : (a : Archive) (bytes : List ℕ) (moment n : ℕ) (text : List ℕ) (d : Done) → Comes a bytes moment d → text_of a.entries n ≡ Some text → text_of d.archive.entries n ≡ Some text
 keeps_by a bytes moment n text d (Refused answer other) h = h
-keeps_by a bytes moment n text d (Accepted form is) h = text_of-front a.entries _ n text h
+keeps_by a bytes moment n text d (Accepted form kept is takes) h = text_of-front a.entries _ n text h
 
 pub keeps-numbers : KeepsNumbers
 keeps-numbers a bytes moment n text h = keeps_by a bytes moment n text (delivered a bytes moment) (comes a bytes moment) h
 
 numbered_by : (a : Archive) (bytes : List ℕ) (moment : ℕ) (d : Done) → Comes a bytes moment d → 1 ≤ a.next → IsNumbered a → (1 ≤ d.archive.next) × IsNumbered d.archive
 numbered_by a bytes moment d (Refused answer other) some h = (some, h)
-numbered_by a bytes moment d (Accepted form is) some h = (
+numbered_by a bytes moment d (Accepted form kept is takes) some h = (
   omega arith,
   λ n text found. elim (text_of-either a.entries _ n text found) [ inl before ↦ (let r = h n text before in (r.0, omega (arith, r.1))) | inr last ↦ (omega (arith, last), omega (arith, last)) ],
 )
@@ -86,15 +95,18 @@ numbered_by a bytes moment d (Accepted form is) some h = (
 pub stays-numbered : StaysNumbered
 stays-numbered a bytes moment some h = numbered_by a bytes moment (delivered a bytes moment) (comes a bytes moment) some h
 
-shows_by : (a : Archive) (bytes : List ℕ) (moment number : ℕ) (d : Done) → Comes a bytes moment d → IsNumbered a → d.answer ≡ named.Ok number → (text : List ℕ) × (stored bytes ≡ Ok text) × (text_of d.archive.entries number ≡ Some text)
-shows_by a bytes moment number d (Refused answer other) h e = absurd (other number e)
-shows_by a bytes moment number d (Accepted form is) h e =
+shows_by : (a : Archive) (bytes : List ℕ) (moment number : ℕ) (id : Id20) (d : Done) → Comes a bytes moment d → IsNumbered a → d.answer ≡ named.Ok number id
+    → (text : List ℕ) × (kept : List ℕ) × (stored bytes ≡ Ok text) × (choice_of a text ≡ Take kept) × (text_of d.archive.entries number ≡ Some kept)
+shows_by a bytes moment number id d (Refused answer other) h e = absurd (other number id e)
+shows_by a bytes moment number id d (Accepted form kept is takes) h e =
     let same : a.next ≡ number = cc in (
       form,
+      kept,
       is,
-      subst (λ n. text_of (a.entries ++ record { number = a.next; epoch = 0; text = form; moment = moment } ∷ []) n ≡ Some form) same
-          (text_of-last a.entries (record { number = a.next; epoch = 0; text = form; moment = moment }) (λ text found. omega (arith, (h a.next text found).1))),
+      takes,
+      subst (λ n. text_of (a.entries ++ record { number = a.next; epoch = new_epoch a; text = kept; moment = moment } ∷ []) n ≡ Some kept) same
+          (text_of-last a.entries (record { number = a.next; epoch = new_epoch a; text = kept; moment = moment }) (λ text found. omega (arith, (h a.next text found).1))),
     )
 
 pub shows-delivered : ShowsDelivered
-shows-delivered a bytes moment number h e = shows_by a bytes moment number (delivered a bytes moment) (comes a bytes moment) h e
+shows-delivered a bytes moment number id h e = shows_by a bytes moment number id (delivered a bytes moment) (comes a bytes moment) h e

@@ -1,0 +1,178 @@
+-- That one of more made ids than there are messages is free, and what trying them one by one comes to.
+use Rattle.std.proofs.Common.{◌⊎◌, inl, inr, ◌≡◌, ◌+◌, ◌-◌, ◌^◌, ◌≤◌, ◌<◌, ℕ, zero, suc, Bool, true, false, ◌||◌, List, [], ◌∷◌, ◌++◌, length, Option, Some, None, is_some, Result, Ok, Err, IfOk, refl, sym, ◌∙◌, ap, subst, arith, if◌then◌else◌}
+use Rattle.std.specs.Str.{bytes_eq}
+use Rattle.std.proofs.lemmas.Slice.Eq.{bytes_eq-Decides}
+use Rattle.arch_base.specs.Names.{IsName}
+use Rattle.arch_base.specs.declared.sequence.NoMemory.{NoMemory}
+use Rattle.mail_reader.specs.Ids.{own_id}
+use Rattle.mail_reader.specs.Content.{content_id_of}
+use Rattle.arch_model.specs.Archives.{Entry, Archive, owner, is_id}
+use Rattle.sha1.specs.Sha1.{sha1}
+use Rattle.hex.specs.Hex.{encode_lower}
+use Rattle.arch_base.specs.declared.ids.Id20.{Id20}
+use Rattle.git_objects.specs.Objects.{id_of}
+use Rattle.arch_model.specs.Candidates.{id_with, met, made_id, with_made, made_choice, decided}
+use Rattle.arch_model.specs.Memory.{IsFree, TakesFree}
+use Rattle.arch_model.specs.declared.choice.Meeting.{Meeting}
+use Rattle.arch_model.specs.declared.choice.Meeting.TheVariants.{Free, Same, Other}
+use Rattle.arch_model.specs.declared.choice.Choice.{Choice}
+use Rattle.arch_model.specs.declared.choice.Choice.TheVariants.{Take, Repeat}
+use Rattle.arch_model.proofs.MadeIds.{made-own, made-once}
+
+abbrev one_if : Bool → ℕ
+one_if true = 1
+one_if false = 0
+
+-- how many numbers below a bound pass
+abbrev count : (ℕ → Bool) → ℕ → ℕ
+count p zero = 0
+count p (suc m) = one_if (p m) + count p m
+
+count-none : (p : ℕ → Bool) (m : ℕ) → ((j : ℕ) → j < m → p j ≡ false) → count p m ≡ 0
+count-none p zero h = refl
+count-none p (suc m) h = let rest = count-none p m (λ j l. h j (omega arith)) in let here : one_if (p m) ≡ 0 = ap one_if (h m (omega arith)) in omega (arith, here, rest)
+
+count-all : (p : ℕ → Bool) (m : ℕ) → ((j : ℕ) → j < m → p j ≡ true) → count p m ≡ m
+count-all p zero h = refl
+count-all p (suc m) h = let rest = count-all p m (λ j l. h j (omega arith)) in let here : one_if (p m) ≡ 1 = ap one_if (h m (omega arith)) in omega (arith, here, rest)
+
+not_true : (t : Bool) → (t ≡ true → ⊥) → t ≡ false
+not_true true h = absurd (h refl)
+not_true false h = refl
+
+one_step : (t : Bool) (n : ℕ) → (t ≡ true → n ≡ 0) → (t ≡ false → n ≤ 1) → one_if t + n ≤ 1
+one_step true n none rest = omega (arith, none refl)
+one_step false n none rest = omega (arith, rest refl)
+
+count-one : (p : ℕ → Bool) (m : ℕ) → ((j k : ℕ) → j < m → k < m → p j ≡ true → p k ≡ true → j ≡ k) → count p m ≤ 1
+count-one p zero h = omega arith
+count-one p (suc m) h =
+    one_step (p m) (count p m)
+    (λ here. count-none p m (λ j l. not_true (p j) (λ there. let same : j ≡ m = h j m (omega arith) (omega arith) there here in omega (arith, same, l))))
+    (λ _. count-one p m (λ j k a b. h j k (omega arith) (omega arith)))
+
+or_step : (r p q : Bool) (a b c : ℕ) → r ≡ (p || q) → a ≤ b + c → one_if r + a ≤ (one_if p + b) + (one_if q + c)
+or_step true true q a b c is h = omega (arith, h)
+or_step true false true a b c is h = omega (arith, h)
+or_step true false false a b c is h = absurd (cc)
+or_step false p q a b c is h = omega (arith, h)
+
+count-or : (r p q : ℕ → Bool) (m : ℕ) → ((j : ℕ) → r j ≡ (p j || q j)) → count r m ≤ count p m + count q m
+count-or r p q zero h = omega arith
+count-or r p q (suc m) h = or_step (r m) (p m) (q m) (count r m) (count p m) (count q m) (h m) (count-or r p q m h)
+
+same_own : (own : Option (List ℕ)) (a b : List ℕ) → is_id a own ≡ true → is_id b own ≡ true → a ≡ b
+same_own None a b h k = absurd (cc)
+same_own (Some id) a b h k = (bytes_eq-Decides a id).0 h ∙ sym ((bytes_eq-Decides b id).0 k)
+
+some_or : (t : Bool) (e : Entry) (found : Option Entry) → is_some (if t then Some e else found) ≡ (t || is_some found)
+some_or true e found = refl
+some_or false e found = refl
+
+-- of different ids no more are owned than there are entries
+owned-count : (es : List Entry) (ids : ℕ → List ℕ) (m : ℕ) → ((j k : ℕ) → j < m → k < m → ids j ≡ ids k → j ≡ k) → count (λ k. is_some (owner es (ids k))) m ≤ length es
+owned-count [] ids m apart = omega (arith, count-none (λ k. false) m (λ j l. refl))
+owned-count (e ∷ es) ids m apart =
+    let both = count-or (λ k. is_some (owner (e ∷ es) (ids k))) (λ k. is_id (ids k) (own_id e.text)) (λ k. is_some (owner es (ids k))) m (λ j. some_or (is_id (ids j) (own_id e.text)) e (owner es (ids j))) in
+    let one = count-one (λ k. is_id (ids k) (own_id e.text)) m (λ j k a b h g. apart j k a b (same_own (own_id e.text) (ids j) (ids k) h g)) in
+    omega (arith, both, one, owned-count es ids m apart)
+
+none_of : (o : Option Entry) → (is_some o ≡ true → ⊥) → o ≡ None
+none_of None h = refl
+none_of (Some e) h = absurd (h refl)
+
+pub below_or_at : (j n : ℕ) (P : ℕ → Type 0) → ((i : ℕ) → i < n → P i) → P n → j < suc n → P j
+below_or_at j n P low here l = elim (order_of j n (omega arith)) [ inl less ↦ low j less | inr same ↦ subst P (sym same) here ]
+  where
+    order_of : (j n : ℕ) → j ≤ n → (j < n) ⊎ (j ≡ n)
+    order_of zero zero h = inr refl
+    order_of zero (suc n) h = inl (omega arith)
+    order_of (suc j) zero h = absurd (omega arith)
+    order_of (suc j) (suc n) h = elim (order_of j n (omega arith)) [ inl less ↦ inl (omega arith) | inr same ↦ inr (ap suc same) ]
+
+-- where as many different ids as there are entries are owned, one more is free
+pub free-last : (es : List Entry) (ids : ℕ → List ℕ) → ((j k : ℕ) → j < suc (length es) → k < suc (length es) → ids j ≡ ids k → j ≡ k) → ((j : ℕ) → j < length es → is_some (owner es (ids j)) ≡ true) → owner es (ids (length es)) ≡ None
+free-last es ids apart owned = none_of (owner es (ids (length es))) (λ here.
+    let all = count-all (λ k. is_some (owner es (ids k))) (suc (length es)) (λ j l. below_or_at j (length es) (λ i. is_some (owner es (ids i)) ≡ true) owned here l) in
+    omega (arith, all, owned-count es ids (suc (length es)) apart))
+
+met_step : (t : Bool) (n : ℕ) → (if t then Same n else Other) ≡ Free → ⊥
+met_step true n h = absurd (cc)
+met_step false n h = absurd (cc)
+
+pub met-free : (o : Option Entry) (content : List ℕ) → met o content ≡ Free → o ≡ None
+met-free None content h = refl
+met-free (Some e) content h = absurd (met_step (bytes_eq (content_id_of e.text) content) e.number h)
+
+pub met-other : (o : Option Entry) (content : List ℕ) → met o content ≡ Other → is_some o ≡ true
+met-other None content h = absurd (cc)
+met-other (Some e) content h = refl
+
+pub ok-map : (r : Result Choice NoMemory) (P Q : Choice → Type 0) → IfOk r P → ((c : Choice) → P c → Q c) → IfOk r Q
+ok-map (Ok c) P Q h f = f c h
+ok-map (Err e) P Q h f = h
+
+module _ (a : Archive) (text : List ℕ) where
+  -- how the made id of a count meets the messages
+  abbrev pub meets : ℕ → Meeting
+  meets i = met (owner a.entries (made_id a.config.name text i)) (content_id_of text)
+
+  abbrev pub all_made : Choice
+  all_made = made_choice a.entries a.config.name text 0 (length a.entries)
+
+  -- the made ids before this count are passed over
+  abbrev pub Passed : ℕ → Type 0
+  Passed i = ((j : ℕ) → j < i → meets j ≡ Other) × (all_made ≡ made_choice a.entries a.config.name text i (length a.entries - i))
+
+  pub passed-none : Passed 0
+  passed-none =
+      let all : length a.entries ≡ length a.entries - 0 = omega arith in
+      (λ j l. absurd (omega arith), ap (λ (n : ℕ). made_choice a.entries a.config.name text 0 n) all)
+
+  one_tried : (i : ℕ) → i < length a.entries → made_choice a.entries a.config.name text i (length a.entries - i) ≡ decided (meets i) (with_made a.config.name text i) (made_choice a.entries a.config.name text (i + 1) (length a.entries - (i + 1)))
+  one_tried i l =
+      let more : length a.entries - i ≡ suc (length a.entries - (i + 1)) = omega arith in
+      ap (λ (n : ℕ). made_choice a.entries a.config.name text i n) more
+
+  pub passed-more : (i : ℕ) → i < length a.entries → Passed i → meets i ≡ Other → Passed (i + 1)
+  passed-more i l passed other = (
+    λ j lt. below_or_at j i (λ k. meets k ≡ Other) passed.0 other (omega arith),
+    passed.1 ∙ one_tried i l ∙ ap (λ (m : Meeting). decided m (with_made a.config.name text i) (made_choice a.entries a.config.name text (i + 1) (length a.entries - (i + 1)))) other,
+  )
+
+  pub passed-same : (i n : ℕ) → i < length a.entries → Passed i → meets i ≡ Same n → Repeat n ≡ all_made
+  passed-same i n l passed same = sym (passed.1 ∙ one_tried i l ∙ ap (λ (m : Meeting). decided m (with_made a.config.name text i) (made_choice a.entries a.config.name text (i + 1) (length a.entries - (i + 1)))) same)
+
+  pub passed-free : (i : ℕ) → i < length a.entries → Passed i → meets i ≡ Free → Take (with_made a.config.name text i) ≡ all_made
+  passed-free i l passed free = sym (passed.1 ∙ one_tried i l ∙ ap (λ (m : Meeting). decided m (with_made a.config.name text i) (made_choice a.entries a.config.name text (i + 1) (length a.entries - (i + 1)))) free)
+
+  pub passed-all : (i : ℕ) → i ≡ length a.entries → Passed i → Take (with_made a.config.name text i) ≡ all_made
+  passed-all i at passed = let none : length a.entries - i ≡ 0 = omega (arith, at) in sym (passed.1 ∙ ap (λ (n : ℕ). made_choice a.entries a.config.name text i n) none)
+
+  -- a text with a free made id in front is free
+  pub made-free : (i : ℕ) → IsName a.config.name → i < 2 ^ 64 → owner a.entries (made_id a.config.name text i) ≡ None → IsFree a.entries (with_made a.config.name text i)
+  made-free i name small none = (made_id a.config.name text i, made-own a.config.name text i name small, none)
+
+  pub last-free : (i : ℕ) → i ≡ length a.entries → i < 2 ^ 63 → Passed i → owner a.entries (made_id a.config.name text i) ≡ None
+  last-free i at small passed =
+      subst (λ (n : ℕ). owner a.entries (made_id a.config.name text n) ≡ None) (sym at)
+      (free-last a.entries (made_id a.config.name text) (λ j k b d e. made-once a.config.name text j k (omega (arith, b, at, small)) (omega (arith, d, at, small)) e)
+      (λ j l. met-other (owner a.entries (made_id a.config.name text j)) (content_id_of text) (passed.0 j (omega (arith, l, at)))))
+
+  -- what a made text gives is the choice, and free
+  abbrev pub Chosen : Result Choice NoMemory → Type 0
+  Chosen r = IfOk r (λ c. c ≡ all_made) × IfOk r (λ c. TakesFree a.entries c)
+
+  pub chosen : (i : ℕ) (r : Result Choice NoMemory) → IsName a.config.name → i < 2 ^ 63 → IfOk r (λ c. c ≡ Take (with_made a.config.name text i)) → Take (with_made a.config.name text i) ≡ all_made → owner a.entries (made_id a.config.name text i) ≡ None → Chosen r
+  chosen i r name small made is none = (
+    ok-map r (λ c. c ≡ Take (with_made a.config.name text i)) (λ c. c ≡ all_made) made (λ c e. e ∙ is),
+    ok-map r (λ c. c ≡ Take (with_made a.config.name text i)) (λ c. TakesFree a.entries c) made (λ c e. subst (TakesFree a.entries) (sym e) (made-free i name (omega (arith, small)) none)),
+  )
+
+-- a piece of digits, a count and a name is the made id
+pub same_made : (id digits name text own_name : List ℕ) (i : ℕ) (object : Id20) → id ≡ id_with digits i name → digits ≡ encode_lower object.0 → object ≡ id_of text → name ≡ own_name → id ≡ made_id own_name text i
+same_made id digits name text own_name i object is digits_is object_is name_is =
+    is ∙ ap (λ (d : List ℕ). id_with d i name) (digits_is ∙ ap (λ (o : Id20). encode_lower o.0) object_is) ∙ ap (λ (n : List ℕ). id_with (encode_lower (sha1 text)) i n) name_is
+
+pub same_meeting : (a : Archive) (text id content : List ℕ) (i : ℕ) (m : Meeting) → m ≡ met (owner a.entries id) content → id ≡ made_id a.config.name text i → content ≡ content_id_of text → meets a text i ≡ m
+same_meeting a text id content i m is id_is content_is = sym (is ∙ ap (λ (q : List ℕ). met (owner a.entries q) content) id_is ∙ ap (met (owner a.entries (made_id a.config.name text i))) content_is)

@@ -1,0 +1,26 @@
+-- The commit that keeps a text (git, "Git Objects").
+use Rattle.std.specs.Prelude.{ℕ, pos, List, Option, Some, None}
+use Rattle.arch_base.specs.declared.ids.Id20.{Id20}
+use Rattle.git_objects.specs.declared.commits.Commit.{Commit}
+use Rattle.git_objects.specs.CleanText.{clean}
+use Rattle.mail_date.specs.declared.moment.Moment.{Moment}
+use Rattle.arch_model.specs.Facts.{from_fact, email_fact, subject_fact, date_fact}
+
+-- when the author wrote: the moment of the text's Date, or the one at which it was taken, in UTC
+abbrev pub written_at : Option Moment → ℕ → Moment
+written_at None moment = record { secs = moment; zone = pos 0 }
+written_at (Some written) moment = written
+
+-- The commit that keeps a text: its author is who the text is from, its subject the text's made clean, and it was committed
+-- at the moment at which the text was taken.
+unfoldable pub commit_of : List ℕ → Id20 → Option Id20 → ℕ → Commit
+commit_of text tree parent moment = record {
+  tree = tree;
+  parent = parent;
+  author = from_fact text;
+  email = email_fact text;
+  secs = (written_at (date_fact text) moment).secs;
+  zone = (written_at (date_fact text) moment).zone;
+  committed = moment;
+  subject = clean (subject_fact text);
+}

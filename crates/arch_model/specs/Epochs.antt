@@ -1,0 +1,49 @@
+-- The bytes of an epoch: the objects of its entries, spelled one behind another (git, "Git Objects").
+use Rattle.std.specs.Prelude.{◌≡◌, ℕ, List, [], ◌∷◌, ◌++◌, codes, Option, Some, None}
+use Rattle.arch_base.specs.declared.ids.Id20.{Id20}
+use Rattle.git_objects.specs.Objects.{blob_spelling, tree_spelling, blob_id_of, id_of}
+use Rattle.git_objects.specs.Commits.{commit_spelling}
+use Rattle.arch_model.specs.Archives.{Entry}
+use Rattle.arch_model.specs.Commits.{commit_of}
+
+-- the tree of a text: its one file `m` has the text
+abbrev pub tree_of : List ℕ → List ℕ
+tree_of text = tree_spelling 109 (blob_id_of text)
+
+-- the spelling of the commit that keeps a text taken at a moment, behind a parent or none
+unfoldable pub commit_text : List ℕ → ℕ → Option Id20 → List ℕ
+commit_text text moment parent = commit_spelling (commit_of text (id_of (tree_of text)) parent moment)
+
+-- the id of that commit
+unfoldable pub commit_id : List ℕ → ℕ → Option Id20 → Id20
+commit_id text moment parent = id_of (commit_text text moment parent)
+
+-- the bytes of an entry: its blob, its tree and its commit
+unfoldable pub entry_bytes : List ℕ → ℕ → Option Id20 → List ℕ
+entry_bytes text moment parent = blob_spelling text ++ (tree_of text ++ commit_text text moment parent)
+
+-- the bytes of entries, each commit's parent being the commit before it
+abbrev pub entries_bytes : Option Id20 → List Entry → List ℕ
+entries_bytes parent [] = []
+entries_bytes parent (entry ∷ entries) =
+    entry_bytes entry.text entry.moment parent ++ entries_bytes (Some (commit_id entry.text entry.moment parent)) entries
+
+-- the id of the last commit of entries, or the parent where there are none
+abbrev pub last_commit : Option Id20 → List Entry → Option Id20
+last_commit parent [] = parent
+last_commit parent (entry ∷ entries) = last_commit (Some (commit_id entry.text entry.moment parent)) entries
+
+-- the bytes that an epoch begins with
+abbrev pub magic : List ℕ
+magic = codes "PIV2EP1\n"
+
+-- The bytes of an epoch: none where it has no entry, and else the magic and the bytes of its entries, the first without a parent.
+abbrev pub epoch_bytes : List Entry → List ℕ
+epoch_bytes [] = []
+epoch_bytes (entry ∷ entries) = magic ++ entries_bytes None (entry ∷ entries)
+
+-- One entry more in an epoch leaves its bytes as they are, and puts the entry's behind them; its commit's parent is the last commit.
+abbrev pub EpochGrows : Type 0
+EpochGrows =
+    (first : Entry) (entries : List Entry) (entry : Entry)
+    → epoch_bytes ((first ∷ entries) ++ entry ∷ []) ≡ epoch_bytes (first ∷ entries) ++ entry_bytes entry.text entry.moment (last_commit None (first ∷ entries))

@@ -1,0 +1,132 @@
+//! The commit that keeps a text, and the objects of an entry.
+ghost use Rattle.std.specs.Prelude.{◌≡◌, ◌++◌, ◌∷◌, [], length, take, decimal, codes, IfOk, OnOk, OnErr, is_ok, if◌then◌else◌};
+ghost use Rattle.git_objects.specs.CleanText.{IsClean};
+ghost use Rattle.git_objects.specs.Commits.{IsZone};
+ghost use Rattle.git_objects.specs.Objects.{id_of, blob_id_of};
+ghost use Rattle.arch_model.specs.Commits.{commit_of};
+ghost use Rattle.arch_model.specs.Epochs.{EpochGrows, commit_text as commit_text_of, commit_id, entry_bytes, tree_of};
+
+use crate::facts::{author, subject, written_at};
+use arch_base::{Bytes, NoMemory, ObjectId};
+use git_objects::{Commit, blob_id, commit_bytes, object_id, tree_bytes};
+use itoa::Buffer;
+use std::alloc::Global;
+
+/// The commit that keeps a text: `tree` is the id of the tree that has the text, `parent` that of the commit before it, and
+/// `moment` the second since 1970 at which the text was taken. What it gives can be spelled by `commit_bytes`. NoMemory
+/// comes only for want of memory.
+pub fn entry_commit(
+    alloc: Global,
+    text: &[u8],
+    tree: &ObjectId,
+    parent: Option<ObjectId>,
+    moment: u64,
+) -> Result<Commit, NoMemory>
+    ensures value { IfOk result (λ made. made ≡ commit_of text.now tree.now parent moment) }
+    ensures author { IfOk result (λ made. IsClean made.author) }
+    ensures email { IfOk result (λ made. IsClean made.email) }
+    ensures subject { IfOk result (λ made. IsClean made.subject) }
+    ensures zone { IfOk result (λ made. IsZone made.zone) }
+{
+    let author = author(alloc, text)?;
+    let subject = subject(alloc, text)?;
+    let written = written_at(text, moment);
+    Ok(Commit {
+        tree: *tree,
+        parent,
+        author: author.name,
+        email: author.email,
+        secs: written.secs,
+        zone: written.zone,
+        committed: moment,
+        subject,
+    })
+}
+
+/// Puts the objects of an entry at the end of an epoch's bytes: the blob of a text, its tree, and the commit that keeps it
+/// behind `parent`, taken at `moment` in seconds since 1970. The answer is the id of that commit. NoMemory comes only for
+/// want of memory, and then the bytes are as before.
+pub fn push_entry(
+    alloc: Global,
+    text: &[u8],
+    moment: u64,
+    parent: Option<ObjectId>,
+    into: &mut Bytes,
+) -> Result<ObjectId, NoMemory>
+    ensures id { IfOk result (λ id. id ≡ commit_id text.now moment parent) }
+    ensures ok { OnOk result (into.new ≡ into.old ++ entry_bytes text.now moment parent) }
+    ensures err { OnErr result (into.new ≡ into.old) }
+{
+    let head = blob_head(alloc, text.len())?;
+    let tree = tree_bytes(b'm', &blob_id(text));
+    let commit = commit_text(alloc, text, &tree, parent, moment)?;
+    push_all(into, head.as_slice(), text, &tree, commit.as_slice())?;
+    Ok(object_id(commit.as_slice()))
+}
+
+/// The spelling of the commit that keeps a text with the tree of this spelling.
+fn commit_text(
+    alloc: Global,
+    text: &[u8],
+    tree: &[u8],
+    parent: Option<ObjectId>,
+    moment: u64,
+) -> Result<Bytes, NoMemory>
+    requires { tree.now ≡ tree_of text.now }
+    ensures { IfOk result (λ made. made ≡ commit_text_of text.now moment parent) }
+{
+    let commit = entry_commit(alloc, text, &object_id(tree), parent, moment)?;
+    commit_bytes(alloc, &commit)
+}
+
+/// What stands before the content of a blob of a size.
+fn blob_head(alloc: Global, len: usize) -> Result<Bytes, NoMemory>
+    ensures { IfOk result (λ made. made ≡ codes "blob " ++ (decimal len ++ 0 ∷ [])) }
+{
+    let mut size = Buffer::new();
+    let mut head = Bytes::new(alloc);
+    head.push_slice(b"blob ")?;
+    head.push_slice(size.format(len).as_bytes())?;
+    head.push(0)?;
+    Ok(head)
+}
+
+/// Puts four pieces at the end, or changes nothing.
+fn push_all(
+    into: &mut Bytes,
+    head: &[u8],
+    text: &[u8],
+    tree: &[u8],
+    commit: &[u8],
+) -> Result<(), NoMemory>
+    ensures { into.new ≡ (if is_ok result then into.old ++ (head.now ++ (text.now ++ (tree.now ++ commit.now))) else into.old) }
+{
+    let len = into.as_slice().len();
+    let pushed = push_each(into, head, text, tree, commit);
+    if pushed.is_err() {
+        into.truncate(len);
+    }
+    pushed
+}
+
+/// Puts four pieces at the end, or some of them.
+fn push_each(
+    into: &mut Bytes,
+    head: &[u8],
+    text: &[u8],
+    tree: &[u8],
+    commit: &[u8],
+) -> Result<(), NoMemory>
+    ensures ok { OnOk result (into.new ≡ into.old ++ (head.now ++ (text.now ++ (tree.now ++ commit.now)))) }
+    ensures err { take (length into.old) into.new ≡ into.old }
+{
+    into.push_slice(head)?;
+    into.push_slice(text)?;
+    into.push_slice(tree)?;
+    into.push_slice(commit)
+}
+
+/// One entry more in an epoch leaves its bytes as they are and puts the entry's behind them.
+pub fn epoch_grows()
+    ensures { EpochGrows }
+{}

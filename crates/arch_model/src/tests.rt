@@ -1,0 +1,134 @@
+//! Deliveries, answer by answer, against texts and ids that were worked out by hand and by git.
+ghost use Rattle.std.specs.Prelude.{◌≤◌, IfSome};
+ghost use Rattle.arch_base.specs.Configs.{IsConfig};
+
+use crate::{Answer, MemArchive};
+use arch_base::{Bytes, Config, Name, id_of_hex};
+use std::alloc::Global;
+
+const FIRST: &[u8] =
+    b"From: Ann <ann@example.org>\nDate: Thu, 1 Feb 2024 10:00:00 +0000\nSubject: first\nMessage-ID: <a@x>\n\none\n";
+
+/// The same mail with another id, and with another body.
+const RENAMED: &[u8] =
+    b"From: Ann <ann@example.org>\nDate: Thu, 1 Feb 2024 10:00:00 +0000\nSubject: first\nMessage-ID: <b@x>\n\none\n";
+
+const OTHER: &[u8] =
+    b"From: Ann <ann@example.org>\nDate: Thu, 1 Feb 2024 10:00:00 +0000\nSubject: first\nMessage-ID: <a@x>\n\ntwo\n";
+
+const MOMENT: u64 = 1_706_781_700;
+
+/// Settings of an archive of the name `list`.
+fn settings(limit: u64, max: u32, mirror: bool) -> Option<Config>
+    requires low { 1 ≤ limit }
+    requires high { limit ≤ 1099511627776 }
+    requires some { 1 ≤ max }
+    requires few { max ≤ 2147483647 }
+    ensures { IfSome result IsConfig }
+{
+    let name = Name::read(b"list")?;
+    Some(Config {
+        name,
+        limit,
+        slice: 50000,
+        max,
+        mirror,
+        born: 1,
+    })
+}
+
+/// The answer that a delivery of this blob id under this number gets.
+fn accepted(number: u32, hex: &[u8]) -> Option<Answer> {
+    let id = id_of_hex(hex)?;
+    Some(Answer::Ok { number, id })
+}
+
+/// The length of an epoch's bytes.
+fn epoch_len(alloc: Global, archive: &MemArchive, epoch: u32) -> Option<usize> {
+    let mut bytes = Bytes::new(alloc);
+    let found = archive.push_epoch(epoch, &mut bytes).ok()?;
+    if found {
+        Some(bytes.as_slice().len())
+    } else {
+        None
+    }
+}
+
+#[test]
+fn a_taken_id_gives_way_to_a_made_one(rt: HostRuntime) {
+    let Some(settings) = settings(1000, 10, false) else {
+        return assert!(rt; false);
+    };
+    let mut archive = MemArchive::new(rt.alloc(), settings);
+    let first = archive.deliver(FIRST, MOMENT);
+    assert!(rt; Some(first) == accepted(1, b"1d023c572ccd6f3cc82ae855343346b043adaba5"));
+    assert!(rt; archive.deliver(FIRST, MOMENT) == Answer::Duplicate(1));
+    let other = archive.deliver(OTHER, MOMENT);
+    assert!(rt; Some(other) == accepted(2, b"39f92e6e43521b9650c2c71e47523846b2ecc47a"));
+    assert!(rt; archive.deliver(OTHER, MOMENT) == Answer::Duplicate(2));
+}
+
+#[test]
+fn a_taken_made_id_gives_way_to_the_next(rt: HostRuntime) {
+    let Some(settings) = settings(1000, 10, false) else {
+        return assert!(rt; false);
+    };
+    let mut archive = MemArchive::new(rt.alloc(), settings);
+    let taken = archive.deliver(
+        b"Subject: v\nMessage-ID: <a8f4aef97c4217e79c7ac7c8d9fa4cba3317bffd.0@list.invalid>\n\nx\n",
+        MOMENT,
+    );
+    assert!(rt; Some(taken) == accepted(1, b"2fd7988ae8d54e85a7b575f5ccd453aec2207364"));
+    let made = archive.deliver(b"Subject: u\n\nx\n", MOMENT);
+    assert!(rt; Some(made) == accepted(2, b"e30b50cddbd8790b5f73f4eb6fe526a4c7f12274"));
+    let text =
+        b"Message-ID: <a8f4aef97c4217e79c7ac7c8d9fa4cba3317bffd.1@list.invalid>\nSubject: u\n\nx\n";
+    assert!(rt; archive.text(2) == Some(text.as_slice()));
+}
+
+#[test]
+fn refusals_come_in_their_order(rt: HostRuntime) {
+    let Some(settings) = settings(1000, 1, false) else {
+        return assert!(rt; false);
+    };
+    let mut archive = MemArchive::new(rt.alloc(), settings);
+    let _ = archive.deliver(FIRST, MOMENT);
+    assert!(rt; archive.deliver(b"", MOMENT) == Answer::NoFields);
+    assert!(rt; archive.deliver(FIRST, MOMENT) == Answer::Duplicate(1));
+    assert!(rt; archive.deliver(RENAMED, MOMENT) == Answer::Full(1));
+    assert!(rt; archive.text(1) == Some(FIRST) && archive.text(2).is_none());
+}
+
+#[test]
+fn a_mirror_takes_no_delivery(rt: HostRuntime) {
+    let Some(settings) = settings(1000, 1, true) else {
+        return assert!(rt; false);
+    };
+    let mut archive = MemArchive::new(rt.alloc(), settings);
+    assert!(rt; archive.deliver(FIRST, MOMENT) == Answer::IsMirror);
+}
+
+#[test]
+fn an_epoch_of_the_limit_takes_no_more(rt: HostRuntime) {
+    let Some(settings) = settings(316, 10, false) else {
+        return assert!(rt; false);
+    };
+    let mut archive = MemArchive::new(rt.alloc(), settings);
+    let _ = archive.deliver(FIRST, MOMENT);
+    let _ = archive.deliver(RENAMED, MOMENT);
+    assert!(rt; epoch_len(rt.alloc(), &archive, 0) == Some(316));
+    assert!(rt; epoch_len(rt.alloc(), &archive, 1) == Some(316));
+    assert!(rt; epoch_len(rt.alloc(), &archive, 2).is_none());
+}
+
+#[test]
+fn an_epoch_below_the_limit_takes_one_more(rt: HostRuntime) {
+    let Some(settings) = settings(317, 10, false) else {
+        return assert!(rt; false);
+    };
+    let mut archive = MemArchive::new(rt.alloc(), settings);
+    let _ = archive.deliver(FIRST, MOMENT);
+    let _ = archive.deliver(RENAMED, MOMENT);
+    assert!(rt; epoch_len(rt.alloc(), &archive, 0) == Some(672));
+    assert!(rt; epoch_len(rt.alloc(), &archive, 1).is_none());
+}
