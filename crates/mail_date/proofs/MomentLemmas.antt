@@ -119,6 +119,7 @@ spelled_where None text moment h e = absurd (none-some _ e)
 spelled_where (Some m) text moment h e = rw (same_Some _ _ e) at h
 
 pub moment_spelled : MomentIsSpelled
-moment_spelled text moment =
-    (spelled_where (moment_in text) text moment (moment_in-is text),
-    λ h. sym (answer_in (Some moment) text h tt))
+moment_spelled text moment = (
+  spelled_where (moment_in text) text moment (moment_in-is text),
+  λ h. sym (answer_in (Some moment) text h tt),
+)

@@ -10,7 +10,9 @@ mod reading;
 mod tests;
 mod words;
 
-pub use laws::{moment_is_spelled, printed_date_is_one, spelled_moment_is_one, written_date_is_spelled};
+pub use laws::{
+    moment_is_spelled, printed_date_is_one, spelled_moment_is_one, written_date_is_spelled,
+};
 pub use moment::{CivilDate, Moment};
 pub use pieces::Clock;
 pub use printing::{print_imap, print_page, print_rfc3339};
