@@ -5,7 +5,7 @@ use Rattle.line_door.specs.Plain.{silent}
 use Rattle.line_door.specs.Cuts.{CutDoor, said_with}
 use Rattle.line_door.proofs.Cutting.{door_laws}
 use Rattle.arch_model.specs.Archives.{Archive}
-use Rattle.control_door.specs.Requests.{Request, Delivers, Shows, Quits, Mistakes, Exceeds, Ahead, Asked, Unfinished, ahead, is_asked, is_request}
+use Rattle.control_door.specs.Requests.{Request, Delivers, Shows, Lists, Quits, Mistakes, Exceeds, Ahead, Asked, Unfinished, ahead, is_asked, is_request}
 use Rattle.control_door.specs.Door.{said, said_at, said_to, answered, unkept, with_piece}
 use Rattle.control_door.specs.Laws.{ControlLaws}
 use Rattle.control_door.proofs.Aheads.{Goes, Same, Over, Open, ahead-goes, ahead-shorter, unfinished}
@@ -22,6 +22,9 @@ request_behind moment a q rest (Delivers message) Disk = refl
 request_behind moment a q rest (Shows number) Plain = refl
 request_behind moment a q rest (Shows number) Memory = refl
 request_behind moment a q rest (Shows number) Disk = refl
+request_behind moment a q rest Lists Plain = refl
+request_behind moment a q rest Lists Memory = refl
+request_behind moment a q rest Lists Disk = refl
 request_behind moment a q rest Quits Plain = refl
 request_behind moment a q rest Quits Memory = refl
 request_behind moment a q rest Quits Disk = refl
@@ -55,6 +58,7 @@ kept moment a bytes Disk x h = rw h (inr refl)
 left_open : (moment : ℕ) (a : Archive) (request : Request) (rest k : List ℕ) → (answered moment a request rest).next ≡ Some k → (rest ≡ k) × (request ≡ Exceeds → ⊥)
 left_open moment a (Delivers message) rest k h = (cc, λ e. cc)
 left_open moment a (Shows number) rest k h = (cc, λ e. cc)
+left_open moment a Lists rest k h = (cc, λ e. cc)
 left_open moment a Quits rest k h = absurd (cc h)
 left_open moment a Mistakes rest k h = (cc, λ e. cc)
 left_open moment a Exceeds rest k h = absurd (cc h)

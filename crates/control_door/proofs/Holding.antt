@@ -15,14 +15,14 @@ use Rattle.arch_model.specs.Delivery.{Done, Delivers, delivered, answer_line}
 use Rattle.arch_model.specs.declared.answer.Answer.{Answer}
 use Rattle.arch_model.specs.declared.answer.Answer.TheVariants as named
 use Rattle.control_door.specs.declared.order.Order.{Order}
-use Rattle.control_door.specs.declared.order.Order.TheVariants.{Deliver, TooMuch, Show, Quit, Bad}
+use Rattle.control_door.specs.declared.order.Order.TheVariants.{Deliver, TooMuch, Show, Epochs, Quit, Bad}
 use Rattle.control_door.specs.declared.session.Payload.{Payload}
 use Rattle.control_door.specs.declared.session.Turn.{Turn}
 use Rattle.control_door.specs.declared.session.Turn.TheVariants.{Went, Kept, Closed}
 use Rattle.control_door.specs.Orders.{order_of}
 use Rattle.control_door.specs.Requests as requests
-use Rattle.control_door.specs.Requests.{Request, Shows, Quits, Mistakes, Exceeds, Ahead, Asked, Unfinished, asked_by, ahead, is_asked, is_request, line_limit}
-use Rattle.control_door.specs.Door.{said, said_to, said_at, answered, goes_on, closes, unkept, delivers, memory_word, bad_word, shown, reply_line}
+use Rattle.control_door.specs.Requests.{Request, Shows, Lists, Quits, Mistakes, Exceeds, Ahead, Asked, Unfinished, asked_by, ahead, is_asked, is_request, line_limit}
+use Rattle.control_door.specs.Door.{said, said_to, said_at, answered, goes_on, closes, unkept, delivers, memory_word, bad_word, shown, epochs_words, reply_line}
 use Rattle.control_door.specs.Sessions.{IsHeld, IsPayload, IsTurn}
 use Rattle.control_door.proofs.Aheads.{asked_by-whole, asked_by-part}
 
@@ -85,10 +85,25 @@ turn-went moment a old piece request n i b new j true is some within none acts =
 )
 turn-went moment a old piece request n i b new j false is some within none acts = acts-asked moment a (old ++ piece) request (drop n piece) i None b j is acts
 
+-- a line that needs nothing behind it was answered
+pub turn-line : (moment : ℕ) (a : Archive) (old piece : List ℕ) (len : ℕ) (order : Order) (request : Request) (i : Outside) (new : List ℕ) (j : Outside) (ok : Bool) → len < length piece → line.front line_limit (old ++ piece) ≡ line.Whole (old ++ take len piece) (drop (len + 1) piece)
+    → order_of (line.content (old ++ take len piece)) ≡ order → asked_by order (drop (len + 1) piece) ≡ Asked request (drop (len + 1) piece) → new ≡ [] → Acts (said_to moment a request (drop (len + 1) piece)) i (held_if ok (drop (len + 1) piece)) a j
+    → IsTurn moment a old piece i (if ok then Went (len + 1) else Closed) a new j
+turn-line moment a old piece len order request i new j ok within f o by none acts =
+    turn-went moment a old piece request (len + 1) i a new j ok (ahead-line (old ++ piece) (old ++ take len piece) (drop (len + 1) piece) order f o ∙ by) (omega arith) (omega (arith, within)) none acts
+
 -- a number is shown
 pub acts-shown : (moment : ℕ) (a : Archive) (number : ℕ) (rest : List ℕ) (i j : Outside) (ok : Bool) → i.disk ≤ j.disk → Says (shown number (text_of a.entries number)) i.out i.lost j.out j.lost ok → Acts (said_to moment a (Shows number) rest) i (held_if ok rest) a j
 acts-shown moment a number rest i j ok later words =
     acts-by_held (said_to moment a (Shows number) rest) Plain (goes_on rest (shown number (text_of a.entries number)) a) i j rest a ok refl refl (λ d. absurd (cc d)) later words refl
+
+-- the epochs are listed
+pub acts-listed : (moment : ℕ) (a : Archive) (rest : List ℕ) (i j : Outside) (ok : Bool) → i.disk ≤ j.disk → Says (epochs_words a.entries) i.out i.lost j.out j.lost ok → Acts (said_to moment a Lists rest) i (held_if ok rest) a j
+acts-listed moment a rest i j ok later words = acts-by_held (said_to moment a Lists rest) Plain (goes_on rest (epochs_words a.entries) a) i j rest a ok refl refl (λ d. absurd (cc d)) later words refl
+
+-- or there is no memory for the list
+pub acts-unlisted : (moment : ℕ) (a : Archive) (rest : List ℕ) (i j : Outside) (ok : Bool) → i.disk ≤ j.disk → Says memory_word i.out i.lost j.out j.lost ok → Acts (said_to moment a Lists rest) i (held_if ok rest) a j
+acts-unlisted moment a rest i j ok later words = acts-by_held (said_to moment a Lists rest) Memory (goes_on rest memory_word a) i j rest a ok refl refl (λ d. absurd (cc d)) later words refl
 
 -- a line is no order
 pub acts-mistaken : (moment : ℕ) (a : Archive) (rest : List ℕ) (i j : Outside) (ok : Bool) → i.disk ≤ j.disk → Says bad_word i.out i.lost j.out j.lost ok → Acts (said_to moment a Mistakes rest) i (held_if ok rest) a j
@@ -115,10 +130,14 @@ acts-delivering moment a b message answer rest i j ok later done words = acts-an
     acts-answered : (answer : Answer) → Delivers a answer b (delivered a message moment) → Says (reply_line (answer_line answer)) i.out i.lost j.out j.lost ok → Acts (said_to moment a (requests.Delivers message) rest) i (held_if ok rest) b j
     acts-answered named.NoMemory same words =
         acts-by_held (said_to moment a (requests.Delivers message) rest) Memory (goes_on rest memory_word a) i j rest b ok refl refl (λ d. absurd (cc d)) later words same
-    acts-answered (named.Ok number) is words = plain (named.Ok number) is words
+    acts-answered (named.Ok number id) is words = plain (named.Ok number id) is words
+    acts-answered (named.Duplicate number) is words = plain (named.Duplicate number) is words
     acts-answered named.NoFields is words = plain named.NoFields is words
     acts-answered (named.TooLarge len) is words = plain (named.TooLarge len) is words
-    acts-answered named.NotYet is words = plain named.NotYet is words
+    acts-answered (named.Collision number) is words = plain (named.Collision number) is words
+    acts-answered (named.NotLive number) is words = plain (named.NotLive number) is words
+    acts-answered (named.NoText number) is words = plain (named.NoText number) is words
+    acts-answered named.IsMirror is words = plain named.IsMirror is words
     acts-answered (named.Full max) is words = plain (named.Full max) is words
 
 -- there is no memory for a message

@@ -1,10 +1,11 @@
 -- What the control door answers: its session is the bytes that are not answered yet, and its requests read and change an archive.
-use Rattle.std.specs.Prelude.{ℕ, false, List, [], ◌∷◌, ◌++◌, length, codes, decimal, Option, Some, None}
+use Rattle.std.specs.Prelude.{ℕ, zero, suc, false, List, [], ◌∷◌, ◌++◌, length, codes, decimal, Option, Some, None}
 use Rattle.line_door.specs.Acts.{Said, Way, Plain, Memory, Disk}
 use Rattle.line_door.specs.Plain.{silent}
-use Rattle.arch_model.specs.Archives.{Archive, text_of}
+use Rattle.arch_model.specs.Archives.{Entry, Archive, text_of, in_epoch}
+use Rattle.arch_model.specs.Epochs.{epoch_bytes}
 use Rattle.arch_model.specs.Delivery.{Done, delivered, answer_line}
-use Rattle.control_door.specs.Requests.{Request, Delivers, Shows, Quits, Mistakes, Exceeds, Ahead, Asked, Unfinished, ahead}
+use Rattle.control_door.specs.Requests.{Request, Delivers, Shows, Lists, Quits, Mistakes, Exceeds, Ahead, Asked, Unfinished, ahead}
 
 -- a line of a reply ends with a line feed
 abbrev pub reply_line : List ℕ → List ℕ
@@ -20,6 +21,24 @@ bad_word = reply_line (codes "13 bad line")
 abbrev pub shown : ℕ → Option (List ℕ) → List ℕ
 shown number None = reply_line (codes "7 not live " ++ decimal number)
 shown number (Some text) = reply_line (codes "text " ++ decimal (length text)) ++ text
+
+-- an epoch: a line with its number and the length of its bytes, and then the bytes and a line feed
+abbrev pub epoch_words : ℕ → List ℕ → List ℕ
+epoch_words epoch bytes = reply_line (codes "epoch " ++ (decimal epoch ++ 32 ∷ decimal (length bytes))) ++ reply_line bytes
+
+-- nothing is said of an epoch without an entry
+abbrev pub listed : ℕ → List Entry → List ℕ
+listed epoch [] = []
+listed epoch (e ∷ es) = epoch_words epoch (epoch_bytes (e ∷ es))
+
+-- so many epochs from 0 on
+abbrev pub listed_below : ℕ → List Entry → List ℕ
+listed_below zero entries = []
+listed_below (suc epoch) entries = listed_below epoch entries ++ listed epoch (in_epoch entries epoch)
+
+-- the epochs, by their numbers, of which the greatest is 63
+abbrev pub epochs_words : List Entry → List ℕ
+epochs_words entries = listed_below 64 entries ++ reply_line (codes "end")
 
 -- the session goes on with these bytes
 abbrev pub goes_on : List ℕ → List ℕ → Archive → Said (List ℕ) Archive
@@ -37,14 +56,17 @@ delivers done rest = goes_on rest (reply_line (answer_line done.answer)) done.ar
 abbrev pub answered : ℕ → Archive → Request → List ℕ → Said (List ℕ) Archive
 answered moment a (Delivers message) rest = delivers (delivered a message moment) rest
 answered moment a (Shows number) rest = goes_on rest (shown number (text_of a.entries number)) a
+answered moment a Lists rest = goes_on rest (epochs_words a.entries) a
 answered moment a Quits rest = closes [] a
 answered moment a Mistakes rest = goes_on rest bad_word a
 answered moment a Exceeds rest = closes bad_word a
 
--- a delivery for which there is no memory leaves the archive as it was; nothing else wants memory
+-- A delivery for which there is no memory leaves the archive as it was, and the list of the epochs is said whole or not at all.
+-- Nothing else wants memory.
 abbrev pub refused_memory : ℕ → Archive → Request → List ℕ → Said (List ℕ) Archive
 refused_memory moment a (Delivers message) rest = goes_on rest memory_word a
 refused_memory moment a (Shows number) rest = answered moment a (Shows number) rest
+refused_memory moment a Lists rest = goes_on rest memory_word a
 refused_memory moment a Quits rest = answered moment a Quits rest
 refused_memory moment a Mistakes rest = answered moment a Mistakes rest
 refused_memory moment a Exceeds rest = answered moment a Exceeds rest

@@ -3,7 +3,7 @@ use Rattle.std.specs.Prelude.{ℕ, Bool, ◌&&◌, nat_le, List, length, take, d
 use Rattle.std.specs.Str.{str_eq_ignore_ascii_case}
 use Rattle.arch_base.specs.Decimals.{decimal_of}
 use Rattle.control_door.specs.declared.order.Order.{Order}
-use Rattle.control_door.specs.declared.order.Order.TheVariants.{Deliver, TooMuch, Show, Quit, Bad}
+use Rattle.control_door.specs.declared.order.Order.TheVariants.{Deliver, TooMuch, Show, Epochs, Quit, Bad}
 
 -- a line begins with this word
 abbrev pub begins_with : List ℕ → List ℕ → Bool
@@ -19,10 +19,11 @@ abbrev pub show_order : Option ℕ → Order
 show_order None = Bad
 show_order (Some number) = if nat_le 1 number && nat_le number 2147483647 then Show number else Bad
 
--- what a line orders, without its line end: `deliver SIZE`, `show N`, `quit`, or nothing that is known
+-- what a line orders, without its line end: `deliver SIZE`, `show N`, `epochs`, `quit`, or nothing that is known
 abbrev pub order_of : List ℕ → Order
 order_of line =
     if begins_with (codes "deliver ") line then deliver_order (decimal_of (drop 8 line))
     else if begins_with (codes "show ") line then show_order (decimal_of (drop 5 line))
+    else if str_eq_ignore_ascii_case line (codes "epochs") then Epochs
     else if str_eq_ignore_ascii_case line (codes "quit") then Quit
     else Bad

@@ -3,13 +3,14 @@ use Rattle.std.specs.Prelude.{ℕ, Bool, true, false, nat_le, List, [], length, 
 use Rattle.line_door.specs.Lines as line
 use Rattle.control_door.specs.Orders.{order_of}
 use Rattle.control_door.specs.declared.order.Order.{Order}
-use Rattle.control_door.specs.declared.order.Order.TheVariants.{Deliver, TooMuch, Show, Quit, Bad}
+use Rattle.control_door.specs.declared.order.Order.TheVariants.{Deliver, TooMuch, Show, Epochs, Quit, Bad}
 
--- a whole request: a message to deliver, a number to show, the end, a line that is no order, or one behind which the door
--- closes, since the line or what it announces is too long
+-- a whole request: a message to deliver, a number to show, the epochs to list, the end, a line that is no order, or one behind
+-- which the door closes, since the line or what it announces is too long
 pub data Request : Type 0 where
   Delivers : List ℕ → Request
   Shows : ℕ → Request
+  Lists : Request
   Quits : Request
   Mistakes : Request
   Exceeds : Request
@@ -24,6 +25,7 @@ abbrev pub asked_by : Order → List ℕ → Ahead
 asked_by (Deliver size) rest = if nat_le size (length rest) then Asked (Delivers (take size rest)) (drop size rest) else Unfinished
 asked_by TooMuch rest = Asked Exceeds rest
 asked_by (Show number) rest = Asked (Shows number) rest
+asked_by Epochs rest = Asked Lists rest
 asked_by Quit rest = Asked Quits rest
 asked_by Bad rest = Asked Mistakes rest
 

@@ -13,6 +13,8 @@ pub enum Order {
     TooMuch,
     /// The text of a number is wanted: 1 to 2,147,483,647.
     Show(u32),
+    /// The bytes of the epochs are wanted.
+    Epochs,
     /// The connection ends.
     Quit,
     /// Nothing that is known.
@@ -25,8 +27,8 @@ const SIZE_LIMIT: u64 = 9_000_000;
 /// The greatest number of a message.
 const NUMBER_LIMIT: u64 = 2_147_483_647;
 
-/// What a line orders, without its line end: `deliver SIZE`, `show N` or `quit`, the words in any case, with single spaces and
-/// decimals.
+/// What a line orders, without its line end: `deliver SIZE`, `show N`, `epochs` or `quit`, the words in any case, with single
+/// spaces and decimals.
 pub fn read_order(line: &[u8]) -> Order
     ensures { result ≡ order_of line.now }
 {
@@ -34,6 +36,8 @@ pub fn read_order(line: &[u8]) -> Order
         deliver_order(read_decimal(&line[8..]))
     } else if begins_with(b"show ", line) {
         show_order(read_decimal(&line[5..]))
+    } else if line.eq_ignore_ascii_case(b"epochs") {
+        Order::Epochs
     } else if line.eq_ignore_ascii_case(b"quit") {
         Order::Quit
     } else {

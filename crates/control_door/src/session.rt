@@ -5,15 +5,15 @@ ghost use Rattle.line_door.specs.Acts.{outside, Acts, held_if};
 ghost use Rattle.line_door.specs.Course.{talk, Fed};
 ghost use Rattle.arch_model.specs.Archives.{Archive};
 ghost use Rattle.control_door.specs.Orders.{order_of};
-ghost use Rattle.control_door.specs.Requests.{line_limit, is_request, Delivers, Shows};
+ghost use Rattle.control_door.specs.Requests.{line_limit, is_request, Delivers, Shows, Lists};
 ghost use Rattle.control_door.specs.Door.{said as said_of, said_to, said_keeping};
 
 use crate::order::{Order, read_order};
-use crate::replies::{say_answer, say_bad, say_memory, say_shown};
-use arch_base::Bytes;
+use crate::replies::{epochs_of, say_answer, say_bad, say_memory, say_shown};
+use arch_base::{Bytes, NoMemory};
 use arch_model::MemArchive;
 use edge_io::Sink;
-use line_door::{Ahead, line_content, next_in};
+use line_door::{Ahead, line_content, next_in, say};
 use std::alloc::Global;
 use std::marker::Model;
 
@@ -41,6 +41,7 @@ pub(crate) enum Turn {
 /// A session of a control connection. A contract sees it as the bytes that are not answered yet.
 #[derive(Drop)]
 pub struct Session {
+    alloc: Global,
     held: Bytes,
     payload: Option<Payload>,
 }
@@ -64,6 +65,7 @@ impl Session {
         ensures { result ≡ [] }
     {
         Session {
+            alloc,
             held: Bytes::new(alloc),
             payload: None,
         }
@@ -162,6 +164,7 @@ impl Session {
         let said = match line_order(self.held.as_slice(), &piece[..len]) {
             Order::Deliver(size) => return self.message(size, len, piece, moment, archive, out),
             Order::Show(number) => say_shown(number, archive.text(number), out),
+            Order::Epochs => say_epochs(self.alloc, archive, out),
             Order::Bad => say_bad(out),
             Order::TooMuch => {
                 let _ = say_bad(out);
@@ -292,6 +295,20 @@ fn say_joined<O: Sink>(
     let said = say_delivered(held.as_slice().split_at(start).1, moment, archive, out);
     held.truncate(0);
     said
+}
+
+/// Says the list of the epochs, or that there is no memory for it. It answers whether all was taken.
+fn say_epochs<O: Sink>(alloc: Global, archive: &MemArchive, out: &mut O) -> bool
+    ensures acts { (moment : ℕ) (rest : List ℕ) → Acts (said_to moment archive.now Lists rest)
+        (outside (O.taken out.old) 0 (O.faults out.old))
+        (held_if result rest) archive.now
+        (outside (O.taken out.new) 0 (O.faults out.new)) }
+    ensures sink { O.alike out.old out.new }
+{
+    match epochs_of(alloc, archive) {
+        Ok(words) => say(words.as_slice(), out),
+        Err(NoMemory) => say_memory(out),
+    }
 }
 
 /// What a line orders whose beginning was held.

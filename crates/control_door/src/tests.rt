@@ -11,7 +11,7 @@ use std::alloc::Global;
 type Row = (&'static [u8], &'static [u8], bool);
 
 /// Lines of every kind.
-const LINES: [Row; 31] = [
+const LINES: [Row; 32] = [
     (b"", b"", true),
     (b"\n", b"13 bad line\n", true),
     (b"\r\n", b"13 bad line\n", true),
@@ -37,7 +37,8 @@ const LINES: [Row; 31] = [
     (b"quit \n", b"13 bad line\n", true),
     (b"quitt\nqui\n", b"13 bad line\n13 bad line\n", true),
     (b"x\nquit\nshow 1\n", b"13 bad line\n", false),
-    (b"epochs\nreindex\n", b"13 bad line\n13 bad line\n", true),
+    (b"epochs\nEpochs\r\n", b"end\nend\n", true),
+    (b"epochs \nreindex\n", b"13 bad line\n13 bad line\n", true),
     (b"remove 1\nthread 1\n", b"13 bad line\n13 bad line\n", true),
     (b"purge 1\nshow 2\n", b"13 bad line\n7 not live 2\n", true),
     (b"edit 1 5\nquit\nshow 1\n", b"13 bad line\n", false),
@@ -66,7 +67,11 @@ const DELIVERIES: [Row; 19] = [
         b"3 no fields\n7 not live 1\n",
         true,
     ),
-    (b"deliver 4\nA: b", b"15 not yet\n", true),
+    (
+        b"deliver 4\nA: bshow 1\n",
+        b"1 ok 1 643b40cf5ec22998a0ee39916ec6b11c61de1e73\ntext 76\nMessage-ID: <be25730bed17f9c3e312a182c2ee7060dd7be817.0@list.invalid>\nA: b\n\n",
+        true,
+    ),
     (b"deliver 5\nquit\n", b"3 no fields\n", true),
     (b"deliver 2\n\0\0quit\nx\n", b"3 no fields\n", false),
     (b"deliver 5\nquit", b"", true),
@@ -88,22 +93,22 @@ const DELIVERIES: [Row; 19] = [
     (b"deliver  5\nquit\n", b"13 bad line\n", false),
     (
         b"deliver 22\nMessage-ID: <a@x>\n\nhi\nshow 1\n",
-        b"1 ok 1\ntext 22\nMessage-ID: <a@x>\n\nhi\n",
+        b"1 ok 1 fd45734adf4c71bc58d917e4834ace95f6a75a7e\ntext 22\nMessage-ID: <a@x>\n\nhi\n",
         true,
     ),
     (
         b"deliver 19\nMessage-ID: <b@x>\r\nShow 1\r\nquit\n",
-        b"1 ok 1\ntext 19\nMessage-ID: <b@x>\n\n",
+        b"1 ok 1 932aef3c2f53dcc65475837ae327c57b7d4d2fc6\ntext 19\nMessage-ID: <b@x>\n\n",
         false,
     ),
     (
         b"deliver 18\nMessage-ID: <a@x>\ndeliver 18\nMessage-ID: <a@x>\nshow 2\n",
-        b"1 ok 1\n15 not yet\n7 not live 2\n",
+        b"1 ok 1 df7a16e6b23ee491f39d84e89298f10b0d4ae4e0\n2 duplicate 1\n7 not live 2\n",
         true,
     ),
     (
         b"deliver 18\nMessage-ID: <a@x>\ndeliver 18\nmessage-id: <c@x>\nshow 2\nshow 1\n",
-        b"1 ok 1\n1 ok 2\ntext 19\nmessage-id: <c@x>\n\ntext 19\nMessage-ID: <a@x>\n\n",
+        b"1 ok 1 df7a16e6b23ee491f39d84e89298f10b0d4ae4e0\n1 ok 2 f4cd56120b7a68a2a06bec4088ccc24910532e06\ntext 19\nmessage-id: <c@x>\n\ntext 19\nMessage-ID: <a@x>\n\n",
         true,
     ),
 ];
@@ -225,7 +230,7 @@ fn long_line_is_answered(
 
 #[test]
 fn orders_are_read(rt: HostRuntime) {
-    let orders: [(&[u8], Order); 9] = [
+    let orders: [(&[u8], Order); 10] = [
         (b"deliver 0", Order::Deliver(0)),
         (b"dELIVER 9000000", Order::Deliver(9_000_000)),
         (b"deliver 9000001", Order::TooMuch),
@@ -233,6 +238,7 @@ fn orders_are_read(rt: HostRuntime) {
         (b"show 1", Order::Show(1)),
         (b"sHOW 2147483647", Order::Show(2_147_483_647)),
         (b"show 0", Order::Bad),
+        (b"Epochs", Order::Epochs),
         (b"Quit", Order::Quit),
         (b"quit\r", Order::Bad),
     ];
