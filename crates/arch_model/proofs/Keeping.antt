@@ -1,16 +1,15 @@
 -- What an archive in memory holds with one more message.
-use Rattle.std.proofs.Common.{◌≡◌, ◌+◌, ◌≤◌, ◌<◌, ℕ, List, [], ◌∷◌, ◌++◌, length, Option, Some, None, refl, sym, ◌∙◌, ap, subst, arith, length-append}
+use Rattle.std.proofs.Common.{◌≡◌, ◌+◌, ◌≤◌, ℕ, List, [], ◌∷◌, ◌++◌, length, Option, Some, None, refl, sym, ◌∙◌, ap, subst, arith, length-append}
 use Rattle.arch_base.specs.declared.config.Config.{Config}
 use Rattle.arch_base.specs.declared.ids.Id20.{Id20}
 use Rattle.mail_reader.specs.Ids.{own_id}
 use Rattle.mail_reader.specs.Content.{content_id_of}
 use Rattle.git_objects.specs.Objects.{blob_id_of}
 use Rattle.arch_model.specs.Archives.{Entry, Archive, owner, with_entry}
-use Rattle.arch_model.specs.Delivery.{Done, collision, delivered_kept, last_epoch, new_epoch}
-use Rattle.arch_model.specs.Memory.{archive_of, entries_from, end_after, end_for_new, number_in, blob_number, owner_of, IsEnd, IsIndex, IsFree, IsKept, Puts}
+use Rattle.arch_model.specs.Delivery.{collision, delivered_kept, last_epoch, new_epoch}
+use Rattle.arch_model.specs.Memory.{archive_of, entries_from, end_after, end_for_new, number_in, blob_number, IsEnd, IsIndex, IsFree, IsKept, Puts}
 use Rattle.arch_model.specs.declared.answer.Answer.TheVariants as answer
 use Rattle.arch_model.specs.declared.kept.Kept.{Kept}
-use Rattle.arch_model.specs.declared.kept.Owner.{Owner}
 use Rattle.arch_model.specs.declared.kept.End.{End}
 use Rattle.arch_model.specs.declared.index.Index.{Index}
 use Rattle.arch_model.proofs.Owners.{IsIndex-push, collision-free}

@@ -1,6 +1,6 @@
 -- Made ids: that they are ids, differ, and are the own ids of texts that have them in front.
-use Rattle.std.proofs.Common.{◌≡◌, ◌+◌, ◌*◌, ◌/◌, ◌%◌, ◌^◌, ◌≤◌, ◌<◌, ℕ, zero, suc, Bool, true, false, List, [], ◌∷◌, ◌++◌, length, drop, get_or, codes, decimal, slice_index, Option, Some, refl, sym, ◌∙◌, ap, subst, arith, length-append}
-use Rattle.std.specs.List.{All, AllPass}
+use Rattle.std.proofs.Common.{◌≡◌, ◌+◌, ◌*◌, ◌/◌, ◌%◌, ◌^◌, ◌≤◌, ◌<◌, ℕ, suc, true, List, [], ◌∷◌, ◌++◌, length, drop, get_or, codes, decimal, slice_index, Some, refl, ap, arith, length-append}
+use Rattle.std.specs.List.{AllPass}
 use Rattle.std.proofs.lemmas.Bool.Decides.{nat_tests}
 use Rattle.std.proofs.lemmas.List.{append_cancel_left, append_cancel_right}
 use Rattle.std.proofs.lemmas.List.Sums.{AllPass-from_list_all}
@@ -8,9 +8,9 @@ use Rattle.std.proofs.lemmas.List.Elements.{All-nil, All-cons, All-append}
 use Rattle.std.proofs.lemmas.Fmt.{decimal_injective, decimal_by_steps, length-decimal-le}
 use Rattle.sha1.specs.Sha1.{sha1}
 use Rattle.hex.specs.Hex.{encode_lower, encode_with, lower_digits}
-use Rattle.arch_base.specs.Names.{IsName, is_name_byte, is_letter_or_digit}
+use Rattle.arch_base.specs.Names.{IsName, is_name_byte}
 use Rattle.mail_reader.specs.Ids.{is_id_byte, own_id}
-use Rattle.mail_reader.specs.Laws.{IsId, id_line}
+use Rattle.mail_reader.specs.Laws.{IsId}
 use Rattle.mail_reader.proofs.IdLines.{id_in_front}
 use Rattle.git_objects.proofs.ObjectIds.{IsId-id_of}
 use Rattle.arch_model.specs.Candidates.{made_inside, id_with, made_id, with_made}

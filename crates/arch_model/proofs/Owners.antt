@@ -4,11 +4,10 @@ use Rattle.std.specs.Str.{bytes_eq}
 use Rattle.std.proofs.lemmas.Slice.Eq.{bytes_eq-Decides}
 use Rattle.arch_base.specs.declared.ids.Id20.{Id20}
 use Rattle.mail_reader.specs.Ids.{own_id}
-use Rattle.mail_reader.specs.Content.{content_id_of}
 use Rattle.git_objects.specs.Objects.{blob_id_of}
 use Rattle.arch_model.specs.Archives.{Entry, owner, is_id}
-use Rattle.arch_model.specs.Delivery.{clashes, collision}
-use Rattle.arch_model.specs.Memory.{IsIndex, IsFree, Puts, HasSame, blob_number, owner_of, owner_in, number_in}
+use Rattle.arch_model.specs.Delivery.{collision}
+use Rattle.arch_model.specs.Memory.{IsIndex, Puts, HasSame, blob_number, owner_of, owner_in}
 use Rattle.arch_model.specs.declared.index.Index.{Index}
 use Rattle.arch_model.specs.declared.kept.Owner.{Owner}
 use Rattle.arch_model.proofs.Maps.{bytes_eq-refl}

@@ -1,5 +1,5 @@
 -- Texts made clean, and the values of fields.
-use Rattle.std.proofs.Common.{◌≡◌, ◌<◌, ◌-◌, ℕ, Bool, true, false, List, [], ◌∷◌, ◌++◌, codes, length, take, drop, Option, Some, None, refl, sym, ap, ◌∙◌, arith, append-nil, append_assoc}
+use Rattle.std.proofs.Common.{◌≡◌, ◌<◌, ◌-◌, ℕ, true, false, List, [], ◌∷◌, ◌++◌, codes, length, take, drop, Option, Some, None, refl, sym, ap, ◌∙◌, arith, append-nil, append_assoc}
 use Rattle.std.specs.Prelude.{◌≤◌, Result, Ok, Err, IfOk, IfSome, option_map, option_and_then}
 use Rattle.std.specs.List.{prefix_len, suffix_len, flat_map}
 use Rattle.std.specs.Str.{str_eq_ignore_ascii_case}

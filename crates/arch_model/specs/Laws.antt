@@ -4,7 +4,7 @@ use Rattle.arch_base.specs.declared.ids.Id20.{Id20}
 use Rattle.mail_reader.specs.Stored.{stored}
 use Rattle.mail_reader.specs.Ids.{own_id}
 use Rattle.mail_reader.specs.Content.{content_id_of}
-use Rattle.arch_model.specs.Archives.{Entry, Archive, owner, text_of}
+use Rattle.arch_model.specs.Archives.{Archive, owner, text_of}
 use Rattle.arch_model.specs.Candidates.{made_id, with_made, met, choice_of}
 use Rattle.arch_model.specs.Delivery.{delivered}
 use Rattle.arch_model.specs.declared.answer.Answer.TheVariants as answer

@@ -19,7 +19,7 @@ use Rattle.arch_model.specs.declared.kept.Owner.{Owner}
 use Rattle.arch_model.specs.declared.kept.End.{End}
 use Rattle.arch_base.specs.declared.sequence.NoMemory.{NoMemory}
 use Rattle.arch_model.specs.declared.choice.Meeting.{Meeting}
-use Rattle.arch_model.specs.declared.choice.Meeting.TheVariants.{Free, Same, Other}
+use Rattle.arch_model.specs.declared.choice.Meeting.TheVariants.{Same, Other}
 use Rattle.arch_model.specs.declared.index.Index.{Index}
 use Rattle.arch_model.specs.declared.choice.Choice.{Choice}
 use Rattle.arch_model.specs.declared.choice.Choice.TheVariants.{Take, Repeat}

@@ -6,8 +6,8 @@ pub fn numbers_keep_their_texts()
     ensures { KeepsNumbers }
 {}
 
-/// A delivery takes a number that no message has, and each number stays below the next one.
-pub fn numbers_rise()
+/// Where the next number is at least 1, and each number that has a text is at least 1 and below it, so it is after a delivery.
+pub fn numbers_stay_below_the_next()
     ensures { StaysNumbered }
 {}
 

@@ -14,7 +14,8 @@ mod memory;
 pub use answer::Answer;
 pub use commits::{entry_commit, epoch_grows, push_entry};
 pub use laws::{
-    delivered_is_shown, first_candidate_decides, numbers_keep_their_texts, numbers_rise,
+    delivered_is_shown, first_candidate_decides, numbers_keep_their_texts,
+    numbers_stay_below_the_next,
 };
 pub use memory::MemArchive;
 

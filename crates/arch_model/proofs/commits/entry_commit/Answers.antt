@@ -1,4 +1,4 @@
-use Rattle.std.proofs.Common.{◌≡◌, ◌∙◌, w16, to_z, of_z, to_z-of_z}
+use Rattle.std.proofs.Common.{◌≡◌, w16, to_z, of_z, to_z-of_z}
 use Rattle.arch_model.proofs.EpochLemmas.{commit_of-made, zone_fits}
 use Rattle.arch_model.proofs.commits.entry_commit.Goals as goal
 

@@ -1,6 +1,5 @@
 use Rattle.std.proofs.Common.{◌≡◌, ◌++◌, ap, ◌∙◌}
-use Rattle.git_objects.specs.Objects.{id_of, blob_id_of, tree_spelling}
-use Rattle.arch_model.specs.Epochs.{tree_of, commit_text}
+use Rattle.git_objects.specs.Objects.{id_of, tree_spelling}
 use Rattle.arch_model.proofs.EpochLemmas.{commit_id-made, entry_bytes-pieces}
 use Rattle.arch_model.proofs.commits.push_entry.Goals as goal
 

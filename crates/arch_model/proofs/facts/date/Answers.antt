@@ -1,4 +1,4 @@
-use Rattle.std.proofs.Common.{◌≡◌, ◌∙◌}
+use Rattle.std.proofs.Common.{◌∙◌}
 use Rattle.arch_model.proofs.Texts.{date_fact-some, date_fact-none, zone_of_read}
 use Rattle.arch_model.proofs.facts.date.Goals as goal
 

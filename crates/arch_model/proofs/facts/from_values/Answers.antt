@@ -3,7 +3,7 @@ use Rattle.std.specs.List.{flat_map}
 use Rattle.mail_reader.specs.Fields.{fields_of}
 use Rattle.mail_reader.specs.Reading.{shown}
 use Rattle.arch_model.specs.Facts.{behind_comma, values_of}
-use Rattle.arch_model.proofs.Texts.{values-taken, values-passed, values-end}
+use Rattle.arch_model.proofs.Texts.{values-taken, values-end}
 use Rattle.arch_model.proofs.facts.from_values.Goals as goal
 
 pub loop-field-preserved-in-Continue-1 : goal.loop-field-preserved-in-Continue-1

@@ -1,15 +1,12 @@
-use Rattle.std.proofs.Common.{◌≡◌, ◌+◌, ◌-◌, ◌^◌, ◌<◌, ◌≤◌, ◌++◌, ◌∙◌, ℕ, List, length, IfOk, Option, None, sym, ap, subst, arith}
-use Rattle.std.proofs.lemmas.Bool.Decides.{nat_tests}
+use Rattle.std.proofs.Common.{◌≡◌, ◌^◌, ◌<◌, ◌++◌, ◌∙◌, ℕ, List, length, IfOk, None, sym, ap, subst, arith}
 use Rattle.arch_base.specs.Names.{IsName}
 use Rattle.mail_reader.specs.Laws.{id_line}
 use Rattle.arch_model.specs.Archives.{Archive, owner}
-use Rattle.arch_model.specs.Candidates.{made_id, with_made, met}
-use Rattle.arch_model.specs.declared.choice.Choice.{Choice}
-use Rattle.arch_model.specs.declared.choice.Choice.TheVariants.{Take, Repeat}
-use Rattle.arch_model.specs.declared.choice.Meeting.{Meeting}
+use Rattle.arch_model.specs.Candidates.{made_id, with_made}
+use Rattle.arch_model.specs.declared.choice.Choice.TheVariants.{Take}
 use Rattle.arch_model.specs.declared.choice.Meeting.TheVariants.{Free, Same, Other}
 use Rattle.arch_model.proofs.Keeping.{length-entries_from}
-use Rattle.arch_model.proofs.Candidates.{Passed, Chosen, meets, all_made, passed-none, passed-more, passed-same, passed-free, passed-all, last-free, chosen, met-free, same_made, same_meeting}
+use Rattle.arch_model.proofs.Candidates.{Passed, Chosen, meets, passed-more, passed-same, passed-free, passed-all, last-free, chosen, met-free, same_made, same_meeting}
 use Rattle.arch_model.proofs.memory.MemArchive.choose_made.Goals as goal
 
 pub returns-in-Free-clause-choice : goal.returns-in-Free-clause-choice

@@ -1,11 +1,9 @@
 use Rattle.std.proofs.Common.{◌≡◌, ◌≤◌, ◌+◌, ◌++◌, ◌∷◌, [], ◌∙◌, ℕ, List, length, sym, ap, subst, Some, None}
 use Rattle.mail_reader.specs.Ids.{own_id}
 use Rattle.mail_reader.specs.Content.{content_id_of}
-use Rattle.git_objects.specs.Objects.{blob_id_of}
 use Rattle.arch_model.specs.Archives.{Archive, with_entry}
 use Rattle.arch_model.specs.Delivery.{new_epoch}
-use Rattle.arch_model.specs.Memory.{IsFree, Puts, IsKept, archive_of, blob_number, end_after, end_for_new, entries_from}
-use Rattle.arch_model.specs.declared.kept.Kept.{Kept}
+use Rattle.arch_model.specs.Memory.{IsFree, Puts, blob_number, end_after, end_for_new, entries_from}
 use Rattle.arch_model.specs.declared.kept.End.{End}
 use Rattle.arch_model.specs.declared.kept.Owner.{Owner}
 use Rattle.arch_model.proofs.Keeping.{kept-behind, archive-behind}

@@ -1,9 +1,9 @@
-use Rattle.std.proofs.Common.{◌≡◌, ◌==◌, ◌++◌, ◌∙◌, ◌≤◌, ◌<◌, ℕ, List, length, get_or, Option, Some, is_some, false, sym, ap, subst, refl, arith}
+use Rattle.std.proofs.Common.{◌≡◌, ◌==◌, ◌++◌, ◌∙◌, ◌≤◌, ◌<◌, ℕ, List, length, get_or, Some, false, ap, arith}
 use Rattle.std.proofs.lemmas.Bool.Decides.{nat_tests}
 use Rattle.arch_base.specs.declared.ids.Id20.{Id20}
 use Rattle.arch_model.specs.Epochs.{commit_id, entry_bytes}
 use Rattle.arch_model.specs.Memory.{front_bytes}
-use Rattle.arch_model.proofs.EpochSteps.{HasPushed, pushed-one, pushed-else, pushed-all}
+use Rattle.arch_model.proofs.EpochSteps.{pushed-one, pushed-else, pushed-all}
 use Rattle.arch_model.proofs.memory.MemArchive.push_entries.Goals as goal
 use Rattle.arch_model.proofs.memory.MemArchive.push_entries.Goals.{then-kept-epoch+in_ok-push_behind, else-kept-epoch}
 

@@ -1,4 +1,4 @@
-use Rattle.std.proofs.Common.{Some, ◌≡◌, ◌≤◌, ◌<◌, ◌-◌, length, get_or, ◌∙◌, sym, ap, arith, refl}
+use Rattle.std.proofs.Common.{Some, ◌≡◌, ◌≤◌, ◌<◌, ◌-◌, length, get_or, ◌∙◌, sym, ap}
 use Rattle.arch_model.proofs.Numbers.{text_in-none, text_in-past, text_in-at}
 use Rattle.arch_model.proofs.memory.MemArchive.text.Goals as goal
 
