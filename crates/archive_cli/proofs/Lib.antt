@@ -1,3 +1,4 @@
+pub mod Grammar
 pub mod Playing
 pub mod Printed
 pub mod Transcripts

@@ -1,5 +1,6 @@
 -- What is printed of what is due.
 use Rattle.std.proofs.Common.{◌≡◌, ◌≤◌, ◌<◌, inl, inr, ℕ, Bool, true, false, List, [], ◌++◌, length, codes, decimal, Option, Some, None, Err, ◌+◌, refl, sym, ◌∙◌, ap, subst, append_assoc, arith, length-append, if◌then◌else◌}
+use Rattle.arch_base.specs.declared.config.Config.{Config}
 use Rattle.edge_io.specs.Left.{before, IsUsedUp}
 use Rattle.edge_io.specs.Scripts.{Arrival, IsScript, IsBad}
 use Rattle.line_door.specs.Phrases.{Says}
@@ -41,25 +42,25 @@ printed-then first second code status out middle out' lost between lost' said p 
 }
 
 -- a script that is bad
-pub due-bad : (name text : List ℕ) (event : ℕ) → length text ≤ input_limit → IsBad event text → (s : ℕ) (words : List ℕ) → Exactly (line (codes "bad script " ++ decimal event)) 9 s words → IsReplayDue name text s words
-due-bad name text event short bad s words e = inl (inr (inl (record { short = short; event = event; bad = bad; status_is = e.status_is; printed_is = e.words_is })))
+pub due-bad : (config : Config) (text : List ℕ) (event : ℕ) → length text ≤ input_limit → IsBad event text → (s : ℕ) (words : List ℕ) → Exactly (line (codes "bad script " ++ decimal event)) 9 s words → IsReplayDue config text s words
+due-bad config text event short bad s words e = inl (inr (inl (record { short = short; event = event; bad = bad; status_is = e.status_is; printed_is = e.words_is })))
 
 -- a script for which there is no memory
-pub due-none : (name text : List ℕ) (s : ℕ) (words : List ℕ) → Exactly (line (codes "12 no memory")) 7 s words → IsReplayDue name text s words
-due-none name text s words e = inr (record { status_is = e.status_is; frames = []; played = inl refl; printed_is = e.words_is })
+pub due-none : (config : Config) (text : List ℕ) (s : ℕ) (words : List ℕ) → Exactly (line (codes "12 no memory")) 7 s words → IsReplayDue config text s words
+due-none config text s words e = inr (record { status_is = e.status_is; frames = []; played = inl refl; printed_is = e.words_is })
 
 -- a script whose events were turned
-pub due-played : (name text frames : List ℕ) (arrivals : List Arrival) (after : World) → length text ≤ input_limit → IsScript arrivals text → Transcript (before_stop arrivals) (start name) frames after → (s : ℕ) (words : List ℕ) → Exactly frames 0 s words → IsReplayDue name text s words
-due-played name text frames arrivals after short script played s words e =
-    inl (inr (inr (record { short = short; arrivals = arrivals; script = script; after = after; status_is = e.status_is; transcript = subst (λ w. Transcript (before_stop arrivals) (start name) w after) (sym e.words_is) played })))
+pub due-played : (config : Config) (text frames : List ℕ) (arrivals : List Arrival) (after : World) → length text ≤ input_limit → IsScript arrivals text → Transcript (before_stop arrivals) (start config) frames after → (s : ℕ) (words : List ℕ) → Exactly frames 0 s words → IsReplayDue config text s words
+due-played config text frames arrivals after short script played s words e =
+    inl (inr (inr (record { short = short; arrivals = arrivals; script = script; after = after; status_is = e.status_is; transcript = subst (λ w. Transcript (before_stop arrivals) (start config) w after) (sym e.words_is) played })))
 
 -- a script some of whose events were turned
-pub due-part : (name text frames : List ℕ) (arrivals : List Arrival) → length text ≤ input_limit → IsScript arrivals text → PlaysSome (before_stop arrivals) (start name) frames → (s : ℕ) (words : List ℕ) → Exactly (frames ++ line (codes "12 no memory")) 7 s words → IsReplayDue name text s words
-due-part name text frames arrivals short script played s words e = inr (record { status_is = e.status_is; frames = frames; played = inr (record { short = short; arrivals = arrivals; script = script; played = played }); printed_is = e.words_is })
+pub due-part : (config : Config) (text frames : List ℕ) (arrivals : List Arrival) → length text ≤ input_limit → IsScript arrivals text → PlaysSome (before_stop arrivals) (start config) frames → (s : ℕ) (words : List ℕ) → Exactly (frames ++ line (codes "12 no memory")) 7 s words → IsReplayDue config text s words
+due-part config text frames arrivals short script played s words e = inr (record { status_is = e.status_is; frames = frames; played = inr (record { short = short; arrivals = arrivals; script = script; played = played }); printed_is = e.words_is })
 
 -- an input that is too long
-pub due-long : (name input : List ℕ) → input_limit < length input → (s : ℕ) (words : List ℕ) → Exactly (line (codes "script too long")) 9 s words → IsReplayDue name input s words
-due-long name input long s words e = inl (inl (record { long = long; status_is = e.status_is; printed_is = e.words_is }))
+pub due-long : (config : Config) (input : List ℕ) → input_limit < length input → (s : ℕ) (words : List ℕ) → Exactly (line (codes "script too long")) 9 s words → IsReplayDue config input s words
+due-long config input long s words e = inl (inl (record { long = long; status_is = e.status_is; printed_is = e.words_is }))
 
 -- there is some input
 pub some-input : (left : Option (List ℕ)) → (input : List ℕ) × IsInput left input
@@ -97,14 +98,14 @@ ran-exactly words job text code status i j asked ends p =
     let given = some-input i.left in
     ran-printed words given.0 status i j (Exactly text code) given.1 (λ s printed e. inl (record { job = job; asked = asked; ends = subst (λ w. Ends job given.0 s w) (sym e.words_is) (subst (λ c. Ends job given.0 c text) (sym e.status_is) (ends given.0)) })) p
 
-due_job : (words : List (List ℕ)) (name input : List ℕ) (s : ℕ) (printed : List ℕ) → AsksFor words (Replay name) → IsReplayDue name input s printed → IsDue words input s printed
-due_job words name input s printed asked (inl replays) = inl (record { job = Some (Replay name); asked = asked; ends = replays })
-due_job words name input s printed asked (inr short) = inr (record { name = name; asked = asked; stops = short })
+due_job : (words : List (List ℕ)) (config : Config) (input : List ℕ) (s : ℕ) (printed : List ℕ) → AsksFor words (Replay config) → IsReplayDue config input s printed → IsDue words input s printed
+due_job words config input s printed asked (inl replays) = inl (record { job = Some (Replay config); asked = asked; ends = replays })
+due_job words config input s printed asked (inr short) = inr (record { config = config; asked = asked; stops = short })
 
 -- a script that was run is a run
-pub ran-replayed : (words : List (List ℕ)) (name : List ℕ) (status : ℕ) (i j : Edges) → AsksFor words (Replay name) → Replayed name status i j → Ran words status i j
-ran-replayed words name status i j asked (inl r) = ran-printed words r.0 status i j (IsReplayDue name r.0) r.1 (λ s printed due. due_job words name r.0 s printed asked due) r.2
-ran-replayed words name status i j asked (inr r) = inr (inl (record { name = name; asked = asked; status_is = r.0; rose = r.1; taken_is = r.2; lost_kept = r.3 }))
+pub ran-replayed : (words : List (List ℕ)) (config : Config) (status : ℕ) (i j : Edges) → AsksFor words (Replay config) → Replayed config status i j → Ran words status i j
+ran-replayed words config status i j asked (inl r) = ran-printed words r.0 status i j (IsReplayDue config r.0) r.1 (λ s printed due. due_job words config r.0 s printed asked due) r.2
+ran-replayed words config status i j asked (inr r) = inr (inl (record { config = config; asked = asked; status_is = r.0; rose = r.1; taken_is = r.2; lost_kept = r.3 }))
 
 -- what a read that was refused took of the input, behind what was taken before
 pub took-refused : (refused : InputRefusal) (start left left' : Option (List ℕ)) (bytes bytes' : List ℕ) (faults faults' : ℕ) → IsPieceRead (Err refused) left left' bytes bytes' faults faults' → start ≡ before bytes left → length bytes ≤ input_limit → TookAtMost (input_limit + 1) start left'

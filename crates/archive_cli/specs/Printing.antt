@@ -1,6 +1,7 @@
 -- What is printed of what is due, and what is read of the input.
 use Rattle.std.specs.Prelude.{◌≡◌, ◌<◌, ◌≤◌, ◌⊎◌, ◌+◌, ℕ, Bool, List, ◌++◌, length, Option, Result, Ok, Err, if◌then◌else◌}
 use Rattle.arch_base.specs.Counts.{Rose}
+use Rattle.arch_base.specs.declared.config.Config.{Config}
 use Rattle.line_door.specs.Phrases.{Says}
 use Rattle.archive_cli.specs.Program.{Edges, IsInput, input_limit, Replays, StopsShort}
 use Rattle.edge_io.specs.Left.{before, IsUsedUp}
@@ -23,9 +24,9 @@ pub record Exactly (words : List ℕ) (status : ℕ) (due_status : ℕ) (printed
   pub status_is : due_status ≡ status
   pub words_is : printed ≡ words
 
--- what a script of this name on an input is due to print
-abbrev pub IsReplayDue : List ℕ → List ℕ → ℕ → List ℕ → Type 0
-IsReplayDue name input status printed = Replays name input status printed ⊎ StopsShort name input status printed
+-- what a script over an archive of these settings on an input is due to print
+abbrev pub IsReplayDue : Config → List ℕ → ℕ → List ℕ → Type 0
+IsReplayDue config input status printed = Replays config input status printed ⊎ StopsShort config input status printed
 
 -- One piece more of the input was put behind the bytes, and they are at most one more than there may be; or none is left; or the
 -- source failed, or there was no memory for the piece, which was taken all the same.
@@ -46,7 +47,7 @@ IsRead left faults (Err Fault) faults' = Rose faults faults'
 IsRead left faults (Err NoMemory) faults' = Unit {0}
 
 -- a script on the input was run: what was due is printed, or the input failed and nothing is
-abbrev pub Replayed : List ℕ → ℕ → Edges → Edges → Type 0
-Replayed name status i j =
-    ((input : List ℕ) × IsInput i.left input × Printed (IsReplayDue name input) status i.taken i.lost j.taken j.lost)
+abbrev pub Replayed : Config → ℕ → Edges → Edges → Type 0
+Replayed config status i j =
+    ((input : List ℕ) × IsInput i.left input × Printed (IsReplayDue config input) status i.taken i.lost j.taken j.lost)
     ⊎ ((status ≡ 6) × Rose i.unread j.unread × (j.taken ≡ i.taken) × (j.lost ≡ i.lost))

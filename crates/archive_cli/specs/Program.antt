@@ -1,5 +1,5 @@
 -- What a run of the program ends with: its status and all that it prints.
-use Rattle.std.specs.Prelude.{◌≡◌, ◌<◌, ◌≤◌, ◌⊎◌, ◌+◌, ℕ, false, List, [], ◌++◌, length, take, codes, decimal, Option, Some, None, MatchOption}
+use Rattle.std.specs.Prelude.{◌≡◌, ◌<◌, ◌≤◌, ◌⊎◌, ◌+◌, ℕ, List, [], ◌++◌, length, take, codes, decimal, Option, Some, None, MatchOption}
 use Rattle.arch_base.specs.Counts.{Rose}
 use Rattle.arch_base.specs.declared.config.Config.{Config}
 use Rattle.edge_io.specs.Taken.{plus}
@@ -14,13 +14,9 @@ use Rattle.archive_cli.specs.declared.words.Job.{Job}
 use Rattle.archive_cli.specs.declared.words.Job.TheVariants.{Help, Version, Replay}
 use Rattle.archive_cli.specs.declared.texts.TheConstants.{HELP, VERSION}
 
--- the settings of an archive of this name where nothing else is said
-abbrev pub default_config : List ℕ → Config
-default_config name = record { name = name; limit = 1073741824; slice = 50000; max = 2147483647; mirror = false; born = 1 }
-
 -- a script begins with an empty archive and without a session
-abbrev pub start : List ℕ → World
-start name = record { session = None; archive = empty_archive (default_config name) }
+abbrev pub start : Config → World
+start config = record { session = None; archive = empty_archive config }
 
 -- the greatest length of a script
 abbrev pub input_limit : ℕ
@@ -41,23 +37,24 @@ pub record IsBadScript (input : List ℕ) (status : ℕ) (printed : List ℕ) : 
   pub printed_is : printed ≡ line (codes "bad script " ++ decimal event)
 
 -- the input is a script, whose events up to the first stop are turned
-pub record IsPlayed (name input : List ℕ) (status : ℕ) (printed : List ℕ) : Type 0 where
+pub record IsPlayed (config : Config) (input : List ℕ) (status : ℕ) (printed : List ℕ) : Type 0 where
   pub short : length input ≤ input_limit
   pub arrivals : List Arrival
   pub script : IsScript arrivals input
   pub after : World
   pub status_is : status ≡ 0
-  pub transcript : Transcript (before_stop arrivals) (start name) printed after
+  pub transcript : Transcript (before_stop arrivals) (start config) printed after
 
-abbrev pub Replays : List ℕ → List ℕ → ℕ → List ℕ → Type 0
-Replays name input status printed = IsTooLong input status printed ⊎ (IsBadScript input status printed ⊎ IsPlayed name input status printed)
+-- a script on an input over an empty archive of these settings ends so
+abbrev pub Replays : Config → List ℕ → ℕ → List ℕ → Type 0
+Replays config input status printed = IsTooLong input status printed ⊎ (IsBadScript input status printed ⊎ IsPlayed config input status printed)
 
 -- what a job on an input ends with
 abbrev pub Ends : Option Job → List ℕ → ℕ → List ℕ → Type 0
 Ends None input status printed = (status ≡ 2) × (printed ≡ line (codes "words not read"))
 Ends (Some Help) input status printed = (status ≡ 0) × (printed ≡ HELP.now)
 Ends (Some Version) input status printed = (status ≡ 0) × (printed ≡ VERSION.now)
-Ends (Some (Replay name)) input status printed = Replays name input status printed
+Ends (Some (Replay config)) input status printed = Replays config input status printed
 
 -- what a run of words on an input ends with, by the rules
 pub record Does (words : List (List ℕ)) (input : List ℕ) (status : ℕ) (printed : List ℕ) : Type 0 where
@@ -66,24 +63,24 @@ pub record Does (words : List (List ℕ)) (input : List ℕ) (status : ℕ) (pri
   pub ends : Ends job input status printed
 
 -- a script ran out of memory behind some of its events
-pub record PlaysPart (name input : List ℕ) (frames : List ℕ) : Type 0 where
+pub record PlaysPart (config : Config) (input : List ℕ) (frames : List ℕ) : Type 0 where
   pub short : length input ≤ input_limit
   pub arrivals : List Arrival
   pub script : IsScript arrivals input
-  pub played : PlaysSome (before_stop arrivals) (start name) frames
+  pub played : PlaysSome (before_stop arrivals) (start config) frames
 
 -- For want of memory a script stops behind some of its events, or before it is read; what these events wrote is printed, and a
 -- line that says so.
-pub record StopsShort (name input : List ℕ) (status : ℕ) (printed : List ℕ) : Type 0 where
+pub record StopsShort (config : Config) (input : List ℕ) (status : ℕ) (printed : List ℕ) : Type 0 where
   pub status_is : status ≡ 7
   pub frames : List ℕ
-  pub played : (frames ≡ []) ⊎ PlaysPart name input frames
+  pub played : (frames ≡ []) ⊎ PlaysPart config input frames
   pub printed_is : printed ≡ frames ++ line (codes "12 no memory")
 
 pub record RunsOut (words : List (List ℕ)) (input : List ℕ) (status : ℕ) (printed : List ℕ) : Type 0 where
-  pub name : List ℕ
-  pub asked : AsksFor words (Replay name)
-  pub stops : StopsShort name input status printed
+  pub config : Config
+  pub asked : AsksFor words (Replay config)
+  pub stops : StopsShort config input status printed
 
 -- what a run is to print, and the status where all of it is taken
 abbrev pub IsDue : List (List ℕ) → List ℕ → ℕ → List ℕ → Type 0
@@ -114,8 +111,8 @@ pub record IsPrinted (words : List (List ℕ)) (status : ℕ) (i j : Edges) : Ty
 
 -- the input failed: its count rose, and nothing was printed
 pub record InputFailed (words : List (List ℕ)) (status : ℕ) (i j : Edges) : Type 0 where
-  pub name : List ℕ
-  pub asked : AsksFor words (Replay name)
+  pub config : Config
+  pub asked : AsksFor words (Replay config)
   pub status_is : status ≡ 6
   pub rose : Rose i.unread j.unread
   pub taken_is : j.taken ≡ i.taken
@@ -146,4 +143,4 @@ pub record TookAtMost (most : ℕ) (old new : Option (List ℕ)) : Type 0 where
 -- Only a script is read, up to one byte more than the greatest length; for any other words the input is left alone.
 abbrev pub TakesInput : List (List ℕ) → Option (List ℕ) → ℕ → Option (List ℕ) → ℕ → Type 0
 TakesInput words left unread left' unread' =
-    ((left' ≡ left) × (unread' ≡ unread)) ⊎ ((name : List ℕ) × AsksFor words (Replay name) × TookAtMost (input_limit + 1) left left' × (unread ≤ unread'))
+    ((left' ≡ left) × (unread' ≡ unread)) ⊎ ((config : Config) × AsksFor words (Replay config) × TookAtMost (input_limit + 1) left left' × (unread ≤ unread'))

@@ -1,24 +1,101 @@
 -- The words of a command line.
-use Rattle.std.specs.Prelude.{◌≡◌, ℕ, List, [], ◌∷◌, map, codes, Option, Some, None}
+use Rattle.std.specs.Prelude.{◌≡◌, ◌≤◌, ℕ, List, [], ◌∷◌, ◌++◌, map, length, get_or, All, codes, decimal, Option, Some, None, false}
+use Rattle.std.specs.List.{flat_map}
 use Rattle.std.specs.Borrow.{Bor}
 use Rattle.arch_base.specs.Names.{IsName}
+use Rattle.arch_base.specs.declared.config.Config.{Config}
 use Rattle.archive_cli.specs.declared.words.Job.{Job}
 use Rattle.archive_cli.specs.declared.words.Job.TheVariants.{Help, Version, Replay}
+use Rattle.archive_cli.specs.declared.words.Setting.{Setting}
+use Rattle.archive_cli.specs.declared.words.Setting.TheVariants.{Limit, Slice, Max}
 
 -- the words as their bytes
 abbrev pub spelled : List (Bor (List ℕ)) → List (List ℕ)
 spelled words = map (λ (word : Bor (List ℕ)). word.now) words
 
--- the words `replay NAME`, where NAME is the name of an archive
-pub record IsReplay (words : List (List ℕ)) (name : List ℕ) : Type 0 where
-  pub is : words ≡ codes "replay" ∷ name ∷ []
+-- the word of a setting: its kind, `=`, and its number in decimal
+abbrev pub setting_word : Setting → List ℕ
+setting_word (Limit n) = codes "limit=" ++ decimal n
+setting_word (Slice n) = codes "slice=" ++ decimal n
+setting_word (Max n) = codes "max=" ++ decimal n
+
+-- a number from 1 up to a greatest one
+abbrev pub IsUpTo : ℕ → ℕ → Type 0
+IsUpTo most n = (1 ≤ n) × (n ≤ most)
+
+-- the range of a setting
+abbrev pub IsSetting : Setting → Type 0
+IsSetting (Limit n) = IsUpTo 1099511627776 n
+IsSetting (Slice n) = IsUpTo 1000000 n
+IsSetting (Max n) = IsUpTo 2147483647 n
+
+-- the number of a setting that is a limit
+abbrev pub limit_of : Setting → List ℕ
+limit_of (Limit n) = n ∷ []
+limit_of (Slice n) = []
+limit_of (Max n) = []
+
+-- the number of a setting that is a slice
+abbrev pub slice_of : Setting → List ℕ
+slice_of (Limit n) = []
+slice_of (Slice n) = n ∷ []
+slice_of (Max n) = []
+
+-- the number of a setting that is a greatest number
+abbrev pub max_of : Setting → List ℕ
+max_of (Limit n) = []
+max_of (Slice n) = []
+max_of (Max n) = n ∷ []
+
+-- all limits among settings
+abbrev pub limits : List Setting → List ℕ
+limits settings = flat_map limit_of settings
+
+-- all slices among settings
+abbrev pub slices : List Setting → List ℕ
+slices settings = flat_map slice_of settings
+
+-- all greatest numbers among settings
+abbrev pub maxes : List Setting → List ℕ
+maxes settings = flat_map max_of settings
+
+-- no two settings are of one kind
+pub record EachOnce (settings : List Setting) : Type 0 where
+  pub one_limit : length (limits settings) ≤ 1
+  pub one_slice : length (slices settings) ≤ 1
+  pub one_max : length (maxes settings) ≤ 1
+
+-- the limit among settings, or the default
+abbrev pub limit_in : List Setting → ℕ
+limit_in settings = get_or (limits settings) 0 1073741824
+
+-- the slice among settings, or the default
+abbrev pub slice_in : List Setting → ℕ
+slice_in settings = get_or (slices settings) 0 50000
+
+-- the greatest number among settings, or the default
+abbrev pub max_in : List Setting → ℕ
+max_in settings = get_or (maxes settings) 0 2147483647
+
+-- the settings of an archive of this name, where these are said and nothing else
+abbrev pub config_of : List ℕ → List Setting → Config
+config_of name settings = record { name = name; limit = limit_in settings; slice = slice_in settings; max = max_in settings; mirror = false; born = 1 }
+
+-- the words `replay NAME` and words of settings behind them, in any order, each at most once; NAME is the name of an archive
+pub record IsReplay (words : List (List ℕ)) (config : Config) : Type 0 where
+  pub name : List ℕ
+  pub settings : List Setting
+  pub is : words ≡ codes "replay" ∷ name ∷ map setting_word settings
   pub valid : IsName name
+  pub ranges : All IsSetting settings
+  pub once : EachOnce settings
+  pub config_is : config ≡ config_of name settings
 
 -- words that ask for a job
 abbrev pub AsksFor : List (List ℕ) → Job → Type 0
 AsksFor words Help = words ≡ codes "--help" ∷ []
 AsksFor words Version = words ≡ codes "--version" ∷ []
-AsksFor words (Replay name) = IsReplay words name
+AsksFor words (Replay config) = IsReplay words config
 
 -- the job that words ask for, or none where they aren't in the grammar
 abbrev pub IsJob : List (List ℕ) → Option Job → Type 0

@@ -2,7 +2,7 @@
 ghost use Rattle.std.specs.Prelude.{◌≡◌, ◌≤◌, ◌+◌, ◌++◌, ◌∷◌, [], ℕ, List, length, codes, decimal};
 ghost use Rattle.archive_cli.specs.Words.{spelled};
 ghost use Rattle.archive_cli.specs.Frames.{line};
-ghost use Rattle.archive_cli.specs.Program.{Ran, TakesInput, TookAtMost, edges, input_limit, default_config as default_config_of};
+ghost use Rattle.archive_cli.specs.Program.{Ran, TakesInput, TookAtMost, edges, input_limit};
 ghost use Rattle.archive_cli.specs.Printing.{Printed, Exactly, IsReplayDue, Replayed};
 ghost use Rattle.arch_base.specs.Configs.{IsConfig};
 ghost use Rattle.edge_io.specs.Scripts.{IsScript};
@@ -11,7 +11,7 @@ use crate::player::Player;
 use crate::reading::{InputRefusal, read_input};
 use crate::texts::{HELP, VERSION};
 use crate::words::{Job, read_words};
-use arch_base::{Bytes, Config, Name, NoMemory};
+use arch_base::{Bytes, Config, NoMemory};
 use edge_io::{Script, ScriptRefusal, Sink, Source, script};
 use itoa::Buffer;
 use line_door::say;
@@ -31,13 +31,14 @@ pub fn run<S: Source, O: Sink>(alloc: Global, words: &[&str], input: &mut S, out
         None => print(b"words not read\n", 2, out),
         Some(Job::Help) => print(HELP.as_bytes(), 0, out),
         Some(Job::Version) => print(VERSION.as_bytes(), 0, out),
-        Some(Job::Replay { name }) => replay(alloc, name, input, out),
+        Some(Job::Replay { config }) => replay(alloc, config, input, out),
     }
 }
 
-/// Runs the script on the input over an empty archive of a name.
-fn replay<S: Source, O: Sink>(alloc: Global, name: Name, input: &mut S, out: &mut O) -> u8
-    ensures ends { Replayed name result
+/// Runs the script on the input over an empty archive of these settings.
+fn replay<S: Source, O: Sink>(alloc: Global, config: Config, input: &mut S, out: &mut O) -> u8
+    requires { IsConfig config }
+    ensures ends { Replayed config result
         (edges (S.left input.old) (S.faults input.old) (O.taken out.old) (O.faults out.old))
         (edges (S.left input.new) (S.faults input.new) (O.taken out.new) (O.faults out.new)) }
     ensures later { S.faults input.old ≤ S.faults input.new }
@@ -48,49 +49,36 @@ fn replay<S: Source, O: Sink>(alloc: Global, name: Name, input: &mut S, out: &mu
         Err(InputRefusal::Fault) => 6,
         Err(InputRefusal::TooLong) => print(b"script too long\n", 9, out),
         Err(InputRefusal::NoMemory) => print_no_memory(out),
-        Ok(bytes) => replay_text(alloc, name, bytes.as_slice(), out),
+        Ok(bytes) => replay_text(alloc, config, bytes.as_slice(), out),
     }
 }
 
 /// Runs a text, which is a script or is refused.
-fn replay_text<O: Sink>(alloc: Global, name: Name, text: &[u8], out: &mut O) -> u8
-    requires { length text.now ≤ input_limit }
-    ensures printed { Printed (IsReplayDue name text.now) result (O.taken out.old) (O.faults out.old) (O.taken out.new) (O.faults out.new) }
+fn replay_text<O: Sink>(alloc: Global, config: Config, text: &[u8], out: &mut O) -> u8
+    requires valid { IsConfig config }
+    requires short { length text.now ≤ input_limit }
+    ensures printed { Printed (IsReplayDue config text.now) result (O.taken out.old) (O.faults out.old) (O.taken out.new) (O.faults out.new) }
     ensures sink { O.alike out.old out.new }
 {
     match script(alloc, text) {
         Err(ScriptRefusal::Bad { event }) => print_bad(event, out),
         Err(ScriptRefusal::NoMemory) => print_no_memory(out),
-        Ok(events) => replay_script(alloc, name, &events, out),
+        Ok(events) => replay_script(alloc, config, &events, out),
     }
 }
 
 /// Plays a script, and prints what its events wrote.
-fn replay_script<O: Sink>(alloc: Global, name: Name, events: &Script, out: &mut O) -> u8
+fn replay_script<O: Sink>(alloc: Global, config: Config, events: &Script, out: &mut O) -> u8
+    requires { IsConfig config }
     ensures printed { (text : List ℕ) → IsScript events.now text → length text ≤ input_limit →
-        Printed (IsReplayDue name text) result (O.taken out.old) (O.faults out.old) (O.taken out.new) (O.faults out.new) }
+        Printed (IsReplayDue config text) result (O.taken out.old) (O.faults out.old) (O.taken out.new) (O.faults out.new) }
     ensures sink { O.alike out.old out.new }
 {
-    let mut player = Player::new(alloc, default_config(name));
+    let mut player = Player::new(alloc, config);
     let mut frames = Bytes::new(alloc);
     match player.play(events, &mut frames) {
         Ok(()) => print(frames.as_slice(), 0, out),
         Err(NoMemory) => print_two(frames.as_slice(), b"12 no memory\n", 7, out),
-    }
-}
-
-/// The settings of an archive of this name, where nothing else is said.
-fn default_config(name: Name) -> Config
-    ensures value { result ≡ default_config_of name }
-    ensures valid { IsConfig result }
-{
-    Config {
-        name,
-        limit: 1_073_741_824,
-        slice: 50_000,
-        max: 2_147_483_647,
-        mirror: false,
-        born: 1,
     }
 }
 

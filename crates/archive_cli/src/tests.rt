@@ -10,7 +10,7 @@ const FIRST_SCRIPT: &[u8] =
 
 /// What it prints.
 const FIRST_FRAME: &[u8] =
-    b"1 119\n1 ok 1\ntext 103\nFrom: Ann <ann@example.org>\nDate: Thu, 1 Feb 2024 10:00:00 +0000\nSubject: first\nMessage-ID: <a@x>\n\none\n\n";
+    b"1 160\n1 ok 1 1d023c572ccd6f3cc82ae855343346b043adaba5\ntext 103\nFrom: Ann <ann@example.org>\nDate: Thu, 1 Feb 2024 10:00:00 +0000\nSubject: first\nMessage-ID: <a@x>\n\none\n\n";
 
 /// The status of a run of words on an input, of which listed reads fail, and what it printed to an output, of which listed writes fail.
 fn ran(
@@ -69,6 +69,66 @@ fn words_and_scripts_that_are_refused(rt: HostRuntime) {
 }
 
 #[test]
+fn options_of_a_script(rt: HostRuntime) {
+    let good: [&[&str]; 4] = [
+        &["replay", "list", "limit=1", "slice=1", "max=1"],
+        &["replay", "list", "max=2147483647", "limit=1099511627776"],
+        &["replay", "list", "slice=1000000"],
+        &["replay", "list", "max=7", "slice=50"],
+    ];
+    for words in good {
+        let Some((status, sink)) = ran(rt.alloc(), words, b"", &[], &[]) else {
+            return assert!(rt; false);
+        };
+        assert!(rt; status == 0);
+        assert!(rt; sink.taken().is_empty());
+    }
+    let bad: [&[&str]; 12] = [
+        &["replay", "limit=1", "list"],
+        &["limit=1", "replay", "list"],
+        &["replay", "list", "max=1", "slice=2", "max=1"],
+        &["replay", "list", "limit="],
+        &["replay", "list", "limit"],
+        &["replay", "list", ""],
+        &["replay", "list", "Limit=1"],
+        &["replay", "list", "limit=0"],
+        &["replay", "list", "limit=1099511627777"],
+        &["replay", "list", "slice=1000001"],
+        &["replay", "list", "max=2147483648"],
+        &["replay", "list", "max=01"],
+    ];
+    for words in bad {
+        let Some((status, sink)) = ran(rt.alloc(), words, b"", &[], &[]) else {
+            return assert!(rt; false);
+        };
+        assert!(rt; status == 2);
+        assert!(rt; sink.taken() == b"words not read\n".as_slice());
+    }
+}
+
+/// A script that delivers two messages.
+const TWO_DELIVERIES: &[u8] =
+    b"1706781700 o 1 control\n1706781700 b 1 60\ndeliver 19\nMessage-ID: <a@x>\n\ndeliver 19\nMessage-ID: <b@x>\n\n\n1706781701 s\n";
+
+#[test]
+fn the_greatest_number_is_that_of_the_option(rt: HostRuntime) {
+    let Some((status, sink)) = ran(
+        rt.alloc(),
+        &["replay", "list", "max=1"],
+        TWO_DELIVERIES,
+        &[],
+        &[],
+    ) else {
+        return assert!(rt; false);
+    };
+    assert!(rt; status == 0);
+    assert!(rt;
+        sink.taken()
+            == b"1 57\n1 ok 1 df7a16e6b23ee491f39d84e89298f10b0d4ae4e0\n5 full 1\n\n".as_slice()
+    );
+}
+
+#[test]
 fn a_failed_read_or_write_gives_six(rt: HostRuntime) {
     let rows: [(&[u64], &[u64]); 4] = [(&[1], &[]), (&[2], &[]), (&[], &[1]), (&[1], &[1])];
     for (unread, unwritten) in rows {
@@ -83,6 +143,50 @@ fn a_failed_read_or_write_gives_six(rt: HostRuntime) {
         };
         assert!(rt; status == 6);
         assert!(rt; sink.taken().is_empty());
+    }
+}
+
+/// Words, an input and what is printed.
+type Run = (&'static [&'static str], &'static [u8], &'static [u8]);
+
+/// Runs worked out by hand, each with its words, its input and what it prints: an id that is made, one that is taken, the greatest number,
+/// and two messages in two epochs and in one.
+const WORKED: [Run; 5] = [
+    (
+        &["replay", "list"],
+        b"1706781700 o 1 control\n1706781700 b 1 352\ndeliver 103\nFrom: Ann <ann@example.org>\nDate: Thu, 1 Feb 2024 10:00:00 +0000\nSubject: first\nMessage-ID: <a@x>\n\none\ndeliver 103\nFrom: Ann <ann@example.org>\nDate: Thu, 1 Feb 2024 10:00:00 +0000\nSubject: first\nMessage-ID: <a@x>\n\none\ndeliver 103\nFrom: Ann <ann@example.org>\nDate: Thu, 1 Feb 2024 10:00:00 +0000\nSubject: first\nMessage-ID: <a@x>\n\ntwo\nshow 2\n\n1706781701 s\n",
+        b"1 292\n1 ok 1 1d023c572ccd6f3cc82ae855343346b043adaba5\n2 duplicate 1\n1 ok 2 39f92e6e43521b9650c2c71e47523846b2ecc47a\ntext 173\nMessage-ID: <b2e81b5d5f93d73624b0d96369a256776f42585e.0@list.invalid>\nFrom: Ann <ann@example.org>\nDate: Thu, 1 Feb 2024 10:00:00 +0000\nSubject: first\nMessage-ID: <a@x>\n\ntwo\n\n",
+    ),
+    (
+        &["replay", "list"],
+        b"1706781700 o 1 control\n1706781700 b 1 125\ndeliver 82\nSubject: v\nMessage-ID: <a8f4aef97c4217e79c7ac7c8d9fa4cba3317bffd.0@list.invalid>\n\ndeliver 14\nSubject: u\n\nx\nshow 2\n\n1706781701 s\n",
+        b"1 188\n1 ok 1 e5317fc271c34c2f998613a847fdd1c8fb842279\n1 ok 2 e30b50cddbd8790b5f73f4eb6fe526a4c7f12274\ntext 84\nMessage-ID: <a8f4aef97c4217e79c7ac7c8d9fa4cba3317bffd.1@list.invalid>\nSubject: u\n\nx\n\n",
+    ),
+    (
+        &["replay", "list", "max=2"],
+        b"1706781700 o 1 control\n1706781700 b 1 352\ndeliver 103\nFrom: Ann <ann@example.org>\nDate: Thu, 1 Feb 2024 10:00:00 +0000\nSubject: first\nMessage-ID: <a@x>\n\none\ndeliver 103\nFrom: Ann <ann@example.org>\nDate: Thu, 1 Feb 2024 10:00:00 +0000\nSubject: first\nMessage-ID: <b@x>\n\none\ndeliver 103\nFrom: Ann <ann@example.org>\nDate: Thu, 1 Feb 2024 10:00:00 +0000\nSubject: first\nMessage-ID: <c@x>\n\none\nshow 3\n\n1706781701 s\n",
+        b"1 118\n1 ok 1 1d023c572ccd6f3cc82ae855343346b043adaba5\n1 ok 2 71bad95e975640281da17cb561681235ca4c1f42\n5 full 2\n7 not live 3\n\n",
+    ),
+    (
+        &["replay", "list", "limit=316"],
+        b"1706781700 o 1 control\n1706781700 b 1 237\ndeliver 103\nFrom: Ann <ann@example.org>\nDate: Thu, 1 Feb 2024 10:00:00 +0000\nSubject: first\nMessage-ID: <a@x>\n\none\ndeliver 103\nFrom: Ann <ann@example.org>\nDate: Thu, 1 Feb 2024 10:00:00 +0000\nSubject: first\nMessage-ID: <b@x>\n\none\nepochs\n\n1706781701 s\n",
+        b"1 758\n1 ok 1 1d023c572ccd6f3cc82ae855343346b043adaba5\n1 ok 2 71bad95e975640281da17cb561681235ca4c1f42\nepoch 0 316\nPIV2EP1\nblob 103\0From: Ann <ann@example.org>\nDate: Thu, 1 Feb 2024 10:00:00 +0000\nSubject: first\nMessage-ID: <a@x>\n\none\ntree 29\0100644 m\0\x1d\x02<W,\xcdo<\xc8*\xe8U43F\xb0C\xad\xab\xa5commit 148\0tree 5214d05ba78091eb28444448a3d1b97787e080f5\nauthor Ann <ann@example.org> 1706781600 +0000\ncommitter piv2 <piv2@localhost> 1706781700 +0000\n\nfirst\n\nepoch 1 316\nPIV2EP1\nblob 103\0From: Ann <ann@example.org>\nDate: Thu, 1 Feb 2024 10:00:00 +0000\nSubject: first\nMessage-ID: <b@x>\n\none\ntree 29\0100644 m\0q\xba\xd9^\x97V@(\x1d\xa1|\xb5ah\x125\xcaL\x1fBcommit 148\0tree d7ac61fd9609fdcc5f73f55f952a8ff4db1cd412\nauthor Ann <ann@example.org> 1706781600 +0000\ncommitter piv2 <piv2@localhost> 1706781700 +0000\n\nfirst\n\nend\n\n",
+    ),
+    (
+        &["replay", "list", "limit=317"],
+        b"1706781700 o 1 control\n1706781700 b 1 237\ndeliver 103\nFrom: Ann <ann@example.org>\nDate: Thu, 1 Feb 2024 10:00:00 +0000\nSubject: first\nMessage-ID: <a@x>\n\none\ndeliver 103\nFrom: Ann <ann@example.org>\nDate: Thu, 1 Feb 2024 10:00:00 +0000\nSubject: first\nMessage-ID: <b@x>\n\none\nepochs\n\n1706781701 s\n",
+        b"1 785\n1 ok 1 1d023c572ccd6f3cc82ae855343346b043adaba5\n1 ok 2 71bad95e975640281da17cb561681235ca4c1f42\nepoch 0 672\nPIV2EP1\nblob 103\0From: Ann <ann@example.org>\nDate: Thu, 1 Feb 2024 10:00:00 +0000\nSubject: first\nMessage-ID: <a@x>\n\none\ntree 29\0100644 m\0\x1d\x02<W,\xcdo<\xc8*\xe8U43F\xb0C\xad\xab\xa5commit 148\0tree 5214d05ba78091eb28444448a3d1b97787e080f5\nauthor Ann <ann@example.org> 1706781600 +0000\ncommitter piv2 <piv2@localhost> 1706781700 +0000\n\nfirst\nblob 103\0From: Ann <ann@example.org>\nDate: Thu, 1 Feb 2024 10:00:00 +0000\nSubject: first\nMessage-ID: <b@x>\n\none\ntree 29\0100644 m\0q\xba\xd9^\x97V@(\x1d\xa1|\xb5ah\x125\xcaL\x1fBcommit 196\0tree d7ac61fd9609fdcc5f73f55f952a8ff4db1cd412\nparent d621b450ae1fbf27a31c9879d84eb9de5473a8b9\nauthor Ann <ann@example.org> 1706781600 +0000\ncommitter piv2 <piv2@localhost> 1706781700 +0000\n\nfirst\n\nend\n\n",
+    ),
+];
+
+#[test]
+fn worked_runs(rt: HostRuntime) {
+    for (words, input, printed) in WORKED {
+        let Some((status, sink)) = ran(rt.alloc(), words, input, &[], &[]) else {
+            return assert!(rt; false);
+        };
+        assert!(rt; status == 0);
+        assert!(rt; sink.taken() == printed);
     }
 }
 

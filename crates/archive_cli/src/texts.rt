@@ -4,7 +4,9 @@
 pub const HELP: &str = "\
 piv2: a mailing list archive
 
-  piv2 replay NAME   run a script from the input over an archive in memory, and print what it writes
+  piv2 replay NAME [limit=N] [slice=N] [max=N]
+                     run a script from the input over an archive in memory, and print what it writes;
+                     limit, slice and max are settings of the archive, in any order
   piv2 --help        print this
   piv2 --version     print the version
 ";

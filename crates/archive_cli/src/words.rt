@@ -1,8 +1,19 @@
 //! The words of a command line.
-ghost use Rattle.std.specs.Prelude.{◌≡◌, ◌∷◌, []};
-ghost use Rattle.archive_cli.specs.Words.{IsJob, spelled};
+ghost use Rattle.std.specs.Prelude.{◌≡◌, ◌∷◌, [], decimal};
+ghost use Rattle.edge_io.specs.Parsing.{Spells};
+ghost use Rattle.archive_cli.specs.Words.{IsJob, IsSetting, IsUpTo, setting_word, spelled};
+ghost use Rattle.archive_cli.specs.Options.{IsCollected, IsWith, config_by};
 
-use arch_base::Name;
+use arch_base::{Config, Name, read_decimal};
+
+/// The greatest limit of an epoch, in bytes.
+const MAX_LIMIT: u64 = 1_099_511_627_776;
+
+/// The greatest count of numbers in a mailbox.
+const MAX_SLICE: u64 = 1_000_000;
+
+/// The greatest number that a message can have.
+const MAX_NUMBER: u64 = 2_147_483_647;
 
 /// What the program is asked to do.
 #[derive(Debug, Drop)]
@@ -11,18 +22,81 @@ pub enum Job {
     Help,
     /// `--version`: to say which it is.
     Version,
-    /// `replay NAME`: to run the script on the input over an archive in memory.
-    Replay { name: Name },
+    /// `replay NAME` with options: to run the script on the input over an archive in memory that has these settings.
+    Replay { config: Config },
+}
+
+/// A setting of an archive, as an option of `replay` gives it.
+#[derive(Debug, Drop)]
+pub enum Setting {
+    /// `limit=N`: an epoch that has so many bytes takes no further entry.
+    Limit(u64),
+    /// `slice=N`: how many numbers a mailbox has.
+    Slice(u32),
+    /// `max=N`: the greatest number of a message.
+    Max(u32),
+}
+
+/// The settings that options give, at most one of each kind.
+#[derive(Drop)]
+struct Settings {
+    limit: Option<u64>,
+    slice: Option<u32>,
+    max: Option<u32>,
+}
+
+impl Settings {
+    /// One setting more, or None where there is one of its kind.
+    fn with(self, setting: Setting) -> Option<Settings>
+        ensures { IsWith self setting result }
+    {
+        match setting {
+            Setting::Limit(limit) if self.limit.is_none() => {
+                Some(Settings {
+                    limit: Some(limit),
+                    ..self
+                })
+            }
+            Setting::Slice(slice) if self.slice.is_none() => {
+                Some(Settings {
+                    slice: Some(slice),
+                    ..self
+                })
+            }
+            Setting::Max(max) if self.max.is_none() => {
+                Some(Settings {
+                    max: Some(max),
+                    ..self
+                })
+            }
+            _ => None,
+        }
+    }
+
+    /// The settings of a new archive of this name, with the default for each that isn't given.
+    fn config(&self, name: Name) -> Config
+        ensures { result ≡ config_by name self.now }
+    {
+        Config {
+            name,
+            limit: self.limit.unwrap_or(1_073_741_824),
+            slice: self.slice.unwrap_or(50_000),
+            max: self.max.unwrap_or(2_147_483_647),
+            mirror: false,
+            born: 1,
+        }
+    }
 }
 
 /// What these words ask for, or None where they aren't in the grammar: `--help`, `--version`, or `replay NAME` with the name of
-/// an archive. It takes no memory.
+/// an archive and behind it, in any order and each at most once, `limit=N` (1 to 1,099,511,627,776; else 1,073,741,824), `slice=N`
+/// (1 to 1,000,000; else 50,000) and `max=N` (1 to 2,147,483,647; else that), N in decimal without a leading zero. It takes no memory.
 pub fn read_words(words: &[&str]) -> Option<Job>
     ensures { IsJob (spelled words.now) result }
 {
     match words {
         [word] => read_option(word),
-        [word, name] => read_replay(word, name),
+        [word, name, options @ ..] => read_replay(word, name, options),
         _ => None,
     }
 }
@@ -38,15 +112,62 @@ fn read_option(word: &str) -> Option<Job>
     }
 }
 
-/// What two words ask for.
-fn read_replay(word: &str, name: &str) -> Option<Job>
-    ensures { IsJob (word.now ∷ name.now ∷ []) result }
+/// What two words and options behind them ask for.
+fn read_replay(word: &str, name: &str, options: &[&str]) -> Option<Job>
+    ensures { IsJob (word.now ∷ name.now ∷ spelled options.now) result }
 {
     if word != "replay" {
         return None;
     }
-    match Name::read(name.as_bytes()) {
-        Some(name) => Some(Job::Replay { name }),
-        None => None,
+    let name = Name::read(name.as_bytes())?;
+    let settings = read_settings(options)?;
+    Some(Job::Replay {
+        config: settings.config(name),
+    })
+}
+
+/// The settings that options spell, or None where one spells none or two are of one kind.
+fn read_settings(options: &[&str]) -> Option<Settings>
+    ensures { IsCollected (spelled options.now) result }
+{
+    let mut settings = Settings {
+        limit: None,
+        slice: None,
+        max: None,
+    };
+    for option in options {
+        let setting = read_setting(option)?;
+        settings = settings.with(setting)?;
+    }
+    Some(settings)
+}
+
+/// The setting that a word spells.
+fn read_setting(word: &str) -> Option<Setting>
+    ensures { Spells IsSetting setting_word word.now result }
+{
+    let word = word.as_bytes();
+    if let Some(digits) = word.strip_prefix(b"limit=") {
+        let limit = read_up_to(MAX_LIMIT, digits)?;
+        return Some(Setting::Limit(limit));
+    }
+    if let Some(digits) = word.strip_prefix(b"slice=") {
+        let slice = read_up_to(MAX_SLICE, digits)?;
+        return Some(Setting::Slice(slice as u32));
+    }
+    let digits = word.strip_prefix(b"max=")?;
+    let max = read_up_to(MAX_NUMBER, digits)?;
+    Some(Setting::Max(max as u32))
+}
+
+/// The number that a text spells, from 1 up to a greatest one.
+fn read_up_to(most: u64, text: &[u8]) -> Option<u64>
+    ensures { Spells (IsUpTo most) decimal text.now result }
+{
+    let value = read_decimal(text)?;
+    if (1..=most).contains(&value) {
+        Some(value)
+    } else {
+        None
     }
 }

@@ -1,0 +1,53 @@
+-- What the code that reads options answers.
+use Rattle.std.specs.Prelude.{◌≡◌, ◌<◌, ◌⊎◌, ℕ, false, List, ◌++◌, map, length, All, Option, Some, None}
+use Rattle.std.specs.Option.{option_to_list, unwrap_or}
+use Rattle.arch_base.specs.declared.config.Config.{Config}
+use Rattle.archive_cli.specs.Words.{setting_word, IsSetting, EachOnce, limit_of, slice_of, max_of, limits, slices, maxes}
+use Rattle.archive_cli.specs.declared.words.Setting.{Setting}
+use Rattle.archive_cli.specs.declared.words.Settings.{Settings}
+
+-- these are the numbers of each kind among settings
+pub record Holds (settings : List Setting) (held : Settings) : Type 0 where
+  pub limit_is : limits settings ≡ option_to_list held.limit
+  pub slice_is : slices settings ≡ option_to_list held.slice
+  pub max_is : maxes settings ≡ option_to_list held.max
+
+-- one setting more is held
+pub record HoldsMore (held : Settings) (setting : Setting) (more : Settings) : Type 0 where
+  pub limit_is : option_to_list held.limit ++ limit_of setting ≡ option_to_list more.limit
+  pub slice_is : option_to_list held.slice ++ slice_of setting ≡ option_to_list more.slice
+  pub max_is : option_to_list held.max ++ max_of setting ≡ option_to_list more.max
+
+-- one of the kind of a setting is held, which makes two with it
+abbrev pub HoldsTwo : Settings → Setting → Type 0
+HoldsTwo held setting =
+    (1 < length (option_to_list held.limit ++ limit_of setting))
+    ⊎ ((1 < length (option_to_list held.slice ++ slice_of setting)) ⊎ (1 < length (option_to_list held.max ++ max_of setting)))
+
+-- one setting more is held, or it is refused as the second of its kind
+abbrev pub IsWith : Settings → Setting → Option Settings → Type 0
+IsWith held setting (Some more) = HoldsMore held setting more
+IsWith held setting None = HoldsTwo held setting
+
+-- the settings that words spell
+pub record Collects (words : List (List ℕ)) (held : Settings) : Type 0 where
+  pub settings : List Setting
+  pub is : words ≡ map setting_word settings
+  pub ranges : All IsSetting settings
+  pub holds : Holds settings held
+
+-- the settings that words spell, or none where they spell none, or two of one kind
+abbrev pub IsCollected : List (List ℕ) → Option Settings → Type 0
+IsCollected words (Some held) = Collects words held
+IsCollected words None = (settings : List Setting) → words ≡ map setting_word settings → All IsSetting settings → EachOnce settings → ⊥
+
+-- the settings of an archive of this name by those that are held
+abbrev pub config_by : List ℕ → Settings → Config
+config_by name held = record {
+  name = name;
+  limit = unwrap_or held.limit 1073741824;
+  slice = unwrap_or held.slice 50000;
+  max = unwrap_or held.max 2147483647;
+  mirror = false;
+  born = 1;
+}
