@@ -1,0 +1,7 @@
+mod Others
+mod Phases
+mod Starting
+mod Zeros
+mod Reading
+mod Bodies
+mod Apart

@@ -1,0 +1,144 @@
+-- Values are read back from their spelling.
+use Rattle.std.specs.Prelude.{◌≡◌, ◌<◌, ◌^◌, ◌+◌, ◌-◌, ℕ, Bool, true, false, nat_eq, Option, Some, None, IfSome, IfNone, List, [], ◌∷◌, ◌++◌, length, get_or, set, take, drop, replicate, refl}
+use Rattle.std.specs.List.{flat_map}
+use Rattle.std.specs.Int.{from_be_bytes, w32, w64}
+use Rattle.std.proofs.Common.{◌∙◌, sym, ap, subst, arith, append_assoc, add-one}
+use Rattle.std.proofs.lemmas.Nat.{from_be_bytes-to_be_bytes_4, from_be_bytes-to_be_bytes_8}
+use Rattle.std.proofs.lemmas.List.{take_all, drop_all, take_more_set}
+use Rattle.std.proofs.Math.Seq.{take-append_seam, drop-append_seam, take-suc, drop-cons}
+use Rattle.arch_base.specs.declared.config.Config.{Config}
+use Rattle.arch_base.specs.Names.{IsName}
+use Rattle.root_slots.specs.declared.root.Place.{Place}
+use Rattle.root_slots.specs.declared.root.Root.{Root}
+use Rattle.root_slots.specs.Spelling.{be32, be64, be32_length, be64_length, flag, place_bytes, name_bytes, config_bytes, fields, spelling}
+use Rattle.root_slots.specs.Sizes.{name_length}
+use Rattle.root_slots.specs.Valid.{no_place, PlaceFits}
+
+-- what stands in front, and what behind it
+pub front_is : (n : ℕ) (bytes front rest : List ℕ) → length front ≡ n → bytes ≡ front ++ rest → take n bytes ≡ front
+front_is n bytes front rest size is = ap (λ (b : List ℕ). take n b) is ∙ (ap (λ (m : ℕ). take m (front ++ rest)) (sym size) ∙ take-append_seam front rest)
+
+-- the rest
+pub rest_is : (n : ℕ) (bytes front rest : List ℕ) → length front ≡ n → bytes ≡ front ++ rest → drop n bytes ≡ rest
+rest_is n bytes front rest size is = ap (λ (b : List ℕ). drop n b) is ∙ (ap (λ (m : ℕ). drop m (front ++ rest)) (sym size) ∙ drop-append_seam front rest)
+
+-- a number of 64 bits
+pub read64 : (bytes rest : List ℕ) (n : ℕ) → n < 2 ^ 64 → bytes ≡ be64 n ++ rest → from_be_bytes w64 (take 8 bytes) ≡ n
+unfolding be64
+read64 bytes rest n fits is = ap (from_be_bytes w64) (front_is 8 bytes (be64 n) rest (be64_length n) is) ∙ from_be_bytes-to_be_bytes_8 n fits
+
+-- a number of 32 bits
+pub read32 : (bytes rest : List ℕ) (n : ℕ) → n < 2 ^ 32 → bytes ≡ be32 n ++ rest → from_be_bytes w32 (take 4 bytes) ≡ n
+unfolding be32
+read32 bytes rest n fits is = ap (from_be_bytes w32) (front_is 4 bytes (be32 n) rest (be32_length n) is) ∙ from_be_bytes-to_be_bytes_4 n fits
+
+-- six parts, and a rest behind them
+pub six_parts : (a b c d e f rest : List ℕ) → (a ++ b ++ c ++ d ++ e ++ f) ++ rest ≡ a ++ (b ++ (c ++ (d ++ (e ++ (f ++ rest)))))
+six_parts a b c d e f rest =
+    append_assoc (a ++ b ++ c ++ d ++ e) f rest ∙ (append_assoc (a ++ b ++ c ++ d) e (f ++ rest) ∙ (append_assoc (a ++ b ++ c) d (e ++ (f ++ rest)) ∙ (append_assoc (a ++ b) c (d ++ (e ++ (f ++ rest))) ∙ append_assoc a b (c ++ (d ++ (e ++ (f ++ rest)))))))
+
+-- the two numbers of a place
+pub place_parts : (bytes rest : List ℕ) (p : Place) → bytes ≡ place_bytes p ++ rest → bytes ≡ be64 p.gen_ ++ (be64 p.length ++ rest)
+unfolding place_bytes
+place_parts bytes rest p is = is ∙ append_assoc (be64 p.gen_) (be64 p.length) rest
+
+-- a place of two numbers
+pub place_is : (gen_ long : ℕ) (p : Place) → gen_ ≡ p.gen_ → long ≡ p.length → record { gen_ = gen_; length = long } ≡ p
+place_is gen_ long p a b = λ i. record { gen_ = a i; length = b i }
+
+-- the parts of a name
+pub record NameParts (bytes rest text : List ℕ) : Type 0 where
+  pub count : get_or (take 1 (take 65 bytes)) 0 0 ≡ length text
+  pub itself : take (length text) (drop 1 (take 65 bytes)) ≡ text
+  pub behind : drop 65 bytes ≡ rest
+
+-- a name is its length, itself and zeros
+pub name_parts : (bytes rest text : List ℕ) → IsName text → bytes ≡ name_bytes text ++ rest → NameParts bytes rest text
+unfolding name_bytes
+name_parts bytes rest text valid is =
+    let front : take 65 bytes ≡ name_bytes text = front_is 65 bytes (name_bytes text) rest (name_length text valid) is in
+    record {
+      count = ap (λ (b : List ℕ). get_or (take 1 b) 0 0) front;
+      itself = ap (λ (b : List ℕ). take (length text) (drop 1 b)) front ∙ take-append_seam text (replicate (64 - length text) 0);
+      behind = rest_is 65 bytes (name_bytes text) rest (name_length text valid) is;
+    }
+
+-- the parts of settings
+pub config_parts : (bytes rest : List ℕ) (c : Config) → bytes ≡ config_bytes c ++ rest → bytes ≡ (1 ∷ flag c.mirror ∷ []) ++ (name_bytes c.name ++ (be64 c.limit ++ (be32 c.slice ++ (be32 c.max ++ (be32 c.born ++ rest)))))
+unfolding config_bytes
+config_parts bytes rest c is = is ∙ six_parts (1 ∷ flag c.mirror ∷ []) (name_bytes c.name) (be64 c.limit) (be32 c.slice) (be32 c.max) (be32 c.born) rest
+
+-- a flag is read back
+pub flag_read : (mirror : Bool) → nat_eq (flag mirror) 1 ≡ mirror
+flag_read true = refl
+flag_read false = refl
+
+-- the second of two bytes in front
+pub second_byte : (bytes rest : List ℕ) (a b : ℕ) → bytes ≡ (a ∷ b ∷ []) ++ rest → get_or (take 2 bytes) 1 0 ≡ b
+second_byte bytes rest a b is = ap (λ (l : List ℕ). get_or (take 2 l) 1 0) is
+
+-- the value of an option, or else this one
+abbrev value_or : {A : Type 0} → A → Option A → A
+value_or x None = x
+value_or x (Some y) = y
+
+-- one value of an option
+pub some_is : {A : Type 0} (found : Option A) (x y : A) → found ≡ Some x → found ≡ Some y → x ≡ y
+some_is found x y a b = ap (λ (o : Option _). value_or x o) (sym a ∙ b)
+
+-- there is a value
+abbrev HasValue : {A : Type 0} → Option A → Type 0
+HasValue None = ⊥
+HasValue (Some x) = Unit {0}
+
+-- not both a value and none
+pub none_isnt : {A : Type 0} (found : Option A) (x : A) → found ≡ None → found ≡ Some x → ⊥
+none_isnt found x a b = subst (λ (o : Option _). HasValue o) (sym b ∙ a) tt
+
+-- a name that is found
+pub found_is : (found : Option (List ℕ)) (given text : List ℕ) → given ≡ text → IsName text → IfSome found (λ name. (name ≡ given) × IsName given) → IfNone found (IsName given → ⊥) → found ≡ Some text
+found_is None given text is valid some none = absurd (none (subst IsName (sym is) valid))
+found_is (Some name) given text is valid some none = ap (λ (t : List ℕ). Some t) (some.0 ∙ is)
+
+-- the text behind its length
+pub text_is : (front behind bytes rest text : List ℕ) → front ≡ take 1 (take 65 bytes) → behind ≡ drop 1 (take 65 bytes) → NameParts bytes rest text → take (get_or front 0 0) behind ≡ text
+text_is front behind bytes rest text a b parts =
+    ap (λ (n : ℕ). take n behind) (ap (λ (l : List ℕ). get_or l 0 0) a ∙ parts.count) ∙ (ap (λ (l : List ℕ). take (length text) l) b ∙ parts.itself)
+
+-- the parts of a root
+pub root_parts : (bytes : List ℕ) (r : Root) → bytes ≡ spelling r → bytes ≡ be64 r.sequence ++ (config_bytes r.config ++ (be32 r.next ++ (place_bytes r.map ++ (flat_map place_bytes r.epochs ++ (place_bytes r.cache ++ replicate (1536 - length (fields r)) 0)))))
+unfolding spelling fields
+root_parts bytes r is = is ∙ six_parts (be64 r.sequence) (config_bytes r.config) (be32 r.next) (place_bytes r.map) (flat_map place_bytes r.epochs) (place_bytes r.cache) (replicate (1536 - length (fields r)) 0)
+
+-- settings of six values
+pub config_is : (x c : Config) → x.name ≡ c.name → x.limit ≡ c.limit → x.slice ≡ c.slice → x.max ≡ c.max → x.mirror ≡ c.mirror → x.born ≡ c.born → x ≡ c
+config_is x c p1 p2 p3 p4 p5 p6 = λ i. record { name = p1 i; limit = p2 i; slice = p3 i; max = p4 i; mirror = p5 i; born = p6 i }
+
+-- a root of six values
+pub root_is : (x r : Root) → x.config ≡ r.config → x.sequence ≡ r.sequence → x.next ≡ r.next → x.map ≡ r.map → x.epochs ≡ r.epochs → x.cache ≡ r.cache → x ≡ r
+root_is x r p1 p2 p3 p4 p5 p6 = λ i. record { config = p1 i; sequence = p2 i; next = p3 i; map = p4 i; epochs = p5 i; cache = p6 i }
+
+-- what a loop has read of places
+abbrev pub HasRead : ℕ → List Place → List ℕ → List Place → List ℕ → Type 0
+HasRead i all left ps more = (take i all ≡ take i ps) × (left ≡ flat_map place_bytes (drop i ps) ++ more)
+
+-- one place more
+pub reads_on : (i : ℕ) (all ps : List Place) (left after more : List ℕ) (next : Place) → i < 64 → length all ≡ 64 → length ps ≡ 64 → PlaceFits (get_or ps i no_place)
+    → ((p : Place) (rest : List ℕ) → PlaceFits p → left ≡ place_bytes p ++ rest → (next ≡ p) × (after ≡ rest)) → HasRead i all left ps more → HasRead (i + 1) (set all i next) after ps more
+reads_on i all ps left after more next below size count fits read before =
+    let p = get_or ps i no_place in
+    let tail = flat_map place_bytes (drop (i + 1) ps) in
+    let split : drop i ps ≡ p ∷ drop (i + 1) ps = rw add-one (drop-cons ps i no_place (omega (arith, below, count))) in
+    let is : left ≡ place_bytes p ++ (tail ++ more) = before.1 ∙ (ap (λ (l : List Place). flat_map place_bytes l ++ more) split ∙ append_assoc (place_bytes p) tail more) in
+    let both = read p (tail ++ more) fits is in
+    let grown : take (i + 1) ps ≡ take i ps ++ p ∷ [] = rw add-one (take-suc ps i no_place (omega (arith, below, count))) in
+    (take_more_set all i next (omega (arith, below, size)) ∙ (ap (λ (l : List Place). l ++ next ∷ []) before.0 ∙ (ap (λ (q : Place). take i ps ++ q ∷ []) both.0 ∙ sym grown)), both.1)
+
+-- before the first place
+pub reads_none : (all ps : List Place) (left more : List ℕ) → left ≡ flat_map place_bytes ps ++ more → HasRead 0 all left ps more
+reads_none all ps left more is = (refl, is)
+
+-- after the last
+pub reads_all : (all ps : List Place) (left more : List ℕ) → length all ≡ 64 → length ps ≡ 64 → HasRead 64 all left ps more → (all ≡ ps) × (left ≡ more)
+reads_all all ps left more size count read =
+    (sym (take_all 64 all (omega (arith, size))) ∙ (read.0 ∙ take_all 64 ps (omega (arith, count))), read.1 ∙ ap (λ (l : List Place). flat_map place_bytes l ++ more) (drop_all 64 ps (omega (arith, count))))

@@ -1,0 +1,13 @@
+-- The number is the front's, and the rest stands behind.
+use Rattle.std.proofs.Common.{rules, ◌≡◌, ◌∙◌, take, drop}
+use Rattle.std.specs.Int.{from_be_bytes, w64}
+use Rattle.root_slots.specs.Spelling.{be64, be64_length}
+use Rattle.root_slots.proofs.Reading.{read64, rest_is}
+use Rattle.root_slots.proofs.parts.number64.Goals as goal
+
+pub returns-clause-read : goal.returns-clause-read
+returns-clause-read c = λ n rest fits is.
+    let bytes = c.args.bytes.now in
+    let value : c.from_be_bytes.result ≡ from_be_bytes w64 (take 8 bytes) = search rules in
+    let back : c.split_at.result.1.now ≡ drop 8 bytes = search rules in
+    (value ∙ read64 bytes rest n fits is, back ∙ rest_is 8 bytes (be64 n) rest (be64_length n) is)

@@ -1,0 +1,7 @@
+pub mod RootName
+pub mod Spelling
+pub mod Valid
+pub mod Each
+pub mod Slots
+pub mod Sizes
+pub mod Laws

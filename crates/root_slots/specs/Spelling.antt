@@ -1,0 +1,50 @@
+-- The bytes of a root in its slot.
+use Rattle.std.specs.Prelude.{◌≡◌, ℕ, ◌-◌, Bool, true, false, List, [], ◌∷◌, ◌++◌, length, replicate, refl}
+use Rattle.std.specs.List.{flat_map}
+use Rattle.std.specs.Int.{to_be_bytes, w32, w64}
+use Rattle.arch_base.specs.declared.config.Config.{Config}
+use Rattle.root_slots.specs.declared.root.Place.{Place}
+use Rattle.root_slots.specs.declared.root.Root.{Root}
+
+-- a number of 32 bits, the highest byte first
+unfoldable pub be32 : ℕ → List ℕ
+be32 n = to_be_bytes w32 n
+
+-- a number of 64 bits, the highest byte first
+unfoldable pub be64 : ℕ → List ℕ
+be64 n = to_be_bytes w64 n
+
+-- four bytes
+pub be32_length : (n : ℕ) → length (be32 n) ≡ 4
+unfolding be32
+be32_length n = refl
+
+-- eight bytes
+pub be64_length : (n : ℕ) → length (be64 n) ≡ 8
+unfolding be64
+be64_length n = refl
+
+-- a file's generation, then its length
+unfoldable pub place_bytes : Place → List ℕ
+place_bytes p = be64 p.gen_ ++ be64 p.length
+
+-- 1 for yes, 0 for no
+abbrev pub flag : Bool → ℕ
+flag true = 1
+flag false = 0
+
+-- the length of a name, the name, and zeros up to 64 bytes
+unfoldable pub name_bytes : List ℕ → List ℕ
+name_bytes name = (length name ∷ []) ++ name ++ replicate (64 - length name) 0
+
+-- the format, which is 1, and the settings
+unfoldable pub config_bytes : Config → List ℕ
+config_bytes c = (1 ∷ flag c.mirror ∷ []) ++ name_bytes c.name ++ be64 c.limit ++ be32 c.slice ++ be32 c.max ++ be32 c.born
+
+-- all fields of a root
+unfoldable pub fields : Root → List ℕ
+fields r = be64 r.sequence ++ config_bytes r.config ++ be32 r.next ++ place_bytes r.map ++ flat_map place_bytes r.epochs ++ place_bytes r.cache
+
+-- the fields, and zeros to the end of the slot of 1,536 bytes
+unfoldable pub spelling : Root → List ℕ
+spelling r = fields r ++ replicate (1536 - length (fields r)) 0

@@ -1,0 +1,150 @@
+//! The bytes of a root.
+ghost use Rattle.std.specs.Prelude.{◌≡◌, ◌+◌, ◌-◌, ◌≤◌, ◌∷◌, [], ◌++◌, List, ℕ, length, replicate};
+ghost use Rattle.std.specs.List.{flat_map};
+ghost use Rattle.root_slots.specs.Spelling.{be32, be64, flag, place_bytes, name_bytes, config_bytes, spelling};
+
+use crate::root::{Place, Root};
+use arch_base::{Config, Name};
+use std::marker::Model;
+
+/// A body that is written from its front on. A contract sees it as what is written so far; zeros stand behind.
+#[derive(Drop)]
+struct Body {
+    bytes: [u8; 1536],
+    at: usize,
+}
+
+impl Model for Body {
+    ghost use Rattle.std.specs.Prelude.{List, ℕ, ◌≤◌, ◌-◌, ◌≡◌, take, drop, replicate};
+
+    ghost Value = { List ℕ };
+
+    ghost view = { λ b. take b.at b.bytes };
+
+    ghost invariant = { λ b. (b.at ≤ 1536) × (drop b.at b.bytes ≡ replicate (1536 - b.at) 0) };
+}
+
+impl Body {
+    /// Nothing is written yet.
+    fn new() -> Self
+        ensures { result ≡ [] }
+    {
+        Body {
+            bytes: [0; 1536],
+            at: 0,
+        }
+    }
+
+    /// Writes a field.
+    fn push(&mut self, field: &[u8])
+        requires { length self.old + length field.now ≤ 1536 }
+        ensures bytes { self.new ≡ self.old ++ field.now }
+        ensures size { length self.new ≡ length self.old + length field.now }
+    {
+        let end = self.at + field.len();
+        self.bytes[self.at..end].copy_from_slice(field);
+        self.at = end;
+    }
+
+    /// Leaves zeros.
+    fn skip(&mut self, count: usize)
+        requires { length self.old + count ≤ 1536 }
+        ensures bytes { self.new ≡ self.old ++ replicate count 0 }
+        ensures size { length self.new ≡ length self.old + count }
+    {
+        self.at += count;
+    }
+
+    /// Writes a number of 32 bits.
+    #[tactic(auto, using(crate::specs::Spelling::be32_length), unfolding(crate::specs::Spelling::be32))]
+    fn push_u32(&mut self, number: u32)
+        requires { length self.old + 4 ≤ 1536 }
+        ensures bytes { self.new ≡ self.old ++ be32 number }
+        ensures size { length self.new ≡ length self.old + 4 }
+    {
+        self.push(&number.to_be_bytes());
+    }
+
+    /// Writes a number of 64 bits.
+    #[tactic(auto, using(crate::specs::Spelling::be64_length), unfolding(crate::specs::Spelling::be64))]
+    fn push_u64(&mut self, number: u64)
+        requires { length self.old + 8 ≤ 1536 }
+        ensures bytes { self.new ≡ self.old ++ be64 number }
+        ensures size { length self.new ≡ length self.old + 8 }
+    {
+        self.push(&number.to_be_bytes());
+    }
+
+    /// Writes a place.
+    #[tactic(auto, using(crate::specs::Spelling::be64_length), unfolding(crate::specs::Spelling::place_bytes))]
+    fn push_place(&mut self, place: &Place)
+        requires { length self.old + 16 ≤ 1536 }
+        ensures bytes { self.new ≡ self.old ++ place_bytes place.now }
+        ensures size { length self.new ≡ length self.old + 16 }
+    {
+        self.push_u64(place.gen_);
+        self.push_u64(place.length);
+    }
+
+    /// Writes a name with its length before it, and leaves zeros up to 64 bytes.
+    #[tactic(auto, unfolding(crate::specs::Spelling::name_bytes))]
+    fn push_name(&mut self, name: &Name)
+        requires { length self.old + 65 ≤ 1536 }
+        ensures bytes { self.new ≡ self.old ++ name_bytes name.now }
+        ensures size { length self.new ≡ length self.old + 65 }
+    {
+        let text = name.as_slice();
+        self.push(&[text.len() as u8]);
+        self.push(text);
+        self.skip(64 - text.len());
+    }
+
+    /// Writes the format and the settings.
+    #[tactic(auto, unfolding(crate::specs::Spelling::config_bytes))]
+    fn push_config(&mut self, config: &Config)
+        requires { length self.old + 87 ≤ 1536 }
+        ensures bytes { self.new ≡ self.old ++ config_bytes config.now }
+        ensures size { length self.new ≡ length self.old + 87 }
+    {
+        self.push(&[1, u8::from(config.mirror)]);
+        self.push_name(&config.name);
+        self.push_u64(config.limit);
+        self.push_u32(config.slice);
+        self.push_u32(config.max);
+        self.push_u32(config.born);
+    }
+
+    /// Writes the places of the epochs.
+    fn push_places(&mut self, places: &[Place; 64])
+        requires { length self.old + 1024 ≤ 1536 }
+        ensures bytes { self.new ≡ self.old ++ flat_map place_bytes places.now }
+        ensures size { length self.new ≡ length self.old + 1024 }
+    {
+        for place in places {
+            self.push_place(place);
+        }
+    }
+
+    /// The body, with zeros behind what is written.
+    fn finish(self) -> [u8; 1536]
+        ensures { result ≡ self ++ replicate (1536 - length self) 0 }
+    {
+        let Body { bytes, at: _ } = self;
+        bytes
+    }
+}
+
+/// The bytes of a root, 1,155 bytes of fields and zeros behind them.
+#[tactic(auto, unfolding(crate::specs::Spelling::fields, crate::specs::Spelling::spelling))]
+pub fn spell(root: &Root) -> [u8; 1536]
+    ensures { result ≡ spelling root.now }
+{
+    let mut body = Body::new();
+    body.push_u64(root.sequence);
+    body.push_config(&root.config);
+    body.push_u32(root.next);
+    body.push_place(&root.map);
+    body.push_places(&root.epochs);
+    body.push_place(&root.cache);
+    body.finish()
+}

@@ -1,0 +1,151 @@
+//! The current root of a root file.
+ghost use Rattle.std.specs.Prelude.{◌≡◌, ◌≢◌, ◌↔◌, ◌<◌, ◌≤◌, Ok, Err, Some, List, ℕ, length, IsTrue, IfOk, IfSome, IfNone};
+ghost use Rattle.arch_base.specs.Counts.{Rose, IsCaused};
+ghost use Rattle.arch_base.specs.Configs.{IsConfig};
+ghost use Rattle.disk_model.specs.Disk.{Image, Told, WhereTold, Unchanged, LeavesOnly, bytes_of};
+ghost use Rattle.root_slots.specs.declared.root.Root.{Root};
+ghost use Rattle.root_slots.specs.RootName.{root_name};
+ghost use Rattle.root_slots.specs.Spelling.{spelling};
+ghost use Rattle.root_slots.specs.Valid.{RootFits, PlaceIsValid, IsRoot};
+ghost use Rattle.root_slots.specs.Slots.{gate, body_at, sequence_of, body_place, Current, Answers, ReadsBack, AreRootBytes};
+
+use crate::body::spell;
+use crate::parts::{number64, root_of};
+use crate::refusal::RootRefusal;
+use crate::root::{Place, Root};
+use crate::slots::root_file;
+use arch_base::Config;
+use disk_model::{Disk, DiskFault};
+
+/// Whether settings are in their ranges.
+fn config_is_valid(config: &Config) -> bool
+    ensures { IsTrue result ↔ IsConfig config.now }
+{
+    if config.limit < 1 || config.limit > 1_099_511_627_776 || config.born < 1 {
+        return false;
+    }
+    if config.slice < 1 || config.slice > 1_000_000 {
+        return false;
+    }
+    config.max >= 1 && config.max <= 2_147_483_647
+}
+
+/// Whether a place may stand in a root of a sequence.
+fn place_is_valid(place: &Place, sequence: u64) -> bool
+    ensures { IsTrue result ↔ PlaceIsValid sequence place.now }
+{
+    place.gen_ <= sequence && (place.length != 0 || place.gen_ == 0)
+}
+
+/// Whether a root is in the ranges of its fields.
+pub fn is_valid(root: &Root) -> bool
+    ensures { IsTrue result ↔ IsRoot root.now }
+{
+    let sequence = root.sequence;
+    if !config_is_valid(&root.config) || root.next < 1 || root.next > 2_147_483_648 {
+        return false;
+    }
+    if root.map.gen_ > sequence || root.map.length != 28 * (u64::from(root.next) - 1) {
+        return false;
+    }
+    if !place_is_valid(&root.cache, sequence) {
+        return false;
+    }
+    root.epochs
+        .iter()
+        .all(|place| place_is_valid(place, sequence))
+}
+
+/// The root that a body is the spelling of, where there is one.
+fn parse(body: &[u8]) -> Option<Root>
+    requires { length body.now ≡ 1536 }
+    ensures some { IfSome result (λ r. (body.now ≡ spelling r) × IsRoot r) }
+    ensures none { IfNone result ((r : Root) → RootFits r → IsRoot r → body.now ≢ spelling r) }
+    ensures same { (r : Root) → RootFits r → IsRoot r → body.now ≡ spelling r → result ≡ Some r }
+{
+    let root = root_of(body)?;
+    if is_valid(&root) && spell(&root).as_slice() == body {
+        return Some(root);
+    }
+    None
+}
+
+/// The sequence in the body of a slot.
+fn sequence(file: &[u8], slot: u8) -> u64
+    requires size { length file.now ≡ 4096 }
+    requires slot { slot < 2 }
+    ensures { result ≡ sequence_of (body_at file.now slot) }
+{
+    let start = 1024 + 1536 * slot as usize;
+    number64(&file[start..start + 1536]).0
+}
+
+/// The open slot, and of two open ones that of greater sequence.
+fn newest_slot(file: &[u8]) -> Option<u8>
+    requires { length file.now ≡ 4096 }
+    ensures some { IfSome result (λ s. Current s (body_at file.now s) file.now) }
+    ensures none { IfNone result ((gate file.now 0 ≢ 1) × (gate file.now 1 ≢ 1)) }
+{
+    match (file[0] == 1, file[1] == 1) {
+        (false, false) => None,
+        (true, false) => Some(0),
+        (false, true) => Some(1),
+        (true, true) => {
+            if sequence(file, 0) < sequence(file, 1) {
+                Some(1)
+            } else {
+                Some(0)
+            }
+        }
+    }
+}
+
+/// The current root of a root file of the right size, and its slot.
+fn find(file: &[u8]) -> Result<Option<(u8, Root)>, RootRefusal>
+    requires { length file.now ≡ 4096 }
+    ensures exact { Answers file.now result }
+    ensures inverse { ReadsBack file.now result }
+    ensures no_fault { result ≢ Err RootRefusal.DiskFault }
+{
+    let Some(slot) = newest_slot(file) else {
+        return Ok(None);
+    };
+    let start = 1024 + 1536 * slot as usize;
+    match parse(&file[start..start + 1536]) {
+        Some(root) => Ok(Some((slot, root))),
+        None => Err(RootRefusal::Damaged { at: start as u64 }),
+    }
+}
+
+/// The root file's bytes, or that it has another size.
+fn whole_file<D: Disk>(disk: &mut D, file: &mut [u8; 4096]) -> Result<bool, DiskFault>
+    ensures whole { IfOk result (λ whole. WhereTold (AreRootBytes whole file.new) (D.content disk.old)) }
+    ensures same { Told Unchanged (D.content disk.old) (D.content disk.new) }
+    ensures any_moment { LeavesOnly D.moment D.left_since disk.old disk.new (Image (D.content disk.old)) }
+    ensures cause { IsCaused (D.faults disk.old) (D.faults disk.new) result }
+{
+    if disk.length(root_file())? != 4096 {
+        return Ok(false);
+    }
+    disk.read(root_file(), 0, file)?;
+    Ok(true)
+}
+
+/// The current root and its slot: the open slot, and of two open ones that of greater sequence. None exactly where no
+/// slot is open, and damaged exactly where the body of that slot is the spelling of no root.
+pub fn read<D: Disk>(disk: &mut D) -> Result<Option<(u8, Root)>, RootRefusal>
+    ensures exact { WhereTold (λ k. Answers (bytes_of (k root_name).seen) result) (D.content disk.old) }
+    // The root that was spelled there is read back.
+    ensures inverse { WhereTold (λ k. ReadsBack (bytes_of (k root_name).seen) result) (D.content disk.old) }
+    ensures same { Told Unchanged (D.content disk.old) (D.content disk.new) }
+    ensures any_moment { LeavesOnly D.moment D.left_since disk.old disk.new (Image (D.content disk.old)) }
+    ensures later { D.faults disk.old ≤ D.faults disk.new }
+    ensures fault { result ≡ Err RootRefusal.DiskFault → Rose (D.faults disk.old) (D.faults disk.new) }
+{
+    let mut file = [0; 4096];
+    match whole_file(disk, &mut file) {
+        Err(DiskFault) => Err(RootRefusal::DiskFault),
+        Ok(false) => Ok(None),
+        Ok(true) => find(&file),
+    }
+}

@@ -1,0 +1,21 @@
+//! The root of an archive: one file with two slots, of which a commit changes the other one.
+#![tactic(auto)]
+
+mod body;
+mod find;
+mod laws;
+mod parts;
+mod refusal;
+mod root;
+mod slots;
+mod start;
+
+pub use find::read;
+pub use laws::law_of_spellings;
+pub use refusal::RootRefusal;
+pub use root::{Place, Root};
+pub use slots::{commit, fill, raise, shut};
+pub use start::begin;
+
+#[cfg(test)]
+mod tests;

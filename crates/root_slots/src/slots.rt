@@ -1,0 +1,88 @@
+//! The two slots, and how a root takes the place of the current one.
+ghost use Rattle.std.specs.Prelude.{◌≡◌, ◌+◌, ◌<◌, ◌∷◌, [], ℕ, List, length, OnOk};
+ghost use Rattle.arch_base.specs.Counts.{IsCaused};
+ghost use Rattle.disk_model.specs.Disk.{Told, WhereTold, LeavesOnly};
+ghost use Rattle.disk_model.specs.Synced.{Writing, IsWritten};
+ghost use Rattle.root_slots.specs.RootName.{root_name};
+ghost use Rattle.root_slots.specs.Each.{EachRoot};
+ghost use Rattle.root_slots.specs.Spelling.{spelling};
+ghost use Rattle.root_slots.specs.Valid.{IsRoot};
+ghost use Rattle.root_slots.specs.Slots.{HasRootSize, body_place, sequence_of, Current, Ready, OthersStay, IsOldOrNew, IsCommitted};
+
+use crate::body::spell;
+use crate::root::Root;
+use disk_model::{Disk, DiskFault, FileKind, FileName, write_and_sync};
+
+/// The name of the root file.
+pub fn root_file() -> FileName
+    ensures { result ≡ root_name }
+{
+    FileName {
+        kind: FileKind::Root,
+        number: 0,
+        gen_: 0,
+    }
+}
+
+/// Shuts the gate of a slot, and syncs.
+pub fn shut<D: Disk>(disk: &mut D, slot: u8) -> Result<(), DiskFault>
+    requires slot { slot < 2 }
+    requires size { WhereTold HasRootSize (D.content disk.old) }
+    ensures any_moment { LeavesOnly D.moment D.left_since disk.old disk.new (Writing root_name slot 1 (D.content disk.old)) }
+    ensures written { OnOk result (Told (IsWritten root_name slot (0 ∷ [])) (D.content disk.old) (D.content disk.new)) }
+    ensures cause { IsCaused (D.faults disk.old) (D.faults disk.new) result }
+    ensures count { D.reads disk.new ≡ D.reads disk.old }
+{
+    write_and_sync(disk, root_file(), slot as u64, &[0])
+}
+
+/// Writes a root into the body of a slot, and syncs.
+pub fn fill<D: Disk>(disk: &mut D, slot: u8, root: &Root) -> Result<(), DiskFault>
+    requires slot { slot < 2 }
+    requires size { WhereTold HasRootSize (D.content disk.old) }
+    requires root { IsRoot root.now }
+    ensures any_moment { LeavesOnly D.moment D.left_since disk.old disk.new (Writing root_name (body_place slot) 1536 (D.content disk.old)) }
+    ensures written { OnOk result (Told (IsWritten root_name (body_place slot) (spelling root.now)) (D.content disk.old) (D.content disk.new)) }
+    ensures whole { length (spelling root.now) ≡ 1536 }
+    ensures cause { IsCaused (D.faults disk.old) (D.faults disk.new) result }
+    ensures count { D.reads disk.new ≡ D.reads disk.old }
+{
+    write_and_sync(disk, root_file(), 1024 + 1536 * slot as u64, &spell(root))
+}
+
+/// Opens the gate of a slot, and syncs.
+pub fn raise<D: Disk>(disk: &mut D, slot: u8) -> Result<(), DiskFault>
+    requires slot { slot < 2 }
+    requires size { WhereTold HasRootSize (D.content disk.old) }
+    ensures any_moment { LeavesOnly D.moment D.left_since disk.old disk.new (Writing root_name slot 1 (D.content disk.old)) }
+    ensures written { OnOk result (Told (IsWritten root_name slot (1 ∷ [])) (D.content disk.old) (D.content disk.new)) }
+    ensures cause { IsCaused (D.faults disk.old) (D.faults disk.new) result }
+    ensures count { D.reads disk.new ≡ D.reads disk.old }
+{
+    write_and_sync(disk, root_file(), slot as u64, &[1])
+}
+
+/// Puts a new root in the place of the current one: shuts the gate of the slot that isn't the current one, writes its
+/// body, and opens its gate, with a sync after each.
+pub fn commit<D: Disk>(disk: &mut D, slot: u8, root: &Root) -> Result<(), DiskFault>
+    requires slot { slot < 2 }
+    requires size { WhereTold HasRootSize (D.content disk.old) }
+    requires root { IsRoot root.now }
+
+    // At each moment a crash leaves the old root or the new one, and all other files as before.
+    ensures any_moment { (old : List ℕ) → EachRoot (Ready slot old) (D.content disk.old) → sequence_of old < root.now.sequence
+        → LeavesOnly D.moment D.left_since disk.old disk.new (IsOldOrNew old (spelling root.now) (D.content disk.old)) }
+    // After Ok it leaves the new one, and all that reads give is on the disk.
+    ensures done { (old : List ℕ) → EachRoot (Ready slot old) (D.content disk.old) → sequence_of old < root.now.sequence
+        → OnOk result (EachRoot (Current slot (spelling root.now)) (D.content disk.new)) }
+    // No other file is touched, whatever the root file has.
+    ensures elsewhere { LeavesOnly D.moment D.left_since disk.old disk.new (OthersStay (D.content disk.old)) }
+    ensures committed { OnOk result (Told IsCommitted (D.content disk.old) (D.content disk.new)) }
+    ensures cause { IsCaused (D.faults disk.old) (D.faults disk.new) result }
+    ensures count { D.reads disk.new ≡ D.reads disk.old }
+{
+    let _sequence = root.sequence; // brings the range of a field behind a `&` into the proof
+    shut(disk, slot)?;
+    fill(disk, slot, root)?;
+    raise(disk, slot)
+}

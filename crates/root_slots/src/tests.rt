@@ -1,0 +1,363 @@
+//! Roots on a disk in memory: their bytes, what is read of a root file, and what a crash leaves.
+use crate::body::spell;
+use crate::find::is_valid;
+use crate::slots::root_file;
+use crate::{Place, Root, RootRefusal, begin, commit, fill, law_of_spellings, raise, read, shut};
+use arch_base::{Config, Name, Numbers};
+use disk_model::{Disk, DiskFault, FileKind, FileName, FuseDisk, MemDisk};
+use std::test::Fail;
+
+/// Another file of the disk.
+const OTHER: FileName = FileName {
+    kind: FileKind::Epoch,
+    number: 5,
+    gen_: 1,
+};
+
+/// The fields of the sample of sequence 1 and most number 7: their places in the body and their bytes.
+const LAYOUT: [(usize, &[u8]); 14] = [
+    (0, b"\x00\x00\x00\x00\x00\x00\x00\x01"),
+    (8, b"\x01"),
+    (9, b"\x01"),
+    (10, b"\x08list-1.x"),
+    (75, b"\x00\x00\x00\x01\x02\x03\x04\x05"),
+    (83, b"\x00\x0a\x0b\x0c"),
+    (87, b"\x00\x00\x00\x07"),
+    (91, b"\x65\xbb\x6c\x04"),
+    (95, b"\x00\x00\x00\x03"),
+    (
+        99,
+        b"\x00\x00\x00\x00\x00\x00\x00\x01\x00\x00\x00\x00\x00\x00\x00\x38",
+    ),
+    (
+        115,
+        b"\x00\x00\x00\x00\x00\x00\x00\x01\x00\x00\x00\x00\x00\x00\x12\x34",
+    ),
+    (
+        131,
+        b"\x00\x00\x00\x00\x00\x00\x00\x00\x00\x00\x00\x00\x00\x00\x00\x00",
+    ),
+    (
+        1123,
+        b"\x00\x00\x00\x00\x00\x00\x00\x00\x00\x00\x00\x00\x00\x00\x00\x09",
+    ),
+    (
+        1139,
+        b"\x00\x00\x00\x00\x00\x00\x00\x01\x00\x00\x00\x00\x00\x00\x00\x4d",
+    ),
+];
+
+/// Bytes put over the sample's body, and whether a root stands there still.
+const FIELDS: [(u64, &[u8], bool); 38] = [
+    (0, b"\x00\x00\x00\x00\x00\x00\x00\x00", false),
+    (8, b"\x00", false),
+    (8, b"\x02", false),
+    (9, b"\x00", true),
+    (9, b"\x02", false),
+    (10, b"\x00", false),
+    (10, b"\x07", false),
+    (10, b"\x41", false),
+    (11, b"L", false),
+    (11, b"-", false),
+    (18, b".", false),
+    (19, b"y", false),
+    (74, b"\x01", false),
+    (75, b"\x00\x00\x00\x00\x00\x00\x00\x00", false),
+    (75, b"\x00\x00\x01\x00\x00\x00\x00\x00", true),
+    (75, b"\x00\x00\x01\x00\x00\x00\x00\x01", false),
+    (83, b"\x00\x00\x00\x00", false),
+    (83, b"\x00\x0f\x42\x40", true),
+    (83, b"\x00\x0f\x42\x41", false),
+    (87, b"\x00\x00\x00\x00", false),
+    (87, b"\x7f\xff\xff\xff", true),
+    (87, b"\x80\x00\x00\x00", false),
+    (91, b"\x00\x00\x00\x00", false),
+    (91, b"\xff\xff\xff\xff", true),
+    (95, b"\x00\x00\x00\x00", false),
+    (
+        95,
+        b"\x80\x00\x00\x01\x00\x00\x00\x00\x00\x00\x00\x01\x00\x00\x00\x0e\x00\x00\x00\x00",
+        false,
+    ),
+    (
+        95,
+        b"\x80\x00\x00\x00\x00\x00\x00\x00\x00\x00\x00\x01\x00\x00\x00\x0d\xff\xff\xff\xe4",
+        true,
+    ),
+    (
+        95,
+        b"\x00\x00\x00\x00\x00\x00\x00\x00\x00\x00\x00\x01\x00\x00\x00\x00\x00\x00\x00\x00",
+        false,
+    ),
+    (
+        95,
+        b"\x00\x00\x00\x01\x00\x00\x00\x00\x00\x00\x00\x01\x00\x00\x00\x00\x00\x00\x00\x00",
+        true,
+    ),
+    (106, b"\x02", false),
+    (114, b"\x39", false),
+    (122, b"\x02", false),
+    (131, b"\x00\x00\x00\x00\x00\x00\x00\x01", false),
+    (1130, b"\x02", false),
+    (1146, b"\x02", false),
+    (1154, b"\x00", false),
+    (1155, b"\x01", false),
+    (1535, b"\x01", false),
+];
+
+/// Two gates, the sequences of two bodies, and the slot that is read.
+const NEWEST: [(u8, u64, u8, u64, Option<u8>); 9] = [
+    (0, 1, 0, 2, None),
+    (2, 1, 255, 2, None),
+    (1, 1, 0, 2, Some(0)),
+    (1, 1, 3, 2, Some(0)),
+    (0, 2, 1, 1, Some(1)),
+    (1, 1, 1, 2, Some(1)),
+    (1, 2, 1, 1, Some(0)),
+    (1, 2, 1, 2, Some(0)),
+    (1, 255, 1, 256, Some(1)),
+];
+
+/// A root whose fields differ from one another.
+fn sample(sequence: u64, max: u32) -> Option<Root> {
+    let name = Name::read(b"list-1.x")?;
+    let mut epochs = [Place { gen_: 0, length: 0 }; 64];
+    epochs[0] = Place {
+        gen_: 1,
+        length: 0x1234,
+    };
+    epochs[63].length = 9;
+    Some(Root {
+        config: Config {
+            name,
+            limit: 0x01_0203_0405,
+            slice: 0x0a_0b0c,
+            max,
+            mirror: true,
+            born: 1_706_781_700,
+        },
+        sequence,
+        next: 3,
+        map: Place {
+            gen_: 1,
+            length: 56,
+        },
+        epochs,
+        cache: Place {
+            gen_: 1,
+            length: 77,
+        },
+    })
+}
+
+/// Commits a root where the root file has its size, after one look at that.
+fn try_commit<D: Disk>(disk: &mut D, slot: u8, root: &Root) -> Result<(), DiskFault> {
+    if slot > 1 || !is_valid(root) || disk.length(root_file())? != 4096 {
+        return Err(DiskFault);
+    }
+    commit(disk, slot, root)
+}
+
+/// Puts a root into a slot, and opens or shuts its gate.
+fn put<D: Disk>(disk: &mut D, slot: u8, root: &Root, open: bool) -> Result<(), DiskFault> {
+    if slot > 1 || !is_valid(root) || disk.length(root_file())? != 4096 {
+        return Err(DiskFault);
+    }
+    fill(disk, slot, root)?;
+    if disk.length(root_file())? != 4096 {
+        return Err(DiskFault);
+    }
+    if open {
+        raise(disk, slot)
+    } else {
+        shut(disk, slot)
+    }
+}
+
+/// Writes into the root file.
+fn write<D: Disk>(disk: &mut D, place: u64, bytes: &[u8]) -> Result<(), DiskFault> {
+    if place > disk.length(root_file())? || place > 4096 || bytes.len() > 4097 {
+        return Err(DiskFault);
+    }
+    disk.write_at(root_file(), place, bytes)
+}
+
+/// Cuts the root file.
+fn trim<D: Disk>(disk: &mut D, length: u64) -> Result<(), DiskFault> {
+    if length > disk.length(root_file())? {
+        return Err(DiskFault);
+    }
+    disk.cut(root_file(), length)
+}
+
+/// The slot of the current root.
+fn slot_read<D: Disk>(disk: &mut D) -> Result<Option<u8>, RootRefusal> {
+    match read(disk)? {
+        Some((slot, _)) => Ok(Some(slot)),
+        None => Ok(None),
+    }
+}
+
+#[test]
+fn a_root_has_these_bytes(rt: HostRuntime) -> Result<(), Fail> {
+    law_of_spellings();
+    let root = sample(1, 7).expect(&rt, "a root");
+    let bytes = spell(&root.copy());
+    let mut want = [0; 1536];
+    for (place, field) in &LAYOUT {
+        assert!(rt; *place < 1200 && field.len() < 32);
+        want[*place..*place + field.len()].copy_from_slice(field);
+    }
+    assert!(rt; bytes.as_slice() == want.as_slice());
+    Ok(())
+}
+
+#[test]
+fn each_field_out_of_its_range_is_damage(rt: HostRuntime) -> Result<(), Fail> {
+    let root = sample(1, 7).expect(&rt, "a root");
+    for (slot, body) in [(0, 1024), (1, 2560)] {
+        let mut disk = MemDisk::new(rt.alloc(), Numbers::new(rt.alloc()));
+        begin(&mut disk)?;
+        for (place, bytes, stands) in &FIELDS {
+            put(&mut disk, slot, &root, true)?;
+            assert_eq!(rt; slot_read(&mut disk), Ok(Some(slot)));
+            assert!(rt; body <= 2560 && *place < 1536);
+            write(&mut disk, body + *place, bytes)?;
+            let want = if *stands {
+                Ok(Some(slot))
+            } else {
+                Err(RootRefusal::Damaged { at: body })
+            };
+            assert_eq!(rt; slot_read(&mut disk), want, "slot {slot}, place {place}");
+        }
+    }
+    Ok(())
+}
+
+#[test]
+fn the_open_slot_of_greater_sequence_is_read(rt: HostRuntime) -> Result<(), Fail> {
+    let mut disk = MemDisk::new(rt.alloc(), Numbers::new(rt.alloc()));
+    assert_eq!(rt; slot_read(&mut disk), Ok(None));
+    begin(&mut disk)?;
+    assert_eq!(rt; slot_read(&mut disk), Ok(None));
+    for (gate0, sequence0, gate1, sequence1, want) in &NEWEST {
+        let first = sample(*sequence0, 7).expect(&rt, "a root");
+        let second = sample(*sequence1, 8).expect(&rt, "a root");
+        put(&mut disk, 0, &first, true)?;
+        put(&mut disk, 1, &second, false)?;
+        write(&mut disk, 0, &[*gate0, *gate1])?;
+        assert_eq!(rt; slot_read(&mut disk), Ok(*want));
+    }
+    // The open slot of greater sequence is broken.
+    write(&mut disk, 2568, &[9])?;
+    assert_eq!(rt;
+        slot_read(&mut disk),
+        Err(RootRefusal::Damaged { at: 2560 })
+    );
+    // A byte more than the root file has, and a byte less.
+    write(&mut disk, 4096, &[0])?;
+    assert_eq!(rt; slot_read(&mut disk), Ok(None));
+    trim(&mut disk, 4096)?;
+    assert_eq!(rt;
+        slot_read(&mut disk),
+        Err(RootRefusal::Damaged { at: 2560 })
+    );
+    trim(&mut disk, 4095)?;
+    assert_eq!(rt; slot_read(&mut disk), Ok(None));
+    Ok(())
+}
+
+#[test]
+fn a_call_that_fails_is_no_answer(rt: HostRuntime) -> Result<(), Fail> {
+    for passes in 0..3 {
+        let mut disk = MemDisk::new(rt.alloc(), Numbers::new(rt.alloc()));
+        begin(&mut disk)?;
+        let mut fuse = FuseDisk::new(disk, passes);
+        // A look at the length, and a read.
+        let want = if passes < 2 {
+            Err(RootRefusal::DiskFault)
+        } else {
+            Ok(None)
+        };
+        assert_eq!(rt; slot_read(&mut fuse), want);
+    }
+    Ok(())
+}
+
+#[test]
+fn a_stop_while_it_begins_opens_no_slot(rt: HostRuntime) -> Result<(), Fail> {
+    for passes in 0..8 {
+        let mut disk = MemDisk::new(rt.alloc(), Numbers::new(rt.alloc()));
+        write(&mut disk, 0, &[1; 4097])?;
+        disk.sync()?;
+        let mut fuse = FuseDisk::new(disk, passes);
+        // A removal, two writes, and a sync after each.
+        let done = begin(&mut fuse).is_ok();
+        assert_eq!(rt; done, passes >= 6);
+        let mut disk = fuse.into_inner();
+        let end = disk.moments();
+        for at in 2..=end {
+            for pick in 0..4 {
+                assert!(rt; at <= disk.moments() && pick <= 3);
+                let mut image = disk.image(at, pick)?;
+                assert_eq!(rt; slot_read(&mut image), Ok(None));
+            }
+        }
+        let mut file = [7; 4096];
+        assert!(rt; !done || disk.read(root_file(), 0, &mut file)? == 4096);
+        assert!(rt; !done || file.iter().all(|byte| *byte == 0));
+    }
+    Ok(())
+}
+
+/// A disk with a current root in slot 0, a twin of it in slot 1 where that is asked for, and another file.
+fn settle(disk: &mut MemDisk, root: &Root, twin: bool) -> Result<(), DiskFault> {
+    begin(disk)?;
+    put(disk, 0, root, true)?;
+    if twin {
+        put(disk, 1, root, false)?;
+    }
+    if disk.length(OTHER)? != 0 {
+        return Err(DiskFault);
+    }
+    disk.write_at(OTHER, 0, b"other")?;
+    disk.sync()
+}
+
+/// Whether the current root of a disk is this one, in this slot.
+fn has_root(disk: &mut MemDisk, slot: u8, root: &Root) -> Result<bool, RootRefusal> {
+    match read(disk)? {
+        Some((found, current)) => Ok(found == slot && spell(&current) == spell(root)),
+        None => Ok(false),
+    }
+}
+
+#[test]
+fn a_stop_leaves_the_old_root_or_the_new_one(rt: HostRuntime) -> Result<(), Fail> {
+    let old = sample(1, 7).expect(&rt, "a root");
+    let new = sample(2, 8).expect(&rt, "a root");
+    for passes in 0..9 {
+        let mut disk = MemDisk::new(rt.alloc(), Numbers::new(rt.alloc()));
+        settle(&mut disk, &old, passes % 2 == 0)?;
+        let start = disk.moments();
+        let mut fuse = FuseDisk::new(disk, passes);
+        // A look at the length, three writes, and a sync after each.
+        let done = try_commit(&mut fuse, 1, &new).is_ok();
+        assert_eq!(rt; done, passes >= 7);
+        let disk = fuse.into_inner();
+        let end = disk.moments();
+        for at in start..=end {
+            for pick in 0..4 {
+                assert!(rt; at <= disk.moments() && pick <= 3);
+                let mut image = disk.image(at, pick)?;
+                let changed = has_root(&mut image, 1, &new)?;
+                assert!(rt; changed || has_root(&mut image, 0, &old)?);
+                assert!(rt; changed || !done || at < end);
+                let mut other = [0; 6];
+                assert_eq!(rt; image.read(OTHER, 0, &mut other)?, 5);
+                assert_eq!(rt; &other, b"other\0");
+            }
+        }
+    }
+    Ok(())
+}
