@@ -1,5 +1,5 @@
 -- What stands at the front where more bytes come behind it.
-use Rattle.std.proofs.Common.{◌≡◌, ◌≢◌, ◌+◌, ◌-◌, ◌<◌, ◌≤◌, ℕ, Bool, true, false, nat_le, List, [], ◌∷◌, ◌++◌, length, take, drop, Option, Some, None, refl, sym, ◌∙◌, ap, subst, arith, if◌then◌else◌, inl, inr, ◌⊎◌, length-append, length-take, length-drop}
+use Rattle.std.proofs.Common.{◌≡◌, ◌<◌, ◌≤◌, ℕ, Bool, true, false, nat_le, List, [], ◌++◌, length, take, drop, refl, sym, ◌∙◌, ap, arith, inl, inr, ◌⊎◌, length-append, length-drop}
 use Rattle.std.proofs.lemmas.List.{take-append-le, drop-append-le}
 use Rattle.std.proofs.lemmas.Bool.Decides.{nat_tests}
 use Rattle.line_door.specs.Lines as line
@@ -7,7 +7,7 @@ use Rattle.line_door.proofs.Fronts.{front-goes_on, front-stays_long, front-short
 use Rattle.control_door.specs.declared.order.Order.{Order}
 use Rattle.control_door.specs.declared.order.Order.TheVariants.{Deliver, TooMuch, Show, Epochs, Quit, Bad}
 use Rattle.control_door.specs.Orders.{order_of}
-use Rattle.control_door.specs.Requests.{Request, Delivers, Shows, Lists, Quits, Mistakes, Exceeds, Ahead, Asked, Unfinished, asked_by, asked_at, ahead, is_asked, is_request, line_limit}
+use Rattle.control_door.specs.Requests.{Request, Delivers, Shows, Lists, Quits, Mistakes, Exceeds, Ahead, Asked, Unfinished, asked_by, asked_at, ahead, is_asked, line_limit}
 
 -- a message that is whole
 pub asked_by-whole : (size : ℕ) (rest : List ℕ) → size ≤ length rest → asked_by (Deliver size) rest ≡ Asked (Delivers (take size rest)) (drop size rest)

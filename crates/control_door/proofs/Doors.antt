@@ -1,6 +1,6 @@
 -- The laws of the control door.
-use Rattle.std.proofs.Common.{◌≡◌, ◌<◌, ◌⊎◌, inl, inr, ℕ, Bool, true, false, List, [], ◌∷◌, ◌++◌, length, Option, Some, None, refl, sym, ◌∙◌, ap, subst, append_assoc, arith}
-use Rattle.line_door.specs.Acts.{Said, Way, Plain, Memory, Disk}
+use Rattle.std.proofs.Common.{◌≡◌, ◌<◌, ◌⊎◌, inl, inr, ℕ, true, List, [], ◌∷◌, ◌++◌, length, Some, None, refl, ap, append_assoc, arith}
+use Rattle.line_door.specs.Acts.{Way, Plain, Memory, Disk}
 use Rattle.line_door.specs.Plain.{silent}
 use Rattle.line_door.specs.Cuts.{CutDoor, said_with}
 use Rattle.line_door.proofs.Cutting.{door_laws}

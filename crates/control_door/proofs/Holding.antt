@@ -1,11 +1,10 @@
 -- What a session holds is the beginning of a request; what acts on it are.
-use Rattle.std.proofs.Common.{◌≡◌, ◌+◌, ◌-◌, ◌<◌, ◌≤◌, ◌⊎◌, inl, inr, ℕ, Bool, true, false, List, [], ◌∷◌, ◌++◌, length, take, drop, codes, decimal, Option, Some, None, refl, sym, ◌∙◌, ap, subst, arith, if◌then◌else◌, nat_lt, length-append, length-take, append_assoc}
-use Rattle.std.specs.Option.{option_copied}
+use Rattle.std.proofs.Common.{◌≡◌, ◌+◌, ◌-◌, ◌<◌, ◌≤◌, ℕ, Bool, true, false, List, [], ◌∷◌, ◌++◌, length, take, drop, Option, Some, None, refl, sym, ◌∙◌, ap, subst, arith, if◌then◌else◌, nat_lt, length-append, length-take, append_assoc}
 use Rattle.std.proofs.lemmas.List.{append-nil}
 use Rattle.std.proofs.lemmas.Bool.Decides.{nat_tests}
 use Rattle.std.proofs.Math.Seq.{take-append-add, drop-append-add, drop-drop}
 use Rattle.line_door.specs.Lines as line
-use Rattle.line_door.specs.Acts.{Outside, Said, Way, Plain, Memory, Disk, Acts, held_if, outside}
+use Rattle.line_door.specs.Acts.{Outside, Plain, Memory, Acts, held_if}
 use Rattle.line_door.specs.Plain.{silent}
 use Rattle.line_door.specs.Phrases.{Says}
 use Rattle.line_door.proofs.Acting.{acts-by_held, acts-closing, acts-silent, acts-words}
@@ -15,14 +14,13 @@ use Rattle.arch_model.specs.Delivery.{Done, Delivers, delivered, answer_line}
 use Rattle.arch_model.specs.declared.answer.Answer.{Answer}
 use Rattle.arch_model.specs.declared.answer.Answer.TheVariants as named
 use Rattle.control_door.specs.declared.order.Order.{Order}
-use Rattle.control_door.specs.declared.order.Order.TheVariants.{Deliver, TooMuch, Show, Epochs, Quit, Bad}
+use Rattle.control_door.specs.declared.order.Order.TheVariants.{Deliver}
 use Rattle.control_door.specs.declared.session.Payload.{Payload}
-use Rattle.control_door.specs.declared.session.Turn.{Turn}
-use Rattle.control_door.specs.declared.session.Turn.TheVariants.{Went, Kept, Closed}
+use Rattle.control_door.specs.declared.session.Turn.TheVariants.{Went, Closed}
 use Rattle.control_door.specs.Orders.{order_of}
 use Rattle.control_door.specs.Requests as requests
 use Rattle.control_door.specs.Requests.{Request, Shows, Lists, Quits, Mistakes, Exceeds, Ahead, Asked, Unfinished, asked_by, ahead, is_asked, is_request, line_limit}
-use Rattle.control_door.specs.Door.{said, said_to, said_at, answered, goes_on, closes, unkept, delivers, memory_word, bad_word, shown, epochs_words, reply_line}
+use Rattle.control_door.specs.Door.{said, said_to, said_at, goes_on, closes, unkept, delivers, memory_word, bad_word, shown, epochs_words, reply_line}
 use Rattle.control_door.specs.Sessions.{IsHeld, IsPayload, IsTurn}
 use Rattle.control_door.proofs.Aheads.{asked_by-whole, asked_by-part}
 

@@ -1,7 +1,7 @@
 -- What a session holds between pieces, and what one act of it is.
-use Rattle.std.specs.Prelude.{◌≡◌, ◌+◌, ◌<◌, ◌≤◌, ◌⊎◌, ℕ, true, false, List, [], ◌∷◌, ◌++◌, length, drop, Option, Some, None}
+use Rattle.std.specs.Prelude.{◌≡◌, ◌+◌, ◌<◌, ◌≤◌, ℕ, true, false, List, ◌++◌, length, drop, Option, Some, None}
 use Rattle.line_door.specs.Lines as line
-use Rattle.line_door.specs.Acts.{Outside, Acts, held_if}
+use Rattle.line_door.specs.Acts.{Outside, Acts}
 use Rattle.arch_model.specs.Archives.{Archive}
 use Rattle.control_door.specs.Orders.{order_of}
 use Rattle.control_door.specs.Requests.{line_limit, is_request}

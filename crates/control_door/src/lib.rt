@@ -1,4 +1,4 @@
-//! The control door: a connection over which messages are delivered and shown.
+//! The control door: a connection over which messages are delivered and shown, and the epochs listed.
 #![tactic(auto)]
 
 mod laws;

@@ -71,8 +71,16 @@ impl Session {
         }
     }
 
-    /// Answers the whole requests of a piece at a moment, one by one, and keeps the rest. It answers whether the session goes
-    /// on; where it doesn't, nothing is said of what it holds.
+    /// Answers the whole requests of a piece at a moment, in seconds since 1970, one by one, and keeps the rest. It answers
+    /// whether the session goes on.
+    ///
+    /// It ends, and what stands behind is dropped, at `quit`, which writes nothing; at a line of more than 512 octets with
+    /// its line end, and at `deliver` with a SIZE above 9,000,000, which write `13 bad line`; where there is no memory for a
+    /// rest that isn't empty, which writes `12 no memory`; and where words weren't taken whole: a prefix of them was, the
+    /// sink's count of faults rose, and what the request changed stays. Nothing is then said of what the session holds.
+    ///
+    /// A delivery or a list of the epochs for which there is no memory writes `12 no memory` and leaves the archive as it was,
+    /// and the session goes on.
     pub fn feed<O: Sink>(
         &mut self,
         piece: &[u8],

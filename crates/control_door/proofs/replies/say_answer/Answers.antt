@@ -1,4 +1,3 @@
-use Rattle.std.proofs.Common.{◌++◌, ◌∷◌, [], decimal, ◌≡◌, codes}
 use Rattle.control_door.proofs.replies.say_answer.Goals as goal
 
 pub returns-in-TooLarge-clause-said : goal.returns-in-TooLarge-clause-said

@@ -1,6 +1,5 @@
-use Rattle.std.proofs.Common.{◌++◌, ◌∷◌, [], decimal, append_assoc, sym, ap, subst, ◌∙◌, List, ℕ, ◌≡◌}
+use Rattle.std.proofs.Common.{◌++◌, ◌∷◌, [], decimal, append_assoc, ◌∙◌, ◌≡◌}
 use Rattle.line_door.proofs.Acting.{Says-then, Says-first}
-use Rattle.line_door.specs.Phrases.{Says}
 use Rattle.control_door.proofs.replies.say_number.Goals as goal
 
 pub returns-then-not-say-clause-said : goal.returns-then-not-say-clause-said

@@ -1,4 +1,3 @@
-use Rattle.std.proofs.Common.{◌++◌, ◌∷◌, [], decimal, ◌≡◌, codes, ◌∙◌, sym, ap}
 use Rattle.control_door.proofs.replies.say_shown.Goals as goal
 
 pub returns-in-None-clause-said : goal.returns-in-None-clause-said

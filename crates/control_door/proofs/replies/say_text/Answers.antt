@@ -1,4 +1,4 @@
-use Rattle.std.proofs.Common.{◌++◌, ◌∷◌, [], decimal, append_assoc, sym, ap, subst, ◌∙◌, List, ℕ, ◌≡◌, codes, length}
+use Rattle.std.proofs.Common.{◌++◌, decimal, codes, length}
 use Rattle.line_door.proofs.Acting.{Says-then, Says-first}
 use Rattle.control_door.specs.Door.{reply_line}
 use Rattle.control_door.proofs.replies.say_text.Goals as goal

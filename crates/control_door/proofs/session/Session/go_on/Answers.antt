@@ -1,5 +1,4 @@
-use Rattle.std.proofs.Common.{◌≡◌, ◌++◌, ◌-◌, ◌+◌, ◌<◌, ◌≤◌, ◌∙◌, ℕ, List, length, take, drop, Some, arith, sym, ap, length-append}
-use Rattle.line_door.proofs.Fronts.{front-joined}
+use Rattle.std.proofs.Common.{◌≡◌, ◌++◌, ◌-◌, ◌<◌, ◌≤◌, ◌∙◌, ℕ, List, length, take, drop, arith}
 use Rattle.control_door.specs.Requests.{Delivers}
 use Rattle.control_door.proofs.Holding.{payload-more, payload-whole, payload-start, turn-went}
 use Rattle.control_door.proofs.session.Session.go_on.Goals as goal

@@ -1,7 +1,6 @@
-use Rattle.std.proofs.Common.{◌≡◌, ◌++◌, ◌∙◌, ◌<◌, [], Some, List, ℕ, length, arith, sym, ap, subst, is_ok, true, not, if◌then◌else◌}
-use Rattle.std.proofs.lemmas.List.{append-nil, nil_from_length}
+use Rattle.std.proofs.Common.{◌≡◌, ◌++◌, ◌∙◌, [], arith, ap, is_ok, true, not}
+use Rattle.std.proofs.lemmas.List.{nil_from_length}
 use Rattle.std.proofs.lemmas.Bool.Decides.{nat_tests}
-use Rattle.control_door.specs.Sessions.{IsHeld}
 use Rattle.control_door.proofs.Holding.{keeps, keeps-nothing, closes-keeping}
 use Rattle.control_door.proofs.session.Session.keep.Goals as goal
 

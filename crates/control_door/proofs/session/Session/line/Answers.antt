@@ -16,12 +16,12 @@ returns-clause-turn g c =
     let held : c.as_slice.result.now ≡ old = c.as_slice.ensures ∙ c.self.view_is in
     let ordered : c.line_order.result ≡ order_of (content (old ++ take c.args.len piece)) = c.line_order.ensures ∙ ap (λ (h : List ℕ). order_of (content (h ++ take c.args.len piece))) held in
     elim c.match-line_order.branch [
-      in-Show w ↦ rw (c.went.ensures, w.out-is, w.said-is)
-        (turn-line moment c.args.archive.now old piece c.args.len (Show w.in-Show.number) (Shows w.in-Show.number) _ _ _ _ c.requires.within c.requires.line (sym ordered ∙ w.in-Show.is) refl c.clear.ensures
+      | in-Show w ↦ rw (c.went.ensures, w.out-is, w.said-is)
+          (turn-line moment c.args.archive.now old piece c.args.len (Show w.in-Show.number) (Shows w.in-Show.number) _ _ _ _ c.requires.within c.requires.line (sym ordered ∙ w.in-Show.is) refl c.clear.ensures
           (acts-shown moment c.args.archive.now w.in-Show.number rest _ _ _ (omega arith) (rw w.text.ensures at w.say_shown-said.ensures.said)))
       | in-Epochs w ↦ rw (c.went.ensures, w.out-is, w.said-is)
-        (turn-line moment c.args.archive.now old piece c.args.len Epochs Lists _ _ _ _ c.requires.within c.requires.line (sym ordered ∙ w.in-Epochs.is) refl c.clear.ensures (w.say_epochs-said.ensures.acts moment rest))
+          (turn-line moment c.args.archive.now old piece c.args.len Epochs Lists _ _ _ _ c.requires.within c.requires.line (sym ordered ∙ w.in-Epochs.is) refl c.clear.ensures (w.say_epochs-said.ensures.acts moment rest))
       | in-Bad w ↦ rw (c.went.ensures, w.out-is, w.said-is)
-        (turn-line moment c.args.archive.now old piece c.args.len Bad Mistakes _ _ _ _ c.requires.within c.requires.line (sym ordered ∙ w.in-Bad.is) refl c.clear.ensures
+          (turn-line moment c.args.archive.now old piece c.args.len Bad Mistakes _ _ _ _ c.requires.within c.requires.line (sym ordered ∙ w.in-Bad.is) refl c.clear.ensures
           (acts-mistaken moment c.args.archive.now rest _ _ _ (omega arith) w.say_bad-said.ensures.said))
     ]

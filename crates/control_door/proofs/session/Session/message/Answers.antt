@@ -1,4 +1,4 @@
-use Rattle.std.proofs.Common.{◌≡◌, ◌++◌, ◌-◌, ◌+◌, ◌<◌, ◌≤◌, ◌∙◌, ℕ, List, length, take, drop, Some, arith, sym, ap, length-append, length-drop}
+use Rattle.std.proofs.Common.{◌≡◌, ◌+◌, ◌<◌, ◌≤◌, ◌∙◌, ℕ, List, length, take, drop, arith, ap, length-drop}
 use Rattle.control_door.specs.Requests.{Delivers}
 use Rattle.control_door.proofs.Holding.{message-whole, payload-begins, turn-went}
 use Rattle.control_door.proofs.session.Session.message.Goals as goal
