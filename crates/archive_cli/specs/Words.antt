@@ -29,33 +29,33 @@ IsSetting (Limit n) = IsUpTo 1099511627776 n
 IsSetting (Slice n) = IsUpTo 1000000 n
 IsSetting (Max n) = IsUpTo 2147483647 n
 
--- the number of a setting that is a limit
+-- the limit that a setting gives, if it is one of that kind
 abbrev pub limit_of : Setting → List ℕ
 limit_of (Limit n) = n ∷ []
 limit_of (Slice n) = []
 limit_of (Max n) = []
 
--- the number of a setting that is a slice
+-- the slice that a setting gives, if it is one of that kind
 abbrev pub slice_of : Setting → List ℕ
 slice_of (Limit n) = []
 slice_of (Slice n) = n ∷ []
 slice_of (Max n) = []
 
--- the number of a setting that is a greatest number
+-- the greatest number that a setting gives, if it is one of that kind
 abbrev pub max_of : Setting → List ℕ
 max_of (Limit n) = []
 max_of (Slice n) = []
 max_of (Max n) = n ∷ []
 
--- all limits among settings
+-- all limits that settings give
 abbrev pub limits : List Setting → List ℕ
 limits settings = flat_map limit_of settings
 
--- all slices among settings
+-- all slices that settings give
 abbrev pub slices : List Setting → List ℕ
 slices settings = flat_map slice_of settings
 
--- all greatest numbers among settings
+-- all greatest numbers that settings give
 abbrev pub maxes : List Setting → List ℕ
 maxes settings = flat_map max_of settings
 
@@ -65,19 +65,19 @@ pub record EachOnce (settings : List Setting) : Type 0 where
   pub one_slice : length (slices settings) ≤ 1
   pub one_max : length (maxes settings) ≤ 1
 
--- the limit among settings, or the default
+-- the limit that settings give, or the default: an epoch that has so many bytes takes no further entry
 abbrev pub limit_in : List Setting → ℕ
 limit_in settings = get_or (limits settings) 0 1073741824
 
--- the slice among settings, or the default
+-- the slice that settings give, or the default: how many numbers a mailbox has
 abbrev pub slice_in : List Setting → ℕ
 slice_in settings = get_or (slices settings) 0 50000
 
--- the greatest number among settings, or the default
+-- the greatest number of a message that settings give, or the default
 abbrev pub max_in : List Setting → ℕ
 max_in settings = get_or (maxes settings) 0 2147483647
 
--- the settings of an archive of this name, where these are said and nothing else
+-- the settings of an archive of this name, where these are given: each other one has its default
 abbrev pub config_of : List ℕ → List Setting → Config
 config_of name settings = record { name = name; limit = limit_in settings; slice = slice_in settings; max = max_in settings; mirror = false; born = 1 }
 
