@@ -6,21 +6,12 @@ use Rattle.arch_base.specs.declared.config.Config.{Config}
 use Rattle.arch_base.specs.Names.{IsName}
 use Rattle.arch_base.specs.Configs.{IsConfig}
 use Rattle.root_slots.specs.declared.root.Place.{Place}
-use Rattle.root_slots.specs.Spelling.{be32, be64, be32_length, be64_length, flag, place_bytes, name_bytes, config_bytes, spelling}
+use Rattle.disk_model.specs.BigEndian.{be32, be64, rest_is, apart64, apart32}
+use Rattle.root_slots.specs.Spelling.{flag, place_bytes, name_bytes, config_bytes, spelling}
 use Rattle.root_slots.specs.Sizes.{spelling_length}
 use Rattle.root_slots.specs.Valid.{no_place, PlaceFits}
 use Rattle.root_slots.specs.Laws.{SpellingsDiffer, SpellingsFill}
-use Rattle.root_slots.proofs.Reading.{rest_is, read64, read32, place_parts, place_is, name_parts, config_parts, config_is, root_parts, root_is, second_byte, flag_read}
-
--- numbers of 64 bits in front
-apart64 : (m n : ℕ) (x y : List ℕ) → m < 2 ^ 64 → n < 2 ^ 64 → be64 m ++ x ≡ be64 n ++ y → (m ≡ n) × (x ≡ y)
-apart64 m n x y a b is =
-    (sym (read64 (be64 m ++ x) x m a refl) ∙ read64 (be64 m ++ x) y n b is, sym (rest_is 8 (be64 m ++ x) (be64 m) x (be64_length m) refl) ∙ rest_is 8 (be64 m ++ x) (be64 n) y (be64_length n) is)
-
--- numbers of 32 bits in front
-apart32 : (m n : ℕ) (x y : List ℕ) → m < 2 ^ 32 → n < 2 ^ 32 → be32 m ++ x ≡ be32 n ++ y → (m ≡ n) × (x ≡ y)
-apart32 m n x y a b is =
-    (sym (read32 (be32 m ++ x) x m a refl) ∙ read32 (be32 m ++ x) y n b is, sym (rest_is 4 (be32 m ++ x) (be32 m) x (be32_length m) refl) ∙ rest_is 4 (be32 m ++ x) (be32 n) y (be32_length n) is)
+use Rattle.root_slots.proofs.Reading.{place_parts, place_is, name_parts, config_parts, config_is, root_parts, root_is, second_byte, flag_read}
 
 -- places in front
 apart_place : (p q : Place) (x y : List ℕ) → PlaceFits p → PlaceFits q → place_bytes p ++ x ≡ place_bytes q ++ y → (p ≡ q) × (x ≡ y)

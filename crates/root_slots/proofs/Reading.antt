@@ -1,36 +1,17 @@
 -- Values are read back from their spelling.
-use Rattle.std.specs.Prelude.{◌≡◌, ◌<◌, ◌^◌, ◌+◌, ◌-◌, ℕ, Bool, true, false, nat_eq, Option, Some, None, IfSome, IfNone, List, [], ◌∷◌, ◌++◌, length, get_or, set, take, drop, replicate, refl}
+use Rattle.std.specs.Prelude.{◌≡◌, ◌<◌, ◌+◌, ◌-◌, ℕ, Bool, true, false, nat_eq, Option, Some, None, IfSome, IfNone, List, [], ◌∷◌, ◌++◌, length, get_or, set, take, drop, replicate, refl}
 use Rattle.std.specs.List.{flat_map}
-use Rattle.std.specs.Int.{from_be_bytes, w32, w64}
 use Rattle.std.proofs.Common.{◌∙◌, sym, ap, subst, arith, append_assoc, add-one}
-use Rattle.std.proofs.lemmas.Nat.{from_be_bytes-to_be_bytes_4, from_be_bytes-to_be_bytes_8}
 use Rattle.std.proofs.lemmas.List.{take_all, drop_all, take_more_set}
-use Rattle.std.proofs.Math.Seq.{take-append_seam, drop-append_seam, take-suc, drop-cons}
+use Rattle.std.proofs.Math.Seq.{take-append_seam, take-suc, drop-cons}
 use Rattle.arch_base.specs.declared.config.Config.{Config}
 use Rattle.arch_base.specs.Names.{IsName}
 use Rattle.root_slots.specs.declared.root.Place.{Place}
 use Rattle.root_slots.specs.declared.root.Root.{Root}
-use Rattle.root_slots.specs.Spelling.{be32, be64, be32_length, be64_length, flag, place_bytes, name_bytes, config_bytes, fields, spelling}
+use Rattle.disk_model.specs.BigEndian.{be32, be64}
+use Rattle.root_slots.specs.Spelling.{flag, place_bytes, name_bytes, config_bytes, fields, spelling}
 use Rattle.root_slots.specs.Sizes.{name_length}
 use Rattle.root_slots.specs.Valid.{no_place, PlaceFits}
-
--- what stands in front, and what behind it
-pub front_is : (n : ℕ) (bytes front rest : List ℕ) → length front ≡ n → bytes ≡ front ++ rest → take n bytes ≡ front
-front_is n bytes front rest size is = ap (λ (b : List ℕ). take n b) is ∙ (ap (λ (m : ℕ). take m (front ++ rest)) (sym size) ∙ take-append_seam front rest)
-
--- the rest
-pub rest_is : (n : ℕ) (bytes front rest : List ℕ) → length front ≡ n → bytes ≡ front ++ rest → drop n bytes ≡ rest
-rest_is n bytes front rest size is = ap (λ (b : List ℕ). drop n b) is ∙ (ap (λ (m : ℕ). drop m (front ++ rest)) (sym size) ∙ drop-append_seam front rest)
-
--- a number of 64 bits
-pub read64 : (bytes rest : List ℕ) (n : ℕ) → n < 2 ^ 64 → bytes ≡ be64 n ++ rest → from_be_bytes w64 (take 8 bytes) ≡ n
-unfolding be64
-read64 bytes rest n fits is = ap (from_be_bytes w64) (front_is 8 bytes (be64 n) rest (be64_length n) is) ∙ from_be_bytes-to_be_bytes_8 n fits
-
--- a number of 32 bits
-pub read32 : (bytes rest : List ℕ) (n : ℕ) → n < 2 ^ 32 → bytes ≡ be32 n ++ rest → from_be_bytes w32 (take 4 bytes) ≡ n
-unfolding be32
-read32 bytes rest n fits is = ap (from_be_bytes w32) (front_is 4 bytes (be32 n) rest (be32_length n) is) ∙ from_be_bytes-to_be_bytes_4 n fits
 
 -- six parts, and a rest behind them
 pub six_parts : (a b c d e f rest : List ℕ) → (a ++ b ++ c ++ d ++ e ++ f) ++ rest ≡ a ++ (b ++ (c ++ (d ++ (e ++ (f ++ rest)))))

@@ -8,7 +8,8 @@ use Rattle.arch_base.specs.declared.config.Config.{Config}
 use Rattle.arch_base.specs.Names.{IsName}
 use Rattle.root_slots.specs.declared.root.Place.{Place}
 use Rattle.root_slots.specs.declared.root.Root.{Root}
-use Rattle.root_slots.specs.Spelling.{be32, be64, be32_length, be64_length, flag, place_bytes, name_bytes, config_bytes, fields, spelling}
+use Rattle.disk_model.specs.BigEndian.{be32, be64, be32_length, be64_length}
+use Rattle.root_slots.specs.Spelling.{flag, place_bytes, name_bytes, config_bytes, fields, spelling}
 use Rattle.root_slots.specs.Slots.{sequence_of}
 
 -- sixteen bytes a place

@@ -1,28 +1,10 @@
 -- The bytes of a root in its slot.
-use Rattle.std.specs.Prelude.{◌≡◌, ℕ, ◌-◌, Bool, true, false, List, [], ◌∷◌, ◌++◌, length, replicate, refl}
+use Rattle.std.specs.Prelude.{ℕ, ◌-◌, Bool, true, false, List, [], ◌∷◌, ◌++◌, length, replicate}
 use Rattle.std.specs.List.{flat_map}
-use Rattle.std.specs.Int.{to_be_bytes, w32, w64}
 use Rattle.arch_base.specs.declared.config.Config.{Config}
+use Rattle.disk_model.specs.BigEndian.{be32, be64}
 use Rattle.root_slots.specs.declared.root.Place.{Place}
 use Rattle.root_slots.specs.declared.root.Root.{Root}
-
--- a number of 32 bits, the highest byte first
-unfoldable pub be32 : ℕ → List ℕ
-be32 n = to_be_bytes w32 n
-
--- a number of 64 bits, the highest byte first
-unfoldable pub be64 : ℕ → List ℕ
-be64 n = to_be_bytes w64 n
-
--- four bytes
-pub be32_length : (n : ℕ) → length (be32 n) ≡ 4
-unfolding be32
-be32_length n = refl
-
--- eight bytes
-pub be64_length : (n : ℕ) → length (be64 n) ≡ 8
-unfolding be64
-be64_length n = refl
 
 -- a file's generation, then its length
 unfoldable pub place_bytes : Place → List ℕ

@@ -1,7 +1,8 @@
 //! The bytes of a root.
 ghost use Rattle.std.specs.Prelude.{◌≡◌, ◌+◌, ◌-◌, ◌≤◌, ◌∷◌, [], ◌++◌, List, ℕ, length, replicate};
 ghost use Rattle.std.specs.List.{flat_map};
-ghost use Rattle.root_slots.specs.Spelling.{be32, be64, flag, place_bytes, name_bytes, config_bytes, spelling};
+ghost use Rattle.disk_model.specs.BigEndian.{be32, be64};
+ghost use Rattle.root_slots.specs.Spelling.{flag, place_bytes, name_bytes, config_bytes, spelling};
 
 use crate::root::{Place, Root};
 use arch_base::{Config, Name};
@@ -56,7 +57,7 @@ impl Body {
     }
 
     /// Writes a number of 32 bits.
-    #[tactic(auto, using(crate::specs::Spelling::be32_length), unfolding(crate::specs::Spelling::be32))]
+    #[tactic(auto, using(disk_model::specs::BigEndian::be32_length), unfolding(disk_model::specs::BigEndian::be32))]
     fn push_u32(&mut self, number: u32)
         requires { length self.old + 4 ≤ 1536 }
         ensures bytes { self.new ≡ self.old ++ be32 number }
@@ -66,7 +67,7 @@ impl Body {
     }
 
     /// Writes a number of 64 bits.
-    #[tactic(auto, using(crate::specs::Spelling::be64_length), unfolding(crate::specs::Spelling::be64))]
+    #[tactic(auto, using(disk_model::specs::BigEndian::be64_length), unfolding(disk_model::specs::BigEndian::be64))]
     fn push_u64(&mut self, number: u64)
         requires { length self.old + 8 ≤ 1536 }
         ensures bytes { self.new ≡ self.old ++ be64 number }
@@ -76,7 +77,7 @@ impl Body {
     }
 
     /// Writes a place.
-    #[tactic(auto, using(crate::specs::Spelling::be64_length), unfolding(crate::specs::Spelling::place_bytes))]
+    #[tactic(auto, using(disk_model::specs::BigEndian::be64_length), unfolding(crate::specs::Spelling::place_bytes))]
     fn push_place(&mut self, place: &Place)
         requires { length self.old + 16 ≤ 1536 }
         ensures bytes { self.new ≡ self.old ++ place_bytes place.now }

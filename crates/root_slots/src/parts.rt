@@ -8,7 +8,8 @@ ghost use Rattle.arch_base.specs.Configs.{IsConfig};
 ghost use Rattle.arch_base.specs.declared.config.Config.{Config};
 ghost use Rattle.root_slots.specs.declared.root.Place.{Place};
 ghost use Rattle.root_slots.specs.declared.root.Root.{Root};
-ghost use Rattle.root_slots.specs.Spelling.{be32, be64, flag, place_bytes, name_bytes, config_bytes, spelling};
+ghost use Rattle.disk_model.specs.BigEndian.{be32, be64};
+ghost use Rattle.root_slots.specs.Spelling.{flag, place_bytes, name_bytes, config_bytes, spelling};
 ghost use Rattle.root_slots.specs.Valid.{no_place, PlaceFits, RootFits, IsRoot};
 
 use crate::root::{Place, Root};

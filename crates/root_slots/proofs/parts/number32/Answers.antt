@@ -1,8 +1,7 @@
 -- The number is the front's, and the rest stands behind.
 use Rattle.std.proofs.Common.{rules, ◌≡◌, ◌∙◌, take, drop}
 use Rattle.std.specs.Int.{from_be_bytes, w32}
-use Rattle.root_slots.specs.Spelling.{be32, be32_length}
-use Rattle.root_slots.proofs.Reading.{read32, rest_is}
+use Rattle.disk_model.specs.BigEndian.{be32, be32_length, read32, rest_is}
 use Rattle.root_slots.proofs.parts.number32.Goals as goal
 
 pub returns-clause-read : goal.returns-clause-read

@@ -1,8 +1,7 @@
 -- The number is the front's, and the rest stands behind.
 use Rattle.std.proofs.Common.{rules, ◌≡◌, ◌∙◌, take, drop}
 use Rattle.std.specs.Int.{from_be_bytes, w64}
-use Rattle.root_slots.specs.Spelling.{be64, be64_length}
-use Rattle.root_slots.proofs.Reading.{read64, rest_is}
+use Rattle.disk_model.specs.BigEndian.{be64, be64_length, read64, rest_is}
 use Rattle.root_slots.proofs.parts.number64.Goals as goal
 
 pub returns-clause-read : goal.returns-clause-read

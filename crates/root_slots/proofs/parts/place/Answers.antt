@@ -1,6 +1,6 @@
 -- Two numbers, one behind the other.
 use Rattle.std.proofs.Common.{◌++◌}
-use Rattle.root_slots.specs.Spelling.{be64}
+use Rattle.disk_model.specs.BigEndian.{be64}
 use Rattle.root_slots.proofs.Reading.{place_parts, place_is}
 use Rattle.root_slots.proofs.parts.place.Goals as goal
 

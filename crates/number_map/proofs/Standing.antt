@@ -1,0 +1,63 @@
+-- Records in front of a map, and one more.
+use Rattle.std.specs.Prelude.{◌≡◌, ◌≢◌, ◌⊎◌, ◌+◌, ◌*◌, ◌-◌, ◌<◌, ◌≤◌, ℕ, Ok, Err, Result, List, [], ◌∷◌, ◌++◌, length, take, drop, min, refl}
+use Rattle.std.specs.List.{flat_map}
+use Rattle.std.proofs.Common.{◌∙◌, sym, ap, subst, inl, inr, arith, append_assoc, length-append, length-take, length-drop}
+use Rattle.std.proofs.lemmas.List.{take-append-drop, take-append-le, append-nil, flat_map_more, drop_all}
+use Rattle.disk_model.specs.BigEndian.{front_is, rest_is}
+use Rattle.number_map.specs.declared.line.Record.{Record}
+use Rattle.number_map.specs.Records.{record_bytes, IsRecord, AreRecordsFrom}
+use Rattle.number_map.specs.Sizes.{records_length}
+use Rattle.number_map.specs.Walks.{BeginsWith, IsDamaged}
+use Rattle.number_map.specs.Pieces.{Stands, IsEnough, IsNext, IsLast}
+
+-- a map that begins with records, and the rest of it
+pub stands_of : (lines : List Record) (map : List ℕ) → BeginsWith lines map → Stands lines (drop (28 * length lines) map) map
+stands_of lines map begins = record {
+  valid = begins.valid;
+  bytes = sym (take-append-drop (28 * length lines) map) ∙ ap (λ (l : List ℕ). l ++ drop (28 * length lines) map) begins.bytes;
+}
+
+-- and the other way round
+pub begins_of : (lines : List Record) (rest map : List ℕ) → Stands lines rest map → BeginsWith lines map
+begins_of lines rest map stands = record { valid = stands.valid; bytes = front_is (28 * length lines) map (flat_map record_bytes lines) rest (records_length 1 lines stands.valid) stands.bytes }
+
+-- a valid record behind valid ones
+valid_more : (n : ℕ) (lines : List Record) (line : Record) → AreRecordsFrom n lines → IsRecord (n + length lines) line → AreRecordsFrom n (lines ++ line ∷ [])
+valid_more n [] line valid last = (last, tt)
+valid_more n (x ∷ xs) line valid last =
+    let number : n + (length xs + 1) ≡ n + 1 + length xs = omega arith in
+    (valid.0, valid_more (n + 1) xs line valid.1 (subst (λ (k : ℕ). IsRecord k line) number last))
+
+-- one record more
+pub one_more : (old new : List Record) (bytes behind map : List ℕ) → Stands old (bytes ++ behind) map → IsNext bytes old new → Stands new (drop 28 bytes ++ behind) map
+one_more old new bytes behind map stands next =
+    let line = next.line in
+    let number : length old + 1 ≡ 1 + length old = omega arith in
+    let valid : AreRecordsFrom 1 (old ++ line ∷ []) = valid_more 1 old line stands.valid (subst (λ (k : ℕ). IsRecord k line) number next.valid) in
+    let front = flat_map record_bytes old in
+    let rest = drop 28 bytes ++ behind in
+    let piece : bytes ++ behind ≡ record_bytes line ++ rest =
+      ap (λ (l : List ℕ). l ++ behind) (sym (take-append-drop 28 bytes) ∙ ap (λ (l : List ℕ). l ++ drop 28 bytes) next.bytes) ∙ append_assoc (record_bytes line) (drop 28 bytes) behind in
+    let more : front ++ record_bytes line ≡ flat_map record_bytes (old ++ line ∷ []) = flat_map_more record_bytes [] old line in
+    let is : map ≡ flat_map record_bytes (old ++ line ∷ []) ++ rest =
+      stands.bytes ∙ (ap (λ (l : List ℕ). front ++ l) piece ∙ (sym (append_assoc front (record_bytes line) rest) ∙ ap (λ (l : List ℕ). l ++ rest) more)) in
+    subst (λ (l : List Record). Stands l rest map) (sym next.lines) (record { valid = valid; bytes = is })
+
+-- what stands in front of a piece stands in front of the map
+front_of : (bytes behind : List ℕ) → IsEnough 1 bytes behind → take 28 (bytes ++ behind) ≡ take 28 bytes
+front_of bytes behind enough = elim enough [
+  | inl fits ↦ take-append-le 28 bytes behind (omega (arith, fits))
+  | inr none ↦ ap (λ (l : List ℕ). take 28 (bytes ++ l)) none ∙ ap (λ (l : List ℕ). take 28 l) (append-nil bytes)
+]
+
+-- no record more
+pub none_more : (count at : ℕ) (old new : List Record) (bytes behind map : List ℕ) → length old < count → IsEnough 1 bytes behind → Stands old (bytes ++ behind) map → IsLast at bytes old new → IsDamaged count at map
+none_more count at old new bytes behind map fewer enough stands last =
+    let place : drop at map ≡ bytes ++ behind =
+      ap (λ (k : ℕ). drop k map) last.place ∙ rest_is (28 * length old) map (flat_map record_bytes old) (bytes ++ behind) (records_length 1 old stands.valid) stands.bytes in
+    let front : take 28 (drop at map) ≡ take 28 bytes = ap (λ (l : List ℕ). take 28 l) place ∙ front_of bytes behind enough in
+    record { before = old; begins = begins_of old (bytes ++ behind) map stands; fewer = fewer; place = last.place; none = λ line valid is. last.none line valid (sym front ∙ is) }
+
+-- enough for what is left
+pub enough_left : (wanted done : ℕ) (bytes rest behind : List ℕ) → done < wanted → length rest + 28 * done ≡ length bytes → IsEnough wanted bytes behind → IsEnough 1 rest behind
+enough_left wanted done bytes rest behind below left enough = elim enough [ inl fits ↦ inl (omega (arith, below, left, fits)) | inr none ↦ inr none ]

@@ -1,0 +1,5 @@
+pub mod Records
+pub mod Sizes
+pub mod Walks
+pub mod Pieces
+pub mod Laws

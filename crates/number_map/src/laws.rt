@@ -1,0 +1,12 @@
+//! Laws of records, which other crates cite.
+ghost use Rattle.number_map.specs.Laws.{RecordsDiffer, RecordsAreOne, DamageIsOne, ReadOrDamaged};
+
+/// Valid records of the same bytes are the same, and a map has one answer: its records up to a number, or the place
+/// where it is damaged.
+#[tactic(auto, using(crate::proofs::Apart::records_differ, crate::proofs::Apart::records_are_one, crate::proofs::Apart::damage_is_one, crate::proofs::Apart::read_or_damaged))]
+pub fn law_of_records()
+    ensures differ { RecordsDiffer }
+    ensures records { RecordsAreOne }
+    ensures damage { DamageIsOne }
+    ensures either { ReadOrDamaged }
+{}

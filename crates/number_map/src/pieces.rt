@@ -1,0 +1,38 @@
+//! Records that stand in a piece of a map.
+ghost use Rattle.std.specs.Prelude.{◌≡◌, ◌+◌, ◌<◌, ◌≤◌, ◌^◌, ◌++◌, ℕ, List, length, OnOk};
+ghost use Rattle.number_map.specs.Pieces.{ReadsNext, Stands, IsEnough, ReadsOn};
+
+use crate::line::Records;
+use crate::reading::record_in_front;
+use disk_model::WalkRefusal;
+
+/// Reads the record of the next number from the front of bytes, and puts it behind the others.
+fn read_next(bytes: &[u8], lines: &mut Records) -> Result<(), WalkRefusal>
+    requires { length lines.old + 1 < 2 ^ 32 }
+    ensures next { ReadsNext result bytes.now lines.old lines.new }
+    ensures size { OnOk result (length lines.new ≡ length lines.old + 1) }
+    ensures whole { OnOk result (28 ≤ length bytes.now) }
+{
+    let before = lines.as_slice().len() as u32;
+    let Some(line) = record_in_front(bytes, before + 1) else {
+        let at = 28 * u64::from(before);
+        return Err(WalkRefusal::Damaged { at });
+    };
+    lines.push(line)?;
+    Ok(())
+}
+
+/// Reads so many records more from a piece of a map that has them all, or that ends where the map does.
+pub fn read_piece(bytes: &[u8], wanted: u32, lines: &mut Records) -> Result<(), WalkRefusal>
+    requires { length lines.old + wanted < 2 ^ 32 }
+    ensures read { (map behind : List ℕ) → Stands lines.old (bytes.now ++ behind) map → IsEnough wanted bytes.now behind → ReadsOn result (length lines.old + wanted) map lines.new }
+    ensures size { OnOk result (length lines.new ≡ length lines.old + wanted) }
+    ensures no_fault { result ≢ Err WalkRefusal.DiskFault }
+{
+    let mut rest = bytes;
+    for _ in 0..wanted {
+        read_next(rest, lines)?;
+        rest = rest.split_at(28).1;
+    }
+    Ok(())
+}

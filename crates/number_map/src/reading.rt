@@ -1,0 +1,60 @@
+//! Records, read from their bytes.
+ghost use Rattle.std.specs.Prelude.{◌≡◌, ◌≢◌, ◌<◌, ◌^◌, length, take, IfSome, IfNone};
+ghost use Rattle.arch_base.specs.Ids.{IsId};
+ghost use Rattle.disk_model.specs.BigEndian.{be32};
+ghost use Rattle.number_map.specs.declared.line.Record.{Record};
+ghost use Rattle.number_map.specs.Records.{record_bytes, IsRecord};
+
+use crate::line::{Record, is_valid};
+use arch_base::{Id20, ObjectId};
+
+/// A number of 32 bits.
+fn number32(bytes: &[u8]) -> u32
+    requires { length bytes.now ≡ 4 }
+    ensures { be32 result ≡ bytes.now }
+{
+    let mut digits = [0; 4];
+    digits.copy_from_slice(bytes);
+    u32::from_be_bytes(digits)
+}
+
+/// The id of a blob.
+fn blob_id(bytes: &[u8]) -> ObjectId
+    requires { length bytes.now ≡ 20 }
+    ensures bytes { result.0 ≡ bytes.now }
+    ensures valid { IsId result }
+{
+    let mut digits = [0; 20];
+    digits.copy_from_slice(bytes);
+    Id20(digits)
+}
+
+/// The record that bytes are those of, valid or not.
+fn any_record(bytes: &[u8]) -> Record
+    requires { length bytes.now ≡ 28 }
+    ensures bytes { record_bytes result ≡ bytes.now }
+    ensures blob { IsId result.blob }
+{
+    let (number, rest) = bytes.split_at(4);
+    let (epoch, blob) = rest.split_at(4);
+    Record {
+        number: number32(number),
+        epoch: number32(epoch),
+        blob: blob_id(blob),
+    }
+}
+
+/// The record of a number that stands in front of bytes, where there is one.
+pub fn record_in_front(bytes: &[u8], number: u32) -> Option<Record>
+    ensures some { IfSome result (λ line. IsRecord number line × (take 28 bytes.now ≡ record_bytes line)) }
+    ensures none { IfNone result ((line : Record) → IsRecord number line → take 28 bytes.now ≢ record_bytes line) }
+{
+    if bytes.len() < 28 {
+        return None;
+    }
+    let line = any_record(bytes.split_at(28).0);
+    if line.number == number && is_valid(&line) {
+        return Some(line);
+    }
+    None
+}

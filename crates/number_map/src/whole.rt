@@ -1,0 +1,72 @@
+//! A map, read from its front to its end.
+ghost use Rattle.std.specs.Prelude.{◌≡◌, ◌+◌, ◌*◌, ◌<◌, ◌≤◌, ◌^◌, Err, length, IfOk, OnOk};
+ghost use Rattle.arch_base.specs.Counts.{Rose};
+ghost use Rattle.disk_model.specs.Disk.{Image, Told, WhereTold, Unchanged, LeavesOnly, bytes_of};
+ghost use Rattle.number_map.specs.Walks.{BeginsWith, Walks};
+ghost use Rattle.number_map.specs.Pieces.{ReadsOn};
+
+use crate::line::Records;
+use crate::pieces::read_piece;
+use arch_base::NoMemory;
+use disk_model::{Disk, DiskFault, FileName, WalkRefusal};
+use std::alloc::Global;
+
+/// How many records are read at once.
+const PIECE: u32 = 2340;
+
+/// Room for a piece: 65,520 bytes, or 28 for each record.
+fn room(alloc: Global) -> Result<Vec<u8>, NoMemory>
+    ensures { IfOk result (λ made. length made.items ≡ 28 * 2340) }
+{
+    Ok(vec![in alloc; 0u8; 65_520]?)
+}
+
+/// Reads so many records more, from one piece of a map.
+fn read_more<D: Disk>(
+    disk: &mut D,
+    file: FileName,
+    wanted: u32,
+    room: &mut [u8],
+    lines: &mut Records,
+) -> Result<(), WalkRefusal>
+    requires room { length room.old ≡ 28 * wanted }
+    requires count { length lines.old + wanted < 2 ^ 32 }
+    ensures read { WhereTold (λ k. BeginsWith lines.old (bytes_of (k file).seen) → ReadsOn result (length lines.old + wanted) (bytes_of (k file).seen) lines.new) (D.content disk.old) }
+    ensures size { OnOk result (length lines.new ≡ length lines.old + wanted) }
+    ensures same { Told Unchanged (D.content disk.old) (D.content disk.new) }
+    ensures any_moment { LeavesOnly D.moment D.left_since disk.old disk.new (Image (D.content disk.old)) }
+    ensures later { D.faults disk.old ≤ D.faults disk.new }
+    ensures fault { result ≡ Err WalkRefusal.DiskFault → Rose (D.faults disk.old) (D.faults disk.new) }
+{
+    let place = 28 * lines.as_slice().len() as u64;
+    match disk.read(file, place, room) {
+        Err(DiskFault) => Err(WalkRefusal::DiskFault),
+        Ok(n) => read_piece(&room[..n], wanted, lines),
+    }
+}
+
+/// Reads the records of a map up to a number: one for each number from 1 on. The map is damaged at the place of the
+/// first record that isn't whole in the file, or isn't a valid one of its number. What stands behind the last one isn't
+/// looked at.
+pub fn walk<D: Disk>(
+    alloc: Global,
+    disk: &mut D,
+    file: FileName,
+    count: u32,
+) -> Result<Records, WalkRefusal>
+    ensures walked { WhereTold (λ k. Walks count (bytes_of (k file).seen) result) (D.content disk.old) }
+    ensures same { Told Unchanged (D.content disk.old) (D.content disk.new) }
+    ensures any_moment { LeavesOnly D.moment D.left_since disk.old disk.new (Image (D.content disk.old)) }
+    ensures later { D.faults disk.old ≤ D.faults disk.new }
+    ensures fault { result ≡ Err WalkRefusal.DiskFault → Rose (D.faults disk.old) (D.faults disk.new) }
+{
+    let mut room = room(alloc)?;
+    let mut lines = Records::new(alloc);
+    let mut done = 0;
+    while done < count {
+        let wanted = PIECE.min(count - done);
+        read_more(disk, file, wanted, &mut room[..28 * wanted as usize], &mut lines)?;
+        done += wanted;
+    }
+    Ok(lines)
+}

@@ -1,0 +1,41 @@
+//! One record more.
+ghost use Rattle.std.specs.Prelude.{◌≡◌, ◌+◌, ◌<◌, ◌^◌, length, OnOk, OnErr};
+ghost use Rattle.arch_base.specs.Counts.{IsCaused};
+ghost use Rattle.disk_model.specs.Disk.{Told, WhereTold, OneFile, Wrote, Tore, IsAtMostLength, Elapses};
+ghost use Rattle.number_map.specs.Records.{record_bytes};
+
+use crate::line::Record;
+use disk_model::{Disk, DiskFault, FileName};
+
+/// The bytes of a record.
+pub fn spell(line: &Record) -> [u8; 28]
+    ensures bytes { result ≡ record_bytes line.now }
+    ensures size { length (record_bytes line.now) ≡ 28 }
+{
+    let mut bytes = [0; 28];
+    bytes[..4].copy_from_slice(&line.number.to_be_bytes());
+    bytes[4..8].copy_from_slice(&line.epoch.to_be_bytes());
+    bytes[8..].copy_from_slice(&line.blob.0);
+    bytes
+}
+
+/// Writes a record to a map at a place up to its end: 28 bytes, in one write. Nothing is synced. A missing file is made.
+///
+/// After a failure the 28 bytes may hold anything.
+pub fn append<D: Disk>(
+    disk: &mut D,
+    file: FileName,
+    at: u64,
+    line: &Record,
+) -> Result<(), DiskFault>
+    requires inside { WhereTold (IsAtMostLength file at) (D.content disk.old) }
+    requires end { at + 28 < 2 ^ 63 }
+    ensures written { OnOk result (Told (OneFile file (Wrote at (record_bytes line.now))) (D.content disk.old) (D.content disk.new)) }
+    ensures torn { OnErr result (Told (OneFile file (Tore at 28)) (D.content disk.old) (D.content disk.new)) }
+    ensures size { length (record_bytes line.now) ≡ 28 }
+    ensures time { Elapses (D.moment disk.old) (D.moment disk.new) (D.left_since disk.old) (D.left_since disk.new) (D.content disk.new) }
+    ensures cause { IsCaused (D.faults disk.old) (D.faults disk.new) result }
+    ensures count { D.reads disk.new ≡ D.reads disk.old }
+{
+    disk.write_at(file, at, &spell(line))
+}
