@@ -1,11 +1,10 @@
 -- Records of the same bytes are the same, and a map has one answer.
-use Rattle.std.specs.Prelude.{◌≡◌, ◌+◌, ◌*◌, ◌<◌, ◌^◌, ℕ, Ok, Err, List, [], ◌∷◌, ◌++◌, length, take, drop, suc, refl}
+use Rattle.std.specs.Prelude.{◌≡◌, ◌+◌, ◌*◌, ◌<◌, ◌^◌, ℕ, List, [], ◌∷◌, ◌++◌, length, take, drop, zero, suc, refl}
 use Rattle.std.specs.List.{flat_map}
 use Rattle.std.proofs.Common.{◌∙◌, sym, ap, subst, inl, inr, arith, append_assoc, length-append}
 use Rattle.std.proofs.lemmas.Bool.{cases_lt}
 use Rattle.std.proofs.lemmas.List.{take-append-drop}
 use Rattle.std.proofs.Math.Seq.{drop-append-add}
-use Rattle.arch_base.specs.declared.ids.Id20.{Id20}
 use Rattle.disk_model.specs.BigEndian.{be32, be32_length, front_is, rest_is, apart32}
 use Rattle.number_map.specs.declared.line.Record.{Record}
 use Rattle.number_map.specs.Records.{record_bytes, IsRecord, AreRecordsFrom}
@@ -19,7 +18,7 @@ unfolding record_bytes
 record_parts line rest = append_assoc (be32 line.number ++ be32 line.epoch) line.blob.0 rest ∙ append_assoc (be32 line.number) (be32 line.epoch) (line.blob.0 ++ rest)
 
 -- a record of three values
-record_is : (a b : Record) → a.number ≡ b.number → a.epoch ≡ b.epoch → a.blob.0 ≡ b.blob.0 → a ≡ b
+pub record_is : (a b : Record) → a.number ≡ b.number → a.epoch ≡ b.epoch → a.blob.0 ≡ b.blob.0 → a ≡ b
 record_is a b p q r = λ i. record { number = p i; epoch = q i; blob = record { 0 = r i } }
 
 -- what is the same where records in front of bytes are: all but the number, which may not fit its field
@@ -68,7 +67,7 @@ records_differ a b va vb is = same_lists 1 a b va vb is
 
 -- what is read up to a number is one list
 pub records_are_one : RecordsAreOne
-records_are_one count bytes a b p q = records_differ a b p.1.valid q.1.valid (sym p.1.bytes ∙ (ap (λ (n : ℕ). take (28 * n) bytes) (p.0 ∙ sym q.0) ∙ q.1.bytes))
+records_are_one count bytes a b p q = records_differ a b p.1.valid q.1.valid (sym p.1.spelled ∙ (ap (λ (n : ℕ). take (28 * n) bytes) (p.0 ∙ sym q.0) ∙ q.1.spelled))
 
 -- a record of this number in front of bytes
 record HasRecord (n : ℕ) (bytes : List ℕ) : Type 0 where
@@ -79,10 +78,11 @@ record HasRecord (n : ℕ) (bytes : List ℕ) : Type 0 where
 -- one among others
 has_record : (n : ℕ) (lines : List Record) (rest bytes : List ℕ) (m : ℕ) → AreRecordsFrom n lines → bytes ≡ flat_map record_bytes lines ++ rest → m < length lines → HasRecord (n + m) (drop (28 * m) bytes)
 has_record n [] rest bytes m valid is below = absurd (omega (arith, below))
-has_record n (x ∷ xs) rest bytes 0 valid is below =
+has_record n (x ∷ xs) rest bytes zero valid is below =
     let id = valid.0.blob in
     let split : bytes ≡ record_bytes x ++ (flat_map record_bytes xs ++ rest) = is ∙ append_assoc (record_bytes x) (flat_map record_bytes xs) rest in
-    record { line = x; valid = valid.0; is = front_is 28 bytes (record_bytes x) (flat_map record_bytes xs ++ rest) (record_length x id.len) split }
+    let number : n + 0 ≡ n = omega arith in
+    record { line = x; valid = subst (λ (k : ℕ). IsRecord k x) (sym number) valid.0; is = front_is 28 bytes (record_bytes x) (flat_map record_bytes xs ++ rest) (record_length x id.len) split }
 has_record n (x ∷ xs) rest bytes (suc m) valid is below =
     let id = valid.0.blob in
     let behind = flat_map record_bytes xs ++ rest in
@@ -98,7 +98,7 @@ no_damage : (lines : List Record) (bytes : List ℕ) (count at : ℕ) → Begins
 no_damage lines bytes count at begins d below =
     let m = length d.before in
     let rest = drop (28 * length lines) bytes in
-    let split : bytes ≡ flat_map record_bytes lines ++ rest = sym (take-append-drop (28 * length lines) bytes) ∙ ap (λ (l : List ℕ). l ++ rest) begins.bytes in
+    let split : bytes ≡ flat_map record_bytes lines ++ rest = sym (take-append-drop (28 * length lines) bytes) ∙ ap (λ (l : List ℕ). l ++ rest) begins.spelled in
     let has = has_record 1 lines rest bytes m begins.valid split below in
     let number : 1 + m ≡ m + 1 = omega arith in
     d.none has.line (subst (λ (k : ℕ). IsRecord k has.line) number has.valid) (ap (λ (k : ℕ). take 28 (drop k bytes)) d.place ∙ has.is)

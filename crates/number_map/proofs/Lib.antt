@@ -1,3 +1,4 @@
 mod Apart
+mod Spelled
 mod Standing
 mod Walking

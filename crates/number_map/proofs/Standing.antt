@@ -1,31 +1,33 @@
 -- Records in front of a map, and one more.
-use Rattle.std.specs.Prelude.{◌≡◌, ◌≢◌, ◌⊎◌, ◌+◌, ◌*◌, ◌-◌, ◌<◌, ◌≤◌, ℕ, Ok, Err, Result, List, [], ◌∷◌, ◌++◌, length, take, drop, min, refl}
+use Rattle.std.specs.Prelude.{◌≡◌, ◌+◌, ◌*◌, ◌<◌, ℕ, Err, List, [], ◌∷◌, ◌++◌, length, take, drop, suc}
 use Rattle.std.specs.List.{flat_map}
-use Rattle.std.proofs.Common.{◌∙◌, sym, ap, subst, inl, inr, arith, append_assoc, length-append, length-take, length-drop}
-use Rattle.std.proofs.lemmas.List.{take-append-drop, take-append-le, append-nil, flat_map_more, drop_all}
+use Rattle.std.proofs.Common.{◌∙◌, sym, ap, subst, inl, inr, arith, append_assoc}
+use Rattle.std.proofs.lemmas.List.{take-append-drop, take-append-le, append-nil, flat_map_more}
 use Rattle.disk_model.specs.BigEndian.{front_is, rest_is}
+use Rattle.disk_model.specs.declared.refusal.WalkRefusal.{WalkRefusal}
+use Rattle.disk_model.specs.declared.refusal.WalkRefusal.TheVariants.{DiskFault, Damaged, NoMemory}
 use Rattle.number_map.specs.declared.line.Record.{Record}
 use Rattle.number_map.specs.Records.{record_bytes, IsRecord, AreRecordsFrom}
 use Rattle.number_map.specs.Sizes.{records_length}
 use Rattle.number_map.specs.Walks.{BeginsWith, IsDamaged}
-use Rattle.number_map.specs.Pieces.{Stands, IsEnough, IsNext, IsLast}
+use Rattle.number_map.specs.Pieces.{Stands, IsEnough, IsNext, IsLast, ReadsNext, ReadsOn}
 
 -- a map that begins with records, and the rest of it
 pub stands_of : (lines : List Record) (map : List ℕ) → BeginsWith lines map → Stands lines (drop (28 * length lines) map) map
 stands_of lines map begins = record {
   valid = begins.valid;
-  bytes = sym (take-append-drop (28 * length lines) map) ∙ ap (λ (l : List ℕ). l ++ drop (28 * length lines) map) begins.bytes;
+  spelled = sym (take-append-drop (28 * length lines) map) ∙ ap (λ (l : List ℕ). l ++ drop (28 * length lines) map) begins.spelled;
 }
 
 -- and the other way round
 pub begins_of : (lines : List Record) (rest map : List ℕ) → Stands lines rest map → BeginsWith lines map
-begins_of lines rest map stands = record { valid = stands.valid; bytes = front_is (28 * length lines) map (flat_map record_bytes lines) rest (records_length 1 lines stands.valid) stands.bytes }
+begins_of lines rest map stands = record { valid = stands.valid; spelled = front_is (28 * length lines) map (flat_map record_bytes lines) rest (records_length 1 lines stands.valid) stands.spelled }
 
 -- a valid record behind valid ones
 valid_more : (n : ℕ) (lines : List Record) (line : Record) → AreRecordsFrom n lines → IsRecord (n + length lines) line → AreRecordsFrom n (lines ++ line ∷ [])
-valid_more n [] line valid last = (last, tt)
+valid_more n [] line valid last = let number : n + 0 ≡ n = omega arith in (subst (λ (k : ℕ). IsRecord k line) number last, tt)
 valid_more n (x ∷ xs) line valid last =
-    let number : n + (length xs + 1) ≡ n + 1 + length xs = omega arith in
+    let number : n + suc (length xs) ≡ n + 1 + length xs = omega arith in
     (valid.0, valid_more (n + 1) xs line valid.1 (subst (λ (k : ℕ). IsRecord k line) number last))
 
 -- one record more
@@ -37,11 +39,11 @@ one_more old new bytes behind map stands next =
     let front = flat_map record_bytes old in
     let rest = drop 28 bytes ++ behind in
     let piece : bytes ++ behind ≡ record_bytes line ++ rest =
-      ap (λ (l : List ℕ). l ++ behind) (sym (take-append-drop 28 bytes) ∙ ap (λ (l : List ℕ). l ++ drop 28 bytes) next.bytes) ∙ append_assoc (record_bytes line) (drop 28 bytes) behind in
+      ap (λ (l : List ℕ). l ++ behind) (sym (take-append-drop 28 bytes) ∙ ap (λ (l : List ℕ). l ++ drop 28 bytes) next.spelled) ∙ append_assoc (record_bytes line) (drop 28 bytes) behind in
     let more : front ++ record_bytes line ≡ flat_map record_bytes (old ++ line ∷ []) = flat_map_more record_bytes [] old line in
     let is : map ≡ flat_map record_bytes (old ++ line ∷ []) ++ rest =
-      stands.bytes ∙ (ap (λ (l : List ℕ). front ++ l) piece ∙ (sym (append_assoc front (record_bytes line) rest) ∙ ap (λ (l : List ℕ). l ++ rest) more)) in
-    subst (λ (l : List Record). Stands l rest map) (sym next.lines) (record { valid = valid; bytes = is })
+      stands.spelled ∙ (ap (λ (l : List ℕ). front ++ l) piece ∙ (sym (append_assoc front (record_bytes line) rest) ∙ ap (λ (l : List ℕ). l ++ rest) more)) in
+    subst (λ (l : List Record). Stands l rest map) (sym next.lines) (record { valid = valid; spelled = is })
 
 -- what stands in front of a piece stands in front of the map
 front_of : (bytes behind : List ℕ) → IsEnough 1 bytes behind → take 28 (bytes ++ behind) ≡ take 28 bytes
@@ -54,10 +56,18 @@ front_of bytes behind enough = elim enough [
 pub none_more : (count at : ℕ) (old new : List Record) (bytes behind map : List ℕ) → length old < count → IsEnough 1 bytes behind → Stands old (bytes ++ behind) map → IsLast at bytes old new → IsDamaged count at map
 none_more count at old new bytes behind map fewer enough stands last =
     let place : drop at map ≡ bytes ++ behind =
-      ap (λ (k : ℕ). drop k map) last.place ∙ rest_is (28 * length old) map (flat_map record_bytes old) (bytes ++ behind) (records_length 1 old stands.valid) stands.bytes in
+      ap (λ (k : ℕ). drop k map) last.place ∙ rest_is (28 * length old) map (flat_map record_bytes old) (bytes ++ behind) (records_length 1 old stands.valid) stands.spelled in
     let front : take 28 (drop at map) ≡ take 28 bytes = ap (λ (l : List ℕ). take 28 l) place ∙ front_of bytes behind enough in
     record { before = old; begins = begins_of old (bytes ++ behind) map stands; fewer = fewer; place = last.place; none = λ line valid is. last.none line valid (sym front ∙ is) }
 
 -- enough for what is left
 pub enough_left : (wanted done : ℕ) (bytes rest behind : List ℕ) → done < wanted → length rest + 28 * done ≡ length bytes → IsEnough wanted bytes behind → IsEnough 1 rest behind
 enough_left wanted done bytes rest behind below left enough = elim enough [ inl fits ↦ inl (omega (arith, below, left, fits)) | inr none ↦ inr none ]
+
+-- what was refused in a piece is refused of the map
+pub piece_refused : (refusal : WalkRefusal) (wanted done : ℕ) (start old new : List Record) (bytes rest map behind : List ℕ) → done < wanted → length old ≡ length start + done → length rest + 28 * done ≡ length bytes → Stands old (rest ++ behind) map
+    → IsEnough wanted bytes behind → ReadsNext {T = Unit {0}} (Err refusal) rest old new → ReadsOn {T = Unit {0}} (Err refusal) (length start + wanted) map new
+piece_refused DiskFault wanted done start old new bytes rest map behind below count left stands enough next = absurd next
+piece_refused NoMemory wanted done start old new bytes rest map behind below count left stands enough next = tt
+piece_refused (Damaged at) wanted done start old new bytes rest map behind below count left stands enough next =
+    none_more (length start + wanted) at old new rest behind map (omega (arith, below, count)) (enough_left wanted done bytes rest behind below left enough) stands next

@@ -1,5 +1,5 @@
 -- Records and their bytes, and the answers of a walk.
-use Rattle.std.specs.Prelude.{◌≡◌, ℕ, Result, Ok, Err, List}
+use Rattle.std.specs.Prelude.{◌≡◌, ℕ, Ok, Err, List}
 use Rattle.std.specs.List.{flat_map}
 use Rattle.disk_model.specs.declared.refusal.WalkRefusal.TheVariants.{Damaged}
 use Rattle.number_map.specs.declared.line.Record.{Record}

@@ -11,7 +11,7 @@ use Rattle.number_map.specs.Walks.{IsDamaged, BeginsWith}
 pub record IsNext (bytes : List ℕ) (old new : List Record) : Type 0 where
   pub line : Record
   pub valid : IsRecord (length old + 1) line
-  pub bytes : take 28 bytes ≡ record_bytes line
+  pub spelled : take 28 bytes ≡ record_bytes line
   pub lines : new ≡ old ++ line ∷ []
 
 -- there is none of the next number, whose place this is
@@ -30,7 +30,7 @@ ReadsNext (Err NoMemory) bytes old new = Unit {0}
 -- A map is these records, and these bytes behind them.
 pub record Stands (lines : List Record) (rest bytes : List ℕ) : Type 0 where
   pub valid : AreRecordsFrom 1 lines
-  pub bytes : bytes ≡ flat_map record_bytes lines ++ rest
+  pub spelled : bytes ≡ flat_map record_bytes lines ++ rest
 
 -- so many records fill no more than these bytes, or nothing stands behind them
 abbrev pub IsEnough : ℕ → List ℕ → List ℕ → Type 0

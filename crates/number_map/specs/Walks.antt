@@ -9,7 +9,7 @@ use Rattle.number_map.specs.Records.{record_bytes, IsRecord, AreRecordsFrom}
 -- A map begins with these records, of the numbers from 1 on.
 pub record BeginsWith (lines : List Record) (bytes : List ℕ) : Type 0 where
   pub valid : AreRecordsFrom 1 lines
-  pub bytes : take (28 * length lines) bytes ≡ flat_map record_bytes lines
+  pub spelled : take (28 * length lines) bytes ≡ flat_map record_bytes lines
 
 -- A map has no valid record of some number up to the last one asked for, and this is the place of the first such
 -- number: the record isn't whole, or isn't one of that number.

@@ -3,7 +3,7 @@ ghost use Rattle.number_map.specs.Laws.{RecordsDiffer, RecordsAreOne, DamageIsOn
 
 /// Valid records of the same bytes are the same, and a map has one answer: its records up to a number, or the place
 /// where it is damaged.
-#[tactic(auto, using(crate::proofs::Apart::records_differ, crate::proofs::Apart::records_are_one, crate::proofs::Apart::damage_is_one, crate::proofs::Apart::read_or_damaged))]
+#[tactic(auto, using(crate::proofs::Apart::records_differ, crate::proofs::Apart::records_are_one))]
 pub fn law_of_records()
     ensures differ { RecordsDiffer }
     ensures records { RecordsAreOne }

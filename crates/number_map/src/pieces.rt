@@ -1,5 +1,5 @@
 //! Records that stand in a piece of a map.
-ghost use Rattle.std.specs.Prelude.{◌≡◌, ◌+◌, ◌<◌, ◌≤◌, ◌^◌, ◌++◌, ℕ, List, length, OnOk};
+ghost use Rattle.std.specs.Prelude.{◌≡◌, ◌≢◌, ◌+◌, ◌<◌, ◌≤◌, ◌^◌, ◌++◌, Err, ℕ, List, length, OnOk};
 ghost use Rattle.number_map.specs.Pieces.{ReadsNext, Stands, IsEnough, ReadsOn};
 
 use crate::line::Records;
@@ -7,6 +7,7 @@ use crate::reading::record_in_front;
 use disk_model::WalkRefusal;
 
 /// Reads the record of the next number from the front of bytes, and puts it behind the others.
+#[tactic(auto, using(crate::proofs::Spelled::whole_bytes))]
 fn read_next(bytes: &[u8], lines: &mut Records) -> Result<(), WalkRefusal>
     requires { length lines.old + 1 < 2 ^ 32 }
     ensures next { ReadsNext result bytes.now lines.old lines.new }
@@ -31,8 +32,10 @@ pub fn read_piece(bytes: &[u8], wanted: u32, lines: &mut Records) -> Result<(), 
 {
     let mut rest = bytes;
     for _ in 0..wanted {
-        read_next(rest, lines)?;
-        rest = rest.split_at(28).1;
+        match read_next(rest, lines) {
+            Err(refusal) => return Err(refusal),
+            Ok(()) => rest = rest.split_at(28).1,
+        }
     }
     Ok(())
 }

@@ -34,6 +34,8 @@ fn any_record(bytes: &[u8]) -> Record
     requires { length bytes.now ≡ 28 }
     ensures bytes { record_bytes result ≡ bytes.now }
     ensures blob { IsId result.blob }
+    ensures number { result.number < 2 ^ 32 }
+    ensures epoch { result.epoch < 2 ^ 32 }
 {
     let (number, rest) = bytes.split_at(4);
     let (epoch, blob) = rest.split_at(4);
@@ -53,8 +55,11 @@ pub fn record_in_front(bytes: &[u8], number: u32) -> Option<Record>
         return None;
     }
     let line = any_record(bytes.split_at(28).0);
-    if line.number == number && is_valid(&line) {
-        return Some(line);
+    if line.number != number {
+        return None;
     }
-    None
+    if !is_valid(&line) {
+        return None;
+    }
+    Some(line)
 }

@@ -1,5 +1,5 @@
 //! A map, read from its front to its end.
-ghost use Rattle.std.specs.Prelude.{◌≡◌, ◌+◌, ◌*◌, ◌<◌, ◌≤◌, ◌^◌, Err, length, IfOk, OnOk};
+ghost use Rattle.std.specs.Prelude.{◌≡◌, ◌+◌, ◌*◌, ◌<◌, ◌≤◌, ◌^◌, [], Err, length, IfOk, OnOk};
 ghost use Rattle.arch_base.specs.Counts.{Rose};
 ghost use Rattle.disk_model.specs.Disk.{Image, Told, WhereTold, Unchanged, LeavesOnly, bytes_of};
 ghost use Rattle.number_map.specs.Walks.{BeginsWith, Walks};
@@ -45,6 +45,34 @@ fn read_more<D: Disk>(
     }
 }
 
+/// Reads so many records from the front, piece by piece.
+fn read_all<D: Disk>(
+    disk: &mut D,
+    file: FileName,
+    count: u32,
+    room: &mut [u8],
+    lines: &mut Records,
+) -> Result<(), WalkRefusal>
+    requires room { length room.old ≡ 28 * 2340 }
+    requires none { lines.old ≡ [] }
+    ensures read { WhereTold (λ k. ReadsOn result count (bytes_of (k file).seen) lines.new) (D.content disk.old) }
+    ensures same { Told Unchanged (D.content disk.old) (D.content disk.new) }
+    ensures any_moment { LeavesOnly D.moment D.left_since disk.old disk.new (Image (D.content disk.old)) }
+    ensures later { D.faults disk.old ≤ D.faults disk.new }
+    ensures fault { result ≡ Err WalkRefusal.DiskFault → Rose (D.faults disk.old) (D.faults disk.new) }
+{
+    let mut done = 0;
+    while done < count {
+        let wanted = PIECE.min(count - done);
+        let into = &mut room[..28 * wanted as usize];
+        if let Err(refusal) = read_more(disk, file, wanted, into, lines) {
+            return Err(refusal);
+        }
+        done += wanted;
+    }
+    Ok(())
+}
+
 /// Reads the records of a map up to a number: one for each number from 1 on. The map is damaged at the place of the
 /// first record that isn't whole in the file, or isn't a valid one of its number. What stands behind the last one isn't
 /// looked at.
@@ -62,11 +90,8 @@ pub fn walk<D: Disk>(
 {
     let mut room = room(alloc)?;
     let mut lines = Records::new(alloc);
-    let mut done = 0;
-    while done < count {
-        let wanted = PIECE.min(count - done);
-        read_more(disk, file, wanted, &mut room[..28 * wanted as usize], &mut lines)?;
-        done += wanted;
+    match read_all(disk, file, count, &mut room, &mut lines) {
+        Ok(()) => Ok(lines),
+        Err(refusal) => Err(refusal),
     }
-    Ok(lines)
 }

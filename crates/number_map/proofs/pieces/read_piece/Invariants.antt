@@ -1,0 +1,10 @@
+use Rattle.std.proofs.Common.{◌≡◌, ◌+◌, ◌*◌, ◌++◌, ℕ, List, length}
+use Rattle.number_map.specs.Pieces.{Stands}
+use Rattle.number_map.proofs.pieces.read_piece.Given as goal
+
+abbrev pub invariant-loop : goal.invariant-loop
+invariant-loop l = record {
+  count : length l.lines ≡ length l.fn.lines + l.counter;
+  left : length l.rest + 28 * l.counter ≡ length l.bytes;
+  stands : (map behind : List ℕ) → Stands l.fn.lines (l.bytes ++ behind) map → Stands l.lines (l.rest ++ behind) map;
+}
