@@ -39,10 +39,10 @@ one_more old new bytes behind map stands next =
     let front = flat_map record_bytes old in
     let rest = drop 28 bytes ++ behind in
     let piece : bytes ++ behind ≡ record_bytes line ++ rest =
-      ap (λ (l : List ℕ). l ++ behind) (sym (take-append-drop 28 bytes) ∙ ap (λ (l : List ℕ). l ++ drop 28 bytes) next.spelled) ∙ append_assoc (record_bytes line) (drop 28 bytes) behind in
+    ap (λ (l : List ℕ). l ++ behind) (sym (take-append-drop 28 bytes) ∙ ap (λ (l : List ℕ). l ++ drop 28 bytes) next.spelled) ∙ append_assoc (record_bytes line) (drop 28 bytes) behind in
     let more : front ++ record_bytes line ≡ flat_map record_bytes (old ++ line ∷ []) = flat_map_more record_bytes [] old line in
     let is : map ≡ flat_map record_bytes (old ++ line ∷ []) ++ rest =
-      stands.spelled ∙ (ap (λ (l : List ℕ). front ++ l) piece ∙ (sym (append_assoc front (record_bytes line) rest) ∙ ap (λ (l : List ℕ). l ++ rest) more)) in
+    stands.spelled ∙ (ap (λ (l : List ℕ). front ++ l) piece ∙ (sym (append_assoc front (record_bytes line) rest) ∙ ap (λ (l : List ℕ). l ++ rest) more)) in
     subst (λ (l : List Record). Stands l rest map) (sym next.lines) (record { valid = valid; spelled = is })
 
 -- what stands in front of a piece stands in front of the map
@@ -56,7 +56,7 @@ front_of bytes behind enough = elim enough [
 pub none_more : (count at : ℕ) (old new : List Record) (bytes behind map : List ℕ) → length old < count → IsEnough 1 bytes behind → Stands old (bytes ++ behind) map → IsLast at bytes old new → IsDamaged count at map
 none_more count at old new bytes behind map fewer enough stands last =
     let place : drop at map ≡ bytes ++ behind =
-      ap (λ (k : ℕ). drop k map) last.place ∙ rest_is (28 * length old) map (flat_map record_bytes old) (bytes ++ behind) (records_length 1 old stands.valid) stands.spelled in
+    ap (λ (k : ℕ). drop k map) last.place ∙ rest_is (28 * length old) map (flat_map record_bytes old) (bytes ++ behind) (records_length 1 old stands.valid) stands.spelled in
     let front : take 28 (drop at map) ≡ take 28 bytes = ap (λ (l : List ℕ). take 28 l) place ∙ front_of bytes behind enough in
     record { before = old; begins = begins_of old (bytes ++ behind) map stands; fewer = fewer; place = last.place; none = λ line valid is. last.none line valid (sym front ∙ is) }
 

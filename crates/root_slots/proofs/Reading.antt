@@ -8,7 +8,7 @@ use Rattle.arch_base.specs.declared.config.Config.{Config}
 use Rattle.arch_base.specs.Names.{IsName}
 use Rattle.root_slots.specs.declared.root.Place.{Place}
 use Rattle.root_slots.specs.declared.root.Root.{Root}
-use Rattle.disk_model.specs.BigEndian.{be32, be64}
+use Rattle.disk_model.specs.BigEndian.{be32, be64, front_is, rest_is}
 use Rattle.root_slots.specs.Spelling.{flag, place_bytes, name_bytes, config_bytes, fields, spelling}
 use Rattle.root_slots.specs.Sizes.{name_length}
 use Rattle.root_slots.specs.Valid.{no_place, PlaceFits}

@@ -1,8 +1,9 @@
 -- One part behind the other.
 use Rattle.std.proofs.Common.{◌≡◌, ◌∙◌, ◌∷◌, [], ap, refl, Some, List, ℕ, nat_eq, get_or, arith}
 use Rattle.arch_base.specs.declared.config.Config.{Config}
+use Rattle.disk_model.specs.BigEndian.{rest_is}
 use Rattle.root_slots.specs.Spelling.{flag}
-use Rattle.root_slots.proofs.Reading.{rest_is, config_parts, config_is, second_byte, flag_read, some_is, none_isnt}
+use Rattle.root_slots.proofs.Reading.{config_parts, config_is, second_byte, flag_read, some_is, none_isnt}
 use Rattle.root_slots.proofs.parts.config.Goals as goal
 
 pub returns-in-Some-clause-read : goal.returns-in-Some-clause-read
