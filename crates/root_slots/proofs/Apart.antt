@@ -1,12 +1,12 @@
 -- Values of one spelling are one.
-use Rattle.std.specs.Prelude.{◌≡◌, ◌<◌, ◌^◌, ℕ, nat_eq, List, [], ◌∷◌, ◌++◌, length, get_or, take, drop, suc, refl}
+use Rattle.std.specs.Prelude.{◌≡◌, ◌<◌, ℕ, nat_eq, List, [], ◌∷◌, ◌++◌, length, get_or, take, drop, suc, refl}
 use Rattle.std.specs.List.{flat_map}
 use Rattle.std.proofs.Common.{◌∙◌, sym, ap, arith, append_assoc}
 use Rattle.arch_base.specs.declared.config.Config.{Config}
 use Rattle.arch_base.specs.Names.{IsName}
 use Rattle.arch_base.specs.Configs.{IsConfig}
 use Rattle.root_slots.specs.declared.root.Place.{Place}
-use Rattle.disk_model.specs.BigEndian.{be32, be64, rest_is, apart64, apart32}
+use Rattle.disk_model.specs.BigEndian.{be64, rest_is, apart64, apart32}
 use Rattle.root_slots.specs.Spelling.{flag, place_bytes, name_bytes, config_bytes, spelling}
 use Rattle.root_slots.specs.Sizes.{spelling_length}
 use Rattle.root_slots.specs.Valid.{no_place, PlaceFits}
