@@ -1,5 +1,5 @@
 -- A commit in three writes: what a crash leaves during each, and what stands after it.
-use Rattle.std.specs.Prelude.{◌≡◌, ◌≢◌, ◌⊎◌, ℕ, ◌+◌, ◌-◌, ◌<◌, ◌≤◌, Option, Some, None, List, [], ◌∷◌, length, get_or, take, drop}
+use Rattle.std.specs.Prelude.{◌≡◌, ◌≢◌, ◌⊎◌, ℕ, zero, suc, ◌+◌, ◌-◌, ◌<◌, ◌≤◌, Option, Some, None, List, [], ◌∷◌, length, get_or, take, drop}
 use Rattle.std.proofs.Common.{◌∙◌, sym, ap, subst, inl, inr, arith}
 use Rattle.std.proofs.lemmas.Bool.{cases_lt}
 use Rattle.std.proofs.lemmas.Grind.{common_steps}
@@ -192,6 +192,12 @@ size_stays at bytes None (Some m) inside size written = absurd written
 size_stays at bytes (Some k) None inside size written = absurd written
 size_stays at bytes (Some k) (Some m) inside size written = ap (λ (f : File). length (bytes_of f)) written.here ∙ (overlay-size at bytes (bytes_of (k root_name).seen) (omega (arith, size, inside)) ∙ size)
 
+-- the gate of the other slot stands apart
+apart : (slot : ℕ) → slot < 2 → (1 - slot < slot) ⊎ (slot + 1 ≤ 1 - slot)
+apart zero in_range = inr (omega arith)
+apart (suc zero) in_range = inl (omega arith)
+apart (suc (suc n)) in_range = absurd (omega (arith, in_range))
+
 module _ (slot : ℕ) (old new : List ℕ) (in_range : slot < 2) where
   -- during the first write
   pub during_shut : (k0 : Option Content) (image : Files) → ReadsFit k0 → WhereTold HasRootSize k0 → EachRoot (Ready slot old) k0 → Writing root_name slot 1 k0 image → IsOldOrNew old new k0 image
@@ -247,6 +253,20 @@ module _ (slot : ℕ) (old new : List ℕ) (in_range : slot < 2) where
         let size = f.shut.size in
         let same = overlay-torn slot (1 ∷ []) a (omega (arith, size, in_range)) in
         raised slot old new a (overlay slot (1 ∷ []) a) newer f same (overlay-byte slot 1 a (omega (arith, size, in_range)))
+
+  -- and the other slot is then ready for the next root
+  pub is_ready : sequence_of old < sequence_of new → (k2 k3 : Option Content) → ReadsFit k2 → EachRoot (Filled slot old new) k2 → Told (IsWritten root_name slot (1 ∷ [])) k2 k3 → EachRoot (Ready (1 - slot) new) k3
+  is_ready newer k2 k3 fit each written = each_written (Filled slot old new) (Ready (1 - slot) new) slot (1 ∷ []) k2 k3 fit each ready written where
+    ready : (a : List ℕ) → Filled slot old new a → Ready (1 - slot) new (overlay slot (1 ∷ []) a)
+    ready a f =
+        let size = f.shut.size in
+        let same = overlay-torn slot (1 ∷ []) a (omega (arith, size, in_range)) in
+        let b = overlay slot (1 ∷ []) a in
+        let back : slot ≡ 1 - (1 - slot) = omega (arith, in_range) in
+        record {
+          current = subst (λ (s : ℕ). Current s new b) back (raised slot old new a b newer f same (overlay-byte slot 1 a (omega (arith, size, in_range))));
+          other = inl (same.bytes (1 - slot) (apart slot in_range) ∙ f.shut.opened);
+        }
 
 -- the other files and the disk after the three writes
 pub committed : (slot : ℕ) (new : List ℕ) (k0 k1 k2 k3 : Option Content) → Told (IsWritten root_name slot (0 ∷ [])) k0 k1 → Told (IsWritten root_name (body_place slot) new) k1 k2 → Told (IsWritten root_name slot (1 ∷ [])) k2 k3 → Told IsCommitted k0 k3

@@ -29,6 +29,11 @@ OthersStay (Some k) image = Elsewhere k image
 abbrev pub gate : List ℕ → ℕ → ℕ
 gate file slot = get_or file slot 0
 
+-- whether the gate of a slot is open, as reads give the root file
+abbrev pub IsGateOpen : ℕ → Bool → Content → Type 0
+IsGateOpen slot true k = gate (bytes_of (k root_name).seen) slot ≡ 1
+IsGateOpen slot false k = gate (bytes_of (k root_name).seen) slot ≢ 1
+
 -- where the body of a slot stands
 abbrev pub body_place : ℕ → ℕ
 body_place slot = 1024 + 1536 * slot
