@@ -1,8 +1,8 @@
 -- The root file, its two slots, and which of them is the current root.
-use Rattle.std.specs.Prelude.{◌≡◌, ◌≢◌, ◌⊎◌, Bool, true, false, ℕ, ◌+◌, ◌-◌, ◌*◌, ◌<◌, Option, Some, None, Result, Ok, Err, List, length, get_or, take, drop, replicate}
+use Rattle.std.specs.Prelude.{◌≡◌, ◌≢◌, ◌⊎◌, Bool, true, false, ℕ, ◌+◌, ◌-◌, ◌*◌, ◌<◌, Option, Some, None, Result, Ok, Err, List, [], ◌∷◌, length, get_or, take, drop, replicate}
 use Rattle.std.specs.Int.{from_be_bytes, w64}
 use Rattle.disk_model.specs.declared.name.FileName.{FileName}
-use Rattle.disk_model.specs.Disk.{File, Files, Content, Fits, bytes_of, remove_sure}
+use Rattle.disk_model.specs.Disk.{File, Files, Content, Fits, bytes_of, overlay, remove_sure}
 use Rattle.disk_model.specs.Synced.{IsSettled}
 use Rattle.root_slots.specs.declared.root.Root.{Root}
 use Rattle.root_slots.specs.declared.refusal.RootRefusal.{RootRefusal}
@@ -77,6 +77,14 @@ pub record OldOrNew (old new : List ℕ) (k : Content) (image : Files) : Type 0 
 abbrev pub IsOldOrNew : List ℕ → List ℕ → Option Content → Files → Type 0
 IsOldOrNew old new None image = Unit {0}
 IsOldOrNew old new (Some k) image = OldOrNew old new k image
+
+-- a root file with this body in a slot whose gate is open, and all else as it was
+abbrev pub with_root : ℕ → List ℕ → List ℕ → List ℕ
+with_root slot body file = overlay slot (1 ∷ []) (overlay (body_place slot) body file)
+
+-- after a commit the root file reads so
+abbrev pub HasNewRoot : ℕ → List ℕ → Content → Content → Type 0
+HasNewRoot slot body old new = (new root_name).seen ≡ Some (with_root slot body (bytes_of (old root_name).seen))
 
 -- after a commit: what reads give is on the disk, and no other file reads otherwise
 pub record IsCommitted (old new : Content) : Type 0 where

@@ -7,7 +7,7 @@ ghost use Rattle.root_slots.specs.RootName.{root_name};
 ghost use Rattle.root_slots.specs.Each.{EachRoot};
 ghost use Rattle.root_slots.specs.Spelling.{spelling};
 ghost use Rattle.root_slots.specs.Valid.{IsRoot};
-ghost use Rattle.root_slots.specs.Slots.{HasRootSize, IsGateOpen, body_place, sequence_of, Current, Ready, OthersStay, IsOldOrNew, IsCommitted};
+ghost use Rattle.root_slots.specs.Slots.{HasRootSize, IsGateOpen, body_place, sequence_of, Current, Ready, OthersStay, IsOldOrNew, HasNewRoot, IsCommitted};
 
 use crate::body::spell;
 use crate::root::Root;
@@ -85,7 +85,7 @@ pub fn commit<D: Disk>(disk: &mut D, slot: u8, root: &Root) -> Result<(), DiskFa
     // At each moment a crash leaves the old root or the new one, and all other files as before.
     ensures any_moment { (old : List ℕ) → EachRoot (Ready slot old) (D.content disk.old) → sequence_of old < root.now.sequence
         → LeavesOnly D.moment D.left_since disk.old disk.new (IsOldOrNew old (spelling root.now) (D.content disk.old)) }
-    // After Ok it leaves the new one, and all that reads give is on the disk.
+    // After Ok it leaves the new one.
     ensures done { (old : List ℕ) → EachRoot (Ready slot old) (D.content disk.old) → sequence_of old < root.now.sequence
         → OnOk result (EachRoot (Current slot (spelling root.now)) (D.content disk.new)) }
     // The slot of the root before is then ready for the next one.
@@ -93,6 +93,8 @@ pub fn commit<D: Disk>(disk: &mut D, slot: u8, root: &Root) -> Result<(), DiskFa
         → OnOk result (EachRoot (Ready (1 - slot) (spelling root.now)) (D.content disk.new)) }
     // No other file is touched, whatever the root file has.
     ensures elsewhere { LeavesOnly D.moment D.left_since disk.old disk.new (OthersStay (D.content disk.old)) }
+    // After Ok the root file has the body in the slot, whose gate is open, and is else as it was.
+    ensures written { OnOk result (Told (HasNewRoot slot (spelling root.now)) (D.content disk.old) (D.content disk.new)) }
     ensures committed { OnOk result (Told IsCommitted (D.content disk.old) (D.content disk.new)) }
     ensures cause { IsCaused (D.faults disk.old) (D.faults disk.new) result }
     ensures count { D.reads disk.new ≡ D.reads disk.old }
