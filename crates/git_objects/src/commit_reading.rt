@@ -196,8 +196,16 @@ fn read_end(bytes: &[u8]) -> Option<(u64, &[u8], &[u8])>
         (λ found. Begins (Both IsNumber IsClean) (in_turn committed_part (text_part 10)) bytes.now (found.0, found.1.now) found.2.now) }
 {
     let (committed, rest) = read_committed(bytes)?;
-    let (subject, rest) = read_text(b'\n', rest)?;
+    let (subject, rest) = read_subject(rest)?;
     Some((committed, subject, rest))
+}
+
+/// The subject, up to the line feed that ends its line.
+fn read_subject(bytes: &[u8]) -> Option<(&[u8], &[u8])>
+    ensures { MatchOption result (Lacks IsClean (text_part 10) bytes.now)
+        (λ found. Begins IsClean (text_part 10) bytes.now found.0.now found.1.now) }
+{
+    read_text(b'\n', bytes)
 }
 
 /// The moment of the commit, up to the subject.

@@ -1,14 +1,14 @@
 -- A commit in three writes: what a crash leaves during each, and what stands after it.
-use Rattle.std.specs.Prelude.{◌≡◌, ◌≢◌, ◌⊎◌, ℕ, ◌+◌, ◌-◌, ◌<◌, ◌≤◌, Option, Some, None, List, [], ◌∷◌, length, get_or, take, drop}
+use Rattle.std.specs.Prelude.{◌≡◌, ◌≢◌, ◌⊎◌, ℕ, zero, suc, ◌+◌, ◌-◌, ◌<◌, ◌≤◌, Option, Some, None, List, [], ◌∷◌, length, get_or, take, drop}
 use Rattle.std.proofs.Common.{◌∙◌, sym, ap, subst, inl, inr, arith}
 use Rattle.std.proofs.lemmas.Bool.{cases_lt}
-use Rattle.std.proofs.lemmas.Grind.{common_steps}
+use Rattle.std.proofs.lemmas.Grind.{common_steps, same_number_lists}
 use Rattle.disk_model.specs.Disk.{File, Files, Content, Told, WhereTold, bytes_of, overlay, ReadsFit}
-use Rattle.disk_model.specs.Laws.{SameOutside, overlay-torn, overlay-size, overlay-inside}
+use Rattle.disk_model.specs.Laws.{SameOutside, overlay-torn, overlay-size, overlay-inside, overlay_kept}
 use Rattle.disk_model.specs.Synced.{Writing, IsWritten}
 use Rattle.root_slots.specs.RootName.{root_name}
 use Rattle.root_slots.specs.Each.{IfThere, EachRoot, part_stays, each_writing, each_written, elsewhere_before}
-use Rattle.root_slots.specs.Slots.{HasRootSize, gate, body_place, body_at, sequence_of, Precedes, Current, HasRoot, Ready, IsOldOrNew, IsCommitted}
+use Rattle.root_slots.specs.Slots.{HasRootSize, gate, body_place, body_at, sequence_of, Precedes, Current, HasRoot, Ready, IsOldOrNew, with_root, HasNewRoot, IsCommitted}
 
 -- a number is this one or another
 nat_eq_or_not : (m n : ℕ) → (m ≡ n) ⊎ (m ≢ n)
@@ -24,6 +24,50 @@ zero_isnt_one n zero_is one_is = absurd (omega (arith, zero_is, one_is))
 -- a byte that is written stands there
 overlay-byte : (at value : ℕ) (old : List ℕ) → at < length old → get_or (overlay at (value ∷ []) old) at 0 ≡ value
 overlay-byte at value old below = grind (arith, common_steps)
+
+-- a byte inside of a written range
+overlay-there : (at : ℕ) (bytes old : List ℕ) (i : ℕ) → at ≤ length old → at ≤ i → i < at + length bytes → get_or (overlay at bytes old) i 0 ≡ get_or bytes (i - at) 0
+overlay-there at bytes old i inside low high = grind (arith, common_steps)
+
+-- that the gate was shut in between leaves no trace
+shut_between : (slot : ℕ) (new old : List ℕ) → slot < 2 → length new ≡ 1536 → length old ≡ 4096 → overlay slot (1 ∷ []) (overlay (body_place slot) new (overlay slot (0 ∷ []) old)) ≡ with_root slot new old
+shut_between slot new old in_range whole size =
+    let shut : List ℕ = overlay slot (0 ∷ []) old in
+    let shut_size : length shut ≡ 4096 = overlay-size slot (0 ∷ []) old (omega (arith, size, in_range)) ∙ size in
+    let there = overlay-size (body_place slot) new shut (omega (arith, shut_size, whole, in_range)) in
+    let here = overlay-size (body_place slot) new old (omega (arith, size, whole, in_range)) in
+    let left = overlay-size slot (1 ∷ []) (overlay (body_place slot) new shut) (omega (arith, there, shut_size, in_range)) in
+    let right = overlay-size slot (1 ∷ []) (overlay (body_place slot) new old) (omega (arith, here, size, in_range)) in
+    same_number_lists (overlay slot (1 ∷ []) (overlay (body_place slot) new shut)) (with_root slot new old) (omega (arith, left, right, there, here, shut_size, size))
+    (λ i below. same_at i (nat_eq_or_not i slot)) where
+      same_apart : (i : ℕ) → i ≢ slot → (i < slot) ⊎ (slot + 1 ≤ i)
+      same_apart i apart = elim (cases_lt i slot) [ inl low ↦ inl low | inr high ↦ elim (cases_lt slot i) [ inl low ↦ inr (omega (arith, low)) | inr less ↦ absurd (apart (omega (arith, high, less))) ] ]
+
+      in_body : (i : ℕ) → i ≢ slot → get_or (overlay (body_place slot) new (overlay slot (0 ∷ []) old)) i 0 ≡ get_or (overlay (body_place slot) new old) i 0
+      in_body i apart =
+          let shut_size : length (overlay slot (0 ∷ []) old) ≡ 4096 = overlay-size slot (0 ∷ []) old (omega (arith, size, in_range)) ∙ size in
+          let fits : body_place slot ≤ length old = omega (arith, size, in_range) in
+          let fits2 : body_place slot ≤ length (overlay slot (0 ∷ []) old) = omega (arith, shut_size, in_range) in
+          elim (cases_lt i (body_place slot)) [
+            | inl low ↦ overlay_kept (body_place slot) new (overlay slot (0 ∷ []) old) i fits2 (inl low) ∙ (overlay_kept slot (0 ∷ []) old i (omega (arith, size, in_range)) (same_apart i apart) ∙ sym (overlay_kept (body_place slot) new old i fits (inl low)))
+            | inr high ↦ elim (cases_lt i (body_place slot + length new)) [
+              | inl low ↦ overlay-there (body_place slot) new (overlay slot (0 ∷ []) old) i fits2 high low ∙ sym (overlay-there (body_place slot) new old i fits high low)
+              | inr past ↦ overlay_kept (body_place slot) new (overlay slot (0 ∷ []) old) i fits2 (inr past) ∙ (overlay_kept slot (0 ∷ []) old i (omega (arith, size, in_range)) (same_apart i apart) ∙ sym (overlay_kept (body_place slot) new old i fits (inr past)))
+            ]
+          ]
+
+      same_at : (i : ℕ) → (i ≡ slot) ⊎ (i ≢ slot) → get_or (overlay slot (1 ∷ []) (overlay (body_place slot) new (overlay slot (0 ∷ []) old))) i 0 ≡ get_or (with_root slot new old) i 0
+      same_at i (inl is) =
+          let shut_size : length (overlay slot (0 ∷ []) old) ≡ 4096 = overlay-size slot (0 ∷ []) old (omega (arith, size, in_range)) ∙ size in
+          let there = overlay-size (body_place slot) new (overlay slot (0 ∷ []) old) (omega (arith, shut_size, whole, in_range)) in
+          let here = overlay-size (body_place slot) new old (omega (arith, size, whole, in_range)) in
+          rw is (overlay-byte slot 1 (overlay (body_place slot) new (overlay slot (0 ∷ []) old)) (omega (arith, there, shut_size, in_range)) ∙ sym (overlay-byte slot 1 (overlay (body_place slot) new old) (omega (arith, here, size, in_range))))
+      same_at i (inr apart) =
+          let shut_size : length (overlay slot (0 ∷ []) old) ≡ 4096 = overlay-size slot (0 ∷ []) old (omega (arith, size, in_range)) ∙ size in
+          let there = overlay-size (body_place slot) new (overlay slot (0 ∷ []) old) (omega (arith, shut_size, whole, in_range)) in
+          let here = overlay-size (body_place slot) new old (omega (arith, size, whole, in_range)) in
+          overlay_kept slot (1 ∷ []) (overlay (body_place slot) new (overlay slot (0 ∷ []) old)) i (omega (arith, there, shut_size, in_range)) (same_apart i apart)
+          ∙ (in_body i apart ∙ sym (overlay_kept slot (1 ∷ []) (overlay (body_place slot) new old) i (omega (arith, here, size, in_range)) (same_apart i apart)))
 
 -- while a slot is shut the other one has the current root
 pub record Shut (slot : ℕ) (old file : List ℕ) : Type 0 where
@@ -192,6 +236,12 @@ size_stays at bytes None (Some m) inside size written = absurd written
 size_stays at bytes (Some k) None inside size written = absurd written
 size_stays at bytes (Some k) (Some m) inside size written = ap (λ (f : File). length (bytes_of f)) written.here ∙ (overlay-size at bytes (bytes_of (k root_name).seen) (omega (arith, size, inside)) ∙ size)
 
+-- the gate of the other slot stands apart
+apart : (slot : ℕ) → slot < 2 → (1 - slot < slot) ⊎ (slot + 1 ≤ 1 - slot)
+apart zero in_range = inr (omega arith)
+apart (suc zero) in_range = inl (omega arith)
+apart (suc (suc n)) in_range = absurd (omega (arith, in_range))
+
 module _ (slot : ℕ) (old new : List ℕ) (in_range : slot < 2) where
   -- during the first write
   pub during_shut : (k0 : Option Content) (image : Files) → ReadsFit k0 → WhereTold HasRootSize k0 → EachRoot (Ready slot old) k0 → Writing root_name slot 1 k0 image → IsOldOrNew old new k0 image
@@ -248,6 +298,20 @@ module _ (slot : ℕ) (old new : List ℕ) (in_range : slot < 2) where
         let same = overlay-torn slot (1 ∷ []) a (omega (arith, size, in_range)) in
         raised slot old new a (overlay slot (1 ∷ []) a) newer f same (overlay-byte slot 1 a (omega (arith, size, in_range)))
 
+  -- and the other slot is then ready for the next root
+  pub is_ready : sequence_of old < sequence_of new → (k2 k3 : Option Content) → ReadsFit k2 → EachRoot (Filled slot old new) k2 → Told (IsWritten root_name slot (1 ∷ [])) k2 k3 → EachRoot (Ready (1 - slot) new) k3
+  is_ready newer k2 k3 fit each written = each_written (Filled slot old new) (Ready (1 - slot) new) slot (1 ∷ []) k2 k3 fit each ready written where
+    ready : (a : List ℕ) → Filled slot old new a → Ready (1 - slot) new (overlay slot (1 ∷ []) a)
+    ready a f =
+        let size = f.shut.size in
+        let same = overlay-torn slot (1 ∷ []) a (omega (arith, size, in_range)) in
+        let b = overlay slot (1 ∷ []) a in
+        let back : slot ≡ 1 - (1 - slot) = omega (arith, in_range) in
+        record {
+          current = subst (λ (s : ℕ). Current s new b) back (raised slot old new a b newer f same (overlay-byte slot 1 a (omega (arith, size, in_range))));
+          other = inl (same.bytes (1 - slot) (apart slot in_range) ∙ f.shut.opened);
+        }
+
 -- the other files and the disk after the three writes
 pub committed : (slot : ℕ) (new : List ℕ) (k0 k1 k2 k3 : Option Content) → Told (IsWritten root_name slot (0 ∷ [])) k0 k1 → Told (IsWritten root_name (body_place slot) new) k1 k2 → Told (IsWritten root_name slot (1 ∷ [])) k2 k3 → Told IsCommitted k0 k3
 committed slot new None None None None a b c = tt
@@ -261,3 +325,18 @@ committed slot new (Some k) (Some l) (Some m) (Some n) a b c = record {
   elsewhere = λ other apart. c.elsewhere other apart ∙ (b.elsewhere other apart ∙ a.elsewhere other apart);
   settled = c.settled;
 }
+
+-- the root file after them
+pub has_new_root : (slot : ℕ) (new : List ℕ) → slot < 2 → length new ≡ 1536 → (k0 k1 k2 k3 : Option Content) → WhereTold HasRootSize k0 → Told (IsWritten root_name slot (0 ∷ [])) k0 k1 → Told (IsWritten root_name (body_place slot) new) k1 k2 → Told (IsWritten root_name slot (1 ∷ [])) k2 k3 → Told (HasNewRoot slot new) k0 k3
+has_new_root slot new in_range whole None None None None size a b c = tt
+has_new_root slot new in_range whole None None None (Some n) size a b c = absurd c
+has_new_root slot new in_range whole None None (Some m) k3 size a b c = absurd b
+has_new_root slot new in_range whole None (Some l) k2 k3 size a b c = absurd a
+has_new_root slot new in_range whole (Some k) None k2 k3 size a b c = absurd a
+has_new_root slot new in_range whole (Some k) (Some l) None k3 size a b c = absurd b
+has_new_root slot new in_range whole (Some k) (Some l) (Some m) None size a b c = absurd c
+has_new_root slot new in_range whole (Some k) (Some l) (Some m) (Some n) size a b c =
+    c.here
+    ∙ (ap (λ (f : File). Some (overlay slot (1 ∷ []) (bytes_of f))) b.here
+    ∙ (ap (λ (f : File). Some (overlay slot (1 ∷ []) (overlay (body_place slot) new (bytes_of f)))) a.here
+    ∙ ap (λ (bytes : List ℕ). Some bytes) (shut_between slot new (bytes_of (k root_name).seen) in_range whole size)))

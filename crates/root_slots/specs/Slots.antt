@@ -1,8 +1,8 @@
 -- The root file, its two slots, and which of them is the current root.
-use Rattle.std.specs.Prelude.{◌≡◌, ◌≢◌, ◌⊎◌, Bool, true, false, ℕ, ◌+◌, ◌-◌, ◌*◌, ◌<◌, Option, Some, None, Result, Ok, Err, List, length, get_or, take, drop, replicate}
+use Rattle.std.specs.Prelude.{◌≡◌, ◌≢◌, ◌⊎◌, Bool, true, false, ℕ, ◌+◌, ◌-◌, ◌*◌, ◌<◌, Option, Some, None, Result, Ok, Err, List, [], ◌∷◌, length, get_or, take, drop, replicate}
 use Rattle.std.specs.Int.{from_be_bytes, w64}
 use Rattle.disk_model.specs.declared.name.FileName.{FileName}
-use Rattle.disk_model.specs.Disk.{File, Files, Content, Fits, bytes_of, remove_sure}
+use Rattle.disk_model.specs.Disk.{File, Files, Content, Fits, bytes_of, overlay, remove_sure}
 use Rattle.disk_model.specs.Synced.{IsSettled}
 use Rattle.root_slots.specs.declared.root.Root.{Root}
 use Rattle.root_slots.specs.declared.refusal.RootRefusal.{RootRefusal}
@@ -28,6 +28,11 @@ OthersStay (Some k) image = Elsewhere k image
 -- the gate of a slot: 1 is open, all else is shut
 abbrev pub gate : List ℕ → ℕ → ℕ
 gate file slot = get_or file slot 0
+
+-- whether the gate of a slot is open, as reads give the root file
+abbrev pub IsGateOpen : ℕ → Bool → Content → Type 0
+IsGateOpen slot true k = gate (bytes_of (k root_name).seen) slot ≡ 1
+IsGateOpen slot false k = gate (bytes_of (k root_name).seen) slot ≢ 1
 
 -- where the body of a slot stands
 abbrev pub body_place : ℕ → ℕ
@@ -72,6 +77,14 @@ pub record OldOrNew (old new : List ℕ) (k : Content) (image : Files) : Type 0 
 abbrev pub IsOldOrNew : List ℕ → List ℕ → Option Content → Files → Type 0
 IsOldOrNew old new None image = Unit {0}
 IsOldOrNew old new (Some k) image = OldOrNew old new k image
+
+-- a root file with this body in a slot whose gate is open, and all else as it was
+abbrev pub with_root : ℕ → List ℕ → List ℕ → List ℕ
+with_root slot body file = overlay slot (1 ∷ []) (overlay (body_place slot) body file)
+
+-- after a commit the root file reads so
+abbrev pub HasNewRoot : ℕ → List ℕ → Content → Content → Type 0
+HasNewRoot slot body old new = (new root_name).seen ≡ Some (with_root slot body (bytes_of (old root_name).seen))
 
 -- after a commit: what reads give is on the disk, and no other file reads otherwise
 pub record IsCommitted (old new : Content) : Type 0 where

@@ -14,7 +14,7 @@ pub use find::read;
 pub use laws::law_of_spellings;
 pub use refusal::RootRefusal;
 pub use root::{Place, Root};
-pub use slots::{commit, fill, raise, shut};
+pub use slots::{commit, fill, is_open, raise, shut};
 pub use start::begin;
 
 #[cfg(test)]

@@ -1,13 +1,13 @@
 //! The two slots, and how a root takes the place of the current one.
-ghost use Rattle.std.specs.Prelude.{◌≡◌, ◌+◌, ◌<◌, ◌∷◌, [], ℕ, List, length, OnOk};
+ghost use Rattle.std.specs.Prelude.{◌≡◌, ◌+◌, ◌-◌, ◌<◌, ◌∷◌, [], ℕ, List, length, OnOk, IfOk};
 ghost use Rattle.arch_base.specs.Counts.{IsCaused};
-ghost use Rattle.disk_model.specs.Disk.{Told, WhereTold, LeavesOnly};
+ghost use Rattle.disk_model.specs.Disk.{Image, Told, WhereTold, Unchanged, LeavesOnly};
 ghost use Rattle.disk_model.specs.Synced.{Writing, IsWritten};
 ghost use Rattle.root_slots.specs.RootName.{root_name};
 ghost use Rattle.root_slots.specs.Each.{EachRoot};
 ghost use Rattle.root_slots.specs.Spelling.{spelling};
 ghost use Rattle.root_slots.specs.Valid.{IsRoot};
-ghost use Rattle.root_slots.specs.Slots.{HasRootSize, body_place, sequence_of, Current, Ready, OthersStay, IsOldOrNew, IsCommitted};
+ghost use Rattle.root_slots.specs.Slots.{HasRootSize, IsGateOpen, body_place, sequence_of, Current, Ready, OthersStay, IsOldOrNew, HasNewRoot, IsCommitted};
 
 use crate::body::spell;
 use crate::root::Root;
@@ -22,6 +22,19 @@ pub fn root_file() -> FileName
         number: 0,
         gen_: 0,
     }
+}
+
+/// Whether the gate of a slot is open. A root file that ends before the gate has none.
+pub fn is_open<D: Disk>(disk: &mut D, slot: u8) -> Result<bool, DiskFault>
+    requires slot { slot < 2 }
+    ensures open { IfOk result (λ open_. WhereTold (IsGateOpen slot open_) (D.content disk.old)) }
+    ensures same { Told Unchanged (D.content disk.old) (D.content disk.new) }
+    ensures any_moment { LeavesOnly D.moment D.left_since disk.old disk.new (Image (D.content disk.old)) }
+    ensures cause { IsCaused (D.faults disk.old) (D.faults disk.new) result }
+{
+    let mut gate = [0];
+    disk.read(root_file(), slot as u64, &mut gate)?;
+    Ok(gate[0] == 1)
 }
 
 /// Shuts the gate of a slot, and syncs.
@@ -72,11 +85,16 @@ pub fn commit<D: Disk>(disk: &mut D, slot: u8, root: &Root) -> Result<(), DiskFa
     // At each moment a crash leaves the old root or the new one, and all other files as before.
     ensures any_moment { (old : List ℕ) → EachRoot (Ready slot old) (D.content disk.old) → sequence_of old < root.now.sequence
         → LeavesOnly D.moment D.left_since disk.old disk.new (IsOldOrNew old (spelling root.now) (D.content disk.old)) }
-    // After Ok it leaves the new one, and all that reads give is on the disk.
+    // After Ok it leaves the new one.
     ensures done { (old : List ℕ) → EachRoot (Ready slot old) (D.content disk.old) → sequence_of old < root.now.sequence
         → OnOk result (EachRoot (Current slot (spelling root.now)) (D.content disk.new)) }
+    // The slot of the root before is then ready for the next one.
+    ensures again { (old : List ℕ) → EachRoot (Ready slot old) (D.content disk.old) → sequence_of old < root.now.sequence
+        → OnOk result (EachRoot (Ready (1 - slot) (spelling root.now)) (D.content disk.new)) }
     // No other file is touched, whatever the root file has.
     ensures elsewhere { LeavesOnly D.moment D.left_since disk.old disk.new (OthersStay (D.content disk.old)) }
+    // After Ok the root file has the body in the slot, whose gate is open, and is else as it was.
+    ensures written { OnOk result (Told (HasNewRoot slot (spelling root.now)) (D.content disk.old) (D.content disk.new)) }
     ensures committed { OnOk result (Told IsCommitted (D.content disk.old) (D.content disk.new)) }
     ensures cause { IsCaused (D.faults disk.old) (D.faults disk.new) result }
     ensures count { D.reads disk.new ≡ D.reads disk.old }

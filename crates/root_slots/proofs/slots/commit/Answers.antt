@@ -5,7 +5,7 @@ use Rattle.disk_model.specs.Moments.{joined, weaker}
 use Rattle.root_slots.specs.Spelling.{spelling}
 use Rattle.root_slots.specs.Sizes.{sequence-spelling}
 use Rattle.root_slots.specs.Slots.{body_place, sequence_of, OthersStay, IsOldOrNew}
-use Rattle.root_slots.proofs.Phases.{during_shut, is_shut, during_fill, is_filled, during_raise, is_raised, committed, size_stays}
+use Rattle.root_slots.proofs.Phases.{during_shut, is_shut, during_fill, is_filled, during_raise, is_raised, is_ready, committed, has_new_root, size_stays}
 use Rattle.root_slots.proofs.Others.{others_writing, others_written}
 use Rattle.root_slots.proofs.slots.commit.Goals as goal
 
@@ -72,6 +72,26 @@ returns-clause-done g c = λ old ready later.
     let filled2 = is_filled slot old new c.requires.slot c.fill.ensures.whole k1 k2 (g.met.D.Disk.reads_fit c.shut.new.disk) shut1 c.in_ok-fill.ensures.written in
     let newer : sequence_of old < sequence_of new = omega (arith, later, sequence-spelling c.args.root.now (omega arith)) in
     on_ok_weaker c.raise.result (is_raised slot old new c.requires.slot newer k2 k3 (g.met.D.Disk.reads_fit c.fill.new.disk) filled2) c.raise.ensures.written
+
+pub returns-clause-again : goal.returns-clause-again
+returns-clause-again g c = λ old ready later.
+    let disk = c.args.disk.now in
+    let k0 = g.D.Disk.content disk in
+    let k1 = g.D.Disk.content c.shut.new.disk in
+    let k2 = g.D.Disk.content c.fill.new.disk in
+    let k3 = g.D.Disk.content c.raise.new.disk in
+    let new = spelling c.args.root.now in
+    let slot = c.args.slot in
+    let shut1 = is_shut slot old new c.requires.slot k0 k1 (g.met.D.Disk.reads_fit disk) ready c.in_ok-shut.ensures.written in
+    let filled2 = is_filled slot old new c.requires.slot c.fill.ensures.whole k1 k2 (g.met.D.Disk.reads_fit c.shut.new.disk) shut1 c.in_ok-fill.ensures.written in
+    let newer : sequence_of old < sequence_of new = omega (arith, later, sequence-spelling c.args.root.now (omega arith)) in
+    on_ok_weaker c.raise.result (is_ready slot old new c.requires.slot newer k2 k3 (g.met.D.Disk.reads_fit c.fill.new.disk) filled2) c.raise.ensures.written
+
+pub returns-clause-written : goal.returns-clause-written
+returns-clause-written g c =
+    on_ok_weaker c.raise.result
+    (has_new_root c.args.slot (spelling c.args.root.now) c.requires.slot c.fill.ensures.whole (g.D.Disk.content c.args.disk.now) (g.D.Disk.content c.shut.new.disk) (g.D.Disk.content c.fill.new.disk) (g.D.Disk.content c.raise.new.disk) c.requires.size c.in_ok-shut.ensures.written c.in_ok-fill.ensures.written)
+    c.raise.ensures.written
 
 pub returns-clause-committed : goal.returns-clause-committed
 returns-clause-committed g c =
