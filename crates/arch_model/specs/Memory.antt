@@ -13,7 +13,7 @@ use Rattle.mail_reader.specs.Content.{content_id_of}
 use Rattle.git_objects.specs.Objects.{blob_id_of}
 use Rattle.arch_model.specs.Archives.{Entry, Archive, owner, in_epoch}
 use Rattle.arch_model.specs.Delivery.{last_epoch}
-use Rattle.arch_model.specs.Epochs.{epoch_bytes, last_commit, commit_id, entry_bytes, magic}
+use Rattle.arch_model.specs.Epochs.{epoch_bytes, last_commit, commit_id, entry_bytes, magic, message_name}
 use Rattle.arch_model.specs.declared.kept.Kept.{Kept}
 use Rattle.arch_model.specs.declared.kept.Owner.{Owner}
 use Rattle.arch_model.specs.declared.kept.End.{End}
@@ -102,8 +102,8 @@ end_for_new limit end_ = if end_.epoch == 63 || nat_lt 0 end_.room then end_ els
 abbrev pub end_after : End → List ℕ → ℕ → End
 end_after end_ text moment = record {
   epoch = end_.epoch;
-  room = end_.room - length (front_bytes end_.parent ++ entry_bytes text moment end_.parent);
-  parent = Some (commit_id text moment end_.parent);
+  room = end_.room - length (front_bytes end_.parent ++ entry_bytes message_name text moment end_.parent);
+  parent = Some (commit_id message_name text moment end_.parent);
 }
 
 -- bytes have others at their front

@@ -40,9 +40,9 @@ fn a_mail_has_the_commit_of_git(rt: HostRuntime) {
 fn two_entries(alloc: Global) -> Result<(ObjectId, usize, ObjectId, usize), NoMemory> {
     let mut epoch = Bytes::new(alloc);
     epoch.push_slice(b"PIV2EP1\n")?;
-    let first = push_entry(alloc, FIRST, 1_706_781_700, None, &mut epoch)?;
+    let first = push_entry(alloc, b'm', FIRST, 1_706_781_700, None, &mut epoch)?.commit;
     let one = epoch.as_slice().len();
-    let second = push_entry(alloc, SECOND, 1_706_781_700, Some(first), &mut epoch)?;
+    let second = push_entry(alloc, b'm', SECOND, 1_706_781_700, Some(first), &mut epoch)?.commit;
     Ok((first, one, second, epoch.as_slice().len()))
 }
 

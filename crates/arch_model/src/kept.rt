@@ -1,6 +1,6 @@
 //! What an archive in memory keeps of each message.
 ghost use Rattle.std.specs.Prelude.{◌≡◌, ◌+◌, ◌-◌, ◌++◌, ◌≤◌, length, IfOk, OnOk, OnErr, is_ok, if◌then◌else◌};
-ghost use Rattle.arch_model.specs.Epochs.{commit_id, entry_bytes};
+ghost use Rattle.arch_model.specs.Epochs.{commit_id, entry_bytes, message_name};
 ghost use Rattle.arch_model.specs.Memory.{front_bytes, end_for_new, end_after, met_owner, Grows};
 
 use crate::choice::Meeting;
@@ -98,12 +98,13 @@ pub(crate) fn push_behind(
     parent: Option<ObjectId>,
     into: &mut Bytes,
 ) -> Result<ObjectId, NoMemory>
-    ensures id { IfOk result (λ id. id ≡ commit_id text.now moment parent) }
-    ensures ok { OnOk result (into.new ≡ into.old ++ (front_bytes parent ++ entry_bytes text.now moment parent)) }
+    ensures id { IfOk result (λ id. id ≡ commit_id message_name text.now moment parent) }
+    ensures ok { OnOk result (into.new ≡ into.old ++ (front_bytes parent ++ entry_bytes message_name text.now moment parent)) }
     ensures err { OnErr result (Grows into.old into.new) }
 {
     push_front(parent, into)?;
-    push_entry(alloc, text, moment, parent, into)
+    let ids = push_entry(alloc, b'm', text, moment, parent, into)?;
+    Ok(ids.commit)
 }
 
 /// Puts an epoch's first bytes behind others where an entry has no parent.

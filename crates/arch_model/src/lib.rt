@@ -12,7 +12,7 @@ mod made;
 mod memory;
 
 pub use answer::Answer;
-pub use commits::{entry_commit, epoch_grows, push_entry};
+pub use commits::{EntryIds, entry_commit, epoch_grows, push_entry};
 pub use laws::{
     delivered_is_shown, first_candidate_decides, numbers_keep_their_texts,
     numbers_stay_below_the_next,
