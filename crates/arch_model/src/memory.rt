@@ -244,8 +244,7 @@ impl MemArchive {
     {
         let end = self
             .end
-            .for_new(self.config.limit)
-            .after(self.alloc, text.as_slice(), moment)?;
+            .with(self.alloc, self.config.limit, text.as_slice(), moment)?;
         let id = own_id_bytes(self.alloc, text.as_slice())?;
         let owner = self.owner_of(text.as_slice());
         self.kept.push(Kept {
