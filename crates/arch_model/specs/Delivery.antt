@@ -11,6 +11,8 @@ use Rattle.arch_model.specs.Epochs.{epoch_bytes}
 use Rattle.arch_model.specs.Candidates.{choice_of}
 use Rattle.arch_model.specs.declared.choice.Choice.{Choice}
 use Rattle.arch_model.specs.declared.choice.Choice.TheVariants.{Take, Repeat}
+use Rattle.arch_model.specs.declared.command.Command.{Command}
+use Rattle.arch_model.specs.declared.command.Command.TheVariants.{Deliver}
 use Rattle.arch_model.specs.declared.answer.Answer.{Answer}
 use Rattle.arch_model.specs.declared.answer.Answer.TheVariants as answer
 
@@ -77,6 +79,10 @@ delivered_form a moment (Err stored_refusal.NoMemory) = refused a answer.NoMemor
 -- what the delivery of bytes at a moment comes to: a mirror takes none
 abbrev pub delivered : Archive → List ℕ → ℕ → Done
 delivered a bytes moment = if a.config.mirror then refused a answer.IsMirror else delivered_form a moment (stored bytes)
+
+-- what a command at a moment comes to
+abbrev pub applied : Archive → Command → ℕ → Done
+applied a (Deliver bytes) moment = delivered a bytes.now moment
 
 -- what a call answered, and the archive behind it, are what is wanted; for want of memory all is as before
 abbrev pub Delivers : Archive → Answer → Archive → Done → Type 0

@@ -3,6 +3,7 @@
 
 mod answer;
 mod choice;
+mod command;
 mod commits;
 mod facts;
 mod index;
@@ -12,6 +13,7 @@ mod made;
 mod memory;
 
 pub use answer::Answer;
+pub use command::Command;
 pub use commits::{EntryIds, entry_commit, epoch_grows, push_entry};
 pub use laws::{
     delivered_is_shown, first_candidate_decides, numbers_keep_their_texts,
