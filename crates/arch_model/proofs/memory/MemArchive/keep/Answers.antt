@@ -4,7 +4,6 @@ use Rattle.mail_reader.specs.Content.{content_id_of}
 use Rattle.arch_model.specs.Archives.{Archive, with_entry}
 use Rattle.arch_model.specs.Delivery.{new_epoch}
 use Rattle.arch_model.specs.Memory.{IsFree, Puts, blob_number, end_after, end_for_new, entries_from}
-use Rattle.arch_model.specs.declared.kept.End.{End}
 use Rattle.arch_model.specs.declared.kept.Owner.{Owner}
 use Rattle.arch_model.proofs.Keeping.{kept-behind, archive-behind}
 use Rattle.arch_model.proofs.memory.MemArchive.keep.Goals as goal
