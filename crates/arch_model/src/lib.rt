@@ -11,6 +11,7 @@ mod kept;
 mod laws;
 mod made;
 mod memory;
+mod opening;
 
 pub use answer::Answer;
 pub use command::Command;
@@ -20,6 +21,7 @@ pub use laws::{
     numbers_stay_below_the_next,
 };
 pub use memory::MemArchive;
+pub use opening::OpenRefusal;
 
 #[cfg(test)]
 mod commit_tests;
