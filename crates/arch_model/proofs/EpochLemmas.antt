@@ -13,7 +13,7 @@ use Rattle.mail_date.specs.declared.moment.Moment.{Moment}
 use Rattle.arch_model.specs.Archives.{Entry}
 use Rattle.arch_model.specs.Facts.{from_fact, email_fact, subject_fact, date_fact}
 use Rattle.arch_model.specs.Commits.{commit_of, written_at}
-use Rattle.arch_model.specs.Epochs.{tree_of, commit_text, commit_id, entry_bytes, entries_bytes, last_commit, magic, epoch_bytes}
+use Rattle.arch_model.specs.Epochs.{tree_of, commit_text, commit_id, entry_bytes, entries_bytes, last_commit, magic, message_name, epoch_bytes}
 
 -- the commit of the facts of a text
 pub commit_of-made : (text : List ℕ) (tree : Id20) (parent : Option Id20) (moment : ℕ) (author email subject : List ℕ) (written : Moment) (zone : ℤ)
@@ -31,51 +31,51 @@ zone_fits zone h =
     omega (arith, ints)
 
 -- the spelling of the commit of a text
-pub commit_text-made : (made : Result (List ℕ) NoMemory) (text : List ℕ) (moment : ℕ) (parent : Option Id20) (tree : Id20) (commit : Commit) → tree ≡ id_of (tree_of text)
-    → commit ≡ commit_of text tree parent moment → IfOk made (λ spelled. spelled ≡ commit_spelling commit) → IfOk made (λ spelled. spelled ≡ commit_text text moment parent)
+pub commit_text-made : (made : Result (List ℕ) NoMemory) (name : ℕ) (text : List ℕ) (moment : ℕ) (parent : Option Id20) (tree : Id20) (commit : Commit) → tree ≡ id_of (tree_of name text)
+    → commit ≡ commit_of text tree parent moment → IfOk made (λ spelled. spelled ≡ commit_spelling commit) → IfOk made (λ spelled. spelled ≡ commit_text name text moment parent)
 unfolding commit_text
-commit_text-made (Ok spelled) text moment parent tree commit t e h =
+commit_text-made (Ok spelled) name text moment parent tree commit t e h =
     h ∙ ap commit_spelling (e ∙ ap (λ id. commit_of text id parent moment) t)
-commit_text-made (Err refused) text moment parent tree commit t e h = tt
+commit_text-made (Err refused) name text moment parent tree commit t e h = tt
 
 -- the objects of an entry, its blob's in two pieces
-pub entry_bytes-pieces : (text : List ℕ) (moment : ℕ) (parent : Option Id20) (head tree commit : List ℕ)
-    → head ≡ codes "blob " ++ (decimal (length text) ++ 0 ∷ []) → tree ≡ tree_of text → commit ≡ commit_text text moment parent
-    → head ++ (text ++ (tree ++ commit)) ≡ entry_bytes text moment parent
+pub entry_bytes-pieces : (name : ℕ) (text : List ℕ) (moment : ℕ) (parent : Option Id20) (head tree commit : List ℕ)
+    → head ≡ codes "blob " ++ (decimal (length text) ++ 0 ∷ []) → tree ≡ tree_of name text → commit ≡ commit_text name text moment parent
+    → head ++ (text ++ (tree ++ commit)) ≡ entry_bytes name text moment parent
 unfolding entry_bytes
-entry_bytes-pieces text moment parent head tree commit h t c =
+entry_bytes-pieces name text moment parent head tree commit h t c =
     let inner : (decimal (length text) ++ 0 ∷ []) ++ (text ++ (tree ++ commit)) ≡ (decimal (length text) ++ 0 ∷ text) ++ (tree ++ commit) =
     append_assoc (decimal (length text)) (0 ∷ []) (text ++ (tree ++ commit)) ∙ sym (append_assoc (decimal (length text)) (0 ∷ text) (tree ++ commit)) in
     let blob : head ++ (text ++ (tree ++ commit)) ≡ blob_spelling text ++ (tree ++ commit) = rw h (ap (λ bytes. codes "blob " ++ bytes) inner) in
     blob ∙ rw (t, c) refl
 
 -- the id of the commit of a text
-pub commit_id-made : (text : List ℕ) (moment : ℕ) (parent : Option Id20) (id : Id20) → id ≡ id_of (commit_text text moment parent) → id ≡ commit_id text moment parent
+pub commit_id-made : (name : ℕ) (text : List ℕ) (moment : ℕ) (parent : Option Id20) (id : Id20) → id ≡ id_of (commit_text name text moment parent) → id ≡ commit_id name text moment parent
 unfolding commit_id
-commit_id-made text moment parent id h = h
+commit_id-made name text moment parent id h = h
 
 -- one entry more behind others
 pub entries_bytes-push : (parent : Option Id20) (entries : List Entry) (entry : Entry)
-    → entries_bytes parent (entries ++ entry ∷ []) ≡ entries_bytes parent entries ++ entry_bytes entry.text entry.moment (last_commit parent entries)
-entries_bytes-push parent [] entry = append-nil (entry_bytes entry.text entry.moment parent)
+    → entries_bytes parent (entries ++ entry ∷ []) ≡ entries_bytes parent entries ++ entry_bytes message_name entry.text entry.moment (last_commit parent entries)
+entries_bytes-push parent [] entry = append-nil (entry_bytes message_name entry.text entry.moment parent)
 entries_bytes-push parent (first ∷ entries) entry =
-    ap (λ bytes. entry_bytes first.text first.moment parent ++ bytes) (entries_bytes-push (Some (commit_id first.text first.moment parent)) entries entry)
-    ∙ sym (append_assoc (entry_bytes first.text first.moment parent) (entries_bytes (Some (commit_id first.text first.moment parent)) entries)
-    (entry_bytes entry.text entry.moment (last_commit (Some (commit_id first.text first.moment parent)) entries)))
+    ap (λ bytes. entry_bytes message_name first.text first.moment parent ++ bytes) (entries_bytes-push (Some (commit_id message_name first.text first.moment parent)) entries entry)
+    ∙ sym (append_assoc (entry_bytes message_name first.text first.moment parent) (entries_bytes (Some (commit_id message_name first.text first.moment parent)) entries)
+    (entry_bytes message_name entry.text entry.moment (last_commit (Some (commit_id message_name first.text first.moment parent)) entries)))
 
 -- and its commit is the last
 pub last_commit-push : (parent : Option Id20) (entries : List Entry) (entry : Entry)
-    → last_commit parent (entries ++ entry ∷ []) ≡ Some (commit_id entry.text entry.moment (last_commit parent entries))
+    → last_commit parent (entries ++ entry ∷ []) ≡ Some (commit_id message_name entry.text entry.moment (last_commit parent entries))
 last_commit-push parent [] entry = refl
-last_commit-push parent (first ∷ entries) entry = last_commit-push (Some (commit_id first.text first.moment parent)) entries entry
+last_commit-push parent (first ∷ entries) entry = last_commit-push (Some (commit_id message_name first.text first.moment parent)) entries entry
 
 -- an epoch's first entry
-pub epoch_bytes-first : (entry : Entry) → epoch_bytes (entry ∷ []) ≡ magic ++ entry_bytes entry.text entry.moment None
-epoch_bytes-first entry = ap (λ bytes. magic ++ bytes) (append-nil (entry_bytes entry.text entry.moment None))
+pub epoch_bytes-first : (entry : Entry) → epoch_bytes (entry ∷ []) ≡ magic ++ entry_bytes message_name entry.text entry.moment None
+epoch_bytes-first entry = ap (λ bytes. magic ++ bytes) (append-nil (entry_bytes message_name entry.text entry.moment None))
 
 -- an epoch with one entry more: its bytes with the entry's behind them
 pub epoch_bytes-push : (first : Entry) (entries : List Entry) (entry : Entry)
-    → epoch_bytes ((first ∷ entries) ++ entry ∷ []) ≡ epoch_bytes (first ∷ entries) ++ entry_bytes entry.text entry.moment (last_commit None (first ∷ entries))
+    → epoch_bytes ((first ∷ entries) ++ entry ∷ []) ≡ epoch_bytes (first ∷ entries) ++ entry_bytes message_name entry.text entry.moment (last_commit None (first ∷ entries))
 epoch_bytes-push first entries entry =
     ap (λ bytes. magic ++ bytes) (entries_bytes-push None (first ∷ entries) entry)
-    ∙ sym (append_assoc magic (entries_bytes None (first ∷ entries)) (entry_bytes entry.text entry.moment (last_commit None (first ∷ entries))))
+    ∙ sym (append_assoc magic (entries_bytes None (first ∷ entries)) (entry_bytes message_name entry.text entry.moment (last_commit None (first ∷ entries))))

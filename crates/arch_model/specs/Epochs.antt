@@ -6,32 +6,36 @@ use Rattle.git_objects.specs.Commits.{commit_spelling}
 use Rattle.arch_model.specs.Archives.{Entry}
 use Rattle.arch_model.specs.Commits.{commit_of}
 
--- the tree of a text: its one file `m` has the text
-abbrev pub tree_of : List ℕ → List ℕ
-tree_of text = tree_spelling 109 (blob_id_of text)
+-- the name of the file that has a message: `m` (public-inbox-v2-format, "GIT TREE LAYOUT")
+abbrev pub message_name : ℕ
+message_name = 109
 
--- the spelling of the commit that keeps a text taken at a moment, behind a parent or none
-unfoldable pub commit_text : List ℕ → ℕ → Option Id20 → List ℕ
-commit_text text moment parent = commit_spelling (commit_of text (id_of (tree_of text)) parent moment)
+-- the tree of a text: its one file, of this name, has the text
+abbrev pub tree_of : ℕ → List ℕ → List ℕ
+tree_of name text = tree_spelling name (blob_id_of text)
+
+-- the spelling of the commit that keeps a text under a name, taken at a moment, behind a parent or none
+unfoldable pub commit_text : ℕ → List ℕ → ℕ → Option Id20 → List ℕ
+commit_text name text moment parent = commit_spelling (commit_of text (id_of (tree_of name text)) parent moment)
 
 -- the id of that commit
-unfoldable pub commit_id : List ℕ → ℕ → Option Id20 → Id20
-commit_id text moment parent = id_of (commit_text text moment parent)
+unfoldable pub commit_id : ℕ → List ℕ → ℕ → Option Id20 → Id20
+commit_id name text moment parent = id_of (commit_text name text moment parent)
 
--- the bytes of an entry: its blob, its tree and its commit
-unfoldable pub entry_bytes : List ℕ → ℕ → Option Id20 → List ℕ
-entry_bytes text moment parent = blob_spelling text ++ (tree_of text ++ commit_text text moment parent)
+-- the bytes of an entry of a name: its blob, its tree and its commit
+unfoldable pub entry_bytes : ℕ → List ℕ → ℕ → Option Id20 → List ℕ
+entry_bytes name text moment parent = blob_spelling text ++ (tree_of name text ++ commit_text name text moment parent)
 
--- the bytes of entries, each commit's parent being the commit before it
+-- the bytes of messages, each commit's parent being the commit before it
 abbrev pub entries_bytes : Option Id20 → List Entry → List ℕ
 entries_bytes parent [] = []
 entries_bytes parent (entry ∷ entries) =
-    entry_bytes entry.text entry.moment parent ++ entries_bytes (Some (commit_id entry.text entry.moment parent)) entries
+    entry_bytes message_name entry.text entry.moment parent ++ entries_bytes (Some (commit_id message_name entry.text entry.moment parent)) entries
 
--- the id of the last commit of entries, or the parent where there are none
+-- the id of the last commit of messages, or the parent where there are none
 abbrev pub last_commit : Option Id20 → List Entry → Option Id20
 last_commit parent [] = parent
-last_commit parent (entry ∷ entries) = last_commit (Some (commit_id entry.text entry.moment parent)) entries
+last_commit parent (entry ∷ entries) = last_commit (Some (commit_id message_name entry.text entry.moment parent)) entries
 
 -- the bytes that an epoch begins with
 abbrev pub magic : List ℕ
@@ -46,4 +50,4 @@ epoch_bytes (entry ∷ entries) = magic ++ entries_bytes None (entry ∷ entries
 abbrev pub EpochGrows : Type 0
 EpochGrows =
     (first : Entry) (entries : List Entry) (entry : Entry)
-    → epoch_bytes ((first ∷ entries) ++ entry ∷ []) ≡ epoch_bytes (first ∷ entries) ++ entry_bytes entry.text entry.moment (last_commit None (first ∷ entries))
+    → epoch_bytes ((first ∷ entries) ++ entry ∷ []) ≡ epoch_bytes (first ∷ entries) ++ entry_bytes message_name entry.text entry.moment (last_commit None (first ∷ entries))

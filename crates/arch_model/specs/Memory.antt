@@ -13,7 +13,7 @@ use Rattle.mail_reader.specs.Content.{content_id_of}
 use Rattle.git_objects.specs.Objects.{blob_id_of}
 use Rattle.arch_model.specs.Archives.{Entry, Archive, owner, in_epoch}
 use Rattle.arch_model.specs.Delivery.{last_epoch}
-use Rattle.arch_model.specs.Epochs.{epoch_bytes, last_commit, commit_id, entry_bytes, magic}
+use Rattle.arch_model.specs.Epochs.{epoch_bytes, last_commit, commit_id, entry_bytes, magic, message_name}
 use Rattle.arch_model.specs.declared.kept.Kept.{Kept}
 use Rattle.arch_model.specs.declared.kept.Owner.{Owner}
 use Rattle.arch_model.specs.declared.kept.End.{End}
@@ -94,16 +94,20 @@ abbrev pub front_bytes : Option Id20 → List ℕ
 front_bytes None = magic
 front_bytes (Some id) = []
 
--- the end that a new entry stands behind
+-- the end that a new entry stands behind, where the last epoch has so much room
+abbrev pub end_by_room : ℕ → ℕ → End → End
+end_by_room room limit end_ = if end_.epoch == 63 || nat_lt 0 room then end_ else record { epoch = end_.epoch + 1; room = limit; parent = None }
+
+-- the same by the room that it has
 abbrev pub end_for_new : ℕ → End → End
-end_for_new limit end_ = if end_.epoch == 63 || nat_lt 0 end_.room then end_ else record { epoch = end_.epoch + 1; room = limit; parent = None }
+end_for_new limit end_ = end_by_room end_.room limit end_
 
 -- the end behind one more entry
 abbrev pub end_after : End → List ℕ → ℕ → End
 end_after end_ text moment = record {
   epoch = end_.epoch;
-  room = end_.room - length (front_bytes end_.parent ++ entry_bytes text moment end_.parent);
-  parent = Some (commit_id text moment end_.parent);
+  room = end_.room - length (front_bytes end_.parent ++ entry_bytes message_name text moment end_.parent);
+  parent = Some (commit_id message_name text moment end_.parent);
 }
 
 -- bytes have others at their front

@@ -1,8 +1,8 @@
 //! The commit that keeps a text, and the objects of an entry.
-ghost use Rattle.std.specs.Prelude.{◌≡◌, ◌++◌, ◌∷◌, [], length, take, decimal, codes, IfOk, OnOk, OnErr, is_ok, if◌then◌else◌};
+ghost use Rattle.std.specs.Prelude.{◌≡◌, ◌++◌, ◌∷◌, [], length, take, decimal, codes, IfOk, OnOk, OnErr, IsTrue, is_ok, if◌then◌else◌};
 ghost use Rattle.git_objects.specs.CleanText.{IsClean};
 ghost use Rattle.git_objects.specs.Commits.{IsZone};
-ghost use Rattle.git_objects.specs.Objects.{id_of, blob_id_of};
+ghost use Rattle.git_objects.specs.Objects.{id_of, blob_id_of, is_entry_name};
 ghost use Rattle.arch_model.specs.Commits.{commit_of};
 ghost use Rattle.arch_model.specs.Epochs.{EpochGrows, commit_text as commit_text_of, commit_id, entry_bytes, tree_of};
 
@@ -43,37 +43,55 @@ pub fn entry_commit(
     })
 }
 
-/// Puts the objects of an entry at the end of an epoch's bytes: the blob of a text, its tree, and the commit that keeps it
-/// behind `parent`, taken at `moment` in seconds since 1970. The answer is the id of that commit. NoMemory comes only for
-/// want of memory, and then the bytes are as before.
+/// The ids of an entry's blob and commit.
+#[derive(Clone, Copy, Debug, Drop)]
+pub struct EntryIds {
+    /// The id of the blob that is the text.
+    pub blob: ObjectId,
+    /// The id of the commit that keeps it.
+    pub commit: ObjectId,
+}
+
+/// Puts the objects of an entry at the end of an epoch's bytes: the blob of a text, its tree, where the text is the file of
+/// this name (`m` for a message, `d` for a deletion), and the commit that keeps it behind `parent`, taken at `moment` in
+/// seconds since 1970. The answer is the ids of the blob and of that commit. NoMemory comes only for want of memory, and
+/// then the bytes are as before.
 pub fn push_entry(
     alloc: Global,
+    name: u8,
     text: &[u8],
     moment: u64,
     parent: Option<ObjectId>,
     into: &mut Bytes,
-) -> Result<ObjectId, NoMemory>
-    ensures id { IfOk result (λ id. id ≡ commit_id text.now moment parent) }
-    ensures ok { OnOk result (into.new ≡ into.old ++ entry_bytes text.now moment parent) }
+) -> Result<EntryIds, NoMemory>
+    requires name { IsTrue (is_entry_name name) }
+    ensures blob { IfOk result (λ ids. ids.blob ≡ blob_id_of text.now) }
+    ensures commit { IfOk result (λ ids. ids.commit ≡ commit_id name text.now moment parent) }
+    ensures ok { OnOk result (into.new ≡ into.old ++ entry_bytes name text.now moment parent) }
     ensures err { OnErr result (into.new ≡ into.old) }
 {
+    let blob = blob_id(text);
     let head = blob_head(alloc, text.len())?;
-    let tree = tree_bytes(b'm', &blob_id(text));
-    let commit = commit_text(alloc, text, &tree, parent, moment)?;
+    let tree = tree_bytes(name, &blob);
+    let commit = commit_text(alloc, name, text, &tree, parent, moment)?;
     push_all(into, head.as_slice(), text, &tree, commit.as_slice())?;
-    Ok(object_id(commit.as_slice()))
+    Ok(EntryIds {
+        blob,
+        commit: object_id(commit.as_slice()),
+    })
 }
 
-/// The spelling of the commit that keeps a text with the tree of this spelling.
+/// The spelling of the commit that keeps a text under a name, with the tree of this spelling.
 fn commit_text(
     alloc: Global,
+    name: u8,
     text: &[u8],
     tree: &[u8],
     parent: Option<ObjectId>,
     moment: u64,
 ) -> Result<Bytes, NoMemory>
-    requires { tree.now ≡ tree_of text.now }
-    ensures { IfOk result (λ made. made ≡ commit_text_of text.now moment parent) }
+    requires { tree.now ≡ tree_of name text.now }
+    ensures { IfOk result (λ made. made ≡ commit_text_of name text.now moment parent) }
 {
     let commit = entry_commit(alloc, text, &object_id(tree), parent, moment)?;
     commit_bytes(alloc, &commit)
