@@ -12,3 +12,4 @@ mod Showing
 mod Turning
 mod Bringing
 mod Finding
+mod Apart

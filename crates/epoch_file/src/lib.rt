@@ -3,6 +3,7 @@
 
 mod appending;
 mod entry;
+mod laws;
 mod reading;
 mod refusal;
 mod sight;
@@ -12,5 +13,9 @@ mod window;
 
 pub use appending::append_entry;
 pub use entry::{NewEntry, Seen, SeenList, Written};
+pub use laws::law_of_epochs;
 pub use refusal::StoreRefusal;
 pub use walking::walk;
+
+#[cfg(test)]
+mod tests;
