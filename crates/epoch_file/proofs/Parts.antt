@@ -51,8 +51,18 @@ pub whole_size : (parent : Option Id20) (e : EpochEntry) (blob tree commit : ℕ
     → commit ≡ length (spelling (CommitOf (content_behind parent e))) → blob + tree + commit ≡ length (bytes_behind parent e)
 whole_size parent e blob tree commit b t m =
     let content = content_behind parent e in
-    omega (arith, b, t, m, length-blob e.text, length-tree e.name e.text, length-entry parent e, length-append (codes "commit ") (decimal (length content) ++ 0 ∷ content),
-    length-append (decimal (length content)) (0 ∷ content), length-append (codes "commit ") (decimal (length content)))
+    omega (
+      arith,
+      b,
+      t,
+      m,
+      length-blob e.text,
+      length-tree e.name e.text,
+      length-entry parent e,
+      length-append (codes "commit ") (decimal (length content) ++ 0 ∷ content),
+      length-append (decimal (length content)) (0 ∷ content),
+      length-append (codes "commit ") (decimal (length content)),
+    )
 
 -- and the text stands behind the front of its blob
 pub front_size : (e : EpochEntry) (text : List ℕ) (blob : ℕ) → text ≡ e.text → blob ≡ length (blob_spelling e.text) → blob - length text ≡ blob_front e.text

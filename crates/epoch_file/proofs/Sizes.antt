@@ -64,5 +64,13 @@ unfolding entry_bytes commit_text
 length-entry parent e =
     let content = content_behind parent e in
     let commit = codes "commit " ++ (decimal (length content) ++ 0 ∷ content) in
-    omega (arith, length-append (blob_spelling e.text) (tree_of e.name e.text ++ commit), length-append (tree_of e.name e.text) commit, length-blob e.text, length-tree e.name e.text,
-    length-append (codes "commit ") (decimal (length content) ++ 0 ∷ content), length-append (decimal (length content)) (0 ∷ content), length-append (codes "commit ") (decimal (length content)))
+    omega (
+      arith,
+      length-append (blob_spelling e.text) (tree_of e.name e.text ++ commit),
+      length-append (tree_of e.name e.text) commit,
+      length-blob e.text,
+      length-tree e.name e.text,
+      length-append (codes "commit ") (decimal (length content) ++ 0 ∷ content),
+      length-append (decimal (length content)) (0 ∷ content),
+      length-append (codes "commit ") (decimal (length content)),
+    )

@@ -48,7 +48,7 @@ walked-more bytes s found w r =
       entries = w.entries ++ e ∷ [];
       valid = valid-push w.entries e w.valid r.valid;
       spelled = w.spelled ∙ (ap (λ (l : List ℕ). epoch_of w.entries ++ l) (split ∙ ap (λ (l : List ℕ). piece ++ l) (sym behind))
-      ∙ (sym (append_assoc (epoch_of w.entries) piece (left_of bytes (part_behind s.part found.1))) ∙ ap (λ (l : List ℕ). l ++ left_of bytes (part_behind s.part found.1)) grown));
+          ∙ (sym (append_assoc (epoch_of w.entries) piece (left_of bytes (part_behind s.part found.1))) ∙ ap (λ (l : List ℕ). l ++ left_of bytes (part_behind s.part found.1)) grown));
       place = omega (arith, w.place, size);
       parent = ap Some commit ∙ sym (last-push None w.entries e);
       seen = ap (λ (seen : List Seen). seen ++ found.0 ∷ []) w.seen ∙ (ap (λ (one : Seen). seen_from 8 None w.entries ++ one ∷ []) at ∙ sym (seen-push 8 None w.entries e));
@@ -104,8 +104,8 @@ ends-early bytes n s w end wanted none =
       wanted = elim (cases_lt s.part.place n) [
         | inl below ↦ inr below
         | inr past ↦
-          let at : s.part.place ≡ n = omega (arith, past, room, end) in
-          inl (none_seen w.entries (omega (arith, wanted at, ap length w.seen, length-seen 8 None w.entries)))
+            let at : s.part.place ≡ n = omega (arith, past, room, end) in
+            inl (none_seen w.entries (omega (arith, wanted at, ap length w.seen, length-seen 8 None w.entries)))
       ];
       lacks = subst (λ (p : Option Id20). LacksEntry p (left_of bytes s.part)) w.parent none;
     }

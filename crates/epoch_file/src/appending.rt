@@ -56,11 +56,7 @@ pub fn append_entry<D: Disk>(
 }
 
 /// What is written of an entry at a place, and the ids of its blob and its commit.
-fn entry_piece(
-    alloc: Global,
-    at: u64,
-    entry: &NewEntry<'_>,
-) -> Result<(Bytes, EntryIds), NoMemory>
+fn entry_piece(alloc: Global, at: u64, entry: &NewEntry<'_>) -> Result<(Bytes, EntryIds), NoMemory>
     requires { IsTrue (is_entry_name entry.now.name) }
     ensures piece { IfOk result (λ made. made.0 ≡ appended at entry.now) }
     ensures blob { IfOk result (λ made. made.1.blob ≡ blob_id_of entry.now.text.now) }

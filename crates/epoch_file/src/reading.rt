@@ -192,10 +192,7 @@ fn read_at_moment(
     }
     let spelling = bytes.split_at(parts.size).0;
     match respell(alloc, spelling, parts.name, parts.text, moment, parent)? {
-        Some(ids) => Ok(Some((
-            seen_of(alloc, place, parts, moment, &ids)?,
-            parts.size,
-        ))),
+        Some(ids) => Ok(Some((seen_of(alloc, place, parts, moment, &ids)?, parts.size))),
         None => Ok(None),
     }
 }

@@ -35,7 +35,7 @@ pub fn walk<D: Disk>(
     ensures later { D.faults disk.old ≤ D.faults disk.new }
     ensures fault { result ≡ Err WalkRefusal.DiskFault → Rose (D.faults disk.old) (D.faults disk.new) }
 {
-    let mut piece = piece_room(alloc)?;
+    let mut piece = piece_room(alloc, length)?;
     match begin(alloc, disk, file, length, &mut piece) {
         Ok(Some(state)) => go_on(alloc, disk, length, state, &mut piece),
         Ok(None) => Err(WalkRefusal::Damaged { at: 0 }),

@@ -9,14 +9,15 @@ use disk_model::{Disk, FileName, WalkRefusal};
 use std::alloc::Global;
 use std::marker::Model;
 
-/// How many bytes are read at once.
-const PIECE: usize = 1 << 20;
+/// So many bytes are read at once at most.
+const PIECE: u64 = 1 << 20;
 
-/// Room for the bytes that are read at once.
-pub(crate) fn piece_room(alloc: Global) -> Result<Vec<u8>, NoMemory>
+/// Room for the bytes that are read at once of so many.
+pub(crate) fn piece_room(alloc: Global, length: u64) -> Result<Vec<u8>, NoMemory>
     ensures { IfOk result (λ room. 8 ≤ vec_len room) }
 {
-    Ok(vec![in alloc; 0; PIECE]?)
+    let count = length.max(8).min(PIECE) as usize;
+    Ok(vec![in alloc; 0; count]?)
 }
 
 /// A part of a file, from a place up to an end.
