@@ -1,0 +1,133 @@
+-- Epochs of the same bytes have the same entries.
+use Rattle.std.proofs.Common.{◌≡◌, ℕ, ◌+◌, ◌<◌, ◌≤◌, ◌^◌, List, [], ◌∷◌, ◌++◌, codes, length, length-append, Option, Some, None, refl, sym, ap, ◌∙◌, arith}
+use Rattle.std.proofs.lemmas.List.{append_cancel_left}
+use Rattle.std.proofs.lemmas.Fmt.{decimal_injective}
+use Rattle.std.specs.Fmt.{decimal}
+use Rattle.std.specs.Prelude.{ℤ, pos}
+use Rattle.hex.specs.Hex.{encode_lower}
+use Rattle.arch_base.specs.declared.ids.Id20.{Id20}
+use Rattle.git_objects.specs.CleanText.{clean}
+use Rattle.git_objects.specs.Commits.{commit_content, tree_line, parent_line, author_line, committed_part, text_part, email_part, name_part, number_part, zone_text}
+use Rattle.git_objects.specs.Objects.{blob_spelling, blob_id_of, id_of, tree_content, sized_before}
+use Rattle.git_objects.proofs.Spellings.{sized-once, tree-once, length-tree_content}
+use Rattle.git_objects.proofs.ObjectIds.{IsId-id_of}
+use Rattle.git_objects.proofs.Splitting.{parted-once}
+use Rattle.git_objects.proofs.Numbers.{NoByte-decimal}
+use Rattle.mail_date.specs.declared.moment.Moment.{Moment}
+use Rattle.arch_model.specs.Facts.{from_fact, email_fact, subject_fact, date_fact}
+use Rattle.arch_model.specs.Commits.{commit_of, written_at}
+use Rattle.arch_model.specs.Epochs.{magic, tree_of}
+use Rattle.epoch_file.specs.Entries.{EpochEntry, IsEpochEntry, AreEpochEntries, bytes_behind, commit_behind, chain, epoch_of, last_moment, EpochsDiffer}
+use Rattle.epoch_file.proofs.Sizes.{content_behind, objects, headed, length-entry}
+
+-- a number and a space tell the number
+number_once : (m n : ℕ) (x y : List ℕ) → m < 2 ^ 64 → n < 2 ^ 64 → decimal m ++ 32 ∷ x ≡ decimal n ++ 32 ∷ y → m ≡ n
+number_once m n x y small fits e =
+    decimal_injective m n small fits (parted-once 32 (decimal m) (decimal n) x y (NoByte-decimal 32 m (omega arith) small) (NoByte-decimal 32 n (omega arith) fits) e).0
+
+-- lists of the same head
+tail_once : (c : ℕ) (x y : List ℕ) → c ∷ x ≡ c ∷ y → x ≡ y
+tail_once c x y e = cc
+
+-- what stands behind digits and a line feed
+behind_digits : (digits x y : List ℕ) (end : ℕ) → digits ++ end ∷ x ≡ digits ++ end ∷ y → x ≡ y
+behind_digits digits x y end e = tail_once end x y (append_cancel_left digits (end ∷ x) (end ∷ y) e)
+
+-- what stands behind a parent's line
+behind_parent : (parent : Option Id20) (x y : List ℕ) → parent_line parent x ≡ parent_line parent y → x ≡ y
+behind_parent None x y e = e
+behind_parent (Some id) x y e = behind_digits (encode_lower id.0) x y 10 (append_cancel_left (codes "parent ") (encode_lower id.0 ++ 10 ∷ x) (encode_lower id.0 ++ 10 ∷ y) e)
+
+-- what stands behind the lines of tree and parent
+behind_ids : (tree : Id20) (parent : Option Id20) (x y : List ℕ) → tree_line tree (parent_line parent x) ≡ tree_line tree (parent_line parent y) → x ≡ y
+behind_ids tree parent x y e =
+    behind_parent parent x y (behind_digits (encode_lower tree.0) (parent_line parent x) (parent_line parent y) 10
+    (append_cancel_left (codes "tree ") (encode_lower tree.0 ++ 10 ∷ parent_line parent x) (encode_lower tree.0 ++ 10 ∷ parent_line parent y) e))
+
+-- what stands behind the author's name and address
+behind_author : (name email : List ℕ) (m n : ℕ) (z w : ℤ) (x y : List ℕ) → author_line name email m z x ≡ author_line name email n w y → decimal m ++ 32 ∷ zone_text z x ≡ decimal n ++ 32 ∷ zone_text w y
+behind_author name email m n z w x y e =
+    let a = number_part 32 m (zone_text z x) in
+    let b = number_part 32 n (zone_text w y) in
+    let names = append_cancel_left (codes "author ") (name_part name (email_part email a)) (name_part name (email_part email b)) e in
+    let emails = tail_once 60 (email_part email a) (email_part email b) (behind_digits name (60 ∷ email_part email a) (60 ∷ email_part email b) 32 names) in
+    tail_once 32 a b (behind_digits email (32 ∷ a) (32 ∷ b) 62 emails)
+
+-- and behind a time zone
+behind_zone : (zone : ℤ) (x y : List ℕ) → zone_text zone x ≡ zone_text zone y → x ≡ y
+behind_zone zone x y e = cc
+
+-- two commits of one text, tree and parent that have the same content are of one moment
+moment_once : (text : List ℕ) (tree : Id20) (parent : Option Id20) (m n : ℕ) → m ≤ last_moment → n ≤ last_moment
+    → commit_content (commit_of text tree parent m) ≡ commit_content (commit_of text tree parent n) → m ≡ n
+unfolding commit_of
+moment_once text tree parent m n small fits e = go (date_fact text) (behind_ids tree parent _ _ e) where
+  go : (written : Option Moment)
+      → author_line (from_fact text) (email_fact text) (written_at written m).secs (written_at written m).zone (committed_part m (text_part 10 (clean (subject_fact text)) []))
+      ≡ author_line (from_fact text) (email_fact text) (written_at written n).secs (written_at written n).zone (committed_part n (text_part 10 (clean (subject_fact text)) [])) → m ≡ n
+  go None is =
+      number_once m n (zone_text (pos 0) (committed_part m (text_part 10 (clean (subject_fact text)) []))) (zone_text (pos 0) (committed_part n (text_part 10 (clean (subject_fact text)) []))) (omega (arith, small)) (omega (arith, fits))
+      (behind_author (from_fact text) (email_fact text) m n (pos 0) (pos 0) (committed_part m (text_part 10 (clean (subject_fact text)) [])) (committed_part n (text_part 10 (clean (subject_fact text)) [])) is)
+  go (Some date) is =
+      let end = text_part 10 (clean (subject_fact text)) [] in
+      let numbers = behind_author (from_fact text) (email_fact text) date.secs date.secs date.zone date.zone (committed_part m end) (committed_part n end) is in
+      let zones = behind_digits (decimal date.secs) (zone_text date.zone (committed_part m end)) (zone_text date.zone (committed_part n end)) 32 numbers in
+      let parts = behind_zone date.zone (committed_part m end) (committed_part n end) zones in
+      number_once m n (codes "+0000\n\n" ++ end) (codes "+0000\n\n" ++ end) (omega (arith, small)) (omega (arith, fits))
+      (append_cancel_left (codes "\ncommitter piv2 <piv2@localhost> ") (number_part 32 m (codes "+0000\n\n" ++ end)) (number_part 32 n (codes "+0000\n\n" ++ end)) parts)
+
+-- the content of a tree is small
+tree_small : (name : ℕ) (text : List ℕ) → length (tree_content name (blob_id_of text)) < 2 ^ 64
+tree_small name text = omega (arith, length-tree_content name (blob_id_of text) (IsId-id_of (blob_spelling text)).len)
+
+-- an entry of these parts
+same_entry : (e f : EpochEntry) → e.name ≡ f.name → e.text ≡ f.text → e.moment ≡ f.moment → e ≡ f
+same_entry e f n t m = λ i. record { name = n i; text = t i; moment = m i }
+
+-- the first of entries is told by their bytes, and so is what follows it
+entry_once : (parent : Option Id20) (e f : EpochEntry) (x y : List ℕ) → IsEpochEntry e → IsEpochEntry f → length (bytes_behind parent e ++ x) < 2 ^ 64
+    → bytes_behind parent e ++ x ≡ bytes_behind parent f ++ y → (e ≡ f) × (x ≡ y)
+entry_once parent e f x y h k small is =
+    let ce = content_behind parent e in
+    let cf = content_behind parent f in
+    let commit_e = (codes "commit " ++ (decimal (length ce) ++ 0 ∷ ce)) ++ x in
+    let commit_f = (codes "commit " ++ (decimal (length cf) ++ 0 ∷ cf)) ++ y in
+    let te = tree_content e.name (blob_id_of e.text) in
+    let tf = tree_content f.name (blob_id_of f.text) in
+    let sizes : length (bytes_behind parent e ++ x) ≡ length (bytes_behind parent f ++ y) = ap length is in
+    let blobs : codes "blob " ++ sized_before e.text (tree_of e.name e.text ++ commit_e) ≡ codes "blob " ++ sized_before f.text (tree_of f.name f.text ++ commit_f) =
+    sym (headed (codes "blob ") e.text (tree_of e.name e.text ++ commit_e)) ∙ (sym (objects parent e x) ∙ (is ∙ (objects parent f y ∙ headed (codes "blob ") f.text (tree_of f.name f.text ++ commit_f)))) in
+    let texts = sized-once e.text f.text (tree_of e.name e.text ++ commit_e) (tree_of f.name f.text ++ commit_f) (omega (arith, h.text.short)) (omega (arith, k.text.short))
+    (append_cancel_left (codes "blob ") (sized_before e.text (tree_of e.name e.text ++ commit_e)) (sized_before f.text (tree_of f.name f.text ++ commit_f)) blobs) in
+    let trees : codes "tree " ++ sized_before te commit_e ≡ codes "tree " ++ sized_before tf commit_f = sym (headed (codes "tree ") te commit_e) ∙ (texts.1 ∙ headed (codes "tree ") tf commit_f) in
+    let tree_parts = sized-once te tf commit_e commit_f (tree_small e.name e.text) (tree_small f.name f.text) (append_cancel_left (codes "tree ") (sized_before te commit_e) (sized_before tf commit_f) trees) in
+    let names : e.name ≡ f.name = (tree-once e.name f.name (blob_id_of e.text) (blob_id_of f.text) tree_parts.0).0 in
+    let commits : codes "commit " ++ sized_before ce x ≡ codes "commit " ++ sized_before cf y = sym (headed (codes "commit ") ce x) ∙ (tree_parts.1 ∙ headed (codes "commit ") cf y) in
+    let contents = sized-once ce cf x y (omega (arith, small, length-entry parent e, length-append (bytes_behind parent e) x)) (omega (arith, small, sizes, length-entry parent f, length-append (bytes_behind parent f) y))
+    (append_cancel_left (codes "commit ") (sized_before ce x) (sized_before cf y) commits) in
+    let t = sym texts.0 in
+    let n = sym names in
+    let moved : commit_content (commit_of f.text (id_of (tree_of f.name f.text)) parent e.moment) ≡ ce = λ i. commit_content (commit_of (t i) (id_of (tree_of (n i) (t i))) parent e.moment) in
+    let moments = moment_once f.text (id_of (tree_of f.name f.text)) parent e.moment f.moment h.moment k.moment (moved ∙ contents.0) in
+    (same_entry e f names texts.0 moments, contents.1)
+
+-- an entry is not nothing
+entry_not_none : (parent : Option Id20) (e : EpochEntry) (x : List ℕ) → [] ≡ bytes_behind parent e ++ x → ⊥
+entry_not_none parent e x is = omega (arith, ap length is, length-append (bytes_behind parent e) x, length-entry parent e)
+
+-- entries behind a parent are told by their bytes
+chain_once : (parent : Option Id20) (es fs : List EpochEntry) → AreEpochEntries es → AreEpochEntries fs → length (chain parent es) < 2 ^ 64 → chain parent es ≡ chain parent fs → es ≡ fs
+chain_once parent [] [] h k small is = refl
+chain_once parent [] (f ∷ fs) h k small is = absurd (entry_not_none parent f (chain (Some (commit_behind parent f)) fs) is)
+chain_once parent (e ∷ es) [] h k small is = absurd (entry_not_none parent e (chain (Some (commit_behind parent e)) es) (sym is))
+chain_once parent (e ∷ es) (f ∷ fs) h k small is =
+    let rest = chain (Some (commit_behind parent e)) es in
+    let first = entry_once parent e f rest (chain (Some (commit_behind parent f)) fs) h.0 k.0 small is in
+    let moved : chain (Some (commit_behind parent f)) fs ≡ chain (Some (commit_behind parent e)) fs = ap (λ (d : EpochEntry). chain (Some (commit_behind parent d)) fs) (sym first.0) in
+    let others = chain_once (Some (commit_behind parent e)) es fs h.1 k.1 (omega (arith, small, length-append (bytes_behind parent e) rest)) (first.1 ∙ moved) in
+    let one = first.0 in
+    λ i. one i ∷ others i
+
+-- and so are those of an epoch
+pub epochs_differ : EpochsDiffer
+epochs_differ es fs h k small is = chain_once None es fs h k (omega (arith, small, length-append magic (chain None es))) (append_cancel_left magic (chain None es) (chain None fs) is)

@@ -1,0 +1,138 @@
+-- How a window comes to have all of an entry.
+use Rattle.std.proofs.Common.{◌≡◌, ◌≢◌, ℕ, ◌+◌, ◌-◌, ◌<◌, ◌≤◌, min, Bool, true, false, List, [], ◌∷◌, ◌++◌, length, take, drop, Option, Some, None, Result, Ok, Err, refl, sym, ap, subst, ◌∙◌, arith, length-append, length-take, length-drop}
+use Rattle.std.proofs.lemmas.List.{append_assoc, append-nil, take_at, take-append-drop, take-append-le, drop_at}
+use Rattle.arch_base.specs.declared.ids.Id20.{Id20}
+use Rattle.disk_model.specs.declared.name.FileName.{FileName}
+use Rattle.disk_model.specs.declared.refusal.WalkRefusal.{WalkRefusal}
+use Rattle.disk_model.specs.Disk.{Kept, Content, WhereTold, Told, Unchanged, HasRead, bytes_of}
+use Rattle.arch_model.specs.Epochs.{magic}
+use Rattle.epoch_file.specs.declared.sight.Sight.{Sight}
+use Rattle.epoch_file.specs.declared.sight.Sight.TheVariants.{Lacks, Short, Whole}
+use Rattle.epoch_file.specs.declared.state.State.{State}
+use Rattle.epoch_file.specs.declared.window.Part.{Part}
+use Rattle.epoch_file.specs.Entries.{EpochEntry, IsEpochEntry, bytes_behind, chain, epoch_of}
+use Rattle.epoch_file.specs.Sights.{Sees}
+use Rattle.epoch_file.specs.Steps.{left_of, Brings, KeepsShown, Walked, BeginsAt, BeginsIn, BeginsWith}
+use Rattle.epoch_file.specs.Windows.{Shows, Comes, IsInside}
+use Rattle.epoch_file.proofs.Showing.{left-length, shows-more}
+
+-- where the held bytes can't be an entry's, none stands there
+pub brings-none : (content : Option Content) (part : Part) (old now : List ℕ) → WhereTold (KeepsShown part old now) content → Sees now (part.end - part.place) Lacks → WhereTold (Brings part old now (Ok false)) content
+brings-none None part old now keeps sees = tt
+brings-none (Some k) part old now keeps sees = λ shows parent e rest valid is.
+    let s = keeps shows in
+    sees parent e s.rest rest tt (record { valid = valid; is = sym s.is ∙ is; all = ap length (sym s.is) ∙ left-length (bytes_of (k part.file).seen) part s.whole })
+
+-- where they are all of one that stands there, the window has it
+pub brings-whole : (content : Option Content) (part : Part) (old now : List ℕ) → WhereTold (KeepsShown part old now) content → Sees now (part.end - part.place) Whole → WhereTold (Brings part old now (Ok true)) content
+brings-whole None part old now keeps sees = tt
+brings-whole (Some k) part old now keeps sees = λ shows.
+    let s = keeps shows in
+    (s, λ parent e rest valid is. sees parent e s.rest rest tt (record { valid = valid; is = sym s.is ∙ is; all = ap length (sym s.is) ∙ left-length (bytes_of (k part.file).seen) part s.whole }))
+
+-- a window that shows a file shows it while that is unchanged
+shows_after : (k m : Content) (part : Part) (now : List ℕ) → Unchanged k m → Shows (bytes_of (k part.file).seen) part now → Shows (bytes_of (m part.file).seen) part now
+shows_after k m part now same shows = let P : Kept → Type 0 = λ kept. Shows (bytes_of kept.seen) part now in subst P (sym (same part.file)) shows
+
+shows_before : (k m : Content) (part : Part) (now : List ℕ) → Unchanged k m → Shows (bytes_of (m part.file).seen) part now → Shows (bytes_of (k part.file).seen) part now
+shows_before k m part now same shows = let P : Kept → Type 0 = λ kept. Shows (bytes_of kept.seen) part now in subst P (same part.file) shows
+
+-- where no more come though more are wanted, the window shows nothing
+pub brings-stop : (first mid : Option Content) (part : Part) (room : ℕ) (old now new : List ℕ) → WhereTold (KeepsShown part old now) first → Told Unchanged first mid
+    → WhereTold (Comes part room now new (Ok false)) mid → WhereTold (Brings part old new (Ok false)) first
+brings-stop None mid part room old now new keeps same comes = tt
+brings-stop (Some k) None part room old now new keeps same comes = absurd same
+brings-stop (Some k) (Some m) part room old now new keeps same comes = λ shows. absurd (comes (shows_after k m part now same (keeps shows)))
+
+-- and where more come it shows them
+pub keeps-more : (first mid : Option Content) (part : Part) (room : ℕ) (old now new : List ℕ) → WhereTold (KeepsShown part old now) first → Told Unchanged first mid
+    → WhereTold (Comes part room now new (Ok true)) mid → WhereTold (KeepsShown part old new) first
+keeps-more None mid part room old now new keeps same comes = tt
+keeps-more (Some k) None part room old now new keeps same comes = absurd same
+keeps-more (Some k) (Some m) part room old now new keeps same comes = λ shows. shows_before k m part new same (comes (shows_after k m part now same (keeps shows))).0
+
+-- at first it does
+pub keeps-first : (content : Option Content) (part : Part) (old : List ℕ) → WhereTold (KeepsShown part old old) content
+keeps-first None part old = tt
+keeps-first (Some k) part old = λ shows. shows
+
+-- what a read puts into a window
+pub comes-some : (content : Option Content) (part : Part) (place n : ℕ) (before after old chunk new : List ℕ) → WhereTold (HasRead part.file place n before after) content → chunk ≡ take n after
+    → new ≡ old ++ chunk → place ≡ part.place + length old → part.place + length old + length before ≤ part.end → WhereTold (Comes part (length before) old new (Ok true)) content
+comes-some None part place n before after old chunk new read is grown at fits = tt
+comes-some (Some k) part place n before after old chunk new read is grown at fits = λ shows.
+    let bytes = bytes_of (k part.file).seen in
+    let count = read.count in
+    let whole = shows.whole in
+    let all : n ≡ length before = omega (arith, count, at, fits, whole) in
+    let there : length (take n (drop place bytes)) ≡ n = omega (arith, count, length-take n (drop place bytes), length-drop place bytes) in
+    let next : chunk ≡ take n (drop (part.place + length old) bytes) =
+    is ∙ (ap (take n) read.bytes ∙ (take_at (take n (drop place bytes)) (drop n before) n there ∙ ap (λ (p : ℕ). take n (drop p bytes)) at)) in
+    let s : Shows bytes part (old ++ chunk) = shows-more bytes part old chunk n shows (omega (arith, all, fits)) next in
+    let long : length chunk ≡ n = ap length next ∙ (ap (λ (p : ℕ). length (take n (drop p bytes))) (sym at) ∙ there) in
+    (subst (λ (l : List ℕ). Shows bytes part l) (sym grown) s, omega (arith, all, long, ap length grown, length-append old chunk))
+
+-- with more room as many would have come, where no more are left
+pub comes-wider : (content : Option Content) (part : Part) (cut room : ℕ) (old new : List ℕ) (result : Result Bool WalkRefusal) → min (length old + room) (part.end - part.place) ≤ min (length old + cut) (part.end - part.place)
+    → WhereTold (Comes part cut old new result) content → WhereTold (Comes part room old new result) content
+comes-wider None part cut room old new result less comes = tt
+comes-wider (Some k) part cut room old new (Ok true) less comes = λ shows. let got = comes shows in (got.0, omega (arith, less, got.1))
+comes-wider (Some k) part cut room old new (Ok false) less comes = comes
+comes-wider (Some k) part cut room old new (Err e) less comes = tt
+
+-- an empty window shows a file from its front on
+shows_first : (bytes : List ℕ) (part : Part) → part.place ≡ 0 → part.end ≤ length bytes → Shows bytes part []
+shows_first bytes part front whole = record { rest = take part.end bytes; is = ap (λ (n : ℕ). drop n (take part.end bytes)) front; whole = whole; inside = omega (arith, front) }
+
+-- where the magic isn't at the front of what was read, it isn't at the file's
+begins_none : (content : Option Content) (part : Part) (room : ℕ) (window : List ℕ) (came : Bool) → part.place ≡ 0 → 8 ≤ part.end → 8 ≤ room → WhereTold (Comes part room [] window (Ok came)) content
+    → ((rest : List ℕ) → window ≢ magic ++ rest) → WhereTold (λ k. BeginsAt part.end (bytes_of (k part.file).seen) (Ok None)) content
+begins_none None part room window came front some big comes none = tt
+begins_none (Some k) part room window false front some big comes none = λ whole. absurd (comes (shows_first (bytes_of (k part.file).seen) part front whole))
+begins_none (Some k) part room window true front some big comes none = λ whole is.
+    let bytes = bytes_of (k part.file).seen in
+    let got = comes (shows_first bytes part front whole) in
+    let long : 8 ≤ length window = omega (arith, got.1, some, big, front) in
+    let shown : take part.end bytes ≡ window ++ got.0.rest = sym (ap (λ (n : ℕ). drop n (take part.end bytes)) front) ∙ got.0.is in
+    let same : take 8 (take part.end bytes) ≡ take 8 window = ap (take 8) shown ∙ take-append-le 8 window got.0.rest long in
+    none (drop 8 window) (sym (take-append-drop 8 window) ∙ ap (λ (l : List ℕ). l ++ drop 8 window) (sym same ∙ is))
+
+-- a walk begins behind the magic
+begins_some : (content : Option Content) (part : Part) (room : ℕ) (window : List ℕ) (came : Bool) (s : State) → part.place ≡ 0 → WhereTold (Comes part room [] window (Ok came)) content
+    → BeginsWith part window (Some s) → WhereTold (λ k. BeginsAt part.end (bytes_of (k part.file).seen) (Ok (Some s))) content
+begins_some None part room window came s front comes b = tt
+begins_some (Some k) part room window false s front comes b = λ whole. absurd (comes (shows_first (bytes_of (k part.file).seen) part front whole))
+begins_some (Some k) part room window true s front comes b = λ whole.
+    let bytes = bytes_of (k part.file).seen in
+    let got = comes (shows_first bytes part front whole) in
+    let shown : take part.end bytes ≡ magic ++ (b.0 ++ got.0.rest) =
+    sym (ap (λ (n : ℕ). drop n (take part.end bytes)) front) ∙ (got.0.is ∙ (ap (λ (l : List ℕ). l ++ got.0.rest) b.1 ∙ append_assoc magic b.0 got.0.rest)) in
+    let behind : drop 8 (take part.end bytes) ≡ b.0 ++ got.0.rest = ap (drop 8) shown ∙ drop_at magic (b.0 ++ got.0.rest) 8 refl in
+    let made : State = record { part = record { file = part.file; place = 8; end = part.end }; window = b.0; parent = None; seen = [] } in
+    let walked : Walked bytes made = record {
+      entries = [];
+      valid = tt;
+      spelled = shown ∙ ap (λ (l : List ℕ). magic ++ l) (sym behind) ∙ ap (λ (l : List ℕ). l ++ drop 8 (take part.end bytes)) (sym (append-nil magic));
+      place = refl;
+      parent = refl;
+      seen = refl;
+      shows = record { rest = got.0.rest; is = behind; whole = whole; inside = omega (arith, ap length shown, length-append magic (b.0 ++ got.0.rest), length-take part.end bytes, whole) };
+    } in
+    let Holds : State → Type 0 = λ t. Walked bytes t × (t.part.end ≡ part.end) in
+    subst Holds (sym b.2) (walked, refl)
+
+-- either way
+pub begins-either : (content : Option Content) (part : Part) (room : ℕ) (old window : List ℕ) (came : Bool) (found : Option State) → old ≡ [] → part.place ≡ 0 → 8 ≤ part.end → 8 ≤ room
+    → WhereTold (Comes part room old window (Ok came)) content → BeginsWith part window found → WhereTold (λ k. BeginsAt part.end (bytes_of (k part.file).seen) (Ok found)) content
+begins-either content part room old window came None empty front some big comes b =
+    begins_none content part room window came front some big (subst (λ (l : List ℕ). WhereTold (Comes part room l window (Ok came)) content) empty comes) b
+begins-either content part room old window came (Some s) empty front some big comes b =
+    begins_some content part room window came s front (subst (λ (l : List ℕ). WhereTold (Comes part room l window (Ok came)) content) empty comes) b
+
+-- and it begins inside the part
+pub begins-inside : (part : Part) (window : List ℕ) (found : Option State) → part.place ≡ 0 → IsInside part window → BeginsWith part window found → BeginsIn part.file part.end (Ok found)
+begins-inside part window None front inside b = tt
+begins-inside part window (Some s) front inside b =
+    let room : 8 + length b.0 ≤ part.end = omega (arith, inside, front, ap length b.1, length-append magic b.0) in
+    let Holds : State → Type 0 = λ t. (t.part.file ≡ part.file) × (t.part.end ≤ part.end) × IsInside t.part t.window in
+    subst Holds (sym b.2) (refl, omega arith, room)

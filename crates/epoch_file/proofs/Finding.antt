@@ -1,0 +1,88 @@
+-- The entry at the front of bytes, by its parts.
+use Rattle.std.proofs.Common.{◌≡◌, ◌≢◌, ℕ, ◌+◌, ◌-◌, ◌≤◌, true, List, [], ◌++◌, length, take, drop, Option, Some, None, Result, Ok, Err, refl, sym, ap, subst, ◌∙◌, arith}
+use Rattle.std.proofs.lemmas.List.{take_at, take-append-drop}
+use Rattle.std.proofs.lemmas.Option.{none-some, same_Some}
+use Rattle.std.specs.Prelude.{IfOk, IsTrue, ◌↔◌, MatchOption}
+use Rattle.arch_base.specs.declared.ids.Id20.{Id20}
+use Rattle.arch_base.specs.declared.sequence.NoMemory.{NoMemory}
+use Rattle.git_objects.specs.declared.commits.Commit.{Commit}
+use Rattle.git_objects.specs.Commits.{IsCommit, IsParent, commit_content}
+use Rattle.git_objects.specs.Objects.{id_of}
+use Rattle.git_objects.proofs.ObjectIds.{IsId-id_of}
+use Rattle.mail_reader.specs.StorageTexts.{IsStorageText}
+use Rattle.arch_model.specs.declared.commits.EntryIds.{EntryIds}
+use Rattle.arch_model.specs.Commits.{commit_of}
+use Rattle.arch_model.specs.Epochs.{tree_of, entry_bytes}
+use Rattle.epoch_file.specs.declared.entry.Seen.{Seen}
+use Rattle.epoch_file.specs.declared.reading.Parts.{Parts}
+use Rattle.epoch_file.specs.Entries.{EpochEntry, IsEpochEntry, bytes_behind, last_moment}
+use Rattle.epoch_file.specs.Reading.{IsParted, HasParts, PartsAgain, AreIds, IsRead, Reads, ReadsWhere, seen_by}
+use Rattle.epoch_file.specs.Walking.{seen_at}
+use Rattle.epoch_file.proofs.Kept.{commit_valid, committed-is}
+
+-- by parts that are found
+pub reads-parted : (place : ℕ) (parent : Option Id20) (bytes : List ℕ) (parts : Parts) (result : Result (Option (Seen × ℕ)) NoMemory) → PartsAgain bytes (Some parts)
+    → ReadsWhere (λ e. HasParts parent e parts) place parent bytes result → Reads place parent bytes result
+reads-parted place parent bytes parts (Ok None) again reads = λ p e rest valid is. reads p e rest valid is (again parent e rest valid is)
+reads-parted place parent bytes parts (Ok (Some found)) again reads = reads
+reads-parted place parent bytes parts (Err e) again reads = tt
+
+-- where they are none
+pub reads-unparted : (place : ℕ) (parent : Option Id20) (bytes : List ℕ) → PartsAgain bytes None → Reads place parent bytes (Ok None)
+reads-unparted place parent bytes again = λ p e rest valid is. again parent e rest valid is
+
+-- a moment is found in the content of an entry's commit
+abbrev pub MomentAgain : List ℕ → Option ℕ → Type 0
+MomentAgain content found = (c : Commit) → IsCommit c → content ≡ commit_content c → c.committed ≤ last_moment → found ≡ Some c.committed
+
+moment_is : (parent : Option Id20) (e : EpochEntry) (parts : Parts) (found : Option ℕ) → IsParent parent → IsEpochEntry e → HasParts parent e parts → MomentAgain parts.commit.now found → found ≡ Some e.moment
+moment_is parent e parts found p valid has again =
+    let tree = id_of (tree_of e.name e.text) in
+    let commit = commit_of e.text tree parent e.moment in
+    let at = committed-is e.text tree parent e.moment in
+    again commit (commit_valid e.text tree parent e.moment (IsId-id_of (tree_of e.name e.text)) p valid.moment) has.commit (omega (arith, at, valid.moment)) ∙ ap Some at
+
+-- by the moment that is found
+pub reads-moment : (place : ℕ) (parent : Option Id20) (bytes : List ℕ) (parts : Parts) (moment : ℕ) (result : Result (Option (Seen × ℕ)) NoMemory) → MomentAgain parts.commit.now (Some moment)
+    → ReadsWhere (λ e. HasParts parent e parts × (moment ≡ e.moment)) place parent bytes result → ReadsWhere (λ e. HasParts parent e parts) place parent bytes result
+reads-moment place parent bytes parts moment (Ok None) again reads = λ p e rest valid is has.
+    reads p e rest valid is (has, same_Some moment e.moment (moment_is parent e parts (Some moment) p valid has again))
+reads-moment place parent bytes parts moment (Ok (Some found)) again reads = reads
+reads-moment place parent bytes parts moment (Err e) again reads = tt
+
+-- where there is none
+pub reads-no_moment : (place : ℕ) (parent : Option Id20) (bytes : List ℕ) (parts : Parts) → MomentAgain parts.commit.now None → ReadsWhere (λ e. HasParts parent e parts) place parent bytes (Ok None)
+reads-no_moment place parent bytes parts again = λ p e rest valid is has. none-some e.moment (moment_is parent e parts None p valid has again)
+
+-- where the text is no storage text
+pub reads-unstored : (place : ℕ) (parent : Option Id20) (bytes : List ℕ) (parts : Parts) (moment : ℕ) → (IsStorageText parts.text.now → ⊥)
+    → ReadsWhere (λ e. HasParts parent e parts × (moment ≡ e.moment)) place parent bytes (Ok None)
+reads-unstored place parent bytes parts moment none = λ p e rest valid is has. none (subst IsStorageText (sym has.0.text) valid.text)
+
+-- where the bytes are others than those of the entry
+pub reads-other : (place : ℕ) (parent : Option Id20) (bytes : List ℕ) (parts : Parts) (moment : ℕ) (front : List ℕ) → front ≡ take parts.size bytes → front ≢ entry_bytes parts.name parts.text.now moment parent
+    → ReadsWhere (λ e. HasParts parent e parts × (moment ≡ e.moment)) place parent bytes (Ok None)
+reads-other place parent bytes parts moment front cut other = λ p e rest valid is has.
+    let here : take parts.size bytes ≡ bytes_behind parent e = ap (take parts.size) is ∙ take_at (bytes_behind parent e) rest parts.size (sym has.0.size) in
+    let n = has.0.name in
+    let t = has.0.text in
+    let m = has.1 in
+    let same : entry_bytes parts.name parts.text.now moment parent ≡ entry_bytes e.name e.text e.moment parent = λ i. entry_bytes (n i) (t i) (m i) parent in
+    other (cut ∙ (here ∙ sym same))
+
+-- and where they are those
+pub reads-entry : (place : ℕ) (parent : Option Id20) (bytes : List ℕ) (parts : Parts) (moment : ℕ) (front : List ℕ) (ids : EntryIds) (seen : Seen) → IsParted bytes parts → PartsAgain bytes (Some parts)
+    → moment ≤ last_moment → IsStorageText parts.text.now → front ≡ take parts.size bytes → front ≡ entry_bytes parts.name parts.text.now moment parent → AreIds parts.name parts.text.now moment parent ids
+    → seen ≡ seen_by place parts moment ids → IsRead place parent bytes (seen, parts.size)
+reads-entry place parent bytes parts moment front ids seen parted again small stored cut same are is =
+    let e : EpochEntry = record { name = parts.name; text = parts.text.now; moment = moment } in
+    let rest = drop parts.size bytes in
+    let whole : bytes ≡ bytes_behind parent e ++ rest = sym (take-append-drop parts.size bytes) ∙ ap (λ (l : List ℕ). l ++ rest) (sym cut ∙ same) in
+    let valid : IsEpochEntry e = record { name = parted.name; text = stored; moment = small } in
+    let has : HasParts parent e parts = again parent e rest valid whole in
+    let at : place + parts.front ≡ (seen_at place parent e).text_at = ap (λ (n : ℕ). place + n) has.front in
+    let blob = are.blob in
+    let commit = are.commit in
+    let made : seen_by place parts moment ids ≡ seen_at place parent e =
+    λ i. record { name = parts.name; at = place; text_at = at i; size = length parts.text.now; blob = blob i; commit = commit i; moment = moment; id = (seen_by place parts moment ids).id; content = (seen_by place parts moment ids).content } in
+    record { entry = e; valid = valid; rest = rest; is = whole; seen = is ∙ made; size = has.size }

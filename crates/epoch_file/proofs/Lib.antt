@@ -1,0 +1,15 @@
+mod Fronts
+mod Sizes
+mod Looks
+mod Numbers
+mod Found
+mod Parts
+mod Zones
+mod Kept
+mod Chains
+mod Calls
+mod Showing
+mod Turning
+mod Bringing
+mod Finding
+mod Apart

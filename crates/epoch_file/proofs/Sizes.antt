@@ -1,0 +1,76 @@
+-- The pieces of an entry's bytes, and their lengths.
+use Rattle.std.proofs.Common.{◌≡◌, ℕ, ◌+◌, ◌<◌, ◌≤◌, ◌^◌, List, [], ◌∷◌, ◌++◌, codes, length, length-append, Option, refl, sym, ap, ◌∙◌, arith, lit<}
+use Rattle.std.specs.Fmt.{decimal}
+use Rattle.std.proofs.lemmas.List.{append_assoc}
+use Rattle.std.proofs.lemmas.Fmt.{length-decimal-le}
+use Rattle.arch_base.specs.declared.ids.Id20.{Id20}
+use Rattle.git_objects.specs.Commits.{commit_content, commit_spelling}
+use Rattle.git_objects.specs.Objects.{blob_spelling, tree_spelling, blob_id_of, id_of}
+use Rattle.git_objects.proofs.Spellings.{length-tree_spelling}
+use Rattle.git_objects.proofs.ObjectIds.{IsId-id_of}
+use Rattle.arch_model.specs.Commits.{commit_of}
+use Rattle.arch_model.specs.Epochs.{tree_of, commit_text, entry_bytes}
+use Rattle.epoch_file.specs.Entries.{EpochEntry, bytes_behind}
+use Rattle.epoch_file.specs.Walking.{blob_front}
+use Rattle.epoch_file.specs.Sights.{commit_place}
+
+-- the content of an entry's commit
+abbrev pub content_behind : Option Id20 → EpochEntry → List ℕ
+content_behind parent e = commit_content (commit_of e.text (id_of (tree_of e.name e.text)) parent e.moment)
+
+-- the type and the size of an object, and the byte behind them
+abbrev pub head_of : List ℕ → ℕ → List ℕ
+head_of word size = word ++ (decimal size ++ 0 ∷ [])
+
+-- an entry's bytes before what follows, object by object
+pub objects : (parent : Option Id20) (e : EpochEntry) (rest : List ℕ)
+    → bytes_behind parent e ++ rest ≡ blob_spelling e.text ++ (tree_of e.name e.text ++ ((codes "commit " ++ (decimal (length (content_behind parent e)) ++ 0 ∷ content_behind parent e)) ++ rest))
+unfolding entry_bytes commit_text
+objects parent e rest =
+    let commit = codes "commit " ++ (decimal (length (content_behind parent e)) ++ 0 ∷ content_behind parent e) in
+    append_assoc (blob_spelling e.text) (tree_of e.name e.text ++ commit) rest
+    ∙ ap (λ (l : List ℕ). blob_spelling e.text ++ l) (append_assoc (tree_of e.name e.text) commit rest)
+
+-- a type and a size before what follows
+pub headed : (word content rest : List ℕ) → (word ++ (decimal (length content) ++ 0 ∷ content)) ++ rest ≡ word ++ (decimal (length content) ++ 0 ∷ (content ++ rest))
+headed word content rest =
+    append_assoc word (decimal (length content) ++ 0 ∷ content) rest ∙ ap (λ (l : List ℕ). word ++ l) (append_assoc (decimal (length content)) (0 ∷ content) rest)
+
+-- the same with the head as one piece
+pub head_first : (word tail : List ℕ) (size : ℕ) → word ++ (decimal size ++ 0 ∷ tail) ≡ head_of word size ++ tail
+head_first word tail size =
+    ap (λ (l : List ℕ). word ++ l) (sym (append_assoc (decimal size) (0 ∷ []) tail)) ∙ sym (append_assoc word (decimal size ++ 0 ∷ []) tail)
+
+-- the length of a head
+pub length-head : (word : List ℕ) (size : ℕ) → length (head_of word size) ≡ length word + length (decimal size) + 1
+length-head word size = omega (arith, length-append word (decimal size ++ 0 ∷ []), length-append (decimal size) (0 ∷ []))
+
+-- a size of 64 bits has up to twenty digits
+pub digits-le : (n : ℕ) → n < 2 ^ 64 → length (decimal n) ≤ 20
+digits-le n small = length-decimal-le 20 n (omega arith) (omega (arith, small)) small
+
+-- the length of a blob
+pub length-blob : (text : List ℕ) → length (blob_spelling text) ≡ blob_front text + length text
+length-blob text = omega (arith, length-append (codes "blob ") (decimal (length text) ++ 0 ∷ text), length-append (decimal (length text)) (0 ∷ text))
+
+-- the length of a tree
+pub length-tree : (name : ℕ) (text : List ℕ) → length (tree_of name text) ≡ 37
+length-tree name text = length-tree_spelling name (blob_id_of text) (IsId-id_of (blob_spelling text)).len
+
+-- the length of an entry
+pub length-entry : (parent : Option Id20) (e : EpochEntry)
+    → length (bytes_behind parent e) ≡ commit_place e.text + length (codes "commit " ++ decimal (length (content_behind parent e))) + 1 + length (content_behind parent e)
+unfolding entry_bytes commit_text
+length-entry parent e =
+    let content = content_behind parent e in
+    let commit = codes "commit " ++ (decimal (length content) ++ 0 ∷ content) in
+    omega (
+      arith,
+      length-append (blob_spelling e.text) (tree_of e.name e.text ++ commit),
+      length-append (tree_of e.name e.text) commit,
+      length-blob e.text,
+      length-tree e.name e.text,
+      length-append (codes "commit ") (decimal (length content) ++ 0 ∷ content),
+      length-append (decimal (length content)) (0 ∷ content),
+      length-append (codes "commit ") (decimal (length content)),
+    )

@@ -1,0 +1,13 @@
+use Rattle.epoch_file.proofs.Looks.{sees-by_length, sees-no_length}
+use Rattle.std.proofs.Common.{◌<◌, ◌^◌, rules}
+use Rattle.epoch_file.proofs.sight.look_behind.Goals as goal
+
+pub returns-in-Some : goal.returns-in-Some
+returns-in-Some c =
+    let small : c.args.left < 2 ^ 64 = search rules in
+    sees-by_length c.args.at c.args.held.now c.args.left c.in-Some.len c.look_at_all.result small c.if-is_short.ensures c.in-Some.ensures c.look_at_all.ensures
+
+pub returns-in-None : goal.returns-in-None
+returns-in-None c =
+    let small : c.args.left < 2 ^ 64 = search rules in
+    sees-no_length c.args.at c.args.held.now c.args.left small c.if-is_short.ensures c.in-None.ensures

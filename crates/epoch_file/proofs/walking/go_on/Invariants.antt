@@ -1,0 +1,18 @@
+use Rattle.std.proofs.Common.{◌-◌, ◌≤◌, length}
+use Rattle.disk_model.specs.Disk.{WhereTold}
+use Rattle.epoch_file.specs.Runs.{OnlyReads}
+use Rattle.epoch_file.specs.Steps.{KeepsWalked, SamePart}
+use Rattle.epoch_file.specs.Windows.{IsInside}
+use Rattle.epoch_file.proofs.walking.go_on.Given as goal
+
+abbrev pub invariant-loop-alloc : goal.invariant-loop-alloc
+invariant-loop-alloc g l = record {
+  keeps : WhereTold (KeepsWalked l.fn.start l.state) (g.D.Disk.content l.fn.disk);
+  part : SamePart l.fn.start.part l.state.part;
+  inside : IsInside l.state.part l.state.window;
+  room : 8 ≤ length l.piece;
+  reads : OnlyReads g.D.Disk.content g.D.Disk.moment g.D.Disk.left_since g.D.Disk.faults l.fn.disk l.disk;
+}
+
+abbrev pub decreases-loop-alloc : goal.decreases-loop-alloc
+decreases-loop-alloc g l = l.state.part.end - l.state.part.place

@@ -1,0 +1,56 @@
+-- The entries of an epoch's file, and their bytes: the magic, and of each entry a blob, a tree of one file that names the
+-- blob, and a commit that names the tree (git, "Git Objects").
+use Rattle.std.specs.Prelude.{◌≡◌, ◌<◌, ◌≤◌, ◌^◌, ℕ, true, List, [], ◌∷◌, ◌++◌, length, Option, Some, None}
+use Rattle.arch_base.specs.declared.ids.Id20.{Id20}
+use Rattle.git_objects.specs.Objects.{is_entry_name}
+use Rattle.mail_reader.specs.StorageTexts.{IsStorageText}
+use Rattle.arch_model.specs.Epochs.{commit_id, entry_bytes, magic}
+
+-- an entry: the name of its file, `m` or `d`, the text that the file has, and the second since 1970 of its commit
+pub record EpochEntry : Type 0 where
+  pub name : ℕ
+  pub text : List ℕ
+  pub moment : ℕ
+
+-- the last moment of a commit: the last second of the year 9999
+abbrev pub last_moment : ℕ
+last_moment = 253402300799
+
+-- the entries that a file may have: a message `m` or a deletion `d` of a storage text, at a moment up to the last one
+pub record IsEpochEntry (e : EpochEntry) : Type 0 where
+  pub name : is_entry_name e.name ≡ true
+  pub text : IsStorageText e.text
+  pub moment : e.moment ≤ last_moment
+
+-- each of these may stand in a file
+abbrev pub AreEpochEntries : List EpochEntry → Type 0
+AreEpochEntries [] = Unit {0}
+AreEpochEntries (e ∷ es) = IsEpochEntry e × AreEpochEntries es
+
+-- the bytes of an entry behind a parent
+abbrev pub bytes_behind : Option Id20 → EpochEntry → List ℕ
+bytes_behind parent e = entry_bytes e.name e.text e.moment parent
+
+-- the id of its commit
+abbrev pub commit_behind : Option Id20 → EpochEntry → Id20
+commit_behind parent e = commit_id e.name e.text e.moment parent
+
+-- the bytes of entries, each commit's parent being the commit before it
+abbrev pub chain : Option Id20 → List EpochEntry → List ℕ
+chain parent [] = []
+chain parent (e ∷ es) = bytes_behind parent e ++ chain (Some (commit_behind parent e)) es
+
+-- the id of the last commit of entries, or the parent where there are none
+abbrev pub last_of : Option Id20 → List EpochEntry → Option Id20
+last_of parent [] = parent
+last_of parent (e ∷ es) = last_of (Some (commit_behind parent e)) es
+
+-- the bytes of an epoch of these entries: the first commit has no parent
+abbrev pub epoch_of : List EpochEntry → List ℕ
+epoch_of es = magic ++ chain None es
+
+-- Two lists of entries whose epochs have the same bytes, as few as a file may have, are the same.
+abbrev pub EpochsDiffer : Type 0
+EpochsDiffer =
+    (es fs : List EpochEntry) → AreEpochEntries es → AreEpochEntries fs → length (epoch_of es) < 2 ^ 64
+    → epoch_of es ≡ epoch_of fs → es ≡ fs

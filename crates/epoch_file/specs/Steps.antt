@@ -1,0 +1,117 @@
+-- The steps of a walk.
+use Rattle.std.specs.Prelude.{◌≡◌, ◌≢◌, ℕ, ◌+◌, ◌<◌, ◌≤◌, min, Bool, true, false, List, [], ◌∷◌, ◌++◌, length, take, drop, Option, Some, None, Result, Ok, Err}
+use Rattle.arch_base.specs.declared.ids.Id20.{Id20}
+use Rattle.arch_base.specs.declared.sequence.NoMemory.{NoMemory as NoRoom}
+use Rattle.git_objects.specs.Commits.{IsParent}
+use Rattle.disk_model.specs.declared.refusal.WalkRefusal.{WalkRefusal}
+use Rattle.disk_model.specs.declared.name.FileName.{FileName}
+use Rattle.disk_model.specs.Disk.{Content, bytes_of}
+use Rattle.arch_model.specs.Epochs.{magic}
+use Rattle.epoch_file.specs.declared.entry.Seen.{Seen}
+use Rattle.epoch_file.specs.declared.window.Part.{Part}
+use Rattle.epoch_file.specs.declared.state.State.{State}
+use Rattle.epoch_file.specs.Entries.{EpochEntry, IsEpochEntry, AreEpochEntries, bytes_behind, chain, last_of, epoch_of}
+use Rattle.epoch_file.specs.Reading.{IsRead}
+use Rattle.epoch_file.specs.Walking.{seen_from, LacksEntry, LacksMagic, Walks}
+use Rattle.epoch_file.specs.Windows.{Shows, IsInside}
+
+-- what of a part is left behind its place
+abbrev pub left_of : List ℕ → Part → List ℕ
+left_of bytes part = drop part.place (take part.end bytes)
+
+-- all of an entry is in the window, where one stands at the part's place; or none stands there, behind any parent
+abbrev pub Brings : Part → List ℕ → List ℕ → Result Bool WalkRefusal → Content → Type 0
+Brings part old new (Ok true) k =
+    Shows (bytes_of (k part.file).seen) part old
+    → Shows (bytes_of (k part.file).seen) part new
+    × ((parent : Option Id20) (e : EpochEntry) (rest : List ℕ) → IsEpochEntry e → left_of (bytes_of (k part.file).seen) part ≡ bytes_behind parent e ++ rest → length (bytes_behind parent e) ≤ length new)
+Brings part old new (Ok false) k = Shows (bytes_of (k part.file).seen) part old → (parent : Option Id20) → LacksEntry parent (left_of (bytes_of (k part.file).seen) part)
+Brings part old new (Err e) k = Unit {0}
+
+-- a window that showed a part of a file shows it still
+abbrev pub KeepsShown : Part → List ℕ → List ℕ → Content → Type 0
+KeepsShown part old new k = Shows (bytes_of (k part.file).seen) part old → Shows (bytes_of (k part.file).seen) part new
+
+-- So far a walk has found entries from the front of a file on.
+pub record Walked (bytes : List ℕ) (s : State) : Type 0 where
+  pub entries : List EpochEntry
+  pub valid : AreEpochEntries entries
+  pub spelled : take s.part.end bytes ≡ epoch_of entries ++ left_of bytes s.part
+  pub place : s.part.place ≡ 8 + length (chain None entries)
+  pub parent : s.parent ≡ last_of None entries
+  pub seen : s.seen ≡ seen_from 8 None entries
+  pub shows : Shows bytes s.part s.window
+
+-- a walk behind an entry that was found, with its length
+abbrev pub next_state : State → Seen × ℕ → State
+next_state s found = record {
+  part = record { file = s.part.file; place = s.part.place + found.1; end = s.part.end };
+  window = drop found.1 s.window;
+  parent = Some found.0.commit;
+  seen = s.seen ++ found.0 ∷ [];
+}
+
+-- the entry at the front of the window is taken, or none stands there
+abbrev pub Takes : State → State → Result Bool NoRoom → Type 0
+Takes old new (Ok true) = (found : Seen × ℕ) × IsRead old.part.place old.parent old.window found × (new ≡ next_state old found)
+Takes old new (Ok false) = (IsParent old.parent → LacksEntry old.parent old.window) × (new ≡ old)
+Takes old new (Err e) = Unit {0}
+
+-- a turn of a walk finds one entry more, or that none stands there
+abbrev pub Turns : State → State → Result Bool WalkRefusal → Content → Type 0
+Turns old new (Ok true) k = Walked (bytes_of (k old.part.file).seen) old → Walked (bytes_of (k old.part.file).seen) new
+Turns old new (Ok false) k = Walked (bytes_of (k old.part.file).seen) old → LacksEntry old.parent (left_of (bytes_of (k old.part.file).seen) old.part)
+Turns old new (Err e) k = Unit {0}
+
+-- the part that is walked stays, but for its place
+pub record SamePart (old new : Part) : Type 0 where
+  pub file : new.file ≡ old.file
+  pub end : new.end ≡ old.end
+
+-- a turn goes on in the part, where it finds an entry, and else stays
+abbrev pub Moves : State → State → Result Bool WalkRefusal → Type 0
+Moves old new (Ok true) = (old.part.place < new.part.place) × IsInside new.part new.window
+Moves old new (Ok false) = new.part.place ≡ old.part.place
+Moves old new (Err e) = Unit {0}
+
+-- a walk over the first n bytes of a file begins behind the magic, or finds that it isn't there
+abbrev pub Begins : ℕ → List ℕ → Result (Option State) WalkRefusal → Type 0
+Begins n bytes (Ok None) = LacksMagic n bytes
+Begins n bytes (Ok (Some s)) = Walked bytes s × (s.part.end ≡ min n (length bytes))
+Begins n bytes (Err e) = Unit {0}
+
+-- the same of n bytes that the file has
+abbrev pub BeginsAt : ℕ → List ℕ → Result (Option State) WalkRefusal → Type 0
+BeginsAt n bytes (Ok None) = n ≤ length bytes → LacksMagic n bytes
+BeginsAt n bytes (Ok (Some s)) = n ≤ length bytes → Walked bytes s × (s.part.end ≡ n)
+BeginsAt n bytes (Err e) = Unit {0}
+
+-- the magic stands at the front of a window, or it doesn't
+abbrev pub HasMagic : List ℕ → Bool → Type 0
+HasMagic window true = (rest : List ℕ) × (window ≡ magic ++ rest)
+HasMagic window false = (rest : List ℕ) → window ≢ magic ++ rest
+
+-- a walk begins behind the magic at the front of a window, or it isn't there
+abbrev pub BeginsWith : Part → List ℕ → Option State → Type 0
+BeginsWith part window None = (rest : List ℕ) → window ≢ magic ++ rest
+BeginsWith part window (Some s) =
+    (rest : List ℕ) × (window ≡ magic ++ rest) × (s ≡ record { part = record { file = part.file; place = 8; end = part.end }; window = rest; parent = None; seen = [] })
+
+-- it begins in a part of this file, with no more than n bytes
+abbrev pub BeginsIn : FileName → ℕ → Result (Option State) WalkRefusal → Type 0
+BeginsIn file n (Ok None) = Unit {0}
+BeginsIn file n (Ok (Some s)) = (s.part.file ≡ file) × (s.part.end ≤ n) × IsInside s.part s.window
+BeginsIn file n (Err e) = Unit {0}
+
+-- an entry is wanted at a walk's place, or none is, since all n bytes are walked and there is an entry
+abbrev pub IsWanted : State → ℕ → Bool → Type 0
+IsWanted s n true = s.part.place ≡ n → length s.seen ≡ 0
+IsWanted s n false = (s.part.place ≡ n) × (0 < length s.seen)
+
+-- a walk that came from one state to another
+abbrev pub KeepsWalked : State → State → Content → Type 0
+KeepsWalked old new k = Walked (bytes_of (k old.part.file).seen) old → Walked (bytes_of (k old.part.file).seen) new
+
+-- what a walk over the first n bytes answers from where it has come to
+abbrev pub GoesOn : ℕ → List ℕ → State → Result (List Seen) WalkRefusal → Type 0
+GoesOn n bytes s result = Walked bytes s → s.part.end ≡ min n (length bytes) → Walks n bytes result

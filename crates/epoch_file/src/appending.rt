@@ -1,0 +1,86 @@
+//! An entry put behind those of an epoch's file.
+ghost use Rattle.std.specs.Prelude.{◌≡◌, ◌++◌, ◌<◌, ◌≤◌, ◌^◌, ℕ, List, length, Err, IsTrue, IfOk, OnOk, OnErr, is_ok, if◌then◌else◌};
+ghost use Rattle.arch_base.specs.Counts.{Rose};
+ghost use Rattle.disk_model.specs.Disk.{WhereTold, IsAtMostLength, Elapses};
+ghost use Rattle.git_objects.specs.Objects.{is_entry_name, blob_id_of};
+ghost use Rattle.epoch_file.specs.Entries.{last_moment, commit_behind};
+ghost use Rattle.epoch_file.specs.Appending.{appended, entry_of, front_at, written_of, AppendLeaves};
+
+use crate::entry::{NewEntry, Written};
+use crate::refusal::StoreRefusal;
+use arch_base::{Bytes, NoMemory};
+use arch_model::{EntryIds, push_entry};
+use disk_model::{Disk, FileName};
+use std::alloc::Global;
+
+/// The bytes that an epoch's file begins with.
+pub(crate) const MAGIC: [u8; 8] = *b"PIV2EP1\n";
+
+/// More bytes than this are never written at once: they find no room in memory.
+const MOST: usize = 1 << 62;
+
+/// Writes the bytes of an entry into an epoch's file from a place on, with one write: its blob, its tree and its commit. At
+/// place 0 the magic stands in front of them. The answer is where they end, and the ids of the blob and the commit.
+///
+/// DiskFault comes only where that write failed; the range of the bytes may then hold anything. NoMemory comes only for want
+/// of memory, and then nothing was done.
+pub fn append_entry<D: Disk>(
+    alloc: Global,
+    disk: &mut D,
+    file: FileName,
+    at: u64,
+    entry: &NewEntry<'_>,
+) -> Result<Written, StoreRefusal>
+    requires name { IsTrue (is_entry_name entry.now.name) }
+    requires moment { entry.now.moment ≤ last_moment }
+    requires inside { WhereTold (IsAtMostLength file at) (D.content disk.old) }
+    requires place { at < 2 ^ 62 }
+    ensures written { IfOk result (λ written. written ≡ written_of at entry.now) }
+    ensures left { AppendLeaves file at (appended at entry.now) D.content disk.old disk.new result }
+    ensures time { Elapses (D.moment disk.old) (D.moment disk.new) (D.left_since disk.old) (D.left_since disk.new) (D.content disk.new) }
+    ensures later { D.faults disk.old ≤ D.faults disk.new }
+    ensures fault { result ≡ Err StoreRefusal.DiskFault → Rose (D.faults disk.old) (D.faults disk.new) }
+    ensures count { D.reads disk.new ≡ D.reads disk.old }
+{
+    let (piece, ids) = entry_piece(alloc, at, entry)?;
+    let bytes = piece.as_slice();
+    if bytes.len() > MOST {
+        return Err(StoreRefusal::NoMemory);
+    }
+    disk.write_at(file, at, bytes)?;
+    Ok(Written {
+        end: at + bytes.len() as u64,
+        blob: ids.blob,
+        commit: ids.commit,
+    })
+}
+
+/// What is written of an entry at a place, and the ids of its blob and its commit.
+fn entry_piece(alloc: Global, at: u64, entry: &NewEntry<'_>) -> Result<(Bytes, EntryIds), NoMemory>
+    requires { IsTrue (is_entry_name entry.now.name) }
+    ensures piece { IfOk result (λ made. made.0 ≡ appended at entry.now) }
+    ensures blob { IfOk result (λ made. made.1.blob ≡ blob_id_of entry.now.text.now) }
+    ensures commit { IfOk result (λ made. made.1.commit ≡ commit_behind entry.now.parent (entry_of entry.now)) }
+{
+    let mut piece = front(alloc, at)?;
+    let ids = push_entry(
+        alloc,
+        entry.name,
+        entry.text,
+        entry.moment,
+        entry.parent,
+        &mut piece,
+    )?;
+    Ok((piece, ids))
+}
+
+/// What stands in front of an entry's bytes at a place: the magic at the file's front, and else nothing.
+fn front(alloc: Global, at: u64) -> Result<Bytes, NoMemory>
+    ensures { IfOk result (λ made. made ≡ front_at at) }
+{
+    let mut front = Bytes::new(alloc);
+    if at == 0 {
+        front.push_slice(&MAGIC)?;
+    }
+    Ok(front)
+}

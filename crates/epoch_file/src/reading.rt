@@ -1,0 +1,222 @@
+//! An entry, read from the front of bytes.
+ghost use Rattle.std.specs.Prelude.{◌≡◌, ◌≢◌, ◌+◌, ◌-◌, ◌<◌, ◌≤◌, ◌^◌, ◌++◌, ◌↔◌, ℕ, List, [], Some, None, length, true, unwrap_or, IsTrue, IfSome, IfNone, IfOk, MatchOption};
+ghost use Rattle.arch_base.specs.Ids.{IsId};
+ghost use Rattle.arch_base.specs.declared.ids.Id20.{Id20};
+ghost use Rattle.git_objects.specs.declared.commits.Commit.{Commit as CommitRecord};
+ghost use Rattle.git_objects.specs.Commits.{IsCommit, commit_content};
+ghost use Rattle.git_objects.specs.Objects.{CommitOf, HasSize, blob_spelling, is_entry_name, spelling, tree_spelling};
+ghost use Rattle.arch_model.specs.Epochs.{commit_id, entry_bytes};
+ghost use Rattle.mail_reader.specs.Ids.{own_id as own_id_of};
+ghost use Rattle.epoch_file.specs.Entries.{EpochEntry, IsEpochEntry, bytes_behind, last_moment};
+ghost use Rattle.epoch_file.specs.Reading.{IsParted, HasParts, PartsAgain, Respells, Reads, ReadsWhere, seen_by};
+
+use crate::entry::Seen;
+use arch_base::{Bytes, NoMemory, ObjectId};
+use arch_model::{EntryIds, push_entry};
+use git_objects::{Object, read_commit, read_object};
+use mail_reader::{content_id, is_stored, own_id};
+use std::alloc::Global;
+
+/// The last moment of a commit: the last second of the year 9999.
+const LAST_MOMENT: u64 = 253_402_300_799;
+
+/// The three objects at the front of bytes.
+#[derive(Debug, Clone, Copy, Drop)]
+pub(crate) struct Parts<'a> {
+    /// The name of the tree's file.
+    name: u8,
+    /// The blob's content.
+    text: &'a [u8],
+    /// How many bytes stand before it.
+    front: usize,
+    /// The commit's content.
+    commit: &'a [u8],
+    /// How many bytes the three objects take.
+    size: usize,
+}
+
+/// The blob, tree and commit that bytes begin with.
+fn read_parts(bytes: &[u8]) -> Option<Parts<'_>>
+    ensures found { IfSome result (IsParted bytes.now) }
+    ensures again { PartsAgain bytes.now result }
+{
+    let (text, blob) = blob_ahead(bytes)?;
+    let (name, tree) = tree_ahead(bytes.split_at(blob).1)?;
+    let at = blob + tree;
+    let (commit, len) = commit_ahead(bytes.split_at(at).1)?;
+    Some(Parts {
+        name,
+        text,
+        front: blob - text.len(),
+        commit,
+        size: at + len,
+    })
+}
+
+/// The content of the blob that bytes begin with, and its length.
+fn blob_ahead(bytes: &[u8]) -> Option<(&[u8], usize)>
+    ensures inside { IfSome result (λ found. (length found.0.now ≤ found.1) × (found.1 ≤ length bytes.now)) }
+    ensures again { (content rest : List ℕ) → HasSize content → bytes.now ≡ blob_spelling content ++ rest
+        → MatchOption result ⊥ (λ found. (found.0.now ≡ content) × (found.1 ≡ length (blob_spelling content))) }
+{
+    match read_object(bytes)? {
+        (Object::Blob(content), len) => Some((content, len)),
+        _ => None,
+    }
+}
+
+/// The name in the tree that bytes begin with, and its length.
+fn tree_ahead(bytes: &[u8]) -> Option<(u8, usize)>
+    ensures inside { IfSome result (λ found. (is_entry_name found.0 ≡ true) × (found.1 ≤ length bytes.now)) }
+    ensures again { (name : ℕ) (id : Id20) (rest : List ℕ) → is_entry_name name ≡ true → IsId id → bytes.now ≡ tree_spelling name id ++ rest
+        → MatchOption result ⊥ (λ found. (found.0 ≡ name) × (found.1 ≡ length (tree_spelling name id))) }
+{
+    match read_object(bytes)? {
+        (Object::Tree { name, id: _ }, len) => Some((name, len)),
+        _ => None,
+    }
+}
+
+/// The content of the commit that bytes begin with, and its length.
+fn commit_ahead(bytes: &[u8]) -> Option<(&[u8], usize)>
+    ensures inside { IfSome result (λ found. found.1 ≤ length bytes.now) }
+    ensures again { (content rest : List ℕ) → HasSize content → bytes.now ≡ spelling (CommitOf content) ++ rest
+        → MatchOption result ⊥ (λ found. (found.0.now ≡ content) × (found.1 ≡ length (spelling (CommitOf content)))) }
+{
+    match read_object(bytes)? {
+        (Object::Commit(content), len) => Some((content, len)),
+        _ => None,
+    }
+}
+
+/// The moment of a commit's content, where it is one up to the last.
+fn moment_of(alloc: Global, content: &[u8]) -> Result<Option<u64>, NoMemory>
+    ensures bound { IfOk result (λ found. IfSome found (λ moment. moment ≤ last_moment)) }
+    ensures again { (c : CommitRecord) → IsCommit c → content.now ≡ commit_content c → c.committed ≤ last_moment → IfOk result (λ found. found ≡ Some c.committed) }
+{
+    match read_commit(alloc, content)? {
+        Some(commit) => {
+            if commit.committed > LAST_MOMENT {
+                return Ok(None);
+            }
+            Ok(Some(commit.committed))
+        }
+        None => Ok(None),
+    }
+}
+
+/// The ids of blob and commit, where bytes are those of an entry.
+fn respell(
+    alloc: Global,
+    bytes: &[u8],
+    name: u8,
+    text: &[u8],
+    moment: u64,
+    parent: Option<ObjectId>,
+) -> Result<Option<EntryIds>, NoMemory>
+    requires { IsTrue (is_entry_name name) }
+    ensures { Respells bytes.now name text.now moment parent result }
+{
+    let mut spelled = Bytes::new(alloc);
+    let ids = push_entry(alloc, name, text, moment, parent, &mut spelled)?;
+    if spelled.as_slice() != bytes {
+        return Ok(None);
+    }
+    Ok(Some(ids))
+}
+
+/// The own id of a text once more, empty where it has none.
+fn id_of(alloc: Global, text: &[u8]) -> Result<Bytes, NoMemory>
+    ensures { IfOk result (λ id. id ≡ unwrap_or (own_id_of text.now) []) }
+{
+    let mut id = Bytes::new(alloc);
+    if let Some(own) = own_id(text) {
+        id.push_slice(own)?;
+    }
+    Ok(id)
+}
+
+/// The entry behind a parent that bytes begin with, and its length; the bytes stand at a place in their file. None where no
+/// such entry stands there.
+pub(crate) fn read_entry(
+    alloc: Global,
+    place: u64,
+    bytes: &[u8],
+    parent: Option<ObjectId>,
+) -> Result<Option<(Seen, usize)>, NoMemory>
+    requires { place + length bytes.now < 2 ^ 64 }
+    ensures { Reads place parent bytes.now result }
+{
+    match read_parts(bytes) {
+        Some(parts) => read_in_parts(alloc, place, bytes, parent, &parts),
+        None => Ok(None),
+    }
+}
+
+/// The same, where the bytes have these parts.
+fn read_in_parts(
+    alloc: Global,
+    place: u64,
+    bytes: &[u8],
+    parent: Option<ObjectId>,
+    parts: &Parts<'_>,
+) -> Result<Option<(Seen, usize)>, NoMemory>
+    requires room { place + length bytes.now < 2 ^ 64 }
+    requires parted { IsParted bytes.now parts.now }
+    requires again { PartsAgain bytes.now (Some parts.now) }
+    ensures { ReadsWhere (λ e. HasParts parent e parts.now) place parent bytes.now result }
+{
+    match moment_of(alloc, parts.commit)? {
+        Some(moment) => read_at_moment(alloc, place, bytes, parent, parts, moment),
+        None => Ok(None),
+    }
+}
+
+/// The same, where the commit is of this moment.
+fn read_at_moment(
+    alloc: Global,
+    place: u64,
+    bytes: &[u8],
+    parent: Option<ObjectId>,
+    parts: &Parts<'_>,
+    moment: u64,
+) -> Result<Option<(Seen, usize)>, NoMemory>
+    requires room { place + length bytes.now < 2 ^ 64 }
+    requires parted { IsParted bytes.now parts.now }
+    requires again { PartsAgain bytes.now (Some parts.now) }
+    requires moment { moment ≤ last_moment }
+    ensures { ReadsWhere (λ e. HasParts parent e parts.now × (moment ≡ e.moment)) place parent bytes.now result }
+{
+    if !is_stored(parts.text) {
+        return Ok(None);
+    }
+    let spelling = bytes.split_at(parts.size).0;
+    match respell(alloc, spelling, parts.name, parts.text, moment, parent)? {
+        Some(ids) => Ok(Some((seen_of(alloc, place, parts, moment, &ids)?, parts.size))),
+        None => Ok(None),
+    }
+}
+
+/// What is seen of an entry.
+fn seen_of(
+    alloc: Global,
+    place: u64,
+    parts: &Parts<'_>,
+    moment: u64,
+    ids: &EntryIds,
+) -> Result<Seen, NoMemory>
+    requires { place + parts.now.front < 2 ^ 64 }
+    ensures { IfOk result (λ seen. seen ≡ seen_by place parts.now moment ids.now) }
+{
+    Ok(Seen {
+        name: parts.name,
+        at: place,
+        text_at: place + parts.front as u64,
+        size: parts.text.len() as u64,
+        blob: ids.blob,
+        commit: ids.commit,
+        moment,
+        id: id_of(alloc, parts.text)?,
+        content: content_id(parts.text),
+    })
+}

@@ -1,0 +1,45 @@
+//! Why a call on stored files gives no answer.
+use arch_base::NoMemory;
+use disk_model::{DiskFault, FileName};
+use thiserror::Error;
+
+/// Why a call on stored files gave no answer.
+#[derive(Debug, Drop, PartialEq, Eq, Error)]
+pub enum StoreRefusal {
+    /// A call of the disk failed.
+    #[error("the disk failed")]
+    DiskFault,
+    /// Memory was wanted, and there was none.
+    #[error("out of memory")]
+    NoMemory,
+    /// A file does not have the form that it should have.
+    #[error("a file is damaged at {at}")]
+    Damaged {
+        /// The name of the file.
+        file: FileName,
+        /// The place of the first part that does not have it, in bytes.
+        at: u64,
+    },
+}
+
+impl From<DiskFault> for StoreRefusal {
+    ghost use Rattle.std.specs.Prelude.{◌≡◌};
+    ghost use Rattle.epoch_file.specs.declared.refusal.StoreRefusal.{StoreRefusal};
+
+    ghost from_gives = { λ _ e. e ≡ StoreRefusal.DiskFault };
+
+    fn from(_fault: DiskFault) -> StoreRefusal {
+        StoreRefusal::DiskFault
+    }
+}
+
+impl From<NoMemory> for StoreRefusal {
+    ghost use Rattle.std.specs.Prelude.{◌≡◌};
+    ghost use Rattle.epoch_file.specs.declared.refusal.StoreRefusal.{StoreRefusal};
+
+    ghost from_gives = { λ _ e. e ≡ StoreRefusal.NoMemory };
+
+    fn from(_refused: NoMemory) -> StoreRefusal {
+        StoreRefusal::NoMemory
+    }
+}

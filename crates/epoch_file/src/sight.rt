@@ -1,0 +1,128 @@
+//! How much of an entry stands at the front of bytes, by the sizes that its objects begin with.
+ghost use Rattle.std.specs.Prelude.{◌≡◌, ◌+◌, ◌<◌, ◌≤◌, ◌^◌, ◌++◌, ◌∷◌, ℕ, List, Some, length, codes, IsTrue, IfSome, MatchOption, ◌≢◌};
+ghost use Rattle.std.specs.Fmt.{decimal};
+ghost use Rattle.mail_reader.specs.StorageTexts.{max_text_len};
+ghost use Rattle.epoch_file.specs.Sights.{Sees, SeesBehind, SeesAll, IsRoomFor, commit_place, EndsCommit};
+
+use arch_base::read_decimal;
+use memchr::memchr;
+
+/// The greatest length of a text, in bytes.
+const MAX_TEXT_LEN: u64 = 8_388_800;
+
+/// The length of a tree of one file, in bytes.
+const TREE_LEN: usize = 37;
+
+/// Within so many bytes stand an object's type and size, and the byte behind them.
+const HEAD_LEN: usize = 28;
+
+/// How much of an entry stands at the front of bytes.
+#[derive(Debug, Clone, Copy, PartialEq, Eq, Drop)]
+pub(crate) enum Sight {
+    /// No entry stands there, whatever follows.
+    Lacks,
+    /// More bytes are wanted.
+    Short,
+    /// All of it, where one stands there.
+    Whole,
+}
+
+/// How much of an entry the bytes hold, where so many bytes are left of which they are the front.
+pub(crate) fn look(held: &[u8], left: u64) -> Sight
+    ensures { Sees held.now left result }
+{
+    if is_short(held, left, HEAD_LEN) {
+        return Sight::Short;
+    }
+    match commit_at(held) {
+        Some(at) => look_behind(held, left, at),
+        None => Sight::Lacks,
+    }
+}
+
+/// Whether the bytes are fewer than so many, and more are left.
+fn is_short(held: &[u8], left: u64, count: usize) -> bool
+    ensures { IsRoomFor held.now left count result }
+{
+    held.len() < count && (held.len() as u64) < left
+}
+
+/// The place of an entry's commit, by the size of its blob.
+fn commit_at(held: &[u8]) -> Option<usize>
+    ensures bound { IfSome result (λ at. at < 2 ^ 62) }
+    ensures again { (text rest : List ℕ) → length text ≤ max_text_len → held.now ≡ codes "blob " ++ (decimal (length text) ++ 0 ∷ rest) → result ≡ Some (commit_place text) }
+{
+    let (front, size) = head(b"blob ", held)?;
+    if size > MAX_TEXT_LEN {
+        return None;
+    }
+    Some(front + size as usize + TREE_LEN)
+}
+
+/// How much of an entry the bytes hold, by the place of its commit.
+fn look_behind(held: &[u8], left: u64, at: usize) -> Sight
+    requires { at < 2 ^ 62 }
+    ensures { SeesBehind at held.now left result }
+{
+    if is_short(held, left, at + HEAD_LEN) {
+        return Sight::Short;
+    }
+    match entry_len(held, at) {
+        Some(len) => look_at_all(held, left, len),
+        None => Sight::Lacks,
+    }
+}
+
+/// The length of an entry, by the place of its commit and the size of that.
+fn entry_len(held: &[u8], at: usize) -> Option<u64>
+    requires { at < 2 ^ 62 }
+    ensures { EndsCommit at held.now result }
+{
+    if held.len() < at {
+        return None;
+    }
+    let (front, size) = head(b"commit ", held.split_at(at).1)?;
+    size.checked_add((at + front) as u64)
+}
+
+/// How much of an entry the bytes hold, by its length.
+fn look_at_all(held: &[u8], left: u64, len: u64) -> Sight
+    ensures { SeesAll len held.now left result }
+{
+    if len > left {
+        return Sight::Lacks;
+    }
+    if (held.len() as u64) < len {
+        return Sight::Short;
+    }
+    Sight::Whole
+}
+
+/// The length of the type and the size that bytes begin with, and the byte behind them, and that size.
+fn head(word: &[u8], bytes: &[u8]) -> Option<(usize, u64)>
+    requires { length word.now ≤ 16 }
+    ensures bound { IfSome result (λ found. found.0 ≤ 37) }
+    ensures again { (size : ℕ) (rest : List ℕ) → size < 2 ^ 64 → bytes.now ≡ word.now ++ (decimal size ++ 0 ∷ rest)
+        → result ≡ Some (length word.now + length (decimal size) + 1, size) }
+{
+    let digits = after(word, bytes)?;
+    let (len, size) = number(digits)?;
+    Some((word.len() + len + 1, size))
+}
+
+/// The bytes behind a word that they begin with.
+pub(crate) fn after<'a>(word: &[u8], bytes: &'a [u8]) -> Option<&'a [u8]>
+    ensures { MatchOption result ((rest : List ℕ) → bytes.now ≢ word.now ++ rest) (λ rest. bytes.now ≡ word.now ++ rest.now) }
+{
+    bytes.strip_prefix(word)
+}
+
+/// How many digits stand before the first NUL, and their number.
+fn number(bytes: &[u8]) -> Option<(usize, u64)>
+    ensures bound { IfSome result (λ found. found.0 ≤ 20) }
+    ensures again { (size : ℕ) (rest : List ℕ) → size < 2 ^ 64 → bytes.now ≡ decimal size ++ 0 ∷ rest → result ≡ Some (length (decimal size), size) }
+{
+    let len = memchr(0, bytes)?;
+    let size = read_decimal(bytes.split_at(len).0)?;
+    Some((len, size))
+}

@@ -1,0 +1,17 @@
+//! How far a walk has come.
+use crate::entry::SeenList;
+use crate::window::{Part, Window};
+use arch_base::ObjectId;
+
+/// How far a walk over an epoch's file has come.
+#[derive(Debug, Drop)]
+pub(crate) struct State {
+    /// The part of the file that is left.
+    pub(crate) part: Part,
+    /// Bytes that were read of it.
+    pub(crate) window: Window,
+    /// The commit of the entry before it.
+    pub(crate) parent: Option<ObjectId>,
+    /// The entries that were found.
+    pub(crate) seen: SeenList,
+}

@@ -1,0 +1,377 @@
+//! Epochs of three entries whose bytes were made by another program: what is written, what is seen of them, and where they
+//! are damaged.
+use crate::{NewEntry, Seen, SeenList, StoreRefusal, Written, append_entry, law_of_epochs, walk};
+use arch_base::{Bytes, NoMemory, Numbers, ObjectId, id_of_hex};
+use arch_model::push_entry;
+use disk_model::{Disk, DiskFault, FileKind, FileName, FuseDisk, MemDisk, WalkRefusal};
+use git_objects::object_id;
+use std::alloc::Global;
+use std::test::Fail;
+
+const FIRST: &[u8] =
+    b"From: Ann <ann@example.org>\nDate: Thu, 1 Feb 2024 10:00:00 +0000\nSubject: first\nMessage-ID: <a@x>\n\none\n";
+
+const SECOND: &[u8] =
+    b"From: Ann <ann@example.org>\nDate: Thu, 1 Feb 2024 10:00:00 +0000\nSubject: first\nMessage-ID: <b@x>\n\none\n";
+
+/// The content id of both.
+const CONTENT: [u8; 32] =
+    *b"\xc0\xab\x89\x9a\xf6\x53\xc9\x7f\x12\xe0\x50\x42\x7b\x5e\x74\xb9\x67\x2c\x67\x4e\x02\xe1\xd9\xae\x1a\x67\x2a\xd8\x2d\xcf\x59\xb6";
+
+const FILE: FileName = FileName {
+    kind: FileKind::Epoch,
+    number: 0,
+    gen_: 1,
+};
+
+/// The length of the epoch: the first message, the second, and the first deleted.
+const LENGTH: u64 = 1028;
+
+/// An entry.
+fn entry(name: u8, text: &[u8], moment: u64, parent: Option<ObjectId>) -> NewEntry<'_> {
+    NewEntry {
+        name,
+        text,
+        moment,
+        parent,
+    }
+}
+
+/// Puts an entry into the file, where that is as long.
+fn append<D: Disk>(
+    alloc: Global,
+    disk: &mut D,
+    at: u64,
+    entry: &NewEntry<'_>,
+) -> Result<Written, StoreRefusal> {
+    let known = entry.name == b'm' || entry.name == b'd';
+    if !known || entry.moment > 253_402_300_799 || at > 1 << 40 || at > disk.length(FILE)? {
+        return Err(StoreRefusal::Damaged { file: FILE, at });
+    }
+    append_entry(alloc, disk, FILE, at, entry)
+}
+
+/// Puts the three entries into the file, and says where each ends.
+fn fill<D: Disk>(alloc: Global, disk: &mut D) -> Result<(Written, Written, Written), StoreRefusal> {
+    let first = append(alloc, disk, 0, &entry(b'm', FIRST, 1_706_781_700, None))?;
+    let second = append(
+        alloc,
+        disk,
+        first.end,
+        &entry(b'm', SECOND, 1_706_781_700, Some(first.commit)),
+    )?;
+    let third = append(
+        alloc,
+        disk,
+        second.end,
+        &entry(b'd', FIRST, 1_706_781_800, Some(second.commit)),
+    )?;
+    Ok((first, second, third))
+}
+
+/// Writes into the file.
+fn write<D: Disk>(disk: &mut D, place: u64, bytes: &[u8]) -> Result<(), DiskFault> {
+    if place > disk.length(FILE)? || place > 1 << 40 || bytes.len() > 1 << 40 {
+        return Err(DiskFault);
+    }
+    disk.write_at(FILE, place, bytes)
+}
+
+/// Cuts the file.
+fn trim<D: Disk>(disk: &mut D, length: u64) -> Result<(), DiskFault> {
+    if length > disk.length(FILE)? {
+        return Err(DiskFault);
+    }
+    disk.cut(FILE, length)
+}
+
+/// How many entries a walk finds, or why it stops.
+fn count<D: Disk>(alloc: Global, disk: &mut D, length: u64) -> Result<usize, WalkRefusal> {
+    let seen = walk(alloc, disk, FILE, length)?;
+    Ok(seen.as_slice().len())
+}
+
+/// Whether what is seen is this entry.
+fn is_entry(seen: &Seen, name: u8, at: u64, moment: u64, id: &[u8], written: &Written) -> bool {
+    let placed = seen.name == name && seen.at == at && at < 1000 && seen.text_at == at + 9;
+    let made = seen.blob == written.blob && seen.commit == written.commit;
+    placed
+        && made
+        && seen.size == 103
+        && seen.moment == moment
+        && seen.id.as_slice() == id
+        && seen.content == CONTENT
+}
+
+#[test]
+fn an_epoch_has_the_bytes_of_another_program(rt: HostRuntime) -> Result<(), Fail> {
+    law_of_epochs();
+    let alloc = rt.alloc();
+    let mut disk = MemDisk::new(alloc, Numbers::new(alloc));
+    let (first, second, third) = fill(alloc, &mut disk)?;
+    assert!(rt; first.end == 316 && second.end == 672 && third.end == LENGTH);
+    let blob = id_of_hex(b"1d023c572ccd6f3cc82ae855343346b043adaba5");
+    assert!(rt; Some(first.blob) == blob && Some(third.blob) == blob);
+    assert!(rt; Some(second.blob) == id_of_hex(b"71bad95e975640281da17cb561681235ca4c1f42"));
+    assert!(rt; Some(first.commit) == id_of_hex(b"d621b450ae1fbf27a31c9879d84eb9de5473a8b9"));
+    assert!(rt; Some(second.commit) == id_of_hex(b"8465c6e7dc37ed0249ed8b1434a73ffd13973fad"));
+    assert!(rt; Some(third.commit) == id_of_hex(b"0226d8ce5d3c8b5696c8160864001653bc08f512"));
+    let mut bytes = [0; 1029];
+    assert!(rt; disk.read(FILE, 0, &mut bytes)? == 1028);
+    let all = object_id(bytes.split_at(1028).0);
+    assert!(rt; Some(all) == id_of_hex(b"f2f5ceb1c17aa3c6cc89683f80cf518e10584467"));
+    Ok(())
+}
+
+#[test]
+fn a_walk_sees_each_entry(rt: HostRuntime) -> Result<(), Fail> {
+    let alloc = rt.alloc();
+    let mut disk = MemDisk::new(alloc, Numbers::new(alloc));
+    let (first, second, third) = fill(alloc, &mut disk)?;
+    let found = walk(alloc, &mut disk, FILE, LENGTH)?;
+    let seen = found.as_slice();
+    assert!(rt; seen.len() == 3);
+    assert!(rt; is_entry(&seen[0], b'm', 8, 1_706_781_700, b"<a@x>", &first));
+    assert!(rt; is_entry(&seen[1], b'm', 316, 1_706_781_700, b"<b@x>", &second));
+    assert!(rt; is_entry(&seen[2], b'd', 672, 1_706_781_800, b"<a@x>", &third));
+    Ok(())
+}
+
+/// Where a walk of the epoch ends where the byte at this place is another one, or that it sees three entries still. A
+/// digit of a commit's moment makes another commit, which the next one doesn't name.
+fn broken(place: u64) -> Result<usize, WalkRefusal> {
+    match place {
+        1005..1014 => Ok(3),
+        0..8 => Err(WalkRefusal::Damaged { at: 0 }),
+        293..302 | 316..649 | 658..672 => Err(WalkRefusal::Damaged { at: 316 }),
+        8..316 => Err(WalkRefusal::Damaged { at: 8 }),
+        _ => Err(WalkRefusal::Damaged { at: 672 }),
+    }
+}
+
+#[test]
+fn each_byte_that_is_another_one_is_damage_at_its_entry(rt: HostRuntime) -> Result<(), Fail> {
+    let alloc = rt.alloc();
+    let mut disk = MemDisk::new(alloc, Numbers::new(alloc));
+    fill(alloc, &mut disk)?;
+    for place in 0..LENGTH {
+        let mut byte = [0];
+        assert!(rt; disk.read(FILE, place, &mut byte)? == 1);
+        write(&mut disk, place, &[byte[0] ^ 1])?;
+        assert_eq!(rt;
+            count(alloc, &mut disk, LENGTH),
+            broken(place),
+            "place {place}"
+        );
+        write(&mut disk, place, &byte)?;
+    }
+    assert_eq!(rt; count(alloc, &mut disk, LENGTH), Ok(3));
+    Ok(())
+}
+
+/// What a walk over so many bytes of the epoch finds.
+fn found_in(length: u64) -> Result<usize, WalkRefusal> {
+    match length {
+        0..8 => Err(WalkRefusal::Damaged { at: 0 }),
+        8..316 => Err(WalkRefusal::Damaged { at: 8 }),
+        316 => Ok(1),
+        317..672 => Err(WalkRefusal::Damaged { at: 316 }),
+        672 => Ok(2),
+        LENGTH => Ok(3),
+        _ => Err(WalkRefusal::Damaged { at: 672 }),
+    }
+}
+
+#[test]
+fn only_the_named_bytes_count(rt: HostRuntime) -> Result<(), Fail> {
+    let alloc = rt.alloc();
+    let mut disk = MemDisk::new(alloc, Numbers::new(alloc));
+    fill(alloc, &mut disk)?;
+    write(&mut disk, LENGTH, b"more")?;
+    for length in 0..1033 {
+        // Behind the epoch stands no entry.
+        let want = if length > LENGTH {
+            Err(WalkRefusal::Damaged { at: LENGTH })
+        } else {
+            found_in(length)
+        };
+        assert_eq!(rt; count(alloc, &mut disk, length), want, "length {length}");
+    }
+    Ok(())
+}
+
+/// Where a walk over the epoch ends where its file has only so many bytes.
+fn cut_at(length: u64) -> u64 {
+    match length {
+        0..8 => 0,
+        8..316 => 8,
+        316..672 => 316,
+        _ => 672,
+    }
+}
+
+#[test]
+fn a_file_that_ends_early_is_damaged_where_it_ends(rt: HostRuntime) -> Result<(), Fail> {
+    let alloc = rt.alloc();
+    let mut disk = MemDisk::new(alloc, Numbers::new(alloc));
+    fill(alloc, &mut disk)?;
+    for gone in 1..1029 {
+        let length = LENGTH - gone;
+        trim(&mut disk, length)?;
+        let want = Err(WalkRefusal::Damaged { at: cut_at(length) });
+        assert_eq!(rt; count(alloc, &mut disk, LENGTH), want, "length {length}");
+    }
+    disk.remove(FILE)?;
+    assert_eq!(rt;
+        count(alloc, &mut disk, LENGTH),
+        Err(WalkRefusal::Damaged { at: 0 })
+    );
+    Ok(())
+}
+
+#[test]
+fn a_call_that_fails_is_no_answer(rt: HostRuntime) -> Result<(), Fail> {
+    let alloc = rt.alloc();
+    for passes in 0..4 {
+        let mut disk = MemDisk::new(alloc, Numbers::new(alloc));
+        fill(alloc, &mut disk)?;
+        let mut fuse = FuseDisk::new(disk, passes);
+        // A look at the length, and a read.
+        let want = if passes < 2 {
+            Err(WalkRefusal::DiskFault)
+        } else {
+            Ok(3)
+        };
+        assert_eq!(rt; count(alloc, &mut fuse, LENGTH), want);
+    }
+    for passes in 0..3 {
+        let disk = MemDisk::new(alloc, Numbers::new(alloc));
+        let mut fuse = FuseDisk::new(disk, passes);
+        // A look at the length, and a write.
+        let new = entry(b'm', FIRST, 1_706_781_700, None);
+        match append(alloc, &mut fuse, 0, &new) {
+            Ok(written) => assert!(rt; passes == 2 && written.end == 316),
+            Err(refusal) => assert!(rt; passes < 2 && refusal == StoreRefusal::DiskFault),
+        }
+    }
+    Ok(())
+}
+
+/// The bytes of an epoch of one entry.
+fn epoch_of(alloc: Global, text: &[u8], moment: u64) -> Result<Bytes, NoMemory> {
+    let mut bytes = Bytes::new(alloc);
+    bytes.push_slice(b"PIV2EP1\n")?;
+    push_entry(alloc, b'm', text, moment, None, &mut bytes)?;
+    Ok(bytes)
+}
+
+/// How many entries a walk finds in a file of these bytes.
+fn count_in(alloc: Global, bytes: &[u8]) -> Result<usize, WalkRefusal> {
+    let mut disk = MemDisk::new(alloc, Numbers::new(alloc));
+    write(&mut disk, 0, bytes)?;
+    count(alloc, &mut disk, bytes.len() as u64)
+}
+
+#[test]
+fn what_no_archive_keeps_is_damage(rt: HostRuntime) -> Result<(), Fail> {
+    let alloc = rt.alloc();
+    let late = 253_402_300_799;
+    assert_eq!(rt;
+        count_in(alloc, epoch_of(alloc, FIRST, late)?.as_slice()),
+        Ok(1)
+    );
+    let damaged = Err(WalkRefusal::Damaged { at: 8 });
+    assert_eq!(rt;
+        count_in(alloc, epoch_of(alloc, FIRST, late + 1)?.as_slice()),
+        damaged
+    );
+    // A text without an id, and one that isn't as it is kept.
+    let damaged = Err(WalkRefusal::Damaged { at: 8 });
+    assert_eq!(rt;
+        count_in(alloc, epoch_of(alloc, b"Subject: s\n\n", 5)?.as_slice()),
+        damaged
+    );
+    let damaged = Err(WalkRefusal::Damaged { at: 8 });
+    assert_eq!(rt;
+        count_in(
+            alloc,
+            epoch_of(alloc, b"Message-ID: <a@x>\r\n\r\n", 5)?.as_slice()
+        ),
+        damaged
+    );
+    assert_eq!(rt;
+        count_in(
+            alloc,
+            epoch_of(alloc, b"Message-ID: <a@x>\n\n", 5)?.as_slice()
+        ),
+        Ok(1)
+    );
+    Ok(())
+}
+
+#[test]
+fn a_commit_behind_another_one_is_damage(rt: HostRuntime) -> Result<(), Fail> {
+    let alloc = rt.alloc();
+    let mut disk = MemDisk::new(alloc, Numbers::new(alloc));
+    let first = append(
+        alloc,
+        &mut disk,
+        0,
+        &entry(b'm', FIRST, 1_706_781_700, None),
+    )?;
+    for parent in [None, Some(first.blob)] {
+        let wrong = append(alloc, &mut disk, 316, &entry(b'm', SECOND, 5, parent))?;
+        let want = Err(WalkRefusal::Damaged { at: 316 });
+        assert_eq!(rt; count(alloc, &mut disk, wrong.end), want);
+        trim(&mut disk, 316)?;
+    }
+    let right = append(
+        alloc,
+        &mut disk,
+        316,
+        &entry(b'm', SECOND, 5, Some(first.commit)),
+    )?;
+    assert_eq!(rt; count(alloc, &mut disk, right.end), Ok(2));
+    Ok(())
+}
+
+/// A text that is longer than what is read at once.
+fn long_text(alloc: Global) -> Result<Bytes, NoMemory> {
+    let mut text = Bytes::new(alloc);
+    text.push_slice(b"Message-ID: <l@x>\n\n")?;
+    for _line in 0..3000 {
+        text.push_slice(&[b'x'; 999])?;
+        text.push(b'\n')?;
+    }
+    Ok(text)
+}
+
+#[test]
+fn an_entry_may_be_longer_than_what_is_read_at_once(rt: HostRuntime) -> Result<(), Fail> {
+    let alloc = rt.alloc();
+    let text = long_text(alloc)?;
+    let mut disk = MemDisk::new(alloc, Numbers::new(alloc));
+    let long = append(alloc, &mut disk, 0, &entry(b'm', text.as_slice(), 5, None))?;
+    let last = append(
+        alloc,
+        &mut disk,
+        long.end,
+        &entry(b'm', FIRST, 5, Some(long.commit)),
+    )?;
+    let found = walk(alloc, &mut disk, FILE, last.end)?;
+    let seen = found.as_slice();
+    assert!(rt; seen.len() == 2 && seen[0].size == 3_000_019 && seen[1].at == long.end);
+    assert!(rt; seen[1].commit == last.commit && seen[1].id.as_slice() == b"<a@x>".as_slice());
+    // A size that a text can't have, and one that runs past the end.
+    write(&mut disk, 8, b"blob 9000000\0")?;
+    assert_eq!(rt;
+        count(alloc, &mut disk, last.end),
+        Err(WalkRefusal::Damaged { at: 8 })
+    );
+    write(&mut disk, 8, b"blob 3900019\0")?;
+    assert_eq!(rt;
+        count(alloc, &mut disk, last.end),
+        Err(WalkRefusal::Damaged { at: 8 })
+    );
+    Ok(())
+}

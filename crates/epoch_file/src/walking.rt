@@ -1,0 +1,231 @@
+//! An epoch's file read through.
+ghost use Rattle.std.specs.Prelude.{◌≡◌, ◌+◌, ◌<◌, ◌≤◌, ◌^◌, ℕ, List, length, min, Err, IfOk};
+ghost use Rattle.arch_base.specs.Counts.{Rose};
+ghost use Rattle.disk_model.specs.Disk.{Image, Told, WhereTold, Unchanged, LeavesOnly, bytes_of};
+ghost use Rattle.epoch_file.specs.Walking.{Walks};
+ghost use Rattle.epoch_file.specs.Runs.{OnlyReads, FaultRose, StopRose};
+ghost use Rattle.epoch_file.specs.Windows.{IsInside};
+ghost use Rattle.epoch_file.specs.Steps.{Brings, Begins, BeginsAt, BeginsIn, BeginsWith, HasMagic, GoesOn, Moves, SamePart, Takes, Turns, IsWanted};
+
+use crate::appending::MAGIC;
+use crate::entry::SeenList;
+use crate::reading::read_entry;
+use crate::sight::{Sight, after, look};
+use crate::state::State;
+use crate::window::{Part, Window, piece_room, read_on};
+use arch_base::NoMemory;
+use disk_model::{Disk, FileName, WalkRefusal};
+use std::alloc::Global;
+
+/// The entries of an epoch's file, of which so many bytes count: each has been read, and found to be just what its blob's
+/// text, its name, its moment and the commit before it make of it.
+///
+/// Damaged comes exactly where the first `length` bytes are no epoch of at least one entry, with the place of the first part
+/// that isn't there: 0 where the magic isn't, and else that of the first entry. What stands behind them doesn't count.
+/// DiskFault comes only where a call of the disk failed, and NoMemory only for want of memory.
+pub fn walk<D: Disk>(
+    alloc: Global,
+    disk: &mut D,
+    file: FileName,
+    length: u64,
+) -> Result<SeenList, WalkRefusal>
+    ensures walked { WhereTold (λ k. Walks length (bytes_of (k file).seen) result) (D.content disk.old) }
+    ensures same { Told Unchanged (D.content disk.old) (D.content disk.new) }
+    ensures any_moment { LeavesOnly D.moment D.left_since disk.old disk.new (Image (D.content disk.old)) }
+    ensures later { D.faults disk.old ≤ D.faults disk.new }
+    ensures fault { result ≡ Err WalkRefusal.DiskFault → Rose (D.faults disk.old) (D.faults disk.new) }
+{
+    let mut piece = piece_room(alloc, length)?;
+    match begin(alloc, disk, file, length, &mut piece) {
+        Ok(Some(state)) => go_on(alloc, disk, length, state, &mut piece),
+        Ok(None) => Err(WalkRefusal::Damaged { at: 0 }),
+        Err(refusal) => Err(refusal),
+    }
+}
+
+/// Where a walk begins: behind the magic. None where the first `count` bytes don't begin with it.
+fn begin<D: Disk>(
+    alloc: Global,
+    disk: &mut D,
+    file: FileName,
+    count: u64,
+    piece: &mut [u8],
+) -> Result<Option<State>, WalkRefusal>
+    requires room { 8 ≤ length piece.old }
+    ensures begins { WhereTold (λ k. Begins count (bytes_of (k file).seen) result) (D.content disk.old) }
+    ensures inside { BeginsIn file count result }
+    ensures reads { OnlyReads D.content D.moment D.left_since D.faults disk.old disk.new }
+    ensures fault { StopRose (D.faults disk.old) (D.faults disk.new) result }
+{
+    let size = disk.length(file)?;
+    let end = size.min(count);
+    if end < 8 {
+        return Ok(None);
+    }
+    let part = Part {
+        file,
+        place: 0,
+        end,
+    };
+    begin_in(alloc, disk, &part, piece)
+}
+
+/// Where a walk over a part from a file's front on begins.
+fn begin_in<D: Disk>(
+    alloc: Global,
+    disk: &mut D,
+    part: &Part,
+    piece: &mut [u8],
+) -> Result<Option<State>, WalkRefusal>
+    requires room { 8 ≤ length piece.old }
+    requires front { part.now.place ≡ 0 }
+    requires some { 8 ≤ part.now.end }
+    ensures begins { WhereTold (λ k. BeginsAt part.now.end (bytes_of (k part.now.file).seen) result) (D.content disk.old) }
+    ensures inside { BeginsIn part.now.file part.now.end result }
+    ensures reads { OnlyReads D.content D.moment D.left_since D.faults disk.old disk.new }
+    ensures fault { StopRose (D.faults disk.old) (D.faults disk.new) result }
+{
+    let mut window = Window::new(alloc);
+    read_on(alloc, disk, part, &mut window, piece)?;
+    Ok(begin_with(alloc, part, window))
+}
+
+/// Where a walk begins with what was read from a file's front on. None where that doesn't begin with the magic.
+fn begin_with(alloc: Global, part: &Part, window: Window) -> Option<State>
+    ensures { BeginsWith part.now window result }
+{
+    let mut window = window;
+    if !has_magic(&window) {
+        return None;
+    }
+    window.skip(8);
+    Some(State {
+        part: Part {
+            file: part.file,
+            place: 8,
+            end: part.end,
+        },
+        window,
+        parent: None,
+        seen: SeenList::new(alloc),
+    })
+}
+
+/// Whether the magic stands at the front of a window.
+fn has_magic(window: &Window) -> bool
+    ensures { HasMagic window.now result }
+{
+    after(&MAGIC, window.as_slice()).is_some()
+}
+
+/// Walks up to the place that so many bytes have.
+fn go_on<D: Disk>(
+    alloc: Global,
+    disk: &mut D,
+    count: u64,
+    start: State,
+    piece: &mut [u8],
+) -> Result<SeenList, WalkRefusal>
+    requires room { 8 ≤ length piece.old }
+    requires inside { IsInside start.part start.window }
+    requires end { start.part.end ≤ count }
+    ensures walked { WhereTold (λ k. GoesOn count (bytes_of (k start.part.file).seen) start result) (D.content disk.old) }
+    ensures reads { OnlyReads D.content D.moment D.left_since D.faults disk.old disk.new }
+    ensures fault { FaultRose (D.faults disk.old) (D.faults disk.new) result }
+{
+    let mut state = start;
+    while is_wanted(&state, count) {
+        match turn(alloc, disk, &mut state, piece) {
+            Ok(true) => {}
+            Ok(false) => {
+                return Err(WalkRefusal::Damaged {
+                    at: state.part.place,
+                });
+            }
+            Err(refusal) => return Err(refusal),
+        }
+    }
+    Ok(state.seen)
+}
+
+/// Whether an entry is wanted at a walk's place: there is none yet, or more bytes count.
+fn is_wanted(state: &State, count: u64) -> bool
+    ensures { IsWanted state.now count result }
+{
+    state.part.place != count || state.seen.as_slice().is_empty()
+}
+
+/// Takes the entry at the walk's place. False where none stands there.
+fn turn<D: Disk>(
+    alloc: Global,
+    disk: &mut D,
+    state: &mut State,
+    piece: &mut [u8],
+) -> Result<bool, WalkRefusal>
+    requires room { 8 ≤ length piece.old }
+    requires inside { IsInside state.old.part state.old.window }
+    ensures turns { WhereTold (Turns state.old state.new result) (D.content disk.old) }
+    ensures moves { Moves state.old state.new result }
+    ensures part { SamePart state.old.part state.new.part }
+    ensures reads { OnlyReads D.content D.moment D.left_since D.faults disk.old disk.new }
+    ensures fault { StopRose (D.faults disk.old) (D.faults disk.new) result }
+{
+    let part = state.part;
+    if !bring(alloc, disk, &part, &mut state.window, piece)? {
+        return Ok(false);
+    }
+    Ok(take_one(alloc, state)?)
+}
+
+/// Takes the entry at the front of the window. False where none stands there.
+fn take_one(alloc: Global, state: &mut State) -> Result<bool, NoMemory>
+    requires inside { IsInside state.old.part state.old.window }
+    ensures takes { Takes state.old state.new result }
+    ensures part { SamePart state.old.part state.new.part }
+{
+    let _end = state.part.end; // its range bounds the places
+    let found = read_entry(
+        alloc,
+        state.part.place,
+        state.window.as_slice(),
+        state.parent,
+    )?;
+    match found {
+        Some((seen, size)) => {
+            state.window.skip(size);
+            state.part.place += size as u64;
+            state.parent = Some(seen.commit);
+            state.seen.push(seen)?;
+            Ok(true)
+        }
+        None => Ok(false),
+    }
+}
+
+/// Brings all of the entry at a part's place into its window. False where none stands there.
+fn bring<D: Disk>(
+    alloc: Global,
+    disk: &mut D,
+    part: &Part,
+    window: &mut Window,
+    piece: &mut [u8],
+) -> Result<bool, WalkRefusal>
+    requires room { 8 ≤ length piece.old }
+    requires inside { IsInside part.now window.old }
+    ensures brings { WhereTold (Brings part.now window.old window.new result) (D.content disk.old) }
+    ensures inside { IsInside part.now window.new }
+    ensures reads { OnlyReads D.content D.moment D.left_since D.faults disk.old disk.new }
+    ensures fault { StopRose (D.faults disk.old) (D.faults disk.new) result }
+{
+    loop {
+        match look(window.as_slice(), part.end - part.place) {
+            Sight::Lacks => return Ok(false),
+            Sight::Whole => return Ok(true),
+            Sight::Short => {
+                if !read_on(alloc, disk, part, window, piece)? {
+                    return Ok(false);
+                }
+            }
+        }
+    }
+}

@@ -1,0 +1,145 @@
+//! A window over a part of a file: bytes that were read and are still looked at.
+ghost use Rattle.std.specs.Prelude.{◌≡◌, ◌+◌, ◌-◌, ◌<◌, ◌≤◌, ◌++◌, ℕ, List, [], length, drop, vec_len, IfOk, OnOk, OnErr, Err};
+ghost use Rattle.disk_model.specs.Disk.{WhereTold};
+ghost use Rattle.epoch_file.specs.Windows.{Comes, Grows, IsInside};
+ghost use Rattle.epoch_file.specs.Runs.{OnlyReads, StopRose};
+
+use arch_base::{Bytes, NoMemory};
+use disk_model::{Disk, FileName, WalkRefusal};
+use std::alloc::Global;
+use std::marker::Model;
+
+/// So many bytes are read at once at most.
+const PIECE: u64 = 1 << 20;
+
+/// Room for the bytes that are read at once of so many.
+pub(crate) fn piece_room(alloc: Global, length: u64) -> Result<Vec<u8>, NoMemory>
+    ensures { IfOk result (λ room. 8 ≤ vec_len room) }
+{
+    let count = length.max(8).min(PIECE) as usize;
+    Ok(vec![in alloc; 0; count]?)
+}
+
+/// A part of a file, from a place up to an end.
+#[derive(Debug, Clone, Copy)]
+pub(crate) struct Part {
+    /// The name of the file.
+    pub(crate) file: FileName,
+    /// The place at which the window stands.
+    pub(crate) place: u64,
+    /// The end of what counts of the file.
+    pub(crate) end: u64,
+}
+
+/// Bytes of a file from a place on. A contract sees them as a list.
+#[derive(Debug, Drop)]
+pub(crate) struct Window {
+    held: Bytes,
+    start: usize,
+}
+
+impl Model for Window {
+    ghost use Rattle.std.specs.Prelude.{List, ℕ, ◌≤◌, length, drop};
+
+    ghost Value = { List ℕ };
+
+    ghost view = { λ w. drop w.start w.held };
+
+    ghost invariant = { λ w. w.start ≤ length w.held };
+}
+
+impl Window {
+    /// No bytes yet.
+    pub(crate) fn new(alloc: Global) -> Window
+        ensures { result ≡ [] }
+    {
+        Window {
+            held: Bytes::new(alloc),
+            start: 0,
+        }
+    }
+
+    /// The bytes.
+    pub(crate) fn as_slice(&self) -> &[u8]
+        ensures { result.now ≡ self.now }
+    {
+        self.held.as_slice().split_at(self.start).1
+    }
+
+    /// Leaves the first bytes behind.
+    pub(crate) fn skip(&mut self, count: usize)
+        requires { count ≤ length self.old }
+        ensures { self.new ≡ drop count self.old }
+    {
+        let _len = self.held.as_slice().len(); // its range bounds the sum
+        self.start += count;
+    }
+
+    /// Gives back the room of bytes that were left behind.
+    fn settle(&mut self, alloc: Global) -> Result<(), NoMemory>
+        ensures { self.new ≡ self.old }
+    {
+        if self.start > 0 {
+            let mut held = Bytes::new(alloc);
+            held.push_slice(self.as_slice())?;
+            self.held = held;
+            self.start = 0;
+        }
+        Ok(())
+    }
+
+    /// Takes bytes that follow.
+    fn push(&mut self, alloc: Global, bytes: &[u8]) -> Result<(), NoMemory>
+        ensures ok { OnOk result (self.new ≡ self.old ++ bytes.now) }
+        ensures err { OnErr result (self.new ≡ self.old) }
+    {
+        self.settle(alloc)?;
+        self.held.push_slice(bytes)
+    }
+}
+
+/// Reads on: takes more bytes of a part into its window. False where none came, though more are wanted.
+pub(crate) fn read_on<D: Disk>(
+    alloc: Global,
+    disk: &mut D,
+    part: &Part,
+    window: &mut Window,
+    piece: &mut [u8],
+) -> Result<bool, WalkRefusal>
+    requires room { 0 < length piece.old }
+    requires wanted { part.now.place + length window.old < part.now.end }
+    ensures came { WhereTold (Comes part.now (length piece.old) window.old window.new result) (D.content disk.old) }
+    ensures grows { Grows window.old window.new result }
+    ensures inside { IsInside part.now window.new }
+    ensures reads { OnlyReads D.content D.moment D.left_since D.faults disk.old disk.new }
+    ensures fault { StopRose (D.faults disk.old) (D.faults disk.new) result }
+{
+    let left = part.end - part.place - window.as_slice().len() as u64;
+    let wanted = left.min(piece.len() as u64) as usize;
+    read_into(alloc, disk, part, window, &mut piece[..wanted])
+}
+
+/// The same, with room for no more than is left.
+fn read_into<D: Disk>(
+    alloc: Global,
+    disk: &mut D,
+    part: &Part,
+    window: &mut Window,
+    room: &mut [u8],
+) -> Result<bool, WalkRefusal>
+    requires some { 0 < length room.old }
+    requires fits { part.now.place + length window.old + length room.old ≤ part.now.end }
+    ensures came { WhereTold (Comes part.now (length room.old) window.old window.new result) (D.content disk.old) }
+    ensures grows { Grows window.old window.new result }
+    ensures inside { IsInside part.now window.new }
+    ensures reads { OnlyReads D.content D.moment D.left_since D.faults disk.old disk.new }
+    ensures fault { StopRose (D.faults disk.old) (D.faults disk.new) result }
+{
+    let place = part.place + window.as_slice().len() as u64;
+    let count = disk.read(part.file, place, room)?;
+    if count == 0 {
+        return Ok(false);
+    }
+    window.push(alloc, room.split_at(count).0)?;
+    Ok(true)
+}
