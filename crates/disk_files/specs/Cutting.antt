@@ -32,9 +32,10 @@ pub record IsShortest (parts : List FilePart) (part : FilePart) : Type 0 where
   pub listed : Contains parts part
   pub least : (other : FilePart) → Contains parts other → other.file ≡ part.file → part.length ≤ other.length
 
--- While files are cut, the parts stay. A cut that a crash undoes leaves a length anywhere between the part's and the
--- greatest before; so what stays is the front: that of a file which a crash might have left before the first cut. Where
--- each such file has the same front, as of a file that is named with its length, this one has it too.
+-- While files are cut, the parts stay. A crash may undo a cut in part: it may leave each length from the lesser of the
+-- part's and the least before up to the greatest before, so no length is promised. What stays is the front: that of a file
+-- which a crash might have left before the first cut. Where each such file has the same front, as a file whose length a
+-- root names, this one has it too.
 pub record KeepsFronts (parts : List FilePart) (k : Content) (image : Files) : Type 0 where
   -- the part is that of a file from before
   pub fronts : (part : FilePart) → IsShortest parts part → FrontOrigin part.length (k part.file).sure (image part.file)
