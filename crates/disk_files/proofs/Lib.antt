@@ -1,0 +1,3 @@
+mod NameLists
+mod Removals
+mod Cuts

@@ -1,0 +1,14 @@
+-- The files so far are gone.
+use Rattle.std.specs.Prelude.{◌≡◌, ◌≤◌}
+use Rattle.disk_model.specs.Disk.{LeavesOnly, Told}
+use Rattle.disk_files.specs.Removing.{Fewer}
+use Rattle.disk_files.proofs.Removals.{GoneUpTo}
+use Rattle.disk_files.proofs.removing.remove_files.Given as goal
+
+abbrev pub invariant-loop-name : goal.invariant-loop-name
+invariant-loop-name g l = record {
+  told : Told (GoneUpTo l.names l.name-index) (g.D.Disk.content l.fn.disk) (g.D.Disk.content l.disk);
+  moments : LeavesOnly g.D.Disk.moment g.D.Disk.left_since l.fn.disk l.disk (Fewer l.names (g.D.Disk.content l.fn.disk));
+  later : g.D.Disk.faults l.fn.disk ≤ g.D.Disk.faults l.disk;
+  reads : g.D.Disk.reads l.disk ≡ g.D.Disk.reads l.fn.disk;
+}

@@ -1,0 +1,35 @@
+//! The names of all files.
+ghost use Rattle.std.specs.Prelude.{◌≡◌, ◌≢◌, ◌≤◌, ℕ, Err, IfOk};
+ghost use Rattle.arch_base.specs.Counts.{Rose};
+ghost use Rattle.disk_model.specs.Disk.{Image, LeavesOnly, Told, Unchanged, WhereTold};
+ghost use Rattle.disk_model.specs.declared.refusal.WalkRefusal.{WalkRefusal};
+ghost use Rattle.disk_files.specs.Listing.{AreAllNames};
+
+use arch_base::Sequence;
+use disk_model::{Disk, FileName, WalkRefusal};
+use std::alloc::Global;
+
+/// Names of files.
+pub type FileNames = Sequence<FileName>;
+
+/// The names of all files that are there, in order. Nothing changes. No file is read, so none is damaged.
+///
+/// Memory is wanting too where there are 2^64 - 1 names.
+pub fn file_names<D: Disk>(alloc: Global, disk: &mut D) -> Result<FileNames, WalkRefusal>
+    ensures names { IfOk result (λ names. WhereTold (AreAllNames names) (D.content disk.old)) }
+    ensures same { Told Unchanged (D.content disk.old) (D.content disk.new) }
+    ensures any_moment { LeavesOnly D.moment D.left_since disk.old disk.new (Image (D.content disk.old)) }
+    ensures later { D.faults disk.old ≤ D.faults disk.new }
+    ensures fault { result ≡ Err WalkRefusal.DiskFault → Rose (D.faults disk.old) (D.faults disk.new) }
+    ensures never_damaged { (place : ℕ) → result ≢ Err (WalkRefusal.Damaged place) }
+    ensures count { D.reads disk.new ≡ D.reads disk.old }
+{
+    let mut names = FileNames::new(alloc);
+    for index in 0..u64::MAX {
+        match disk.name_at(index)? {
+            Some(name) => names.push(name)?,
+            None => return Ok(names),
+        }
+    }
+    Err(WalkRefusal::NoMemory)
+}
