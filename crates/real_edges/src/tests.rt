@@ -36,7 +36,7 @@ fn names_of<D: Disk>(disk: &mut D, into: &mut [Option<FileName>]) -> Result<(), 
 
 #[test]
 fn a_folder_keeps_files(rt: HostRuntime) -> Result<(), Fail> {
-    let mut disk = FolderDisk::open(&rt, rt.alloc(), "store")?;
+    let mut disk = FolderDisk::open(&rt, rt.alloc(), "kept")?;
     let mut into = *b"........";
     assert_eq!(rt; disk.length(ROOT), Ok(0));
     assert_eq!(rt; read_of(&mut disk, ROOT, 0, &mut into), Some(0));
@@ -45,7 +45,7 @@ fn a_folder_keeps_files(rt: HostRuntime) -> Result<(), Fail> {
     assert_eq!(rt; disk.cut(ROOT, 0), Ok(()));
     assert_eq!(rt; disk.remove(ROOT), Ok(()));
     // Nothing so far needed the folder.
-    assert!(rt; !fs::exists(&rt, "store")?);
+    assert!(rt; !fs::exists(&rt, "kept")?);
     assert_eq!(rt; disk.write_at(ROOT, 0, b"abcdef"), Ok(()));
     assert_eq!(rt; disk.write_at(ROOT, 4, b"EFG"), Ok(()));
     assert_eq!(rt; disk.length(ROOT), Ok(7));
@@ -60,21 +60,22 @@ fn a_folder_keeps_files(rt: HostRuntime) -> Result<(), Fail> {
     assert_eq!(rt; disk.name_at(1), Ok(Some(epoch(3, 9))));
     assert_eq!(rt; disk.sync(), Ok(()));
     drop(disk);
-    assert!(rt; fs::read(&rt, "store/root")?.as_slice() == b"abcdE".as_slice());
-    let mut again = FolderDisk::open(&rt, rt.alloc(), "store")?;
+    assert!(rt; fs::read(&rt, "kept/root")?.as_slice() == b"abcdE".as_slice());
+    let mut again = FolderDisk::open(&rt, rt.alloc(), "kept")?;
     assert_eq!(rt; read_of(&mut again, ROOT, 0, &mut into), Some(5));
     assert_eq!(rt; into, *b"abcdEG..");
     assert_eq!(rt; again.remove(ROOT), Ok(()));
     assert_eq!(rt; again.length(ROOT), Ok(0));
     assert_eq!(rt; again.name_at(1), Ok(None));
     assert_eq!(rt; again.sync(), Ok(()));
-    assert!(rt; !fs::exists(&rt, "store/root")?);
+    assert!(rt; !fs::exists(&rt, "kept/root")?);
+    fs::remove_dir_all(&rt, "kept")?;
     Ok(())
 }
 
 #[test]
 fn a_long_file_is_read_whole(rt: HostRuntime) -> Result<(), Fail> {
-    let mut disk = FolderDisk::open(&rt, rt.alloc(), "store")?;
+    let mut disk = FolderDisk::open(&rt, rt.alloc(), "long")?;
     let piece = vec![in rt.alloc(); b'x'; 1_000_000]?;
     for place in 0..3 {
         assert_eq!(rt;
@@ -90,12 +91,13 @@ fn a_long_file_is_read_whole(rt: HostRuntime) -> Result<(), Fail> {
     );
     assert!(rt; into.iter().filter(|byte| **byte == b'x').count() == 3_000_000);
     assert!(rt; into.iter().filter(|byte| **byte == b'.').count() == 999_997);
+    fs::remove_dir_all(&rt, "long")?;
     Ok(())
 }
 
 #[test]
 fn names_come_in_order(rt: HostRuntime) -> Result<(), Fail> {
-    fs::create_dir(&rt, "store")?;
+    fs::create_dir(&rt, "names")?;
     for text in [
         "cache.7",
         "epoch-10.2",
@@ -128,10 +130,10 @@ fn names_come_in_order(rt: HostRuntime) -> Result<(), Fail> {
         "note.txt",
         ".root",
     ] {
-        let path = format!(in rt.alloc(); "store/{text}")?;
+        let path = format!(in rt.alloc(); "names/{text}")?;
         fs::write(&rt, path.as_str(), b"".as_slice())?;
     }
-    let mut disk = FolderDisk::open(&rt, rt.alloc(), "store")?;
+    let mut disk = FolderDisk::open(&rt, rt.alloc(), "names")?;
     let mut found = [None; 12];
     assert_eq!(rt; names_of(&mut disk, &mut found), Ok(()));
     for (place, (kind, number, gen_)) in [
@@ -154,19 +156,20 @@ fn names_come_in_order(rt: HostRuntime) -> Result<(), Fail> {
             found[place] == Some(FileName { kind, number, gen_ }),
             "at {place}"
         );
-        let path = path_in(rt.alloc(), "store", FileName { kind, number, gen_ })?;
+        let path = path_in(rt.alloc(), "names", FileName { kind, number, gen_ })?;
         assert!(rt;
-            path.strip_prefix("store/").and_then(name_of) == found[place],
+            path.strip_prefix("names/").and_then(name_of) == found[place],
             "at {place}"
         );
     }
     assert!(rt; found[11].is_none());
+    fs::remove_dir_all(&rt, "names")?;
     Ok(())
 }
 
 #[test]
 fn more_files_than_are_kept_open(rt: HostRuntime) -> Result<(), Fail> {
-    let mut disk = FolderDisk::open(&rt, rt.alloc(), "store")?;
+    let mut disk = FolderDisk::open(&rt, rt.alloc(), "many")?;
     for number in 0..90 {
         assert_eq!(rt;
             disk.write_at(epoch(number, 1), 0, &[b'a' + (number % 26) as u8]),
@@ -179,35 +182,38 @@ fn more_files_than_are_kept_open(rt: HostRuntime) -> Result<(), Fail> {
         assert_eq!(rt; into, [b'a' + (number % 26) as u8]);
     }
     assert_eq!(rt; disk.sync(), Ok(()));
+    fs::remove_dir_all(&rt, "many")?;
     Ok(())
 }
 
 #[test]
 fn what_the_system_refuses_is_a_fault(rt: HostRuntime) -> Result<(), Fail> {
     // A file stands where the folder is to be, and the folder above another one is missing.
-    fs::write(&rt, "store", b"".as_slice())?;
-    for path in ["store", "missing/store"] {
+    fs::write(&rt, "refused", b"".as_slice())?;
+    for path in ["refused", "missing/refused"] {
         let mut disk = FolderDisk::open(&rt, rt.alloc(), path)?;
         assert_eq!(rt; disk.write_at(ROOT, 0, b"a"), Err(DiskFault), "{path}");
     }
-    let mut disk = FolderDisk::open(&rt, rt.alloc(), "store")?;
+    let mut disk = FolderDisk::open(&rt, rt.alloc(), "refused")?;
     assert_eq!(rt; disk.read(ROOT, 0, &mut [0]), Err(DiskFault));
     assert_eq!(rt; disk.length(ROOT), Err(DiskFault));
     assert_eq!(rt; disk.cut(ROOT, 0), Err(DiskFault));
     assert_eq!(rt; disk.remove(ROOT), Err(DiskFault));
     assert_eq!(rt; disk.name_at(0), Err(DiskFault));
+    fs::remove_file(&rt, "refused")?;
     Ok(())
 }
 
 #[test]
 fn after_a_failed_sync_none_is_answered(rt: HostRuntime) -> Result<(), Fail> {
-    let mut disk = FolderDisk::open(&rt, rt.alloc(), "store")?;
+    let mut disk = FolderDisk::open(&rt, rt.alloc(), "failed")?;
     assert_eq!(rt; disk.write_at(ROOT, 0, b"a"), Ok(()));
-    fs::remove_dir_all(&rt, "store")?;
+    fs::remove_dir_all(&rt, "failed")?;
     assert_eq!(rt; disk.sync(), Err(DiskFault));
-    fs::create_dir(&rt, "store")?;
+    fs::create_dir(&rt, "failed")?;
     assert_eq!(rt; disk.sync(), Err(DiskFault));
-    assert_eq!(rt; FolderDisk::open(&rt, rt.alloc(), "store")?.sync(), Ok(()));
+    assert_eq!(rt; FolderDisk::open(&rt, rt.alloc(), "failed")?.sync(), Ok(()));
+    fs::remove_dir_all(&rt, "failed")?;
     Ok(())
 }
 
