@@ -7,20 +7,24 @@ mod laws;
 mod player;
 mod program;
 mod reading;
-mod standard;
 mod texts;
 mod words;
 
 use arguments::run_arguments;
-use standard::{StandardInput, StandardOutput};
+use program::print_no_memory;
+use real_edges::{StdSink, StdSource};
+use std::env;
 use std::process::ExitCode;
-use std::{env, io};
 
 /// Does what the command line's words say over the standard input and output, and ends with the status of that.
 fn main(rt: HostRuntime) -> ExitCode {
     let alloc = rt.alloc();
-    let mut input = StandardInput::new(rt.reader());
-    let mut output = StandardOutput::new(io::writer(&rt));
+    let Ok(mut output) = StdSink::new(&rt, alloc) else {
+        return ExitCode::from(7);
+    };
+    let Ok(mut input) = StdSource::new(&rt, alloc) else {
+        return ExitCode::from(print_no_memory(&mut output));
+    };
     ExitCode::from(run_arguments(alloc, env::args(&rt), &mut input, &mut output))
 }
 

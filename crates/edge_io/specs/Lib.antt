@@ -4,6 +4,8 @@ pub mod Listed
 pub mod MemSources
 pub mod MemSinks
 pub mod Events
+pub mod Coming
+pub mod MemClocks
 pub mod Scripts
 pub mod Spans
 pub mod Parsing

@@ -2,8 +2,8 @@
 ghost use Rattle.std.specs.Prelude.{◌<◌, length};
 
 use crate::{
-    Door, Event, MemSink, MemSource, ScriptRefusal, Sink, SinkFault, Source, SourceFault, What,
-    read_in_one_way, script,
+    Clock, ClockFault, Door, Event, MemClock, MemSink, MemSource, ScriptRefusal, Sink, SinkFault,
+    Source, SourceFault, What, read_in_one_way, script,
 };
 use arch_base::{Bytes, Numbers};
 use std::alloc::{AllocError, Global};
@@ -17,6 +17,10 @@ fn read_through<S: Source>(source: &mut S, into: &mut [u8]) -> Result<usize, Sou
 
 fn write_through<S: Sink>(sink: &mut S, bytes: &[u8]) -> Result<(), SinkFault> {
     sink.write(bytes)
+}
+
+fn now_through<C: Clock>(clock: &mut C) -> Result<u64, ClockFault> {
+    clock.now()
 }
 
 /// The script of one piece of so many bytes.
@@ -143,5 +147,23 @@ fn listed_writes_fail(rt: HostRuntime) -> Result<(), Fail> {
     assert_eq!(rt; write_through(&mut sink, b"g"), Ok(()));
     assert!(rt; sink.taken() == b"g".as_slice());
     assert_eq!(rt; sink.starved(), 0);
+    Ok(())
+}
+
+#[test]
+fn moments_pass_up_to_the_last(rt: HostRuntime) -> Result<(), Fail> {
+    let mut moments = Numbers::new(rt.alloc());
+    moments.push(7)?;
+    moments.push(253402300799)?;
+    moments.push(5)?;
+    let mut faults = Numbers::new(rt.alloc());
+    faults.push(2)?;
+    let mut clock = MemClock::new(rt.alloc(), moments, faults);
+    assert_eq!(rt; now_through(&mut clock), Ok(7));
+    assert_eq!(rt; now_through(&mut clock), Err(ClockFault));
+    assert_eq!(rt; now_through(&mut clock), Ok(253402300799));
+    assert_eq!(rt; now_through(&mut clock), Ok(5));
+    assert_eq!(rt; now_through(&mut clock), Ok(5));
+    assert_eq!(rt; clock.starved(), 0);
     Ok(())
 }

@@ -1,0 +1,88 @@
+//! A clock in memory.
+ghost use Rattle.std.specs.Prelude.{◌≡◌, ◌≤◌, ◌<◌, ◌+◌, ◌-◌, ◌^◌, ℕ, List, Option, Some, length, min, All, IfOk, OnOk, OnErr};
+ghost use Rattle.arch_base.specs.Counts.{IsCaused};
+ghost use Rattle.edge_io.specs.Events.{IsMoment};
+ghost use Rattle.edge_io.specs.Coming.{Moments, IsFirst, behind_first, moments_of};
+ghost use Rattle.edge_io.specs.Listed.{raised, is_listed};
+ghost use Rattle.edge_io.specs.MemClocks.{Ticking, Ticks};
+
+use crate::mem_source::is_listed;
+use crate::{Clock, ClockFault};
+use arch_base::Numbers;
+use std::alloc::Global;
+use std::marker::Model;
+
+/// A clock in memory, of which listed calls fail. It takes no memory.
+#[derive(Drop)]
+pub struct MemClock {
+    moments: Numbers,
+    at: usize,
+    listed: Numbers,
+    calls: u64,
+    faults: u64,
+}
+
+// A clause sees the moments to come, the listed ordinals and the two counts.
+impl Model for MemClock {
+    ghost use Rattle.std.specs.Prelude.{◌<◌, length, drop, All};
+    ghost use Rattle.edge_io.specs.Events.{IsMoment};
+    ghost use Rattle.edge_io.specs.Coming.{moments_of};
+    ghost use Rattle.edge_io.specs.MemClocks.{Ticking};
+
+    ghost Value = { Ticking };
+
+    ghost view = { λ s. record { coming = moments_of (drop s.at s.moments); listed = s.listed; calls = s.calls; faults = s.faults } };
+
+    ghost invariant = { λ s. (s.at < length s.moments) × All IsMoment s.moments };
+}
+
+impl MemClock {
+    /// A clock of these moments, which fails the calls whose ordinals, from 1, are among `faults`. Past its list it gives
+    /// the last moment again.
+    pub fn new(_alloc: Global, moments: Numbers, faults: Numbers) -> Self
+        requires some { 0 < length moments }
+        requires each { All IsMoment moments }
+        ensures { result ≡ record { coming = moments_of moments; listed = faults; calls = 0; faults = 0 } }
+    {
+        MemClock {
+            moments,
+            at: 0,
+            listed: faults,
+            calls: 0,
+            faults: 0,
+        }
+    }
+
+    /// How often a call found no memory: never, since none is taken.
+    pub fn starved(&self) -> u64
+        ensures { result ≡ 0 }
+    {
+        0
+    }
+}
+
+impl Clock for MemClock {
+    ghost coming = { λ s. Some s.coming };
+
+    ghost faults = { λ s. s.faults };
+
+    fn now(&mut self) -> Result<u64, ClockFault>
+        ensures moment { IfOk result IsMoment }
+        ensures first { IfOk result (λ moment. IsFirst moment (Some self.old.coming)) }
+        ensures rest { OnOk result (Some self.new.coming ≡ behind_first (Some self.old.coming)) }
+        ensures failed { OnErr result (Some self.new.coming ≡ Some self.old.coming) }
+        ensures cause { IsCaused self.old.faults self.new.faults result }
+        ensures ticks { Ticks result self.old self.new }
+    {
+        let fails = is_listed(&self.listed, self.calls);
+        self.calls = self.calls.saturating_add(1);
+        if fails {
+            self.faults = self.faults.saturating_add(1);
+            return Err(ClockFault);
+        }
+        let moments = self.moments.as_slice();
+        let moment = moments[self.at];
+        self.at = (self.at + 1).min(moments.len() - 1);
+        Ok(moment)
+    }
+}

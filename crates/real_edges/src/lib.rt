@@ -1,0 +1,18 @@
+//! The edge to the system: a disk over a folder, the standard input and output, and the system's clock. What these hold
+//! isn't known to any contract; their failures are counted.
+#![tactic(auto)]
+
+mod folder;
+mod folder_disk;
+mod names;
+mod open_file;
+mod std_sink;
+mod std_source;
+mod system_clock;
+#[cfg(test)]
+mod tests;
+
+pub use folder_disk::FolderDisk;
+pub use std_sink::StdSink;
+pub use std_source::StdSource;
+pub use system_clock::SystemClock;

@@ -1,0 +1,68 @@
+//! How the names of files are spelled in a folder.
+use arch_base::read_decimal;
+use disk_model::{FileKind, FileName};
+use std::alloc::{AllocError, Global};
+
+/// The path of a file in a folder. Its last part shows kind, number and generation: `root`, `map.GEN`, `epoch-N.GEN` and
+/// `cache.GEN`, for the number 0 of a map or a cache and for that of a root with the generation 0; else `KIND-N.GEN`.
+pub(crate) fn path_in(alloc: Global, folder: &str, name: FileName) -> Result<String, AllocError> {
+    let word = word_of(name.kind);
+    let FileName { number, gen_, .. } = name;
+    match name.kind {
+        FileKind::Root if number == 0 && gen_ == 0 => format!(in alloc; "{folder}/{word}"),
+        FileKind::Map if number == 0 => format!(in alloc; "{folder}/{word}.{gen_}"),
+        FileKind::Cache if number == 0 => format!(in alloc; "{folder}/{word}.{gen_}"),
+        _ => format!(in alloc; "{folder}/{word}-{number}.{gen_}"),
+    }
+}
+
+/// The word of a kind.
+fn word_of(kind: FileKind) -> &'static str {
+    match kind {
+        FileKind::Root => "root",
+        FileKind::Map => "map",
+        FileKind::Epoch => "epoch",
+        FileKind::Cache => "cache",
+    }
+}
+
+/// The name that the last part of a path spells, or None where it spells none.
+pub(crate) fn name_of(text: &str) -> Option<FileName> {
+    if text == "root" {
+        return Some(FileName {
+            kind: FileKind::Root,
+            number: 0,
+            gen_: 0,
+        });
+    }
+    let (front, gen_) = text.split_once('.')?;
+    let gen_ = read_decimal(gen_.as_bytes())?;
+    match front {
+        "map" => Some(FileName {
+            kind: FileKind::Map,
+            number: 0,
+            gen_,
+        }),
+        "cache" => Some(FileName {
+            kind: FileKind::Cache,
+            number: 0,
+            gen_,
+        }),
+        _ => numbered(front, gen_),
+    }
+}
+
+/// The name that a word with a number spells, with a generation.
+fn numbered(front: &str, gen_: u64) -> Option<FileName> {
+    let (word, number) = front.split_once('-')?;
+    let number = read_decimal(number.as_bytes())?;
+    let number = u32::try_from(number).ok()?;
+    let kind = match word {
+        "root" if number != 0 || gen_ != 0 => FileKind::Root,
+        "map" if number != 0 => FileKind::Map,
+        "epoch" => FileKind::Epoch,
+        "cache" if number != 0 => FileKind::Cache,
+        _ => return None,
+    };
+    Some(FileName { kind, number, gen_ })
+}
