@@ -95,6 +95,7 @@ pub fn commit<D: Disk>(disk: &mut D, slot: u8, root: &Root) -> Result<(), DiskFa
     ensures elsewhere { LeavesOnly D.moment D.left_since disk.old disk.new (OthersStay (D.content disk.old)) }
     // After Ok the root file has the body in the slot, whose gate is open, and is else as it was.
     ensures written { OnOk result (Told (HasNewRoot slot (spelling root.now)) (D.content disk.old) (D.content disk.new)) }
+    ensures whole { OnOk result (length (spelling root.now) ≡ 1536) }
     ensures committed { OnOk result (Told IsCommitted (D.content disk.old) (D.content disk.new)) }
     ensures cause { IsCaused (D.faults disk.old) (D.faults disk.new) result }
     ensures count { D.reads disk.new ≡ D.reads disk.old }
