@@ -12,6 +12,7 @@ use Rattle.arch_model.specs.Delivery.{Done, refused, collision, delivered, deliv
 use Rattle.arch_model.specs.declared.choice.Choice.{Choice}
 use Rattle.arch_model.specs.declared.choice.Choice.TheVariants.{Take, Repeat}
 use Rattle.arch_model.specs.Laws.{IsNumbered, KeepsNumbers, StaysNumbered, ShowsDelivered}
+use Rattle.arch_model.specs.declared.command.Command.TheVariants.{Deliver}
 use Rattle.arch_model.specs.declared.answer.Answer.{Answer}
 use Rattle.arch_model.specs.declared.answer.Answer.TheVariants as named
 
@@ -93,7 +94,7 @@ numbered_by a bytes moment d (Accepted form kept is takes) some h = (
 )
 
 pub stays-numbered : StaysNumbered
-stays-numbered a bytes moment some h = numbered_by a bytes moment (delivered a bytes moment) (comes a bytes moment) some h
+stays-numbered a (Deliver bytes) moment some h = numbered_by a bytes.now moment (delivered a bytes.now moment) (comes a bytes.now moment) some h
 
 shows_by : (a : Archive) (bytes : List ℕ) (moment number : ℕ) (id : Id20) (d : Done) → Comes a bytes moment d → IsNumbered a → d.answer ≡ named.Ok number id
     → (text : List ℕ) × (kept : List ℕ) × (stored bytes ≡ Ok text) × (choice_of a text ≡ Take kept) × (text_of d.archive.entries number ≡ Some kept)

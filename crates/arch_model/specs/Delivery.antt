@@ -6,11 +6,16 @@ use Rattle.mail_reader.specs.Stored.{stored}
 use Rattle.mail_reader.specs.declared.storing.StoredRefusal.{StoredRefusal}
 use Rattle.mail_reader.specs.declared.storing.StoredRefusal.TheVariants as stored_refusal
 use Rattle.git_objects.specs.Objects.{blob_id_of}
+use Rattle.disk_model.specs.declared.name.FileKind.{FileKind}
+use Rattle.disk_model.specs.declared.name.FileKind.TheVariants.{Root, Map, Epoch, Cache}
+use Rattle.disk_model.specs.declared.name.FileName.{FileName}
 use Rattle.arch_model.specs.Archives.{Entry, Archive, with_entry, in_epoch}
 use Rattle.arch_model.specs.Epochs.{epoch_bytes}
 use Rattle.arch_model.specs.Candidates.{choice_of}
 use Rattle.arch_model.specs.declared.choice.Choice.{Choice}
 use Rattle.arch_model.specs.declared.choice.Choice.TheVariants.{Take, Repeat}
+use Rattle.arch_model.specs.declared.command.Command.{Command}
+use Rattle.arch_model.specs.declared.command.Command.TheVariants.{Deliver}
 use Rattle.arch_model.specs.declared.answer.Answer.{Answer}
 use Rattle.arch_model.specs.declared.answer.Answer.TheVariants as answer
 
@@ -78,7 +83,12 @@ delivered_form a moment (Err stored_refusal.NoMemory) = refused a answer.NoMemor
 abbrev pub delivered : Archive → List ℕ → ℕ → Done
 delivered a bytes moment = if a.config.mirror then refused a answer.IsMirror else delivered_form a moment (stored bytes)
 
--- what a call answered, and the archive behind it, are what is wanted; for want of memory all is as before
+-- what a command at a moment comes to
+abbrev pub applied : Archive → Command → ℕ → Done
+applied a (Deliver bytes) moment = delivered a bytes.now moment
+
+-- what a call answered, and the archive behind it, are what is wanted; for want of memory all is as before. An archive that has
+-- no disk never answers that one failed or is damaged.
 abbrev pub Delivers : Archive → Answer → Archive → Done → Type 0
 Delivers old answer.NoMemory new wanted = new ≡ old
 Delivers old (answer.Ok number id) new wanted = wanted ≡ record { archive = new; answer = answer.Ok number id }
@@ -90,6 +100,19 @@ Delivers old (answer.Collision number) new wanted = wanted ≡ record { archive 
 Delivers old (answer.NotLive number) new wanted = wanted ≡ record { archive = new; answer = answer.NotLive number }
 Delivers old (answer.NoText number) new wanted = wanted ≡ record { archive = new; answer = answer.NoText number }
 Delivers old answer.IsMirror new wanted = wanted ≡ record { archive = new; answer = answer.IsMirror }
+Delivers old answer.DiskFault new wanted = ⊥
+Delivers old (answer.Damaged file place) new wanted = ⊥
+
+-- the words for a file of a kind and a number: `root`, `map`, `epoch E` or `cache`
+abbrev pub kind_words : FileKind → ℕ → List ℕ
+kind_words Root number = codes "root"
+kind_words Map number = codes "map"
+kind_words Epoch number = codes "epoch " ++ decimal number
+kind_words Cache number = codes "cache"
+
+-- the words for a file of an archive
+abbrev pub file_words : FileName → List ℕ
+file_words file = kind_words file.kind file.number
 
 -- the line of an answer, without its line feed
 abbrev pub answer_line : Answer → List ℕ
@@ -102,4 +125,6 @@ answer_line (answer.Collision number) = codes "6 collision " ++ decimal number
 answer_line (answer.NotLive number) = codes "7 not live " ++ decimal number
 answer_line (answer.NoText number) = codes "8 no text " ++ decimal number
 answer_line answer.IsMirror = codes "9 is mirror"
+answer_line answer.DiskFault = codes "10 disk fault"
+answer_line (answer.Damaged file place) = codes "11 damaged " ++ (file_words file ++ 32 ∷ decimal place)
 answer_line answer.NoMemory = codes "12 no memory"

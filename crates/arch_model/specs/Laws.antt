@@ -6,12 +6,13 @@ use Rattle.mail_reader.specs.Ids.{own_id}
 use Rattle.mail_reader.specs.Content.{content_id_of}
 use Rattle.arch_model.specs.Archives.{Archive, owner, text_of}
 use Rattle.arch_model.specs.Candidates.{made_id, with_made, met, choice_of}
-use Rattle.arch_model.specs.Delivery.{delivered}
+use Rattle.arch_model.specs.Delivery.{delivered, applied}
 use Rattle.arch_model.specs.declared.answer.Answer.TheVariants as answer
 use Rattle.arch_model.specs.declared.choice.Meeting.{Meeting}
 use Rattle.arch_model.specs.declared.choice.Meeting.TheVariants.{Free, Same, Other}
 use Rattle.arch_model.specs.declared.choice.Choice.{Choice}
 use Rattle.arch_model.specs.declared.choice.Choice.TheVariants.{Take, Repeat}
+use Rattle.arch_model.specs.declared.command.Command.{Command}
 
 -- each number that has a text is below the next one, and none is 0
 abbrev pub IsNumbered : Archive → Type 0
@@ -22,9 +23,9 @@ abbrev pub KeepsNumbers : Type 0
 KeepsNumbers =
     (a : Archive) (bytes : List ℕ) (moment n : ℕ) (text : List ℕ) → text_of a.entries n ≡ Some text → text_of (delivered a bytes moment).archive.entries n ≡ Some text
 
--- A delivery leaves the numbers below the next one.
+-- A command leaves the numbers below the next one.
 abbrev pub StaysNumbered : Type 0
-StaysNumbered = (a : Archive) (bytes : List ℕ) (moment : ℕ) → 1 ≤ a.next → IsNumbered a → (1 ≤ (delivered a bytes moment).archive.next) × IsNumbered (delivered a bytes moment).archive
+StaysNumbered = (a : Archive) (command : Command) (moment : ℕ) → 1 ≤ a.next → IsNumbered a → (1 ≤ (applied a command moment).archive.next) × IsNumbered (applied a command moment).archive
 
 -- One message in, the same message out: the number of an accepted message has the text that the candidates for its id came to,
 -- which is the storage form of its bytes with a Message-ID field in front or none.

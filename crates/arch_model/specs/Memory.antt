@@ -94,9 +94,13 @@ abbrev pub front_bytes : Option Id20 → List ℕ
 front_bytes None = magic
 front_bytes (Some id) = []
 
--- the end that a new entry stands behind
+-- the end that a new entry stands behind, where the last epoch has so much room
+abbrev pub end_by_room : ℕ → ℕ → End → End
+end_by_room room limit end_ = if end_.epoch == 63 || nat_lt 0 room then end_ else record { epoch = end_.epoch + 1; room = limit; parent = None }
+
+-- the same by the room that it has
 abbrev pub end_for_new : ℕ → End → End
-end_for_new limit end_ = if end_.epoch == 63 || nat_lt 0 end_.room then end_ else record { epoch = end_.epoch + 1; room = limit; parent = None }
+end_for_new limit end_ = end_by_room end_.room limit end_
 
 -- the end behind one more entry
 abbrev pub end_after : End → List ℕ → ℕ → End

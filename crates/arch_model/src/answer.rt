@@ -1,11 +1,16 @@
 //! What a command is answered.
 use arch_base::ObjectId;
+use disk_model::FileName;
 
-/// The answer to a command. All but `Ok` leave the archive as it was.
+/// The answer to a command. All but `Ok` leave the archive as it was; but behind `DiskFault` it is only known whether the
+/// command was done when the archive has been opened again.
 #[derive(Clone, Copy, Debug, PartialEq, Eq, Drop)]
 pub enum Answer {
     /// The message has this number, and its text this blob id.
-    Ok { number: u32, id: ObjectId },
+    Ok {
+        number: u32,
+        id: ObjectId,
+    },
     /// The message of this number is the same.
     Duplicate(u32),
     /// No field is left in the message.
@@ -22,6 +27,15 @@ pub enum Answer {
     NoText(u32),
     /// The archive follows another one and takes no commands.
     IsMirror,
+    /// A call of the disk failed.
+    DiskFault,
+    /// A file of the archive does not have the form that it should have.
+    Damaged {
+        /// The file.
+        file: FileName,
+        /// The place of the first part that does not have it, in bytes.
+        at: u64,
+    },
     /// Memory was wanted, and there was none.
     NoMemory,
 }

@@ -1,5 +1,5 @@
 //! Commits and epochs against what git gives, and who a mail is from by the rules.
-use crate::{entry_commit, push_entry};
+use crate::{EntryIds, entry_commit, push_entry};
 use arch_base::{Bytes, NoMemory, ObjectId, id_of_hex};
 use git_objects::{Commit, blob_id, commit_bytes, object_id, tree_bytes};
 use mail_reader::stored;
@@ -53,6 +53,33 @@ fn an_epoch_has_the_objects_of_git(rt: HostRuntime) {
             assert!(rt; one == 316 && two == 672);
             assert!(rt; Some(first) == id_of_hex(b"d621b450ae1fbf27a31c9879d84eb9de5473a8b9"));
             assert!(rt; Some(second) == id_of_hex(b"8465c6e7dc37ed0249ed8b1434a73ffd13973fad"));
+        }
+        Err(NoMemory) => assert!(rt; false),
+    }
+}
+
+/// The ids of the entry of a deletion that stands behind the message's, and the length of both.
+fn deletion(alloc: Global) -> Result<(EntryIds, usize), NoMemory> {
+    let mut epoch = Bytes::new(alloc);
+    let message = push_entry(alloc, b'm', FIRST, 1_706_781_700, None, &mut epoch)?;
+    let ids = push_entry(
+        alloc,
+        b'd',
+        FIRST,
+        1_706_781_700,
+        Some(message.commit),
+        &mut epoch,
+    )?;
+    Ok((ids, epoch.as_slice().len()))
+}
+
+#[test]
+fn a_deletion_has_the_objects_of_git(rt: HostRuntime) {
+    match deletion(rt.alloc()) {
+        Ok((ids, len)) => {
+            assert!(rt; len == 664);
+            assert!(rt; Some(ids.blob) == id_of_hex(b"1d023c572ccd6f3cc82ae855343346b043adaba5"));
+            assert!(rt; Some(ids.commit) == id_of_hex(b"e253e69d44ecbc2174d67cdd415d3b3c1ebdef26"));
         }
         Err(NoMemory) => assert!(rt; false),
     }

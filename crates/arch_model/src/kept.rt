@@ -1,7 +1,7 @@
 //! What an archive in memory keeps of each message.
 ghost use Rattle.std.specs.Prelude.{◌≡◌, ◌+◌, ◌-◌, ◌++◌, ◌≤◌, length, IfOk, OnOk, OnErr, is_ok, if◌then◌else◌};
 ghost use Rattle.arch_model.specs.Epochs.{commit_id, entry_bytes, message_name};
-ghost use Rattle.arch_model.specs.Memory.{front_bytes, end_for_new, end_after, met_owner, Grows};
+ghost use Rattle.arch_model.specs.Memory.{front_bytes, end_for_new, end_by_room, end_after, met_owner, Grows};
 
 use crate::choice::Meeting;
 use crate::commits::push_entry;
@@ -59,12 +59,28 @@ const LAST_EPOCH: u32 = 63;
 const MAGIC: &[u8] = b"PIV2EP1\n";
 
 impl End {
-    /// The end that a new entry stands behind: that of the last epoch, or of a new one where that takes no further entry.
-    pub(crate) fn for_new(self, limit: u64) -> End
+    /// The end behind one more entry, which stands in the last epoch, or in a new one where that takes no further entry.
+    pub(crate) fn with(
+        self,
+        alloc: Global,
+        limit: u64,
+        text: &[u8],
+        moment: u64,
+    ) -> Result<End, NoMemory>
         requires { self.epoch ≤ 63 }
-        ensures { result ≡ end_for_new limit self }
+        ensures { IfOk result (λ made. made ≡ end_after (end_for_new limit self) text.now moment) }
     {
-        if self.epoch == LAST_EPOCH || self.room > 0 {
+        let room = self.room;
+        self.for_new(room, limit).after(alloc, text, moment)
+    }
+
+    /// The end that a new entry stands behind, where the last epoch has so much room: that of the last epoch, or of a new one
+    /// where that takes no further entry.
+    fn for_new(self, room: u64, limit: u64) -> End
+        requires { self.epoch ≤ 63 }
+        ensures { result ≡ end_by_room room limit self }
+    {
+        if self.epoch == LAST_EPOCH || room > 0 {
             self
         } else {
             End {
@@ -76,7 +92,7 @@ impl End {
     }
 
     /// The end behind one more entry.
-    pub(crate) fn after(self, alloc: Global, text: &[u8], moment: u64) -> Result<End, NoMemory>
+    fn after(self, alloc: Global, text: &[u8], moment: u64) -> Result<End, NoMemory>
         ensures { IfOk result (λ made. made ≡ end_after self text.now moment) }
     {
         let mut bytes = Bytes::new(alloc);

@@ -1,4 +1,4 @@
-//! What holds of deliveries, for every archive, message and moment.
+//! What holds of commands, for every archive, message and moment.
 ghost use Rattle.arch_model.specs.Laws.{FirstDecides, KeepsNumbers, StaysNumbered, ShowsDelivered};
 
 /// A delivery leaves each number with its text.
@@ -6,7 +6,7 @@ pub fn numbers_keep_their_texts()
     ensures { KeepsNumbers }
 {}
 
-/// Where the next number is at least 1, and each number that has a text is at least 1 and below it, so it is after a delivery.
+/// Where the next number is at least 1, and each number that has a text is at least 1 and below it, so it is after a command.
 pub fn numbers_stay_below_the_next()
     ensures { StaysNumbered }
 {}

@@ -3,6 +3,7 @@
 
 mod answer;
 mod choice;
+mod command;
 mod commits;
 mod facts;
 mod index;
@@ -10,14 +11,17 @@ mod kept;
 mod laws;
 mod made;
 mod memory;
+mod opening;
 
 pub use answer::Answer;
+pub use command::Command;
 pub use commits::{EntryIds, entry_commit, epoch_grows, push_entry};
 pub use laws::{
     delivered_is_shown, first_candidate_decides, numbers_keep_their_texts,
     numbers_stay_below_the_next,
 };
 pub use memory::MemArchive;
+pub use opening::OpenRefusal;
 
 #[cfg(test)]
 mod commit_tests;

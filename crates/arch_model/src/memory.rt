@@ -5,12 +5,13 @@ ghost use Rattle.mail_reader.specs.Content.{content_id_of};
 ghost use Rattle.git_objects.specs.Objects.{blob_id_of};
 ghost use Rattle.arch_model.specs.Archives.{empty_archive, with_entry, owner, text_of, in_epoch};
 ghost use Rattle.arch_model.specs.Candidates.{choice_of, made_choice, met};
-ghost use Rattle.arch_model.specs.Delivery.{Delivers, delivered, delivered_choice, delivered_kept, delivered_new, collision, new_epoch};
+ghost use Rattle.arch_model.specs.Delivery.{Delivers, applied, delivered, delivered_choice, delivered_kept, delivered_new, collision, new_epoch};
 ghost use Rattle.arch_model.specs.Epochs.{epoch_bytes};
 ghost use Rattle.arch_model.specs.Memory.{IsFree, TakesFree, blob_number, GivesEpoch, Grows, has_entry};
 
 use crate::answer::Answer;
 use crate::choice::{Choice, Meeting};
+use crate::command::Command;
 use crate::index::Index;
 use crate::kept::{End, Kept, Owner, push_behind};
 use crate::made::{made_id, own_id_bytes, with_id};
@@ -110,10 +111,20 @@ impl MemArchive {
         Ok(parent.is_some())
     }
 
-    /// Delivers a message at a moment, in seconds since 1970: it takes the next number, or is refused by the first cause of a
-    /// mirror, no field, too many bytes, a message that is the same, another text with its blob id, and no number left. A
-    /// refusal leaves all as it was.
-    pub fn deliver(&mut self, bytes: &[u8], moment: u64) -> Answer
+    /// Takes a command at a moment, in seconds since 1970.
+    ///
+    /// `Deliver`: the message takes the next number, or is refused by the first cause of a mirror, no field, too many bytes, a
+    /// message that is the same, another text with its blob id, and no number left. A refusal leaves all as it was.
+    pub fn command(&mut self, command: &Command<'_>, moment: u64) -> Answer
+        ensures { Delivers self.old result self.new (applied self.old command.now moment) }
+    {
+        match command {
+            Command::Deliver(bytes) => self.deliver(bytes, moment),
+        }
+    }
+
+    /// Delivers a message, or refuses it.
+    fn deliver(&mut self, bytes: &[u8], moment: u64) -> Answer
         ensures { Delivers self.old result self.new (delivered self.old bytes.now moment) }
     {
         if self.config.mirror {
@@ -244,8 +255,7 @@ impl MemArchive {
     {
         let end = self
             .end
-            .for_new(self.config.limit)
-            .after(self.alloc, text.as_slice(), moment)?;
+            .with(self.alloc, self.config.limit, text.as_slice(), moment)?;
         let id = own_id_bytes(self.alloc, text.as_slice())?;
         let owner = self.owner_of(text.as_slice());
         self.kept.push(Kept {

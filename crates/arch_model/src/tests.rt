@@ -2,7 +2,7 @@
 ghost use Rattle.std.specs.Prelude.{◌≤◌, IfSome};
 ghost use Rattle.arch_base.specs.Configs.{IsConfig};
 
-use crate::{Answer, MemArchive};
+use crate::{Answer, Command, MemArchive};
 use arch_base::{Bytes, Config, Name, id_of_hex};
 use std::alloc::Global;
 
@@ -43,6 +43,11 @@ fn accepted(number: u32, hex: &[u8]) -> Option<Answer> {
     Some(Answer::Ok { number, id })
 }
 
+/// The answer to the delivery of a message.
+fn deliver(archive: &mut MemArchive, bytes: &[u8]) -> Answer {
+    archive.command(&Command::Deliver(bytes), MOMENT)
+}
+
 /// The length of an epoch's bytes.
 fn epoch_len(alloc: Global, archive: &MemArchive, epoch: u32) -> Option<usize> {
     let mut bytes = Bytes::new(alloc);
@@ -60,12 +65,12 @@ fn a_taken_id_gives_way_to_a_made_one(rt: HostRuntime) {
         return assert!(rt; false);
     };
     let mut archive = MemArchive::new(rt.alloc(), settings);
-    let first = archive.deliver(FIRST, MOMENT);
+    let first = deliver(&mut archive, FIRST);
     assert!(rt; Some(first) == accepted(1, b"1d023c572ccd6f3cc82ae855343346b043adaba5"));
-    assert!(rt; archive.deliver(FIRST, MOMENT) == Answer::Duplicate(1));
-    let other = archive.deliver(OTHER, MOMENT);
+    assert!(rt; deliver(&mut archive, FIRST) == Answer::Duplicate(1));
+    let other = deliver(&mut archive, OTHER);
     assert!(rt; Some(other) == accepted(2, b"39f92e6e43521b9650c2c71e47523846b2ecc47a"));
-    assert!(rt; archive.deliver(OTHER, MOMENT) == Answer::Duplicate(2));
+    assert!(rt; deliver(&mut archive, OTHER) == Answer::Duplicate(2));
 }
 
 #[test]
@@ -74,12 +79,12 @@ fn a_taken_made_id_gives_way_to_the_next(rt: HostRuntime) {
         return assert!(rt; false);
     };
     let mut archive = MemArchive::new(rt.alloc(), settings);
-    let taken = archive.deliver(
+    let taken = deliver(
+        &mut archive,
         b"Subject: v\nMessage-ID: <a8f4aef97c4217e79c7ac7c8d9fa4cba3317bffd.0@list.invalid>\n\nx\n",
-        MOMENT,
     );
     assert!(rt; Some(taken) == accepted(1, b"2fd7988ae8d54e85a7b575f5ccd453aec2207364"));
-    let made = archive.deliver(b"Subject: u\n\nx\n", MOMENT);
+    let made = deliver(&mut archive, b"Subject: u\n\nx\n");
     assert!(rt; Some(made) == accepted(2, b"e30b50cddbd8790b5f73f4eb6fe526a4c7f12274"));
     let text =
         b"Message-ID: <a8f4aef97c4217e79c7ac7c8d9fa4cba3317bffd.1@list.invalid>\nSubject: u\n\nx\n";
@@ -92,10 +97,10 @@ fn refusals_come_in_their_order(rt: HostRuntime) {
         return assert!(rt; false);
     };
     let mut archive = MemArchive::new(rt.alloc(), settings);
-    let _ = archive.deliver(FIRST, MOMENT);
-    assert!(rt; archive.deliver(b"", MOMENT) == Answer::NoFields);
-    assert!(rt; archive.deliver(FIRST, MOMENT) == Answer::Duplicate(1));
-    assert!(rt; archive.deliver(RENAMED, MOMENT) == Answer::Full(1));
+    let _ = deliver(&mut archive, FIRST);
+    assert!(rt; deliver(&mut archive, b"") == Answer::NoFields);
+    assert!(rt; deliver(&mut archive, FIRST) == Answer::Duplicate(1));
+    assert!(rt; deliver(&mut archive, RENAMED) == Answer::Full(1));
     assert!(rt; archive.text(1) == Some(FIRST) && archive.text(2).is_none());
 }
 
@@ -105,7 +110,7 @@ fn a_mirror_takes_no_delivery(rt: HostRuntime) {
         return assert!(rt; false);
     };
     let mut archive = MemArchive::new(rt.alloc(), settings);
-    assert!(rt; archive.deliver(FIRST, MOMENT) == Answer::IsMirror);
+    assert!(rt; deliver(&mut archive, FIRST) == Answer::IsMirror);
 }
 
 #[test]
@@ -114,8 +119,8 @@ fn an_epoch_of_the_limit_takes_no_more(rt: HostRuntime) {
         return assert!(rt; false);
     };
     let mut archive = MemArchive::new(rt.alloc(), settings);
-    let _ = archive.deliver(FIRST, MOMENT);
-    let _ = archive.deliver(RENAMED, MOMENT);
+    let _ = deliver(&mut archive, FIRST);
+    let _ = deliver(&mut archive, RENAMED);
     assert!(rt; epoch_len(rt.alloc(), &archive, 0) == Some(316));
     assert!(rt; epoch_len(rt.alloc(), &archive, 1) == Some(316));
     assert!(rt; epoch_len(rt.alloc(), &archive, 2).is_none());
@@ -127,8 +132,8 @@ fn an_epoch_below_the_limit_takes_one_more(rt: HostRuntime) {
         return assert!(rt; false);
     };
     let mut archive = MemArchive::new(rt.alloc(), settings);
-    let _ = archive.deliver(FIRST, MOMENT);
-    let _ = archive.deliver(RENAMED, MOMENT);
+    let _ = deliver(&mut archive, FIRST);
+    let _ = deliver(&mut archive, RENAMED);
     assert!(rt; epoch_len(rt.alloc(), &archive, 0) == Some(672));
     assert!(rt; epoch_len(rt.alloc(), &archive, 1).is_none());
 }

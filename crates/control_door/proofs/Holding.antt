@@ -136,6 +136,8 @@ acts-delivering moment a b message answer rest i j ok later done words = acts-an
     acts-answered (named.NotLive number) is words = plain (named.NotLive number) is words
     acts-answered (named.NoText number) is words = plain (named.NoText number) is words
     acts-answered named.IsMirror is words = plain named.IsMirror is words
+    acts-answered named.DiskFault none words = absurd none
+    acts-answered (named.Damaged file place) none words = absurd none
     acts-answered (named.Full max) is words = plain (named.Full max) is words
 
 -- there is no memory for a message

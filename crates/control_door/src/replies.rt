@@ -3,11 +3,12 @@ ghost use Rattle.std.specs.Prelude.{◌≡◌, ◌++◌, ◌∷◌, [], codes, d
 ghost use Rattle.hex.specs.Hex.{encode_lower};
 ghost use Rattle.line_door.specs.Phrases.{Says};
 ghost use Rattle.arch_model.specs.Archives.{in_epoch};
-ghost use Rattle.arch_model.specs.Delivery.{answer_line};
+ghost use Rattle.arch_model.specs.Delivery.{answer_line, file_words};
 ghost use Rattle.control_door.specs.Door.{reply_line, bad_word, memory_word, shown, listed, epochs_words};
 
 use arch_base::{Bytes, NoMemory, ObjectId, hex_of};
 use arch_model::{Answer, MemArchive};
+use disk_model::{FileKind, FileName};
 use edge_io::Sink;
 use itoa::Buffer;
 use line_door::{say, say_line};
@@ -47,8 +48,49 @@ pub(crate) fn say_answer<O: Sink>(answer: Answer, out: &mut O) -> bool
         Answer::NotLive(number) => say_number(b"7 not live ", u64::from(number), out),
         Answer::NoText(number) => say_number(b"8 no text ", u64::from(number), out),
         Answer::IsMirror => say_line(b"9 is mirror", out),
+        Answer::DiskFault => say_line(b"10 disk fault", out),
+        Answer::Damaged { file, at } => say_damaged(file, at, out),
         Answer::NoMemory => say_line(b"12 no memory", out),
     }
+}
+
+/// Says that a file is damaged, and where.
+fn say_damaged<O: Sink>(file: FileName, at: u64, out: &mut O) -> bool
+    ensures said { Says (reply_line (codes "11 damaged " ++ (file_words file ++ 32 ∷ decimal at))) (O.taken out.old) (O.faults out.old) (O.taken out.new) (O.faults out.new) result }
+    ensures sink { O.alike out.old out.new }
+{
+    if !say(b"11 damaged ", out) {
+        return false;
+    }
+    if !say_file(file, out) {
+        return false;
+    }
+    say_number(b" ", at, out)
+}
+
+/// Says which file of an archive this is.
+fn say_file<O: Sink>(file: FileName, out: &mut O) -> bool
+    ensures said { Says (file_words file) (O.taken out.old) (O.faults out.old) (O.taken out.new) (O.faults out.new) result }
+    ensures sink { O.alike out.old out.new }
+{
+    match file.kind {
+        FileKind::Root => say(b"root", out),
+        FileKind::Map => say(b"map", out),
+        FileKind::Epoch => say_epoch(file.number, out),
+        FileKind::Cache => say(b"cache", out),
+    }
+}
+
+/// Says the word for an epoch, and its number.
+fn say_epoch<O: Sink>(number: u32, out: &mut O) -> bool
+    ensures said { Says (codes "epoch " ++ decimal number) (O.taken out.old) (O.faults out.old) (O.taken out.new) (O.faults out.new) result }
+    ensures sink { O.alike out.old out.new }
+{
+    if !say(b"epoch ", out) {
+        return false;
+    }
+    let mut buffer = Buffer::new();
+    say(buffer.format(number).as_bytes(), out)
 }
 
 /// Says the text of a number, behind a line with its length; or that the number has none.

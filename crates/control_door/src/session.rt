@@ -11,7 +11,7 @@ ghost use Rattle.control_door.specs.Door.{said as said_of, said_to, said_keeping
 use crate::order::{Order, read_order};
 use crate::replies::{epochs_of, say_answer, say_bad, say_memory, say_shown};
 use arch_base::{Bytes, NoMemory};
-use arch_model::MemArchive;
+use arch_model::{Command, MemArchive};
 use edge_io::Sink;
 use line_door::{Ahead, line_content, next_in, say};
 use std::alloc::Global;
@@ -275,7 +275,7 @@ fn say_delivered<O: Sink>(
         (outside (O.taken out.new) 0 (O.faults out.new)) }
     ensures sink { O.alike out.old out.new }
 {
-    let answer = archive.deliver(message, moment);
+    let answer = archive.command(&Command::Deliver(message), moment);
     say_answer(answer, out)
 }
 

@@ -17,3 +17,6 @@ returns-in-Collision-clause-said g c = rw c.in-Collision.is (rw c.from-in-Collis
 
 pub returns-in-NotLive-clause-said : goal.returns-in-NotLive-clause-said
 returns-in-NotLive-clause-said g c = rw c.in-NotLive.is (rw c.from-in-NotLive.ensures at c.say_number-in-NotLive.ensures.said)
+
+pub returns-in-Damaged-clause-said : goal.returns-in-Damaged-clause-said
+returns-in-Damaged-clause-said g c = rw c.in-Damaged.is c.say_damaged.ensures.said

@@ -4,7 +4,6 @@ use Rattle.mail_reader.specs.Content.{content_id_of}
 use Rattle.arch_model.specs.Archives.{Archive, with_entry}
 use Rattle.arch_model.specs.Delivery.{new_epoch}
 use Rattle.arch_model.specs.Memory.{IsFree, Puts, blob_number, end_after, end_for_new, entries_from}
-use Rattle.arch_model.specs.declared.kept.End.{End}
 use Rattle.arch_model.specs.declared.kept.Owner.{Owner}
 use Rattle.arch_model.proofs.Keeping.{kept-behind, archive-behind}
 use Rattle.arch_model.proofs.memory.MemArchive.keep.Goals as goal
@@ -16,8 +15,7 @@ invariant_of-self-2 c =
     let unseen : blob_number (entries_from 1 c.self.inside.kept.items) c.args.blob.0 ≡ None = subst (λ (b : Archive). blob_number b.entries c.args.blob.0 ≡ None) (sym c.self.view_is) c.requires.unseen in
     let own : own_id c.args.text ≡ Some c.in_ok-id.id.items = ap own_id (sym c.as_slice-2.ensures) ∙ c.in_ok-id.ensures in
     let next : c.in_ok-end.end ≡ end_after (end_for_new c.self.inside.config.limit c.self.inside.end) c.args.text c.args.moment =
-    c.in_ok-end.ensures ∙ ap (λ (e : End). end_after e c.as_slice.result.now c.args.moment) c.for_new.ensures
-    ∙ ap (λ (t : List ℕ). end_after (end_for_new c.self.inside.config.limit c.self.inside.end) t c.args.moment) c.as_slice.ensures in
+    c.in_ok-end.ensures ∙ ap (λ (t : List ℕ). end_after (end_for_new c.self.inside.config.limit c.self.inside.end) t c.args.moment) c.as_slice.ensures in
     let message : c.owner_of-owner.result ≡ record { number = length c.self.inside.kept.items + 1; content = content_id_of c.args.text } =
     c.owner_of-owner.ensures ∙ ap (λ (b : Archive). record { number = b.next; content = content_id_of c.as_slice-3.result.now }) (sym c.self.view_is)
     ∙ ap (λ (t : List ℕ). record { number = length c.self.inside.kept.items + 1; content = content_id_of t }) c.as_slice-3.ensures in
@@ -33,8 +31,7 @@ returns-clause-ok c =
     let unseen : blob_number (entries_from 1 c.self.inside.kept.items) c.args.blob.0 ≡ None = subst (λ (b : Archive). blob_number b.entries c.args.blob.0 ≡ None) (sym c.self.view_is) c.requires.unseen in
     let own : own_id c.args.text ≡ Some c.in_ok-id.id.items = ap own_id (sym c.as_slice-2.ensures) ∙ c.in_ok-id.ensures in
     let next : c.in_ok-end.end ≡ end_after (end_for_new c.self.inside.config.limit c.self.inside.end) c.args.text c.args.moment =
-    c.in_ok-end.ensures ∙ ap (λ (e : End). end_after e c.as_slice.result.now c.args.moment) c.for_new.ensures
-    ∙ ap (λ (t : List ℕ). end_after (end_for_new c.self.inside.config.limit c.self.inside.end) t c.args.moment) c.as_slice.ensures in
+    c.in_ok-end.ensures ∙ ap (λ (t : List ℕ). end_after (end_for_new c.self.inside.config.limit c.self.inside.end) t c.args.moment) c.as_slice.ensures in
     let message : c.owner_of-owner.result ≡ record { number = length c.self.inside.kept.items + 1; content = content_id_of c.args.text } =
     c.owner_of-owner.ensures ∙ ap (λ (b : Archive). record { number = b.next; content = content_id_of c.as_slice-3.result.now }) (sym c.self.view_is)
     ∙ ap (λ (t : List ℕ). record { number = length c.self.inside.kept.items + 1; content = content_id_of t }) c.as_slice-3.ensures in
