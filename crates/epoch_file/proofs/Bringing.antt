@@ -1,18 +1,14 @@
 -- How a window comes to have all of an entry.
-use Rattle.std.proofs.Common.{◌≡◌, ◌≢◌, ℕ, ◌+◌, ◌-◌, ◌<◌, ◌≤◌, min, Bool, true, false, List, [], ◌∷◌, ◌++◌, length, take, drop, Option, Some, None, Result, Ok, Err, refl, sym, ap, subst, ◌∙◌, arith, length-append, length-take, length-drop}
+use Rattle.std.proofs.Common.{◌≡◌, ◌≢◌, ℕ, ◌+◌, ◌-◌, ◌≤◌, min, Bool, true, false, List, [], ◌++◌, length, take, drop, Option, Some, None, Result, Ok, Err, refl, sym, ap, subst, ◌∙◌, arith, length-append, length-take, length-drop}
 use Rattle.std.proofs.lemmas.List.{append_assoc, append-nil, take_at, take-append-drop, take-append-le, drop_at}
-use Rattle.arch_base.specs.declared.ids.Id20.{Id20}
-use Rattle.disk_model.specs.declared.name.FileName.{FileName}
 use Rattle.disk_model.specs.declared.refusal.WalkRefusal.{WalkRefusal}
 use Rattle.disk_model.specs.Disk.{Kept, Content, WhereTold, Told, Unchanged, HasRead, bytes_of}
 use Rattle.arch_model.specs.Epochs.{magic}
-use Rattle.epoch_file.specs.declared.sight.Sight.{Sight}
-use Rattle.epoch_file.specs.declared.sight.Sight.TheVariants.{Lacks, Short, Whole}
+use Rattle.epoch_file.specs.declared.sight.Sight.TheVariants.{Lacks, Whole}
 use Rattle.epoch_file.specs.declared.state.State.{State}
 use Rattle.epoch_file.specs.declared.window.Part.{Part}
-use Rattle.epoch_file.specs.Entries.{EpochEntry, IsEpochEntry, bytes_behind, chain, epoch_of}
 use Rattle.epoch_file.specs.Sights.{Sees}
-use Rattle.epoch_file.specs.Steps.{left_of, Brings, KeepsShown, Walked, BeginsAt, BeginsIn, BeginsWith}
+use Rattle.epoch_file.specs.Steps.{Brings, KeepsShown, Walked, BeginsAt, BeginsIn, BeginsWith}
 use Rattle.epoch_file.specs.Windows.{Shows, Comes, IsInside}
 use Rattle.epoch_file.proofs.Showing.{left-length, shows-more}
 

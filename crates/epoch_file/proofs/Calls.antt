@@ -1,12 +1,12 @@
 -- Calls that only read, one behind the other.
-use Rattle.std.proofs.Common.{◌≡◌, ℕ, ◌≤◌, Option, Some, None, Result, Ok, Err, refl, sym, subst, ◌∙◌, arith}
+use Rattle.std.proofs.Common.{◌≡◌, ℕ, ◌≤◌, Option, Some, None, Result, Ok, Err, refl, subst, ◌∙◌, arith}
 use Rattle.arch_base.specs.Counts.{Rose}
 use Rattle.disk_model.specs.declared.name.FileName.{FileName}
 use Rattle.disk_model.specs.declared.refusal.WalkRefusal.{WalkRefusal}
 use Rattle.disk_model.specs.declared.refusal.WalkRefusal.TheVariants.{DiskFault, NoMemory, Damaged}
-use Rattle.disk_model.specs.Disk.{Files, Kept, Content, Image, Fits, Told, WhereTold, Unchanged, Elapses, LeavesOnly}
+use Rattle.disk_model.specs.Disk.{Files, Kept, Content, Image, Fits, Told, WhereTold, Unchanged, Elapses}
 use Rattle.disk_model.specs.Moments.{started, goes_on, joined}
-use Rattle.epoch_file.specs.Runs.{OnlyReads, FaultRose, StopRose}
+use Rattle.epoch_file.specs.Runs.{OnlyReads, FaultRose}
 
 -- what is unchanged stays
 pub unchanged-refl : (content : Option Content) → Told Unchanged content content

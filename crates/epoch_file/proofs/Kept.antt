@@ -1,11 +1,10 @@
 -- The commit that keeps a text is one that is spelled and read.
-use Rattle.std.proofs.Common.{◌≡◌, ℕ, ◌<◌, ◌≤◌, ◌^◌, List, [], ◌∷◌, ◌++◌, codes, Option, Some, None, IfSome, refl, arith, pos}
+use Rattle.std.proofs.Common.{◌≡◌, ℕ, ◌≤◌, List, [], ◌∷◌, ◌++◌, Option, Some, None, IfSome, refl, arith}
 use Rattle.std.proofs.lemmas.Int.{ints}
 use Rattle.arch_base.specs.declared.ids.Id20.{Id20}
 use Rattle.arch_base.specs.Ids.{IsId}
 use Rattle.git_objects.specs.CleanText.{clean, IsClean}
-use Rattle.git_objects.specs.Commits.{IsCommit, IsParent, IsZone}
-use Rattle.git_objects.specs.Objects.{id_of}
+use Rattle.git_objects.specs.Commits.{IsCommit, IsParent}
 use Rattle.git_objects.proofs.Cleaning.{IsClean-clean}
 use Rattle.git_objects.proofs.ObjectIds.{IsId-id_of}
 use Rattle.mail_address.specs.declared.address.Address.{Address}
@@ -13,8 +12,8 @@ use Rattle.mail_date.specs.declared.moment.Moment.{Moment}
 use Rattle.mime_words.specs.Decoding.{decoded}
 use Rattle.arch_model.specs.Facts.{name_or, clean_address, from_of, from_fact, email_of, email_fact, first_mailbox, subject_fact, date_fact}
 use Rattle.arch_model.specs.Commits.{commit_of, written_at}
-use Rattle.arch_model.specs.Epochs.{tree_of, commit_text, commit_id}
-use Rattle.epoch_file.specs.Entries.{EpochEntry, IsEpochEntry, last_moment, commit_behind, last_of}
+use Rattle.arch_model.specs.Epochs.{commit_text, commit_id}
+use Rattle.epoch_file.specs.Entries.{EpochEntry, last_moment, commit_behind, last_of}
 use Rattle.epoch_file.proofs.Zones.{IsNear, date-near}
 
 name_clean : (name address : List ℕ) → IsClean name → IsClean address → IsClean (name_or name address)

@@ -1,5 +1,5 @@
 -- What stands at the front of held bytes where an entry begins there.
-use Rattle.std.proofs.Common.{◌≡◌, ℕ, ◌+◌, ◌<◌, ◌≤◌, ◌^◌, ◌⊎◌, List, [], ◌∷◌, ◌++◌, codes, length, drop, length-append, Option, Some, None, refl, sym, ap, ◌∙◌, arith}
+use Rattle.std.proofs.Common.{◌≡◌, ℕ, ◌+◌, ◌<◌, ◌≤◌, ◌^◌, ◌⊎◌, List, ◌∷◌, ◌++◌, codes, length, drop, length-append, Option, Some, None, sym, ap, ◌∙◌, arith}
 use Rattle.std.specs.Fmt.{decimal}
 use Rattle.std.proofs.lemmas.List.{append_assoc}
 use Rattle.std.proofs.lemmas.Option.{none-some, same_Some}
@@ -9,7 +9,7 @@ use Rattle.mail_reader.specs.StorageTexts.{max_text_len}
 use Rattle.arch_model.specs.Epochs.{tree_of}
 use Rattle.epoch_file.specs.declared.sight.Sight.{Sight}
 use Rattle.epoch_file.specs.declared.sight.Sight.TheVariants.{Lacks, Short, Whole}
-use Rattle.epoch_file.specs.Entries.{EpochEntry, IsEpochEntry, bytes_behind}
+use Rattle.epoch_file.specs.Entries.{EpochEntry, bytes_behind}
 use Rattle.epoch_file.specs.Sights.{Starts, Sees, SeesBehind, SeesAll, commit_place, EndsCommit}
 use Rattle.epoch_file.proofs.Fronts.{within, fits, behind}
 use Rattle.epoch_file.proofs.Sizes.{content_behind, head_of, objects, headed, head_first, length-head, digits-le, length-blob, length-tree, length-entry}

@@ -1,11 +1,11 @@
 -- The pieces of an entry's bytes, and their lengths.
-use Rattle.std.proofs.Common.{◌≡◌, ℕ, ◌+◌, ◌<◌, ◌≤◌, ◌^◌, List, [], ◌∷◌, ◌++◌, codes, length, length-append, Option, refl, sym, ap, ◌∙◌, arith, lit<}
+use Rattle.std.proofs.Common.{◌≡◌, ℕ, ◌+◌, ◌<◌, ◌≤◌, ◌^◌, List, [], ◌∷◌, ◌++◌, codes, length, length-append, Option, sym, ap, ◌∙◌, arith}
 use Rattle.std.specs.Fmt.{decimal}
 use Rattle.std.proofs.lemmas.List.{append_assoc}
 use Rattle.std.proofs.lemmas.Fmt.{length-decimal-le}
 use Rattle.arch_base.specs.declared.ids.Id20.{Id20}
-use Rattle.git_objects.specs.Commits.{commit_content, commit_spelling}
-use Rattle.git_objects.specs.Objects.{blob_spelling, tree_spelling, blob_id_of, id_of}
+use Rattle.git_objects.specs.Commits.{commit_content}
+use Rattle.git_objects.specs.Objects.{blob_spelling, blob_id_of, id_of}
 use Rattle.git_objects.proofs.Spellings.{length-tree_spelling}
 use Rattle.git_objects.proofs.ObjectIds.{IsId-id_of}
 use Rattle.arch_model.specs.Commits.{commit_of}

@@ -1,5 +1,5 @@
 -- What is read of an entry at the front of bytes.
-use Rattle.std.specs.Prelude.{◌≡◌, ◌≢◌, ℕ, ◌+◌, ◌-◌, ◌≤◌, true, List, ◌++◌, length, take, Option, Some, None, Result, Ok, Err, MatchOption, [], unwrap_or}
+use Rattle.std.specs.Prelude.{◌≡◌, ◌≢◌, ℕ, ◌+◌, ◌≤◌, true, List, ◌++◌, length, Option, Some, None, Result, Ok, Err, MatchOption, [], unwrap_or}
 use Rattle.arch_base.specs.declared.ids.Id20.{Id20}
 use Rattle.arch_base.specs.declared.sequence.NoMemory.{NoMemory}
 use Rattle.git_objects.specs.Commits.{commit_content, IsParent}

@@ -1,11 +1,8 @@
 -- What a window shows of a part of a file.
-use Rattle.std.specs.Prelude.{◌≡◌, ℕ, ◌+◌, ◌-◌, ◌<◌, ◌≤◌, min, Bool, true, false, List, ◌++◌, length, take, drop, Option, Result, Ok, Err}
-use Rattle.arch_base.specs.declared.ids.Id20.{Id20}
+use Rattle.std.specs.Prelude.{◌≡◌, ℕ, ◌+◌, ◌-◌, ◌<◌, ◌≤◌, min, Bool, true, false, List, ◌++◌, length, take, drop, Result, Ok, Err}
 use Rattle.disk_model.specs.declared.refusal.WalkRefusal.{WalkRefusal}
 use Rattle.disk_model.specs.Disk.{Content, bytes_of}
 use Rattle.epoch_file.specs.declared.window.Part.{Part}
-use Rattle.epoch_file.specs.Entries.{EpochEntry, IsEpochEntry, bytes_behind}
-use Rattle.epoch_file.specs.Walking.{LacksEntry}
 
 -- the window shows the bytes of a file from the part's place on, and they end where the part does, or the file ends there
 pub record Shows (bytes : List ℕ) (part : Part) (window : List ℕ) : Type 0 where

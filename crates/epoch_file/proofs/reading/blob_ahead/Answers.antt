@@ -1,4 +1,3 @@
-use Rattle.std.proofs.Common.{◌∙◌, sym, ap}
 use Rattle.git_objects.specs.Objects.{BlobOf}
 use Rattle.epoch_file.proofs.Found.{blob_is}
 use Rattle.epoch_file.proofs.reading.blob_ahead.Goals as goal

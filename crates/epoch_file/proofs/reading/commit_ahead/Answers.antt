@@ -1,4 +1,3 @@
-use Rattle.std.proofs.Common.{◌∙◌, sym, ap}
 use Rattle.git_objects.specs.Objects.{CommitOf}
 use Rattle.epoch_file.proofs.Found.{commit_is}
 use Rattle.epoch_file.proofs.reading.commit_ahead.Goals as goal

@@ -1,4 +1,3 @@
-use Rattle.std.proofs.Common.{◌∙◌, sym, ap}
 use Rattle.git_objects.specs.Objects.{TreeOf}
 use Rattle.epoch_file.proofs.Found.{tree_is}
 use Rattle.epoch_file.proofs.reading.tree_ahead.Goals as goal

@@ -1,4 +1,4 @@
-use Rattle.std.proofs.Common.{◌≡◌, ◌+◌, ◌++◌, ◌∷◌, length, Some, ◌∙◌, sym}
+use Rattle.std.proofs.Common.{◌+◌, ◌++◌, ◌∷◌, length, Some, ◌∙◌, sym}
 use Rattle.std.specs.Fmt.{decimal}
 use Rattle.std.proofs.lemmas.List.{append_cancel_left}
 use Rattle.std.proofs.lemmas.Option.{none-some, some_pair_parts}
