@@ -1,3 +1,3 @@
-mod NameLists
+pub mod NameLists
 mod Removals
 mod Cuts

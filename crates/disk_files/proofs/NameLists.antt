@@ -13,7 +13,7 @@ use Rattle.std.proofs.lemmas.Map.Views.{All-after_first}
 use Rattle.std.proofs.lemmas.Option.{none-some, slice_get-get_or, slice_get_within, get_or_from_slice_get}
 use Rattle.disk_model.specs.declared.name.FileName.{FileName}
 use Rattle.disk_model.specs.Name.{name_cmp}
-use Rattle.disk_model.specs.Images.{names_total}
+use Rattle.disk_model.specs.Images.{names_total, same_or_other}
 use Rattle.disk_model.specs.Disk.{Content, Files, Fits, Image, IsNameAt, Kept, Told, Unchanged, WhereTold}
 use Rattle.disk_files.specs.Listing.{AreAllNames}
 
@@ -40,6 +40,17 @@ first_in x xs = (0, omega arith, refl)
 -- nothing is in the empty list
 none_in : (q : FileName) → Contains [] q → ⊥
 none_in q among = absurd (omega (arith, among.1))
+
+-- a name is in a list or not
+pub contains_or_not : (xs : List FileName) (q : FileName) → Contains xs q ⊎ (Contains xs q → ⊥)
+contains_or_not [] q = inr (none_in q)
+contains_or_not (x ∷ xs) q = elim (same_or_other q x) [
+  | inl is ↦ inl (subst (λ (n : FileName). Contains (x ∷ xs) n) is (first_in x xs))
+  | inr apart ↦ elim (contains_or_not xs q) [
+    | inl among ↦ inl (Contains-append_right (x ∷ []) xs q among)
+    | inr out ↦ inr (λ among. elim (one_of x xs q among) [ inl is ↦ apart is | inr behind ↦ out behind ])
+  ]
+]
 
 -- what is behind the first is above it
 above_first : (x : FileName) (xs : List FileName) (q : FileName) → IsStrictlySortedBy name_cmp (x ∷ xs) → Contains xs q → name_cmp x q ≡ Less

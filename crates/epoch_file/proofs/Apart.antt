@@ -85,7 +85,7 @@ same_entry : (e f : EpochEntry) → e.name ≡ f.name → e.text ≡ f.text → 
 same_entry e f n t m = λ i. record { name = n i; text = t i; moment = m i }
 
 -- the first of entries is told by their bytes, and so is what follows it
-entry_once : (parent : Option Id20) (e f : EpochEntry) (x y : List ℕ) → IsEpochEntry e → IsEpochEntry f → length (bytes_behind parent e ++ x) < 2 ^ 64
+pub entry_once : (parent : Option Id20) (e f : EpochEntry) (x y : List ℕ) → IsEpochEntry e → IsEpochEntry f → length (bytes_behind parent e ++ x) < 2 ^ 64
     → bytes_behind parent e ++ x ≡ bytes_behind parent f ++ y → (e ≡ f) × (x ≡ y)
 entry_once parent e f x y h k small is =
     let ce = content_behind parent e in

@@ -54,3 +54,9 @@ abbrev pub EpochsDiffer : Type 0
 EpochsDiffer =
     (es fs : List EpochEntry) → AreEpochEntries es → AreEpochEntries fs → length (epoch_of es) < 2 ^ 64
     → epoch_of es ≡ epoch_of fs → es ≡ fs
+
+-- The first entry of bytes is told by them, and so is what follows it.
+abbrev pub EntriesDiffer : Type 0
+EntriesDiffer =
+    (parent : Option Id20) (e f : EpochEntry) (x y : List ℕ) → IsEpochEntry e → IsEpochEntry f → length (bytes_behind parent e ++ x) < 2 ^ 64
+    → bytes_behind parent e ++ x ≡ bytes_behind parent f ++ y → (e ≡ f) × (x ≡ y)

@@ -13,7 +13,7 @@ mod window;
 
 pub use appending::append_entry;
 pub use entry::{NewEntry, Seen, SeenList, Written};
-pub use laws::law_of_epochs;
+pub use laws::{law_of_entries, law_of_epochs};
 pub use refusal::StoreRefusal;
 pub use walking::walk;
 

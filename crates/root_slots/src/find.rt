@@ -105,6 +105,7 @@ fn find(file: &[u8]) -> Result<Option<(u8, Root)>, RootRefusal>
     requires { length file.now ≡ 4096 }
     ensures exact { Answers file.now result }
     ensures inverse { ReadsBack file.now result }
+    ensures valid { IfOk result (λ found. IfSome found (λ one. (one.0 < 2) × IsRoot one.1)) }
     ensures no_fault { result ≢ Err RootRefusal.DiskFault }
 {
     let Some(slot) = newest_slot(file) else {
@@ -137,6 +138,8 @@ pub fn read<D: Disk>(disk: &mut D) -> Result<Option<(u8, Root)>, RootRefusal>
     ensures exact { WhereTold (λ k. Answers (bytes_of (k root_name).seen) result) (D.content disk.old) }
     // The root that was spelled there is read back.
     ensures inverse { WhereTold (λ k. ReadsBack (bytes_of (k root_name).seen) result) (D.content disk.old) }
+    // What is read is a root in the ranges of its fields, whatever the disk tells.
+    ensures valid { IfOk result (λ found. IfSome found (λ one. (one.0 < 2) × IsRoot one.1)) }
     ensures same { Told Unchanged (D.content disk.old) (D.content disk.new) }
     ensures any_moment { LeavesOnly D.moment D.left_since disk.old disk.new (Image (D.content disk.old)) }
     ensures later { D.faults disk.old ≤ D.faults disk.new }

@@ -13,7 +13,7 @@ mod start;
 pub use find::read;
 pub use laws::law_of_spellings;
 pub use refusal::RootRefusal;
-pub use root::{Place, Root};
+pub use root::{Place, Root, root_fits};
 pub use slots::{commit, fill, is_open, raise, shut};
 pub use start::begin;
 

@@ -1,5 +1,6 @@
 //! What a root names.
 ghost use Rattle.std.specs.Prelude.{◌≡◌};
+ghost use Rattle.root_slots.specs.Valid.{IsRoot, PlaceFits, RootFits};
 
 use arch_base::Config;
 
@@ -42,5 +43,27 @@ impl Root {
             epochs: self.epochs,
             cache: self.cache,
         }
+    }
+}
+
+/// The numbers of a place fit their fields.
+fn place_fits(place: Place)
+    ensures { PlaceFits place }
+{
+    let _gen = place.gen_;
+    let _length = place.length;
+}
+
+/// The values of a root fit their fields: a call brings that into the proof around it, and does nothing.
+pub fn root_fits(root: &Root)
+    requires { IsRoot root.now }
+    ensures { RootFits root.now }
+{
+    let _name = root.config.name.as_slice();
+    let _sequence = root.sequence;
+    place_fits(root.map);
+    place_fits(root.cache);
+    for index in 0..64 {
+        place_fits(root.epochs[index]);
     }
 }

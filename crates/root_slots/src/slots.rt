@@ -27,7 +27,7 @@ pub fn root_file() -> FileName
 /// Whether the gate of a slot is open. A root file that ends before the gate has none.
 pub fn is_open<D: Disk>(disk: &mut D, slot: u8) -> Result<bool, DiskFault>
     requires slot { slot < 2 }
-    ensures open { IfOk result (λ open_. WhereTold (IsGateOpen slot open_) (D.content disk.old)) }
+    ensures gate { IfOk result (λ open_. WhereTold (IsGateOpen slot open_) (D.content disk.old)) }
     ensures same { Told Unchanged (D.content disk.old) (D.content disk.new) }
     ensures any_moment { LeavesOnly D.moment D.left_since disk.old disk.new (Image (D.content disk.old)) }
     ensures cause { IsCaused (D.faults disk.old) (D.faults disk.new) result }
