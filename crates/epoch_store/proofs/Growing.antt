@@ -1,0 +1,156 @@
+-- An archive with one more entry, and its bytes.
+use Rattle.std.specs.Prelude.{◌≡◌, ◌≢◌, ◌+◌, ◌-◌, ◌<◌, ◌≤◌, ◌==◌, ℕ, zero, suc, Bool, true, false, List, [], ◌∷◌, ◌++◌, length, Option, Some, None, if◌then◌else◌, refl}
+use Rattle.std.specs.List.{AllByRecursion, flat_map}
+use Rattle.std.proofs.Common.{◌∙◌, sym, ap, subst, arith, append_assoc, length-append}
+use Rattle.std.proofs.lemmas.List.{append-nil}
+use Rattle.std.proofs.lemmas.List.Elements.{filter-append}
+use Rattle.std.proofs.lemmas.Grind.{flat_map-append}
+use Rattle.std.proofs.lemmas.Bool.Decides.{nat_tests}
+use Rattle.arch_base.specs.declared.ids.Id20.{Id20}
+use Rattle.git_objects.specs.Objects.{blob_id_of}
+use Rattle.mail_reader.specs.Ids.{own_id}
+use Rattle.arch_model.specs.Archives.{Entry, Archive, with_entry, in_epoch}
+use Rattle.arch_model.specs.Epochs.{epoch_bytes, entries_bytes, last_commit, magic, message_name, entry_bytes, commit_id}
+use Rattle.number_map.specs.declared.line.Record.{Record}
+use Rattle.number_map.specs.Records.{record_bytes}
+use Rattle.epoch_file.specs.Entries.{bytes_behind}
+use Rattle.epoch_file.specs.Appending.{front_at}
+use Rattle.epoch_store.specs.Validity.{IsEntry, Rise, IdsDiffer, BlobsAgree, IsArchive}
+use Rattle.epoch_store.specs.Recovery.{entry_of, record_for, records_from, records_of, map_bytes, bytes_in}
+use Rattle.epoch_store.specs.Stores.{in_file, stored_at, stored_behind}
+use Rattle.epoch_store.specs.declared.entries.StoredEntry.{StoredEntry}
+
+-- what holds of each of some and of one more
+pub all_behind : {X : Type 0} (P : X → Type 0) (xs : List X) (x : X) → AllByRecursion P xs → P x → AllByRecursion P (xs ++ x ∷ [])
+all_behind P [] x all one = (one, tt)
+all_behind P (y ∷ ys) x all one = (all.0, all_behind P ys x all.1 one)
+
+-- what holds of each says less too
+pub all_weaker : {X : Type 0} (P Q : X → Type 0) (xs : List X) → ((x : X) → P x → Q x) → AllByRecursion P xs → AllByRecursion Q xs
+all_weaker P Q [] less all = tt
+all_weaker P Q (x ∷ xs) less all = (less x all.0, all_weaker P Q xs less all.1)
+
+-- a test on numbers that are the same, and on those that aren't
+same_test : (m n : ℕ) → m ≡ n → (m == n) ≡ true
+same_test m n is = grind (arith, nat_tests)
+
+other_test : (m n : ℕ) → m ≢ n → (m == n) ≡ false
+other_test m n apart = grind (arith, nat_tests)
+
+-- the entry of a number is none where all have lesser ones
+no_entry : (es : List Entry) (n : ℕ) → AllByRecursion (λ (e : Entry). e.number < n) es → entry_of es n ≡ None
+no_entry [] n below = refl
+no_entry (e ∷ es) n below =
+    let less : e.number < n = below.0 in
+    rw (other_test e.number n (λ is. absurd (omega (arith, less, is)))) (no_entry es n below.1)
+
+-- one entry more leaves the entries of other numbers
+entry_kept : (es : List Entry) (new : Entry) (n : ℕ) → new.number ≢ n → entry_of (es ++ new ∷ []) n ≡ entry_of es n
+entry_kept [] new n apart = rw (other_test new.number n apart) refl
+entry_kept (e ∷ es) new n apart = ap (λ (rest : Option Entry). if e.number == n then Some e else rest) (entry_kept es new n apart)
+
+-- and is that of its own
+entry_new : (es : List Entry) (new : Entry) → AllByRecursion (λ (e : Entry). e.number < new.number) es → entry_of (es ++ new ∷ []) new.number ≡ Some new
+entry_new [] new below = rw (same_test new.number new.number refl) refl
+entry_new (e ∷ es) new below =
+    let less : e.number < new.number = below.0 in
+    rw (other_test e.number new.number (λ is. absurd (omega (arith, less, is)))) (entry_new es new below.1)
+
+-- so the records of lesser numbers stay
+records_kept : (es : List Entry) (new : Entry) (n count : ℕ) → n + count ≤ new.number → records_from (es ++ new ∷ []) n count ≡ records_from es n count
+records_kept es new n zero less = refl
+records_kept es new n (suc count) less =
+    ap (λ (e : Option Entry). record_for n e ∷ records_from (es ++ new ∷ []) (n + 1) count) (entry_kept es new n (λ is. absurd (omega (arith, less, is))))
+    ∙ ap (λ (rs : List Record). record_for n (entry_of es n) ∷ rs) (records_kept es new (n + 1) count (omega (arith, less)))
+
+-- the records of so many numbers and of the one behind them
+records_more : (es : List Entry) (n count : ℕ) → records_from es n (suc count) ≡ records_from es n count ++ record_for (n + count) (entry_of es (n + count)) ∷ []
+records_more es n zero = ap (λ (m : ℕ). record_for m (entry_of es m) ∷ []) (let is : n ≡ n + 0 = omega arith in is)
+records_more es n (suc count) =
+    ap (λ (rs : List Record). record_for n (entry_of es n) ∷ rs)
+    (records_more es (n + 1) count ∙ ap (λ (m : ℕ). records_from es (n + 1) count ++ record_for m (entry_of es m) ∷ []) (let is : n + 1 + count ≡ n + suc count = omega arith in is))
+
+-- an entry of its number is one more record
+pub map_grows : (a : Archive) (new : Entry) → 1 ≤ a.next → new.number ≡ a.next → AllByRecursion (λ (e : Entry). e.number < a.next) a.entries
+    → flat_map record_bytes (records_from (a.entries ++ new ∷ []) 1 (a.next + 1 - 1)) ≡ map_bytes a ++ record_bytes (record_for a.next (Some new))
+map_grows a new least number below =
+    let count : a.next + 1 - 1 ≡ suc (a.next - 1) = omega (arith, least) in
+    let last : 1 + (a.next - 1) ≡ a.next = omega (arith, least) in
+    let all = a.entries ++ new ∷ [] in
+    let found : entry_of all a.next ≡ Some new = subst (λ (n : ℕ). entry_of all n ≡ Some new) number (entry_new a.entries new (subst (λ (n : ℕ). AllByRecursion (λ (e : Entry). e.number < n) a.entries) (sym number) below)) in
+    let records : records_from all 1 (a.next + 1 - 1) ≡ records_of a ++ record_for a.next (Some new) ∷ [] =
+    ap (records_from all 1) count
+    ∙ (records_more all 1 (a.next - 1)
+    ∙ (ap (λ (rs : List Record). rs ++ record_for (1 + (a.next - 1)) (entry_of all (1 + (a.next - 1))) ∷ []) (records_kept a.entries new 1 (a.next - 1) (omega (arith, least, number)))
+    ∙ (ap (λ (n : ℕ). records_of a ++ record_for n (entry_of all n) ∷ []) last ∙ ap (λ (e : Option Entry). records_of a ++ record_for a.next e ∷ []) found))) in
+    ap (flat_map record_bytes) records ∙ (flat_map-append record_bytes (records_of a) (record_for a.next (Some new) ∷ []) ∙ ap (λ (b : List ℕ). map_bytes a ++ b) (append-nil (record_bytes (record_for a.next (Some new)))))
+
+-- the entries of an epoch and one more of it, or of another one
+pub in_epoch-here : (es : List Entry) (new : Entry) (epoch : ℕ) → new.epoch ≡ epoch → in_epoch (es ++ new ∷ []) epoch ≡ in_epoch es epoch ++ new ∷ []
+in_epoch-here es new epoch is = filter-append (λ (e : Entry). e.epoch == epoch) es (new ∷ []) ∙ rw (same_test new.epoch epoch is) refl
+
+in_epoch-other : (es : List Entry) (new : Entry) (epoch : ℕ) → new.epoch ≢ epoch → in_epoch (es ++ new ∷ []) epoch ≡ in_epoch es epoch
+in_epoch-other es new epoch apart = filter-append (λ (e : Entry). e.epoch == epoch) es (new ∷ []) ∙ (rw (other_test new.epoch epoch apart) refl ∙ append-nil (in_epoch es epoch))
+
+-- the bytes of entries and of one more behind them
+entries_more : (parent : Option Id20) (es : List Entry) (new : Entry) → entries_bytes parent (es ++ new ∷ []) ≡ entries_bytes parent es ++ bytes_behind (last_commit parent es) (in_file new)
+entries_more parent [] new = append-nil (bytes_behind parent (in_file new))
+entries_more parent (e ∷ es) new =
+    let next : Option Id20 = Some (commit_id message_name e.text e.moment parent) in
+    ap (λ (b : List ℕ). entry_bytes message_name e.text e.moment parent ++ b) (entries_more next es new)
+    ∙ sym (append_assoc (entry_bytes message_name e.text e.moment parent) (entries_bytes next es) (bytes_behind (last_commit next es) (in_file new)))
+
+-- the bytes of an epoch and of one more entry of it
+epoch_more : (es : List Entry) (new : Entry) → epoch_bytes (es ++ new ∷ []) ≡ epoch_bytes es ++ (front_at (length (epoch_bytes es)) ++ bytes_behind (last_commit None es) (in_file new))
+epoch_more [] new = ap (λ (b : List ℕ). magic ++ b) (append-nil (bytes_behind None (in_file new)))
+epoch_more (e ∷ es) new =
+    let all = entries_bytes None (e ∷ es) in
+    let more = bytes_behind (last_commit None (e ∷ es)) (in_file new) in
+    let size = length-append magic all in
+    let there : (length (magic ++ all) == 0) ≡ false = other_test (length (magic ++ all)) 0 (λ none. absurd (omega (arith, size, none))) in
+    ap (λ (b : List ℕ). magic ++ b) (entries_more None (e ∷ es) new) ∙ (sym (append_assoc magic all more) ∙ ap (λ (b : Bool). (magic ++ all) ++ ((if b then magic else []) ++ more)) (sym there))
+
+pub bytes_here : (a : Archive) (new : Entry) → epoch_bytes (in_epoch (a.entries ++ new ∷ []) new.epoch) ≡ bytes_in a new.epoch ++ (front_at (length (bytes_in a new.epoch)) ++ bytes_behind (last_commit None (in_epoch a.entries new.epoch)) (in_file new))
+bytes_here a new = ap epoch_bytes (in_epoch-here a.entries new new.epoch refl) ∙ epoch_more (in_epoch a.entries new.epoch) new
+
+pub bytes_other : (a : Archive) (new : Entry) (epoch : ℕ) → new.epoch ≢ epoch → epoch_bytes (in_epoch (a.entries ++ new ∷ []) epoch) ≡ bytes_in a epoch
+bytes_other a new epoch apart = ap epoch_bytes (in_epoch-other a.entries new epoch apart)
+
+-- what is kept of entries and of one more
+pub stored_more : (before es : List Entry) (new : Entry) → stored_behind before (es ++ new ∷ []) ≡ stored_behind before es ++ stored_at (before ++ es) new ∷ []
+stored_more before [] new = ap (λ (b : List Entry). stored_at b new ∷ []) (sym (append-nil before))
+stored_more before (e ∷ es) new = ap (λ (s : List StoredEntry). stored_at before e ∷ s) (stored_more (before ++ e ∷ []) es new ∙ ap (λ (b : List Entry). stored_behind (before ++ e ∷ []) es ++ stored_at b new ∷ []) (append_assoc before (e ∷ []) es))
+
+-- numbers still rise, and epochs still don't fall
+rise_more : (number epoch : ℕ) (es : List Entry) (new : Entry) → Rise number epoch es → number ≤ new.number → epoch ≤ new.epoch → AllByRecursion (λ (e : Entry). e.number < new.number) es → AllByRecursion (λ (e : Entry). e.epoch ≤ new.epoch) es → Rise number epoch (es ++ new ∷ [])
+rise_more number epoch [] new rise low in_time below older = (low, in_time, tt)
+rise_more number epoch (e ∷ es) new rise low in_time below older =
+    let less : e.number < new.number = below.0 in
+    (rise.0, rise.1, rise_more (e.number + 1) e.epoch es new rise.2 (omega (arith, less)) older.0 below.1 older.1)
+
+ids_more : (es : List Entry) (new : Entry) → IdsDiffer es → AllByRecursion (λ (e : Entry). own_id new.text ≢ own_id e.text) es → IdsDiffer (es ++ new ∷ [])
+ids_more [] new differ free = (tt, tt)
+ids_more (e ∷ es) new differ free = (all_behind (λ (f : Entry). own_id f.text ≢ own_id e.text) es new differ.0 free.0, ids_more es new differ.1 free.1)
+
+blobs_more : (es : List Entry) (new : Entry) → BlobsAgree es → AllByRecursion (λ (e : Entry). blob_id_of new.text ≢ blob_id_of e.text) es → BlobsAgree (es ++ new ∷ [])
+blobs_more [] new agree free = (tt, tt)
+blobs_more (e ∷ es) new agree free = (all_behind (λ (f : Entry). blob_id_of f.text ≡ blob_id_of e.text → f.text ≡ e.text) es new agree.0 (λ is. absurd (free.0 is)), blobs_more es new agree.1 free.1)
+
+-- an archive with one more entry of its next number, in an epoch that isn't before any other's, with an id and a blob id of its own
+pub archive_grows : (a : Archive) (epoch : ℕ) (text : List ℕ) (moment : ℕ) → IsArchive a → a.next < 2147483648 → IsEntry (record { number = a.next; epoch = epoch; text = text; moment = moment })
+    → AllByRecursion (λ (e : Entry). e.epoch ≤ epoch) a.entries → AllByRecursion (λ (e : Entry). own_id text ≢ own_id e.text) a.entries → AllByRecursion (λ (e : Entry). blob_id_of text ≢ blob_id_of e.text) a.entries
+    → IsArchive (with_entry a epoch text moment)
+archive_grows a epoch text moment valid room entry older id blob =
+    let new : Entry = record { number = a.next; epoch = epoch; text = text; moment = moment } in
+    let least = valid.next_least in
+    record {
+      name = valid.name;
+      config = valid.config;
+      next_least = omega arith;
+      next_most = omega (arith, room);
+      entries = all_behind IsEntry a.entries new valid.entries entry;
+      below = all_behind (λ (e : Entry). e.number < a.next + 1) a.entries new (all_weaker (λ (e : Entry). e.number < a.next) (λ (e : Entry). e.number < a.next + 1) a.entries (λ e less. omega (arith, less)) valid.below) (omega arith);
+      order = rise_more 1 0 a.entries new valid.order least (omega arith) valid.below older;
+      ids = ids_more a.entries new valid.ids id;
+      blobs = blobs_more a.entries new valid.blobs blob;
+    }

@@ -1,0 +1,142 @@
+-- An archive without entries, and the files that stand for it.
+use Rattle.std.specs.Prelude.{◌≡◌, ◌<◌, ℕ, List, [], length, get_or, Option, Some, None, Ok, IsSome, ◌↔◌, refl}
+use Rattle.std.proofs.Common.{sym, ap, subst, inl, inr, arith}
+use Rattle.std.proofs.lemmas.List.{get_or-replicate, length-replicate}
+use Rattle.std.specs.List.{Contains}
+use Rattle.disk_files.specs.Listing.{AreAllNames}
+use Rattle.arch_base.specs.declared.config.Config.{Config}
+use Rattle.arch_base.specs.Configs.{IsConfig}
+use Rattle.arch_base.specs.Names.{IsName}
+use Rattle.disk_model.specs.declared.name.FileName.{FileName}
+use Rattle.disk_model.specs.Disk.{File, Files, Kept, Content, Image, Told, WhereTold, Unchanged, Synced, Fits, exact, bytes_of, ReadsFit}
+use Rattle.disk_model.specs.Laws.{Fits-Within, Fits-exact, sync_image}
+use Rattle.disk_model.specs.Images.{same_or_other}
+use Rattle.arch_model.specs.Archives.{empty_archive}
+use Rattle.root_slots.specs.declared.root.Place.{Place}
+use Rattle.root_slots.specs.RootName.{root_name}
+use Rattle.root_slots.specs.Each.{IfThere}
+use Rattle.root_slots.specs.Slots.{HasRoot, Ready, IsShutFile, EachShut}
+use Rattle.root_slots.specs.Spelling.{spelling}
+use Rattle.root_slots.specs.Valid.{PlaceFits, no_place}
+use Rattle.epoch_store.specs.Files.{map_file_of, epoch_file_of, Fronts, StandsFor, as_read}
+use Rattle.epoch_store.specs.Validity.{IsArchive}
+use Rattle.epoch_store.specs.Recovery.{map_bytes, bytes_in, Names}
+use Rattle.epoch_store.specs.Stores.{IsDiskOf, HasSizes}
+use Rattle.epoch_store.specs.First.{MakesRoot, MakingLeaves, HasOnly, first_root_of}
+use Rattle.epoch_store.proofs.Appends.{map_isnt_root, epoch_isnt_root}
+use Rattle.epoch_store.proofs.Making.{first_is_root}
+
+-- it is one
+pub empty_valid : (config : Config) → IsName config.name → IsConfig config → IsArchive (empty_archive config)
+empty_valid config name valid = record { name = name; config = valid; next_least = omega arith; next_most = omega arith; entries = tt; below = tt; order = tt; ids = tt; blobs = tt }
+
+-- all places of the first root are empty
+first_place : (config : Config) (e : ℕ) → e < 64 → get_or (first_root_of config).epochs e no_place ≡ no_place
+first_place config e below = get_or-replicate 64 e no_place no_place below
+
+-- the first root names it
+pub empty_names : (config : Config) → IsName config.name → IsConfig config → Names (first_root_of config) (empty_archive config)
+empty_names config name valid = record {
+  is_root = first_is_root config valid;
+  fits = record {
+    name = name;
+    sequence = omega arith;
+    map = record { gen_ = omega arith; length = omega arith };
+    epochs = λ e below. subst PlaceFits (sym (first_place config e below)) (record { gen_ = omega arith; length = omega arith });
+    count = length-replicate {A = Place} 64 no_place;
+    cache = record { gen_ = omega arith; length = omega arith };
+  };
+  config = refl;
+  next = refl;
+  epochs = λ e below. ap (λ (p : Place). p.length) (first_place config e below);
+  cache = refl;
+}
+
+-- nothing is at the front of each file
+no_front : (file : File) → Fronts [] file
+no_front file = record { long = omega arith; front = refl }
+
+-- files with this root stand for it
+pub empty_stands : (config : Config) (image : Files) → IfThere (HasRoot (spelling (first_root_of config))) (image root_name) → StandsFor (first_root_of config) (map_bytes (empty_archive config)) (bytes_in (empty_archive config)) image
+empty_stands config image there = record {
+  current = there;
+  map_front = no_front (image (map_file_of (first_root_of config)));
+  epochs_front = λ e below. no_front (image (epoch_file_of (first_root_of config) e));
+}
+
+-- what a crash leaves while the root is made
+pub makes_empty : (config : Config) (old k : Option Content) (image : Files) → IsName config.name → IsConfig config → (k ≡ None → old ≡ None) → MakesRoot (spelling (first_root_of config)) k image → MakingLeaves (empty_archive config) old image
+makes_empty config old None image name valid same makes = inl (subst (λ (o : Option Content). Image o image) (sym (same refl)) tt)
+makes_empty config old (Some k) image name valid same (inl shut) = inr (inl shut)
+makes_empty config old (Some k) image name valid same (inr there) = inr (inr (first_root_of config, record { valid = empty_valid config name valid; names = empty_names config name valid; stands = empty_stands config image there }))
+
+-- a root that is ready is there
+root_there : (body : List ℕ) (file : File) → IfThere (Ready 1 body) file → IfThere (HasRoot body) file
+root_there body None there = absurd there
+root_there body (Some file) there = (0, there.current)
+
+-- what the store has in the end
+pub owns_empty : (config : Config) (k : Option Content) → IsName config.name → IsConfig config → ReadsFit k → WhereTold (HasOnly (spelling (first_root_of config))) k → WhereTold (IsDiskOf (record { root = first_root_of config; slot = 0; entries = [] }) (empty_archive config)) k
+owns_empty config None name valid fit only = tt
+owns_empty config (Some k) name valid fit only = record {
+  keeps = record { valid = empty_valid config name valid; names = empty_names config name valid; kept = refl };
+  on = record {
+    images = λ image left. empty_stands config image (root_there (spelling (first_root_of config)) (image root_name) (only.roots (image root_name) (left root_name)));
+    roots = only.roots;
+    exact = record {
+      stands = empty_stands config (as_read k) (root_there (spelling (first_root_of config)) (k root_name).seen (only.roots (k root_name).seen (fit k refl root_name)));
+      map_ends = ap bytes_of (only.others (map_file_of (first_root_of config)) (map_isnt_root 1));
+      epochs_end = λ e below. only.others (epoch_file_of (first_root_of config) e) (epoch_isnt_root e (get_or (first_root_of config).epochs e no_place).gen_);
+      others = λ other. elim (same_or_other root_name other) [ inl is ↦ inl (inl is) | inr apart ↦ inr (only.others other apart) ];
+    };
+  };
+}
+
+-- and its files have their sizes
+pub sized_empty : (config : Config) (k : Option Content) → ReadsFit k → WhereTold (HasOnly (spelling (first_root_of config))) k → WhereTold (HasSizes (record { root = first_root_of config; slot = 0; entries = [] })) k
+sized_empty config None fit only = tt
+sized_empty config (Some k) fit only = record {
+  root = size_there (k root_name).seen (only.roots (k root_name).seen (fit k refl root_name));
+  map_long = omega arith;
+  epochs_long = λ e below. (let is : (get_or (first_root_of config).epochs e no_place).length ≡ 0 = ap (λ (p : Place). p.length) (first_place config e below) in omega (arith, is));
+} where
+  size_there : (file : File) → IfThere (Ready 1 (spelling (first_root_of config))) file → length (bytes_of file) ≡ 4096
+  size_there None there = absurd there
+  size_there (Some file) there = there.current.size
+
+-- after a sync, what reads give of the root file is what a crash leaves of it
+pub shut_synced : (old new : Option Content) → Told Synced old new → WhereTold (λ k. IsShutFile (k root_name).seen) old → EachShut new
+shut_synced None None synced shut = tt
+shut_synced None (Some m) synced shut = absurd synced
+shut_synced (Some k) None synced shut = absurd synced
+shut_synced (Some k) (Some m) synced shut = λ file fits.
+    let is : file ≡ (k root_name).seen = Fits-exact (k root_name).seen file (Fits-Within (m root_name).sure (exact (k root_name).seen) file (synced.crash root_name) fits) in
+    subst IsShutFile (sym is) shut
+
+-- a disk that doesn't change has no open slot still
+pub shut_unchanged : (old new : Option Content) → Told Unchanged old new → EachShut old → EachShut new
+shut_unchanged None None same shut = tt
+shut_unchanged None (Some m) same shut = absurd same
+shut_unchanged (Some k) None same shut = absurd same
+shut_unchanged (Some k) (Some m) same shut = λ file fits. shut file (subst (λ (kept : Kept). Fits kept.sure file) (same root_name) fits)
+
+-- and the same names
+pub names_unchanged : (names : List FileName) (old new : Option Content) → Told Unchanged old new → WhereTold (AreAllNames names) old → WhereTold (AreAllNames names) new
+names_unchanged names None None same all = tt
+names_unchanged names None (Some m) same all = absurd same
+names_unchanged names (Some k) None same all = absurd same
+names_unchanged names (Some k) (Some m) same all = record {
+  in_order = all.in_order;
+  all = λ name. subst (λ (kept : Kept). IsSome kept.seen ↔ Contains names name) (sym (same name)) (all.all name);
+}
+
+-- a sync adds no image
+pub synced_fewer : (old new : Option Content) (image : Files) → ReadsFit old → Told Synced old new → Image new image → Image old image
+synced_fewer old new image fit synced left = sync_image {T = Unit {0}} {E = Unit {0}} (Ok tt) old new image fit synced tt left
+
+-- what isn't told in the end was not told before
+pub none_before : (k m n : Option Content) → Told Synced k m → Told Unchanged m n → n ≡ None → k ≡ None
+none_before None m n synced same none = refl
+none_before (Some k) None n synced same none = absurd synced
+none_before (Some k) (Some m) None synced same none = absurd same
+none_before (Some k) (Some m) (Some n) synced same none = let wrong : Some n ≡ None = none in cc

@@ -1,0 +1,46 @@
+-- What a store keeps, and what its disk leaves at once.
+use Rattle.std.specs.Prelude.{Bool, true, false, if◌then◌else◌, ◌==◌, get_or, ◌≡◌, ◌≤◌, ℕ, zero, suc, unwrap_or, List, [], ◌∷◌, ◌++◌, length, Option, Some, None, refl}
+use Rattle.std.proofs.Common.{◌∙◌, sym, ap, subst, inl, arith}
+use Rattle.std.proofs.lemmas.Bool.Decides.{nat_tests}
+use Rattle.disk_model.specs.Disk.{Files, Content, Image, WhereTold, IsAtMostLength, bytes_of}
+use Rattle.arch_model.specs.Archives.{Archive}
+use Rattle.root_slots.specs.declared.root.Root.{Root}
+use Rattle.epoch_store.specs.declared.entries.StoredEntry.{StoredEntry}
+use Rattle.root_slots.specs.Valid.{no_place}
+use Rattle.epoch_store.specs.Files.{epoch_name}
+use Rattle.epoch_store.specs.declared.next.NextPlace.{NextPlace}
+use Rattle.epoch_store.specs.Stores.{HasSizes, next_sequence, place_of, View, IsStoreOf, RecoversEither, InEpochs}
+
+-- a number that is tested as 0 is
+is_zero : (n : ℕ) → (n == 0) ≡ true → n ≡ 0
+is_zero n is = grind (arith, nat_tests)
+
+-- before anything is done
+pub stands_now : (v : View) (a b : Archive) (k : Option Content) (image : Files) → IsStoreOf v a k → Image k image → RecoversEither a b image
+stands_now v a b None image store left = absurd store
+stands_now v a b (Some k) image store left = inl (v.root, record { valid = store.keeps.valid; names = store.keeps.names; stands = store.on.images image left })
+
+-- what is kept is the same where its parts are
+pub same_view : (root : Root) (slot : ℕ) (es fs : List StoredEntry) → fs ≡ es → ◌≡◌ {A = View} (record { root = root; slot = slot; entries = fs }) (record { root = root; slot = slot; entries = es })
+same_view root slot es fs is = let make : List StoredEntry → View = λ l. record { root = root; slot = slot; entries = l } in ap make is
+
+-- one more entry in an epoch up to 63
+pub in_epochs_more : (es : List StoredEntry) (e : StoredEntry) → InEpochs es → e.epoch ≤ 63 → InEpochs (es ++ e ∷ [])
+in_epochs_more [] e all low zero f is = subst (λ (s : StoredEntry). s.epoch ≤ 63) (ap (λ (o : Option StoredEntry). unwrap_or o e) is) low
+in_epochs_more [] e all low (suc i) f is = let wrong : None ≡ Some f = is in cc
+in_epochs_more (x ∷ es) e all low zero f is = all 0 f is
+in_epochs_more (x ∷ es) e all low (suc i) f is = in_epochs_more es e (λ j g found. all (suc j) g found) low i f is
+
+-- a push that has room puts its item behind the others
+pub pushed : {X : Type 0} (ok : Bool) (old new : List X) (x : X) → new ≡ (if ok then old ++ x ∷ [] else old) → ok ≡ true → new ≡ old ++ x ∷ []
+pushed ok old new x is yes_ = is ∙ ap (λ (b : Bool). if b then old ++ x ∷ [] else old) yes_
+
+-- the file of the next place has its bytes at least
+pub place_inside : (v : View) (p : NextPlace) → p ≡ place_of v.root p.epoch p.parent → p.epoch ≤ 63 → (k : Option Content) → WhereTold (HasSizes v) k → WhereTold (IsAtMostLength (epoch_name p.epoch p.gen_) p.length) k
+place_inside v p is small None sizes = tt
+place_inside v p is small (Some k) sizes =
+    let P : NextPlace → Type 0 = λ q. q.length ≤ length (bytes_of (k (epoch_name p.epoch q.gen_)).seen) in
+    subst P (sym is) (by ((get_or v.root.epochs p.epoch no_place).length == 0) refl) where
+      by : (b : Bool) → ((get_or v.root.epochs p.epoch no_place).length == 0) ≡ b → (get_or v.root.epochs p.epoch no_place).length ≤ length (bytes_of (k (epoch_name p.epoch (if b then next_sequence v.root.sequence else (get_or v.root.epochs p.epoch no_place).gen_))).seen)
+      by true none = let zero_is : (get_or v.root.epochs p.epoch no_place).length ≡ 0 = is_zero (get_or v.root.epochs p.epoch no_place).length none in omega (arith, zero_is)
+      by false some = sizes.epochs_long p.epoch (omega (arith, small))

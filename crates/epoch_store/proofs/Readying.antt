@@ -1,0 +1,119 @@
+-- The other slot is made ready for the next root.
+use Rattle.std.specs.Prelude.{◌≡◌, ◌≢◌, ◌⊎◌, ◌+◌, ◌-◌, ◌<◌, ◌≤◌, ℕ, zero, suc, true, false, List, length, take, drop, Option, Some, None, refl}
+use Rattle.std.proofs.Common.{◌∙◌, sym, ap, subst, inl, inr, arith}
+use Rattle.disk_model.specs.Disk.{File, Files, Kept, Content, Image, Told, WhereTold, Unchanged, Fits, Within, exact, bytes_of, overlay, ReadsFit}
+use Rattle.disk_model.specs.Laws.{SameOutside, overlay-torn, overlay-inside, Fits-exact, Fits-Within}
+use Rattle.disk_model.specs.Synced.{Writing, IsWritten, IsSettled}
+use Rattle.root_slots.specs.RootName.{root_name}
+use Rattle.root_slots.specs.Each.{IfThere, EachRoot, part_stays, each_writing, each_written}
+use Rattle.root_slots.specs.Slots.{HasRootSize, IsGateOpen, gate, body_place, body_at, Current, Ready}
+use Rattle.epoch_store.specs.Settling.{Rests, StaysCurrent, IsReadied}
+
+-- back from the other slot
+back : (slot : ℕ) → slot < 2 → slot ≡ 1 - (1 - slot)
+back slot below = omega (arith, below)
+
+-- a slot's body stays where another range is written
+body_kept : (at n slot : ℕ) (a b : List ℕ) → SameOutside at n a b → (body_place slot + 1536 ≤ at) ⊎ (at + n ≤ body_place slot) → body_at b slot ≡ body_at a slot
+unfolding body_at
+body_kept at n slot a b same apart = part_stays at n a b (body_place slot) 1536 same apart
+
+-- the ranges of the two bodies are apart
+bodies_apart : (slot : ℕ) → slot < 2 → (body_place slot + 1536 ≤ body_place (1 - slot)) ⊎ (body_place (1 - slot) + 1536 ≤ body_place slot)
+bodies_apart zero below = inl (omega arith)
+bodies_apart (suc zero) below = inr (omega arith)
+bodies_apart (suc (suc n)) below = absurd (omega (arith, below))
+
+-- the current root stays while the body of the other slot, which is shut, is written
+twin_torn : (slot : ℕ) (body a b : List ℕ) → Current slot body a → gate a (1 - slot) ≢ 1 → SameOutside (body_place (1 - slot)) 1536 a b → Current slot body b
+twin_torn slot body a b current shut same =
+    let low = current.in_range in
+    let gate_is : gate b slot ≡ gate a slot = same.bytes slot (inl (omega (arith, low))) in
+    let other_is : gate b (1 - slot) ≡ gate a (1 - slot) = same.bytes (1 - slot) (inl (omega (arith, low))) in
+    record {
+      in_range = low;
+      size = same.size ∙ current.size;
+      opened = gate_is ∙ current.opened;
+      holds = body_kept (body_place (1 - slot)) 1536 slot a b same (bodies_apart slot low) ∙ current.holds;
+      newest = λ opened. absurd (shut (sym other_is ∙ opened));
+    }
+
+-- a slot that is open beside the current one is ready
+open_ready : (slot : ℕ) (body a : List ℕ) → Current slot body a → gate a (1 - slot) ≡ 1 → Ready (1 - slot) body a
+open_ready slot body a current opened = record { current = subst (λ (s : ℕ). Current s body a) (back slot current.in_range) current; other = inl opened }
+
+-- and one that has the body of the current root
+filled_ready : (slot : ℕ) (body a : List ℕ) → length body ≡ 1536 → Current slot body a → gate a (1 - slot) ≢ 1 → Ready (1 - slot) body (overlay (body_place (1 - slot)) body a)
+unfolding body_at
+filled_ready slot body a whole current shut =
+    let size = current.size in
+    let low = current.in_range in
+    let b = overlay (body_place (1 - slot)) body a in
+    let same : SameOutside (body_place (1 - slot)) 1536 a b = subst (λ (n : ℕ). SameOutside (body_place (1 - slot)) n a b) whole (overlay-torn (body_place (1 - slot)) body a (omega (arith, size, whole, low))) in
+    record {
+      current = subst (λ (s : ℕ). Current s body b) (back slot low) (twin_torn slot body a b current shut same);
+      other = inr (inl (ap (λ (n : ℕ). take n (drop (body_place (1 - slot)) b)) (sym whole) ∙ overlay-inside (body_place (1 - slot)) body a (omega (arith, size, low))));
+    }
+
+-- a file that is there, with its gate
+pub record HasShut (slot : ℕ) (body file : List ℕ) : Type 0 where
+  pub current : Current slot body file
+  pub shut : gate file (1 - slot) ≢ 1
+
+-- what is settled is each root file that a crash may leave
+each_settled : (P : List ℕ → Type 0) (k : Content) → IsSettled k → IfThere P (k root_name).seen → EachRoot P (Some k)
+each_settled P k settled there = λ file fits. subst (IfThere P) (sym (Fits-exact (k root_name).seen file (Fits-Within (k root_name).sure (exact (k root_name).seen) file (settled root_name) fits))) there
+
+-- the root file has its current root, and the other gate is shut
+with_gate : (slot : ℕ) (body : List ℕ) (file : File) → IfThere (Current slot body) file → gate (bytes_of file) (1 - slot) ≢ 1 → IfThere (HasShut slot body) file
+with_gate slot body None there shut = absurd there
+with_gate slot body (Some file) there shut = record { current = there; shut = shut }
+
+with_open : (slot : ℕ) (body : List ℕ) (file : File) → IfThere (Current slot body) file → gate (bytes_of file) (1 - slot) ≡ 1 → IfThere (Ready (1 - slot) body) file
+with_open slot body None there opened = absurd there
+with_open slot body (Some file) there opened = open_ready slot body file there opened
+
+module _ (slot : ℕ) (body : List ℕ) where
+  -- before anything is done
+  pub current_now : (k : Option Content) (image : Files) → Rests slot body k → Image k image → StaysCurrent slot body k image
+  current_now None image rests left = absurd rests
+  current_now (Some k) image rests left = record { root = each_settled (Current slot body) k rests.settled rests.current (image root_name) (left root_name); elsewhere = λ other apart. left other }
+
+  -- where the gate is open, nothing has to be done
+  pub readied_open : (k m : Option Content) → Rests slot body k → Told Unchanged k m → WhereTold (IsGateOpen (1 - slot) true) k → Told (IsReadied slot body) k m
+  readied_open None m rests same opened = absurd rests
+  readied_open (Some k) None rests same opened = absurd same
+  readied_open (Some k) (Some m) rests same opened = record {
+    root = subst (λ (kept : Kept). IfThere (Ready (1 - slot) body) kept.seen) (sym (same root_name)) (with_open slot body (k root_name).seen rests.current opened);
+    elsewhere = λ other apart. ap (λ (kept : Kept). kept.seen) (same other);
+    settled = λ other. subst (λ (kept : Kept). Within kept.sure (exact kept.seen)) (sym (same other)) (rests.settled other);
+  }
+
+  -- while it is filled
+  pub filling : (k m : Option Content) (image : Files) → ReadsFit k → ReadsFit m → Rests slot body k → Told Unchanged k m → WhereTold (IsGateOpen (1 - slot) false) k → WhereTold HasRootSize k → Writing root_name (body_place (1 - slot)) 1536 m image → StaysCurrent slot body k image
+  filling None m image fit fit2 rests same shut size writing = absurd rests
+  filling (Some k) None image fit fit2 rests same shut size writing = absurd same
+  filling (Some k) (Some m) image fit fit2 rests same shut size writing =
+      let shut_there : IfThere (HasShut slot body) (m root_name).seen = subst (λ (kept : Kept). IfThere (HasShut slot body) kept.seen) (sym (same root_name)) (with_gate slot body (k root_name).seen rests.current shut) in
+      let settled : IsSettled m = λ other. subst (λ (kept : Kept). Within kept.sure (exact kept.seen)) (sym (same other)) (rests.settled other) in
+      let low = rests.in_range in
+      let long : length (bytes_of (m root_name).seen) ≡ 4096 = ap (λ (kept : Kept). length (bytes_of kept.seen)) (same root_name) ∙ size in
+      record {
+        root = each_writing (HasShut slot body) (Current slot body) (body_place (1 - slot)) 1536 m image fit2 (omega (arith, long, low)) (omega arith) (each_settled (HasShut slot body) m settled shut_there) (λ a b has torn. twin_torn slot body a b has.current has.shut torn) writing;
+        elsewhere = λ other apart. subst (λ (kept : Kept). Fits kept.sure (image other)) (same other) (writing.elsewhere other apart);
+      }
+
+  -- after that
+  pub readied_filled : (k m n : Option Content) → length body ≡ 1536 → ReadsFit m → ReadsFit n → Rests slot body k → Told Unchanged k m → WhereTold (IsGateOpen (1 - slot) false) k → Told (IsWritten root_name (body_place (1 - slot)) body) m n → Told (IsReadied slot body) k n
+  readied_filled None m n whole fit fit2 rests same shut written = absurd rests
+  readied_filled (Some k) None n whole fit fit2 rests same shut written = absurd same
+  readied_filled (Some k) (Some m) None whole fit fit2 rests same shut written = absurd written
+  readied_filled (Some k) (Some m) (Some n) whole fit fit2 rests same shut written =
+      let shut_there : IfThere (HasShut slot body) (m root_name).seen = subst (λ (kept : Kept). IfThere (HasShut slot body) kept.seen) (sym (same root_name)) (with_gate slot body (k root_name).seen rests.current shut) in
+      let settled : IsSettled m = λ other. subst (λ (kept : Kept). Within kept.sure (exact kept.seen)) (sym (same other)) (rests.settled other) in
+      let ready : EachRoot (Ready (1 - slot) body) (Some n) = each_written (HasShut slot body) (Ready (1 - slot) body) (body_place (1 - slot)) body (Some m) (Some n) fit (each_settled (HasShut slot body) m settled shut_there) (λ a has. filled_ready slot body a whole has.current has.shut) written in
+      record {
+        root = ready (n root_name).seen (fit2 n refl root_name);
+        elsewhere = λ other apart. written.elsewhere other apart ∙ ap (λ (kept : Kept). kept.seen) (same other);
+        settled = written.settled;
+      }

@@ -1,0 +1,278 @@
+-- Where the text of an entry stands in the file of its epoch.
+use Rattle.std.specs.Prelude.{◌≡◌, ◌≢◌, ◌+◌, ◌-◌, ◌<◌, ◌≤◌, ◌==◌, ℕ, zero, suc, true, List, [], ◌∷◌, ◌++◌, codes, length, take, drop, slice_get, get_or, Option, Some, None, Ok, Err, min, unwrap_or, refl}
+use Rattle.std.specs.Fmt.{decimal}
+use Rattle.std.specs.List.{AllByRecursion}
+use Rattle.std.proofs.Common.{◌∙◌, sym, ap, subst, arith, append_assoc, length-append}
+use Rattle.std.proofs.lemmas.List.{append-nil, take-append-drop}
+use Rattle.std.proofs.Math.Seq.{take-append_seam, drop-append_seam}
+use Rattle.std.proofs.lemmas.List.Elements.{filter-append}
+use Rattle.std.proofs.lemmas.Option.{slice_get_within, slice_get-get_or}
+use Rattle.std.proofs.lemmas.Bool.Decides.{nat_tests}
+use Rattle.arch_base.specs.declared.ids.Id20.{Id20}
+use Rattle.disk_model.specs.Disk.{Content, File, bytes_of}
+use Rattle.git_objects.specs.Objects.{blob_id_of}
+use Rattle.arch_model.specs.Archives.{Entry, Archive, in_epoch}
+use Rattle.arch_model.specs.Epochs.{epoch_bytes, entries_bytes, entry_bytes, tree_of, commit_text, last_commit, magic, message_name, commit_id}
+use Rattle.epoch_file.specs.Entries.{bytes_behind}
+use Rattle.epoch_file.specs.Walking.{blob_front}
+use Rattle.epoch_store.specs.declared.entries.StoredEntry.{StoredEntry}
+use Rattle.epoch_store.specs.Files.{Fronts, epoch_file_of}
+use Rattle.epoch_store.specs.Validity.{IsEntry}
+use Rattle.epoch_store.specs.Recovery.{bytes_in}
+use Rattle.epoch_store.specs.Stores.{View, IsDiskOf, in_file, stored_at, stored_behind}
+use Rattle.epoch_store.specs.declared.reading.TextRefusal.{TextRefusal}
+use Rattle.epoch_store.specs.declared.reading.TextRefusal.TheVariants.{DiskFault, Damaged, NoMemory}
+use Rattle.root_slots.specs.declared.root.Root.{Root}
+use Rattle.epoch_store.specs.Stores.{IsStoreOf}
+use Rattle.disk_model.specs.declared.name.FileName.{FileName}
+use Rattle.disk_model.specs.Disk.{HasRead, WhereTold, Files, Kept, Image, Fits, Told, Unchanged}
+use Rattle.epoch_store.specs.Reads.{StandsAt, IsQuiet, GivesText, FindsText, GivesTextOf, text_if}
+
+-- two items that are the same
+item_of : {X : Type 0} {x y : X} → Some x ≡ Some y → x ≡ y
+item_of {X} {x} {y} is = ap (λ (o : Option X). unwrap_or o x) is
+
+-- an entry of an archive, and what is kept of it
+record IsKeptOf (before es : List Entry) (i : ℕ) (s : StoredEntry) : Type 0 where
+  pub front : List Entry
+  pub entry : Entry
+  pub rest : List Entry
+  pub is : es ≡ front ++ entry ∷ rest
+  pub here : slice_get es i ≡ Some entry
+  pub kept : s ≡ stored_at (before ++ front) entry
+
+kept_found : (before es : List Entry) (i : ℕ) (s : StoredEntry) → slice_get (stored_behind before es) i ≡ Some s → IsKeptOf before es i s
+kept_found before [] i s is = let wrong = slice_get_within {A = StoredEntry} [] i s is in absurd (omega (arith, wrong))
+kept_found before (e ∷ es) zero s is = record {
+  front = [];
+  entry = e;
+  rest = es;
+  is = refl;
+  here = refl;
+  kept = item_of (sym is) ∙ ap (λ (b : List Entry). stored_at b e) (sym (append-nil before));
+}
+kept_found before (e ∷ es) (suc i) s is =
+    let r = kept_found (before ++ e ∷ []) es i s is in
+    record {
+      front = e ∷ r.front;
+      entry = r.entry;
+      rest = r.rest;
+      is = ap (λ (l : List Entry). e ∷ l) r.is;
+      here = r.here;
+      kept = r.kept ∙ ap (λ (b : List Entry). stored_at b r.entry) (append_assoc before (e ∷ []) r.front);
+    }
+
+-- what all have, one in their midst has
+one_of_all : (P : Entry → Type 0) (xs : List Entry) (e : Entry) (ys : List Entry) → AllByRecursion P (xs ++ e ∷ ys) → P e
+one_of_all P [] e ys all = all.0
+one_of_all P (x ∷ xs) e ys all = one_of_all P xs e ys all.1
+
+-- a text stands at a place of bytes
+record Divided (bytes : List ℕ) (place : ℕ) (text : List ℕ) : Type 0 where
+  pub before : List ℕ
+  pub behind : List ℕ
+  pub is : bytes ≡ before ++ (text ++ behind)
+  pub len : length before ≡ place
+
+divided_behind : (front bytes : List ℕ) (place : ℕ) (text : List ℕ) → Divided bytes place text → Divided (front ++ bytes) (length front + place) text
+divided_behind front bytes place text d = record {
+  before = front ++ d.before;
+  behind = d.behind;
+  is = ap (λ (b : List ℕ). front ++ b) d.is ∙ sym (append_assoc front d.before (text ++ d.behind));
+  len = length-append front d.before ∙ ap (λ (n : ℕ). length front + n) d.len;
+}
+
+divided_before : (bytes more : List ℕ) (place : ℕ) (text : List ℕ) → Divided bytes place text → Divided (bytes ++ more) place text
+divided_before bytes more place text d = record {
+  before = d.before;
+  behind = d.behind ++ more;
+  is = ap (λ (b : List ℕ). b ++ more) d.is ∙ (append_assoc d.before (text ++ d.behind) more ∙ ap (λ (b : List ℕ). d.before ++ b) (append_assoc text d.behind more));
+  len = d.len;
+}
+
+-- so many bytes from there on are the text
+divided_reads : (bytes : List ℕ) (place : ℕ) (text : List ℕ) → Divided bytes place text → (place + length text ≤ length bytes) × (take (length text) (drop place bytes) ≡ text)
+divided_reads bytes place text d =
+    let size : length bytes ≡ length (d.before ++ (text ++ d.behind)) = ap length d.is in
+    let parts = length-append d.before (text ++ d.behind) in
+    let rest = length-append text d.behind in
+    let len = d.len in
+    let dropped : drop place bytes ≡ text ++ d.behind =
+    ap (λ (n : ℕ). drop n bytes) (sym len) ∙ (ap (drop (length d.before)) d.is ∙ drop-append_seam d.before (text ++ d.behind)) in
+    (omega (arith, size, parts, rest, len), ap (take (length text)) dropped ∙ take-append_seam text d.behind)
+
+-- the bytes of entries with one in their midst
+entries_split : (parent : Option Id20) (xs : List Entry) (e : Entry) (ys : List Entry)
+    → entries_bytes parent (xs ++ e ∷ ys) ≡ entries_bytes parent xs ++ (bytes_behind (last_commit parent xs) (in_file e) ++ entries_bytes (Some (commit_id message_name e.text e.moment (last_commit parent xs))) ys)
+entries_split parent [] e ys = refl
+entries_split parent (x ∷ xs) e ys =
+    let next : Option Id20 = Some (commit_id message_name x.text x.moment parent) in
+    ap (λ (b : List ℕ). entry_bytes message_name x.text x.moment parent ++ b) (entries_split next xs e ys)
+    ∙ sym (append_assoc (entry_bytes message_name x.text x.moment parent) (entries_bytes next xs) (bytes_behind (last_commit next xs) (in_file e) ++ entries_bytes (Some (commit_id message_name e.text e.moment (last_commit next xs))) ys))
+
+epoch_split : (xs : List Entry) (e : Entry) (ys : List Entry) → epoch_bytes (xs ++ e ∷ ys) ≡ magic ++ entries_bytes None (xs ++ e ∷ ys)
+epoch_split [] e ys = refl
+epoch_split (x ∷ xs) e ys = refl
+
+in_epoch_split : (xs : List Entry) (e : Entry) (ys : List Entry) → in_epoch (xs ++ e ∷ ys) e.epoch ≡ in_epoch xs e.epoch ++ e ∷ in_epoch ys e.epoch
+in_epoch_split xs e ys =
+    let same : (e.epoch == e.epoch) ≡ true = grind (arith, nat_tests) in
+    filter-append (λ (f : Entry). f.epoch == e.epoch) xs (e ∷ ys) ∙ rw same refl
+
+-- a text in the bytes of a blob: behind its type, its size and NUL
+sized_text : (digits text more : List ℕ) → Divided ((codes "blob " ++ (digits ++ 0 ∷ text)) ++ more) (6 + length digits) text
+sized_text digits text more = record {
+  before = codes "blob " ++ (digits ++ 0 ∷ []);
+  behind = more;
+  is = ap (λ (b : List ℕ). codes "blob " ++ b) (append_assoc digits (0 ∷ text) more ∙ sym (append_assoc digits (0 ∷ []) (text ++ more)));
+  len = let size = length-append digits (0 ∷ []) in omega (arith, size);
+}
+
+entry_text : (name : ℕ) (text : List ℕ) (moment : ℕ) (parent : Option Id20) → Divided (entry_bytes name text moment parent) (6 + length (decimal (length text))) text
+unfolding entry_bytes
+entry_text name text moment parent = sized_text (decimal (length text)) text (tree_of name text ++ commit_text name text moment parent)
+
+-- a text in the bytes of its epoch
+epoch_text : (xs : List Entry) (e : Entry) (ys : List Entry) → Divided (epoch_bytes (xs ++ e ∷ ys)) (8 + length (entries_bytes None xs) + blob_front e.text) e.text
+epoch_text xs e ys =
+    let parent = last_commit None xs in
+    let rest = entries_bytes (Some (commit_id message_name e.text e.moment parent)) ys in
+    let all = entries_bytes None xs ++ (bytes_behind parent (in_file e) ++ rest) in
+    let here = divided_before (bytes_behind parent (in_file e)) rest (blob_front e.text) e.text (entry_text message_name e.text e.moment parent) in
+    let behind = divided_behind (entries_bytes None xs) (bytes_behind parent (in_file e) ++ rest) (blob_front e.text) e.text here in
+    let whole : Divided (magic ++ all) (length magic + (length (entries_bytes None xs) + blob_front e.text)) e.text = divided_behind magic all (length (entries_bytes None xs) + blob_front e.text) e.text behind in
+    let place : length magic + (length (entries_bytes None xs) + blob_front e.text) ≡ 8 + length (entries_bytes None xs) + blob_front e.text = omega arith in
+    subst (λ (n : ℕ). Divided (epoch_bytes (xs ++ e ∷ ys)) n e.text) place
+    (subst (λ (b : List ℕ). Divided b (length magic + (length (entries_bytes None xs) + blob_front e.text)) e.text) (sym (epoch_split xs e ys ∙ ap (λ (b : List ℕ). magic ++ b) (entries_split None xs e ys))) whole)
+
+-- what stands at the front of a file stands in the file
+in_fronts : (bytes : List ℕ) (file : File) (place : ℕ) (text : List ℕ) → Fronts bytes file → Divided bytes place text → Divided (bytes_of file) place text
+in_fronts bytes file place text fronts d =
+    let whole : bytes ++ drop (length bytes) (bytes_of file) ≡ bytes_of file =
+    ap (λ (b : List ℕ). b ++ drop (length bytes) (bytes_of file)) (sym fronts.front) ∙ take-append-drop (length bytes) (bytes_of file) in
+    subst (λ (b : List ℕ). Divided b place text) whole (divided_before bytes (drop (length bytes) (bytes_of file)) place text d)
+
+-- The text of an entry that a store keeps stands on its disk where the store says, and has the size and the blob id of the entry.
+pub record IsTextAt (v : View) (a : Archive) (k : Content) (i : ℕ) (s : StoredEntry) : Type 0 where
+  pub entry : Entry
+  pub here : slice_get a.entries i ≡ Some entry
+  pub size : s.seen.size ≡ length entry.text
+  pub blob : s.seen.blob ≡ blob_id_of entry.text
+  pub long : s.seen.text_at + s.seen.size ≤ length (bytes_of (k (epoch_file_of v.root s.epoch)).seen)
+  pub stands : take s.seen.size (drop s.seen.text_at (bytes_of (k (epoch_file_of v.root s.epoch)).seen)) ≡ entry.text
+
+pub text_stands : (v : View) (a : Archive) (k : Content) → IsDiskOf v a k → (i : ℕ) (s : StoredEntry) → slice_get v.entries i ≡ Some s → IsTextAt v a k i s
+text_stands v a k own i s is =
+    let r = kept_found [] a.entries i s (subst (λ (l : List StoredEntry). slice_get l i ≡ Some s) own.keeps.kept is) in
+    let e = r.entry in
+    let P : StoredEntry → Type 0 = IsTextAt v a k i in
+    let valid : IsEntry e = one_of_all IsEntry r.front e r.rest (subst (AllByRecursion IsEntry) r.is own.keeps.valid.entries) in
+    let low = valid.epoch in
+    let fronts = own.on.exact.stands.epochs_front e.epoch (omega (arith, low)) in
+    let xs = in_epoch r.front e.epoch in
+    let ys = in_epoch r.rest e.epoch in
+    let place = 8 + length (entries_bytes None xs) + blob_front e.text in
+    let bytes : bytes_in a e.epoch ≡ epoch_bytes (xs ++ e ∷ ys) =
+    ap (λ (l : List Entry). epoch_bytes (in_epoch l e.epoch)) r.is ∙ ap epoch_bytes (in_epoch_split r.front e r.rest) in
+    let file = k (epoch_file_of v.root e.epoch) in
+    let inside : Divided (bytes_of file.seen) place e.text =
+    in_fronts (bytes_in a e.epoch) file.seen place e.text fronts (subst (λ (b : List ℕ). Divided b place e.text) (sym bytes) (epoch_text xs e ys)) in
+    let reads = divided_reads (bytes_of file.seen) place e.text inside in
+    subst P (sym r.kept) (record { entry = e; here = r.here; size = refl; blob = refl; long = reads.0; stands = reads.1 })
+
+-- a refusal without damage leaves the bytes, and says no more
+pub quiet_text : (s : StoredEntry) (old new : List ℕ) (e : TextRefusal) → IsQuiet e → new ≡ old → GivesText s old new (Err e)
+quiet_text s old new DiskFault quiet is = is
+quiet_text s old new NoMemory quiet is = is
+quiet_text s old new (Damaged named found) quiet is = absurd quiet
+
+pub quiet_found : (root : Root) (s : StoredEntry) (old new : List ℕ) (e : TextRefusal) (k : Content) → IsQuiet e → FindsText root s old new (Err e) k
+quiet_found root s old new DiskFault k quiet = tt
+quiet_found root s old new NoMemory k quiet = tt
+quiet_found root s old new (Damaged named found) k quiet = absurd quiet
+
+pub quiet_archive : (a : Archive) (i : ℕ) (old new : List ℕ) (e : TextRefusal) → IsQuiet e → GivesTextOf a i old new (Err e)
+quiet_archive a i old new DiskFault quiet = tt
+quiet_archive a i old new NoMemory quiet = tt
+quiet_archive a i old new (Damaged named found) quiet = absurd quiet
+
+-- what stands at a place, on the disk of an archive, is the text of its entry
+stands_is_text : (v : View) (a : Archive) (k : Content) (i : ℕ) (s : StoredEntry) (text : List ℕ) → IsTextAt v a k i s
+    → StandsAt (bytes_of (k (epoch_file_of v.root s.epoch)).seen) s.seen.text_at s.seen.size text → (text_if (slice_get a.entries i) ≡ Some text) × (blob_id_of text ≡ s.seen.blob)
+stands_is_text v a k i s text at stands =
+    let same : text ≡ at.entry.text = stands at.long ∙ at.stands in
+    (ap text_if at.here ∙ ap (λ (t : List ℕ). Some t) (sym same), ap blob_id_of same ∙ sym at.blob)
+
+-- so it is read, and no damage is found
+pub right_text : (v : View) (a : Archive) (k : Option Content) (i : ℕ) (s : StoredEntry) (text : List ℕ) → IsStoreOf v a k → slice_get v.entries i ≡ Some s
+    → WhereTold (λ (c : Content). StandsAt (bytes_of (c (epoch_file_of v.root s.epoch)).seen) s.seen.text_at s.seen.size text) k → (text_if (slice_get a.entries i) ≡ Some text) × (blob_id_of text ≡ s.seen.blob)
+right_text v a None i s text own is stands = absurd own
+right_text v a (Some k) i s text own is stands = stands_is_text v a k i s text (text_stands v a k own i s is) stands
+
+-- a read into room of a size gives what stands at a place
+stands_read : (file before after : List ℕ) (place size n : ℕ) → length before ≡ size → n ≡ min (length before) (length file - place) → after ≡ take n (drop place file) ++ drop n before → StandsAt file place size after
+stands_read file before after place size n len count bytes long =
+    let all : n ≡ size = omega (arith, len, count, long) in
+    let none : drop n before ≡ [] = drop_all n before (omega (arith, len, all)) in
+    bytes ∙ (ap (λ (l : List ℕ). take n (drop place file) ++ l) none ∙ (append-nil (take n (drop place file)) ∙ ap (λ (m : ℕ). take m (drop place file)) all)) where
+      drop_all : (m : ℕ) (xs : List ℕ) → length xs ≤ m → drop m xs ≡ []
+      drop_all m [] less = drop_none m where
+        drop_none : (j : ℕ) → drop {A = ℕ} j [] ≡ []
+        drop_none zero = refl
+        drop_none (suc j) = refl
+      drop_all zero (x ∷ xs) less = absurd (omega (arith, less))
+      drop_all (suc m) (x ∷ xs) less = drop_all m xs (omega (arith, less))
+
+pub stands_told : (k : Option Content) (file : FileName) (before after : List ℕ) (place size n : ℕ) → length before ≡ size → WhereTold (HasRead file place n before after) k
+    → WhereTold (λ (c : Content). StandsAt (bytes_of (c file).seen) place size after) k
+stands_told None file before after place size n len read = tt
+stands_told (Some k) file before after place size n len read = stands_read (bytes_of (k file).seen) before after place size n len read.count read.bytes
+
+-- what is unchanged stays
+pub unchanged_itself : (k : Option Content) → Told Unchanged k k
+unchanged_itself None = tt
+unchanged_itself (Some k) = λ name. refl
+
+-- and has the same images
+pub same_images : (k m : Option Content) (image : Files) → Told Unchanged k m → Image m image → Image k image
+same_images None m image same left = tt
+same_images (Some k) None image same left = absurd same
+same_images (Some k) (Some m) image same left = λ name. let P : Kept → Type 0 = λ kept. Fits kept.sure (image name) in subst P (same name) (left name)
+
+-- the entry that is looked up
+pub here_is : (v : View) (root : Root) (slot : ℕ) (es : List StoredEntry) (i : ℕ) (e : StoredEntry) → ◌≡◌ {A = View} (record { root = root; slot = slot; entries = es }) v → e ≡ get_or es i e → i < length v.entries → slice_get v.entries i ≡ Some e
+here_is v root slot es i e view is within =
+    let same : es ≡ v.entries = ap (λ (w : View). w.entries) view in
+    slice_get-get_or v.entries i e within ∙ ap (λ (f : StoredEntry). Some f) (sym (is ∙ ap (λ (l : List StoredEntry). get_or l i e) same))
+
+-- is the only one at its place
+pub one_here : (es : List StoredEntry) (i : ℕ) (s e : StoredEntry) → slice_get es i ≡ Some e → slice_get es i ≡ Some s → e ≡ s
+one_here es i s e here is = item_of (sym here ∙ is)
+
+-- what is told of another text
+pub tells_damage : (s e : StoredEntry) (old : List ℕ) (found : Id20) → e ≡ s → found ≢ e.seen.blob → GivesText s old old (Err (Damaged e.seen.blob found))
+tells_damage s e old found is apart = (refl, ap (λ (f : StoredEntry). f.seen.blob) is, apart)
+
+pub finds_damage : (root : Root) (s e : StoredEntry) (old text : List ℕ) (file : FileName) (named found : Id20) (k : Option Content) → e ≡ s → file ≡ epoch_file_of root e.epoch → found ≡ blob_id_of text
+    → WhereTold (λ (c : Content). StandsAt (bytes_of (c file).seen) e.seen.text_at e.seen.size text) k → WhereTold (FindsText root s old old (Err (Damaged named found))) k
+finds_damage root s e old text file named found None is file_is found_is stands = tt
+finds_damage root s e old text file named found (Some k) is file_is found_is stands =
+    let there : StandsAt (bytes_of (k (epoch_file_of root e.epoch)).seen) e.seen.text_at e.seen.size text = subst (λ (f : FileName). StandsAt (bytes_of (k f).seen) e.seen.text_at e.seen.size text) file_is stands in
+    (text, subst (λ (f : StoredEntry). StandsAt (bytes_of (k (epoch_file_of root f.epoch)).seen) f.seen.text_at f.seen.size text) is there, found_is)
+
+-- what is said of the text that is read
+pub gives_text : (s e : StoredEntry) (old new text : List ℕ) → e ≡ s → length text ≡ e.seen.size → blob_id_of text ≡ e.seen.blob → new ≡ old ++ text → GivesText s old new (Ok (tt {0}))
+gives_text s e old new text is size blob added = (text, record { size = size ∙ ap (λ (f : StoredEntry). f.seen.size) is; blob = blob ∙ ap (λ (f : StoredEntry). f.seen.blob) is }, added)
+
+pub finds_text : (root : Root) (s e : StoredEntry) (old new text : List ℕ) (file : FileName) (k : Option Content) → e ≡ s → file ≡ epoch_file_of root e.epoch → new ≡ old ++ text
+    → WhereTold (λ (c : Content). StandsAt (bytes_of (c file).seen) e.seen.text_at e.seen.size text) k → WhereTold (FindsText root s old new (Ok (tt {0}))) k
+finds_text root s e old new text file None is file_is added stands = tt
+finds_text root s e old new text file (Some k) is file_is added stands =
+    let there : StandsAt (bytes_of (k (epoch_file_of root e.epoch)).seen) e.seen.text_at e.seen.size text = subst (λ (f : FileName). StandsAt (bytes_of (k f).seen) e.seen.text_at e.seen.size text) file_is stands in
+    (text, subst (λ (f : StoredEntry). StandsAt (bytes_of (k (epoch_file_of root f.epoch)).seen) f.seen.text_at f.seen.size text) is there, added)
+
+-- the same of a file by its name
+pub right_text_in : (v : View) (a : Archive) (k : Option Content) (i : ℕ) (e : StoredEntry) (text : List ℕ) (file : FileName) → IsStoreOf v a k → slice_get v.entries i ≡ Some e → file ≡ epoch_file_of v.root e.epoch
+    → WhereTold (λ (c : Content). StandsAt (bytes_of (c file).seen) e.seen.text_at e.seen.size text) k → (text_if (slice_get a.entries i) ≡ Some text) × (blob_id_of text ≡ e.seen.blob)
+right_text_in v a k i e text file own here file_is stands =
+    right_text v a k i e text own here (subst (λ (f : FileName). WhereTold (λ (c : Content). StandsAt (bytes_of (c f).seen) e.seen.text_at e.seen.size text) k) file_is stands)

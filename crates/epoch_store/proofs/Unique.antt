@@ -1,0 +1,60 @@
+-- Files stand for at most one archive.
+use Rattle.std.specs.Prelude.{◌≡◌, ◌^◌, ◌-◌, ◌*◌, ◌<◌, ℕ, length, Some, None, refl}
+use Rattle.std.proofs.Common.{◌∙◌, sym, ap, subst, arith}
+use Rattle.disk_model.specs.Disk.{Files}
+use Rattle.arch_model.specs.Archives.{Archive}
+use Rattle.epoch_file.specs.Entries.{EpochsDiffer}
+use Rattle.number_map.specs.Laws.{RecordsDiffer}
+use Rattle.root_slots.specs.declared.root.Root.{Root}
+use Rattle.root_slots.specs.Laws.{SpellingsDiffer}
+use Rattle.root_slots.specs.RootName.{root_name}
+use Rattle.root_slots.specs.Spelling.{spelling}
+use Rattle.epoch_store.specs.Files.{map_file_of, epoch_file_of}
+use Rattle.epoch_store.specs.Laws.{RecoversOne, RecoversSomeOne, ExactRecovers}
+use Rattle.epoch_store.specs.Recovery.{records_from, records_of, map_bytes, bytes_in, RecoversBy}
+use Rattle.epoch_store.proofs.Mapped.{map_length, records_are_valid}
+use Rattle.epoch_store.proofs.UniqueRoots.{root_is_one, not_shut, front_is_one}
+use Rattle.epoch_store.proofs.UniqueEntries.{AreBelow, entries_are_one, records_at, filed_is_one}
+
+-- an archive of three values
+archive_is : (a b : Archive) → a.config ≡ b.config → a.entries ≡ b.entries → a.next ≡ b.next → a ≡ b
+archive_is a b p q r = λ i. record { config = p i; entries = q i; next = r i }
+
+-- files stand for at most one archive by one root
+one_by_root : RecordsDiffer → EpochsDiffer → (root : Root) (image : Files) (a b : Archive) → RecoversBy root image a → RecoversBy root image b → a ≡ b
+one_by_root records epochs root image a b p q =
+    let next : a.next ≡ b.next = sym p.names.next ∙ q.names.next in
+    let least = p.valid.next_least in
+    let size : length (map_bytes a) ≡ length (map_bytes b) = map_length a p.valid ∙ (ap (λ (n : ℕ). 28 * (n - 1)) next ∙ sym (map_length b q.valid)) in
+    let maps : map_bytes a ≡ map_bytes b = front_is_one (image (map_file_of root)) (map_bytes a) (map_bytes b) size p.stands.map_front q.stands.map_front in
+    let lines : records_of a ≡ records_of b =
+    records (records_of a) (records_of b) (records_are_valid a.entries 1 (a.next - 1) p.valid.entries) (records_are_valid b.entries 1 (b.next - 1) q.valid.entries) maps in
+    let same : records_from a.entries 1 (a.next - 1) ≡ records_from b.entries 1 (a.next - 1) = lines ∙ ap (λ (n : ℕ). records_from b.entries 1 (n - 1)) (sym next) in
+    let entries =
+    entries_are_one a.entries b.entries 1 a.next 0 0 p.valid.entries q.valid.entries p.valid.below (subst (λ (n : ℕ). AreBelow n b.entries) (sym next) q.valid.below) p.valid.order q.valid.order
+    (λ n low high. records_at a.entries b.entries 1 (a.next - 1) same n low (omega (arith, least, high)))
+    (λ e few.
+    let long : length (bytes_in a e) ≡ length (bytes_in b e) = sym (p.names.epochs e few) ∙ q.names.epochs e few in
+    let short : length (bytes_in a e) < 2 ^ 64 = subst (λ (n : ℕ). n < 2 ^ 64) (p.names.epochs e few) (p.names.fits.epochs e few).length in
+    filed_is_one epochs a.entries b.entries e p.valid.entries q.valid.entries short
+    (front_is_one (image (epoch_file_of root e)) (bytes_in a e) (bytes_in b e) long (p.stands.epochs_front e few) (q.stands.epochs_front e few))) in
+    archive_is a b (sym p.names.config ∙ q.names.config) entries next
+
+-- and by any, since the current root is one
+pub recovers_one : SpellingsDiffer → RecordsDiffer → EpochsDiffer → RecoversOne
+recovers_one spellings records epochs image a b p q =
+    let root : p.0 ≡ q.0 =
+    spellings p.0 q.0 p.1.names.fits q.1.names.fits p.1.names.is_root q.1.names.is_root
+    (root_is_one (image root_name) (spelling p.0) (spelling q.0) p.1.stands.current q.1.stands.current) in
+    one_by_root records epochs q.0 image a b (subst (λ (r : Root). RecoversBy r image a) root p.1) q.1
+
+-- nor for one and for none
+pub recovers_some_one : SpellingsDiffer → RecordsDiffer → EpochsDiffer → RecoversSomeOne
+recovers_some_one spellings records epochs image None None p q = refl
+recovers_some_one spellings records epochs image None (Some b) p q = absurd (not_shut (image root_name) (spelling q.0) q.1.stands.current p)
+recovers_some_one spellings records epochs image (Some a) None p q = absurd (not_shut (image root_name) (spelling p.0) p.1.stands.current q)
+recovers_some_one spellings records epochs image (Some a) (Some b) p q = ap (λ (c : Archive). Some c) (recovers_one spellings records epochs image a b p q)
+
+-- files that are exactly those of an archive stand for it
+pub exact_recovers : ExactRecovers
+exact_recovers files a p = (p.0, record { valid = p.1.valid; names = p.1.names; stands = p.1.exact.stands })

@@ -1,0 +1,52 @@
+-- No number of an archive names a second message later, and a store's own disk stands for its archive.
+use Rattle.std.specs.Prelude.{◌≡◌, ◌≢◌, ◌<◌, ◌==◌, ℕ, Bool, true, false, List, [], ◌∷◌, ◌++◌, Option, Some, None, if◌then◌else◌, unwrap_or, refl}
+use Rattle.std.proofs.Common.{◌∙◌, sym, ap, arith}
+use Rattle.std.proofs.lemmas.Bool.Decides.{nat_tests}
+use Rattle.arch_model.specs.Archives.{Entry, text_of}
+use Rattle.epoch_store.specs.Laws.{FollowsItself, FollowsThrough, FollowsWithEntry, NumbersStay, StoreRecovers}
+use Rattle.epoch_store.proofs.UniqueEntries.{AreBelow}
+
+-- an archive follows itself
+pub follows_itself : FollowsItself
+follows_itself a = record { next = omega arith; texts = λ n text less is. is }
+
+-- what follows a follower follows
+pub follows_through : FollowsThrough
+follows_through a b c p q =
+    let more = p.next in
+    let most = q.next in
+    record { next = omega (arith, more, most); texts = λ n text less is. p.texts n text less (q.texts n text (omega (arith, less, more)) is) }
+
+-- one entry more leaves the texts of other numbers
+other_test : (m n : ℕ) → m ≢ n → (m == n) ≡ false
+other_test m n apart = grind (arith, nat_tests)
+
+text_kept : (es : List Entry) (new : Entry) (n : ℕ) → new.number ≢ n → text_of (es ++ new ∷ []) n ≡ text_of es n
+text_kept [] new n apart = rw (other_test new.number n apart) refl
+text_kept (e ∷ es) new n apart = ap (λ (rest : Option (List ℕ)). if e.number == n then Some e.text else rest) (text_kept es new n apart)
+
+-- an archive with one more entry follows
+pub follows_with_entry : FollowsWithEntry
+follows_with_entry a epoch text moment = record {
+  next = omega arith;
+  texts = λ n old less is. sym (text_kept a.entries (record { number = a.next; epoch = epoch; text = text; moment = moment }) n (λ same. absurd (omega (arith, less, same)))) ∙ is;
+}
+
+-- a number that has a text is below all that are above each entry's
+number_below : (es : List Entry) (high n : ℕ) (text : List ℕ) → AreBelow high es → text_of es n ≡ Some text → n < high
+number_below [] high n text below is = let wrong : None ≡ Some text = is in cc
+number_below (e ∷ es) high n text below is = by (e.number == n) refl (number_below es high n text below.1) is where
+  by : (b : Bool) → (e.number == n) ≡ b → (text_of es n ≡ Some text → n < high) → (if b then Some e.text else text_of es n) ≡ Some text → n < high
+  by true test rest found = let less : e.number < high = below.0 in let same : e.number ≡ n = grind (arith, nat_tests) in omega (arith, less, same)
+  by false test rest found = rest found
+
+-- no number of an archive names a second message in one that follows
+pub numbers_stay : NumbersStay
+numbers_stay a b valid follows n old new was is =
+    let found : text_of a.entries n ≡ Some new = follows.texts n new (number_below a.entries a.next n old valid.below was) is in
+    ap (λ (o : Option (List ℕ)). unwrap_or o new) (sym found ∙ was)
+
+-- a store's own disk stands for its archive
+pub store_recovers : StoreRecovers
+store_recovers v a k own =
+    (λ image left. (v.root, record { valid = own.keeps.valid; names = own.keeps.names; stands = own.on.images image left }), (v.root, record { valid = own.keeps.valid; names = own.keeps.names; exact = own.on.exact }))

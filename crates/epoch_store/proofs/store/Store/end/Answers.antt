@@ -1,0 +1,19 @@
+-- The last entry, or none.
+use Rattle.std.proofs.Common.{◌≡◌, ◌-◌, ◌∙◌, sym, ap, List, length, arith}
+use Rattle.std.specs.List.{slice_get}
+use Rattle.std.proofs.lemmas.List.{nil_from_length}
+use Rattle.epoch_store.specs.declared.entries.StoredEntry.{StoredEntry}
+use Rattle.epoch_store.specs.Stores.{View}
+use Rattle.epoch_store.proofs.Ends.{end_of_none, end_of_last}
+use Rattle.epoch_store.proofs.store.Store.end.Goals as goal
+
+pub returns-in-None-clause-end : goal.returns-in-None-clause-end
+returns-in-None-clause-end c = λ a keeps.
+    let same : c.args.self.now.entries ≡ c.deref.result.now = sym (ap (λ (v : View). v.entries) c.self.view_is) ∙ sym c.deref.ensures.value in
+    let item = c.in-None.ensures.item in
+    end_of_none c.args.self.now a keeps (same ∙ nil_from_length c.deref.result.now (let none = item.3 in omega (arith, none)))
+
+pub returns-in-Some-clause-end : goal.returns-in-Some-clause-end
+returns-in-Some-clause-end c = λ a keeps.
+    let same : c.args.self.now.entries ≡ c.deref.result.now = sym (ap (λ (v : View). v.entries) c.self.view_is) ∙ sym c.deref.ensures.value in
+    end_of_last c.args.self.now a keeps c.in-Some.entry.now (ap (λ (es : List StoredEntry). slice_get es (length es - 1)) same ∙ sym c.in-Some.ensures.value)

@@ -1,0 +1,15 @@
+-- The next epoch.
+use Rattle.std.proofs.Common.{◌≤◌, ◌<◌, arith, subst, get_or}
+use Rattle.root_slots.specs.Valid.{no_place}
+use Rattle.epoch_store.specs.Stores.{View}
+use Rattle.epoch_store.proofs.Ends.{next_behind}
+use Rattle.epoch_store.proofs.store.Store.next_place.Goals as goal
+
+pub returns-clause-next : goal.returns-clause-next
+returns-clause-next c = λ a keeps.
+    let end_ = c.end-end.result in
+    let small = c.end-end.ensures.small in
+    let other = c.if-end-eq-LAST_EPOCH.false in
+    let below : end_.epoch < 63 = omega (arith, small, other) in
+    rw c.place_in-2.ensures
+    (next_behind c.args.self.now a end_ keeps (c.end-end.ensures.end a keeps) below (subst (λ (v : View). v.root.config.limit ≤ (get_or v.root.epochs end_.epoch no_place).length) c.self.view_is c.if-place-self.false))

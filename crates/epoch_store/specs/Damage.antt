@@ -1,0 +1,98 @@
+-- What the opening of an archive finds: the entries of the archive that a root's files stand for, or the first place where they
+-- stand for none.
+use Rattle.std.specs.Prelude.{◌≡◌, ◌≢◌, ◌⊎◌, ◌+◌, ◌<◌, ℕ, nat_lt, Bool, List, [], ◌∷◌, ◌++◌, length, take, map, get_or, None}
+use Rattle.std.specs.List.{AllByRecursion, filter}
+use Rattle.disk_model.specs.Disk.{Files, bytes_of}
+use Rattle.git_objects.specs.Objects.{blob_id_of}
+use Rattle.arch_model.specs.Archives.{Entry, in_epoch}
+use Rattle.arch_model.specs.Epochs.{magic, epoch_bytes, entries_bytes, last_commit}
+use Rattle.number_map.specs.declared.line.Record.{Record}
+use Rattle.epoch_file.specs.Entries.{bytes_behind}
+use Rattle.epoch_file.specs.Walking.{LacksMagic}
+use Rattle.root_slots.specs.declared.root.Root.{Root}
+use Rattle.root_slots.specs.Valid.{no_place}
+use Rattle.epoch_store.specs.Files.{Fronts, epoch_file_of}
+use Rattle.epoch_store.specs.Validity.{IsEntry, Rise, IdsDiffer, BlobsAgree}
+use Rattle.epoch_store.specs.Stores.{in_file}
+
+-- whether the number of a record has a message
+abbrev pub has_message : Record → Bool
+has_message r = nat_lt r.epoch 64
+
+-- the records of the numbers that have a message, in order
+abbrev pub messages : List Record → List Record
+messages rs = filter has_message rs
+
+-- the record of an entry
+abbrev pub record_of : Entry → Record
+record_of e = record { number = e.number; epoch = e.epoch; blob = blob_id_of e.text }
+
+-- These may be an archive's entries, and theirs are the first of a map's records that have a message; so many others are behind.
+pub record AreFirst (rs behind : List Record) (entries : List Entry) : Type 0 where
+  pub valid : AllByRecursion IsEntry entries
+  pub order : Rise 1 0 entries
+  pub ids : IdsDiffer entries
+  pub blobs : BlobsAgree entries
+  pub records : messages rs ≡ map record_of entries ++ behind
+
+-- the length of an epoch that a root names
+abbrev pub named_length : Root → ℕ → ℕ
+named_length root e = (get_or root.epochs e no_place).length
+
+-- the bytes of an epoch's file, as many as the root names, or as there are
+abbrev pub named_bytes : Root → Files → ℕ → List ℕ
+named_bytes root files e = take (named_length root e) (bytes_of (files (epoch_file_of root e)))
+
+-- Each epoch below one has the bytes of those of these entries that stand in it, just as many as the root names.
+pub record AreWhole (root : Root) (files : Files) (epoch : ℕ) (entries : List Entry) : Type 0 where
+  pub below : AllByRecursion (λ (e : Entry). e.epoch < epoch) entries
+  pub lengths : (e : ℕ) → e < epoch → named_length root e ≡ length (epoch_bytes (in_epoch entries e))
+  pub fronts : (e : ℕ) → e < epoch → Fronts (epoch_bytes (in_epoch entries e)) (files (epoch_file_of root e))
+
+-- The files of all epochs are those of these entries, and they have all records of the map that have a message.
+pub record AreOpened (root : Root) (files : Files) (rs : List Record) (entries : List Entry) : Type 0 where
+  pub first : AreFirst rs [] entries
+  pub whole : AreWhole root files 64 entries
+
+-- The epochs below this one are whole, and have the first entries of the map; this one doesn't begin with the magic.
+pub record LacksFront (root : Root) (files : Files) (rs : List Record) (epoch place : ℕ) : Type 0 where
+  pub before : List Entry
+  pub behind : List Record
+  pub first : AreFirst rs behind before
+  pub whole : AreWhole root files epoch before
+  pub some : 0 < named_length root epoch
+  pub lacks : LacksMagic (named_length root epoch) (bytes_of (files (epoch_file_of root epoch)))
+  pub place_is : place ≡ 0
+
+-- The epochs below this one are whole; this one begins with the magic and some entries, and all of these are the first of the
+-- map. At the place behind them no next one stands, though there is none yet or the epoch goes on.
+pub record LacksNext (root : Root) (files : Files) (rs : List Record) (epoch place : ℕ) : Type 0 where
+  pub before : List Entry
+  pub here : List Entry
+  pub behind : List Record
+  pub rest : List ℕ
+  pub first : AreFirst rs behind (before ++ here)
+  pub whole : AreWhole root files epoch before
+  pub stand : AllByRecursion (λ (e : Entry). e.epoch ≡ epoch) here
+  pub spelled : named_bytes root files epoch ≡ (magic ++ entries_bytes None here) ++ rest
+  pub place_is : place ≡ 8 + length (entries_bytes None here)
+  pub wanted : (here ≡ []) ⊎ (place < named_length root epoch)
+  pub lacks : (next : Entry) (others : List Record) (more : List ℕ) → next.epoch ≡ epoch → AreFirst rs others ((before ++ here) ++ next ∷ [])
+      → rest ≢ bytes_behind (last_commit None here) (in_file next) ++ more
+
+-- All epochs are whole, and have the first entries of the map. The map has a record more, whose message should stand in this
+-- epoch, behind its end.
+pub record LacksLast (root : Root) (files : Files) (rs : List Record) (epoch place : ℕ) : Type 0 where
+  pub before : List Entry
+  pub next : Record
+  pub behind : List Record
+  pub first : AreFirst rs (next ∷ behind) before
+  pub whole : AreWhole root files 64 before
+  pub stands : epoch ≡ next.epoch
+  pub place_is : place ≡ named_length root epoch
+
+-- An epoch is the first one that is damaged, and this is the place: its front, or that of the first entry that isn't there or
+-- isn't the next one of the map; or where all epochs are whole, the end of the one that should have the map's next message.
+abbrev pub IsFirstDamage : Root → Files → List Record → ℕ → ℕ → Type 0
+IsFirstDamage root files rs epoch place =
+    ((epoch < 64) × LacksFront root files rs epoch place) ⊎ (((epoch < 64) × LacksNext root files rs epoch place) ⊎ LacksLast root files rs epoch place)

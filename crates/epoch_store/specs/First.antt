@@ -1,0 +1,67 @@
+-- The first root of an archive, in a root file of zeros.
+use Rattle.std.specs.Prelude.{◌≡◌, ◌≢◌, ◌⊎◌, ℕ, List, Option, Some, None, Result, Ok, Err, replicate}
+use Rattle.arch_base.specs.declared.config.Config.{Config}
+use Rattle.disk_model.specs.declared.name.FileName.{FileName}
+use Rattle.root_slots.specs.declared.root.Root.{Root}
+use Rattle.root_slots.specs.Valid.{no_place}
+use Rattle.epoch_store.specs.declared.refusal.InitRefusal.{InitRefusal}
+use Rattle.epoch_store.specs.declared.refusal.InitRefusal.TheVariants.{Exists, DiskFault, NoMemory}
+use Rattle.disk_model.specs.Disk.{File, Files, Content, Image, Fits}
+use Rattle.disk_model.specs.Synced.{IsSettled}
+use Rattle.arch_model.specs.Archives.{Archive}
+use Rattle.root_slots.specs.RootName.{root_name}
+use Rattle.root_slots.specs.Each.{IfThere}
+use Rattle.root_slots.specs.Slots.{Elsewhere, HasRoot, Ready, IsShutFile}
+use Rattle.epoch_store.specs.Recovery.{Recovers}
+
+-- all bytes of a root file are zeros
+abbrev pub AreZeros : List ℕ → Type 0
+AreZeros file = file ≡ replicate 4096 0
+
+-- no slot is open, or the first root is there; all other files are as a crash before might have left them
+pub record IsShutOrFirst (body : List ℕ) (k : Content) (image : Files) : Type 0 where
+  pub root : IsShutFile (image root_name) ⊎ IfThere (HasRoot body) (image root_name)
+  pub elsewhere : Elsewhere k image
+
+-- the same, where the disk tells its content
+abbrev pub ShutOrFirst : List ℕ → Option Content → Files → Type 0
+ShutOrFirst body None image = Unit {0}
+ShutOrFirst body (Some k) image = IsShutOrFirst body k image
+
+-- what a crash leaves while an archive is made: what it might have left before, or no open slot, or the archive without entries
+abbrev pub MakingLeaves : Archive → Option Content → Files → Type 0
+MakingLeaves a content image = Image content image ⊎ (IsShutFile (image root_name) ⊎ Recovers image a)
+
+-- no slot is open, or the root of this body is there
+abbrev pub ShutOrRoot : List ℕ → Files → Type 0
+ShutOrRoot body image = IsShutFile (image root_name) ⊎ IfThere (HasRoot body) (image root_name)
+
+-- the same, where the disk tells its content
+abbrev pub MakesRoot : List ℕ → Option Content → Files → Type 0
+MakesRoot body None image = Unit {0}
+MakesRoot body (Some k) image = ShutOrRoot body image
+
+-- the root of an archive without entries
+abbrev pub first_root_of : Config → Root
+first_root_of config = record {
+  config = config;
+  sequence = 1;
+  next = 1;
+  map = record { gen_ = 1; length = 0 };
+  epochs = replicate 64 no_place;
+  cache = no_place;
+}
+
+-- A disk has a root of this body in slot 0, the other slot is ready for the next one, no other file is there, and all that reads
+-- give is on the disk.
+pub record HasOnly (body : List ℕ) (k : Content) : Type 0 where
+  pub roots : (file : File) → Fits (k root_name).sure file → IfThere (Ready 1 body) file
+  pub others : (name : FileName) → name ≢ root_name → (k name).seen ≡ None
+  pub settled : IsSettled k
+
+-- What making an archive is answered, by the root file as it reads: a store where no slot is open, and else that there is one.
+abbrev pub MakingAnswers : {T : Type 0} → Result T InitRefusal → Content → Type 0
+MakingAnswers (Ok store) k = IsShutFile (k root_name).seen
+MakingAnswers (Err Exists) k = IsShutFile (k root_name).seen → ⊥
+MakingAnswers (Err DiskFault) k = Unit {0}
+MakingAnswers (Err NoMemory) k = Unit {0}

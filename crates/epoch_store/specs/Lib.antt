@@ -1,0 +1,13 @@
+pub mod Files
+pub mod TwoFiles
+pub mod Validity
+pub mod Recovery
+pub mod Stores
+pub mod Damage
+pub mod Joined
+pub mod Laws
+pub mod First
+pub mod Settling
+pub mod Openings
+pub mod Finding
+pub mod Reads

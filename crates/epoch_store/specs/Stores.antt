@@ -1,0 +1,146 @@
+-- What a store keeps in memory of an archive, and which disk is its own.
+use Rattle.std.specs.Prelude.{◌-◌, ◌^◌, min, set, slice_get, ◌≡◌, ◌≢◌, ◌⊎◌, ◌+◌, ◌<◌, ◌≤◌, ◌==◌, ℕ, false, List, [], ◌∷◌, ◌++◌, length, get_or, Option, Some, None, if◌then◌else◌}
+use Rattle.std.specs.List.{AllByRecursion}
+use Rattle.arch_base.specs.declared.ids.Id20.{Id20}
+use Rattle.disk_model.specs.Disk.{Files, Content, bytes_of}
+use Rattle.mail_reader.specs.StorageTexts.{IsStorageText}
+use Rattle.mail_reader.specs.Ids.{own_id}
+use Rattle.git_objects.specs.Objects.{blob_id_of}
+use Rattle.arch_model.specs.Archives.{Entry, Archive, with_entry, in_epoch}
+use Rattle.arch_model.specs.Delivery.{last_epoch, new_epoch}
+use Rattle.arch_model.specs.Epochs.{entries_bytes, last_commit, message_name}
+use Rattle.epoch_file.specs.declared.entry.NewEntry.{NewEntry}
+use Rattle.epoch_file.specs.Entries.{EpochEntry}
+use Rattle.epoch_file.specs.Walking.{seen_at}
+use Rattle.root_slots.specs.declared.root.Root.{Root}
+use Rattle.root_slots.specs.Slots.{HasRootSize}
+use Rattle.root_slots.specs.Valid.{no_place}
+use Rattle.epoch_store.specs.declared.entries.StoredEntry.{StoredEntry}
+use Rattle.epoch_store.specs.declared.next.End.{End}
+use Rattle.epoch_store.specs.declared.next.NextPlace.{NextPlace}
+use Rattle.epoch_store.specs.Files.{map_file_of, epoch_file_of, IsOn}
+use Rattle.epoch_store.specs.Validity.{IsArchive}
+use Rattle.epoch_store.specs.Recovery.{Names, map_bytes, bytes_in, Recovers}
+
+-- What is kept in memory: the current root and its slot, and of each entry all but its text.
+pub record View : Type 0 where
+  pub root : Root
+  pub slot : ℕ
+  pub entries : List StoredEntry
+
+-- an entry as it stands in its epoch's file
+abbrev pub in_file : Entry → EpochEntry
+in_file e = record { name = message_name; text = e.text; moment = e.moment }
+
+-- what is kept of an entry behind others: it stands behind those of its epoch, and behind the epoch's first eight bytes
+abbrev pub stored_at : List Entry → Entry → StoredEntry
+stored_at before e = record {
+  number = e.number;
+  epoch = e.epoch;
+  seen = seen_at (8 + length (entries_bytes None (in_epoch before e.epoch))) (last_commit None (in_epoch before e.epoch)) (in_file e);
+}
+
+-- what is kept of entries behind others
+abbrev pub stored_behind : List Entry → List Entry → List StoredEntry
+stored_behind before [] = []
+stored_behind before (e ∷ es) = stored_at before e ∷ stored_behind (before ++ e ∷ []) es
+
+-- A store keeps an archive: the root that names it, and its entries.
+pub record Keeps (v : View) (a : Archive) : Type 0 where
+  pub valid : IsArchive a
+  pub names : Names v.root a
+  pub kept : v.entries ≡ stored_behind [] a.entries
+
+-- A disk is a store's own, and holds this archive: the store keeps it, and the disk is exactly the archive's by the store's root.
+pub record IsDiskOf (v : View) (a : Archive) (k : Content) : Type 0 where
+  pub keeps : Keeps v a
+  pub on : IsOn v.root v.slot (map_bytes a) (bytes_in a) k
+
+-- the same, of a disk that tells its content
+abbrev pub IsStoreOf : View → Archive → Option Content → Type 0
+IsStoreOf v a None = ⊥
+IsStoreOf v a (Some k) = IsDiskOf v a k
+
+-- the one archive or the other
+abbrev pub RecoversEither : Archive → Archive → Files → Type 0
+RecoversEither a b image = Recovers image a ⊎ Recovers image b
+
+-- the files that a store names have their sizes at least: the root file its own, and map and epochs what the root says
+pub record HasSizes (v : View) (k : Content) : Type 0 where
+  pub root : HasRootSize k
+  pub map_long : v.root.map.length ≤ length (bytes_of (k (map_file_of v.root)).seen)
+  pub epochs_long : (e : ℕ) → e < 64 → (get_or v.root.epochs e no_place).length ≤ length (bytes_of (k (epoch_file_of v.root e)).seen)
+
+-- A new text would be accepted: the archive is no mirror and has a number left, the text is a storage text, and no entry has its own
+-- id or its blob id.
+pub record Accepts (v : View) (text : List ℕ) : Type 0 where
+  pub writable : v.root.config.mirror ≡ false
+  pub number_left : v.root.next ≤ v.root.config.max
+  pub storage : IsStorageText text
+  pub id : AllByRecursion (λ (e : StoredEntry). own_id text ≢ Some e.seen.id) v.entries
+  pub blob : AllByRecursion (λ (e : StoredEntry). blob_id_of text ≢ e.seen.blob) v.entries
+
+-- the entries of a store stand in epochs of 0 to 63
+abbrev pub InEpochs : List StoredEntry → Type 0
+InEpochs entries = (i : ℕ) (e : StoredEntry) → slice_get entries i ≡ Some e → e.epoch ≤ 63
+
+-- the epoch of the last entry of an archive, or 0, and its last commit
+pub record IsEnd (a : Archive) (end_ : End) : Type 0 where
+  pub epoch : end_.epoch ≡ last_epoch a.entries
+  pub parent : end_.parent ≡ last_commit None (in_epoch a.entries (last_epoch a.entries))
+
+-- Where the next entry of an archive goes: its epoch, and the file of that epoch, behind its bytes and its last commit; where
+-- the epoch has no bytes, a new file of this generation.
+pub record IsNextPlace (root : Root) (a : Archive) (new_gen : ℕ) (p : NextPlace) : Type 0 where
+  pub epoch : p.epoch ≡ new_epoch a
+  pub length_is : p.length ≡ length (bytes_in a p.epoch)
+  pub old : bytes_in a p.epoch ≢ [] → p.gen_ ≡ (get_or root.epochs p.epoch no_place).gen_
+  pub new : bytes_in a p.epoch ≡ [] → p.gen_ ≡ new_gen
+  pub parent : p.parent ≡ last_commit None (in_epoch a.entries p.epoch)
+
+-- one more, up to the greatest number of 64 bits
+abbrev pub next_sequence : ℕ → ℕ
+next_sequence n = min (n + 1) (2 ^ 64 - 1)
+
+-- the root behind one more entry: its epoch's file ends here now, and the map has one record more
+abbrev pub root_after : Root → NextPlace → ℕ → Root
+root_after root p end_ = record {
+  config = root.config;
+  sequence = next_sequence root.sequence;
+  next = root.next + 1;
+  map = record { gen_ = root.map.gen_; length = root.map.length + 28 };
+  epochs = set root.epochs p.epoch (record { gen_ = p.gen_; length = end_ });
+  cache = root.cache;
+}
+
+-- the place behind the bytes of an epoch of a root, or at the front of a new file
+abbrev pub place_of : Root → ℕ → Option Id20 → NextPlace
+place_of root epoch parent = record {
+  epoch = epoch;
+  gen_ = if (get_or root.epochs epoch no_place).length == 0 then next_sequence root.sequence else (get_or root.epochs epoch no_place).gen_;
+  length = (get_or root.epochs epoch no_place).length;
+  parent = parent;
+}
+
+-- a new entry is a message behind the last commit of its epoch
+pub record IsMessage (p : NextPlace) (entry : NewEntry) : Type 0 where
+  pub name : entry.name ≡ message_name
+  pub parent : entry.parent ≡ p.parent
+
+-- This place is that of the next entry of the archive, its text would be accepted, and there is a next root.
+pub record GoesNext (v : View) (a : Archive) (p : NextPlace) (entry : NewEntry) : Type 0 where
+  pub place : IsNextPlace v.root a (next_sequence v.root.sequence) p
+  pub accepts : Accepts v entry.text.now
+  pub room : v.root.sequence + 1 < 2 ^ 64
+
+-- the archive with a new entry as a message
+abbrev pub with_message : Archive → NextPlace → NewEntry → Archive
+with_message a p entry = with_entry a p.epoch entry.text.now entry.moment
+
+-- what the store keeps then
+abbrev pub view_after : View → Archive → Root → NextPlace → NewEntry → View
+view_after v a root p entry = record {
+  root = root;
+  slot = 1 - v.slot;
+  entries = v.entries ++ stored_at a.entries (record { number = a.next; epoch = p.epoch; text = entry.text.now; moment = entry.moment }) ∷ [];
+}

@@ -1,0 +1,300 @@
+//! What an archive's files have, read from the root to the last epoch before anything is changed.
+ghost use Rattle.std.specs.Prelude.{◌≡◌, ◌≢◌, ◌+◌, ◌<◌, ◌≤◌, Err, IfOk, get_or};
+ghost use Rattle.arch_base.specs.Counts.{Rose};
+ghost use Rattle.disk_model.specs.Disk.{Files, Image, Told, WhereTold, Unchanged, LeavesOnly};
+ghost use Rattle.arch_model.specs.declared.opening.OpenRefusal.{OpenRefusal};
+ghost use Rattle.epoch_file.specs.Runs.{OnlyReads};
+ghost use Rattle.root_slots.specs.RootName.{root_name};
+ghost use Rattle.root_slots.specs.Valid.{IsRoot, RootFits, no_place};
+ghost use Rattle.epoch_store.specs.Files.{as_read, epoch_file_of};
+ghost use Rattle.epoch_store.specs.Joined.{AreBefore};
+ghost use Rattle.epoch_store.specs.Finding.{Finds, FindsRoot, FindsRecords, FindsEntries, KeepsBy, EndsWith, ReadsEach, ReadsEpoch, ReadsSeen, StopsEpoch, StopsSeen};
+
+use crate::entries::StoredEntry;
+use crate::joining::Joining;
+use crate::known::JoinRefusal;
+use crate::putting::{epoch_file, map_file};
+use arch_model::OpenRefusal;
+use disk_model::{Disk, FileKind, FileName, WalkRefusal};
+use epoch_file::{SeenList, law_of_entries, law_of_epochs};
+use number_map::Records;
+use root_slots::{Place, Root, RootRefusal, root_fits};
+use std::alloc::Global;
+
+/// What is found of an archive: its current root, the root's slot, and what is kept of its entries.
+#[derive(Drop)]
+pub(crate) struct Found {
+    pub(crate) root: Root,
+    pub(crate) slot: u8,
+    pub(crate) entries: Vec<StoredEntry>,
+}
+
+/// The root file.
+fn root_file() -> FileName
+    ensures { result ≡ root_name }
+{
+    FileName {
+        kind: FileKind::Root,
+        number: 0,
+        gen_: 0,
+    }
+}
+
+/// The place of an epoch that a root names: no byte of generation 0 where there is no such epoch.
+fn named_place(root: &Root, epoch: u32) -> Place
+    ensures { result ≡ get_or root.now.epochs epoch no_place }
+{
+    match root.epochs.get(epoch as usize) {
+        Some(place) => *place,
+        None => Place { gen_: 0, length: 0 },
+    }
+}
+
+/// The file of an epoch that a root names.
+fn named_file(root: &Root, epoch: u32) -> FileName
+    ensures { result ≡ epoch_file_of root.now epoch }
+{
+    epoch_file(epoch, named_place(root, epoch).gen_)
+}
+
+/// The current root and its slot.
+fn find_root<D: Disk>(disk: &mut D) -> Result<(u8, Root), OpenRefusal>
+    ensures found { WhereTold (λ k. FindsRoot (as_read k) result) (D.content disk.old) }
+    ensures slot { IfOk result (λ found. found.0 < 2) }
+    ensures valid { IfOk result (λ found. IsRoot found.1) }
+    ensures fits { IfOk result (λ found. RootFits found.1) }
+    ensures reads { OnlyReads D.content D.moment D.left_since D.faults disk.old disk.new }
+    ensures fault { result ≡ Err OpenRefusal.DiskFault → Rose (D.faults disk.old) (D.faults disk.new) }
+{
+    match root_slots::read(disk) {
+        Ok(Some((slot, root))) => {
+            root_fits(&root);
+            Ok((slot, root))
+        }
+        Ok(None) => Err(OpenRefusal::NoArchive),
+        Err(RootRefusal::Damaged { at }) => Err(OpenRefusal::Damaged {
+            file: root_file(),
+            at,
+        }),
+        Err(RootRefusal::DiskFault) => Err(OpenRefusal::DiskFault),
+    }
+}
+
+/// The records of the map that a root names.
+fn find_records<D: Disk>(alloc: Global, disk: &mut D, root: &Root) -> Result<Records, OpenRefusal>
+    requires root { IsRoot root.now }
+    ensures found { WhereTold (λ k. FindsRecords root.now (as_read k) result) (D.content disk.old) }
+    ensures reads { OnlyReads D.content D.moment D.left_since D.faults disk.old disk.new }
+    ensures fault { result ≡ Err OpenRefusal.DiskFault → Rose (D.faults disk.old) (D.faults disk.new) }
+{
+    let file = map_file(root.map.gen_);
+    match number_map::walk(alloc, disk, file, root.next - 1) {
+        Ok(records) => Ok(records),
+        Err(WalkRefusal::Damaged { at }) => Err(OpenRefusal::Damaged { file, at }),
+        Err(WalkRefusal::DiskFault) => Err(OpenRefusal::DiskFault),
+        Err(WalkRefusal::NoMemory) => Err(OpenRefusal::NoMemory),
+    }
+}
+
+/// The entries of an epoch joined to others, or the place of the first one that can't be.
+fn take(root: &Root, epoch: u32, joining: Joining, seen: SeenList) -> Result<Joining, OpenRefusal>
+    requires small { epoch ≤ 63 }
+    requires before { AreBefore epoch joining.entries }
+    ensures taken { (files : Files) → ReadsSeen root.now epoch joining seen result files }
+    ensures behind { IfOk result (λ joined. AreBefore (epoch + 1) joined.entries) }
+    ensures no_fault { result ≢ Err OpenRefusal.DiskFault }
+{
+    law_of_entries();
+    match joining.take_epoch(epoch, seen) {
+        Ok(next) => Ok(next),
+        Err(JoinRefusal::NoMemory) => Err(OpenRefusal::NoMemory),
+        Err(JoinRefusal::Damaged { at }) => Err(OpenRefusal::Damaged {
+            file: named_file(root, epoch),
+            at,
+        }),
+    }
+}
+
+/// Why an epoch isn't read whose entries are these before a place where no next one stands: one of these may not be
+/// joined to others, and else it is that place.
+fn stop_in(root: &Root, epoch: u32, joining: Joining, at: u64, seen: SeenList) -> OpenRefusal
+    requires small { epoch ≤ 63 }
+    requires behind { 8 < at }
+    requires before { AreBefore epoch joining.entries }
+    ensures stops { (files : Files) → StopsSeen root.now epoch joining at seen result files }
+    ensures no_fault { result ≢ OpenRefusal.DiskFault }
+{
+    law_of_entries();
+    law_of_epochs();
+    let file = named_file(root, epoch);
+    match joining.take_epoch(epoch, seen) {
+        Ok(_joined) => return OpenRefusal::Damaged { file, at },
+        Err(JoinRefusal::NoMemory) => return OpenRefusal::NoMemory,
+        Err(JoinRefusal::Damaged { at: first }) => return OpenRefusal::Damaged { file, at: first },
+    }
+}
+
+/// Why an epoch isn't read in whose file no entry stands at a place: one before it may not be joined to others, and else it
+/// is that place.
+fn stop_at<D: Disk>(
+    alloc: Global,
+    disk: &mut D,
+    root: &Root,
+    epoch: u32,
+    joining: Joining,
+    at: u64,
+) -> OpenRefusal
+    requires small { epoch ≤ 63 }
+    requires before { AreBefore epoch joining.entries }
+    ensures stops { WhereTold (λ k. StopsEpoch root.now epoch joining at result (as_read k)) (D.content disk.old) }
+    ensures reads { OnlyReads D.content D.moment D.left_since D.faults disk.old disk.new }
+    ensures fault { result ≡ OpenRefusal.DiskFault → Rose (D.faults disk.old) (D.faults disk.new) }
+{
+    law_of_entries();
+    let file = named_file(root, epoch);
+    if at <= 8 {
+        return OpenRefusal::Damaged { file, at };
+    }
+    match epoch_file::walk(alloc, disk, file, at) {
+        Ok(seen) => stop_in(root, epoch, joining, at, seen),
+        // The bytes up to there are an epoch.
+        Err(WalkRefusal::Damaged { at: _ }) => OpenRefusal::Damaged { file, at },
+        Err(WalkRefusal::DiskFault) => OpenRefusal::DiskFault,
+        Err(WalkRefusal::NoMemory) => OpenRefusal::NoMemory,
+    }
+}
+
+/// The entries of an epoch that a root names joined to others. One of no byte has none.
+fn join_epoch<D: Disk>(
+    alloc: Global,
+    disk: &mut D,
+    root: &Root,
+    epoch: u32,
+    joining: Joining,
+) -> Result<Joining, OpenRefusal>
+    requires small { epoch ≤ 63 }
+    requires before { AreBefore epoch joining.entries }
+    ensures joined { WhereTold (λ k. ReadsEpoch root.now epoch joining result (as_read k)) (D.content disk.old) }
+    ensures behind { IfOk result (λ joined. AreBefore (epoch + 1) joined.entries) }
+    ensures reads { OnlyReads D.content D.moment D.left_since D.faults disk.old disk.new }
+    ensures fault { result ≡ Err OpenRefusal.DiskFault → Rose (D.faults disk.old) (D.faults disk.new) }
+{
+    let length = named_place(root, epoch).length;
+    if length == 0 {
+        return Ok(joining);
+    }
+    match epoch_file::walk(alloc, disk, named_file(root, epoch), length) {
+        Ok(seen) => take(root, epoch, joining, seen),
+        Err(WalkRefusal::Damaged { at }) => Err(stop_at(alloc, disk, root, epoch, joining, at)),
+        Err(WalkRefusal::DiskFault) => Err(OpenRefusal::DiskFault),
+        Err(WalkRefusal::NoMemory) => Err(OpenRefusal::NoMemory),
+    }
+}
+
+/// The entries of all epochs that a root names, joined to the records of the map.
+fn join_all<D: Disk>(
+    alloc: Global,
+    disk: &mut D,
+    root: &Root,
+    joining: Joining,
+) -> Result<Joining, OpenRefusal>
+    requires before { AreBefore 0 joining.entries }
+    ensures joined { WhereTold (λ k. ReadsEach root.now joining result (as_read k)) (D.content disk.old) }
+    ensures behind { IfOk result (λ joined. AreBefore 64 joined.entries) }
+    ensures reads { OnlyReads D.content D.moment D.left_since D.faults disk.old disk.new }
+    ensures fault { result ≡ Err OpenRefusal.DiskFault → Rose (D.faults disk.old) (D.faults disk.new) }
+{
+    let mut joining = joining;
+    for epoch in 0..64 {
+        match join_epoch(alloc, disk, root, epoch, joining) {
+            Ok(next) => joining = next,
+            Err(refusal) => return Err(refusal),
+        }
+    }
+    Ok(joining)
+}
+
+/// What is kept of the entries, where all records of the map that have a message have one. Else the epoch of the first other
+/// one is damaged, at its end.
+fn finish(root: &Root, joining: Joining) -> Result<Vec<StoredEntry>, OpenRefusal>
+    ensures ends { EndsWith root.now joining result }
+    ensures kept { IfOk result (λ kept. kept.items ≡ joining.entries) }
+    ensures no_fault { result ≢ Err OpenRefusal.DiskFault }
+{
+    match joining.finish() {
+        Ok(entries) => Ok(entries),
+        Err(unmatched) => Err(OpenRefusal::Damaged {
+            file: named_file(root, unmatched.epoch),
+            at: named_place(root, unmatched.epoch).length,
+        }),
+    }
+}
+
+/// What is kept of the entries of all epochs that a root names, whose map has these records.
+fn read_epochs<D: Disk>(
+    alloc: Global,
+    disk: &mut D,
+    root: &Root,
+    records: &Records,
+) -> Result<Vec<StoredEntry>, OpenRefusal>
+    ensures kept { WhereTold (λ k. KeepsBy root.now records.now result (as_read k)) (D.content disk.old) }
+    ensures small { IfOk result (λ kept. AreBefore 64 kept.items) }
+    ensures reads { OnlyReads D.content D.moment D.left_since D.faults disk.old disk.new }
+    ensures fault { result ≡ Err OpenRefusal.DiskFault → Rose (D.faults disk.old) (D.faults disk.new) }
+{
+    let Ok(joining) = Joining::new(alloc, records) else {
+        return Err(OpenRefusal::NoMemory);
+    };
+    match join_all(alloc, disk, root, joining) {
+        Ok(joined) => finish(root, joined),
+        Err(refusal) => Err(refusal),
+    }
+}
+
+/// What is kept of the entries that a root names.
+fn find_entries<D: Disk>(
+    alloc: Global,
+    disk: &mut D,
+    root: &Root,
+) -> Result<Vec<StoredEntry>, OpenRefusal>
+    requires root { IsRoot root.now }
+    requires fits { RootFits root.now }
+    ensures found { WhereTold (λ k. FindsEntries root.now (as_read k) result) (D.content disk.old) }
+    ensures small { IfOk result (λ kept. AreBefore 64 kept.items) }
+    ensures reads { OnlyReads D.content D.moment D.left_since D.faults disk.old disk.new }
+    ensures fault { result ≡ Err OpenRefusal.DiskFault → Rose (D.faults disk.old) (D.faults disk.new) }
+{
+    match find_records(alloc, disk, root) {
+        Ok(records) => read_epochs(alloc, disk, root, &records),
+        Err(refusal) => Err(refusal),
+    }
+}
+
+/// What is found of an archive on a disk, which stays as it is: all that its files have is read, and held against the map.
+///
+/// NoArchive comes only where no slot of the root is open. Damaged comes only where the files that the root names leave
+/// their form, with the first place where they do: of the root, then of the map, then of the epochs in order. DiskFault comes
+/// only where the disk's count of faults rose, and NoMemory only for want of memory.
+pub(crate) fn find<D: Disk>(alloc: Global, disk: &mut D) -> Result<Found, OpenRefusal>
+    ensures found { WhereTold (λ k. Finds (as_read k) result) (D.content disk.old) }
+    // Whatever the disk tells, it is a root of a slot, and entries of epochs 0 to 63.
+    ensures slot { IfOk result (λ found. found.slot < 2) }
+    ensures root { IfOk result (λ found. IsRoot found.root) }
+    ensures epochs { IfOk result (λ found. AreBefore 64 found.entries.items) }
+    ensures same { Told Unchanged (D.content disk.old) (D.content disk.new) }
+    ensures any_moment { LeavesOnly D.moment D.left_since disk.old disk.new (Image (D.content disk.old)) }
+    ensures later { D.faults disk.old ≤ D.faults disk.new }
+    ensures fault { result ≡ Err OpenRefusal.DiskFault → Rose (D.faults disk.old) (D.faults disk.new) }
+{
+    match find_root(disk) {
+        Ok((slot, root)) => match find_entries(alloc, disk, &root) {
+            Ok(entries) => Ok(Found {
+                root,
+                slot,
+                entries,
+            }),
+            Err(refusal) => Err(refusal),
+        },
+        Err(refusal) => Err(refusal),
+    }
+}

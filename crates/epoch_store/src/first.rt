@@ -1,0 +1,109 @@
+//! The first root of an archive.
+ghost use Rattle.std.specs.Prelude.{◌≡◌, ◌≢◌, ◌<◌, ◌≤◌, Err, IfOk, OnOk};
+ghost use Rattle.arch_base.specs.Counts.{IsCaused};
+ghost use Rattle.disk_model.specs.Disk.{Image, Told, WhereTold, Unchanged, Synced, LeavesOnly};
+ghost use Rattle.root_slots.specs.Each.{EachRoot};
+ghost use Rattle.root_slots.specs.Slots.{HasRootSize, Ready, IsCommitted};
+ghost use Rattle.root_slots.specs.Spelling.{spelling};
+ghost use Rattle.root_slots.specs.Valid.{IsRoot};
+ghost use Rattle.root_slots.specs.Slots.{EachShut};
+ghost use Rattle.arch_base.specs.Configs.{IsConfig};
+ghost use Rattle.arch_base.specs.Names.{IsName};
+ghost use Rattle.disk_files.specs.Listing.{AreAllNames};
+ghost use Rattle.epoch_store.specs.First.{AreZeros, ShutOrFirst, MakesRoot, HasOnly, MakingAnswers, first_root_of};
+ghost use Rattle.arch_base.specs.Counts.{Rose};
+ghost use Rattle.epoch_store.specs.declared.refusal.InitRefusal.{InitRefusal};
+
+use crate::refusal::InitRefusal;
+use arch_base::Config;
+use disk_files::{FileNames, file_names, remove_files};
+use disk_model::{Disk, DiskFault, FileName, WalkRefusal};
+use root_slots::{Place, Root, RootRefusal, begin, fill, raise, read};
+use std::alloc::Global;
+
+/// The root of an archive without entries.
+pub fn first_root(config: &Config) -> Root
+    requires { IsConfig config.now }
+    ensures root { result ≡ first_root_of config.now }
+    ensures valid { IsRoot result }
+    ensures name { IsName config.now.name }
+{
+    // Its name is one, which the slice brings into the proof.
+    let _name = config.name.as_slice();
+    Root {
+        config: config.copy(),
+        sequence: 1,
+        next: 1,
+        map: Place { gen_: 1, length: 0 },
+        epochs: [Place { gen_: 0, length: 0 }; 64],
+        cache: Place { gen_: 0, length: 0 },
+    }
+}
+
+/// Takes all files away, and makes a root file with the first root.
+pub fn make<D: Disk>(disk: &mut D, names: &[FileName], root: &Root) -> Result<(), DiskFault>
+    requires root { IsRoot root.now }
+    // Where no crash leaves an open slot before, at each moment a crash leaves none, or the root.
+    ensures any_moment { EachShut (D.content disk.old) → LeavesOnly D.moment D.left_since disk.old disk.new (MakesRoot (spelling root.now) (D.content disk.old)) }
+    // After Ok it is the root, the other slot is ready, and there is no other file.
+    ensures done { WhereTold (AreAllNames names.now) (D.content disk.old) → 0 < root.now.sequence → OnOk result (WhereTold (HasOnly (spelling root.now)) (D.content disk.new)) }
+    ensures told { OnOk result (Told (λ old new. Unit {0}) (D.content disk.old) (D.content disk.new)) }
+    ensures cause { IsCaused (D.faults disk.old) (D.faults disk.new) result }
+    ensures count { D.reads disk.new ≡ D.reads disk.old }
+{
+    let _sequence = root.sequence;
+    remove_files(disk, names)?;
+    begin(disk)?;
+    raise_first(disk, root)
+}
+
+/// Puts the first root into slot 0 of a root file of zeros, and opens its gate.
+pub fn raise_first<D: Disk>(disk: &mut D, root: &Root) -> Result<(), DiskFault>
+    requires size { WhereTold HasRootSize (D.content disk.old) }
+    requires root { IsRoot root.now }
+    ensures any_moment { EachRoot AreZeros (D.content disk.old) → LeavesOnly D.moment D.left_since disk.old disk.new (ShutOrFirst (spelling root.now) (D.content disk.old)) }
+    ensures time { D.moment disk.old ≤ D.moment disk.new }
+    ensures done { EachRoot AreZeros (D.content disk.old) → 0 < root.now.sequence → OnOk result (EachRoot (Ready 1 (spelling root.now)) (D.content disk.new)) }
+    ensures committed { OnOk result (Told IsCommitted (D.content disk.old) (D.content disk.new)) }
+    ensures cause { IsCaused (D.faults disk.old) (D.faults disk.new) result }
+    ensures count { D.reads disk.new ≡ D.reads disk.old }
+{
+    let _sequence = root.sequence; // brings the range of a field behind a `&` into the proof
+    fill(disk, 0, root)?;
+    raise(disk, 0)
+}
+
+/// Whether there is no archive: it syncs, and no slot of the root is open. Exists comes exactly where one is.
+pub fn no_archive<D: Disk>(disk: &mut D) -> Result<(), InitRefusal>
+    ensures any_moment { LeavesOnly D.moment D.left_since disk.old disk.new (Image (D.content disk.old)) }
+    ensures answer { WhereTold (MakingAnswers result) (D.content disk.old) }
+    ensures synced { OnOk result (Told Synced (D.content disk.old) (D.content disk.new)) }
+    ensures later { D.faults disk.old ≤ D.faults disk.new }
+    ensures fault { result ≡ Err InitRefusal.DiskFault → Rose (D.faults disk.old) (D.faults disk.new) }
+{
+    disk.sync()?;
+    match read(disk) {
+        Ok(None) => Ok(()),
+        Ok(Some(_)) => Err(InitRefusal::Exists),
+        Err(RootRefusal::Damaged { at: _ }) => Err(InitRefusal::Exists),
+        Err(RootRefusal::DiskFault) => Err(InitRefusal::DiskFault),
+    }
+}
+
+/// The names of all files.
+pub fn all_names<D: Disk>(alloc: Global, disk: &mut D) -> Result<FileNames, InitRefusal>
+    ensures names { IfOk result (λ names. WhereTold (AreAllNames names) (D.content disk.old)) }
+    ensures same { Told Unchanged (D.content disk.old) (D.content disk.new) }
+    ensures any_moment { LeavesOnly D.moment D.left_since disk.old disk.new (Image (D.content disk.old)) }
+    ensures later { D.faults disk.old ≤ D.faults disk.new }
+    ensures fault { result ≡ Err InitRefusal.DiskFault → Rose (D.faults disk.old) (D.faults disk.new) }
+    ensures none { result ≢ Err InitRefusal.Exists }
+{
+    match file_names(alloc, disk) {
+        Ok(names) => Ok(names),
+        Err(WalkRefusal::DiskFault) => Err(InitRefusal::DiskFault),
+        Err(WalkRefusal::NoMemory) => Err(InitRefusal::NoMemory),
+        // No file is read, so none is damaged.
+        Err(WalkRefusal::Damaged { at: _ }) => Err(InitRefusal::NoMemory),
+    }
+}

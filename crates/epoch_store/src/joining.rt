@@ -1,0 +1,155 @@
+//! The entries of the epochs, joined to the records of the map.
+ghost use Rattle.std.specs.Prelude.{◌≡◌, ◌+◌, ◌<◌, ◌≤◌, [], IfOk, IfErr};
+ghost use Rattle.epoch_store.specs.Damage.{messages, has_message};
+ghost use Rattle.epoch_store.specs.Joined.{Wants, JoinsOne, AreBefore, TakesEpoch, Finishes};
+
+use crate::entries::StoredEntry;
+use crate::known::{JoinRefusal, Known, Unmatched, add_blob, add_id, known_of_none};
+use arch_base::NoMemory;
+use epoch_file::{Seen, SeenList};
+use number_map::{Record, Records};
+use std::alloc::{AllocError, Global};
+use std::marker::Model;
+
+/// The name of a message's file.
+const MESSAGE: u8 = b'm';
+
+/// The records of a map that have a message, and what is kept of the entries that have come so far: those of the first records,
+/// in order, each with an own id and a blob id that no other has.
+#[derive(Drop)]
+pub struct Joining {
+    records: Vec<Record>,
+    known: Known,
+    entries: Vec<StoredEntry>,
+}
+
+impl Model for Joining {
+    ghost use Rattle.epoch_store.specs.Joined.{Joined, AreKnown, HaveEpochs};
+
+    ghost Value = { Joined };
+
+    ghost view = { λ j. record { records = j.records.items; entries = j.entries.items } };
+
+    ghost invariant = { λ j. AreKnown j.entries.items j.known × HaveEpochs j.records.items };
+}
+
+/// The records that have a message.
+fn with_message(alloc: Global, records: &[Record]) -> Result<Vec<Record>, AllocError>
+    ensures { IfOk result (λ kept. kept.items ≡ messages records.now) }
+{
+    records
+        .iter()
+        .copied()
+        .filter(|record| record.epoch < 64)
+        .collect(alloc)
+}
+
+impl Joining {
+    /// The records of a map, and no entry yet.
+    #[tactic(auto, using(crate::proofs::Firsts::messages_small))]
+    pub fn new(alloc: Global, records: &Records) -> Result<Joining, NoMemory>
+        ensures records { IfOk result (λ joining. joining.records ≡ messages records.now) }
+        ensures entries { IfOk result (λ joining. joining.entries ≡ []) }
+    {
+        let records = with_message(alloc, records.as_slice())?;
+        Ok(Joining {
+            records,
+            known: known_of_none(alloc),
+            entries: Vec::new(alloc),
+        })
+    }
+
+    /// The number of the next record, where it is that of an entry of an epoch.
+    fn wanted(&self, epoch: u32, seen: &Seen) -> Option<u32>
+        ensures { Wants self.now epoch seen.now result }
+    {
+        if seen.name != MESSAGE {
+            return None;
+        }
+        let record = self.records.get(self.entries.len())?;
+        if record.epoch != epoch {
+            return None;
+        }
+        if record.blob != seen.blob {
+            return None;
+        }
+        Some(record.number)
+    }
+
+    /// One entry more, or its place, where it isn't wanted or hasn't ids of its own.
+    fn take_one(self, epoch: u32, seen: Seen) -> Result<Joining, JoinRefusal>
+        ensures { JoinsOne self epoch seen result }
+    {
+        let at = seen.at;
+        let Some(number) = self.wanted(epoch, &seen) else {
+            return Err(JoinRefusal::Damaged { at });
+        };
+        let Joining {
+            records,
+            mut known,
+            mut entries,
+        } = self;
+        if !add_id(&mut known.ids, &seen.id)? {
+            return Err(JoinRefusal::Damaged { at });
+        }
+        if !add_blob(&mut known.blobs, &seen.blob)? {
+            return Err(JoinRefusal::Damaged { at });
+        }
+        if entries
+            .push(StoredEntry {
+                number,
+                epoch,
+                seen,
+            })
+            .is_err()
+        {
+            return Err(JoinRefusal::NoMemory);
+        }
+        Ok(Joining {
+            records,
+            known,
+            entries,
+        })
+    }
+
+    /// The entries of an epoch more: those that its file has, in order. The epochs are taken one behind the other, each at most
+    /// once.
+    ///
+    /// Damaged comes exactly where an entry isn't the message of the map's next record, or has the own id or the blob id of an
+    /// earlier one, with the place of the first such entry. NoMemory comes only for want of memory. All is dropped then.
+    pub fn take_epoch(self, epoch: u32, seen: SeenList) -> Result<Joining, JoinRefusal>
+        requires small { epoch ≤ 63 }
+        requires before { AreBefore epoch self.entries }
+        ensures taken { TakesEpoch self epoch seen result }
+        ensures behind { IfOk result (λ joining. AreBefore (epoch + 1) joining.entries) }
+    {
+        let mut joining = self;
+        for entry in seen.into_vec() {
+            match joining.take_one(epoch, entry) {
+                Err(refusal) => return Err(refusal),
+                Ok(next) => joining = next,
+            }
+        }
+        Ok(joining)
+    }
+
+    /// What is kept of the entries, where all records of the map that have a message have one. Else the epoch that the first
+    /// other message should stand in.
+    pub fn finish(self) -> Result<Vec<StoredEntry>, Unmatched>
+        ensures finished { Finishes self result }
+        ensures kept { IfOk result (λ kept. kept.items ≡ self.entries) }
+        ensures small { IfErr result (λ refusal. refusal.epoch < 64) }
+    {
+        let Joining {
+            records,
+            known: _,
+            entries,
+        } = self;
+        match records.get(entries.len()) {
+            None => Ok(entries),
+            Some(record) => Err(Unmatched {
+                epoch: record.epoch,
+            }),
+        }
+    }
+}

@@ -1,0 +1,204 @@
+//! The entries of two epochs, joined to the records of a map by hand.
+use crate::{JoinRefusal, Joining, Unmatched};
+use arch_base::{Bytes, Id20, NoMemory};
+use epoch_file::{Seen, SeenList};
+use number_map::{Record, Records};
+use std::alloc::Global;
+use std::test::Fail;
+
+/// The epoch of a number that has no message.
+const NONE: u32 = 4_294_967_295;
+
+/// An entry: the name of its file, its place, a byte of its blob id, and its own id.
+#[derive(Drop)]
+struct Entry(u8, u64, u8, &'static [u8]);
+
+/// What comes of two epochs.
+#[derive(Debug, PartialEq, Eq, Drop)]
+enum Outcome {
+    /// So many entries.
+    Joined(usize),
+    /// A place in an epoch.
+    Damaged(u32, u64),
+    /// A message that is missing from an epoch.
+    Missing(u32),
+}
+
+/// Records of the numbers from 1 on: the epoch of each, and a byte of its blob id.
+fn records(alloc: Global, list: &[(u32, u8)]) -> Result<Records, NoMemory> {
+    let mut records = Records::new(alloc);
+    let mut number = 1u32;
+    for (epoch, blob) in list {
+        records.push(Record {
+            number,
+            epoch: *epoch,
+            blob: Id20([*blob; 20]),
+        })?;
+        number = number.saturating_add(1);
+    }
+    Ok(records)
+}
+
+/// What is seen of entries.
+fn seen(alloc: Global, list: &[Entry]) -> Result<SeenList, NoMemory> {
+    let mut seen = SeenList::new(alloc);
+    for entry in list {
+        let mut id = Bytes::new(alloc);
+        id.push_slice(entry.3)?;
+        seen.push(Seen {
+            name: entry.0,
+            at: entry.1,
+            text_at: entry.1,
+            size: 0,
+            blob: Id20([entry.2; 20]),
+            commit: Id20([0; 20]),
+            moment: 0,
+            id,
+            content: [0; 32],
+        })?;
+    }
+    Ok(seen)
+}
+
+/// What comes of joining the entries of the epochs 0 and 1.
+fn joined_of(
+    alloc: Global,
+    list: &[(u32, u8)],
+    first: &[Entry],
+    second: &[Entry],
+) -> Result<Outcome, NoMemory> {
+    let joining = Joining::new(alloc, &records(alloc, list)?)?;
+    let joining = match joining.take_epoch(0, seen(alloc, first)?) {
+        Ok(joining) => joining,
+        Err(JoinRefusal::NoMemory) => return Err(NoMemory),
+        Err(JoinRefusal::Damaged { at }) => return Ok(Outcome::Damaged(0, at)),
+    };
+    let joining = match joining.take_epoch(1, seen(alloc, second)?) {
+        Ok(joining) => joining,
+        Err(JoinRefusal::NoMemory) => return Err(NoMemory),
+        Err(JoinRefusal::Damaged { at }) => return Ok(Outcome::Damaged(1, at)),
+    };
+    match joining.finish() {
+        Ok(entries) => Ok(Outcome::Joined(entries.len())),
+        Err(Unmatched { epoch }) => Ok(Outcome::Missing(epoch)),
+    }
+}
+
+#[test]
+fn entries_get_the_numbers_of_the_records_that_have_a_message(rt: HostRuntime) -> Result<(), Fail> {
+    let alloc = rt.alloc();
+    let list = [(0, 1), (NONE, 0), (0, 2), (1, 3), (NONE, 0)];
+    let joining = Joining::new(alloc, &records(alloc, &list)?)?;
+    let joining = joining.take_epoch(
+        0,
+        seen(
+            alloc,
+            &[Entry(b'm', 8, 1, b"<a@b>"), Entry(b'm', 320, 2, b"<c@d>")],
+        )?,
+    )?;
+    let joining = joining.take_epoch(1, seen(alloc, &[Entry(b'm', 8, 3, b"<e@f>")])?)?;
+    let entries = joining.finish()?;
+    let want: [(u32, u32, u64); 3] = [(1, 0, 8), (3, 0, 320), (4, 1, 8)];
+    assert_eq!(rt; entries.len(), 3);
+    for (entry, (number, epoch, at)) in entries.as_slice().iter().zip(&want) {
+        assert_eq!(rt;
+            (entry.number, entry.epoch, entry.seen.at),
+            (*number, *epoch, *at)
+        );
+    }
+    Ok(())
+}
+
+#[test]
+fn the_first_entry_that_does_not_belong_there_is_found(rt: HostRuntime) -> Result<(), Fail> {
+    let alloc = rt.alloc();
+    let one = [Entry(b'm', 8, 1, b"<a@b>")];
+    // All is well: an epoch of no entry, and one.
+    assert_eq!(rt; joined_of(alloc, &[], &[], &[])?, Outcome::Joined(0));
+    assert_eq!(rt;
+        joined_of(alloc, &[(NONE, 0), (1, 1)], &[], &one)?,
+        Outcome::Joined(1)
+    );
+    // Another epoch, another blob, a deletion, and no record.
+    assert_eq!(rt;
+        joined_of(alloc, &[(1, 1)], &one, &[])?,
+        Outcome::Damaged(0, 8)
+    );
+    assert_eq!(rt;
+        joined_of(alloc, &[(0, 1)], &[], &one)?,
+        Outcome::Damaged(1, 8)
+    );
+    assert_eq!(rt;
+        joined_of(alloc, &[(0, 2)], &one, &[])?,
+        Outcome::Damaged(0, 8)
+    );
+    assert_eq!(rt;
+        joined_of(alloc, &[(0, 1)], &[Entry(b'd', 8, 1, b"<a@b>")], &[])?,
+        Outcome::Damaged(0, 8)
+    );
+    assert_eq!(rt; joined_of(alloc, &[], &one, &[])?, Outcome::Damaged(0, 8));
+    // The records in another order.
+    let two = [Entry(b'm', 8, 1, b"<a@b>"), Entry(b'm', 320, 2, b"<c@d>")];
+    assert_eq!(rt;
+        joined_of(alloc, &[(0, 2), (0, 1)], &two, &[])?,
+        Outcome::Damaged(0, 8)
+    );
+    assert_eq!(rt;
+        joined_of(alloc, &[(0, 1), (0, 3)], &two, &[])?,
+        Outcome::Damaged(0, 320)
+    );
+    Ok(())
+}
+
+#[test]
+fn an_id_stands_once_and_each_message_has_an_entry(rt: HostRuntime) -> Result<(), Fail> {
+    let alloc = rt.alloc();
+    let one = [Entry(b'm', 8, 1, b"<a@b>")];
+    // One own id in two epochs and in one, one blob id, and none of these.
+    assert_eq!(rt;
+        joined_of(
+            alloc,
+            &[(0, 1), (1, 2)],
+            &one,
+            &[Entry(b'm', 8, 2, b"<a@b>")]
+        )?,
+        Outcome::Damaged(1, 8)
+    );
+    let twice = [Entry(b'm', 8, 1, b"<a@b>"), Entry(b'm', 320, 2, b"<a@b>")];
+    assert_eq!(rt;
+        joined_of(alloc, &[(0, 1), (0, 2)], &twice, &[])?,
+        Outcome::Damaged(0, 320)
+    );
+    assert_eq!(rt;
+        joined_of(
+            alloc,
+            &[(0, 1), (1, 1)],
+            &one,
+            &[Entry(b'm', 8, 1, b"<c@d>")]
+        )?,
+        Outcome::Damaged(1, 8)
+    );
+    assert_eq!(rt;
+        joined_of(
+            alloc,
+            &[(0, 1), (1, 2)],
+            &one,
+            &[Entry(b'm', 8, 2, b"<c@d>")]
+        )?,
+        Outcome::Joined(2)
+    );
+    // A record more than there are entries.
+    assert_eq!(rt;
+        joined_of(alloc, &[(0, 1), (1, 2)], &one, &[])?,
+        Outcome::Missing(1)
+    );
+    assert_eq!(rt;
+        joined_of(alloc, &[(63, 1)], &[], &[])?,
+        Outcome::Missing(63)
+    );
+    assert_eq!(rt;
+        joined_of(alloc, &[(1, 1), (0, 2)], &[], &one)?,
+        Outcome::Missing(0)
+    );
+    Ok(())
+}

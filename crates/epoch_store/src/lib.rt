@@ -1,0 +1,33 @@
+//! The archive on a disk: a root, a map of numbers, and the files of the epochs, of which no crash can halve a change.
+#![tactic(auto)]
+
+mod entries;
+mod finding;
+mod first;
+mod joining;
+mod known;
+mod laws;
+mod line;
+mod next;
+mod opening_laws;
+mod putting;
+mod reading;
+mod reads;
+mod refusal;
+mod settling;
+mod store;
+
+pub use entries::StoredEntry;
+pub use joining::Joining;
+pub use known::{JoinRefusal, Unmatched};
+pub use laws::{law_of_numbers, law_of_recovery, law_of_stores};
+pub use line::EntryLine;
+pub use opening_laws::{law_of_opening, law_of_undamaged_files};
+pub use reading::TextRefusal;
+pub use refusal::InitRefusal;
+pub use store::Store;
+
+#[cfg(test)]
+mod joining_tests;
+#[cfg(test)]
+mod tests;

@@ -1,0 +1,27 @@
+//! Laws of files that are opened.
+ghost use Rattle.epoch_store.specs.Openings.{OpenedRecovers, OpenedUndamaged, RecoversMap, RecoversOpened, RecoversUndamaged};
+
+use epoch_file::{law_of_entries, law_of_epochs};
+use number_map::law_of_records;
+
+/// Files are opened with entries just where they stand for the archive of these, and such files have no damage.
+#[tactic(auto, using(crate::proofs::Opened::opened_recovers))]
+pub fn law_of_opening()
+    ensures recovers { OpenedRecovers }
+    ensures opened { RecoversOpened }
+    ensures undamaged { OpenedUndamaged }
+{
+    law_of_records();
+    law_of_epochs();
+    law_of_entries();
+}
+
+/// Files that stand for an archive have its map, and no damage.
+pub fn law_of_undamaged_files()
+    ensures map { RecoversMap }
+    ensures undamaged { RecoversUndamaged }
+{
+    law_of_records();
+    law_of_epochs();
+    law_of_entries();
+}

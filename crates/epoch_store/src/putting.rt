@@ -1,0 +1,81 @@
+//! An entry and its record, put behind those of two files.
+ghost use Rattle.std.specs.Prelude.{◌≡◌, ◌≢◌, ◌≤◌, ◌<◌, ◌+◌, ◌^◌, Err, IsTrue, IfOk, OnOk};
+ghost use Rattle.arch_base.specs.Counts.{Rose};
+ghost use Rattle.disk_model.specs.Disk.{Told, WhereTold, IsAtMostLength, LeavesOnly};
+ghost use Rattle.git_objects.specs.Objects.{is_entry_name};
+ghost use Rattle.epoch_file.specs.Entries.{last_moment};
+ghost use Rattle.epoch_file.specs.Appending.{appended, written_of};
+ghost use Rattle.number_map.specs.Records.{record_bytes};
+ghost use Rattle.epoch_store.specs.Files.{map_name, epoch_name};
+ghost use Rattle.epoch_store.specs.TwoFiles.{Appending, AreAppended, line_of};
+
+use disk_model::{Disk, FileKind, FileName};
+use epoch_file::{NewEntry, StoreRefusal, Written, append_entry};
+use number_map::{Record, append};
+use std::alloc::Global;
+
+/// A file, and the place in it up to which all stays as it is.
+#[derive(Clone, Copy, Debug, Drop)]
+pub struct Part {
+    /// The file.
+    pub file: FileName,
+    /// The place, in bytes.
+    pub place: u64,
+}
+
+/// Puts an entry into an epoch's file and the record of its number into a map's, each from a place on, and syncs.
+pub fn put_both<D: Disk>(
+    alloc: Global,
+    disk: &mut D,
+    epoch: Part,
+    entry: &NewEntry<'_>,
+    map: Part,
+    number: u32,
+) -> Result<Written, StoreRefusal>
+    requires apart { epoch.file ≢ map.file }
+    requires name { IsTrue (is_entry_name entry.now.name) }
+    requires moment { entry.now.moment ≤ last_moment }
+    requires epoch_inside { WhereTold (IsAtMostLength epoch.file epoch.place) (D.content disk.old) }
+    requires epoch_place { epoch.place < 2 ^ 62 }
+    requires map_inside { WhereTold (IsAtMostLength map.file map.place) (D.content disk.old) }
+    requires map_place { map.place + 28 < 2 ^ 63 }
+    ensures any_moment { LeavesOnly D.moment D.left_since disk.old disk.new (Appending epoch map (D.content disk.old)) }
+    ensures written { IfOk result (λ written. written ≡ written_of epoch.place entry.now) }
+    ensures appended { OnOk result (Told (AreAppended epoch (appended epoch.place entry.now) map (record_bytes (line_of number epoch entry.now))) (D.content disk.old) (D.content disk.new)) }
+    ensures refused { result ≡ Err StoreRefusal.NoMemory → disk.new ≡ disk.old }
+    ensures later { D.faults disk.old ≤ D.faults disk.new }
+    ensures fault { result ≡ Err StoreRefusal.DiskFault → Rose (D.faults disk.old) (D.faults disk.new) }
+    ensures count { D.reads disk.new ≡ D.reads disk.old }
+{
+    let written = append_entry(alloc, disk, epoch.file, epoch.place, entry)?;
+    let line = Record {
+        number,
+        epoch: epoch.file.number,
+        blob: written.blob,
+    };
+    append(disk, map.file, map.place, &line)?;
+    disk.sync()?;
+    Ok(written)
+}
+
+/// The file of a map of a generation.
+pub fn map_file(gen_: u64) -> FileName
+    ensures { result ≡ map_name gen_ }
+{
+    FileName {
+        kind: FileKind::Map,
+        number: 0,
+        gen_,
+    }
+}
+
+/// The file of an epoch of a generation.
+pub fn epoch_file(epoch: u32, gen_: u64) -> FileName
+    ensures { result ≡ epoch_name epoch gen_ }
+{
+    FileName {
+        kind: FileKind::Epoch,
+        number: epoch,
+        gen_,
+    }
+}

@@ -1,0 +1,148 @@
+//! What is read of an archive on a disk.
+ghost use Rattle.std.specs.Prelude.{◌≡◌, ◌≤◌, ◌<◌, ◌+◌, Err, Some, IfOk, length, slice_get};
+ghost use Rattle.arch_base.specs.Counts.{Rose};
+ghost use Rattle.arch_model.specs.Archives.{Archive};
+ghost use Rattle.disk_model.specs.Disk.{Image, Told, WhereTold, Unchanged, LeavesOnly, bytes_of};
+ghost use Rattle.epoch_store.specs.declared.reading.TextRefusal.{TextRefusal};
+ghost use Rattle.epoch_store.specs.declared.entries.StoredEntry.{StoredEntry};
+ghost use Rattle.epoch_store.specs.Files.{epoch_file_of};
+ghost use Rattle.epoch_store.specs.Stores.{IsStoreOf};
+ghost use Rattle.epoch_store.specs.Reads.{line_of, line_if, place_if, GivesText, FindsText, GivesTextOf, StandsAt, AnswersQuietly};
+
+use crate::entries::StoredEntry;
+use crate::line::EntryLine;
+use crate::putting::epoch_file;
+use crate::reading::TextRefusal;
+use crate::store::Store;
+use arch_base::{Bytes, Config, NoMemory};
+use disk_model::{Disk, FileName};
+use git_objects::blob_id;
+use std::alloc::Global;
+
+impl Store {
+    /// The settings of the archive.
+    pub fn config(&self) -> &Config
+        ensures { result.now ≡ self.now.root.config }
+    {
+        &self.root.config
+    }
+
+    /// The number of the next message.
+    pub fn next_number(&self) -> u32
+        ensures { result ≡ self.now.root.next }
+    {
+        self.root.next
+    }
+
+    /// An entry by its place among all, from 0. None comes exactly where there are not so many.
+    pub fn entry(&self, index: u64) -> Option<EntryLine>
+        ensures { result ≡ line_if (slice_get self.now.entries index) }
+    {
+        match self.entries.get(index as usize) {
+            None => None,
+            Some(entry) => Some(entry_line(entry)),
+        }
+    }
+
+    /// The file that an entry stands in, and the place of its first byte there. None comes exactly where there are not so
+    /// many entries.
+    pub fn place(&self, index: u64) -> Option<(FileName, u64)>
+        ensures { result ≡ place_if self.now.root (slice_get self.now.entries index) }
+    {
+        match self.entries.get(index as usize) {
+            None => None,
+            Some(entry) => Some((self.file_of(entry.epoch), entry.seen.at)),
+        }
+    }
+
+    /// The file of an epoch.
+    fn file_of(&self, epoch: u32) -> FileName
+        requires { epoch ≤ 63 }
+        ensures { result ≡ epoch_file_of self.now.root epoch }
+    {
+        epoch_file(epoch, self.root.epochs[epoch as usize].gen_)
+    }
+
+    /// Puts the text of an entry behind other bytes, read by one call of the disk.
+    ///
+    /// Where what stands there has another blob id than the entry, that is Damaged, which never comes on the disk of an archive.
+    /// DiskFault comes only where the disk's count of faults rose, and NoMemory only for want of memory. A refusal leaves the
+    /// bytes as they were, and nothing changes on the disk.
+    pub fn text<D: Disk>(
+        &self,
+        disk: &mut D,
+        index: u64,
+        into: &mut Bytes,
+    ) -> Result<(), TextRefusal>
+        requires there { index < length self.now.entries }
+        ensures text { (s : StoredEntry) → slice_get self.now.entries index ≡ Some s → GivesText s into.old into.new result }
+        ensures found { (s : StoredEntry) → slice_get self.now.entries index ≡ Some s
+            → WhereTold (FindsText self.now.root s into.old into.new result) (D.content disk.old) }
+        ensures archive { (a : Archive) → IsStoreOf self.now a (D.content disk.old) → GivesTextOf a index into.old into.new result }
+        ensures same { Told Unchanged (D.content disk.old) (D.content disk.new) }
+        ensures any_moment { LeavesOnly D.moment D.left_since disk.old disk.new (Image (D.content disk.old)) }
+        ensures later { D.faults disk.old ≤ D.faults disk.new }
+        ensures fault { result ≡ Err TextRefusal.DiskFault → Rose (D.faults disk.old) (D.faults disk.new) }
+        ensures fewest { D.reads disk.old ≤ D.reads disk.new }
+        ensures count { D.reads disk.new ≤ D.reads disk.old + 1 }
+    {
+        let entry = &self.entries[index as usize];
+        let file = self.file_of(entry.epoch);
+        let alloc = *self.entries.allocator();
+        let text = read_text(alloc, disk, file, entry.seen.text_at, entry.seen.size)?;
+        let found = blob_id(text.as_slice());
+        if found != entry.seen.blob {
+            return Err(TextRefusal::Damaged {
+                named: entry.seen.blob,
+                found,
+            });
+        }
+        into.push_slice(text.as_slice())?;
+        Ok(())
+    }
+}
+
+/// An entry, all but its text.
+fn entry_line(entry: &StoredEntry) -> EntryLine
+    ensures { result ≡ line_of entry.now }
+{
+    EntryLine {
+        name: entry.seen.name,
+        number: entry.number,
+        epoch: entry.epoch,
+        secs: entry.seen.moment,
+        blob: entry.seen.blob,
+        size: entry.seen.size,
+        commit: entry.seen.commit,
+    }
+}
+
+/// Room for so many bytes.
+fn room_for(alloc: Global, size: u64) -> Result<Vec<u8>, NoMemory>
+    ensures { IfOk result (λ room. length room.items ≡ size) }
+{
+    Ok(vec![in alloc; 0; size as usize]?)
+}
+
+/// The bytes of a file from a place on, so many. For those that the file lacks anything may stand.
+fn read_text<D: Disk>(
+    alloc: Global,
+    disk: &mut D,
+    file: FileName,
+    place: u64,
+    size: u64,
+) -> Result<Vec<u8>, TextRefusal>
+    ensures size { IfOk result (λ text. length text.items ≡ size) }
+    ensures found { IfOk result (λ text. WhereTold (λ k. StandsAt (bytes_of (k file).seen) place size text.items) (D.content disk.old)) }
+    ensures other { AnswersQuietly result }
+    ensures same { Told Unchanged (D.content disk.old) (D.content disk.new) }
+    ensures any_moment { LeavesOnly D.moment D.left_since disk.old disk.new (Image (D.content disk.old)) }
+    ensures later { D.faults disk.old ≤ D.faults disk.new }
+    ensures fault { result ≡ Err TextRefusal.DiskFault → Rose (D.faults disk.old) (D.faults disk.new) }
+    ensures fewest { D.reads disk.old ≤ D.reads disk.new }
+    ensures count { D.reads disk.new ≤ D.reads disk.old + 1 }
+{
+    let mut text = room_for(alloc, size)?;
+    disk.read(file, place, text.as_mut_slice())?;
+    Ok(text)
+}

@@ -1,0 +1,117 @@
+//! The disk of an archive, brought to rest when it is opened.
+ghost use Rattle.std.specs.Prelude.{◌≡◌, ◌<◌, ℕ, List, not, IfOk, OnOk};
+ghost use Rattle.arch_base.specs.Counts.{IsCaused};
+ghost use Rattle.disk_model.specs.Disk.{Told, WhereTold, LeavesOnly};
+ghost use Rattle.root_slots.specs.Slots.{HasRootSize};
+ghost use Rattle.root_slots.specs.Spelling.{spelling};
+ghost use Rattle.root_slots.specs.Valid.{IsRoot};
+ghost use Rattle.epoch_store.specs.Settling.{Rests, StaysCurrent, IsReadied, ToSweep, OnDisk, epoch_part_of, named_parts_of, names_file, has_place};
+ghost use Rattle.std.specs.List.{filter};
+ghost use Rattle.disk_model.specs.declared.name.FileName.{FileName};
+ghost use Rattle.epoch_store.specs.Files.{StandsFor};
+
+use crate::putting::{epoch_file, map_file};
+use disk_files::{FilePart, cut_files, remove_files};
+use disk_model::{Disk, DiskFault, FileKind, FileName};
+use root_slots::{Place, Root, fill, is_open};
+use std::alloc::{AllocError, Global};
+
+/// Makes the slot that isn't the current one ready for the next root: where it is shut, the current root is put into it, and it is
+/// left shut.
+pub fn ready_other<D: Disk>(disk: &mut D, slot: u8, root: &Root) -> Result<(), DiskFault>
+    requires slot { slot < 2 }
+    requires size { WhereTold HasRootSize (D.content disk.old) }
+    requires root { IsRoot root.now }
+    ensures any_moment { Rests slot (spelling root.now) (D.content disk.old) → LeavesOnly D.moment D.left_since disk.old disk.new (StaysCurrent slot (spelling root.now) (D.content disk.old)) }
+    ensures done { Rests slot (spelling root.now) (D.content disk.old) → OnOk result (Told (IsReadied slot (spelling root.now)) (D.content disk.old) (D.content disk.new)) }
+    ensures cause { IsCaused (D.faults disk.old) (D.faults disk.new) result }
+{
+    if is_open(disk, 1 - slot)? {
+        return Ok(());
+    }
+    fill(disk, 1 - slot, root)
+}
+
+/// The part of an epoch's file that a root names.
+fn epoch_part(root: &Root, epoch: usize) -> FilePart
+    requires { epoch < 64 }
+    ensures { result ≡ epoch_part_of root.now epoch }
+{
+    let place = root.epochs[epoch];
+    FilePart {
+        file: epoch_file(epoch as u32, place.gen_),
+        length: place.length,
+    }
+}
+
+/// The parts of the files that a root names: the map's, and those of the epochs.
+fn named_parts(alloc: Global, root: &Root) -> Result<Vec<FilePart>, AllocError>
+    ensures { IfOk result (λ parts. parts.items ≡ named_parts_of root.now) }
+{
+    let mut parts = Vec::new(alloc);
+    parts.push(FilePart {
+        file: map_file(root.map.gen_),
+        length: root.map.length,
+    })?;
+    for epoch in 0..64 {
+        parts.push(epoch_part(root, epoch))?;
+    }
+    Ok(parts)
+}
+
+/// Brings the disk of an archive to rest: makes the other slot ready for the next root, cuts the tails of the files that the root
+/// names, takes the others away, and syncs.
+pub fn sweep<D: Disk>(
+    disk: &mut D,
+    slot: u8,
+    root: &Root,
+    parts: &[FilePart],
+    others: &[FileName],
+) -> Result<(), DiskFault>
+    requires slot { slot < 2 }
+    requires size { WhereTold HasRootSize (D.content disk.old) }
+    requires root { IsRoot root.now }
+    requires parts { parts.now ≡ named_parts_of root.now }
+    // At each moment a crash leaves files that stand for the same map and epochs.
+    ensures any_moment { (map : List ℕ) (epochs : ℕ → List ℕ) → ToSweep root.now slot map epochs others.now (D.content disk.old) → LeavesOnly D.moment D.left_since disk.old disk.new (StandsFor root.now map epochs) }
+    // After Ok the disk is exactly theirs.
+    ensures done { (map : List ℕ) (epochs : ℕ → List ℕ) → ToSweep root.now slot map epochs others.now (D.content disk.old) → OnOk result (OnDisk root.now slot map epochs (D.content disk.new)) }
+    ensures cause { IsCaused (D.faults disk.old) (D.faults disk.new) result }
+{
+    ready_other(disk, slot, root)?;
+    cut_files(disk, parts)?;
+    remove_files(disk, others)?;
+    disk.sync()
+}
+
+/// Whether a root names a file: the root file itself, the map's, or that of an epoch or a cache that has bytes.
+fn is_named(root: &Root, name: FileName) -> bool
+    ensures { result ≡ names_file root.now name }
+{
+    match name.kind {
+        FileKind::Root => name.number == 0 && name.gen_ == 0,
+        FileKind::Map => name.number == 0 && name.gen_ == root.map.gen_,
+        FileKind::Cache => name.number == 0 && is_place(root.cache, name.gen_),
+        FileKind::Epoch => {
+            name.number < 64 && is_place(root.epochs[name.number as usize], name.gen_)
+        }
+    }
+}
+
+/// Whether a place has bytes, and is that of a file of a generation.
+fn is_place(place: Place, gen_: u64) -> bool
+    ensures { result ≡ has_place place gen_ }
+{
+    place.length > 0 && place.gen_ == gen_
+}
+
+/// Those of the names that a root doesn't name.
+pub fn unnamed(alloc: Global, names: &[FileName], root: &Root) -> Result<Vec<FileName>, AllocError>
+    ensures { IfOk result (λ others. others.items ≡ filter (λ (name : FileName). not (names_file root.now name)) names.now) }
+{
+    names
+        .iter()
+        .copied()
+        .filter(|name| !is_named(root, *name))
+        .collect(alloc)
+}

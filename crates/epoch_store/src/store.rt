@@ -1,0 +1,309 @@
+//! The archive on a disk, as it is kept in memory.
+ghost use Rattle.std.specs.Prelude.{◌≡◌, ◌≤◌, ◌<◌, ◌+◌, ◌-◌, ◌^◌, ◌++◌, ◌∷◌, [], ℕ, List, Err, Some, IsSome, IsTrue, IfOk, OnOk, OnErr, ◌==◌, if◌then◌else◌, decimal, min, length};
+ghost use Rattle.arch_base.specs.Counts.{Rose};
+ghost use Rattle.disk_model.specs.Disk.{WhereTold, LeavesOnly};
+ghost use Rattle.mail_reader.specs.Ids.{own_id as own_id_in};
+ghost use Rattle.arch_model.specs.Archives.{Archive, with_entry};
+ghost use Rattle.arch_model.specs.Delivery.{new_epoch};
+ghost use Rattle.epoch_file.specs.Entries.{last_moment};
+ghost use Rattle.epoch_file.specs.Appending.{written_of};
+ghost use Rattle.root_slots.specs.Valid.{IsRoot};
+ghost use Rattle.arch_base.specs.Configs.{IsConfig};
+ghost use Rattle.arch_model.specs.Archives.{empty_archive};
+ghost use Rattle.epoch_store.specs.First.{MakingLeaves, MakingAnswers};
+ghost use Rattle.epoch_store.specs.declared.refusal.InitRefusal.{InitRefusal};
+ghost use Rattle.epoch_store.specs.Stores.{IsDiskOf, IsStoreOf, Keeps, IsEnd, IsNextPlace, next_sequence, place_of, root_after, RecoversEither, HasSizes, Accepts, IsMessage, GoesNext, with_message, view_after, stored_at};
+
+use crate::entries::StoredEntry;
+use crate::first::{all_names, first_root, make, no_archive};
+use crate::next::{End, NextPlace};
+use crate::putting::{Part, epoch_file, map_file, put_both};
+use crate::refusal::InitRefusal;
+use arch_base::{Bytes, Config, NoMemory, ObjectId};
+use disk_model::{Disk, FileKind, FileName};
+use epoch_file::{NewEntry, Seen, StoreRefusal, Written};
+use itoa::Buffer;
+use mail_reader::{content_id, own_id};
+use number_map::Record;
+use root_slots::{Place, Root, commit};
+use std::alloc::Global;
+use std::marker::Model;
+
+/// The last epoch, which grows without end.
+const LAST_EPOCH: u32 = 63;
+
+/// A file isn't made longer than this, and no room is found for more.
+const MOST: u64 = 1 << 62;
+
+/// The archive on a disk. It keeps the current root, and of each entry all but its text. A contract sees it as what it keeps.
+#[derive(Drop)]
+pub struct Store {
+    pub(crate) root: Root,
+    pub(crate) slot: u8,
+    pub(crate) entries: Vec<StoredEntry>,
+}
+
+impl Model for Store {
+    ghost use Rattle.std.specs.Prelude.{◌<◌};
+    ghost use Rattle.root_slots.specs.Valid.{IsRoot};
+    ghost use Rattle.epoch_store.specs.Stores.{View, InEpochs};
+
+    ghost Value = { View };
+
+    ghost view = { λ s. record { root = s.root; slot = s.slot; entries = s.entries.items } };
+
+    ghost invariant = { λ s. (s.slot < 2) × IsRoot s.root × InEpochs s.entries.items };
+}
+
+impl Store {
+    /// Makes an archive without entries, in the place of a disk without an open slot: it takes all files away and makes a root file
+    /// with the first root, of sequence 1.
+    ///
+    /// At each moment a crash leaves what it might have left before, or no open slot, or the archive. Exists comes exactly where
+    /// a slot is open, and then nothing is written. DiskFault comes only where the disk's count of faults rose, and NoMemory only
+    /// for want of memory, before anything is written.
+    pub fn init<D: Disk>(alloc: Global, disk: &mut D, config: &Config) -> Result<Store, InitRefusal>
+        requires config { IsConfig config.now }
+        ensures any_moment { LeavesOnly D.moment D.left_since disk.old disk.new (MakingLeaves (empty_archive config.now) (D.content disk.old)) }
+        ensures answer { WhereTold (MakingAnswers result) (D.content disk.old) }
+        ensures done { IfOk result (λ store. WhereTold (IsDiskOf store (empty_archive config.now)) (D.content disk.new)) }
+        ensures sizes { IfOk result (λ store. WhereTold (HasSizes store) (D.content disk.new)) }
+        ensures first { IfOk result (λ store. store.root.sequence ≡ 1) }
+        ensures later { D.faults disk.old ≤ D.faults disk.new }
+        ensures fault { result ≡ Err InitRefusal.DiskFault → Rose (D.faults disk.old) (D.faults disk.new) }
+    {
+        no_archive(disk)?;
+        let names = all_names(alloc, disk)?;
+        let root = first_root(config);
+        make(disk, names.as_slice(), &root)?;
+        Ok(Store {
+            root,
+            slot: 0,
+            entries: Vec::new(alloc),
+        })
+    }
+
+    /// The last epoch that has an entry, and its last commit.
+    fn end(&self) -> End
+        ensures small { result.epoch ≤ 63 }
+        ensures end { (a : Archive) → Keeps self.now a → IsEnd a result }
+    {
+        match self.entries.last() {
+            None => End {
+                epoch: 0,
+                parent: None,
+            },
+            Some(entry) => End {
+                epoch: entry.epoch,
+                parent: Some(entry.seen.commit),
+            },
+        }
+    }
+
+    /// Where the next entry goes.
+    fn next_place(&self) -> NextPlace
+        ensures small { result.epoch ≤ 63 }
+        ensures place { result ≡ place_of self.now.root result.epoch result.parent }
+        ensures next { (a : Archive) → Keeps self.now a → IsNextPlace self.now.root a (next_sequence self.now.root.sequence) result }
+    {
+        let end = self.end();
+        let place = self.root.epochs[end.epoch as usize];
+        if end.epoch == LAST_EPOCH || place.length < self.root.config.limit {
+            return self.place_in(end.epoch, end.parent);
+        }
+        self.place_in(end.epoch + 1, None)
+    }
+
+    /// Where the next entry of an epoch goes that has this last commit.
+    fn place_in(&self, epoch: u32, parent: Option<ObjectId>) -> NextPlace
+        requires { epoch ≤ 63 }
+        ensures { result ≡ place_of self.now.root epoch parent }
+    {
+        let place = self.root.epochs[epoch as usize];
+        let gen_ = if place.length == 0 {
+            self.root.sequence.saturating_add(1)
+        } else {
+            place.gen_
+        };
+        NextPlace {
+            epoch,
+            gen_,
+            length: place.length,
+            parent,
+        }
+    }
+
+    /// The root behind one more entry, whose epoch's file ends there.
+    fn next_root(&self, place: &NextPlace, end: u64) -> Root
+        requires small { place.now.epoch ≤ 63 }
+        requires place { place.now ≡ place_of self.now.root place.now.epoch place.now.parent }
+        requires left { self.now.root.next ≤ self.now.root.config.max }
+        requires some { 0 < end }
+        ensures root { result ≡ root_after self.now.root place.now end }
+        ensures valid { IsRoot result }
+        ensures count { length self.now.root.epochs ≡ 64 }
+    {
+        let mut root = self.root.copy();
+        root.sequence = root.sequence.saturating_add(1);
+        root.next += 1;
+        root.map.length += 28;
+        root.epochs[place.epoch as usize] = Place {
+            gen_: place.gen_,
+            length: end,
+        };
+        root
+    }
+
+    /// Puts an entry and its record behind the others, and commits the root that names them.
+    fn write_entry<D: Disk>(
+        &self,
+        alloc: Global,
+        disk: &mut D,
+        place: &NextPlace,
+        entry: &NewEntry<'_>,
+    ) -> Result<(Root, Written), StoreRefusal>
+        requires small { place.now.epoch ≤ 63 }
+        requires place { place.now ≡ place_of self.now.root place.now.epoch place.now.parent }
+        requires short { place.now.length < 2 ^ 62 }
+        requires left { self.now.root.next ≤ self.now.root.config.max }
+        requires sizes { WhereTold (HasSizes self.now) (D.content disk.old) }
+        requires entry { IsMessage place.now entry.now }
+        requires moment { entry.now.moment ≤ last_moment }
+        ensures any_moment { (a : Archive) → IsStoreOf self.now a (D.content disk.old) → GoesNext self.now a place.now entry.now
+            → LeavesOnly D.moment D.left_since disk.old disk.new (RecoversEither a (with_message a place.now entry.now)) }
+        ensures done { (a : Archive) → IsStoreOf self.now a (D.content disk.old) → GoesNext self.now a place.now entry.now
+            → IfOk result (λ made. IsStoreOf (view_after self.now a made.0 place.now entry.now) (with_message a place.now entry.now) (D.content disk.new)) }
+        ensures sizes { IfOk result (λ made. WhereTold (HasSizes (record { root = made.0; slot = 1 - self.now.slot; entries = self.now.entries })) (D.content disk.new)) }
+        ensures root { IfOk result (λ made. made.0 ≡ root_after self.now.root place.now made.1.end) }
+        ensures written { IfOk result (λ made. made.1 ≡ written_of place.now.length entry.now) }
+        ensures valid { IfOk result (λ made. IsRoot made.0) }
+        ensures refused { result ≡ Err StoreRefusal.NoMemory → disk.new ≡ disk.old }
+        ensures later { D.faults disk.old ≤ D.faults disk.new }
+        ensures fault { result ≡ Err StoreRefusal.DiskFault → Rose (D.faults disk.old) (D.faults disk.new) }
+        ensures count { D.reads disk.new ≡ D.reads disk.old }
+    {
+        let epoch = Part {
+            file: epoch_file(place.epoch, place.gen_),
+            place: place.length,
+        };
+        let map = Part {
+            file: map_file(self.root.map.gen_),
+            place: self.root.map.length,
+        };
+        let written = put_both(alloc, disk, epoch, entry, map, self.root.next)?;
+        let root = self.next_root(place, written.end);
+        commit(disk, 1 - self.slot, &root)?;
+        Ok((root, written))
+    }
+
+    /// What is kept of a new entry that was written.
+    fn new_entry(
+        &self,
+        place: &NextPlace,
+        entry: &NewEntry<'_>,
+        written: &Written,
+        id: Bytes,
+    ) -> StoredEntry
+        requires written { written.now ≡ written_of place.now.length entry.now }
+        requires short { place.now.length < 2 ^ 62 }
+        requires entry { IsMessage place.now entry.now }
+        requires id { own_id_in entry.now.text.now ≡ Some id }
+        ensures epoch { result.epoch ≡ place.now.epoch }
+        ensures stored { (a : Archive) → Keeps self.now a → IsNextPlace self.now.root a (next_sequence self.now.root.sequence) place.now
+            → result ≡ stored_at a.entries (record { number = a.next; epoch = place.now.epoch; text = entry.now.text.now; moment = entry.now.moment }) }
+    {
+        let at = front_place(place.length);
+        StoredEntry {
+            number: self.root.next,
+            epoch: place.epoch,
+            seen: Seen {
+                name: entry.name,
+                at,
+                text_at: at + blob_front_len(entry.text.len()),
+                size: entry.text.len() as u64,
+                blob: written.blob,
+                commit: written.commit,
+                moment: entry.moment,
+                id,
+                content: content_id(entry.text),
+            },
+        }
+    }
+
+    /// Puts a message behind the others: its text takes the next number at a moment, in seconds since 1970.
+    ///
+    /// At each moment a crash leaves the archive before or the one with the message, and after Ok the latter. DiskFault comes
+    /// only where the disk's count of faults rose: then one of the two is there, and the store has to be opened again. NoMemory
+    /// comes only for want of memory, or of room in a file of more than 2^62 bytes, and nothing was done.
+    pub fn deliver_entry<D: Disk>(
+        &mut self,
+        alloc: Global,
+        disk: &mut D,
+        text: &[u8],
+        moment: u64,
+    ) -> Result<(), StoreRefusal>
+        requires accepts { Accepts self.old text.now }
+        requires moment { moment ≤ last_moment }
+        requires sizes { WhereTold (HasSizes self.old) (D.content disk.old) }
+        ensures any_moment { (a : Archive) → IsStoreOf self.old a (D.content disk.old) → self.old.root.sequence + 1 < 2 ^ 64
+            → LeavesOnly D.moment D.left_since disk.old disk.new (RecoversEither a (with_entry a (new_epoch a) text.now moment)) }
+        ensures done { (a : Archive) → IsStoreOf self.old a (D.content disk.old) → self.old.root.sequence + 1 < 2 ^ 64
+            → OnOk result (IsStoreOf self.new (with_entry a (new_epoch a) text.now moment) (D.content disk.new)) }
+        ensures sizes { OnOk result (WhereTold (HasSizes self.new) (D.content disk.new)) }
+        ensures sequence { OnOk result (self.new.root.sequence ≡ next_sequence self.old.root.sequence) }
+        ensures same { OnErr result (self.new ≡ self.old) }
+        ensures refused { result ≡ Err StoreRefusal.NoMemory → disk.new ≡ disk.old }
+        ensures later { D.faults disk.old ≤ D.faults disk.new }
+        ensures fault { result ≡ Err StoreRefusal.DiskFault → Rose (D.faults disk.old) (D.faults disk.new) }
+        ensures count { D.reads disk.new ≡ D.reads disk.old }
+    {
+        let place = self.next_place();
+        if place.length >= MOST {
+            return Err(StoreRefusal::NoMemory);
+        }
+        let id = own_id_of(alloc, text)?;
+        let Ok(()) = self.entries.reserve(1) else {
+            return Err(StoreRefusal::NoMemory);
+        };
+        let entry = NewEntry {
+            name: b'm',
+            text,
+            moment,
+            parent: place.parent,
+        };
+        let (root, written) = self.write_entry(alloc, disk, &place, &entry)?;
+        let stored = self.new_entry(&place, &entry, &written, id);
+        // There is room for it.
+        let _ = self.entries.push(stored);
+        self.root = root;
+        self.slot = 1 - self.slot;
+        Ok(())
+    }
+}
+
+/// Where the first byte of a new entry stands in a file of so many bytes: behind the eight bytes that a new file begins with.
+fn front_place(length: u64) -> u64
+    ensures { result ≡ (if length == 0 then 8 else length) }
+{
+    if length == 0 { 8 } else { length }
+}
+
+/// How many bytes stand before a text of this size in its blob.
+fn blob_front_len(size: usize) -> u64
+    ensures value { result ≡ 6 + length (decimal size) }
+    ensures small { result ≤ 26 }
+{
+    let mut buffer = Buffer::new();
+    6 + buffer.format(size).len() as u64
+}
+
+/// The own id of a text that has one.
+fn own_id_of(alloc: Global, text: &[u8]) -> Result<Bytes, NoMemory>
+    requires { IsSome (own_id_in text.now) }
+    ensures { IfOk result (λ id. own_id_in text.now ≡ Some id) }
+{
+    match own_id(text) {
+        None => Ok(Bytes::new(alloc)),
+        Some(id) => Ok(Bytes::from_vec(Vec::from_slice(alloc, id)?)),
+    }
+}
