@@ -4,5 +4,6 @@ pub mod Commits
 pub mod Delivery
 pub mod Epochs
 pub mod Facts
+pub mod Judging
 pub mod Laws
 pub mod Memory

@@ -7,6 +7,7 @@ mod command;
 mod commits;
 mod facts;
 mod index;
+mod judging;
 mod kept;
 mod laws;
 mod made;
@@ -16,6 +17,9 @@ mod opening;
 pub use answer::Answer;
 pub use command::Command;
 pub use commits::{EntryIds, entry_commit, epoch_grows, push_entry};
+pub use index::Index;
+pub use judging::{Verdict, judge};
+pub use kept::Owner;
 pub use laws::{
     delivered_is_shown, first_candidate_decides, numbers_keep_their_texts,
     numbers_stay_below_the_next,
