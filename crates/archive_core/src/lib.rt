@@ -1,0 +1,6 @@
+//! An archive on a disk that takes commands: its store, and its messages by their ids.
+#![tactic(auto)]
+
+mod archive;
+
+pub use archive::DiskArchive;
