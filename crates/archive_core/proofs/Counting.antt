@@ -15,7 +15,8 @@ few number epoch next (e ∷ es) low rise below =
     let rest = few (e.number + 1) e.epoch next es (omega (arith, less)) rise.2 below.1 in
     omega (arith, first, rest)
 
-stored_length : (before es : List Entry) → length (stored_behind before es) ≡ length es
+-- as many are kept as there are
+pub stored_length : (before es : List Entry) → length (stored_behind before es) ≡ length es
 stored_length before [] = refl
 stored_length before (e ∷ es) = let rest = stored_length (before ++ e ∷ []) es in omega (arith, rest)
 

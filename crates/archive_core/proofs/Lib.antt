@@ -1,2 +1,4 @@
 mod Counting
 mod Standing
+mod Indexes
+mod Verdicts

@@ -5,6 +5,8 @@ use Rattle.arch_model.specs.Archives.{Archive}
 use Rattle.arch_model.specs.Delivery.{Done}
 use Rattle.arch_model.specs.declared.answer.Answer.{Answer}
 use Rattle.arch_model.specs.declared.answer.Answer.TheVariants as answer
+use Rattle.epoch_file.specs.declared.refusal.StoreRefusal.{StoreRefusal}
+use Rattle.epoch_file.specs.declared.refusal.StoreRefusal.TheVariants as refusal
 use Rattle.epoch_store.specs.Stores.{View, IsStoreOf}
 
 -- the definition's answer was given, and the disk is the own one of a store that keeps the definition's archive
@@ -73,3 +75,9 @@ IsForCommand answer.NoMemory = Unit {0}
 IsForCommand (answer.NotLive number) = ⊥
 IsForCommand (answer.NoText number) = ⊥
 IsForCommand (answer.Damaged file place) = ⊥
+
+-- the answer for a refusal of the store
+abbrev pub refusal_answer : StoreRefusal → Answer
+refusal_answer refusal.DiskFault = answer.DiskFault
+refusal_answer refusal.NoMemory = answer.NoMemory
+refusal_answer (refusal.Damaged file place) = answer.Damaged file place

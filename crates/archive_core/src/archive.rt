@@ -1,20 +1,25 @@
 //! An archive on a disk, whose every command is the definition's.
-ghost use Rattle.std.specs.Prelude.{◌≡◌, ◌≤◌, ◌<◌, ◌+◌, ◌^◌, [], length, Err, IfOk};
+ghost use Rattle.std.specs.Prelude.{◌≡◌, ◌≤◌, ◌<◌, ◌+◌, ◌^◌, [], length, Err, IfOk, OnOk, OnErr};
 ghost use Rattle.arch_base.specs.Configs.{IsConfig};
 ghost use Rattle.arch_base.specs.Counts.{Rose};
 ghost use Rattle.disk_model.specs.Disk.{WhereTold, LeavesOnly};
-ghost use Rattle.arch_model.specs.Archives.{Archive, empty_archive};
-ghost use Rattle.arch_model.specs.Delivery.{applied};
+ghost use Rattle.arch_model.specs.Archives.{Archive, empty_archive, with_entry};
+ghost use Rattle.arch_model.specs.Delivery.{applied, delivered, new_epoch};
+ghost use Rattle.arch_model.specs.Judging.{Judges};
+ghost use Rattle.epoch_file.specs.declared.refusal.StoreRefusal.{StoreRefusal};
+ghost use Rattle.archive_core.specs.Kept.{MayGoIn, TakesWhatMay};
 ghost use Rattle.arch_model.specs.declared.answer.Answer.{Answer};
 ghost use Rattle.epoch_file.specs.Entries.{last_moment};
 ghost use Rattle.epoch_store.specs.First.{MakingLeaves, MakingAnswers};
-ghost use Rattle.epoch_store.specs.Stores.{IsDiskOf, IsStoreOf, Keeps, HasSizes, RecoversEither};
+ghost use Rattle.epoch_store.specs.Stores.{IsDiskOf, IsStoreOf, Keeps, HasSizes, RecoversEither, SeesNoDamage};
 ghost use Rattle.epoch_store.specs.declared.refusal.InitRefusal.{InitRefusal};
-ghost use Rattle.archive_core.specs.Commands.{DoneBy, OnRefusal, UnlessFault, IsForCommand};
+ghost use Rattle.archive_core.specs.Commands.{DoneBy, OnRefusal, UnlessFault, IsForCommand, refusal_answer};
 
-use arch_base::Config;
-use arch_model::{Answer, Command, Index};
+use crate::texts::{put_text, take_text};
+use arch_base::{Config, ObjectId};
+use arch_model::{Answer, Command, Index, Verdict, judge};
 use disk_model::Disk;
+use epoch_file::StoreRefusal;
 use epoch_store::{InitRefusal, Store, law_of_stores};
 use std::alloc::Global;
 use std::marker::Model;
@@ -92,9 +97,87 @@ impl DiskArchive {
         ensures never_damaged { IsForCommand result }
         ensures count { D.reads disk.new ≡ D.reads disk.old }
     {
+        match command {
+            Command::Deliver(bytes) => self.deliver(disk, bytes, moment),
+        }
+    }
+
+    /// Delivers a message, or refuses it.
+    fn deliver<D: Disk>(&mut self, disk: &mut D, bytes: &[u8], moment: u64) -> Answer
+        requires moment { moment ≤ last_moment }
+        requires sizes { WhereTold (HasSizes self.old) (D.content disk.old) }
+        ensures any_moment { (a : Archive) → IsStoreOf self.old a (D.content disk.old) → self.old.root.sequence + 1 < 2 ^ 64
+            → LeavesOnly D.moment D.left_since disk.old disk.new (RecoversEither a (delivered a bytes.now moment).archive) }
+        ensures done { (a : Archive) → IsStoreOf self.old a (D.content disk.old) → self.old.root.sequence + 1 < 2 ^ 64
+            → DoneBy self.new a (delivered a bytes.now moment) result (D.content disk.new) }
+        ensures same { OnRefusal result (self.new ≡ self.old) }
+        ensures untouched { OnRefusal result (UnlessFault result (disk.new ≡ disk.old)) }
+        ensures sizes { UnlessFault result (WhereTold (HasSizes self.new) (D.content disk.new)) }
+        ensures later { D.faults disk.old ≤ D.faults disk.new }
+        ensures fault { result ≡ Answer.DiskFault → Rose (D.faults disk.old) (D.faults disk.new) }
+        ensures never_damaged { IsForCommand result }
+        ensures count { D.reads disk.new ≡ D.reads disk.old }
+    {
         law_of_stores();
-        let _ = command;
-        Answer::NoMemory
+        match self.verdict(bytes) {
+            Verdict::Refuse(answer) => answer,
+            Verdict::Take { text, blob, number } => {
+                match self.keep(disk, text.as_slice(), blob, moment) {
+                    Ok(()) => Answer::Ok { number, id: blob },
+                    Err(refusal) => answer_of(&refusal),
+                }
+            }
+        }
+    }
+
+    /// What the delivery of a message comes to.
+    fn verdict(&self, bytes: &[u8]) -> Verdict
+        ensures judged { (a : Archive) → Keeps self.now a → Judges a bytes.now result }
+        ensures taken { TakesWhatMay self.now result }
+    {
+        judge(
+            self.alloc,
+            self.store.config(),
+            &self.index,
+            self.store.stored().len(),
+            self.store.next_number(),
+            bytes,
+        )
+    }
+
+    /// Puts a message behind the others: its text takes the next number at a moment, in seconds since 1970. A refusal changes
+    /// nothing that is kept in memory.
+    fn keep<D: Disk>(
+        &mut self,
+        disk: &mut D,
+        text: &[u8],
+        blob: ObjectId,
+        moment: u64,
+    ) -> Result<(), StoreRefusal>
+        requires may { MayGoIn self.old text.now blob }
+        requires moment { moment ≤ last_moment }
+        requires sizes { WhereTold (HasSizes self.old) (D.content disk.old) }
+        ensures any_moment { (a : Archive) → IsStoreOf self.old a (D.content disk.old) → self.old.root.sequence + 1 < 2 ^ 64
+            → LeavesOnly D.moment D.left_since disk.old disk.new (RecoversEither a (with_entry a (new_epoch a) text.now moment)) }
+        ensures done { (a : Archive) → IsStoreOf self.old a (D.content disk.old) → self.old.root.sequence + 1 < 2 ^ 64
+            → OnOk result (IsStoreOf self.new (with_entry a (new_epoch a) text.now moment) (D.content disk.new)) }
+        ensures sizes { OnOk result (WhereTold (HasSizes self.new) (D.content disk.new)) }
+        ensures same { OnErr result (self.new ≡ self.old) }
+        ensures refused { result ≡ Err StoreRefusal.NoMemory → disk.new ≡ disk.old }
+        ensures undamaged { SeesNoDamage result }
+        ensures later { D.faults disk.old ≤ D.faults disk.new }
+        ensures fault { result ≡ Err StoreRefusal.DiskFault → Rose (D.faults disk.old) (D.faults disk.new) }
+        ensures count { D.reads disk.new ≡ D.reads disk.old }
+    {
+        law_of_stores();
+        let number = self.store.next_number();
+        put_text(self.alloc, &mut self.index, text, blob, number)?;
+        if let Err(refusal) = self.store.deliver_entry(self.alloc, disk, text, moment) {
+            // The index is again as it was before.
+            take_text(&mut self.index, text, &blob);
+            return Err(refusal);
+        }
+        Ok(())
     }
 
     /// How many messages there are, by their entries.
@@ -124,5 +207,19 @@ impl DiskArchive {
         ensures { result.now ≡ self.now.root.config }
     {
         self.store.config()
+    }
+}
+
+/// The answer for a refusal of the store.
+fn answer_of(refusal: &StoreRefusal) -> Answer
+    ensures { result ≡ refusal_answer refusal.now }
+{
+    match refusal {
+        StoreRefusal::DiskFault => Answer::DiskFault,
+        StoreRefusal::NoMemory => Answer::NoMemory,
+        StoreRefusal::Damaged { file, at } => Answer::Damaged {
+            file: *file,
+            at: *at,
+        },
     }
 }

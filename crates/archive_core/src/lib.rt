@@ -2,5 +2,6 @@
 #![tactic(auto)]
 
 mod archive;
+mod texts;
 
 pub use archive::DiskArchive;

@@ -1,12 +1,9 @@
-use Rattle.disk_model.specs.Moments.{started}
-use Rattle.arch_model.specs.Delivery.{applied}
+use Rattle.std.proofs.Common.{rules, subst}
+use Rattle.disk_model.specs.Disk.{LeavesOnly}
+use Rattle.arch_model.specs.Archives.{Archive}
 use Rattle.epoch_store.specs.Stores.{RecoversEither}
-use Rattle.archive_core.proofs.Standing.{stands}
 use Rattle.archive_core.proofs.archive.DiskArchive.command.Goals as goal
 
 pub returns-clause-any_moment : goal.returns-clause-any_moment
 returns-clause-any_moment g c = λ a store room.
-    let disk = c.args.disk.now in
-    let b = (applied a c.args.command.now c.args.moment).archive in
-    started g.D.Disk.moment g.D.Disk.left_since disk (RecoversEither a b)
-    (λ image left. stands c.law_of_stores.ensures.recovers c.args.self.now a b (g.D.Disk.content disk) image store (g.met.D.Disk.only_now disk image left))
+    subst (λ (b : Archive). LeavesOnly g.D.Disk.moment g.D.Disk.left_since c.args.disk.now c.deliver.new.disk (RecoversEither a b)) (search rules) (c.deliver.ensures.any_moment a store room)
