@@ -24,7 +24,7 @@ below_once a b first second =
     cc
 
 -- the first of a list, or one of the others
-one_of : (x : FileName) (xs : List FileName) (q : FileName) → Contains (x ∷ xs) q → (x ≡ q) ⊎ Contains xs q
+pub one_of : (x : FileName) (xs : List FileName) (q : FileName) → Contains (x ∷ xs) q → (x ≡ q) ⊎ Contains xs q
 one_of x xs q among =
     elim (Contains-append_cases (x ∷ []) xs q among) [
       | inl first ↦
@@ -34,11 +34,11 @@ one_of x xs q among =
     ]
 
 -- the first is in the list
-first_in : (x : FileName) (xs : List FileName) → Contains (x ∷ xs) x
+pub first_in : (x : FileName) (xs : List FileName) → Contains (x ∷ xs) x
 first_in x xs = (0, omega arith, refl)
 
 -- nothing is in the empty list
-none_in : (q : FileName) → Contains [] q → ⊥
+pub none_in : (q : FileName) → Contains [] q → ⊥
 none_in q among = absurd (omega (arith, among.1))
 
 -- a name is in a list or not

@@ -11,12 +11,13 @@ use Rattle.disk_model.specs.Laws.{overlay_length, Fits-exact, Fits-Within}
 use Rattle.disk_model.specs.Images.{same_or_other, with_file, with_file-here, Image-with_file}
 use Rattle.disk_model.specs.Synced.{settled_image}
 use Rattle.root_slots.specs.declared.root.Root.{Root}
+use Rattle.root_slots.specs.declared.root.Place.{Place}
 use Rattle.root_slots.specs.RootName.{root_name}
 use Rattle.root_slots.specs.Each.{IfThere, EachRoot}
 use Rattle.root_slots.specs.Slots.{HasRoot, Ready, IsOldOrNew, IsCommitted}
 use Rattle.root_slots.specs.Spelling.{spelling}
 use Rattle.root_slots.specs.Valid.{no_place}
-use Rattle.epoch_store.specs.Files.{map_name, epoch_name, map_file_of, epoch_file_of, Fronts, StandsFor, file_of, IsNamed, as_read, IsOn}
+use Rattle.epoch_store.specs.Files.{map_name, epoch_name, cache_name, map_file_of, epoch_file_of, Fronts, StandsFor, file_of, IsNamed, as_read, IsOn}
 use Rattle.epoch_store.specs.declared.putting.Part.{Part}
 use Rattle.epoch_store.specs.TwoFiles.{IsAppending, AreAppended}
 
@@ -69,6 +70,9 @@ epoch_isnt_root e n is = let wrong : kind_place (epoch_name e n).kind ≡ kind_p
 pub epoch_isnt_map : (e n m : ℕ) → epoch_name e n ≢ map_name m
 epoch_isnt_map e n m is = let wrong : kind_place (epoch_name e n).kind ≡ kind_place (map_name m).kind = ap (λ (f : FileName). kind_place f.kind) is in absurd (omega (arith, wrong))
 
+pub epoch_isnt_cache : (e n m : ℕ) → epoch_name e n ≢ cache_name m
+epoch_isnt_cache e n m is = let wrong : kind_place (epoch_name e n).kind ≡ kind_place (cache_name m).kind = ap (λ (f : FileName). kind_place f.kind) is in absurd (omega (arith, wrong))
+
 -- a file of bytes has them
 bytes_of_file : (bytes : List ℕ) → bytes_of (file_of bytes) ≡ bytes
 bytes_of_file [] = refl
@@ -110,6 +114,9 @@ module _ (root : Root) (slot : ℕ) (map : List ℕ) (epochs : ℕ → List ℕ)
   first_isnt_map : (m : ℕ) → first.file ≢ map_name m
   first_isnt_map m is = epoch_isnt_map epoch grows.gen_ m (sym grows.name ∙ is)
 
+  first_isnt_cache : (m : ℕ) → first.file ≢ cache_name m
+  first_isnt_cache m is = epoch_isnt_cache epoch grows.gen_ m (sym grows.name ∙ is)
+
   first_number : (e n : ℕ) → epoch_name e n ≡ first.file → e ≡ epoch
   first_number e n is = ap (λ (f : FileName). f.number) (is ∙ grows.name)
 
@@ -144,7 +151,8 @@ module _ (root : Root) (slot : ℕ) (map : List ℕ) (epochs : ℕ → List ℕ)
     unnamed : ((e : ℕ) → e < 64 → epoch_file_of root e ≢ first.file) → IsNamed root first.file → ⊥
     unnamed new (inl is) = first_isnt_root is
     unnamed new (inr (inl is)) = first_isnt_map root.map.gen_ is
-    unnamed new (inr (inr e)) = new e.0 e.1 (sym e.2)
+    unnamed new (inr (inr (inl e))) = new e.0 e.1 (sym e.2)
+    unnamed new (inr (inr (inr c))) = first_isnt_cache root.cache.gen_ c.1
 
   module _ (bytes more : List ℕ) (k0 k2 : Content) (on : IsOn root slot map epochs k0) (did : AreAppended first bytes (map_part root map) more k0 k2) where
     -- the map's file then
@@ -180,6 +188,7 @@ module _ (root : Root) (slot : ℕ) (map : List ℕ) (epochs : ℕ → List ℕ)
       pub bytes_here : next epoch ≡ epochs epoch ++ bytes
       pub bytes_others : (e : ℕ) → e < 64 → e ≢ epoch → next e ≡ epochs e
       pub some : 0 < length bytes
+      pub cache_same : next_root.cache ≡ root.cache
 
     module _ (next_root : Root) (next : ℕ → List ℕ) (follows : Follows next_root next) where
       -- the file of an epoch that the next root names
@@ -214,7 +223,7 @@ module _ (root : Root) (slot : ℕ) (map : List ℕ) (epochs : ℕ → List ℕ)
       named_or_none name not_root = elim (same_or_other (map_file_of root) name) [
         | inl is ↦ inl (inr (inl (is ∙ sym follows.map_same)))
         | inr not_map ↦ elim (same_or_other first.file name) [
-          | inl is ↦ inl (inr (inr (epoch, grows.small, is ∙ sym follows.here)))
+          | inl is ↦ inl (inr (inr (inl (epoch, grows.small, is ∙ sym follows.here))))
           | inr not_first ↦ elim (on.exact.others name) [
             | inl named ↦ of_old not_map not_first named
             | inr none ↦ inr (did.elsewhere name not_first not_map ∙ none)
@@ -227,13 +236,14 @@ module _ (root : Root) (slot : ℕ) (map : List ℕ) (epochs : ℕ → List ℕ)
             | inl old ↦ absurd (not_first (is ∙ (ap (epoch_file_of root) here ∙ sym old)))
             | inr new ↦ inr (did.elsewhere name not_first not_map ∙ (ap (λ (n : FileName). (k0 n).seen) (is ∙ ap (epoch_file_of root) here) ∙ (on.exact.epochs_end epoch grows.small ∙ ap file_of new.0)))
           ]
-          | inr apart ↦ inl (inr (inr (e, below, is ∙ sym (follows.others e below apart))))
+          | inr apart ↦ inl (inr (inr (inl (e, below, is ∙ sym (follows.others e below apart)))))
         ]
 
         of_old : name ≢ map_file_of root → name ≢ first.file → IsNamed root name → IsNamed next_root name ⊎ ((k2 name).seen ≡ None)
         of_old not_map not_first (inl is) = absurd (not_root is)
         of_old not_map not_first (inr (inl is)) = absurd (not_map is)
-        of_old not_map not_first (inr (inr e)) = of_epoch not_map not_first e.0 e.1 e.2
+        of_old not_map not_first (inr (inr (inl e))) = of_epoch not_map not_first e.0 e.1 e.2
+        of_old not_map not_first (inr (inr (inr c))) = inl (inr (inr (inr (subst (λ (p : Place). (0 < p.length) × (name ≡ cache_name p.gen_)) (sym follows.cache_same) c))))
 
       -- while the next root is committed, files stand for what they stood for before, or for what it names
       pub committing : (image : Files) → ReadsFit (Some k2) → IsOldOrNew (spelling root) (spelling next_root) (Some k2) image → StandsFor root map epochs image ⊎ StandsFor next_root (map ++ more) next image

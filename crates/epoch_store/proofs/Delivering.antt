@@ -241,6 +241,7 @@ module _ (v : View) (a : Archive) (p : NextPlace) (text : List ℕ) (moment : �
           bytes_here = with_new_here;
           bytes_others = λ e below apart. with_new_other e apart;
           some = (let more = some_bytes (last_commit None (in_epoch a.entries p.epoch)) (new_entry a p text moment) in omega (arith, more, length-append (front_at (length (bytes_in a p.epoch))) (bytes_behind (last_commit None (in_epoch a.entries p.epoch)) (in_file (new_entry a p text moment)))));
+          cache_same = refl;
         }
 
         -- while the next root is committed

@@ -26,3 +26,5 @@ mod FindingTold
 mod FindingTurns
 mod Texts
 mod Recovered
+mod Unnamed
+mod Reopening

@@ -7,7 +7,7 @@ use Rattle.disk_model.specs.Synced.{Writing, IsWritten, IsSettled}
 use Rattle.root_slots.specs.RootName.{root_name}
 use Rattle.root_slots.specs.Each.{IfThere, EachRoot, part_stays, each_writing, each_written}
 use Rattle.root_slots.specs.Slots.{HasRootSize, IsGateOpen, gate, body_place, body_at, Current, Ready}
-use Rattle.epoch_store.specs.Settling.{Rests, StaysCurrent, IsReadied}
+use Rattle.epoch_store.specs.Settling.{Rests, StaysCurrent, IsReadied, TellsAs}
 
 -- back from the other slot
 back : (slot : ℕ) → slot < 2 → slot ≡ 1 - (1 - slot)
@@ -117,3 +117,19 @@ module _ (slot : ℕ) (body : List ℕ) where
         elsewhere = λ other apart. written.elsewhere other apart ∙ ap (λ (kept : Kept). kept.seen) (same other);
         settled = written.settled;
       }
+
+-- what is told before a call and behind it is told of two calls
+pub tells_both : (P Q : Content → Content → Type 0) (a b c : Option Content) → Told P a b → Told Q b c → TellsAs a c
+tells_both P Q None None None p q = tt
+tells_both P Q None None (Some z) p q = absurd q
+tells_both P Q None (Some y) c p q = absurd p
+tells_both P Q (Some x) None c p q = absurd p
+tells_both P Q (Some x) (Some y) None p q = absurd q
+tells_both P Q (Some x) (Some y) (Some z) p q = tt
+
+-- the same of one call
+pub tells_one : (P : Content → Content → Type 0) (a b : Option Content) → Told P a b → TellsAs a b
+tells_one P None None p = tt
+tells_one P None (Some y) p = absurd p
+tells_one P (Some x) None p = absurd p
+tells_one P (Some x) (Some y) p = tt

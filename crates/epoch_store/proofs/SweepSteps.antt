@@ -18,7 +18,7 @@ use Rattle.epoch_store.proofs.Appends.{map_isnt_root, epoch_isnt_root}
 use Rattle.epoch_store.proofs.Sweeping.{stands_ready, cutting_stands, removing_stands, swept}
 
 -- the current root is there
-current_root : (slot : ℕ) (body : List ℕ) (file : File) → IfThere (Current slot body) file → IfThere (HasRoot body) file
+pub current_root : (slot : ℕ) (body : List ℕ) (file : File) → IfThere (Current slot body) file → IfThere (HasRoot body) file
 current_root slot body None there = absurd there
 current_root slot body (Some file) there = (slot, there)
 
@@ -26,24 +26,24 @@ module _ (root : Root) (slot : ℕ) (map : List ℕ) (epochs : ℕ → List ℕ)
   -- what is to be swept rests
   pub to_sweep_rests : (k : Option Content) → ToSweep root slot map epochs others k → Rests slot (spelling root) k
   to_sweep_rests None sweep = absurd sweep
-  to_sweep_rests (Some k) sweep = sweep.rests
+  to_sweep_rests (Some k) sweep = sweep.found.rests
 
   -- while the other slot is made ready
   pub during_ready : (k : Option Content) (image : Files) → ToSweep root slot map epochs others k → StaysCurrent slot (spelling root) k image → StandsFor root map epochs image
   during_ready None image sweep stays = absurd sweep
   during_ready (Some k) image sweep stays = record {
     current = current_root slot (spelling root) (image root_name) stays.root;
-    map_front = subst (Fronts map) (sym (rests (map_file_of root) (map_isnt_root root.map.gen_))) sweep.stands.map_front;
-    epochs_front = λ e below. subst (Fronts (epochs e)) (sym (rests (epoch_file_of root e) (epoch_isnt_root e (get_or root.epochs e no_place).gen_))) (sweep.stands.epochs_front e below);
+    map_front = subst (Fronts map) (sym (rests (map_file_of root) (map_isnt_root root.map.gen_))) sweep.found.stands.map_front;
+    epochs_front = λ e below. subst (Fronts (epochs e)) (sym (rests (epoch_file_of root e) (epoch_isnt_root e (get_or root.epochs e no_place).gen_))) (sweep.found.stands.epochs_front e below);
   } where
     rests : (name : FileName) → name ≢ root_name → image name ≡ (k name).seen
-    rests name apart = Fits-exact (k name).seen (image name) (Fits-Within (k name).sure (exact (k name).seen) (image name) (sweep.rests.settled name) (stays.elsewhere name apart))
+    rests name apart = Fits-exact (k name).seen (image name) (Fits-Within (k name).sure (exact (k name).seen) (image name) (sweep.found.rests.settled name) (stays.elsewhere name apart))
 
   -- while tails are cut
   pub during_cut : (k0 k1 : Option Content) (image : Files) → ToSweep root slot map epochs others k0 → Told (IsReadied slot (spelling root)) k0 k1 → HasFronts (named_parts_of root) k1 image → StandsFor root map epochs image
   during_cut None k1 image sweep readied fronts = absurd sweep
   during_cut (Some k0) None image sweep readied fronts = absurd readied
-  during_cut (Some k0) (Some k1) image sweep readied fronts = cutting_stands root slot map epochs sweep.map_long sweep.epochs_long k1 image (stands_ready root slot map epochs others k0 k1 sweep readied) fronts
+  during_cut (Some k0) (Some k1) image sweep readied fronts = cutting_stands root slot map epochs sweep.found.map_long sweep.found.epochs_long k1 image (stands_ready root slot map epochs others k0 k1 sweep readied) fronts
 
   -- while other files are taken away
   pub during_removal : (k0 k1 k2 : Option Content) (image : Files) → ToSweep root slot map epochs others k0 → Told (IsReadied slot (spelling root)) k0 k1 → Told (AreCut (named_parts_of root)) k1 k2 → ReadsFit k2
@@ -52,8 +52,8 @@ module _ (root : Root) (slot : ℕ) (map : List ℕ) (epochs : ℕ → List ℕ)
   during_removal (Some k0) None k2 image sweep readied cut fit each fewer = absurd readied
   during_removal (Some k0) (Some k1) None image sweep readied cut fit each fewer = absurd cut
   during_removal (Some k0) (Some k1) (Some k2) image sweep readied cut fit each fewer =
-      removing_stands root slot map epochs sweep.map_long sweep.epochs_long others k0 k1 k2 sweep readied cut image fit
-      (λ i left. cutting_stands root slot map epochs sweep.map_long sweep.epochs_long k1 i (stands_ready root slot map epochs others k0 k1 sweep readied) (each i left)) fewer
+      removing_stands root slot map epochs sweep.found.map_long sweep.found.epochs_long others k0 k1 k2 sweep readied cut image fit
+      (λ i left. cutting_stands root slot map epochs sweep.found.map_long sweep.found.epochs_long k1 i (stands_ready root slot map epochs others k0 k1 sweep readied) (each i left)) fewer
 
   -- what stands in the end
   pub at_rest_then : (k0 k1 k2 k3 k4 : Option Content) → ToSweep root slot map epochs others k0 → Told (IsReadied slot (spelling root)) k0 k1 → Told (AreCut (named_parts_of root)) k1 k2 → Told (AreRemoved others) k2 k3 → ReadsFit k4 → Told Synced k3 k4 → OnDisk root slot map epochs k4
@@ -63,4 +63,4 @@ module _ (root : Root) (slot : ℕ) (map : List ℕ) (epochs : ℕ → List ℕ)
   at_rest_then (Some k0) (Some k1) (Some k2) None k4 sweep readied cut removed fit synced = absurd removed
   at_rest_then (Some k0) (Some k1) (Some k2) (Some k3) None sweep readied cut removed fit synced = absurd synced
   at_rest_then (Some k0) (Some k1) (Some k2) (Some k3) (Some k4) sweep readied cut removed fit synced =
-      swept root slot map epochs sweep.map_long sweep.epochs_long others k0 k1 k2 sweep readied cut k3 k4 (stands_ready root slot map epochs others k0 k1 sweep readied) removed synced fit
+      swept root slot map epochs sweep.found.map_long sweep.found.epochs_long others k0 k1 k2 sweep readied cut k3 k4 (stands_ready root slot map epochs others k0 k1 sweep readied) removed synced fit

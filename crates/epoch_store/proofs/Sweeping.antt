@@ -21,9 +21,9 @@ use Rattle.root_slots.specs.Each.{IfThere}
 use Rattle.root_slots.specs.Slots.{HasRoot, Ready}
 use Rattle.root_slots.specs.Spelling.{spelling}
 use Rattle.root_slots.specs.Valid.{no_place}
-use Rattle.epoch_store.specs.Files.{map_file_of, epoch_file_of, Fronts, StandsFor, file_of, IsNamed, as_read, IsOn}
+use Rattle.epoch_store.specs.Files.{map_file_of, epoch_file_of, cache_name, IsCache, Fronts, StandsFor, file_of, IsNamed, as_read, IsOn}
 use Rattle.epoch_store.specs.Settling.{IsReadied, IsKept, IsToSweep, epoch_part_of, named_parts_of}
-use Rattle.epoch_store.proofs.Appends.{fronts_stay, map_isnt_root, epoch_isnt_root, epoch_isnt_map, each_file}
+use Rattle.epoch_store.proofs.Appends.{fronts_stay, map_isnt_root, epoch_isnt_root, epoch_isnt_map, epoch_isnt_cache, each_file}
 
 -- What the root names stands at rest: its current root with the other slot ready, and the bytes of map and epochs.
 pub record StandsReady (root : Root) (slot : ℕ) (map : List ℕ) (epochs : ℕ → List ℕ) (k : Content) : Type 0 where
@@ -42,8 +42,8 @@ pub stands_ready : (root : Root) (slot : ℕ) (map : List ℕ) (epochs : ℕ →
 stands_ready root slot map epochs others k m sweep readied = record {
   ready = readied.root;
   settled = readied.settled;
-  map_front = subst (Fronts map) (sym (readied.elsewhere (map_file_of root) (map_isnt_root root.map.gen_))) sweep.stands.map_front;
-  epochs_front = λ e below. subst (Fronts (epochs e)) (sym (readied.elsewhere (epoch_file_of root e) (epoch_isnt_root e (get_or root.epochs e no_place).gen_))) (sweep.stands.epochs_front e below);
+  map_front = subst (Fronts map) (sym (readied.elsewhere (map_file_of root) (map_isnt_root root.map.gen_))) sweep.found.stands.map_front;
+  epochs_front = λ e below. subst (Fronts (epochs e)) (sym (readied.elsewhere (epoch_file_of root e) (epoch_isnt_root e (get_or root.epochs e no_place).gen_))) (sweep.found.stands.epochs_front e below);
 }
 
 -- a name is an epoch's or not
@@ -51,6 +51,13 @@ epoch_or_not : (root : Root) (name : FileName) → ((e : ℕ) × (e < 64) × (na
 epoch_or_not root name = elim (same_or_other (epoch_file_of root name.number) name) [
   | inl is ↦ elim (cases_lt name.number 64) [ inl below ↦ inl (name.number, below, is) | inr past ↦ inr (λ e below same. (let number : name.number ≡ e = ap (λ (n : FileName). n.number) same in absurd (omega (arith, number, below, past)))) ]
   | inr apart ↦ inr (λ e below same. apart (same ∙ ap (epoch_file_of root) (sym (ap (λ (n : FileName). n.number) same))))
+]
+
+-- a name is that of the root's cache or not
+cache_or_not : (root : Root) (name : FileName) → IsCache root name ⊎ (IsCache root name → ⊥)
+cache_or_not root name = elim (same_or_other (cache_name root.cache.gen_) name) [
+  | inl is ↦ elim (cases_lt 0 root.cache.length) [ inl some ↦ inl (some, is) | inr none ↦ inr (λ c. (let some = c.0 in absurd (omega (arith, some, none)))) ]
+  | inr apart ↦ inr (λ c. apart c.1)
 ]
 
 module _ (root : Root) (slot : ℕ) (map : List ℕ) (epochs : ℕ → List ℕ) (map_long : root.map.length ≡ length map) (epochs_long : (e : ℕ) → e < 64 → (get_or root.epochs e no_place).length ≡ length (epochs e)) where
@@ -154,7 +161,7 @@ module _ (root : Root) (slot : ℕ) (map : List ℕ) (epochs : ℕ → List ℕ)
       of_epoch e below [] none = subst (λ (b : List ℕ). Fronts b (image (epoch_file_of root e))) (sym none) (record { long = omega arith; front = refl })
       of_epoch e below (b ∷ bs) some =
           each_file k2 (epoch_file_of root e) (Fronts (epochs e)) fit (λ i left. (each i left).epochs_front e below) (image (epoch_file_of root e))
-          (fewer.others (epoch_file_of root e) (not_other (epoch_file_of root e) (inr (inr (e, below, refl, λ none. (let wrong : length {A = ℕ} [] ≡ length (b ∷ bs) = ap length (sym none ∙ some) in absurd (omega (arith, wrong))))))))
+          (fewer.others (epoch_file_of root e) (not_other (epoch_file_of root e) (inr (inr (inl (e, below, refl, λ none. (let wrong : length {A = ℕ} [] ≡ length (b ∷ bs) = ap length (sym none ∙ some) in absurd (omega (arith, wrong)))))))))
 
     module _ (k3 k4 : Content) (stands : StandsReady root slot map epochs k1) (removed : AreRemoved others k2 k3) (synced : Synced k3 k4) where
       -- how a named file reads in the end
@@ -189,10 +196,11 @@ module _ (root : Root) (slot : ℕ) (map : List ℕ) (epochs : ℕ → List ℕ)
           unnamed : epochs e ≡ [] → IsKept root epochs (epoch_file_of root e) → ⊥
           unnamed none (inl is) = epoch_isnt_root e (get_or root.epochs e no_place).gen_ is
           unnamed none (inr (inl is)) = epoch_isnt_map e (get_or root.epochs e no_place).gen_ root.map.gen_ is
-          unnamed none (inr (inr f)) = f.3 (ap epochs (sym (ap (λ (n : FileName). n.number) f.2)) ∙ none)
+          unnamed none (inr (inr (inl f))) = f.3 (ap epochs (sym (ap (λ (n : FileName). n.number) f.2)) ∙ none)
+          unnamed none (inr (inr (inr c))) = epoch_isnt_cache e (get_or root.epochs e no_place).gen_ root.cache.gen_ c.1
         by (b ∷ bs) some =
             let there : epochs e ≢ [] = λ none. (let wrong : length {A = ℕ} [] ≡ length (b ∷ bs) = ap length (sym none ∙ some) in absurd (omega (arith, wrong))) in
-            reads_kept (epoch_file_of root e) (inr (inr (e, below, refl, there)))
+            reads_kept (epoch_file_of root e) (inr (inr (inl (e, below, refl, there))))
             ∙ cut_there (epochs e) (get_or root.epochs e no_place).length (k1 (epoch_file_of root e)).seen (k2 (epoch_file_of root e)).seen (epochs_long e below) (stands.epochs_front e below) (cut.listed (epoch_part_of root e) (epoch_shortest e below)).seen there
 
       -- a file of bytes has them at its front
@@ -231,12 +239,16 @@ module _ (root : Root) (slot : ℕ) (map : List ℕ) (epochs : ℕ → List ℕ)
           | inr not_root ↦ elim (same_or_other (map_file_of root) name) [
             | inl is ↦ inl (inr (inl is))
             | inr not_map ↦ elim (epoch_or_not root name) [
-              | inl e ↦ inl (inr (inr e))
-              | inr no_epoch ↦ inr (missing name (no_kept not_root not_map no_epoch))
+              | inl e ↦ inl (inr (inr (inl e)))
+              | inr no_epoch ↦ elim (cache_or_not root name) [
+                | inl c ↦ inl (inr (inr (inr c)))
+                | inr no_cache ↦ inr (missing name (no_kept not_root not_map no_epoch no_cache))
+              ]
             ]
           ]
         ] where
-          no_kept : name ≢ root_name → name ≢ map_file_of root → ((e : ℕ) → e < 64 → name ≢ epoch_file_of root e) → IsKept root epochs name → ⊥
-          no_kept not_root not_map no_epoch (inl is) = not_root is
-          no_kept not_root not_map no_epoch (inr (inl is)) = not_map is
-          no_kept not_root not_map no_epoch (inr (inr e)) = no_epoch e.0 e.1 e.2
+          no_kept : name ≢ root_name → name ≢ map_file_of root → ((e : ℕ) → e < 64 → name ≢ epoch_file_of root e) → (IsCache root name → ⊥) → IsKept root epochs name → ⊥
+          no_kept not_root not_map no_epoch no_cache (inl is) = not_root is
+          no_kept not_root not_map no_epoch no_cache (inr (inl is)) = not_map is
+          no_kept not_root not_map no_epoch no_cache (inr (inr (inl e))) = no_epoch e.0 e.1 e.2
+          no_kept not_root not_map no_epoch no_cache (inr (inr (inr c))) = no_cache c

@@ -1,7 +1,7 @@
 -- The files that a root names, and which files stand for what it names.
 use Rattle.std.specs.Prelude.{◌≡◌, ◌⊎◌, ◌-◌, ◌<◌, ◌≤◌, ℕ, List, [], ◌∷◌, length, take, get_or, Some, None}
 use Rattle.disk_model.specs.declared.name.FileName.{FileName}
-use Rattle.disk_model.specs.declared.name.FileKind.TheVariants.{Map, Epoch}
+use Rattle.disk_model.specs.declared.name.FileKind.TheVariants.{Map, Epoch, Cache}
 use Rattle.disk_model.specs.Disk.{File, Files, Content, Image, bytes_of}
 use Rattle.root_slots.specs.declared.root.Root.{Root}
 use Rattle.root_slots.specs.RootName.{root_name}
@@ -9,6 +9,10 @@ use Rattle.root_slots.specs.Each.{IfThere, EachRoot}
 use Rattle.root_slots.specs.Slots.{HasRoot, Ready}
 use Rattle.root_slots.specs.Spelling.{spelling}
 use Rattle.root_slots.specs.Valid.{no_place}
+
+-- the file of a cache of a generation
+abbrev pub cache_name : ℕ → FileName
+cache_name n = record { kind = Cache; number = 0; gen_ = n }
 
 -- the file of a map of a generation
 abbrev pub map_name : ℕ → FileName
@@ -43,12 +47,16 @@ abbrev pub file_of : List ℕ → File
 file_of [] = None
 file_of (b ∷ bs) = Some (b ∷ bs)
 
+-- a root names a cache, and this is its file
+abbrev pub IsCache : Root → FileName → Type 0
+IsCache root name = (0 < root.cache.length) × (name ≡ cache_name root.cache.gen_)
+
 -- a root names a file
 abbrev pub IsNamed : Root → FileName → Type 0
-IsNamed root name = (name ≡ root_name) ⊎ ((name ≡ map_file_of root) ⊎ ((e : ℕ) × (e < 64) × (name ≡ epoch_file_of root e)))
+IsNamed root name = (name ≡ root_name) ⊎ ((name ≡ map_file_of root) ⊎ (((e : ℕ) × (e < 64) × (name ≡ epoch_file_of root e)) ⊎ IsCache root name))
 
 -- Files are exactly those of a map and epochs of these bytes by a root: each file that it names ends where its bytes do, and
--- there is no other file. An empty map has a file without bytes, or none.
+-- there is no other file. An empty map has a file without bytes, or none; nothing is said of what a cache holds.
 pub record IsExact (root : Root) (map : List ℕ) (epochs : ℕ → List ℕ) (files : Files) : Type 0 where
   pub stands : StandsFor root map epochs files
   pub map_ends : bytes_of (files (map_file_of root)) ≡ map

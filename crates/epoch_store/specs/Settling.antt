@@ -1,13 +1,14 @@
 -- How the disk of an archive is brought to rest: the other slot is made ready, tails are cut, and files that the root doesn't name
 -- are taken away.
-use Rattle.std.specs.Prelude.{◌≡◌, ◌≢◌, ◌⊎◌, ◌-◌, ◌<◌, ◌==◌, ◌&&◌, nat_lt, Bool, ℕ, List, [], ◌∷◌, length, map as mapped, get_or, Option, Some, None, IsSome}
-use Rattle.std.specs.List.{Contains, range_with_len}
+use Rattle.std.specs.Prelude.{◌≡◌, ◌≢◌, ◌⊎◌, ◌-◌, ◌<◌, ◌==◌, ◌&&◌, nat_lt, not, Bool, ℕ, List, [], ◌∷◌, length, map as mapped, get_or, Option, Some, None, IsSome}
+use Rattle.std.specs.List.{Contains, filter, range_with_len}
+use Rattle.disk_files.specs.Listing.{AreAllNames}
 use Rattle.disk_files.specs.declared.cutting.FilePart.{FilePart}
 use Rattle.disk_model.specs.declared.name.FileKind.{FileKind}
 use Rattle.disk_model.specs.declared.name.FileKind.TheVariants as kind
 use Rattle.disk_model.specs.declared.name.FileName.{FileName}
 use Rattle.root_slots.specs.declared.root.Place.{Place}
-use Rattle.disk_model.specs.Disk.{Files, Content}
+use Rattle.disk_model.specs.Disk.{Files, Content, Told}
 use Rattle.disk_model.specs.Synced.{IsSettled}
 use Rattle.root_slots.specs.declared.root.Root.{Root}
 use Rattle.root_slots.specs.RootName.{root_name}
@@ -15,7 +16,11 @@ use Rattle.root_slots.specs.Each.{IfThere}
 use Rattle.root_slots.specs.Slots.{Current, Ready, Elsewhere}
 use Rattle.root_slots.specs.Spelling.{spelling}
 use Rattle.root_slots.specs.Valid.{no_place}
-use Rattle.epoch_store.specs.Files.{map_file_of, epoch_file_of, StandsFor, as_read, IsOn}
+use Rattle.epoch_store.specs.Files.{map_file_of, epoch_file_of, IsCache, StandsFor, as_read, IsOn}
+
+-- a disk that told its content tells it still, and one that didn't tells none
+abbrev pub TellsAs : Option Content → Option Content → Type 0
+TellsAs old new = Told (λ (k m : Content). Unit {0}) old new
 
 -- all that reads give is on the disk, and the current root is this body in this slot
 pub record RestsOn (slot : ℕ) (body : List ℕ) (k : Content) : Type 0 where
@@ -44,18 +49,27 @@ pub record IsReadied (slot : ℕ) (body : List ℕ) (old new : Content) : Type 0
   pub elsewhere : (other : FileName) → other ≢ root_name → (new other).seen ≡ (old other).seen
   pub settled : IsSettled new
 
--- a root names a file with some bytes: the root file, the map's, or that of an epoch that has bytes
+-- a root names a file with some bytes: the root file, the map's, or that of an epoch or a cache that has bytes
 abbrev pub IsKept : Root → (ℕ → List ℕ) → FileName → Type 0
 IsKept root epochs name =
-    (name ≡ root_name) ⊎ ((name ≡ map_file_of root) ⊎ ((e : ℕ) × (e < 64) × (name ≡ epoch_file_of root e) × (epochs e ≢ [])))
+    (name ≡ root_name) ⊎ ((name ≡ map_file_of root) ⊎ (((e : ℕ) × (e < 64) × (name ≡ epoch_file_of root e) × (epochs e ≢ [])) ⊎ IsCache root name))
 
--- What is asked of a disk that is to be brought to rest: it stands for a map and epochs of these bytes, of the lengths that the root
--- names, and these other files are just those that are there and aren't named.
-pub record IsToSweep (root : Root) (slot : ℕ) (map : List ℕ) (epochs : ℕ → List ℕ) (others : List FileName) (k : Content) : Type 0 where
+-- A disk on which all is synced stands for a map and epochs of these bytes, of the lengths that the root names.
+pub record IsFound (root : Root) (slot : ℕ) (map : List ℕ) (epochs : ℕ → List ℕ) (k : Content) : Type 0 where
   pub rests : RestsOn slot (spelling root) k
   pub stands : StandsFor root map epochs (as_read k)
   pub map_long : root.map.length ≡ length map
   pub epochs_long : (e : ℕ) → e < 64 → (get_or root.epochs e no_place).length ≡ length (epochs e)
+
+-- the same, of a disk that tells its content
+abbrev pub FoundOn : Root → ℕ → List ℕ → (ℕ → List ℕ) → Option Content → Type 0
+FoundOn root slot map epochs None = ⊥
+FoundOn root slot map epochs (Some k) = IsFound root slot map epochs k
+
+-- What is asked of a disk that is to be brought to rest: it stands for a map and epochs of these bytes, and these other files are
+-- just those that are there and aren't named.
+pub record IsToSweep (root : Root) (slot : ℕ) (map : List ℕ) (epochs : ℕ → List ℕ) (others : List FileName) (k : Content) : Type 0 where
+  pub found : IsFound root slot map epochs k
   pub spared : (name : FileName) → Contains others name → IsKept root epochs name → ⊥
   pub listed : (name : FileName) → IsSome (k name).seen → IsKept root epochs name ⊎ Contains others name
 
@@ -90,3 +104,7 @@ named_by root kind.Cache number gen_ = number == 0 && has_place root.cache gen_
 
 abbrev pub names_file : Root → FileName → Bool
 names_file root name = named_by root name.kind name.number name.gen_
+
+-- these are the files of a disk that a root doesn't name
+abbrev pub AreOthers : Root → List FileName → Content → Type 0
+AreOthers root others k = (names : List FileName) × AreAllNames names k × (others ≡ filter (λ (name : FileName). not (names_file root name)) names)

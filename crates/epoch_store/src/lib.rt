@@ -16,10 +16,9 @@ mod reads;
 mod refusal;
 mod settling;
 mod store;
+mod store_opening;
 
 pub use entries::StoredEntry;
-pub use joining::Joining;
-pub use known::{JoinRefusal, Unmatched};
 pub use laws::{law_of_numbers, law_of_recovery, law_of_stores};
 pub use line::EntryLine;
 pub use opening_laws::{law_of_opening, law_of_undamaged_files};

@@ -5,7 +5,7 @@ ghost use Rattle.disk_model.specs.Disk.{Told, WhereTold, LeavesOnly};
 ghost use Rattle.root_slots.specs.Slots.{HasRootSize};
 ghost use Rattle.root_slots.specs.Spelling.{spelling};
 ghost use Rattle.root_slots.specs.Valid.{IsRoot};
-ghost use Rattle.epoch_store.specs.Settling.{Rests, StaysCurrent, IsReadied, ToSweep, OnDisk, epoch_part_of, named_parts_of, names_file, has_place};
+ghost use Rattle.epoch_store.specs.Settling.{Rests, StaysCurrent, TellsAs, IsReadied, ToSweep, OnDisk, epoch_part_of, named_parts_of, names_file, has_place};
 ghost use Rattle.std.specs.List.{filter};
 ghost use Rattle.disk_model.specs.declared.name.FileName.{FileName};
 ghost use Rattle.epoch_store.specs.Files.{StandsFor};
@@ -24,6 +24,7 @@ pub fn ready_other<D: Disk>(disk: &mut D, slot: u8, root: &Root) -> Result<(), D
     requires root { IsRoot root.now }
     ensures any_moment { Rests slot (spelling root.now) (D.content disk.old) → LeavesOnly D.moment D.left_since disk.old disk.new (StaysCurrent slot (spelling root.now) (D.content disk.old)) }
     ensures done { Rests slot (spelling root.now) (D.content disk.old) → OnOk result (Told (IsReadied slot (spelling root.now)) (D.content disk.old) (D.content disk.new)) }
+    ensures told { OnOk result (TellsAs (D.content disk.old) (D.content disk.new)) }
     ensures cause { IsCaused (D.faults disk.old) (D.faults disk.new) result }
 {
     if is_open(disk, 1 - slot)? {
@@ -45,7 +46,7 @@ fn epoch_part(root: &Root, epoch: usize) -> FilePart
 }
 
 /// The parts of the files that a root names: the map's, and those of the epochs.
-fn named_parts(alloc: Global, root: &Root) -> Result<Vec<FilePart>, AllocError>
+pub fn named_parts(alloc: Global, root: &Root) -> Result<Vec<FilePart>, AllocError>
     ensures { IfOk result (λ parts. parts.items ≡ named_parts_of root.now) }
 {
     let mut parts = Vec::new(alloc);
@@ -76,6 +77,7 @@ pub fn sweep<D: Disk>(
     ensures any_moment { (map : List ℕ) (epochs : ℕ → List ℕ) → ToSweep root.now slot map epochs others.now (D.content disk.old) → LeavesOnly D.moment D.left_since disk.old disk.new (StandsFor root.now map epochs) }
     // After Ok the disk is exactly theirs.
     ensures done { (map : List ℕ) (epochs : ℕ → List ℕ) → ToSweep root.now slot map epochs others.now (D.content disk.old) → OnOk result (OnDisk root.now slot map epochs (D.content disk.new)) }
+    ensures told { OnOk result (TellsAs (D.content disk.old) (D.content disk.new)) }
     ensures cause { IsCaused (D.faults disk.old) (D.faults disk.new) result }
 {
     ready_other(disk, slot, root)?;

@@ -1,12 +1,13 @@
 -- The gate is looked at, and the slot is filled where it is shut.
 use Rattle.std.proofs.Common.{◌-◌, Bool, false, subst}
 use Rattle.std.proofs.lemmas.Result.{on_ok_weaker}
-use Rattle.disk_model.specs.Disk.{WhereTold}
+use Rattle.disk_model.specs.Disk.{WhereTold, Told}
+use Rattle.disk_model.specs.Synced.{IsWritten}
 use Rattle.disk_model.specs.Moments.{joined}
 use Rattle.root_slots.specs.Slots.{IsGateOpen}
 use Rattle.root_slots.specs.Spelling.{spelling}
 use Rattle.epoch_store.specs.Settling.{StaysCurrent}
-use Rattle.epoch_store.proofs.Readying.{current_now, filling, readied_filled}
+use Rattle.epoch_store.proofs.Readying.{current_now, filling, readied_filled, tells_both}
 use Rattle.epoch_store.proofs.settling.ready_other.Goals as goal
 
 pub returns-clause-any_moment : goal.returns-clause-any_moment
@@ -33,3 +34,10 @@ returns-clause-done g c = λ rests.
     let slot = c.args.slot in
     let shut : WhereTold (IsGateOpen (1 - slot) false) k0 = subst (λ (b : Bool). WhereTold (IsGateOpen (1 - slot) b) k0) c.if-branch.false c.in_ok-is_open.ensures.gate in
     on_ok_weaker c.fill.result (readied_filled slot body k0 k1 k2 c.fill.ensures.whole (g.met.D.Disk.reads_fit mid) (g.met.D.Disk.reads_fit c.fill.new.disk) rests c.is_open.ensures.same shut) c.fill.ensures.written
+
+pub returns-clause-told : goal.returns-clause-told
+returns-clause-told g c =
+    let k0 = g.D.Disk.content c.args.disk.now in
+    let k1 = g.D.Disk.content c.is_open.new.disk in
+    let k2 = g.D.Disk.content c.fill.new.disk in
+    on_ok_weaker c.fill.result (λ (written : Told (IsWritten _ _ _) k1 k2). tells_both _ _ k0 k1 k2 c.is_open.ensures.same written) c.fill.ensures.written

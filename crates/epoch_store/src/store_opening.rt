@@ -1,0 +1,126 @@
+//! The opening of an archive: a sync, what its files stand for, and then the disk brought to rest.
+ghost use Rattle.std.specs.Prelude.{◌≡◌, ◌<◌, ◌≤◌, ℕ, List, Option, Err, IfOk, OnOk};
+ghost use Rattle.arch_base.specs.Counts.{Rose};
+ghost use Rattle.disk_model.specs.Disk.{Image, Told, WhereTold, Unchanged, LeavesOnly};
+ghost use Rattle.arch_model.specs.Archives.{Archive};
+ghost use Rattle.arch_model.specs.declared.opening.OpenRefusal.{OpenRefusal};
+ghost use Rattle.epoch_file.specs.Runs.{OnlyReads};
+ghost use Rattle.root_slots.specs.Slots.{HasRootSize};
+ghost use Rattle.root_slots.specs.Valid.{IsRoot};
+ghost use Rattle.epoch_store.specs.Files.{as_read, StandsFor};
+ghost use Rattle.epoch_store.specs.Finding.{Finds};
+ghost use Rattle.epoch_store.specs.Joined.{AreBefore};
+ghost use Rattle.epoch_store.specs.Settling.{FoundOn, OnDisk, AreOthers, TellsAs};
+ghost use Rattle.epoch_store.specs.Stores.{IsStoreOf, HasSizes};
+ghost use Rattle.epoch_store.specs.Opens.{RecoversOf, AllRecoverOf, ReadsAs, Opens, OpensWell, SyncsBy, RefusesBefore};
+
+use crate::finding::{Found, find};
+use crate::laws::law_of_recovery;
+use crate::opening_laws::{law_of_opening, law_of_undamaged_files};
+use crate::settling::{named_parts, sweep, unnamed};
+use crate::store::Store;
+use arch_model::OpenRefusal;
+use disk_files::file_names;
+use disk_model::{Disk, FileName, WalkRefusal};
+use root_slots::{Root, law_of_spellings};
+use std::alloc::Global;
+
+/// What is found of an archive on a disk behind a sync, which leaves what a crash before might have left.
+fn find_synced<D: Disk>(alloc: Global, disk: &mut D) -> Result<Found, OpenRefusal>
+    ensures found { WhereTold (λ k. Finds (as_read k) result) (D.content disk.old) }
+    ensures synced { SyncsBy result (D.content disk.old) (D.content disk.new) }
+    ensures slot { IfOk result (λ found. found.slot < 2) }
+    ensures root { IfOk result (λ found. IsRoot found.root) }
+    ensures epochs { IfOk result (λ found. AreBefore 64 found.entries.items) }
+    ensures any_moment { LeavesOnly D.moment D.left_since disk.old disk.new (Image (D.content disk.old)) }
+    ensures later { D.faults disk.old ≤ D.faults disk.new }
+    ensures fault { result ≡ Err OpenRefusal.DiskFault → Rose (D.faults disk.old) (D.faults disk.new) }
+{
+    disk.sync()?;
+    find(alloc, disk)
+}
+
+/// The files of a disk that a root doesn't name.
+fn other_files<D: Disk>(
+    alloc: Global,
+    disk: &mut D,
+    root: &Root,
+) -> Result<Vec<FileName>, OpenRefusal>
+    ensures others { IfOk result (λ others. WhereTold (AreOthers root.now others.items) (D.content disk.old)) }
+    ensures reads { OnlyReads D.content D.moment D.left_since D.faults disk.old disk.new }
+    ensures well { OpensWell result }
+    ensures fault { result ≡ Err OpenRefusal.DiskFault → Rose (D.faults disk.old) (D.faults disk.new) }
+{
+    match file_names(alloc, disk) {
+        Ok(names) => match unnamed(alloc, names.as_slice(), root) {
+            Ok(others) => Ok(others),
+            Err(_refused) => Err(OpenRefusal::NoMemory),
+        },
+        Err(WalkRefusal::DiskFault) => Err(OpenRefusal::DiskFault),
+        Err(_refused) => Err(OpenRefusal::NoMemory),
+    }
+}
+
+/// Brings the disk of an archive that was found to rest. For want of memory nothing is changed.
+fn settle<D: Disk>(alloc: Global, disk: &mut D, slot: u8, root: &Root) -> Result<(), OpenRefusal>
+    requires slot { slot < 2 }
+    requires size { WhereTold HasRootSize (D.content disk.old) }
+    requires root { IsRoot root.now }
+    ensures any_moment { (map : List ℕ) (epochs : ℕ → List ℕ) → FoundOn root.now slot map epochs (D.content disk.old) → LeavesOnly D.moment D.left_since disk.old disk.new (StandsFor root.now map epochs) }
+    ensures done { (map : List ℕ) (epochs : ℕ → List ℕ) → FoundOn root.now slot map epochs (D.content disk.old) → OnOk result (OnDisk root.now slot map epochs (D.content disk.new)) }
+    ensures told { OnOk result (TellsAs (D.content disk.old) (D.content disk.new)) }
+    ensures well { OpensWell result }
+    ensures unchanged { result ≡ Err OpenRefusal.NoMemory → Told Unchanged (D.content disk.old) (D.content disk.new) }
+    ensures later { D.faults disk.old ≤ D.faults disk.new }
+    ensures fault { result ≡ Err OpenRefusal.DiskFault → Rose (D.faults disk.old) (D.faults disk.new) }
+{
+    let Ok(parts) = named_parts(alloc, root) else {
+        return Err(OpenRefusal::NoMemory);
+    };
+    match other_files(alloc, disk, root) {
+        Ok(others) => match sweep(disk, slot, root, parts.as_slice(), others.as_slice()) {
+            Ok(()) => Ok(()),
+            Err(_fault) => Err(OpenRefusal::DiskFault),
+        },
+        Err(refusal) => Err(refusal),
+    }
+}
+
+impl Store {
+    /// Opens the archive on a disk. It syncs first and reads all that the current root names, and only then changes the disk: where the
+    /// other slot is shut it is filled with the current root and left shut, tails are cut, and files that the root doesn't name are
+    /// taken away.
+    ///
+    /// At each moment a crash leaves files that stand for an archive that they might have stood for before. NoArchive comes only where
+    /// no slot is open, and Damaged only where the files that the root names leave their form, with the first place where they do:
+    /// of the root, then of the map, then of the epochs in order; neither comes where the files stand for an archive. DiskFault
+    /// comes only where the disk's count of faults rose, and NoMemory only for want of memory. Every refusal but DiskFault
+    /// leaves all files as they read.
+    pub fn open<D: Disk>(alloc: Global, disk: &mut D) -> Result<Store, OpenRefusal>
+        ensures any_moment { (may : List (Option Archive)) → AllRecoverOf may (D.content disk.old) → LeavesOnly D.moment D.left_since disk.old disk.new (RecoversOf may) }
+        ensures answer { WhereTold (λ k. Opens (as_read k) result) (D.content disk.old) }
+        ensures done { (a : Archive) → ReadsAs a (D.content disk.old) → IfOk result (λ store. IsStoreOf store a (D.content disk.new)) }
+        ensures well { (a : Archive) → ReadsAs a (D.content disk.old) → OpensWell result }
+        ensures refused { RefusesBefore result (D.content disk.old) (D.content disk.new) }
+        ensures sizes { IfOk result (λ store. WhereTold (HasSizes store) (D.content disk.new)) }
+        ensures later { D.faults disk.old ≤ D.faults disk.new }
+        ensures fault { result ≡ Err OpenRefusal.DiskFault → Rose (D.faults disk.old) (D.faults disk.new) }
+    {
+        law_of_recovery();
+        law_of_opening();
+        law_of_undamaged_files();
+        law_of_spellings();
+        let found = match find_synced(alloc, disk) {
+            Ok(found) => found,
+            Err(refusal) => return Err(refusal),
+        };
+        match settle(alloc, disk, found.slot, &found.root) {
+            Ok(()) => Ok(Store {
+                root: found.root,
+                slot: found.slot,
+                entries: found.entries,
+            }),
+            Err(refusal) => Err(refusal),
+        }
+    }
+}
