@@ -6,3 +6,5 @@ pub mod Plays
 pub mod Program
 pub mod Printing
 pub mod Laws
+pub mod Outcomes
+pub mod DiskCommands

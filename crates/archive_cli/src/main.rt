@@ -2,8 +2,10 @@
 #![tactic(auto)]
 
 mod arguments;
+mod disk_commands;
 mod frames;
 mod laws;
+mod outcome;
 mod player;
 mod program;
 mod reading;

@@ -10,4 +10,5 @@ mod tests;
 
 pub use laws::cut_laws;
 pub use order::{Order, read_order};
+pub use replies::{say_answer, say_damage, say_number};
 pub use session::Session;

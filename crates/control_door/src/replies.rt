@@ -33,8 +33,8 @@ pub(crate) fn say_memory<O: Sink>(out: &mut O) -> bool
     say_line(b"12 no memory", out)
 }
 
-/// Says the line of an answer.
-pub(crate) fn say_answer<O: Sink>(answer: Answer, out: &mut O) -> bool
+/// Says the line of an answer, with its line feed. It answers whether all was taken.
+pub fn say_answer<O: Sink>(answer: Answer, out: &mut O) -> bool
     ensures said { Says (reply_line (answer_line answer)) (O.taken out.old) (O.faults out.old) (O.taken out.new) (O.faults out.new) result }
     ensures sink { O.alike out.old out.new }
 {
@@ -54,12 +54,23 @@ pub(crate) fn say_answer<O: Sink>(answer: Answer, out: &mut O) -> bool
     }
 }
 
-/// Says that a file is damaged, and where.
+/// Says the line of the answer that a file is damaged.
 fn say_damaged<O: Sink>(file: FileName, at: u64, out: &mut O) -> bool
     ensures said { Says (reply_line (codes "11 damaged " ++ (file_words file ++ 32 ∷ decimal at))) (O.taken out.old) (O.faults out.old) (O.taken out.new) (O.faults out.new) result }
     ensures sink { O.alike out.old out.new }
 {
-    if !say(b"11 damaged ", out) {
+    if !say(b"11 ", out) {
+        return false;
+    }
+    say_damage(file, at, out)
+}
+
+/// Says that a file of an archive is damaged, and at which byte, with a line feed. It answers whether all was taken.
+pub fn say_damage<O: Sink>(file: FileName, at: u64, out: &mut O) -> bool
+    ensures said { Says (reply_line (codes "damaged " ++ (file_words file ++ 32 ∷ decimal at))) (O.taken out.old) (O.faults out.old) (O.taken out.new) (O.faults out.new) result }
+    ensures sink { O.alike out.old out.new }
+{
+    if !say(b"damaged ", out) {
         return false;
     }
     if !say_file(file, out) {
@@ -176,8 +187,8 @@ fn push_listed(
     into.push_slice(b"\n")
 }
 
-/// Says words, a number in digits and a line feed.
-fn say_number<O: Sink>(words: &[u8], number: u64, out: &mut O) -> bool
+/// Says words, a number in digits and a line feed. It answers whether all was taken.
+pub fn say_number<O: Sink>(words: &[u8], number: u64, out: &mut O) -> bool
     ensures said { Says (words.now ++ decimal number ++ 10 ∷ []) (O.taken out.old) (O.faults out.old) (O.taken out.new) (O.faults out.new) result }
     ensures sink { O.alike out.old out.new }
 {

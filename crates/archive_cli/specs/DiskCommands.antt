@@ -1,0 +1,109 @@
+-- What `init`, `deliver` and `check` do to a disk, and how they end.
+use Rattle.std.specs.Prelude.{◌≡◌, ◌⊎◌, ◌+◌, ◌<◌, ◌^◌, ℕ, List, length, Option, Some, None, Ok, Err}
+use Rattle.std.specs.List.{Contains}
+use Rattle.arch_base.specs.declared.config.Config.{Config}
+use Rattle.disk_model.specs.Disk.{Files, Content, WhereTold}
+use Rattle.root_slots.specs.declared.root.Root.{Root}
+use Rattle.root_slots.specs.RootName.{root_name}
+use Rattle.root_slots.specs.Slots.{IsShutFile}
+use Rattle.arch_model.specs.Archives.{Archive, empty_archive}
+use Rattle.arch_model.specs.Delivery.{Done, delivered}
+use Rattle.arch_model.specs.declared.answer.Answer.{Answer}
+use Rattle.arch_model.specs.declared.answer.Answer.TheVariants as answer
+use Rattle.arch_model.specs.declared.opening.OpenRefusal.{OpenRefusal}
+use Rattle.arch_model.specs.declared.opening.OpenRefusal.TheVariants as refusal
+use Rattle.epoch_store.specs.Files.{as_read}
+use Rattle.epoch_store.specs.Finding.{IsCurrentRoot}
+use Rattle.epoch_store.specs.Opens.{Opens, ReadsAs, RecoversOf}
+use Rattle.epoch_store.specs.Recovery.{Recovers}
+use Rattle.epoch_store.specs.Stores.{View, IsStoreOf, IsDiskOf}
+use Rattle.archive_cli.specs.declared.outcome.Outcome.{Outcome}
+use Rattle.archive_cli.specs.declared.outcome.Outcome.TheVariants.{Made, Exists, Checked, Answered, Unopened}
+
+-- a disk that tells its content is an archive's own: each crash leaves files that stand for it, and its files are exactly the archive's
+abbrev pub IsOwn : Archive → Option Content → Type 0
+IsOwn a content = (v : View) × IsStoreOf v a content
+
+-- the current root of a disk isn't the last one that there may be
+abbrev pub HasRoom : Option Content → Type 0
+HasRoom content = WhereTold (λ k. (root : Root) (slot : ℕ) → IsCurrentRoot root slot (as_read k) → root.sequence + 1 < 2 ^ 64) content
+
+-- How `init` ends: an archive is made where no slot is open, and the disk is its own; else there is one. The disk may have failed, or
+-- memory was wanted.
+abbrev pub Makes : Config → Outcome → Option Content → Option Content → Type 0
+Makes config (Made name) old new = (name ≡ config.name) × WhereTold (λ k. IsShutFile (k root_name).seen) old × WhereTold (λ k. (v : View) × IsDiskOf v (empty_archive config) k) new
+Makes config Exists old new = WhereTold (λ k. IsShutFile (k root_name).seen → ⊥) old
+Makes config (Answered answer.DiskFault) old new = Unit {0}
+Makes config (Answered answer.NoMemory) old new = Unit {0}
+Makes config (Answered (answer.Ok number id)) old new = ⊥
+Makes config (Answered (answer.Duplicate number)) old new = ⊥
+Makes config (Answered answer.NoFields) old new = ⊥
+Makes config (Answered (answer.TooLarge len)) old new = ⊥
+Makes config (Answered (answer.Full max)) old new = ⊥
+Makes config (Answered (answer.Collision number)) old new = ⊥
+Makes config (Answered (answer.NotLive number)) old new = ⊥
+Makes config (Answered (answer.NoText number)) old new = ⊥
+Makes config (Answered answer.IsMirror) old new = ⊥
+Makes config (Answered (answer.Damaged file at)) old new = ⊥
+Makes config (Checked entries live next) old new = ⊥
+Makes config (Unopened why) old new = ⊥
+
+-- the definition's answer was given, and the disk is the definition's archive's own
+pub record IsDone (wanted : Done) (reply : Answer) (new : Option Content) : Type 0 where
+  pub answer_is : wanted.answer ≡ reply
+  pub own : IsOwn wanted.archive new
+
+-- What a delivery to this archive is answered, and what the disk is then. For want of memory the archive stays; behind a fault
+-- of the disk the archive has to be opened again. No number is refused, and no file is damaged.
+abbrev pub Answers : Archive → Done → Answer → Option Content → Type 0
+Answers a wanted answer.NoMemory new = IsOwn a new
+Answers a wanted answer.DiskFault new = Unit {0}
+Answers a wanted (answer.Ok number id) new = IsDone wanted (answer.Ok number id) new
+Answers a wanted (answer.Duplicate number) new = IsDone wanted (answer.Duplicate number) new
+Answers a wanted answer.NoFields new = IsDone wanted answer.NoFields new
+Answers a wanted (answer.TooLarge len) new = IsDone wanted (answer.TooLarge len) new
+Answers a wanted (answer.Full max) new = IsDone wanted (answer.Full max) new
+Answers a wanted (answer.Collision number) new = IsDone wanted (answer.Collision number) new
+Answers a wanted answer.IsMirror new = IsDone wanted answer.IsMirror new
+Answers a wanted (answer.NotLive number) new = ⊥
+Answers a wanted (answer.NoText number) new = ⊥
+Answers a wanted (answer.Damaged file at) new = ⊥
+
+-- how `deliver` of a message at a moment ends on the disk of an archive
+abbrev pub DeliversTo : Archive → List ℕ → ℕ → Outcome → Option Content → Type 0
+DeliversTo a bytes moment (Answered reply) new = Answers a (delivered a bytes moment) reply new
+DeliversTo a bytes moment (Unopened refusal.DiskFault) new = Unit {0}
+DeliversTo a bytes moment (Unopened refusal.NoMemory) new = ReadsAs a new
+DeliversTo a bytes moment (Unopened refusal.NoArchive) new = ⊥
+DeliversTo a bytes moment (Unopened (refusal.Damaged file at)) new = ⊥
+DeliversTo a bytes moment (Made name) new = ⊥
+DeliversTo a bytes moment Exists new = ⊥
+DeliversTo a bytes moment (Checked entries live next) new = ⊥
+
+-- how `check` ends on the disk of an archive, each of whose entries is a message
+abbrev pub ChecksTo : Archive → Outcome → Option Content → Type 0
+ChecksTo a (Checked entries live next) new = (entries ≡ length a.entries) × (live ≡ length a.entries) × (next ≡ a.next) × IsOwn a new
+ChecksTo a (Unopened refusal.DiskFault) new = Unit {0}
+ChecksTo a (Unopened refusal.NoMemory) new = ReadsAs a new
+ChecksTo a (Unopened refusal.NoArchive) new = ⊥
+ChecksTo a (Unopened (refusal.Damaged file at)) new = ⊥
+ChecksTo a (Made name) new = ⊥
+ChecksTo a Exists new = ⊥
+ChecksTo a (Answered reply) new = ⊥
+
+-- What files that are opened are answered, whether or not they stand for an archive: the refusal of the opening, or what was done with
+-- what was found.
+abbrev pub IsOpenedAs : Files → Outcome → Type 0
+IsOpenedAs files (Unopened why) = Opens files (Err why)
+IsOpenedAs files (Checked entries live next) = (v : View) × Opens files (Ok v) × (entries ≡ length v.entries) × (next ≡ v.root.next)
+IsOpenedAs files (Answered reply) = (v : View) × Opens files (Ok v)
+IsOpenedAs files (Made name) = ⊥
+IsOpenedAs files Exists = ⊥
+
+-- files stand for one of these archives, or for what a delivery to one of them leaves
+abbrev pub RecoversBehind : List (Option Archive) → List ℕ → ℕ → Files → Type 0
+RecoversBehind may bytes moment image = RecoversOf may image ⊎ ((a : Archive) × Contains may (Some a) × Recovers image (delivered a bytes moment).archive)
+
+-- an outcome that tells that the disk failed
+abbrev pub IsFault : Outcome → Type 0
+IsFault o = (o ≡ Answered answer.DiskFault) ⊎ (o ≡ Unopened refusal.DiskFault)
