@@ -54,6 +54,15 @@ impl Index {
         Ok(())
     }
 
+    /// Puts a message, in the place of those with its id and its blob id. For want of memory its blob id alone may be there.
+    pub fn put(&mut self, id: Vec<u8>, blob: ObjectId, owner: Owner) -> Result<(), NoMemory>
+        ensures { OnOk result (Puts self.old self.new id.items blob owner) }
+    {
+        self.blobs.insert(blob.0, owner.number)?;
+        self.owners.insert(id, owner)?;
+        Ok(())
+    }
+
     /// Takes a message away. Behind `insert` of an id and a blob id that were new it has the same as before that.
     pub fn remove(&mut self, id: &[u8], blob: &ObjectId)
         ensures lost { Loses self.old self.new id.now blob.now }

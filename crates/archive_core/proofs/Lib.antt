@@ -2,3 +2,4 @@ mod Counting
 mod Standing
 mod Indexes
 mod Verdicts
+mod Openings

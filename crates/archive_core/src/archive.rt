@@ -1,5 +1,5 @@
 //! An archive on a disk, whose every command is the definition's.
-ghost use Rattle.std.specs.Prelude.{◌≡◌, ◌≤◌, ◌<◌, ◌+◌, ◌^◌, [], length, Err, IfOk, OnOk, OnErr};
+ghost use Rattle.std.specs.Prelude.{◌≡◌, ◌≤◌, ◌<◌, ◌+◌, ◌^◌, [], length, Err, IfOk, OnOk, OnErr, List, Option};
 ghost use Rattle.arch_base.specs.Configs.{IsConfig};
 ghost use Rattle.arch_base.specs.Counts.{Rose};
 ghost use Rattle.disk_model.specs.Disk.{WhereTold, LeavesOnly};
@@ -10,14 +10,19 @@ ghost use Rattle.epoch_file.specs.declared.refusal.StoreRefusal.{StoreRefusal};
 ghost use Rattle.archive_core.specs.Kept.{MayGoIn, TakesWhatMay};
 ghost use Rattle.arch_model.specs.declared.answer.Answer.{Answer};
 ghost use Rattle.epoch_file.specs.Entries.{last_moment};
+ghost use Rattle.arch_model.specs.declared.opening.OpenRefusal.{OpenRefusal};
+ghost use Rattle.epoch_store.specs.Files.{as_read};
+ghost use Rattle.epoch_store.specs.Opens.{RecoversOf, AllRecoverOf, ReadsAs, Opens, OpensWell};
+ghost use Rattle.archive_core.specs.Openings.{RefusesKindly};
 ghost use Rattle.epoch_store.specs.First.{MakingLeaves, MakingAnswers};
 ghost use Rattle.epoch_store.specs.Stores.{IsDiskOf, IsStoreOf, Keeps, HasSizes, RecoversEither, SeesNoDamage};
 ghost use Rattle.epoch_store.specs.declared.refusal.InitRefusal.{InitRefusal};
 ghost use Rattle.archive_core.specs.Commands.{DoneBy, OnRefusal, UnlessFault, IsForCommand, refusal_answer};
 
+use crate::entries::index_of;
 use crate::texts::{put_text, take_text};
-use arch_base::{Config, ObjectId};
-use arch_model::{Answer, Command, Index, Verdict, judge};
+use arch_base::{Config, NoMemory, ObjectId};
+use arch_model::{Answer, Command, Index, OpenRefusal, Verdict, judge};
 use disk_model::Disk;
 use epoch_file::StoreRefusal;
 use epoch_store::{InitRefusal, Store, law_of_stores};
@@ -71,6 +76,40 @@ impl DiskArchive {
             store,
             index: Index::new(alloc),
         })
+    }
+
+    /// Opens the archive on a disk. It syncs first and reads all that the current root names, and only then changes the disk: where the
+    /// other slot is shut it is filled with the current root and left shut, tails are cut, and files that the root doesn't name are
+    /// taken away.
+    ///
+    /// At each moment a crash leaves files that stand for an archive that they might have stood for before. NoArchive comes only where
+    /// no slot is open, and Damaged only where the files that the root names leave their form, with the first place where they do:
+    /// of the root, then of the map, then of the epochs in order; neither comes where the files stand for an archive, and behind
+    /// either all files read as before. DiskFault comes only where the disk's count of faults rose. NoMemory comes only for want of
+    /// memory, and the files still stand for the archive that they stood for.
+    pub fn open<D: Disk>(alloc: Global, disk: &mut D) -> Result<DiskArchive, OpenRefusal>
+        ensures any_moment { (may : List (Option Archive)) → AllRecoverOf may (D.content disk.old) → LeavesOnly D.moment D.left_since disk.old disk.new (RecoversOf may) }
+        ensures answer { WhereTold (λ k. Opens (as_read k) result) (D.content disk.old) }
+        ensures done { (a : Archive) → ReadsAs a (D.content disk.old) → IfOk result (λ opened. IsStoreOf opened a (D.content disk.new)) }
+        ensures well { (a : Archive) → ReadsAs a (D.content disk.old) → OpensWell result }
+        ensures refused { RefusesKindly result (D.content disk.old) (D.content disk.new) }
+        ensures sizes { IfOk result (λ opened. WhereTold (HasSizes opened) (D.content disk.new)) }
+        ensures later { D.faults disk.old ≤ D.faults disk.new }
+        ensures fault { result ≡ Err OpenRefusal.DiskFault → Rose (D.faults disk.old) (D.faults disk.new) }
+    {
+        law_of_stores();
+        let store = match Store::open(alloc, disk) {
+            Ok(store) => store,
+            Err(refusal) => return Err(refusal),
+        };
+        match index_of(alloc, store.stored()) {
+            Ok(index) => Ok(DiskArchive {
+                alloc,
+                store,
+                index,
+            }),
+            Err(NoMemory) => Err(OpenRefusal::NoMemory),
+        }
     }
 
     /// Takes a command at a moment, in seconds since 1970.

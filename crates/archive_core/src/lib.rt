@@ -2,6 +2,7 @@
 #![tactic(auto)]
 
 mod archive;
+mod entries;
 mod texts;
 
 pub use archive::DiskArchive;
