@@ -1,11 +1,12 @@
 -- What is printed of what is due.
-use Rattle.std.proofs.Common.{◌≡◌, ◌≤◌, ◌<◌, inl, inr, ℕ, Bool, true, false, List, [], ◌++◌, length, codes, decimal, Option, Some, None, Err, ◌+◌, refl, sym, ◌∙◌, ap, subst, append_assoc, arith, length-append, if◌then◌else◌}
+use Rattle.std.proofs.Common.{◌≡◌, ◌≤◌, ◌<◌, inl, inr, ℕ, Bool, true, false, List, [], ◌++◌, length, take, codes, decimal, Option, Some, None, Err, ◌+◌, refl, sym, ◌∙◌, ap, subst, append_assoc, arith, length-append, if◌then◌else◌}
 use Rattle.arch_base.specs.declared.config.Config.{Config}
 use Rattle.edge_io.specs.Left.{before, IsUsedUp}
 use Rattle.edge_io.specs.Scripts.{Arrival, IsScript, IsBad}
 use Rattle.line_door.specs.Phrases.{Says}
 use Rattle.line_door.proofs.Acting.{Says-then, Says-first}
-use Rattle.std.proofs.lemmas.List.{append-nil}
+use Rattle.std.proofs.lemmas.List.{append-nil, take_all, length-take}
+use Rattle.std.proofs.Math.Seq.{take-append_seam}
 use Rattle.archive_cli.specs.Words.{IsJob, AsksFor}
 use Rattle.archive_cli.specs.Frames.{line}
 use Rattle.archive_cli.specs.Turns.{World, Transcript, before_stop}
@@ -108,7 +109,26 @@ ran-replayed words config status i j asked (inl r) = ran-printed words r.0 statu
 ran-replayed words config status i j asked (inr r) = inr (inl (record { config = config; asked = asked; status_is = r.0; rose = r.1; taken_is = r.2; lost_kept = r.3 }))
 
 -- what a read that was refused took of the input, behind what was taken before
-pub took-refused : (refused : InputRefusal) (start left left' : Option (List ℕ)) (bytes bytes' : List ℕ) (faults faults' : ℕ) → IsPieceRead (Err refused) left left' bytes bytes' faults faults' → start ≡ before bytes left → length bytes ≤ input_limit → TookAtMost (input_limit + 1) start left'
-took-refused Fault start left left' bytes bytes' faults faults' h read few = record { bytes = bytes; taken = read ∙ ap (before bytes) (sym h.0); few = omega arith }
-took-refused TooLong start left left' bytes bytes' faults faults' h read few = absurd h
-took-refused NoMemory start left left' bytes bytes' faults faults' h read few = record { bytes = bytes ++ h.0; taken = before-before start left left' bytes h.0 read h.1; few = omega (arith, length-append bytes h.0, h.2) }
+pub took-refused : (most : ℕ) (refused : InputRefusal) (start left left' : Option (List ℕ)) (bytes bytes' : List ℕ) (faults faults' : ℕ) → IsPieceRead most (Err refused) left left' bytes bytes' faults faults' → start ≡ before bytes left → length bytes < most → TookAtMost most start left'
+took-refused most Fault start left left' bytes bytes' faults faults' h read few = record { bytes = bytes; taken = read ∙ ap (before bytes) (sym h.0); few = omega (arith, few) }
+took-refused most TooLong start left left' bytes bytes' faults faults' h read few = absurd h
+took-refused most NoMemory start left left' bytes bytes' faults faults' h read few = record { bytes = bytes ++ h.0; taken = before-before start left left' bytes h.0 read h.1; few = omega (arith, length-append bytes h.0, h.2) }
+
+-- what was read of an input that is used up is its front, however much may be read
+pub front-whole : (most : ℕ) (left now : Option (List ℕ)) (bytes : List ℕ) → left ≡ before bytes now → IsUsedUp now → length bytes ≤ most → (input : List ℕ) × IsInput left input × (bytes ≡ take most input)
+front-whole most left now bytes is used few = (bytes, input-whole left now bytes is used, sym (take_all most bytes few))
+
+-- and so is what has its greatest length
+pub front-full : (most : ℕ) (left now : Option (List ℕ)) (bytes : List ℕ) → left ≡ before bytes now → length bytes ≡ most → (input : List ℕ) × IsInput left input × (bytes ≡ take most input)
+front-full most left None bytes is full = (bytes, rw is tt, sym (take_all most bytes (omega (arith, full))))
+front-full most left (Some more) bytes is full = (bytes ++ more, rw is refl, sym (ap (λ (n : ℕ). take n (bytes ++ more)) (sym full) ∙ take-append_seam bytes more))
+
+-- an input whose front is longer than a limit is so too
+pub front-long : (left : Option (List ℕ)) (bytes : List ℕ) (most limit : ℕ) → (input : List ℕ) × IsInput left input × (bytes ≡ take most input) → limit < length bytes → (input : List ℕ) × IsInput left input × (limit < length input)
+front-long left bytes most limit front long = (front.0, front.1, (let size : length bytes ≡ length (take most front.0) = ap (λ (b : List ℕ). length b) front.2 in omega (arith, size, length-take most front.0, long)))
+
+-- and one whose front is shorter than what may be read is the front
+pub front-short : (left : Option (List ℕ)) (bytes : List ℕ) (most : ℕ) → (input : List ℕ) × IsInput left input × (bytes ≡ take most input) → length bytes < most → IsInput left bytes
+front-short left bytes most front short =
+    let size : length bytes ≡ length (take most front.0) = ap (λ (b : List ℕ). length b) front.2 in
+    subst (IsInput left) (sym (front.2 ∙ take_all most front.0 (omega (arith, size, length-take most front.0, short)))) front.1

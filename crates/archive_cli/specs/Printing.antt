@@ -1,9 +1,16 @@
 -- What is printed of what is due, and what is read of the input.
-use Rattle.std.specs.Prelude.{◌≡◌, ◌<◌, ◌≤◌, ◌⊎◌, ◌+◌, ℕ, Bool, List, ◌++◌, length, Option, Result, Ok, Err, if◌then◌else◌}
+use Rattle.std.specs.Prelude.{◌≡◌, ◌<◌, ◌≤◌, ◌⊎◌, ◌+◌, ℕ, Bool, List, [], ◌++◌, length, take, codes, Option, Result, Ok, Err, if◌then◌else◌}
 use Rattle.arch_base.specs.Counts.{Rose}
 use Rattle.arch_base.specs.declared.config.Config.{Config}
 use Rattle.line_door.specs.Phrases.{Says}
-use Rattle.archive_cli.specs.Program.{Edges, IsInput, input_limit, Replays, StopsShort}
+use Rattle.disk_model.specs.Disk.{Files}
+use Rattle.edge_io.specs.Coming.{Moments, IsFirst}
+use Rattle.arch_model.specs.Archives.{Archive}
+use Rattle.archive_cli.specs.DiskCommands.{RecoversBehind}
+use Rattle.archive_cli.specs.Frames.{line}
+use Rattle.archive_cli.specs.declared.words.Job.{Job}
+use Rattle.archive_cli.specs.declared.words.Job.TheVariants.{Init, Deliver}
+use Rattle.archive_cli.specs.Program.{Edges, EndsBy, IsSilent, IsInput, input_limit, Replays, StopsShort}
 use Rattle.edge_io.specs.Left.{before, IsUsedUp}
 use Rattle.archive_cli.specs.declared.reading.Piece.{Piece}
 use Rattle.archive_cli.specs.declared.reading.Piece.TheVariants.{End, More}
@@ -28,16 +35,23 @@ pub record Exactly (words : List ℕ) (status : ℕ) (due_status : ℕ) (printed
 abbrev pub IsReplayDue : Config → List ℕ → ℕ → List ℕ → Type 0
 IsReplayDue config input status printed = Replays config input status printed ⊎ StopsShort config input status printed
 
--- One piece more of the input was put behind the bytes, and they are at most one more than there may be; or none is left; or the
--- source failed, or there was no memory for the piece, which was taken all the same.
-abbrev pub IsPieceRead : Result Piece InputRefusal → Option (List ℕ) → Option (List ℕ) → List ℕ → List ℕ → ℕ → ℕ → Type 0
-IsPieceRead (Ok End) left left' bytes bytes' faults faults' = (left ≡ left') × IsUsedUp left' × (bytes' ≡ bytes)
-IsPieceRead (Ok More) left left' bytes bytes' faults faults' =
-    (piece : List ℕ) × (left ≡ before piece left') × (bytes' ≡ bytes ++ piece) × (0 < length piece) × (length bytes + length piece ≤ input_limit + 1)
-IsPieceRead (Err Fault) left left' bytes bytes' faults faults' = (left' ≡ left) × Rose faults faults'
-IsPieceRead (Err TooLong) left left' bytes bytes' faults faults' = ⊥
-IsPieceRead (Err NoMemory) left left' bytes bytes' faults faults' =
-    (piece : List ℕ) × (left ≡ before piece left') × (length bytes + length piece ≤ input_limit + 1)
+-- One piece more of the input was put behind the bytes, and they are at most so many; or none is left; or the source failed, or
+-- there was no memory for the piece, which was taken all the same.
+abbrev pub IsPieceRead : ℕ → Result Piece InputRefusal → Option (List ℕ) → Option (List ℕ) → List ℕ → List ℕ → ℕ → ℕ → Type 0
+IsPieceRead most (Ok End) left left' bytes bytes' faults faults' = (left ≡ left') × IsUsedUp left' × (bytes' ≡ bytes)
+IsPieceRead most (Ok More) left left' bytes bytes' faults faults' =
+    (piece : List ℕ) × (left ≡ before piece left') × (bytes' ≡ bytes ++ piece) × (0 < length piece) × (length bytes + length piece ≤ most)
+IsPieceRead most (Err Fault) left left' bytes bytes' faults faults' = (left' ≡ left) × Rose faults faults'
+IsPieceRead most (Err TooLong) left left' bytes bytes' faults faults' = ⊥
+IsPieceRead most (Err NoMemory) left left' bytes bytes' faults faults' =
+    (piece : List ℕ) × (left ≡ before piece left') × (length bytes + length piece ≤ most)
+
+-- the first bytes of the input were read, so many or all of it, or the source failed; want of memory is free
+abbrev pub IsFrontRead : ℕ → Option (List ℕ) → ℕ → Result (List ℕ) InputRefusal → ℕ → Type 0
+IsFrontRead most left faults (Ok bytes) faults' = (input : List ℕ) × IsInput left input × (bytes ≡ take most input)
+IsFrontRead most left faults (Err TooLong) faults' = ⊥
+IsFrontRead most left faults (Err Fault) faults' = Rose faults faults'
+IsFrontRead most left faults (Err NoMemory) faults' = Unit {0}
 
 -- the whole input was read, or it is too long, or the source failed; want of memory is free
 abbrev pub IsRead : Option (List ℕ) → ℕ → Result (List ℕ) InputRefusal → ℕ → Type 0
@@ -51,3 +65,35 @@ abbrev pub Replayed : Config → ℕ → Edges → Edges → Type 0
 Replayed config status i j =
     ((input : List ℕ) × IsInput i.left input × Printed (IsReplayDue config input) status i.taken i.lost j.taken j.lost)
     ⊎ ((status ≡ 6) × Rose i.unread j.unread × (j.taken ≡ i.taken) × (j.lost ≡ i.lost))
+
+-- a job over the disk is due to print its outcome
+abbrev pub IsOutcomeDue : Job → List ℕ → Edges → Edges → ℕ → List ℕ → Type 0
+IsOutcomeDue job input i j status printed = EndsBy job input i j status printed
+
+-- nothing was printed, and the disk was left alone, since the clock failed
+abbrev pub MissesMoment : ℕ → Edges → Edges → Type 0
+MissesMoment status i j = IsSilent status i j × Rose i.missed j.missed
+
+-- an archive was to be made: what was due is printed, or the clock failed
+abbrev pub InitDone : Config → ℕ → Edges → Edges → Type 0
+InitDone config status i j = Printed (IsOutcomeDue (Init config) [] i j) status i.taken i.lost j.taken j.lost ⊎ MissesMoment status i j
+
+-- the message of an input was to be delivered: what was due is printed, or the clock failed
+abbrev pub BytesDone : List ℕ → ℕ → Edges → Edges → Type 0
+BytesDone input status i j = Printed (IsOutcomeDue Deliver input i j) status i.taken i.lost j.taken j.lost ⊎ MissesMoment status i j
+
+-- what a crash leaves while a message is delivered at the first moment to come
+abbrev pub BytesLeave : List (Option Archive) → List ℕ → Option Moments → Files → Type 0
+BytesLeave may bytes coming image = (moment : ℕ) × IsFirst moment coming × RecoversBehind may bytes moment image
+
+-- for want of memory the message wasn't read
+pub record IsUnread (i j : Edges) (status : ℕ) (printed : List ℕ) : Type 0 where
+  pub status_is : status ≡ 7
+  pub printed_is : printed ≡ line (codes "12 no memory")
+  pub kept : j.content ≡ i.content
+
+-- the message on the input was to be delivered: what was due is printed; or it wasn't read, or the input failed
+abbrev pub InputDone : ℕ → Edges → Edges → Type 0
+InputDone status i j =
+    ((input : List ℕ) × IsInput i.left input × BytesDone input status i j)
+    ⊎ (Printed (IsUnread i j) status i.taken i.lost j.taken j.lost ⊎ (IsSilent status i j × Rose i.unread j.unread))

@@ -1,17 +1,25 @@
 -- What a run of the program ends with: its status and all that it prints.
-use Rattle.std.specs.Prelude.{◌≡◌, ◌<◌, ◌≤◌, ◌⊎◌, ◌+◌, ℕ, List, [], ◌++◌, length, take, codes, decimal, Option, Some, None, MatchOption}
+use Rattle.std.specs.Prelude.{◌≡◌, ◌<◌, ◌≤◌, ◌⊎◌, ◌+◌, ℕ, min, max, List, [], ◌++◌, length, take, codes, decimal, Option, Some, None, MatchOption}
 use Rattle.arch_base.specs.Counts.{Rose}
 use Rattle.arch_base.specs.declared.config.Config.{Config}
+use Rattle.disk_model.specs.Disk.{Files, Content, WhereTold}
+use Rattle.edge_io.specs.Coming.{Moments, IsFirst}
 use Rattle.edge_io.specs.Taken.{plus}
 use Rattle.edge_io.specs.Left.{before}
 use Rattle.edge_io.specs.Scripts.{Arrival, IsScript, IsBad}
-use Rattle.arch_model.specs.Archives.{empty_archive}
+use Rattle.arch_model.specs.Archives.{Archive, empty_archive}
+use Rattle.epoch_store.specs.Files.{as_read}
+use Rattle.epoch_store.specs.First.{MakingLeaves}
+use Rattle.epoch_store.specs.Opens.{ReadsAs}
+use Rattle.archive_cli.specs.DiskCommands.{HasRoom, Makes, DeliversTo, ChecksTo, IsOpenedAs, IsFault, RecoversBehind}
+use Rattle.archive_cli.specs.Outcomes.{outcome_line, status_of}
 use Rattle.archive_cli.specs.Words.{IsJob, AsksFor}
 use Rattle.archive_cli.specs.Frames.{line}
 use Rattle.archive_cli.specs.Turns.{World, Transcript, before_stop}
 use Rattle.archive_cli.specs.Plays.{PlaysSome}
 use Rattle.archive_cli.specs.declared.words.Job.{Job}
-use Rattle.archive_cli.specs.declared.words.Job.TheVariants.{Help, Version, Replay}
+use Rattle.archive_cli.specs.declared.words.Job.TheVariants.{Help, Version, Replay, Init, Deliver, Check}
+use Rattle.archive_cli.specs.declared.outcome.Outcome.{Outcome}
 use Rattle.archive_cli.specs.declared.texts.TheConstants.{HELP, VERSION}
 
 -- a script begins with an empty archive and without a session
@@ -21,6 +29,10 @@ start config = record { session = None; archive = empty_archive config }
 -- the greatest length of a script
 abbrev pub input_limit : ℕ
 input_limit = 268435456
+
+-- the greatest length of a message that is read
+abbrev pub message_limit : ℕ
+message_limit = 9000001
 
 -- the input is too long
 pub record IsTooLong (input : List ℕ) (status : ℕ) (printed : List ℕ) : Type 0 where
@@ -49,18 +61,73 @@ pub record IsPlayed (config : Config) (input : List ℕ) (status : ℕ) (printed
 abbrev pub Replays : Config → List ℕ → ℕ → List ℕ → Type 0
 Replays config input status printed = IsTooLong input status printed ⊎ (IsBadScript input status printed ⊎ IsPlayed config input status printed)
 
+-- the input that is left, what the output took, the moments to come, what the disk holds, and how often each failed
+pub record Edges : Type 0 where
+  pub left : Option (List ℕ)
+  pub unread : ℕ
+  pub taken : Option (List ℕ)
+  pub lost : ℕ
+  pub coming : Option Moments
+  pub missed : ℕ
+  pub content : Option Content
+  pub broken : ℕ
+
+-- the edges of a job that has no disk
+abbrev pub edges : Option (List ℕ) → ℕ → Option (List ℕ) → ℕ → Edges
+edges left unread taken lost = record { left = left; unread = unread; taken = taken; lost = lost; coming = None; missed = 0; content = None; broken = 0 }
+
+-- the edges of a run
+abbrev pub all_edges : Option (List ℕ) → ℕ → Option (List ℕ) → ℕ → Option Moments → ℕ → Option Content → ℕ → Edges
+all_edges left unread taken lost coming missed content broken =
+    record { left = left; unread = unread; taken = taken; lost = lost; coming = coming; missed = missed; content = content; broken = broken }
+
+-- the settings of an archive that is made at a moment: since when it is there, at least 1 and at most the greatest number of 32 bits
+abbrev pub made_at : Config → ℕ → Config
+made_at config moment = record { name = config.name; limit = config.limit; slice = config.slice; max = config.max; mirror = config.mirror; born = max 1 (min moment 4294967295) }
+
+-- the message on an input
+abbrev pub message_of : List ℕ → List ℕ
+message_of input = take message_limit input
+
+-- how a job over the archive on a disk ended: by what the disk held before, and what it holds
+abbrev pub ActsBy : Job → List ℕ → ℕ → Option Content → Option Content → Outcome → Type 0
+ActsBy (Init config) input moment old new o = Makes (made_at config moment) o old new
+ActsBy Deliver input moment old new o =
+    ((a : Archive) → ReadsAs a old → HasRoom old → DeliversTo a (message_of input) moment o new) × WhereTold (λ k. IsOpenedAs (as_read k) o) old
+ActsBy Check input moment old new o = ((a : Archive) → ReadsAs a old → ChecksTo a o new) × WhereTold (λ k. IsOpenedAs (as_read k) o) old
+ActsBy Help input moment old new o = ⊥
+ActsBy Version input moment old new o = ⊥
+ActsBy (Replay config) input moment old new o = ⊥
+
+-- the same, at the first moment to come; the disk failed only where its count rose
+pub record Acts (job : Job) (input : List ℕ) (i j : Edges) (o : Outcome) : Type 0 where
+  pub moment : ℕ
+  pub first : IsFirst moment i.coming
+  pub acts : ActsBy job input moment i.content j.content o
+  pub fault : IsFault o → Rose i.broken j.broken
+
+-- what a job over the archive on a disk ends with
+pub record EndsBy (job : Job) (input : List ℕ) (i j : Edges) (status : ℕ) (printed : List ℕ) : Type 0 where
+  pub outcome : Outcome
+  pub acts : Acts job input i j outcome
+  pub status_is : status ≡ status_of outcome
+  pub printed_is : printed ≡ line (outcome_line outcome)
+
 -- what a job on an input ends with
-abbrev pub Ends : Option Job → List ℕ → ℕ → List ℕ → Type 0
-Ends None input status printed = (status ≡ 2) × (printed ≡ line (codes "words not read"))
-Ends (Some Help) input status printed = (status ≡ 0) × (printed ≡ HELP.now)
-Ends (Some Version) input status printed = (status ≡ 0) × (printed ≡ VERSION.now)
-Ends (Some (Replay config)) input status printed = Replays config input status printed
+abbrev pub Ends : Option Job → List ℕ → Edges → Edges → ℕ → List ℕ → Type 0
+Ends None input i j status printed = (status ≡ 2) × (printed ≡ line (codes "words not read"))
+Ends (Some Help) input i j status printed = (status ≡ 0) × (printed ≡ HELP.now)
+Ends (Some Version) input i j status printed = (status ≡ 0) × (printed ≡ VERSION.now)
+Ends (Some (Replay config)) input i j status printed = Replays config input status printed
+Ends (Some (Init config)) input i j status printed = EndsBy (Init config) input i j status printed
+Ends (Some Deliver) input i j status printed = EndsBy Deliver input i j status printed
+Ends (Some Check) input i j status printed = EndsBy Check input i j status printed
 
 -- what a run of words on an input ends with, by the rules
-pub record Does (words : List (List ℕ)) (input : List ℕ) (status : ℕ) (printed : List ℕ) : Type 0 where
+pub record Does (words : List (List ℕ)) (input : List ℕ) (i j : Edges) (status : ℕ) (printed : List ℕ) : Type 0 where
   pub job : Option Job
   pub asked : IsJob words job
-  pub ends : Ends job input status printed
+  pub ends : Ends job input i j status printed
 
 -- a script ran out of memory behind some of its events
 pub record PlaysPart (config : Config) (input : List ℕ) (frames : List ℕ) : Type 0 where
@@ -77,46 +144,64 @@ pub record StopsShort (config : Config) (input : List ℕ) (status : ℕ) (print
   pub played : (frames ≡ []) ⊎ PlaysPart config input frames
   pub printed_is : printed ≡ frames ++ line (codes "12 no memory")
 
-pub record RunsOut (words : List (List ℕ)) (input : List ℕ) (status : ℕ) (printed : List ℕ) : Type 0 where
+pub record ReplayRunsOut (words : List (List ℕ)) (input : List ℕ) (status : ℕ) (printed : List ℕ) : Type 0 where
   pub config : Config
   pub asked : AsksFor words (Replay config)
   pub stops : StopsShort config input status printed
 
+-- For want of memory a message isn't read, and the disk is left alone.
+pub record DeliverRunsOut (words : List (List ℕ)) (i j : Edges) (status : ℕ) (printed : List ℕ) : Type 0 where
+  pub asked : AsksFor words Deliver
+  pub status_is : status ≡ 7
+  pub printed_is : printed ≡ line (codes "12 no memory")
+  pub kept : j.content ≡ i.content
+
+abbrev pub RunsOut : List (List ℕ) → List ℕ → Edges → Edges → ℕ → List ℕ → Type 0
+RunsOut words input i j status printed = ReplayRunsOut words input status printed ⊎ DeliverRunsOut words i j status printed
+
 -- what a run is to print, and the status where all of it is taken
-abbrev pub IsDue : List (List ℕ) → List ℕ → ℕ → List ℕ → Type 0
-IsDue words input status printed = Does words input status printed ⊎ RunsOut words input status printed
+abbrev pub IsDue : List (List ℕ) → List ℕ → Edges → Edges → ℕ → List ℕ → Type 0
+IsDue words input i j status printed = Does words input i j status printed ⊎ RunsOut words input i j status printed
 
 -- bytes are the input, where the source tells it
 abbrev pub IsInput : Option (List ℕ) → List ℕ → Type 0
 IsInput left input = MatchOption left (Unit {0}) (λ bytes. bytes ≡ input)
-
--- what is outside: the input that is left, what the output took, and how often each failed
-pub record Edges : Type 0 where
-  pub left : Option (List ℕ)
-  pub unread : ℕ
-  pub taken : Option (List ℕ)
-  pub lost : ℕ
-
-abbrev pub edges : Option (List ℕ) → ℕ → Option (List ℕ) → ℕ → Edges
-edges left unread taken lost = record { left = left; unread = unread; taken = taken; lost = lost }
 
 -- all was printed, and no write failed
 pub record IsPrinted (words : List (List ℕ)) (status : ℕ) (i j : Edges) : Type 0 where
   pub input : List ℕ
   pub told : IsInput i.left input
   pub printed : List ℕ
-  pub due : IsDue words input status printed
+  pub due : IsDue words input i j status printed
   pub taken_is : j.taken ≡ plus i.taken printed
   pub lost_kept : j.lost ≡ i.lost
 
--- the input failed: its count rose, and nothing was printed
-pub record InputFailed (words : List (List ℕ)) (status : ℕ) (i j : Edges) : Type 0 where
-  pub config : Config
-  pub asked : AsksFor words (Replay config)
+-- words ask for a job that reads the input
+abbrev pub AsksForInput : List (List ℕ) → Type 0
+AsksForInput words = ((config : Config) × AsksFor words (Replay config)) ⊎ AsksFor words Deliver
+
+-- words ask for a job that reads the clock
+abbrev pub AsksForMoment : List (List ℕ) → Type 0
+AsksForMoment words = ((config : Config) × AsksFor words (Init config)) ⊎ AsksFor words Deliver
+
+-- nothing was printed, and the disk was left alone
+pub record IsSilent (status : ℕ) (i j : Edges) : Type 0 where
   pub status_is : status ≡ 6
-  pub rose : Rose i.unread j.unread
   pub taken_is : j.taken ≡ i.taken
   pub lost_kept : j.lost ≡ i.lost
+  pub kept : j.content ≡ i.content
+
+-- the input failed: its count rose, and nothing was done
+pub record InputFailed (words : List (List ℕ)) (status : ℕ) (i j : Edges) : Type 0 where
+  pub asked : AsksForInput words
+  pub rose : Rose i.unread j.unread
+  pub silent : IsSilent status i j
+
+-- the clock failed: its count rose, and nothing was done
+pub record ClockFailed (words : List (List ℕ)) (status : ℕ) (i j : Edges) : Type 0 where
+  pub asked : AsksForMoment words
+  pub rose : Rose i.missed j.missed
+  pub silent : IsSilent status i j
 
 -- the output failed: its count rose, and a prefix of what was due was printed
 pub record OutputFailed (words : List (List ℕ)) (status : ℕ) (i j : Edges) : Type 0 where
@@ -126,13 +211,13 @@ pub record OutputFailed (words : List (List ℕ)) (status : ℕ) (i j : Edges) :
   pub told : IsInput i.left input
   pub due_status : ℕ
   pub printed : List ℕ
-  pub due : IsDue words input due_status printed
+  pub due : IsDue words input i j due_status printed
   pub count : ℕ
   pub taken_is : j.taken ≡ plus i.taken (take count printed)
 
 -- how a run of words ends, from the outside as it was to the outside as it is
 abbrev pub Ran : List (List ℕ) → ℕ → Edges → Edges → Type 0
-Ran words status i j = IsPrinted words status i j ⊎ (InputFailed words status i j ⊎ OutputFailed words status i j)
+Ran words status i j = IsPrinted words status i j ⊎ (InputFailed words status i j ⊎ (ClockFailed words status i j ⊎ OutputFailed words status i j))
 
 -- at most so many bytes were taken off the front of what was left, where that is told
 pub record TookAtMost (most : ℕ) (old new : Option (List ℕ)) : Type 0 where
@@ -140,7 +225,22 @@ pub record TookAtMost (most : ℕ) (old new : Option (List ℕ)) : Type 0 where
   pub taken : old ≡ before bytes new
   pub few : length bytes ≤ most
 
--- Only a script is read, up to one byte more than the greatest length; for any other words the input is left alone.
+-- Only a script is read, up to one byte more than the greatest length, or a message; for any other words the input is left alone.
 abbrev pub TakesInput : List (List ℕ) → Option (List ℕ) → ℕ → Option (List ℕ) → ℕ → Type 0
 TakesInput words left unread left' unread' =
-    ((left' ≡ left) × (unread' ≡ unread)) ⊎ ((config : Config) × AsksFor words (Replay config) × TookAtMost (input_limit + 1) left left' × (unread ≤ unread'))
+    ((left' ≡ left) × (unread' ≡ unread))
+    ⊎ (((config : Config) × AsksFor words (Replay config) × TookAtMost (input_limit + 1) left left' × (unread ≤ unread'))
+    ⊎ (AsksFor words Deliver × TookAtMost message_limit left left' × (unread ≤ unread')))
+
+-- What a crash leaves while an archive is made at the first moment to come.
+abbrev pub InitLeaves : Config → Option Moments → Option Content → Files → Type 0
+InitLeaves config coming old image = (moment : ℕ) × IsFirst moment coming × MakingLeaves (empty_archive (made_at config moment)) old image
+
+-- What a crash leaves while the message on the input is delivered at the first moment to come: one of the archives that the disk may
+-- have stood for, or the one that the delivery leaves.
+abbrev pub DeliverLeaves : List (Option Archive) → Option (List ℕ) → Option Moments → Files → Type 0
+DeliverLeaves may left coming image = (input : List ℕ) × IsInput left input × ((moment : ℕ) × IsFirst moment coming × RecoversBehind may (message_of input) moment image)
+
+-- words ask for a job that has no disk
+abbrev pub LeavesDisk : List (List ℕ) → Type 0
+LeavesDisk words = ((config : Config) → AsksFor words (Init config) → ⊥) × (AsksFor words Deliver → ⊥) × (AsksFor words Check → ⊥)

@@ -35,12 +35,7 @@ pub(crate) fn make<D: Disk>(alloc: Global, disk: &mut D, config: &Config) -> Out
 }
 
 /// Delivers a message to the archive on a disk at a moment, in seconds since 1970.
-pub(crate) fn deliver<D: Disk>(
-    alloc: Global,
-    disk: &mut D,
-    bytes: &[u8],
-    moment: u64,
-) -> Outcome
+pub(crate) fn deliver<D: Disk>(alloc: Global, disk: &mut D, bytes: &[u8], moment: u64) -> Outcome
     requires moment { moment ≤ last_moment }
     ensures any_moment { (may : List (Option Archive)) → AllRecoverOf may (D.content disk.old) → HasRoom (D.content disk.old)
         → LeavesOnly D.moment D.left_since disk.old disk.new (RecoversBehind may bytes.now moment) }

@@ -19,11 +19,7 @@ pub(crate) enum Outcome {
     /// There is an archive already.
     Exists,
     /// All of it was read: so many entries and messages it has, and this is the number of the next one.
-    Checked {
-        entries: u64,
-        live: u32,
-        next: u32,
-    },
+    Checked { entries: u64, live: u32, next: u32 },
     /// A command was answered.
     Answered(Answer),
     /// The archive was not opened.

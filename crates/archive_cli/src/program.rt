@@ -1,38 +1,182 @@
 //! What the program does: all of it, over a handed-in input and output.
-ghost use Rattle.std.specs.Prelude.{◌≡◌, ◌≤◌, ◌+◌, ◌++◌, ◌∷◌, [], ℕ, List, length, codes, decimal};
-ghost use Rattle.archive_cli.specs.Words.{spelled};
+ghost use Rattle.std.specs.Prelude.{◌≡◌, ◌≤◌, ◌+◌, ◌++◌, ◌∷◌, [], ℕ, List, Option, None, length, codes, decimal};
+ghost use Rattle.disk_model.specs.Disk.{LeavesOnly};
+ghost use Rattle.arch_model.specs.Archives.{Archive};
+ghost use Rattle.epoch_store.specs.Opens.{AllRecoverOf, RecoversOf};
+ghost use Rattle.archive_cli.specs.Words.{spelled, AsksFor};
+ghost use Rattle.archive_cli.specs.declared.words.Job.TheVariants.{Init, Deliver, Check};
+ghost use Rattle.arch_base.specs.declared.config.Config.{Config};
+ghost use Rattle.archive_cli.specs.DiskCommands.{HasRoom};
+ghost use Rattle.archive_cli.specs.Outcomes.{outcome_line, status_of};
 ghost use Rattle.archive_cli.specs.Frames.{line};
-ghost use Rattle.archive_cli.specs.Program.{Ran, TakesInput, TookAtMost, edges, input_limit};
-ghost use Rattle.archive_cli.specs.Printing.{Printed, Exactly, IsReplayDue, Replayed};
+ghost use Rattle.archive_cli.specs.Program.{Ran, TakesInput, TookAtMost, LeavesDisk, InitLeaves, DeliverLeaves, all_edges, edges, input_limit, message_limit, message_of, made_at};
+ghost use Rattle.archive_cli.specs.Printing.{Printed, Exactly, IsReplayDue, Replayed, InitDone, InputDone, BytesDone, BytesLeave};
 ghost use Rattle.arch_base.specs.Configs.{IsConfig};
 ghost use Rattle.edge_io.specs.Scripts.{IsScript};
 
+use crate::disk_commands::{check, deliver, make};
+use crate::outcome::Outcome;
 use crate::player::Player;
-use crate::reading::{InputRefusal, read_input};
+use crate::reading::{InputRefusal, read_input, read_message};
 use crate::texts::{HELP, VERSION};
 use crate::words::{Job, read_words};
 use arch_base::{Bytes, Config, NoMemory};
-use edge_io::{Script, ScriptRefusal, Sink, Source, script};
+use disk_model::Disk;
+use edge_io::{Clock, ClockFault, Script, ScriptRefusal, Sink, Source, script};
 use itoa::Buffer;
 use line_door::say;
 use std::alloc::Global;
 
-/// Does what the words say, and gives the status to end with: 0 where it is done, 2 where the words aren't in the grammar, 6 where
-/// the input or the output failed, 7 where there was no memory, and 9 where the input is too long or no script. What is printed is
-/// the definition's, whole, or after a failure of the output a prefix of it.
-pub fn run<S: Source, O: Sink>(alloc: Global, words: &[&str], input: &mut S, out: &mut O) -> u8
-    ensures ends { Ran (spelled words.now) result
-        (edges (S.left input.old) (S.faults input.old) (O.taken out.old) (O.faults out.old))
-        (edges (S.left input.new) (S.faults input.new) (O.taken out.new) (O.faults out.new)) }
+/// Does what the words say over the disk, and gives the status to end with and the disk: 0 where it is done, 1 where a message is
+/// refused, 2 where the words aren't in the grammar, 3 where there is no archive, or one already, or a damaged one, 4 where the
+/// disk failed, 6 where the input, the clock or the output failed, 7 where there was no memory, and 9 where the input is too long or
+/// no script. What is printed is the definition's, whole, or after a failure of the output a prefix of it.
+pub fn run<D: Disk, S: Source, O: Sink, C: Clock>(
+    alloc: Global,
+    words: &[&str],
+    disk: D,
+    input: &mut S,
+    out: &mut O,
+    clock: &mut C,
+) -> (u8, D)
+    ensures ends { Ran (spelled words.now) result.0
+        (all_edges (S.left input.old) (S.faults input.old) (O.taken out.old) (O.faults out.old) (C.coming clock.old) (C.faults clock.old) (D.content disk) (D.faults disk))
+        (all_edges (S.left input.new) (S.faults input.new) (O.taken out.new) (O.faults out.new) (C.coming clock.new) (C.faults clock.new) (D.content result.1) (D.faults result.1)) }
     ensures input { TakesInput (spelled words.now) (S.left input.old) (S.faults input.old) (S.left input.new) (S.faults input.new) }
     ensures sink { O.alike out.old out.new }
+    ensures disk { LeavesDisk (spelled words.now) → result.1 ≡ disk }
+    // Whatever crash comes while an archive is made: what might have been left before, no archive, or that one.
+    ensures init { (config : Config) → AsksFor (spelled words.now) (Init config) → LeavesOnly D.moment D.left_since disk result.1 (InitLeaves config (C.coming clock.old) (D.content disk)) }
+    // Whatever crash comes while a message is delivered: an archive that the disk may have stood for, or the one with the message.
+    ensures deliver { (may : List (Option Archive)) → AsksFor (spelled words.now) Deliver → AllRecoverOf may (D.content disk) → HasRoom (D.content disk)
+        → LeavesOnly D.moment D.left_since disk result.1 (DeliverLeaves may (S.left input.old) (C.coming clock.old)) }
+    // Whatever crash comes while an archive is checked: one that the disk may have stood for.
+    ensures check { (may : List (Option Archive)) → AsksFor (spelled words.now) Check → AllRecoverOf may (D.content disk) → LeavesOnly D.moment D.left_since disk result.1 (RecoversOf may) }
+{
+    let mut disk = disk;
+    let status = act(alloc, words, &mut disk, input, out, clock);
+    (status, disk)
+}
+
+/// Does what the words say over the disk, and gives the status to end with.
+fn act<D: Disk, S: Source, O: Sink, C: Clock>(
+    alloc: Global,
+    words: &[&str],
+    disk: &mut D,
+    input: &mut S,
+    out: &mut O,
+    clock: &mut C,
+) -> u8
+    ensures ends { Ran (spelled words.now) result
+        (all_edges (S.left input.old) (S.faults input.old) (O.taken out.old) (O.faults out.old) (C.coming clock.old) (C.faults clock.old) (D.content disk.old) (D.faults disk.old))
+        (all_edges (S.left input.new) (S.faults input.new) (O.taken out.new) (O.faults out.new) (C.coming clock.new) (C.faults clock.new) (D.content disk.new) (D.faults disk.new)) }
+    ensures input { TakesInput (spelled words.now) (S.left input.old) (S.faults input.old) (S.left input.new) (S.faults input.new) }
+    ensures sink { O.alike out.old out.new }
+    ensures disk { LeavesDisk (spelled words.now) → disk.new ≡ disk.old }
+    // Whatever crash comes while an archive is made: what might have been left before, no archive, or that one.
+    ensures init { (config : Config) → AsksFor (spelled words.now) (Init config) → LeavesOnly D.moment D.left_since disk.old disk.new (InitLeaves config (C.coming clock.old) (D.content disk.old)) }
+    // Whatever crash comes while a message is delivered: an archive that the disk may have stood for, or the one with the message.
+    ensures deliver { (may : List (Option Archive)) → AsksFor (spelled words.now) Deliver → AllRecoverOf may (D.content disk.old) → HasRoom (D.content disk.old)
+        → LeavesOnly D.moment D.left_since disk.old disk.new (DeliverLeaves may (S.left input.old) (C.coming clock.old)) }
+    // Whatever crash comes while an archive is checked: one that the disk may have stood for.
+    ensures check { (may : List (Option Archive)) → AsksFor (spelled words.now) Check → AllRecoverOf may (D.content disk.old) → LeavesOnly D.moment D.left_since disk.old disk.new (RecoversOf may) }
 {
     match read_words(words) {
         None => print(b"words not read\n", 2, out),
         Some(Job::Help) => print(HELP.as_bytes(), 0, out),
         Some(Job::Version) => print(VERSION.as_bytes(), 0, out),
         Some(Job::Replay { config }) => replay(alloc, config, input, out),
+        Some(Job::Init { config }) => init(alloc, config, disk, out, clock),
+        Some(Job::Deliver) => deliver_input(alloc, disk, input, out, clock),
+        Some(Job::Check) => print_outcome(&check(alloc, disk), out),
     }
+}
+
+/// Makes an archive of these settings on the disk, since the clock's moment.
+fn init<D: Disk, O: Sink, C: Clock>(
+    alloc: Global,
+    config: Config,
+    disk: &mut D,
+    out: &mut O,
+    clock: &mut C,
+) -> u8
+    requires { IsConfig config }
+    ensures ends { InitDone config result
+        (all_edges None 0 (O.taken out.old) (O.faults out.old) (C.coming clock.old) (C.faults clock.old) (D.content disk.old) (D.faults disk.old))
+        (all_edges None 0 (O.taken out.new) (O.faults out.new) (C.coming clock.new) (C.faults clock.new) (D.content disk.new) (D.faults disk.new)) }
+    ensures any_moment { LeavesOnly D.moment D.left_since disk.old disk.new (InitLeaves config (C.coming clock.old) (D.content disk.old)) }
+    ensures sink { O.alike out.old out.new }
+{
+    let moment = match clock.now() {
+        Ok(moment) => moment,
+        Err(ClockFault) => return 6,
+    };
+    let config = config_at(config, moment);
+    print_outcome(&make(alloc, disk, &config), out)
+}
+
+/// The settings of an archive that is made at a moment.
+fn config_at(config: Config, moment: u64) -> Config
+    ensures at { result ≡ made_at config moment }
+    ensures valid { IsConfig config → IsConfig result }
+{
+    let mut config = config;
+    config.born = moment.min(4_294_967_295).max(1) as u32;
+    config
+}
+
+/// Delivers the message on the input to the archive on the disk, at the clock's moment.
+fn deliver_input<D: Disk, S: Source, O: Sink, C: Clock>(
+    alloc: Global,
+    disk: &mut D,
+    input: &mut S,
+    out: &mut O,
+    clock: &mut C,
+) -> u8
+    ensures ends { InputDone result
+        (all_edges (S.left input.old) (S.faults input.old) (O.taken out.old) (O.faults out.old) (C.coming clock.old) (C.faults clock.old) (D.content disk.old) (D.faults disk.old))
+        (all_edges (S.left input.new) (S.faults input.new) (O.taken out.new) (O.faults out.new) (C.coming clock.new) (C.faults clock.new) (D.content disk.new) (D.faults disk.new)) }
+    ensures later { S.faults input.old ≤ S.faults input.new }
+    ensures few { TookAtMost message_limit (S.left input.old) (S.left input.new) }
+    ensures any_moment { (may : List (Option Archive)) → AllRecoverOf may (D.content disk.old) → HasRoom (D.content disk.old)
+        → LeavesOnly D.moment D.left_since disk.old disk.new (DeliverLeaves may (S.left input.old) (C.coming clock.old)) }
+    ensures sink { O.alike out.old out.new }
+{
+    match read_message(alloc, input) {
+        Err(InputRefusal::Fault) => 6,
+        Err(_refused) => print_no_memory(out),
+        Ok(bytes) => deliver_bytes(alloc, disk, bytes.as_slice(), out, clock),
+    }
+}
+
+/// Delivers a message to the archive on the disk, at the clock's moment.
+fn deliver_bytes<D: Disk, O: Sink, C: Clock>(
+    alloc: Global,
+    disk: &mut D,
+    bytes: &[u8],
+    out: &mut O,
+    clock: &mut C,
+) -> u8
+    ensures ends { (input : List ℕ) → bytes.now ≡ message_of input → BytesDone input result
+        (all_edges None 0 (O.taken out.old) (O.faults out.old) (C.coming clock.old) (C.faults clock.old) (D.content disk.old) (D.faults disk.old))
+        (all_edges None 0 (O.taken out.new) (O.faults out.new) (C.coming clock.new) (C.faults clock.new) (D.content disk.new) (D.faults disk.new)) }
+    ensures any_moment { (may : List (Option Archive)) → AllRecoverOf may (D.content disk.old) → HasRoom (D.content disk.old)
+        → LeavesOnly D.moment D.left_since disk.old disk.new (BytesLeave may bytes.now (C.coming clock.old)) }
+    ensures sink { O.alike out.old out.new }
+{
+    let moment = match clock.now() {
+        Ok(moment) => moment,
+        Err(ClockFault) => return 6,
+    };
+    print_outcome(&deliver(alloc, disk, bytes, moment), out)
+}
+
+/// Prints how a command over the disk ended, and gives the status of that.
+fn print_outcome<O: Sink>(outcome: &Outcome, out: &mut O) -> u8
+    ensures printed { Printed (Exactly (line (outcome_line outcome.now)) (status_of outcome.now)) result (O.taken out.old) (O.faults out.old) (O.taken out.new) (O.faults out.new) }
+    ensures sink { O.alike out.old out.new }
+{
+    if outcome.say(out) { outcome.status() } else { 6 }
 }
 
 /// Runs the script on the input over an empty archive of these settings.

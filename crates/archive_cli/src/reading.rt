@@ -1,7 +1,7 @@
 //! The input, read to its end.
 ghost use Rattle.std.specs.Prelude.{◌≡◌, ◌≤◌, ◌<◌, ◌+◌, ℕ, IfOk, length};
-ghost use Rattle.archive_cli.specs.Program.{TookAtMost, input_limit};
-ghost use Rattle.archive_cli.specs.Printing.{IsRead, IsPieceRead};
+ghost use Rattle.archive_cli.specs.Program.{TookAtMost, input_limit, message_limit};
+ghost use Rattle.archive_cli.specs.Printing.{IsRead, IsFrontRead, IsPieceRead};
 
 use arch_base::{Bytes, NoMemory};
 use edge_io::{Source, SourceFault};
@@ -25,6 +25,9 @@ pub enum InputRefusal {
 /// The greatest length of an input.
 const INPUT_LIMIT: usize = 268_435_456;
 
+/// The greatest length of a message that is read: one byte more than a message may have.
+const MESSAGE_LIMIT: usize = 9_000_001;
+
 /// How many bytes are asked for at once.
 const BUFFER_LEN: usize = 65_536;
 
@@ -34,18 +37,40 @@ pub(crate) fn read_input<S: Source>(alloc: Global, input: &mut S) -> Result<Byte
     ensures later { S.faults input.old ≤ S.faults input.new }
     ensures few { TookAtMost (input_limit + 1) (S.left input.old) (S.left input.new) }
 {
+    match read_up_to(alloc, input, INPUT_LIMIT + 1) {
+        Err(refused) => Err(refused),
+        Ok(bytes) if bytes.as_slice().len() > INPUT_LIMIT => Err(InputRefusal::TooLong),
+        Ok(bytes) => Ok(bytes),
+    }
+}
+
+/// A message on the input: its first 9,000,001 bytes. What follows is left unread.
+pub(crate) fn read_message<S: Source>(alloc: Global, input: &mut S) -> Result<Bytes, InputRefusal>
+    ensures read { IsFrontRead message_limit (S.left input.old) (S.faults input.old) result (S.faults input.new) }
+    ensures later { S.faults input.old ≤ S.faults input.new }
+    ensures few { TookAtMost message_limit (S.left input.old) (S.left input.new) }
+{
+    read_up_to(alloc, input, MESSAGE_LIMIT)
+}
+
+/// The first bytes of the input, at most so many: all of it where it has no more.
+fn read_up_to<S: Source>(alloc: Global, input: &mut S, most: usize) -> Result<Bytes, InputRefusal>
+    ensures read { IsFrontRead most (S.left input.old) (S.faults input.old) result (S.faults input.new) }
+    ensures later { S.faults input.old ≤ S.faults input.new }
+    ensures few { TookAtMost most (S.left input.old) (S.left input.new) }
+{
     let Ok(mut buffer) = new_buffer(alloc) else {
         return Err(InputRefusal::NoMemory);
     };
     let mut bytes = Bytes::new(alloc);
-    'pieces: while bytes.as_slice().len() <= INPUT_LIMIT {
-        match read_piece(input, buffer.as_mut_slice(), &mut bytes) {
+    'pieces: while bytes.as_slice().len() < most {
+        match read_piece(input, buffer.as_mut_slice(), &mut bytes, most) {
             Err(refused) => return Err(refused),
             Ok(Piece::End) => return Ok(bytes),
             Ok(Piece::More) => {}
         }
     }
-    Err(InputRefusal::TooLong)
+    Ok(bytes)
 }
 
 /// What one read of the input came to.
@@ -56,19 +81,20 @@ enum Piece {
     More,
 }
 
-/// Puts one piece more of the input behind the bytes, and at most one byte more than there may be in all. Where there is no memory
-/// for it, the bytes stay.
+/// Puts one piece more of the input behind the bytes, so that they are at most so many in all. Where there is no memory for it,
+/// the bytes stay.
 fn read_piece<S: Source>(
     input: &mut S,
     buffer: &mut [u8],
     bytes: &mut Bytes,
+    most: usize,
 ) -> Result<Piece, InputRefusal>
     requires buffer { 0 < length buffer.old }
-    requires room { length bytes.old ≤ input_limit }
-    ensures read { IsPieceRead result (S.left input.old) (S.left input.new) bytes.old bytes.new (S.faults input.old) (S.faults input.new) }
+    requires room { length bytes.old < most }
+    ensures read { IsPieceRead most result (S.left input.old) (S.left input.new) bytes.old bytes.new (S.faults input.old) (S.faults input.new) }
     ensures later { S.faults input.old ≤ S.faults input.new }
 {
-    let room = (INPUT_LIMIT + 1 - bytes.as_slice().len()).min(buffer.len());
+    let room = (most - bytes.as_slice().len()).min(buffer.len());
     let into = buffer.split_at_mut(room).0;
     match input.read(into) {
         Err(SourceFault) => Err(InputRefusal::Fault),

@@ -1,14 +1,14 @@
 use Rattle.std.proofs.Common.{◌≡◌, ◌≤◌, ◌-◌, length}
 use Rattle.edge_io.specs.Left.{before}
-use Rattle.archive_cli.proofs.reading.read_input.Given as goal
+use Rattle.archive_cli.proofs.reading.read_up_to.Given as goal
 
 abbrev pub invariant-pieces : goal.invariant-pieces
 invariant-pieces g l = record {
   read : g.S.Source.left l.fn.input ≡ before l.bytes (g.S.Source.left l.input);
   later : g.S.Source.faults l.fn.input ≤ g.S.Source.faults l.input;
   buffer : length l.buffer.items ≡ 65536;
-  few : length l.bytes ≤ 268435457;
+  few : length l.bytes ≤ l.fn.most;
 }
 
 abbrev pub decreases-pieces : goal.decreases-pieces
-decreases-pieces g l = 268435457 - length l.bytes
+decreases-pieces g l = l.fn.most - length l.bytes
