@@ -10,3 +10,5 @@ pub mod EpochSteps
 pub mod FirstChoice
 mod Texts
 pub mod EpochLemmas
+pub mod ValidArchives
+mod Following

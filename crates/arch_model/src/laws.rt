@@ -1,4 +1,5 @@
-//! What holds of commands, for every archive, message and moment.
+//! What holds of commands, for every archive, message and moment, and of archives that follow one another.
+ghost use Rattle.arch_model.specs.Following.{FollowsItself, FollowsThrough, FollowsWithEntry, NumbersStay};
 ghost use Rattle.arch_model.specs.Laws.{FirstDecides, KeepsNumbers, StaysNumbered, ShowsDelivered};
 
 /// A delivery leaves each number with its text.
@@ -20,4 +21,13 @@ pub fn delivered_is_shown()
 /// a made id free.
 pub fn first_candidate_decides()
     ensures { FirstDecides }
+{}
+
+/// An archive with one more entry follows, and what follows shows by an old number what was shown by it, or nothing.
+#[tactic(auto, using(crate::proofs::Following::follows_itself, crate::proofs::Following::follows_through, crate::proofs::Following::numbers_stay))]
+pub fn law_of_numbers()
+    ensures itself { FollowsItself }
+    ensures through { FollowsThrough }
+    ensures with_entry { FollowsWithEntry }
+    ensures stay { NumbersStay }
 {}

@@ -9,19 +9,23 @@ mod facts;
 mod index;
 mod kept;
 mod laws;
+mod line;
 mod made;
 mod memory;
 mod opening;
+mod text_refusal;
 
 pub use answer::Answer;
 pub use command::Command;
 pub use commits::{EntryIds, entry_commit, epoch_grows, push_entry};
 pub use laws::{
-    delivered_is_shown, first_candidate_decides, numbers_keep_their_texts,
+    delivered_is_shown, first_candidate_decides, law_of_numbers, numbers_keep_their_texts,
     numbers_stay_below_the_next,
 };
+pub use line::EntryLine;
 pub use memory::MemArchive;
 pub use opening::OpenRefusal;
+pub use text_refusal::TextRefusal;
 
 #[cfg(test)]
 mod commit_tests;

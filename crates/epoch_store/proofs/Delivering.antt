@@ -16,7 +16,7 @@ use Rattle.arch_model.specs.Archives.{Entry, Archive, with_entry, in_epoch}
 use Rattle.arch_model.specs.Delivery.{new_epoch, last_epoch}
 use Rattle.arch_model.specs.Epochs.{entry_bytes, last_commit}
 use Rattle.number_map.specs.Records.{record_bytes}
-use Rattle.epoch_file.specs.Entries.{bytes_behind, last_moment}
+use Rattle.epoch_file.specs.Entries.{bytes_behind}
 use Rattle.epoch_file.specs.declared.entry.NewEntry.{NewEntry}
 use Rattle.epoch_file.specs.Appending.{front_at, appended, entry_of}
 use Rattle.root_slots.specs.declared.root.Place.{Place}
@@ -31,11 +31,12 @@ use Rattle.epoch_store.specs.declared.next.NextPlace.{NextPlace}
 use Rattle.epoch_store.specs.declared.putting.Part.{Part}
 use Rattle.epoch_store.specs.Files.{map_name, epoch_name, map_file_of, epoch_file_of, StandsFor, IsOn}
 use Rattle.epoch_store.specs.TwoFiles.{Appending, AreAppended}
-use Rattle.epoch_store.specs.Validity.{IsEntry, IsArchive}
+use Rattle.arch_model.specs.Validity.{IsEntry, IsArchive, last_moment}
 use Rattle.epoch_store.specs.Recovery.{record_for, map_bytes, bytes_in, Names}
 use Rattle.epoch_store.specs.Stores.{View, in_file, stored_at, stored_behind, Keeps, IsStoreOf, RecoversEither, Accepts, IsNextPlace, next_sequence, place_of, root_after, IsMessage, HasSizes}
 use Rattle.epoch_store.proofs.Appends.{nat_eq_or_not, epoch_isnt_root, map_isnt_root, epoch_isnt_map, Grows, map_part, appending_stands, Follows, committing, is_on}
-use Rattle.epoch_store.proofs.Growing.{all_weaker, map_grows, bytes_here, bytes_other, stored_more, archive_grows}
+use Rattle.arch_model.proofs.ValidArchives.{all_weaker, archive_grows}
+use Rattle.epoch_store.proofs.Growing.{map_grows, bytes_here, bytes_other, stored_more}
 use Rattle.epoch_store.proofs.Ends.{none_later}
 use Rattle.epoch_store.proofs.Mapped.{map_length}
 

@@ -12,10 +12,11 @@ use Rattle.arch_base.specs.declared.config.Config.{Config}
 use Rattle.root_slots.specs.Valid.{no_place}
 use Rattle.epoch_store.specs.declared.entries.StoredEntry.{StoredEntry}
 use Rattle.epoch_store.specs.declared.next.End.{End}
-use Rattle.epoch_store.specs.Validity.{Rise}
+use Rattle.arch_model.specs.Validity.{Rise}
 use Rattle.epoch_store.specs.Recovery.{bytes_in}
 use Rattle.epoch_store.specs.Stores.{View, Keeps, IsEnd, IsNextPlace, next_sequence, place_of, stored_at, stored_behind}
-use Rattle.epoch_store.proofs.Growing.{all_weaker, in_epoch-here, stored_more}
+use Rattle.arch_model.proofs.ValidArchives.{all_weaker}
+use Rattle.epoch_store.proofs.Growing.{in_epoch-here, stored_more}
 
 -- a list is empty, or some and a last one
 pub record Last {X : Type 0} (xs : List X) : Type 0 where
