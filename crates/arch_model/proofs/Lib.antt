@@ -12,3 +12,5 @@ mod Texts
 pub mod EpochLemmas
 pub mod ValidArchives
 mod Following
+mod TakenTexts
+mod Commands

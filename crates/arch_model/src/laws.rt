@@ -1,6 +1,8 @@
 //! What holds of commands, for every archive, message and moment, and of archives that follow one another.
 ghost use Rattle.arch_model.specs.Following.{FollowsItself, FollowsThrough, FollowsWithEntry, NumbersStay};
-ghost use Rattle.arch_model.specs.Laws.{FirstDecides, KeepsNumbers, StaysNumbered, ShowsDelivered};
+ghost use Rattle.arch_model.specs.Laws.{CommandFollows, FirstDecides, KeepsNumbers, KeepsValid, StaysNumbered, ShowsDelivered, TakenAreStorage};
+
+use mail_reader::{field_in_front, forms_are_short, id_line_is_kept, stored_once};
 
 /// A delivery leaves each number with its text.
 pub fn numbers_keep_their_texts()
@@ -31,3 +33,23 @@ pub fn law_of_numbers()
     ensures with_entry { FollowsWithEntry }
     ensures stay { NumbersStay }
 {}
+
+/// What storing bytes gives is a storage text, where it has an own id; and so it is with a made id in front.
+pub fn law_of_taken_texts()
+    ensures { TakenAreStorage }
+{
+    stored_once();
+    forms_are_short();
+    field_in_front();
+    id_line_is_kept();
+}
+
+/// A command up to the last moment leaves an archive that may be kept one that may be kept, and the archive behind any command
+/// follows the one before it.
+#[tactic(auto, using(crate::proofs::Commands::command_follows))]
+pub fn law_of_commands()
+    ensures valid { KeepsValid }
+    ensures follows { CommandFollows }
+{
+    law_of_taken_texts();
+}

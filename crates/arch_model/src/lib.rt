@@ -19,8 +19,8 @@ pub use answer::Answer;
 pub use command::Command;
 pub use commits::{EntryIds, entry_commit, epoch_grows, push_entry};
 pub use laws::{
-    delivered_is_shown, first_candidate_decides, law_of_numbers, numbers_keep_their_texts,
-    numbers_stay_below_the_next,
+    delivered_is_shown, first_candidate_decides, law_of_commands, law_of_numbers,
+    law_of_taken_texts, numbers_keep_their_texts, numbers_stay_below_the_next,
 };
 pub use line::EntryLine;
 pub use memory::MemArchive;

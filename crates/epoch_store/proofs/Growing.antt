@@ -7,9 +7,7 @@ use Rattle.std.proofs.lemmas.List.Elements.{filter-append}
 use Rattle.std.proofs.lemmas.Grind.{flat_map-append}
 use Rattle.std.proofs.lemmas.Bool.Decides.{nat_tests}
 use Rattle.arch_base.specs.declared.ids.Id20.{Id20}
-use Rattle.git_objects.specs.Objects.{blob_id_of}
-use Rattle.mail_reader.specs.Ids.{own_id}
-use Rattle.arch_model.specs.Archives.{Entry, Archive, with_entry, in_epoch}
+use Rattle.arch_model.specs.Archives.{Entry, Archive, in_epoch}
 use Rattle.arch_model.specs.Epochs.{epoch_bytes, entries_bytes, last_commit, magic, message_name, entry_bytes, commit_id}
 use Rattle.number_map.specs.declared.line.Record.{Record}
 use Rattle.number_map.specs.Records.{record_bytes}
