@@ -9,14 +9,14 @@ use std::collections::BTreeMap;
 
 /// The messages by their ids, and their numbers by their blob ids.
 #[derive(Drop)]
-pub(crate) struct Index {
+pub struct Index {
     pub(crate) owners: BTreeMap<Vec<u8>, Owner>,
     pub(crate) blobs: BTreeMap<[u8; 20], u32>,
 }
 
 impl Index {
     /// An index of no message.
-    pub(crate) fn new(alloc: Global) -> Index
+    pub fn new(alloc: Global) -> Index
         ensures owners { result.owners.entries ≡ [] }
         ensures blobs { result.blobs.entries ≡ [] }
     {
@@ -27,26 +27,21 @@ impl Index {
     }
 
     /// The message that has an id.
-    pub(crate) fn owner(&self, id: &[u8]) -> Option<Owner>
+    pub fn owner(&self, id: &[u8]) -> Option<Owner>
         ensures { result ≡ owner_in self.now.owners id.now }
     {
         self.owners.get(id).copied()
     }
 
     /// The number of the message with a blob id.
-    pub(crate) fn number(&self, blob: &ObjectId) -> Option<u32>
+    pub fn number(&self, blob: &ObjectId) -> Option<u32>
         ensures { result ≡ number_in self.now.blobs blob.now.0 }
     {
         self.blobs.get(&blob.0).copied()
     }
 
     /// Puts a message with a new blob id, or changes nothing.
-    pub(crate) fn insert(
-        &mut self,
-        id: Vec<u8>,
-        blob: ObjectId,
-        owner: Owner,
-    ) -> Result<(), NoMemory>
+    pub fn insert(&mut self, id: Vec<u8>, blob: ObjectId, owner: Owner) -> Result<(), NoMemory>
         requires unseen { number_in self.old.blobs blob.0 ≡ None }
         ensures ok { OnOk result (Puts self.old self.new id.items blob owner) }
         ensures err { OnErr result (HasSame self.old self.new) }

@@ -21,11 +21,11 @@ pub(crate) struct Kept {
 
 /// The message that has an id.
 #[derive(Clone, Copy, Debug, Drop)]
-pub(crate) struct Owner {
+pub struct Owner {
     /// Its number.
-    pub(crate) number: u32,
+    pub number: u32,
     /// Its content id.
-    pub(crate) content: [u8; 32],
+    pub content: [u8; 32],
 }
 
 impl Owner {

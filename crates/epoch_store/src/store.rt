@@ -5,7 +5,7 @@ ghost use Rattle.disk_model.specs.Disk.{WhereTold, LeavesOnly};
 ghost use Rattle.mail_reader.specs.Ids.{own_id as own_id_in};
 ghost use Rattle.arch_model.specs.Archives.{Archive, with_entry};
 ghost use Rattle.arch_model.specs.Delivery.{new_epoch};
-ghost use Rattle.epoch_file.specs.Entries.{last_moment};
+ghost use Rattle.arch_model.specs.Validity.{last_moment};
 ghost use Rattle.epoch_file.specs.Appending.{written_of};
 ghost use Rattle.root_slots.specs.Valid.{IsRoot};
 ghost use Rattle.arch_base.specs.Configs.{IsConfig};
