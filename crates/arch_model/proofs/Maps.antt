@@ -5,7 +5,7 @@ use Rattle.std.specs.Ordering.{nat_cmp, is_eq, match_ordering}
 use Rattle.std.specs.declared.cmp.Ordering.{Ordering}
 use Rattle.std.specs.declared.cmp.Ordering.TheVariants.{Less, Equal, Greater}
 use Rattle.std.specs.Cmp.Lexicographic.{slice_cmp}
-use Rattle.std.specs.Map.{lookup}
+use Rattle.std.specs.Map.{lookup, remove_entry}
 use Rattle.std.specs.BTreeMap.{BTreeMap, insert_entry, is_at, UpdatesBy}
 use Rattle.std.proofs.lemmas.Map.Text.{is_eq-slice_cmp}
 use Rattle.std.proofs.lemmas.Slice.Eq.{bytes_eq-Decides}
@@ -65,6 +65,43 @@ module _ {K : Type 0} (bytes : K → List ℕ) where
   -- a key that was put in is found, and so is each that was there
   pub found_behind : {X : Type 0} (q : List ℕ) (k : K) (v : X) (old new : List (K × X)) → new ≡ insert_entry key_cmp old k v → lookup (has q) new ≡ (if bytes_eq q (bytes k) then Some v else lookup (has q) old)
   found_behind q k v old new is = ap (lookup (has q)) is ∙ lookup_insert q k v old ∙ ap (λ (t : Bool). if t then Some v else lookup (has q) old) (is_eq-slice_cmp q (bytes k))
+
+  lost_step : {X : Type 0} (t u : Bool) (x : X) (found : Option X) → (t ≡ true → u ≡ true → ⊥) → (later : Option X) → later ≡ found → (cond u found (cond t (Some x) later)) ≡ (cond t (Some x) found)
+  lost_step true true x found apart later ih = absurd (apart refl refl)
+  lost_step true false x found apart later ih = refl
+  lost_step false true x found apart later ih = refl
+  lost_step false false x found apart later ih = ih
+
+  lookup_cond : {X : Type 0} (test : K → Bool) (u : Bool) (a b : List (K × X)) → lookup test (cond u a b) ≡ cond u (lookup test a) (lookup test b)
+  lookup_cond test true a b = refl
+  lookup_cond test false a b = refl
+
+  lookup_remove : {X : Type 0} (q id : List ℕ) (es : List (K × X)) → bytes_eq q id ≡ false → lookup (has q) (remove_entry (has id) es) ≡ lookup (has q) es
+  lookup_remove q id [] other = refl
+  lookup_remove q id (e ∷ es) other =
+      lookup_cond (has q) (has id e.0) es (e ∷ remove_entry (has id) es)
+      ∙ lost_step (has q e.0) (has id e.0) e.1 (lookup (has q) es) apart (lookup (has q) (remove_entry (has id) es)) (lookup_remove q id es other)
+    where
+      apart : has q e.0 ≡ true → has id e.0 ≡ true → ⊥
+      apart a b =
+          let one : q ≡ bytes e.0 = (bytes_eq-Decides q (bytes e.0)).0 (sym (is_eq-slice_cmp q (bytes e.0)) ∙ a) in
+          let two : id ≡ bytes e.0 = (bytes_eq-Decides id (bytes e.0)).0 (sym (is_eq-slice_cmp id (bytes e.0)) ∙ b) in
+          let no : true ≡ false = sym (bytes_eq-refl q id (one ∙ sym two)) ∙ other in
+          cc
+
+  -- a key that was taken out isn't found, and each other one is as before
+  pub lost_behind : {X : Type 0} (q id : List ℕ) (old new : List (K × X)) → new ≡ remove_entry (has id) old → lookup (has id) new ≡ None → lookup (has q) new ≡ (if bytes_eq q id then None else lookup (has q) old)
+  lost_behind q id old new is none = by (bytes_eq q id) refl where
+    by : (t : Bool) → bytes_eq q id ≡ t → lookup (has q) new ≡ (if t then None else lookup (has q) old)
+    by true same = ap (λ (b : List ℕ). lookup (has b) new) ((bytes_eq-Decides q id).0 same) ∙ none
+    by false other = ap (lookup (has q)) is ∙ lookup_remove q id old other
+
+-- what was put in new and taken out again is as before
+pub back_again : {X : Type 0} (q id : List ℕ) (x : X) (found : List ℕ → Option X) (mid new : Option X) → found id ≡ None → mid ≡ (if bytes_eq q id then Some x else found q) → new ≡ (if bytes_eq q id then None else mid) → new ≡ found q
+back_again q id x found mid new none put lost = by (bytes_eq q id) refl where
+  by : (t : Bool) → bytes_eq q id ≡ t → new ≡ found q
+  by true same = lost ∙ ap (λ (b : Bool). if b then None else mid) same ∙ sym none ∙ ap found (sym ((bytes_eq-Decides q id).0 same))
+  by false other = lost ∙ ap (λ (b : Bool). if b then None else mid) other ∙ put ∙ ap (λ (b : Bool). if b then Some x else found q) other
 
 back_step : (t u : Bool) (n : ℕ) (found : Option ℕ) → t ≡ u → (u ≡ true → found ≡ None) → cond t None (if u then Some n else found) ≡ found
 back_step true true n found same none = sym (none refl)

@@ -60,10 +60,19 @@ pub record Puts (old new : Index) (id : List ℕ) (blob : Id20) (message : Owner
   pub owners : (q : List ℕ) → owner_in new.owners q ≡ (if bytes_eq q id then Some message else owner_in old.owners q)
   pub blobs : (q : List ℕ) → number_in new.blobs q ≡ (if bytes_eq q blob.0 then Some message.number else number_in old.blobs q)
 
+-- an index lost an id and a blob id
+pub record Loses (old new : Index) (id : List ℕ) (blob : Id20) : Type 0 where
+  pub owners : (q : List ℕ) → owner_in new.owners q ≡ (if bytes_eq q id then None else owner_in old.owners q)
+  pub blobs : (q : List ℕ) → number_in new.blobs q ≡ (if bytes_eq q blob.0 then None else number_in old.blobs q)
+
 -- two indexes have the same
 pub record HasSame (old new : Index) : Type 0 where
   pub owners : (q : List ℕ) → owner_in new.owners q ≡ owner_in old.owners q
   pub blobs : (q : List ℕ) → number_in new.blobs q ≡ number_in old.blobs q
+
+-- an index has the same as the one before an id and a blob id were put there that were new to it
+abbrev pub TakesBack : Index → Index → List ℕ → Id20 → Type 0
+TakesBack put new id blob = (old : Index) (message : Owner) → Puts old put id blob message → owner_in old.owners id ≡ None → number_in old.blobs blob.0 ≡ None → HasSame old new
 
 -- a text has an own id that no entry has
 abbrev pub IsFree : List Entry → List ℕ → Type 0

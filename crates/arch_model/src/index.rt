@@ -1,6 +1,6 @@
 //! The messages of an archive in memory by their ids and by their blob ids.
 ghost use Rattle.std.specs.Prelude.{◌≡◌, [], OnOk, OnErr, None};
-ghost use Rattle.arch_model.specs.Memory.{Puts, HasSame, owner_in, number_in};
+ghost use Rattle.arch_model.specs.Memory.{Puts, Loses, TakesBack, HasSame, owner_in, number_in};
 
 use crate::kept::Owner;
 use arch_base::{NoMemory, ObjectId};
@@ -52,5 +52,23 @@ impl Index {
             return Err(refused.into());
         }
         Ok(())
+    }
+
+    /// Puts a message, in the place of those with its id and its blob id. For want of memory its blob id alone may be there.
+    pub fn put(&mut self, id: Vec<u8>, blob: ObjectId, owner: Owner) -> Result<(), NoMemory>
+        ensures { OnOk result (Puts self.old self.new id.items blob owner) }
+    {
+        self.blobs.insert(blob.0, owner.number)?;
+        self.owners.insert(id, owner)?;
+        Ok(())
+    }
+
+    /// Takes a message away. Behind `insert` of an id and a blob id that were new it has the same as before that.
+    pub fn remove(&mut self, id: &[u8], blob: &ObjectId)
+        ensures lost { Loses self.old self.new id.now blob.now }
+        ensures back { TakesBack self.old self.new id.now blob.now }
+    {
+        let _ = self.owners.remove(id);
+        let _ = self.blobs.remove(&blob.0);
     }
 }

@@ -1,5 +1,5 @@
 -- What a store keeps in memory of an archive, and which disk is its own.
-use Rattle.std.specs.Prelude.{◌-◌, ◌^◌, min, set, slice_get, ◌≡◌, ◌≢◌, ◌⊎◌, ◌+◌, ◌<◌, ◌≤◌, ◌==◌, ℕ, false, List, [], ◌∷◌, ◌++◌, length, get_or, Option, Some, None, if◌then◌else◌}
+use Rattle.std.specs.Prelude.{◌-◌, ◌^◌, min, set, slice_get, ◌≡◌, ◌≢◌, ◌⊎◌, ◌+◌, ◌<◌, ◌≤◌, ◌==◌, ℕ, false, List, [], ◌∷◌, ◌++◌, length, get_or, Option, Some, None, if◌then◌else◌, Result, Ok, Err}
 use Rattle.std.specs.List.{AllByRecursion}
 use Rattle.arch_base.specs.declared.ids.Id20.{Id20}
 use Rattle.disk_model.specs.Disk.{Files, Content, bytes_of}
@@ -12,6 +12,9 @@ use Rattle.arch_model.specs.Epochs.{entries_bytes, last_commit, message_name}
 use Rattle.epoch_file.specs.declared.entry.NewEntry.{NewEntry}
 use Rattle.epoch_file.specs.Entries.{EpochEntry}
 use Rattle.epoch_file.specs.Walking.{seen_at}
+use Rattle.mail_reader.specs.Content.{content_id_of}
+use Rattle.epoch_file.specs.declared.refusal.StoreRefusal.{StoreRefusal}
+use Rattle.epoch_file.specs.declared.refusal.StoreRefusal.TheVariants.{DiskFault, NoMemory, Damaged}
 use Rattle.root_slots.specs.declared.root.Root.{Root}
 use Rattle.root_slots.specs.Slots.{HasRootSize}
 use Rattle.root_slots.specs.Valid.{no_place}
@@ -144,3 +147,22 @@ view_after v a root p entry = record {
   slot = 1 - v.slot;
   entries = v.entries ++ stored_at a.entries (record { number = a.next; epoch = p.epoch; text = entry.text.now; moment = entry.moment }) ∷ [];
 }
+
+-- One more entry stands behind those that were kept: it has the next number, and the ids of a text. The next number is one more,
+-- and the settings stay.
+pub record AddsEntry (old new : View) (text : List ℕ) : Type 0 where
+  pub entry : StoredEntry
+  pub entries : new.entries ≡ old.entries ++ entry ∷ []
+  pub number : entry.number ≡ old.root.next
+  pub id : own_id text ≡ Some entry.seen.id
+  pub blob : entry.seen.blob ≡ blob_id_of text
+  pub content : entry.seen.content ≡ content_id_of text
+  pub next : new.root.next ≡ old.root.next + 1
+  pub config : new.root.config ≡ old.root.config
+
+-- a call that doesn't read never says that a file is damaged
+abbrev pub SeesNoDamage : {T : Type 0} → Result T StoreRefusal → Type 0
+SeesNoDamage (Ok given) = Unit {0}
+SeesNoDamage (Err DiskFault) = Unit {0}
+SeesNoDamage (Err NoMemory) = Unit {0}
+SeesNoDamage (Err (Damaged file place)) = ⊥

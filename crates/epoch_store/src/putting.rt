@@ -7,6 +7,7 @@ ghost use Rattle.arch_model.specs.Validity.{last_moment};
 ghost use Rattle.epoch_file.specs.Appending.{appended, written_of};
 ghost use Rattle.number_map.specs.Records.{record_bytes};
 ghost use Rattle.epoch_store.specs.Files.{map_name, epoch_name};
+ghost use Rattle.epoch_store.specs.Stores.{SeesNoDamage};
 ghost use Rattle.epoch_store.specs.TwoFiles.{Appending, AreAppended, line_of};
 
 use disk_model::{Disk, FileKind, FileName};
@@ -43,6 +44,7 @@ pub fn put_both<D: Disk>(
     ensures written { IfOk result (λ written. written ≡ written_of epoch.place entry.now) }
     ensures appended { OnOk result (Told (AreAppended epoch (appended epoch.place entry.now) map (record_bytes (line_of number epoch entry.now))) (D.content disk.old) (D.content disk.new)) }
     ensures refused { result ≡ Err StoreRefusal.NoMemory → disk.new ≡ disk.old }
+    ensures undamaged { SeesNoDamage result }
     ensures later { D.faults disk.old ≤ D.faults disk.new }
     ensures fault { result ≡ Err StoreRefusal.DiskFault → Rose (D.faults disk.old) (D.faults disk.new) }
     ensures count { D.reads disk.new ≡ D.reads disk.old }

@@ -33,6 +33,13 @@ impl Store {
         self.root.next
     }
 
+    /// What is kept of each entry, in the order of their delivery.
+    pub fn stored(&self) -> &[StoredEntry]
+        ensures { result.now ≡ self.now.entries }
+    {
+        self.entries.as_slice()
+    }
+
     /// An entry by its place among all, from 0. None comes exactly where there are not so many.
     pub fn entry(&self, index: u64) -> Option<EntryLine>
         ensures { result ≡ line_if (slice_get self.now.entries index) }

@@ -3,6 +3,8 @@ ghost use Rattle.std.specs.Prelude.{◌≡◌, ◌≤◌, ◌<◌, ◌+◌, ◌-
 ghost use Rattle.arch_base.specs.Counts.{Rose};
 ghost use Rattle.disk_model.specs.Disk.{WhereTold, LeavesOnly};
 ghost use Rattle.mail_reader.specs.Ids.{own_id as own_id_in};
+ghost use Rattle.mail_reader.specs.Content.{content_id_of};
+ghost use Rattle.git_objects.specs.Objects.{blob_id_of};
 ghost use Rattle.arch_model.specs.Archives.{Archive, with_entry};
 ghost use Rattle.arch_model.specs.Delivery.{new_epoch};
 ghost use Rattle.arch_model.specs.Validity.{last_moment};
@@ -12,7 +14,7 @@ ghost use Rattle.arch_base.specs.Configs.{IsConfig};
 ghost use Rattle.arch_model.specs.Archives.{empty_archive};
 ghost use Rattle.epoch_store.specs.First.{MakingLeaves, MakingAnswers};
 ghost use Rattle.epoch_store.specs.declared.refusal.InitRefusal.{InitRefusal};
-ghost use Rattle.epoch_store.specs.Stores.{IsDiskOf, IsStoreOf, Keeps, IsEnd, IsNextPlace, next_sequence, place_of, root_after, RecoversEither, HasSizes, Accepts, IsMessage, GoesNext, with_message, view_after, stored_at};
+ghost use Rattle.epoch_store.specs.Stores.{IsDiskOf, IsStoreOf, Keeps, IsEnd, IsNextPlace, next_sequence, place_of, root_after, RecoversEither, HasSizes, Accepts, IsMessage, GoesNext, with_message, view_after, stored_at, AddsEntry, SeesNoDamage};
 
 use crate::entries::StoredEntry;
 use crate::first::{all_names, first_root, make, no_archive};
@@ -69,6 +71,7 @@ impl Store {
         ensures done { IfOk result (λ store. WhereTold (IsDiskOf store (empty_archive config.now)) (D.content disk.new)) }
         ensures sizes { IfOk result (λ store. WhereTold (HasSizes store) (D.content disk.new)) }
         ensures first { IfOk result (λ store. store.root.sequence ≡ 1) }
+        ensures none { IfOk result (λ store. store.entries ≡ []) }
         ensures later { D.faults disk.old ≤ D.faults disk.new }
         ensures fault { result ≡ Err InitRefusal.DiskFault → Rose (D.faults disk.old) (D.faults disk.new) }
     {
@@ -178,6 +181,7 @@ impl Store {
         ensures written { IfOk result (λ made. made.1 ≡ written_of place.now.length entry.now) }
         ensures valid { IfOk result (λ made. IsRoot made.0) }
         ensures refused { result ≡ Err StoreRefusal.NoMemory → disk.new ≡ disk.old }
+        ensures undamaged { SeesNoDamage result }
         ensures later { D.faults disk.old ≤ D.faults disk.new }
         ensures fault { result ≡ Err StoreRefusal.DiskFault → Rose (D.faults disk.old) (D.faults disk.new) }
         ensures count { D.reads disk.new ≡ D.reads disk.old }
@@ -209,6 +213,10 @@ impl Store {
         requires entry { IsMessage place.now entry.now }
         requires id { own_id_in entry.now.text.now ≡ Some id }
         ensures epoch { result.epoch ≡ place.now.epoch }
+        ensures number { result.number ≡ self.now.root.next }
+        ensures id { result.seen.id ≡ id }
+        ensures blob { result.seen.blob ≡ blob_id_of entry.now.text.now }
+        ensures content { result.seen.content ≡ content_id_of entry.now.text.now }
         ensures stored { (a : Archive) → Keeps self.now a → IsNextPlace self.now.root a (next_sequence self.now.root.sequence) place.now
             → result ≡ stored_at a.entries (record { number = a.next; epoch = place.now.epoch; text = entry.now.text.now; moment = entry.now.moment }) }
     {
@@ -251,8 +259,10 @@ impl Store {
             → OnOk result (IsStoreOf self.new (with_entry a (new_epoch a) text.now moment) (D.content disk.new)) }
         ensures sizes { OnOk result (WhereTold (HasSizes self.new) (D.content disk.new)) }
         ensures sequence { OnOk result (self.new.root.sequence ≡ next_sequence self.old.root.sequence) }
+        ensures added { OnOk result (AddsEntry self.old self.new text.now) }
         ensures same { OnErr result (self.new ≡ self.old) }
         ensures refused { result ≡ Err StoreRefusal.NoMemory → disk.new ≡ disk.old }
+        ensures undamaged { SeesNoDamage result }
         ensures later { D.faults disk.old ≤ D.faults disk.new }
         ensures fault { result ≡ Err StoreRefusal.DiskFault → Rose (D.faults disk.old) (D.faults disk.new) }
         ensures count { D.reads disk.new ≡ D.reads disk.old }

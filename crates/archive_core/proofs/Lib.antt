@@ -1,0 +1,5 @@
+mod Counting
+mod Standing
+mod Indexes
+mod Verdicts
+mod Openings

@@ -1,0 +1,17 @@
+-- What a store keeps, and what its own disk leaves while nothing is done.
+use Rattle.std.specs.Prelude.{Option, Some, None}
+use Rattle.std.proofs.Common.{inl}
+use Rattle.disk_model.specs.Disk.{Files, Content, Image}
+use Rattle.arch_model.specs.Archives.{Archive}
+use Rattle.epoch_store.specs.Laws.{StoreRecovers}
+use Rattle.epoch_store.specs.Stores.{View, Keeps, IsStoreOf, RecoversEither}
+
+-- a store whose own disk it is keeps the archive
+pub store_keeps : (v : View) (a : Archive) (k : Option Content) → IsStoreOf v a k → Keeps v a
+store_keeps v a None store = absurd store
+store_keeps v a (Some k) store = store.keeps
+
+-- what a crash leaves of a store's own disk stands for the archive
+pub stands : StoreRecovers → (v : View) (a b : Archive) (k : Option Content) (image : Files) → IsStoreOf v a k → Image k image → RecoversEither a b image
+stands law v a b None image store now = absurd store
+stands law v a b (Some k) image store now = inl ((law v a k store).0 image now)

@@ -1,0 +1,20 @@
+-- What an archive leaves that wasn't opened.
+use Rattle.std.specs.Prelude.{Option, Result, Ok, Err}
+use Rattle.disk_model.specs.Disk.{Content, Told}
+use Rattle.arch_model.specs.Archives.{Archive}
+use Rattle.arch_model.specs.declared.opening.OpenRefusal.{OpenRefusal}
+use Rattle.arch_model.specs.declared.opening.OpenRefusal.TheVariants.{NoArchive, Damaged, DiskFault, NoMemory}
+use Rattle.epoch_store.specs.Opens.{ReadsAs, IsOnlySynced}
+
+-- files that read as those of an archive still do
+abbrev pub StillReads : Option Content → Option Content → Type 0
+StillReads old new = (a : Archive) → ReadsAs a old → ReadsAs a new
+
+-- Where there is no archive, or a file is damaged, nothing is changed. For want of memory the disk may be brought to rest before, and
+-- reads as the archive that it did.
+abbrev pub RefusesKindly : {T : Type 0} → Result T OpenRefusal → Option Content → Option Content → Type 0
+RefusesKindly (Ok made) old new = Unit {0}
+RefusesKindly (Err NoArchive) old new = Told IsOnlySynced old new
+RefusesKindly (Err (Damaged file at)) old new = Told IsOnlySynced old new
+RefusesKindly (Err DiskFault) old new = Unit {0}
+RefusesKindly (Err NoMemory) old new = StillReads old new

@@ -1,0 +1,264 @@
+//! An archive on a disk, whose every command is the definition's.
+ghost use Rattle.std.specs.Prelude.{◌≡◌, ◌≤◌, ◌<◌, ◌+◌, ◌^◌, [], length, Err, IfOk, OnOk, OnErr, List, Option};
+ghost use Rattle.arch_base.specs.Configs.{IsConfig};
+ghost use Rattle.arch_base.specs.Counts.{Rose};
+ghost use Rattle.disk_model.specs.Disk.{WhereTold, LeavesOnly};
+ghost use Rattle.arch_model.specs.Archives.{Archive, empty_archive, with_entry};
+ghost use Rattle.arch_model.specs.Delivery.{applied, delivered, new_epoch};
+ghost use Rattle.arch_model.specs.Judging.{Judges};
+ghost use Rattle.epoch_file.specs.declared.refusal.StoreRefusal.{StoreRefusal};
+ghost use Rattle.archive_core.specs.Kept.{MayGoIn, TakesWhatMay};
+ghost use Rattle.arch_model.specs.declared.answer.Answer.{Answer};
+ghost use Rattle.epoch_file.specs.Entries.{last_moment};
+ghost use Rattle.arch_model.specs.declared.opening.OpenRefusal.{OpenRefusal};
+ghost use Rattle.epoch_store.specs.Files.{as_read};
+ghost use Rattle.epoch_store.specs.Opens.{RecoversOf, AllRecoverOf, ReadsAs, Opens, OpensWell};
+ghost use Rattle.archive_core.specs.Openings.{RefusesKindly};
+ghost use Rattle.epoch_store.specs.First.{MakingLeaves, MakingAnswers};
+ghost use Rattle.epoch_store.specs.Stores.{IsDiskOf, IsStoreOf, Keeps, HasSizes, RecoversEither, SeesNoDamage};
+ghost use Rattle.epoch_store.specs.declared.refusal.InitRefusal.{InitRefusal};
+ghost use Rattle.archive_core.specs.Commands.{DoneBy, OnRefusal, UnlessFault, IsForCommand, refusal_answer};
+
+use crate::entries::index_of;
+use crate::texts::{put_text, take_text};
+use arch_base::{Config, NoMemory, ObjectId};
+use arch_model::{Answer, Command, Index, OpenRefusal, Verdict, judge};
+use disk_model::Disk;
+use epoch_file::StoreRefusal;
+use epoch_store::{InitRefusal, Store, law_of_stores};
+use std::alloc::Global;
+use std::marker::Model;
+
+/// An archive on a disk: its store, and its messages by their ids and blob ids. A contract sees it as what the store keeps.
+#[derive(Drop)]
+pub struct DiskArchive {
+    alloc: Global,
+    store: Store,
+    index: Index,
+}
+
+impl Model for DiskArchive {
+    ghost use Rattle.epoch_store.specs.Stores.{View};
+    ghost use Rattle.archive_core.specs.Kept.{IndexesStored};
+
+    ghost Value = { View };
+
+    ghost view = { λ s. s.store };
+
+    ghost invariant = { λ s. IndexesStored s.store.entries s.index };
+}
+
+impl DiskArchive {
+    /// Makes an archive without entries, in the place of a disk without an open slot: it takes all files away and makes a root file
+    /// with the first root, of sequence 1.
+    ///
+    /// At each moment a crash leaves what it might have left before, or no open slot, or the archive. Exists comes exactly where
+    /// a slot is open, and then nothing is written. DiskFault comes only where the disk's count of faults rose, and NoMemory only
+    /// for want of memory, before anything is written.
+    pub fn init<D: Disk>(
+        alloc: Global,
+        disk: &mut D,
+        config: &Config,
+    ) -> Result<DiskArchive, InitRefusal>
+        requires config { IsConfig config.now }
+        ensures any_moment { LeavesOnly D.moment D.left_since disk.old disk.new (MakingLeaves (empty_archive config.now) (D.content disk.old)) }
+        ensures answer { WhereTold (MakingAnswers result) (D.content disk.old) }
+        ensures done { IfOk result (λ made. WhereTold (IsDiskOf made (empty_archive config.now)) (D.content disk.new)) }
+        ensures sizes { IfOk result (λ made. WhereTold (HasSizes made) (D.content disk.new)) }
+        ensures first { IfOk result (λ made. made.root.sequence ≡ 1) }
+        ensures none { IfOk result (λ made. made.entries ≡ []) }
+        ensures later { D.faults disk.old ≤ D.faults disk.new }
+        ensures fault { result ≡ Err InitRefusal.DiskFault → Rose (D.faults disk.old) (D.faults disk.new) }
+    {
+        let store = Store::init(alloc, disk, config)?;
+        Ok(DiskArchive {
+            alloc,
+            store,
+            index: Index::new(alloc),
+        })
+    }
+
+    /// Opens the archive on a disk. It syncs first and reads all that the current root names, and only then changes the disk: where the
+    /// other slot is shut it is filled with the current root and left shut, tails are cut, and files that the root doesn't name are
+    /// taken away.
+    ///
+    /// At each moment a crash leaves files that stand for an archive that they might have stood for before. NoArchive comes only where
+    /// no slot is open, and Damaged only where the files that the root names leave their form, with the first place where they do:
+    /// of the root, then of the map, then of the epochs in order; neither comes where the files stand for an archive, and behind
+    /// either all files read as before. DiskFault comes only where the disk's count of faults rose. NoMemory comes only for want of
+    /// memory, and the files still stand for the archive that they stood for.
+    pub fn open<D: Disk>(alloc: Global, disk: &mut D) -> Result<DiskArchive, OpenRefusal>
+        ensures any_moment { (may : List (Option Archive)) → AllRecoverOf may (D.content disk.old) → LeavesOnly D.moment D.left_since disk.old disk.new (RecoversOf may) }
+        ensures answer { WhereTold (λ k. Opens (as_read k) result) (D.content disk.old) }
+        ensures done { (a : Archive) → ReadsAs a (D.content disk.old) → IfOk result (λ opened. IsStoreOf opened a (D.content disk.new)) }
+        ensures well { (a : Archive) → ReadsAs a (D.content disk.old) → OpensWell result }
+        ensures refused { RefusesKindly result (D.content disk.old) (D.content disk.new) }
+        ensures sizes { IfOk result (λ opened. WhereTold (HasSizes opened) (D.content disk.new)) }
+        ensures later { D.faults disk.old ≤ D.faults disk.new }
+        ensures fault { result ≡ Err OpenRefusal.DiskFault → Rose (D.faults disk.old) (D.faults disk.new) }
+    {
+        law_of_stores();
+        let store = match Store::open(alloc, disk) {
+            Ok(store) => store,
+            Err(refusal) => return Err(refusal),
+        };
+        match index_of(alloc, store.stored()) {
+            Ok(index) => Ok(DiskArchive {
+                alloc,
+                store,
+                index,
+            }),
+            Err(NoMemory) => Err(OpenRefusal::NoMemory),
+        }
+    }
+
+    /// Takes a command at a moment, in seconds since 1970.
+    ///
+    /// `Deliver`: the message takes the next number, or is refused by the first cause of a mirror, no field, too many bytes, a
+    /// message that is the same, another text with its blob id, and no number left. A refusal leaves all as it was. At each moment
+    /// a crash leaves the archive before the command or the one after it, and after Ok the latter. DiskFault comes only where the
+    /// disk's count of faults rose: then one of the two is there, and the archive has to be opened again. NoMemory comes only for
+    /// want of memory, or of room in a file of more than 2^62 bytes, and nothing was done.
+    pub fn command<D: Disk>(&mut self, disk: &mut D, command: &Command<'_>, moment: u64) -> Answer
+        requires moment { moment ≤ last_moment }
+        requires sizes { WhereTold (HasSizes self.old) (D.content disk.old) }
+        // At each moment a crash leaves the archive before the command, or the one after it.
+        ensures any_moment { (a : Archive) → IsStoreOf self.old a (D.content disk.old) → self.old.root.sequence + 1 < 2 ^ 64
+            → LeavesOnly D.moment D.left_since disk.old disk.new (RecoversEither a (applied a command.now moment).archive) }
+        // What is answered is the definition's, and then the disk is the definition's archive's own.
+        ensures done { (a : Archive) → IsStoreOf self.old a (D.content disk.old) → self.old.root.sequence + 1 < 2 ^ 64
+            → DoneBy self.new a (applied a command.now moment) result (D.content disk.new) }
+        ensures same { OnRefusal result (self.new ≡ self.old) }
+        ensures untouched { OnRefusal result (UnlessFault result (disk.new ≡ disk.old)) }
+        ensures sizes { UnlessFault result (WhereTold (HasSizes self.new) (D.content disk.new)) }
+        ensures later { D.faults disk.old ≤ D.faults disk.new }
+        ensures fault { result ≡ Answer.DiskFault → Rose (D.faults disk.old) (D.faults disk.new) }
+        ensures never_damaged { IsForCommand result }
+        ensures count { D.reads disk.new ≡ D.reads disk.old }
+    {
+        match command {
+            Command::Deliver(bytes) => self.deliver(disk, bytes, moment),
+        }
+    }
+
+    /// Delivers a message, or refuses it.
+    fn deliver<D: Disk>(&mut self, disk: &mut D, bytes: &[u8], moment: u64) -> Answer
+        requires moment { moment ≤ last_moment }
+        requires sizes { WhereTold (HasSizes self.old) (D.content disk.old) }
+        ensures any_moment { (a : Archive) → IsStoreOf self.old a (D.content disk.old) → self.old.root.sequence + 1 < 2 ^ 64
+            → LeavesOnly D.moment D.left_since disk.old disk.new (RecoversEither a (delivered a bytes.now moment).archive) }
+        ensures done { (a : Archive) → IsStoreOf self.old a (D.content disk.old) → self.old.root.sequence + 1 < 2 ^ 64
+            → DoneBy self.new a (delivered a bytes.now moment) result (D.content disk.new) }
+        ensures same { OnRefusal result (self.new ≡ self.old) }
+        ensures untouched { OnRefusal result (UnlessFault result (disk.new ≡ disk.old)) }
+        ensures sizes { UnlessFault result (WhereTold (HasSizes self.new) (D.content disk.new)) }
+        ensures later { D.faults disk.old ≤ D.faults disk.new }
+        ensures fault { result ≡ Answer.DiskFault → Rose (D.faults disk.old) (D.faults disk.new) }
+        ensures never_damaged { IsForCommand result }
+        ensures count { D.reads disk.new ≡ D.reads disk.old }
+    {
+        law_of_stores();
+        match self.verdict(bytes) {
+            Verdict::Refuse(answer) => answer,
+            Verdict::Take { text, blob, number } => {
+                match self.keep(disk, text.as_slice(), blob, moment) {
+                    Ok(()) => Answer::Ok { number, id: blob },
+                    Err(refusal) => answer_of(&refusal),
+                }
+            }
+        }
+    }
+
+    /// What the delivery of a message comes to.
+    fn verdict(&self, bytes: &[u8]) -> Verdict
+        ensures judged { (a : Archive) → Keeps self.now a → Judges a bytes.now result }
+        ensures taken { TakesWhatMay self.now result }
+    {
+        judge(
+            self.alloc,
+            self.store.config(),
+            &self.index,
+            self.store.stored().len(),
+            self.store.next_number(),
+            bytes,
+        )
+    }
+
+    /// Puts a message behind the others: its text takes the next number at a moment, in seconds since 1970. A refusal changes
+    /// nothing that is kept in memory.
+    fn keep<D: Disk>(
+        &mut self,
+        disk: &mut D,
+        text: &[u8],
+        blob: ObjectId,
+        moment: u64,
+    ) -> Result<(), StoreRefusal>
+        requires may { MayGoIn self.old text.now blob }
+        requires moment { moment ≤ last_moment }
+        requires sizes { WhereTold (HasSizes self.old) (D.content disk.old) }
+        ensures any_moment { (a : Archive) → IsStoreOf self.old a (D.content disk.old) → self.old.root.sequence + 1 < 2 ^ 64
+            → LeavesOnly D.moment D.left_since disk.old disk.new (RecoversEither a (with_entry a (new_epoch a) text.now moment)) }
+        ensures done { (a : Archive) → IsStoreOf self.old a (D.content disk.old) → self.old.root.sequence + 1 < 2 ^ 64
+            → OnOk result (IsStoreOf self.new (with_entry a (new_epoch a) text.now moment) (D.content disk.new)) }
+        ensures sizes { OnOk result (WhereTold (HasSizes self.new) (D.content disk.new)) }
+        ensures same { OnErr result (self.new ≡ self.old) }
+        ensures refused { result ≡ Err StoreRefusal.NoMemory → disk.new ≡ disk.old }
+        ensures undamaged { SeesNoDamage result }
+        ensures later { D.faults disk.old ≤ D.faults disk.new }
+        ensures fault { result ≡ Err StoreRefusal.DiskFault → Rose (D.faults disk.old) (D.faults disk.new) }
+        ensures count { D.reads disk.new ≡ D.reads disk.old }
+    {
+        law_of_stores();
+        let number = self.store.next_number();
+        put_text(self.alloc, &mut self.index, text, blob, number)?;
+        if let Err(refusal) = self.store.deliver_entry(self.alloc, disk, text, moment) {
+            // The index is again as it was before.
+            take_text(&mut self.index, text, &blob);
+            return Err(refusal);
+        }
+        Ok(())
+    }
+
+    /// How many messages there are, by their entries.
+    pub fn entry_count(&self) -> u64
+        ensures { result ≡ length self.now.entries }
+    {
+        self.store.stored().len() as u64
+    }
+
+    /// How many numbers have a message. Until messages are removed each entry has one.
+    pub fn live_count(&self) -> u32
+        ensures { (a : Archive) → Keeps self.now a → result ≡ length a.entries }
+    {
+        // There are no more entries than numbers.
+        self.store.stored().len().min(u32::MAX as usize) as u32
+    }
+
+    /// The number of the next message.
+    pub fn next_number(&self) -> u32
+        ensures { result ≡ self.now.root.next }
+    {
+        self.store.next_number()
+    }
+
+    /// The settings of the archive.
+    pub fn config(&self) -> &Config
+        ensures { result.now ≡ self.now.root.config }
+    {
+        self.store.config()
+    }
+}
+
+/// The answer for a refusal of the store.
+fn answer_of(refusal: &StoreRefusal) -> Answer
+    ensures { result ≡ refusal_answer refusal.now }
+{
+    match refusal {
+        StoreRefusal::DiskFault => Answer::DiskFault,
+        StoreRefusal::NoMemory => Answer::NoMemory,
+        StoreRefusal::Damaged { file, at } => Answer::Damaged {
+            file: *file,
+            at: *at,
+        },
+    }
+}

@@ -1,0 +1,33 @@
+//! The index of the entries that an opened store keeps.
+ghost use Rattle.std.specs.Prelude.{◌≡◌, IfOk, OnOk};
+ghost use Rattle.arch_model.specs.Memory.{Puts};
+ghost use Rattle.archive_core.specs.Kept.{IndexesStored, owner_kept};
+
+use arch_base::NoMemory;
+use arch_model::{Index, Owner};
+use epoch_store::StoredEntry;
+use std::alloc::Global;
+
+/// The index of entries.
+pub(crate) fn index_of(alloc: Global, entries: &[StoredEntry]) -> Result<Index, NoMemory>
+    ensures { IfOk result (λ index. IndexesStored entries.now index) }
+{
+    let mut index = Index::new(alloc);
+    // From the last to the first, so that the first entry of an id is the one that is found.
+    for place in (0..entries.len()).rev() {
+        put_entry(&mut index, &entries[place])?;
+    }
+    Ok(index)
+}
+
+/// Puts an entry into an index, in the place of those with its ids.
+fn put_entry(index: &mut Index, entry: &StoredEntry) -> Result<(), NoMemory>
+    ensures { OnOk result (Puts index.old index.new entry.now.seen.id entry.now.seen.blob (owner_kept entry.now)) }
+{
+    let id = entry.seen.id.copy()?.into_vec();
+    let owner = Owner {
+        number: entry.number,
+        content: entry.seen.content,
+    };
+    index.put(id, entry.seen.blob, owner)
+}

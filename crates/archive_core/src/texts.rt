@@ -1,0 +1,51 @@
+//! The own id and the blob id of a text, put into an index and taken out again.
+ghost use Rattle.std.specs.Prelude.{◌≡◌, IsSome, Some, None, IfOk, OnOk, OnErr};
+ghost use Rattle.mail_reader.specs.Ids.{own_id as own_id_in};
+ghost use Rattle.arch_model.specs.Memory.{HasSame, number_in};
+ghost use Rattle.archive_core.specs.Kept.{PutsText, TakesBackText};
+
+use arch_base::{NoMemory, ObjectId};
+use arch_model::{Index, Owner};
+use mail_reader::{content_id, own_id};
+use std::alloc::Global;
+
+/// Puts a text with a new blob id into an index, or changes nothing.
+pub(crate) fn put_text(
+    alloc: Global,
+    index: &mut Index,
+    text: &[u8],
+    blob: ObjectId,
+    number: u32,
+) -> Result<(), NoMemory>
+    requires own { IsSome (own_id_in text.now) }
+    requires unseen { number_in index.old.blobs blob.0 ≡ None }
+    ensures ok { OnOk result (PutsText index.old index.new text.now blob number) }
+    ensures err { OnErr result (HasSame index.old index.new) }
+{
+    let id = own_id_of(alloc, text)?;
+    let owner = Owner {
+        number,
+        content: content_id(text),
+    };
+    index.insert(id, blob, owner)
+}
+
+/// Takes a text out of an index.
+pub(crate) fn take_text(index: &mut Index, text: &[u8], blob: &ObjectId)
+    ensures { TakesBackText index.old index.new text.now blob.now }
+{
+    if let Some(id) = own_id(text) {
+        index.remove(id, blob);
+    }
+}
+
+/// The own id of a text that has one.
+fn own_id_of(alloc: Global, text: &[u8]) -> Result<Vec<u8>, NoMemory>
+    requires { IsSome (own_id_in text.now) }
+    ensures { IfOk result (λ id. own_id_in text.now ≡ Some id.items) }
+{
+    match own_id(text) {
+        None => Ok(Vec::new(alloc)),
+        Some(id) => Ok(Vec::from_slice(alloc, id)?),
+    }
+}
