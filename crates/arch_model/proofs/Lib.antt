@@ -10,3 +10,9 @@ pub mod EpochSteps
 pub mod FirstChoice
 mod Texts
 pub mod EpochLemmas
+pub mod ValidArchives
+mod Following
+mod TakenTexts
+mod Commands
+mod Choosing
+mod Judged
