@@ -2,3 +2,4 @@ pub mod Grammar
 pub mod Playing
 pub mod Printed
 pub mod Transcripts
+pub mod Leaving

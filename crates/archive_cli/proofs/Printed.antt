@@ -11,12 +11,15 @@ use Rattle.archive_cli.specs.Words.{IsJob, AsksFor}
 use Rattle.archive_cli.specs.Frames.{line}
 use Rattle.archive_cli.specs.Turns.{World, Transcript, before_stop}
 use Rattle.archive_cli.specs.Plays.{PlaysSome}
-use Rattle.archive_cli.specs.Program.{Edges, IsInput, IsDue, Ends, Ran, start, input_limit, TookAtMost}
-use Rattle.archive_cli.specs.Printing.{Printed, Exactly, IsReplayDue, Replayed, IsPieceRead}
+use Rattle.edge_io.specs.Coming.{Moments, IsFirst}
+use Rattle.archive_cli.specs.Outcomes.{outcome_line, status_of}
+use Rattle.archive_cli.specs.declared.outcome.Outcome.{Outcome}
+use Rattle.archive_cli.specs.Program.{Edges, Acts, IsInput, IsDue, Ends, Ran, start, input_limit, TookAtMost}
+use Rattle.archive_cli.specs.Printing.{Printed, Exactly, IsReplayDue, Replayed, IsPieceRead, IsOutcomeDue, InitDone, InputDone, IsUnread}
 use Rattle.archive_cli.specs.declared.reading.InputRefusal.{InputRefusal}
 use Rattle.archive_cli.specs.declared.reading.InputRefusal.TheVariants.{Fault, TooLong, NoMemory}
 use Rattle.archive_cli.specs.declared.words.Job.{Job}
-use Rattle.archive_cli.specs.declared.words.Job.TheVariants.{Replay}
+use Rattle.archive_cli.specs.declared.words.Job.TheVariants.{Replay, Init, Deliver, Check}
 
 module _ (out : Option (List ℕ)) (lost : ℕ) (out' : Option (List ℕ)) (lost' : ℕ) where
   -- what is due by one rule is due by another
@@ -83,30 +86,66 @@ pub before-before : (left now later : Option (List ℕ)) (bytes more : List ℕ)
 before-before left now None bytes more is next = is ∙ ap (before bytes) next
 before-before left now (Some rest) bytes more is next = is ∙ ap (before bytes) next ∙ ap Some (sym (append_assoc bytes more rest))
 
-ran_by : (words : List (List ℕ)) (input : List ℕ) (status : ℕ) (i j : Edges) (due_status : ℕ) (printed : List ℕ) (whole : Bool) → IsInput i.left input → IsDue words input due_status printed → Says printed i.taken i.lost j.taken j.lost whole → status ≡ (if whole then due_status else 6) → Ran words status i j
+ran_by : (words : List (List ℕ)) (input : List ℕ) (status : ℕ) (i j : Edges) (due_status : ℕ) (printed : List ℕ) (whole : Bool) → IsInput i.left input → IsDue words input i j due_status printed → Says printed i.taken i.lost j.taken j.lost whole → status ≡ (if whole then due_status else 6) → Ran words status i j
 ran_by words input status i j due_status printed true told due said is =
-    inl (record { input = input; told = told; printed = printed; due = subst (λ s. IsDue words input s printed) (sym is) due; taken_is = said.1; lost_kept = said.0 })
+    inl (record { input = input; told = told; printed = printed; due = subst (λ s. IsDue words input i j s printed) (sym is) due; taken_is = said.1; lost_kept = said.0 })
 ran_by words input status i j due_status printed false told due said is =
-    inr (inr (record { status_is = is; rose = said.1; input = input; told = told; due_status = due_status; printed = printed; due = due; count = said.2.0; taken_is = said.2.1 }))
+    inr (inr (inr (record { status_is = is; rose = said.1; input = input; told = told; due_status = due_status; printed = printed; due = due; count = said.2.0; taken_is = said.2.1 })))
 
 -- what was printed of what is due is a run
-pub ran-printed : (words : List (List ℕ)) (input : List ℕ) (status : ℕ) (i j : Edges) (due : ℕ → List ℕ → Type 0) → IsInput i.left input → ((s : ℕ) (printed : List ℕ) → due s printed → IsDue words input s printed) → Printed due status i.taken i.lost j.taken j.lost → Ran words status i j
+pub ran-printed : (words : List (List ℕ)) (input : List ℕ) (status : ℕ) (i j : Edges) (due : ℕ → List ℕ → Type 0) → IsInput i.left input → ((s : ℕ) (printed : List ℕ) → due s printed → IsDue words input i j s printed) → Printed due status i.taken i.lost j.taken j.lost → Ran words status i j
 ran-printed words input status i j due told f p = ran_by words input status i j p.due_status p.words p.whole told (f p.due_status p.words p.is_due) p.said p.status_is
 
 -- words that end with exactly these bytes, whatever the input
-pub ran-exactly : (words : List (List ℕ)) (job : Option Job) (text : List ℕ) (code status : ℕ) (i j : Edges) → IsJob words job → ((input : List ℕ) → Ends job input code text) → Printed (Exactly text code) status i.taken i.lost j.taken j.lost → Ran words status i j
+pub ran-exactly : (words : List (List ℕ)) (job : Option Job) (text : List ℕ) (code status : ℕ) (i j : Edges) → IsJob words job → ((input : List ℕ) → Ends job input i j code text) → Printed (Exactly text code) status i.taken i.lost j.taken j.lost → Ran words status i j
 ran-exactly words job text code status i j asked ends p =
     let given = some-input i.left in
-    ran-printed words given.0 status i j (Exactly text code) given.1 (λ s printed e. inl (record { job = job; asked = asked; ends = subst (λ w. Ends job given.0 s w) (sym e.words_is) (subst (λ c. Ends job given.0 c text) (sym e.status_is) (ends given.0)) })) p
+    ran-printed words given.0 status i j (Exactly text code) given.1 (λ s printed e. inl (record { job = job; asked = asked; ends = subst (λ w. Ends job given.0 i j s w) (sym e.words_is) (subst (λ c. Ends job given.0 i j c text) (sym e.status_is) (ends given.0)) })) p
 
-due_job : (words : List (List ℕ)) (config : Config) (input : List ℕ) (s : ℕ) (printed : List ℕ) → AsksFor words (Replay config) → IsReplayDue config input s printed → IsDue words input s printed
-due_job words config input s printed asked (inl replays) = inl (record { job = Some (Replay config); asked = asked; ends = replays })
-due_job words config input s printed asked (inr short) = inr (record { config = config; asked = asked; stops = short })
+due_job : (words : List (List ℕ)) (config : Config) (input : List ℕ) (i j : Edges) (s : ℕ) (printed : List ℕ) → AsksFor words (Replay config) → IsReplayDue config input s printed → IsDue words input i j s printed
+due_job words config input i j s printed asked (inl replays) = inl (record { job = Some (Replay config); asked = asked; ends = replays })
+due_job words config input i j s printed asked (inr short) = inr (inl (record { config = config; asked = asked; stops = short }))
 
 -- a script that was run is a run
-pub ran-replayed : (words : List (List ℕ)) (config : Config) (status : ℕ) (i j : Edges) → AsksFor words (Replay config) → Replayed config status i j → Ran words status i j
-ran-replayed words config status i j asked (inl r) = ran-printed words r.0 status i j (IsReplayDue config r.0) r.1 (λ s printed due. due_job words config r.0 s printed asked due) r.2
-ran-replayed words config status i j asked (inr r) = inr (inl (record { config = config; asked = asked; status_is = r.0; rose = r.1; taken_is = r.2; lost_kept = r.3 }))
+pub ran-replayed : (words : List (List ℕ)) (config : Config) (status : ℕ) (i j : Edges) → AsksFor words (Replay config) → Replayed config status i j → j.content ≡ i.content → Ran words status i j
+ran-replayed words config status i j asked (inl r) kept = ran-printed words r.0 status i j (IsReplayDue config r.0) r.1 (λ s printed due. due_job words config r.0 i j s printed asked due) r.2
+ran-replayed words config status i j asked (inr r) kept = inr (inl (record { asked = inl (config, asked); rose = r.1; silent = record { status_is = r.0; taken_is = r.2; lost_kept = r.3; kept = kept } }))
+
+-- an archive that was to be made is a run
+pub ran-made : (words : List (List ℕ)) (config : Config) (status : ℕ) (i j : Edges) → AsksFor words (Init config) → InitDone config status i j → Ran words status i j
+ran-made words config status i j asked (inl p) =
+    let given = some-input i.left in
+    ran-printed words given.0 status i j (IsOutcomeDue (Init config) [] i j) given.1
+    (λ s printed due. inl (record { job = Some (Init config); asked = asked; ends = record { outcome = due.outcome; acts = record { moment = due.acts.moment; first = due.acts.first; acts = due.acts.acts; fault = due.acts.fault }; status_is = due.status_is; printed_is = due.printed_is } })) p
+ran-made words config status i j asked (inr missed) = inr (inr (inl (record { asked = inl (config, asked); rose = missed.1; silent = missed.0 })))
+
+-- and so is a message that was to be delivered
+pub ran-delivered : (words : List (List ℕ)) (status : ℕ) (i j : Edges) → AsksFor words Deliver → InputDone status i j → Ran words status i j
+ran-delivered words status i j asked (inl (input, told, inl p)) =
+    ran-printed words input status i j (IsOutcomeDue Deliver input i j) told (λ s printed due. inl (record { job = Some Deliver; asked = asked; ends = due })) p
+ran-delivered words status i j asked (inl (input, told, inr missed)) = inr (inr (inl (record { asked = inr asked; rose = missed.1; silent = missed.0 })))
+ran-delivered words status i j asked (inr (inl p)) =
+    let given = some-input i.left in
+    ran-printed words given.0 status i j (IsUnread i j) given.1 (λ s printed unread. inr (inr (record { asked = asked; status_is = unread.status_is; printed_is = unread.printed_is; kept = unread.kept }))) p
+ran-delivered words status i j asked (inr (inr failed)) = inr (inl (record { asked = inr asked; rose = failed.1; silent = failed.0 }))
+
+-- and a check
+pub ran-checked : (words : List (List ℕ)) (status : ℕ) (i j : Edges) (o : Outcome) → AsksFor words Check → ((input : List ℕ) → Acts Check input i j o) → Printed (Exactly (line (outcome_line o)) (status_of o)) status i.taken i.lost j.taken j.lost → Ran words status i j
+ran-checked words status i j o asked acts p =
+    let given = some-input i.left in
+    ran-printed words given.0 status i j (Exactly (line (outcome_line o)) (status_of o)) given.1
+    (λ s printed e. inl (record { job = Some Check; asked = asked; ends = record { outcome = o; acts = acts given.0; status_is = e.status_is; printed_is = e.words_is } })) p
+
+-- what was printed of an outcome is due by it
+pub outcome-due : (job : Job) (input : List ℕ) (status : ℕ) (i j : Edges) (o : Outcome) → Acts job input i j o → Printed (Exactly (line (outcome_line o)) (status_of o)) status i.taken i.lost j.taken j.lost → Printed (IsOutcomeDue job input i j) status i.taken i.lost j.taken j.lost
+outcome-due job input status i j o acts p =
+    printed-as i.taken i.lost j.taken j.lost (Exactly (line (outcome_line o)) (status_of o)) (IsOutcomeDue job input i j) status p
+    (λ s words e. record { outcome = o; acts = acts; status_is = e.status_is; printed_is = e.words_is })
+
+-- some moment is the first to come
+pub some-moment : (coming : Option Moments) → (moment : ℕ) × IsFirst moment coming
+some-moment None = (0, tt)
+some-moment (Some moments) = (moments.next, refl)
 
 -- what a read that was refused took of the input, behind what was taken before
 pub took-refused : (most : ℕ) (refused : InputRefusal) (start left left' : Option (List ℕ)) (bytes bytes' : List ℕ) (faults faults' : ℕ) → IsPieceRead most (Err refused) left left' bytes bytes' faults faults' → start ≡ before bytes left → length bytes < most → TookAtMost most start left'
