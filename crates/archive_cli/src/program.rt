@@ -32,6 +32,9 @@ pub fn run<S: Source, O: Sink>(alloc: Global, words: &[&str], input: &mut S, out
         Some(Job::Help) => print(HELP.as_bytes(), 0, out),
         Some(Job::Version) => print(VERSION.as_bytes(), 0, out),
         Some(Job::Replay { config }) => replay(alloc, config, input, out),
+        Some(Job::Init { config: _ }) => print(b"words not read\n", 2, out),
+        Some(Job::Deliver) => print(b"words not read\n", 2, out),
+        Some(Job::Check) => print(b"words not read\n", 2, out),
     }
 }
 
