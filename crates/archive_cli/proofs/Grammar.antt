@@ -1,5 +1,5 @@
--- The words of `replay` and its options.
-use Rattle.std.proofs.Common.{◌≡◌, ◌≢◌, ◌≤◌, ◌<◌, ◌+◌, inl, inr, ◌⊎◌, ℕ, List, [], ◌∷◌, ◌++◌, map, length, get_or, drop, All, codes, decimal, refl, sym, ◌∙◌, ap, subst, append_assoc, arith, length-append, drop-cons, add-one}
+-- The words of `init` and `replay`, and their options.
+use Rattle.std.proofs.Common.{Bool, true, false, ◌≡◌, ◌≢◌, ◌≤◌, ◌<◌, ◌+◌, inl, inr, ◌⊎◌, ℕ, List, [], ◌∷◌, ◌++◌, map, length, get_or, drop, All, codes, decimal, refl, sym, ◌∙◌, ap, subst, append_assoc, arith, length-append, drop-cons, add-one}
 use Rattle.std.specs.Borrow.{Bor}
 use Rattle.std.specs.Option.{option_to_list}
 use Rattle.std.specs.List.{flat_map}
@@ -9,12 +9,12 @@ use Rattle.std.proofs.lemmas.List.{append-nil, map-append}
 use Rattle.std.proofs.lemmas.List.Elements.{All-push, All-head, All-tail}
 use Rattle.arch_base.specs.Configs.{IsConfig}
 use Rattle.arch_base.specs.declared.config.Config.{Config}
-use Rattle.archive_cli.specs.Words.{IsReplay, AsksFor, IsSetting, IsUpTo, EachOnce, setting_word, limit_of, slice_of, max_of, limits, slices, maxes, spelled, limit_in, slice_in, max_in}
-use Rattle.archive_cli.specs.Options.{Holds, HoldsMore, HoldsTwo}
+use Rattle.archive_cli.specs.Words.{IsMade, IsInit, IsReplay, AsksFor, IsSetting, IsUpTo, EachOnce, setting_word, limit_of, slice_of, max_of, mirror_of, limits, slices, maxes, mirrors, spelled, limit_in, slice_in, max_in, mirror_in}
+use Rattle.archive_cli.specs.Options.{Holds, HoldsMore, HoldsTwo, marks}
 use Rattle.archive_cli.specs.declared.words.Job.{Job}
-use Rattle.archive_cli.specs.declared.words.Job.TheVariants.{Help, Version, Replay}
+use Rattle.archive_cli.specs.declared.words.Job.TheVariants.{Help, Version, Replay, Init, Deliver, Check}
 use Rattle.archive_cli.specs.declared.words.Setting.{Setting}
-use Rattle.archive_cli.specs.declared.words.Setting.TheVariants.{Limit, Slice, Max}
+use Rattle.archive_cli.specs.declared.words.Setting.TheVariants.{Limit, Slice, Max, Mirror}
 use Rattle.archive_cli.specs.declared.words.Settings.{Settings}
 
 -- texts with other first bytes differ
@@ -24,14 +24,35 @@ apart c d x y h e = h (ap (λ l. get_or l 0 0) e)
 -- a word spells one setting at most
 pub same_setting : (g h : Setting) → IsSetting g → IsSetting h → setting_word g ≡ setting_word h → g ≡ h
 same_setting (Limit m) (Limit n) p q e = ap Limit (decimal_injective m n (omega (arith, p.1)) (omega (arith, q.1)) (ap (drop 6) e))
+same_setting (Limit m) Mirror p q e = absurd (apart 108 109 (codes "imit=" ++ decimal m) (codes "irror") (omega arith) e)
 same_setting (Limit m) (Slice n) p q e = absurd (apart 108 115 (codes "imit=" ++ decimal m) (codes "lice=" ++ decimal n) (omega arith) e)
 same_setting (Limit m) (Max n) p q e = absurd (apart 108 109 (codes "imit=" ++ decimal m) (codes "ax=" ++ decimal n) (omega arith) e)
 same_setting (Slice m) (Limit n) p q e = absurd (apart 115 108 (codes "lice=" ++ decimal m) (codes "imit=" ++ decimal n) (omega arith) e)
 same_setting (Slice m) (Slice n) p q e = ap Slice (decimal_injective m n (omega (arith, p.1)) (omega (arith, q.1)) (ap (drop 6) e))
+same_setting (Slice m) Mirror p q e = absurd (apart 115 109 (codes "lice=" ++ decimal m) (codes "irror") (omega arith) e)
 same_setting (Slice m) (Max n) p q e = absurd (apart 115 109 (codes "lice=" ++ decimal m) (codes "ax=" ++ decimal n) (omega arith) e)
 same_setting (Max m) (Limit n) p q e = absurd (apart 109 108 (codes "ax=" ++ decimal m) (codes "imit=" ++ decimal n) (omega arith) e)
 same_setting (Max m) (Slice n) p q e = absurd (apart 109 115 (codes "ax=" ++ decimal m) (codes "lice=" ++ decimal n) (omega arith) e)
 same_setting (Max m) (Max n) p q e = ap Max (decimal_injective m n (omega (arith, p.1)) (omega (arith, q.1)) (ap (drop 4) e))
+same_setting (Max m) Mirror p q e = absurd (apart 97 105 (codes "x=" ++ decimal m) (codes "rror") (omega arith) (ap (drop 1) e))
+same_setting Mirror (Limit n) p q e = absurd (apart 109 108 (codes "irror") (codes "imit=" ++ decimal n) (omega arith) e)
+same_setting Mirror (Slice n) p q e = absurd (apart 109 115 (codes "irror") (codes "lice=" ++ decimal n) (omega arith) e)
+same_setting Mirror (Max n) p q e = absurd (apart 105 97 (codes "rror") (codes "x=" ++ decimal n) (omega arith) (ap (drop 1) e))
+same_setting Mirror Mirror p q e = refl
+
+-- two lists with the same first and the same behind it
+grown : (f g : Setting) (gs rest : List Setting) → f ≡ g → gs ≡ rest → g ∷ gs ≡ f ∷ rest
+grown f g gs rest same behind = cc
+
+-- so words spell one list of settings at most
+pub same_settings : (settings others : List Setting) → All IsSetting settings → All IsSetting others → map setting_word settings ≡ map setting_word others → settings ≡ others
+same_settings [] [] a b e = refl
+same_settings [] (h ∷ hs) a b e = absurd (cc e)
+same_settings (g ∷ gs) [] a b e = absurd (cc e)
+same_settings (g ∷ gs) (h ∷ hs) a b e =
+    let spelling : setting_word g ≡ setting_word h = cc e in
+    let behind : map setting_word gs ≡ map setting_word hs = cc e in
+    grown h g gs hs (sym (same_setting g h (All-head IsSetting g gs a) (All-head IsSetting h hs b) spelling)) (same_settings gs hs (All-tail IsSetting g gs a) (All-tail IsSetting h hs b) behind)
 
 -- settings that begin with other settings, and with one more behind them
 record Splits (front settings : List Setting) (word : List ℕ) : Type 0 where
@@ -40,10 +61,6 @@ record Splits (front settings : List Setting) (word : List ℕ) : Type 0 where
   pub split : settings ≡ front ++ next ∷ later
   pub spelling : word ≡ setting_word next
   pub in_range : IsSetting next
-
--- two lists with the same first and the same behind it
-grown : (f g : Setting) (gs rest : List Setting) → f ≡ g → gs ≡ rest → g ∷ gs ≡ f ∷ rest
-grown f g gs rest same behind = cc
 
 -- they do, where their words begin with those of the others
 splits : (front settings : List Setting) (word : List ℕ) (rest : List (List ℕ)) → All IsSetting front → All IsSetting settings → map setting_word front ++ word ∷ rest ≡ map setting_word settings → Splits front settings word
@@ -57,21 +74,22 @@ splits (f ∷ front) (g ∷ gs) word rest a b e =
     let s : Splits front gs word = splits front gs word rest (All-tail IsSetting f front a) (All-tail IsSetting g gs b) behind in
     record { next = s.next; later = s.later; split = grown f g gs (front ++ s.next ∷ s.later) same s.split; spelling = s.spelling; in_range = s.in_range }
 
--- the numbers of a kind, up to one setting more
-numbers-more : (kind : Setting → List ℕ) (front : List Setting) (g : Setting) (held : List ℕ) → flat_map kind front ≡ held → flat_map kind (front ++ g ∷ []) ≡ held ++ kind g
-numbers-more kind front g held is = flat_map-append kind front (g ∷ []) ∙ ap (λ ns. ns ++ (kind g ++ [])) is ∙ ap (λ ns. held ++ ns) (append-nil (kind g))
+-- what settings of a kind give, up to one setting more
+given-more : {A : Type 0} (kind : Setting → List A) (front : List Setting) (g : Setting) (held : List A) → flat_map kind front ≡ held → flat_map kind (front ++ g ∷ []) ≡ held ++ kind g
+given-more kind front g held is = flat_map-append kind front (g ∷ []) ∙ ap (λ ns. ns ++ (kind g ++ [])) is ∙ ap (λ ns. held ++ ns) (append-nil (kind g))
 
 -- and there are no fewer in all
-numbers-le : (kind : Setting → List ℕ) (front : List Setting) (g : Setting) (later : List Setting) (held : List ℕ) → flat_map kind front ≡ held → length (held ++ kind g) ≤ length (flat_map kind (front ++ g ∷ later))
-numbers-le kind front g later held is =
+given-le : {A : Type 0} (kind : Setting → List A) (front : List Setting) (g : Setting) (later : List Setting) (held : List A) → flat_map kind front ≡ held → length (held ++ kind g) ≤ length (flat_map kind (front ++ g ∷ later))
+given-le kind front g later held is =
     let all : flat_map kind (front ++ g ∷ later) ≡ held ++ (kind g ++ flat_map kind later) = flat_map-append kind front (g ∷ later) ∙ ap (λ ns. ns ++ (kind g ++ flat_map kind later)) is in
     omega (arith, ap length all, length-append held (kind g), length-append held (kind g ++ flat_map kind later), length-append (kind g) (flat_map kind later))
 
--- one of three kinds has two numbers, and each has at most one
-twice : {a b c x y z : ℕ} → (1 < a) ⊎ ((1 < b) ⊎ (1 < c)) → a ≤ x → b ≤ y → c ≤ z → x ≤ 1 → y ≤ 1 → z ≤ 1 → ⊥
-twice (inl p) u v w i j k = omega arith
-twice (inr (inl p)) u v w i j k = omega arith
-twice (inr (inr p)) u v w i j k = omega arith
+-- one of four kinds is given twice, and each is given at most once
+twice : {a b c d x y z w : ℕ} → (1 < a) ⊎ ((1 < b) ⊎ ((1 < c) ⊎ (1 < d))) → a ≤ x → b ≤ y → c ≤ z → d ≤ w → x ≤ 1 → y ≤ 1 → z ≤ 1 → w ≤ 1 → ⊥
+twice (inl p) e f g h i j k l = omega arith
+twice (inr (inl p)) e f g h i j k l = omega arith
+twice (inr (inr (inl p))) e f g h i j k l = omega arith
+twice (inr (inr (inr p))) e f g h i j k l = omega arith
 
 -- the options up to some place were read
 pub record Reading (words rest : List (List ℕ)) (held : Settings) : Type 0 where
@@ -92,9 +110,10 @@ module _ (words : List (List ℕ)) (word : List ℕ) (rest : List (List ℕ)) (h
         ∙ ap (λ ws. ws ++ rest) (sym (map-append setting_word r.settings (g ∷ [])));
     ranges = All-push IsSetting r.settings g r.ranges h;
     holds = record {
-      limit_is = numbers-more limit_of r.settings g (option_to_list held.limit) r.holds.limit_is ∙ m.limit_is;
-      slice_is = numbers-more slice_of r.settings g (option_to_list held.slice) r.holds.slice_is ∙ m.slice_is;
-      max_is = numbers-more max_of r.settings g (option_to_list held.max) r.holds.max_is ∙ m.max_is;
+      limit_is = given-more limit_of r.settings g (option_to_list held.limit) r.holds.limit_is ∙ m.limit_is;
+      slice_is = given-more slice_of r.settings g (option_to_list held.slice) r.holds.slice_is ∙ m.slice_is;
+      max_is = given-more max_of r.settings g (option_to_list held.max) r.holds.max_is ∙ m.max_is;
+      mirror_is = given-more mirror_of r.settings g (marks held.mirror) r.holds.mirror_is ∙ m.mirror_is;
     };
   }
 
@@ -112,10 +131,11 @@ module _ (words : List (List ℕ)) (word : List ℕ) (rest : List (List ℕ)) (h
       let same : s.next ≡ g = same_setting s.next g s.in_range h (sym s.spelling ∙ spelling) in
       let split : settings ≡ r.settings ++ g ∷ s.later = s.split ∙ ap (λ (k : Setting). r.settings ++ k ∷ s.later) same in
       twice two
-      (subst (λ (k : List Setting). length (option_to_list held.limit ++ limit_of g) ≤ length (limits k)) (sym split) (numbers-le limit_of r.settings g s.later (option_to_list held.limit) r.holds.limit_is))
-      (subst (λ (k : List Setting). length (option_to_list held.slice ++ slice_of g) ≤ length (slices k)) (sym split) (numbers-le slice_of r.settings g s.later (option_to_list held.slice) r.holds.slice_is))
-      (subst (λ (k : List Setting). length (option_to_list held.max ++ max_of g) ≤ length (maxes k)) (sym split) (numbers-le max_of r.settings g s.later (option_to_list held.max) r.holds.max_is))
-      once.one_limit once.one_slice once.one_max
+      (subst (λ (k : List Setting). length (option_to_list held.limit ++ limit_of g) ≤ length (limits k)) (sym split) (given-le limit_of r.settings g s.later (option_to_list held.limit) r.holds.limit_is))
+      (subst (λ (k : List Setting). length (option_to_list held.slice ++ slice_of g) ≤ length (slices k)) (sym split) (given-le slice_of r.settings g s.later (option_to_list held.slice) r.holds.slice_is))
+      (subst (λ (k : List Setting). length (option_to_list held.max ++ max_of g) ≤ length (maxes k)) (sym split) (given-le max_of r.settings g s.later (option_to_list held.max) r.holds.max_is))
+      (subst (λ (k : List Setting). length (marks held.mirror ++ mirror_of g) ≤ length (mirrors k)) (sym split) (given-le mirror_of r.settings g s.later (marks held.mirror) r.holds.mirror_is))
+      once.one_limit once.one_slice once.one_max once.one_mirror
 
 -- the options from a place on
 spelled-at : (options : List (Bor (List ℕ))) (i : ℕ) (d : Bor (List ℕ)) → i < length options → spelled (drop i options) ≡ (get_or options i d).now ∷ spelled (drop (i + 1) options)
@@ -125,16 +145,73 @@ spelled-at options i d within = rw add-one (ap spelled (drop-cons options i d wi
 pub Reading-at : (options : List (Bor (List ℕ))) (i : ℕ) (d : Bor (List ℕ)) (held : Settings) → i < length options → Reading (spelled options) (spelled (drop i options)) held → Reading (spelled options) ((get_or options i d).now ∷ spelled (drop (i + 1) options)) held
 Reading-at options i d held within r = subst (λ ws. Reading (spelled options) ws held) (spelled-at options i d within) r
 
-module _ (word name : List ℕ) (rest : List (List ℕ)) where
-  -- words that aren't those of a script
-  not_asked : ((config : Config) → IsReplay (word ∷ name ∷ rest) config → ⊥) → (job : Job) → AsksFor (word ∷ name ∷ rest) job → ⊥
-  not_asked f Help e = cc e
-  not_asked f Version e = cc e
-  not_asked f (Replay config) is = f config is
+-- settings of which the first mark is missing have no `mirror`
+none_marked : (settings : List Setting) → mirror_in settings ≡ false → mirrors settings ≡ []
+none_marked [] e = refl
+none_marked (Limit n ∷ gs) e = none_marked gs e
+none_marked (Slice n ∷ gs) e = none_marked gs e
+none_marked (Max n ∷ gs) e = none_marked gs e
+none_marked (Mirror ∷ gs) e = absurd (cc e)
 
-  -- options that don't spell settings, each of a kind once
-  pub other_options : ((settings : List Setting) → rest ≡ map setting_word settings → All IsSetting settings → EachOnce settings → ⊥) → (job : Job) → AsksFor (word ∷ name ∷ rest) job → ⊥
-  other_options h = not_asked (λ config r. let same : rest ≡ map setting_word r.settings = cc r.is in h r.settings same r.ranges r.once)
+-- whether settings make a mirror
+mirror-made : (words : List (List ℕ)) (settings : List Setting) (config : Config) (b : Bool) → IsMade words settings config → config.mirror ≡ b → mirror_in settings ≡ b
+mirror-made words settings config b m e = sym (ap (λ (k : Config). k.mirror) m.config_is) ∙ e
+
+-- settings that give no mark make no mirror
+unmarked : (settings : List Setting) → mirrors settings ≡ [] → mirror_in settings ≡ true → ⊥
+unmarked settings none e = let plain : mirror_in settings ≡ false = ap (λ (ms : List Bool). get_or ms 0 false) none in absurd (cc (plain, e))
+
+-- the same words make the same settings
+same_made : (words : List (List ℕ)) (settings others : List Setting) (config other : Config) → IsMade words settings config → IsMade words others other → settings ≡ others
+same_made words settings others config other m n =
+    let spelling : map setting_word settings ≡ map setting_word others = cc (m.is, n.is) in
+    same_settings settings others m.ranges n.ranges spelling
+
+module _ (word name : List ℕ) (options : List (List ℕ)) where
+  -- a word and what makes an archive behind it
+  behind_word : (command : List ℕ) (behind : List (List ℕ)) (settings : List Setting) (config : Config) → word ∷ name ∷ options ≡ command ∷ behind → IsMade behind settings config → IsMade (name ∷ options) settings config
+  behind_word command behind settings config is m = subst (λ ws. IsMade ws settings config) (cc is) m
+
+  -- words that make no archive ask for no job
+  pub not_made : ((settings : List Setting) (config : Config) → IsMade (name ∷ options) settings config → ⊥) → (job : Job) → AsksFor (word ∷ name ∷ options) job → ⊥
+  not_made h Help e = cc e
+  not_made h Version e = cc e
+  not_made h Deliver e = cc e
+  not_made h Check e = cc e
+  not_made h (Init config) i = h i.settings config (behind_word (codes "init") i.behind i.settings config i.is i.made)
+  not_made h (Replay config) r = h r.settings config (behind_word (codes "replay") r.behind r.settings config r.is r.made)
+
+  -- nor do words of which the first is another
+  pub other_word : word ≢ codes "init" → word ≢ codes "replay" → (job : Job) → AsksFor (word ∷ name ∷ options) job → ⊥
+  other_word p q Help e = cc e
+  other_word p q Version e = cc e
+  other_word p q Deliver e = cc e
+  other_word p q Check e = cc e
+  other_word p q (Init config) i = p (cc i.is)
+  other_word p q (Replay config) r = q (cc r.is)
+
+  module _ (config : Config) (is : word ≡ codes "replay") (made : (settings : List Setting) × IsMade (name ∷ options) settings config) where
+    -- `replay` and an archive that is no mirror
+    pub replayed : config.mirror ≡ false → IsReplay (word ∷ name ∷ options) config
+    replayed e = record {
+      settings = made.0;
+      behind = name ∷ options;
+      is = ap (λ w. w ∷ name ∷ options) is;
+      made = made.1;
+      no_mirror = none_marked made.0 (mirror-made (name ∷ options) made.0 config false made.1 e);
+    }
+
+    -- `replay` and a mirror
+    pub not_replayed : config.mirror ≡ true → (job : Job) → AsksFor (word ∷ name ∷ options) job → ⊥
+    not_replayed e Help f = cc f
+    not_replayed e Version f = cc f
+    not_replayed e Deliver f = cc f
+    not_replayed e Check f = cc f
+    not_replayed e (Init other) i = apart 105 114 (codes "nit") (codes "eplay") (omega arith) (cc (i.is, is))
+    not_replayed e (Replay other) r =
+        let found : IsMade (name ∷ options) r.settings other = behind_word (codes "replay") r.behind r.settings other r.is r.made in
+        let same : made.0 ≡ r.settings = same_made (name ∷ options) made.0 r.settings config other made.1 found in
+        unmarked made.0 (ap mirrors same ∙ r.no_mirror) (mirror-made (name ∷ options) made.0 config true made.1 e)
 
 first-cons : (most default : ℕ) (ns ms : List ℕ) → IsUpTo most (get_or ns 0 default) → IsUpTo most (get_or ms 0 default) → IsUpTo most (get_or (ns ++ ms) 0 default)
 first-cons most default [] ms p q = q
@@ -150,24 +227,27 @@ limit-first : (g : Setting) → IsSetting g → IsUpTo 1099511627776 (get_or (li
 limit-first (Limit n) h = h
 limit-first (Slice n) h = (omega arith, omega arith)
 limit-first (Max n) h = (omega arith, omega arith)
+limit-first Mirror h = (omega arith, omega arith)
 
 slice-first : (g : Setting) → IsSetting g → IsUpTo 1000000 (get_or (slice_of g) 0 50000)
 slice-first (Limit n) h = (omega arith, omega arith)
 slice-first (Slice n) h = h
 slice-first (Max n) h = (omega arith, omega arith)
+slice-first Mirror h = (omega arith, omega arith)
 
 max-first : (g : Setting) → IsSetting g → IsUpTo 2147483647 (get_or (max_of g) 0 2147483647)
 max-first (Limit n) h = (omega arith, omega arith)
 max-first (Slice n) h = (omega arith, omega arith)
 max-first (Max n) h = h
+max-first Mirror h = (omega arith, omega arith)
 
--- a job's settings are in their ranges
-pub replay-config : (words : List (List ℕ)) (config : Config) → IsReplay words config → IsConfig config
-replay-config words config r =
-    let limit : IsUpTo 1099511627776 (limit_in r.settings) = first-in limit_of 1099511627776 1073741824 limit-first (omega arith, omega arith) r.settings r.ranges in
-    let slice : IsUpTo 1000000 (slice_in r.settings) = first-in slice_of 1000000 50000 slice-first (omega arith, omega arith) r.settings r.ranges in
-    let max : IsUpTo 2147483647 (max_in r.settings) = first-in max_of 2147483647 2147483647 max-first (omega arith, omega arith) r.settings r.ranges in
-    subst IsConfig (sym r.config_is) (record {
+-- the settings of a made archive are in their ranges
+made-config : (words : List (List ℕ)) (settings : List Setting) (config : Config) → IsMade words settings config → IsConfig config
+made-config words settings config m =
+    let limit : IsUpTo 1099511627776 (limit_in settings) = first-in limit_of 1099511627776 1073741824 limit-first (omega arith, omega arith) settings m.ranges in
+    let slice : IsUpTo 1000000 (slice_in settings) = first-in slice_of 1000000 50000 slice-first (omega arith, omega arith) settings m.ranges in
+    let max : IsUpTo 2147483647 (max_in settings) = first-in max_of 2147483647 2147483647 max-first (omega arith, omega arith) settings m.ranges in
+    subst IsConfig (sym m.config_is) (record {
       limit_low = limit.0;
       limit_high = limit.1;
       slice_low = slice.0;
@@ -177,3 +257,9 @@ replay-config words config r =
       born_low = omega arith;
       born_high = omega arith;
     })
+
+pub init-config : (words : List (List ℕ)) (config : Config) → IsInit words config → IsConfig config
+init-config words config i = made-config i.behind i.settings config i.made
+
+pub replay-config : (words : List (List ℕ)) (config : Config) → IsReplay words config → IsConfig config
+replay-config words config r = made-config r.behind r.settings config r.made

@@ -1,28 +1,36 @@
 -- What the code that reads options answers.
-use Rattle.std.specs.Prelude.{◌≡◌, ◌<◌, ◌⊎◌, ℕ, false, List, ◌++◌, map, length, All, Option, Some, None}
+use Rattle.std.specs.Prelude.{◌≡◌, ◌<◌, ◌⊎◌, ℕ, Bool, true, false, List, [], ◌∷◌, ◌++◌, map, length, All, Option, Some, None}
 use Rattle.std.specs.Option.{option_to_list, unwrap_or}
 use Rattle.arch_base.specs.declared.config.Config.{Config}
-use Rattle.archive_cli.specs.Words.{setting_word, IsSetting, EachOnce, limit_of, slice_of, max_of, limits, slices, maxes}
+use Rattle.archive_cli.specs.Words.{setting_word, IsSetting, IsMade, EachOnce, limit_of, slice_of, max_of, mirror_of, limits, slices, maxes, mirrors}
 use Rattle.archive_cli.specs.declared.words.Setting.{Setting}
 use Rattle.archive_cli.specs.declared.words.Settings.{Settings}
 
--- these are the numbers of each kind among settings
+-- one mark where `mirror` was given, and none where it wasn't
+abbrev pub marks : Bool → List Bool
+marks true = true ∷ []
+marks false = []
+
+-- this is what settings of each kind give
 pub record Holds (settings : List Setting) (held : Settings) : Type 0 where
   pub limit_is : limits settings ≡ option_to_list held.limit
   pub slice_is : slices settings ≡ option_to_list held.slice
   pub max_is : maxes settings ≡ option_to_list held.max
+  pub mirror_is : mirrors settings ≡ marks held.mirror
 
 -- one setting more is held
 pub record HoldsMore (held : Settings) (setting : Setting) (more : Settings) : Type 0 where
   pub limit_is : option_to_list held.limit ++ limit_of setting ≡ option_to_list more.limit
   pub slice_is : option_to_list held.slice ++ slice_of setting ≡ option_to_list more.slice
   pub max_is : option_to_list held.max ++ max_of setting ≡ option_to_list more.max
+  pub mirror_is : marks held.mirror ++ mirror_of setting ≡ marks more.mirror
 
 -- one of the kind of a setting is held, which makes two with it
 abbrev pub HoldsTwo : Settings → Setting → Type 0
 HoldsTwo held setting =
     (1 < length (option_to_list held.limit ++ limit_of setting))
-    ⊎ ((1 < length (option_to_list held.slice ++ slice_of setting)) ⊎ (1 < length (option_to_list held.max ++ max_of setting)))
+    ⊎ ((1 < length (option_to_list held.slice ++ slice_of setting))
+    ⊎ ((1 < length (option_to_list held.max ++ max_of setting)) ⊎ (1 < length (marks held.mirror ++ mirror_of setting))))
 
 -- one setting more is held, or it is refused as the second of its kind
 abbrev pub IsWith : Settings → Setting → Option Settings → Type 0
@@ -48,6 +56,11 @@ config_by name held = record {
   limit = unwrap_or held.limit 1073741824;
   slice = unwrap_or held.slice 50000;
   max = unwrap_or held.max 2147483647;
-  mirror = false;
+  mirror = held.mirror;
   born = 1;
 }
+
+-- the settings of the archive that words make, or none where they aren't a name with settings behind it
+abbrev pub IsConfigured : List (List ℕ) → Option Config → Type 0
+IsConfigured words (Some config) = (settings : List Setting) × IsMade words settings config
+IsConfigured words None = (settings : List Setting) (config : Config) → IsMade words settings config → ⊥

@@ -1,6 +1,7 @@
 //! Runs of the program over an input and an output in memory.
 use crate::program::run;
-use arch_base::{Bytes, Numbers};
+use crate::words::{Job, read_words};
+use arch_base::{Bytes, Config, Numbers};
 use edge_io::{MemSink, MemSource, Source, SourceFault};
 use std::alloc::Global;
 
@@ -103,6 +104,122 @@ fn options_of_a_script(rt: HostRuntime) {
         };
         assert!(rt; status == 2);
         assert!(rt; sink.taken() == b"words not read\n".as_slice());
+    }
+}
+
+/// The job that words ask for.
+fn asked(words: &[&str]) -> &'static str {
+    match read_words(words) {
+        None => "none",
+        Some(Job::Help) => "help",
+        Some(Job::Version) => "version",
+        Some(Job::Replay { config: _ }) => "replay",
+        Some(Job::Init { config: _ }) => "init",
+        Some(Job::Deliver) => "deliver",
+        Some(Job::Check) => "check",
+    }
+}
+
+#[test]
+fn words_in_the_grammar_and_others(rt: HostRuntime) {
+    let rows: [(&[&str], &str); 34] = [
+        (&["--help"], "help"),
+        (&["--version"], "version"),
+        (&["deliver"], "deliver"),
+        (&["check"], "check"),
+        (&["replay", "list"], "replay"),
+        (&["replay", "mirror"], "replay"),
+        (&["init", "list"], "init"),
+        (&["init", "mirror"], "init"),
+        (&["init", "mirror", "mirror"], "init"),
+        (&["init", "replay"], "init"),
+        (&["init", "list", "mirror"], "init"),
+        (&["init", "list", "mirror", "max=7", "limit=1"], "init"),
+        (&["init", "list", "slice=1", "mirror", "max=7"], "init"),
+        (&[], "none"),
+        (&[""], "none"),
+        (&["init"], "none"),
+        (&["mirror"], "none"),
+        (&["Deliver"], "none"),
+        (&["deliver", "x"], "none"),
+        (&["deliver", ""], "none"),
+        (&["check", "x"], "none"),
+        (&["check", "list", "mirror"], "none"),
+        (&["init", "list", "list"], "none"),
+        (&["init", "List"], "none"),
+        (&["init", ""], "none"),
+        (&["init", "list", ""], "none"),
+        (&["init", "limit=1", "list"], "none"),
+        (&["mirror", "init", "list"], "none"),
+        (&["init", "list", "mirror", "max=7", "mirror"], "none"),
+        (&["init", "list", "max=7", "mirror", "max=7"], "none"),
+        (&["init", "list", "mirror="], "none"),
+        (&["init", "list", "mirror=1"], "none"),
+        (&["init", "list", "Mirror"], "none"),
+        (&["replay", "list", "mirror"], "none"),
+    ];
+    for (words, job) in rows {
+        assert!(rt; asked(words) == job);
+    }
+}
+
+/// The settings of the archive that words ask for.
+fn settings_of(words: &[&str]) -> Option<Config> {
+    match read_words(words)? {
+        Job::Init { config } | Job::Replay { config } => Some(config),
+        _ => None,
+    }
+}
+
+#[test]
+fn settings_that_are_given_and_defaults(rt: HostRuntime) {
+    let rows: [(&[&str], u64, u32, u32, bool); 5] = [
+        (
+            &["replay", "list"],
+            1_073_741_824,
+            50_000,
+            2_147_483_647,
+            false,
+        ),
+        (
+            &["init", "list"],
+            1_073_741_824,
+            50_000,
+            2_147_483_647,
+            false,
+        ),
+        (
+            &["init", "list", "mirror"],
+            1_073_741_824,
+            50_000,
+            2_147_483_647,
+            true,
+        ),
+        (
+            &["init", "list", "slice=5", "max=7"],
+            1_073_741_824,
+            5,
+            7,
+            false,
+        ),
+        (
+            &["init", "list", "max=7", "mirror", "limit=3"],
+            3,
+            50_000,
+            7,
+            true,
+        ),
+    ];
+    for (words, limit, slice, max, mirror) in rows {
+        let Some(config) = settings_of(words) else {
+            return assert!(rt; false);
+        };
+        assert!(rt; config.name.as_slice() == b"list".as_slice());
+        assert!(rt; config.limit == limit);
+        assert!(rt; config.slice == slice);
+        assert!(rt; config.max == max);
+        assert!(rt; config.mirror == mirror);
+        assert!(rt; config.born == 1);
     }
 }
 

@@ -4,6 +4,12 @@
 pub const HELP: &str = "\
 piv2: a mailing list archive
 
+  piv2 init NAME [limit=N] [slice=N] [max=N] [mirror]
+                     make an archive in the folder piv2-store of the current folder, and print that it is made;
+                     limit, slice and max are settings of the archive, and mirror makes one that takes no messages, in any order
+  piv2 deliver       put the message on the input into the archive in the folder piv2-store of the current folder,
+                     and print the answer
+  piv2 check         read all of the archive there, and print entries E live L next N
   piv2 replay NAME [limit=N] [slice=N] [max=N]
                      run a script from the input over an archive in memory, and print what it writes;
                      limit, slice and max are settings of the archive, in any order

@@ -2,7 +2,7 @@
 ghost use Rattle.std.specs.Prelude.{◌≡◌, ◌∷◌, [], decimal};
 ghost use Rattle.edge_io.specs.Parsing.{Spells};
 ghost use Rattle.archive_cli.specs.Words.{IsJob, IsSetting, IsUpTo, setting_word, spelled};
-ghost use Rattle.archive_cli.specs.Options.{IsCollected, IsWith, config_by};
+ghost use Rattle.archive_cli.specs.Options.{IsCollected, IsConfigured, IsWith, config_by};
 
 use arch_base::{Config, Name, read_decimal};
 
@@ -24,9 +24,15 @@ pub enum Job {
     Version,
     /// `replay NAME` with options: to run the script on the input over an archive in memory that has these settings.
     Replay { config: Config },
+    /// `init NAME` with options: to make an archive with these settings. When it was made stands here as 1: the words don't tell.
+    Init { config: Config },
+    /// `deliver`: to put the message on the input into the archive.
+    Deliver,
+    /// `check`: to read all of the archive.
+    Check,
 }
 
-/// A setting of an archive, as an option of `replay` gives it.
+/// A setting of an archive, as an option gives it.
 #[derive(Debug, Drop)]
 pub enum Setting {
     /// `limit=N`: an epoch that has so many bytes takes no further entry.
@@ -35,6 +41,8 @@ pub enum Setting {
     Slice(u32),
     /// `max=N`: the greatest number of a message.
     Max(u32),
+    /// `mirror`: the archive follows another one and takes no commands.
+    Mirror,
 }
 
 /// The settings that options give, at most one of each kind.
@@ -43,6 +51,7 @@ struct Settings {
     limit: Option<u64>,
     slice: Option<u32>,
     max: Option<u32>,
+    mirror: bool,
 }
 
 impl Settings {
@@ -69,6 +78,10 @@ impl Settings {
                     ..self
                 })
             }
+            Setting::Mirror if !self.mirror => Some(Settings {
+                mirror: true,
+                ..self
+            }),
             _ => None,
         }
     }
@@ -82,48 +95,58 @@ impl Settings {
             limit: self.limit.unwrap_or(1_073_741_824),
             slice: self.slice.unwrap_or(50_000),
             max: self.max.unwrap_or(2_147_483_647),
-            mirror: false,
+            mirror: self.mirror,
             born: 1,
         }
     }
 }
 
-/// What these words ask for, or None where they aren't in the grammar: `--help`, `--version`, or `replay NAME` with the name of
-/// an archive and behind it, in any order and each at most once, `limit=N` (1 to 1,099,511,627,776; else 1,073,741,824), `slice=N`
-/// (1 to 1,000,000; else 50,000) and `max=N` (1 to 2,147,483,647; else that), N in decimal without a leading zero. It takes no memory.
+/// What these words ask for, or None where they aren't in the grammar: `--help`, `--version`, `deliver`, `check`, or `init NAME` or
+/// `replay NAME` with the name of an archive and behind it, in any order and each at most once, `limit=N` (1 to 1,099,511,627,776;
+/// else 1,073,741,824), `slice=N` (1 to 1,000,000; else 50,000) and `max=N` (1 to 2,147,483,647; else that), N in decimal without a
+/// leading zero, and behind `init` alone `mirror`. It takes no memory.
 pub fn read_words(words: &[&str]) -> Option<Job>
     ensures { IsJob (spelled words.now) result }
 {
     match words {
-        [word] => read_option(word),
-        [word, name, options @ ..] => read_replay(word, name, options),
+        [word] => read_one(word),
+        [word, name, options @ ..] => read_named(word, name, options),
         _ => None,
     }
 }
 
 /// What one word asks for.
-fn read_option(word: &str) -> Option<Job>
+fn read_one(word: &str) -> Option<Job>
     ensures { IsJob (word.now ∷ []) result }
 {
     match word {
         "--help" => Some(Job::Help),
         "--version" => Some(Job::Version),
+        "deliver" => Some(Job::Deliver),
+        "check" => Some(Job::Check),
         _ => None,
     }
 }
 
 /// What two words and options behind them ask for.
-fn read_replay(word: &str, name: &str, options: &[&str]) -> Option<Job>
+fn read_named(word: &str, name: &str, options: &[&str]) -> Option<Job>
     ensures { IsJob (word.now ∷ name.now ∷ spelled options.now) result }
 {
-    if word != "replay" {
-        return None;
+    let config = read_config(name, options)?;
+    match word {
+        "init" => Some(Job::Init { config }),
+        "replay" if !config.mirror => Some(Job::Replay { config }),
+        _ => None,
     }
+}
+
+/// The settings of the archive that a name and options behind it make.
+fn read_config(name: &str, options: &[&str]) -> Option<Config>
+    ensures { IsConfigured (name.now ∷ spelled options.now) result }
+{
     let name = Name::read(name.as_bytes())?;
     let settings = read_settings(options)?;
-    Some(Job::Replay {
-        config: settings.config(name),
-    })
+    Some(settings.config(name))
 }
 
 /// The settings that options spell, or None where one spells none or two are of one kind.
@@ -134,6 +157,7 @@ fn read_settings(options: &[&str]) -> Option<Settings>
         limit: None,
         slice: None,
         max: None,
+        mirror: false,
     };
     for option in options {
         let setting = read_setting(option)?;
@@ -146,6 +170,9 @@ fn read_settings(options: &[&str]) -> Option<Settings>
 fn read_setting(word: &str) -> Option<Setting>
     ensures { Spells IsSetting setting_word word.now result }
 {
+    if word == "mirror" {
+        return Some(Setting::Mirror);
+    }
     let word = word.as_bytes();
     if let Some(digits) = word.strip_prefix(b"limit=") {
         let limit = read_up_to(MAX_LIMIT, digits)?;
