@@ -176,7 +176,11 @@ fn print_outcome<O: Sink>(outcome: &Outcome, out: &mut O) -> u8
     ensures printed { Printed (Exactly (line (outcome_line outcome.now)) (status_of outcome.now)) result (O.taken out.old) (O.faults out.old) (O.taken out.new) (O.faults out.new) }
     ensures sink { O.alike out.old out.new }
 {
-    if outcome.say(out) { outcome.status() } else { 6 }
+    if outcome.say(out) {
+        outcome.status()
+    } else {
+        6
+    }
 }
 
 /// Runs the script on the input over an empty archive of these settings.
