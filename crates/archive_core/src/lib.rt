@@ -6,3 +6,6 @@ mod entries;
 mod texts;
 
 pub use archive::DiskArchive;
+
+#[cfg(test)]
+mod tests;
