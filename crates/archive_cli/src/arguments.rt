@@ -1,21 +1,24 @@
 //! The words of the command line, as the system hands them over.
 use crate::program::{print_no_memory, run};
-use edge_io::{Sink, Source};
+use disk_model::Disk;
+use edge_io::{Clock, Sink, Source};
 use std::alloc::Global;
 use std::env::Args;
 use std::io::{self, ErrorKind};
 
 /// Runs the program with the arguments behind its name. Arguments that aren't all UTF-8 are no words of the grammar.
-pub(crate) fn run_arguments<S: Source, O: Sink>(
+pub(crate) fn run_arguments<D: Disk + Drop, S: Source, O: Sink, C: Clock>(
     alloc: Global,
     arguments: io::Result<Args>,
+    disk: D,
     input: &mut S,
     out: &mut O,
+    clock: &mut C,
 ) -> u8 {
     let arguments = match arguments {
         Ok(arguments) => arguments,
         Err(refused) if refused.kind() == ErrorKind::OutOfMemory => return print_no_memory(out),
-        Err(_) => return run(alloc, &[], input, out),
+        Err(_) => return run(alloc, &[], disk, input, out, clock).0,
     };
     let mut owned = Vec::new(alloc);
     for argument in arguments {
@@ -30,7 +33,7 @@ pub(crate) fn run_arguments<S: Source, O: Sink>(
         }
     }
     match words.as_slice() {
-        [] => run(alloc, &[], input, out),
-        [_program, words @ ..] => run(alloc, words, input, out),
+        [] => run(alloc, &[], disk, input, out, clock).0,
+        [_program, words @ ..] => run(alloc, words, disk, input, out, clock).0,
     }
 }

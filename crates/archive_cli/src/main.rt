@@ -14,11 +14,14 @@ mod words;
 
 use arguments::run_arguments;
 use program::print_no_memory;
-use real_edges::{StdSink, StdSource};
+use real_edges::{FolderDisk, StdSink, StdSource, SystemClock};
 use std::env;
 use std::process::ExitCode;
 
-/// Does what the command line's words say over the standard input and output, and ends with the status of that.
+/// The folder that keeps the archive, in the current one.
+const FOLDER: &str = "piv2-store";
+
+/// Does what the command line's words say over this folder, the standard input and output and the system's clock, and ends with the status of that.
 fn main(rt: HostRuntime) -> ExitCode {
     let alloc = rt.alloc();
     let Ok(mut output) = StdSink::new(&rt, alloc) else {
@@ -27,7 +30,14 @@ fn main(rt: HostRuntime) -> ExitCode {
     let Ok(mut input) = StdSource::new(&rt, alloc) else {
         return ExitCode::from(print_no_memory(&mut output));
     };
-    ExitCode::from(run_arguments(alloc, env::args(&rt), &mut input, &mut output))
+    let Ok(mut clock) = SystemClock::new(&rt, alloc) else {
+        return ExitCode::from(print_no_memory(&mut output));
+    };
+    let Ok(disk) = FolderDisk::open(&rt, alloc, FOLDER) else {
+        return ExitCode::from(print_no_memory(&mut output));
+    };
+    let arguments = env::args(&rt);
+    ExitCode::from(run_arguments(alloc, arguments, disk, &mut input, &mut output, &mut clock))
 }
 
 #[cfg(test)]

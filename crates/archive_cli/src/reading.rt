@@ -37,7 +37,7 @@ pub(crate) fn read_input<S: Source>(alloc: Global, input: &mut S) -> Result<Byte
     ensures later { S.faults input.old ≤ S.faults input.new }
     ensures few { TookAtMost (input_limit + 1) (S.left input.old) (S.left input.new) }
 {
-    match read_up_to(alloc, input, INPUT_LIMIT + 1) {
+    match read_front(alloc, input, INPUT_LIMIT + 1) {
         Err(refused) => Err(refused),
         Ok(bytes) if bytes.as_slice().len() > INPUT_LIMIT => Err(InputRefusal::TooLong),
         Ok(bytes) => Ok(bytes),
@@ -50,11 +50,11 @@ pub(crate) fn read_message<S: Source>(alloc: Global, input: &mut S) -> Result<By
     ensures later { S.faults input.old ≤ S.faults input.new }
     ensures few { TookAtMost message_limit (S.left input.old) (S.left input.new) }
 {
-    read_up_to(alloc, input, MESSAGE_LIMIT)
+    read_front(alloc, input, MESSAGE_LIMIT)
 }
 
 /// The first bytes of the input, at most so many: all of it where it has no more.
-fn read_up_to<S: Source>(alloc: Global, input: &mut S, most: usize) -> Result<Bytes, InputRefusal>
+fn read_front<S: Source>(alloc: Global, input: &mut S, most: usize) -> Result<Bytes, InputRefusal>
     ensures read { IsFrontRead most (S.left input.old) (S.faults input.old) result (S.faults input.new) }
     ensures later { S.faults input.old ≤ S.faults input.new }
     ensures few { TookAtMost most (S.left input.old) (S.left input.new) }

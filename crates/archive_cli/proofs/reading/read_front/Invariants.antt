@@ -1,6 +1,6 @@
 use Rattle.std.proofs.Common.{◌≡◌, ◌≤◌, ◌-◌, length}
 use Rattle.edge_io.specs.Left.{before}
-use Rattle.archive_cli.proofs.reading.read_up_to.Given as goal
+use Rattle.archive_cli.proofs.reading.read_front.Given as goal
 
 abbrev pub invariant-pieces : goal.invariant-pieces
 invariant-pieces g l = record {

@@ -1,6 +1,6 @@
 use Rattle.std.proofs.Common.{◌<◌, length}
 use Rattle.archive_cli.proofs.Printed.{took-refused, front-read}
-use Rattle.archive_cli.proofs.reading.read_up_to.Goals as goal
+use Rattle.archive_cli.proofs.reading.read_front.Goals as goal
 
 pub returns-in-Err-clause-few : goal.returns-in-Err-clause-few
 returns-in-Err-clause-few g c =
