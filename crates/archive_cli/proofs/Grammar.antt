@@ -46,7 +46,7 @@ grown : (f g : Setting) (gs rest : List Setting) → f ≡ g → gs ≡ rest →
 grown f g gs rest same behind = cc
 
 -- so words spell one list of settings at most
-pub same_settings : (settings others : List Setting) → All IsSetting settings → All IsSetting others → map setting_word settings ≡ map setting_word others → settings ≡ others
+same_settings : (settings others : List Setting) → All IsSetting settings → All IsSetting others → map setting_word settings ≡ map setting_word others → settings ≡ others
 same_settings [] [] a b e = refl
 same_settings [] (h ∷ hs) a b e = absurd (cc e)
 same_settings (g ∷ gs) [] a b e = absurd (cc e)
