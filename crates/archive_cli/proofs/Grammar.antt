@@ -1,5 +1,6 @@
 -- The words of `init` and `replay`, and their options.
-use Rattle.std.proofs.Common.{Bool, true, false, ◌≡◌, ◌≢◌, ◌≤◌, ◌<◌, ◌+◌, inl, inr, ◌⊎◌, ℕ, List, [], ◌∷◌, ◌++◌, map, length, get_or, drop, All, codes, decimal, refl, sym, ◌∙◌, ap, subst, append_assoc, arith, length-append, drop-cons, add-one}
+use Rattle.std.proofs.Common.{Bool, not, true, false, ◌≡◌, ◌≢◌, ◌≤◌, ◌<◌, ◌+◌, inl, inr, ◌⊎◌, ℕ, List, [], ◌∷◌, ◌++◌, map, length, get_or, drop, All, codes, decimal, refl, sym, ◌∙◌, ap, subst, append_assoc, arith, length-append, drop-cons, add-one}
+use Rattle.std.proofs.lemmas.Bool.{not-false}
 use Rattle.std.specs.Borrow.{Bor}
 use Rattle.std.specs.Option.{option_to_list}
 use Rattle.std.specs.List.{flat_map}
@@ -45,7 +46,7 @@ grown : (f g : Setting) (gs rest : List Setting) → f ≡ g → gs ≡ rest →
 grown f g gs rest same behind = cc
 
 -- so words spell one list of settings at most
-pub same_settings : (settings others : List Setting) → All IsSetting settings → All IsSetting others → map setting_word settings ≡ map setting_word others → settings ≡ others
+same_settings : (settings others : List Setting) → All IsSetting settings → All IsSetting others → map setting_word settings ≡ map setting_word others → settings ≡ others
 same_settings [] [] a b e = refl
 same_settings [] (h ∷ hs) a b e = absurd (cc e)
 same_settings (g ∷ gs) [] a b e = absurd (cc e)
@@ -202,7 +203,7 @@ module _ (word name : List ℕ) (options : List (List ℕ)) where
     }
 
     -- `replay` and a mirror
-    pub not_replayed : config.mirror ≡ true → (job : Job) → AsksFor (word ∷ name ∷ options) job → ⊥
+    pub not_replayed : not config.mirror ≡ false → (job : Job) → AsksFor (word ∷ name ∷ options) job → ⊥
     not_replayed e Help f = cc f
     not_replayed e Version f = cc f
     not_replayed e Deliver f = cc f
@@ -211,7 +212,7 @@ module _ (word name : List ℕ) (options : List (List ℕ)) where
     not_replayed e (Replay other) r =
         let found : IsMade (name ∷ options) r.settings other = behind_word (codes "replay") r.behind r.settings other r.is r.made in
         let same : made.0 ≡ r.settings = same_made (name ∷ options) made.0 r.settings config other made.1 found in
-        unmarked made.0 (ap mirrors same ∙ r.no_mirror) (mirror-made (name ∷ options) made.0 config true made.1 e)
+        unmarked made.0 (ap mirrors same ∙ r.no_mirror) (mirror-made (name ∷ options) made.0 config true made.1 (not-false config.mirror e))
 
 first-cons : (most default : ℕ) (ns ms : List ℕ) → IsUpTo most (get_or ns 0 default) → IsUpTo most (get_or ms 0 default) → IsUpTo most (get_or (ns ++ ms) 0 default)
 first-cons most default [] ms p q = q

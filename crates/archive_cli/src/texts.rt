@@ -5,8 +5,8 @@ pub const HELP: &str = "\
 piv2: a mailing list archive
 
   piv2 init NAME [limit=N] [slice=N] [max=N] [mirror]
-                     make an archive in the folder piv2-store of the current folder, and print that it is made;
-                     limit, slice and max are settings of the archive, and mirror makes one that takes no messages, in any order
+                     make an archive in the folder piv2-store of the current folder, and print made NAME;
+                     limit, slice, max and mirror are settings of the archive, in any order: a mirror takes no messages
   piv2 deliver       put the message on the input into the archive in the folder piv2-store of the current folder,
                      and print the answer
   piv2 check         read all of the archive there, and print entries E live L next N

@@ -129,6 +129,7 @@ fn read_one(word: &str) -> Option<Job>
 }
 
 /// What two words and options behind them ask for.
+#[tactic(auto, using(crate::proofs::Grammar::not_made, crate::proofs::Grammar::other_word, crate::proofs::Grammar::replayed, crate::proofs::Grammar::not_replayed))]
 fn read_named(word: &str, name: &str, options: &[&str]) -> Option<Job>
     ensures { IsJob (word.now ∷ name.now ∷ spelled options.now) result }
 {
