@@ -19,20 +19,20 @@ use Rattle.arch_model.specs.declared.answer.Answer.TheVariants as named
 -- what a delivery comes to: a refusal that leaves the archive, or one more entry
 pub data Comes (a : Archive) (bytes : List ℕ) (moment : ℕ) : Done → Type 0 where
   Refused : (answer : Answer) → ((number : ℕ) (id : Id20) → answer ≡ named.Ok number id → ⊥) → Comes a bytes moment (refused a answer)
-  Accepted : (text kept : List ℕ) → stored bytes ≡ Ok text → choice_of a text ≡ Take kept → Comes a bytes moment (record { archive = with_entry a (new_epoch a) kept moment; answer = named.Ok a.next (blob_id_of kept) })
+  Accepted : (text kept : List ℕ) → stored bytes ≡ Ok text → choice_of a text ≡ Take kept → collision a.entries kept ≡ None → nat_lt a.config.max a.next ≡ false → Comes a bytes moment (record { archive = with_entry a (new_epoch a) kept moment; answer = named.Ok a.next (blob_id_of kept) })
 
-comes_new : (a : Archive) (bytes text kept : List ℕ) (moment : ℕ) (t : Bool) → stored bytes ≡ Ok text → choice_of a text ≡ Take kept
+comes_new : (a : Archive) (bytes text kept : List ℕ) (moment : ℕ) (t : Bool) → stored bytes ≡ Ok text → choice_of a text ≡ Take kept → collision a.entries kept ≡ None → nat_lt a.config.max a.next ≡ t
     → Comes a bytes moment (if t then refused a (named.Full a.config.max) else record { archive = with_entry a (new_epoch a) kept moment; answer = named.Ok a.next (blob_id_of kept) })
-comes_new a bytes text kept moment true is takes = Refused (named.Full a.config.max) (λ number id e. cc e)
-comes_new a bytes text kept moment false is takes = Accepted text kept is takes
+comes_new a bytes text kept moment true is takes alone room = Refused (named.Full a.config.max) (λ number id e. cc e)
+comes_new a bytes text kept moment false is takes alone room = Accepted text kept is takes alone room
 
-comes_kept : (a : Archive) (bytes text kept : List ℕ) (moment : ℕ) (clash : Option ℕ) → stored bytes ≡ Ok text → choice_of a text ≡ Take kept → Comes a bytes moment (delivered_kept a kept moment clash)
-comes_kept a bytes text kept moment (Some n) is takes = Refused (named.Collision n) (λ number id e. cc e)
-comes_kept a bytes text kept moment None is takes = comes_new a bytes text kept moment (nat_lt a.config.max a.next) is takes
+comes_kept : (a : Archive) (bytes text kept : List ℕ) (moment : ℕ) (clash : Option ℕ) → stored bytes ≡ Ok text → choice_of a text ≡ Take kept → collision a.entries kept ≡ clash → Comes a bytes moment (delivered_kept a kept moment clash)
+comes_kept a bytes text kept moment (Some n) is takes alone = Refused (named.Collision n) (λ number id e. cc e)
+comes_kept a bytes text kept moment None is takes alone = comes_new a bytes text kept moment (nat_lt a.config.max a.next) is takes alone refl
 
 comes_choice : (a : Archive) (bytes text : List ℕ) (moment : ℕ) (choice : Choice) → stored bytes ≡ Ok text → choice_of a text ≡ choice → Comes a bytes moment (delivered_choice a moment choice)
 comes_choice a bytes text moment (Repeat n) is takes = Refused (named.Duplicate n) (λ number id e. cc e)
-comes_choice a bytes text moment (Take kept) is takes = comes_kept a bytes text kept moment (collision a.entries kept) is takes
+comes_choice a bytes text moment (Take kept) is takes = comes_kept a bytes text kept moment (collision a.entries kept) is takes refl
 
 comes_form : (a : Archive) (bytes : List ℕ) (moment : ℕ) (form : Result (List ℕ) StoredRefusal) → stored bytes ≡ form → Comes a bytes moment (delivered_form a moment form)
 comes_form a bytes moment (Ok text) is = comes_choice a bytes text moment (choice_of a text) is refl
@@ -81,14 +81,14 @@ text_of-last (x ∷ es) e none = last_step x e es (x.number == e.number) refl (t
 
 keeps_by : (a : Archive) (bytes : List ℕ) (moment n : ℕ) (text : List ℕ) (d : Done) → Comes a bytes moment d → text_of a.entries n ≡ Some text → text_of d.archive.entries n ≡ Some text
 keeps_by a bytes moment n text d (Refused answer other) h = h
-keeps_by a bytes moment n text d (Accepted form kept is takes) h = text_of-front a.entries _ n text h
+keeps_by a bytes moment n text d (Accepted form kept is takes alone room) h = text_of-front a.entries _ n text h
 
 pub keeps-numbers : KeepsNumbers
 keeps-numbers a bytes moment n text h = keeps_by a bytes moment n text (delivered a bytes moment) (comes a bytes moment) h
 
 numbered_by : (a : Archive) (bytes : List ℕ) (moment : ℕ) (d : Done) → Comes a bytes moment d → 1 ≤ a.next → IsNumbered a → (1 ≤ d.archive.next) × IsNumbered d.archive
 numbered_by a bytes moment d (Refused answer other) some h = (some, h)
-numbered_by a bytes moment d (Accepted form kept is takes) some h = (
+numbered_by a bytes moment d (Accepted form kept is takes alone room) some h = (
   omega arith,
   λ n text found. elim (text_of-either a.entries _ n text found) [ inl before ↦ (let r = h n text before in (r.0, omega (arith, r.1))) | inr last ↦ (omega (arith, last), omega (arith, last)) ],
 )
@@ -99,7 +99,7 @@ stays-numbered a (Deliver bytes) moment some h = numbered_by a bytes.now moment 
 shows_by : (a : Archive) (bytes : List ℕ) (moment number : ℕ) (id : Id20) (d : Done) → Comes a bytes moment d → IsNumbered a → d.answer ≡ named.Ok number id
     → (text : List ℕ) × (kept : List ℕ) × (stored bytes ≡ Ok text) × (choice_of a text ≡ Take kept) × (text_of d.archive.entries number ≡ Some kept)
 shows_by a bytes moment number id d (Refused answer other) h e = absurd (other number id e)
-shows_by a bytes moment number id d (Accepted form kept is takes) h e =
+shows_by a bytes moment number id d (Accepted form kept is takes alone room) h e =
     let same : a.next ≡ number = cc in (
       form,
       kept,

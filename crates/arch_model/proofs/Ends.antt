@@ -3,12 +3,14 @@ use Rattle.std.proofs.Common.{◌≡◌, ◌+◌, ◌-◌, ◌≤◌, ◌<◌, �
 use Rattle.std.proofs.lemmas.List.{append-nil, append_assoc}
 use Rattle.std.proofs.lemmas.List.Elements.{filter-append}
 use Rattle.std.proofs.lemmas.Bool.Decides.{nat_tests}
+use Rattle.std.specs.List.{AllByRecursion}
 use Rattle.arch_base.specs.declared.ids.Id20.{Id20}
 use Rattle.arch_model.specs.Archives.{Entry, Archive, in_epoch}
 use Rattle.arch_model.specs.Delivery.{last_epoch, greater, takes_more, new_epoch}
 use Rattle.arch_model.specs.Epochs.{epoch_bytes, entries_bytes, entry_bytes, commit_id, last_commit, magic, message_name}
 use Rattle.arch_model.specs.Memory.{IsEnd, end_for_new, end_after, front_bytes}
 use Rattle.arch_model.specs.declared.kept.End.{End}
+use Rattle.arch_model.proofs.ValidArchives.{all_weaker}
 
 front_some : (id : Id20) (es : List Entry) → front_bytes (last_commit (Some id) es) ≡ []
 front_some id [] = refl
@@ -120,3 +122,17 @@ IsEnd-new a end_ is last =
   where
     below : (k : ℕ) (t : Bool) → k ≤ 63 → (k == 63 || t) ≡ false → k < 63
     below k t small closed = grind (arith, nat_tests, small, closed)
+
+-- no entry is of a greater epoch
+pub none_later : (es : List Entry) → AllByRecursion (λ (e : Entry). e.epoch ≤ last_epoch es) es
+none_later [] = tt
+none_later (e ∷ es) = (grind (arith, nat_tests), weaker es (none_later es)) where
+  weaker : (fs : List Entry) → AllByRecursion (λ (f : Entry). f.epoch ≤ last_epoch es) fs → AllByRecursion (λ (f : Entry). f.epoch ≤ greater e.epoch (last_epoch es)) fs
+  weaker [] all = tt
+  weaker (f ∷ fs) all = ((let low : f.epoch ≤ last_epoch es = all.0 in grind (arith, nat_tests)), weaker fs all.1)
+
+-- the epoch of the next entry isn't before that of any other
+pub not_before : (a : Archive) → AllByRecursion (λ (e : Entry). e.epoch ≤ new_epoch a) a.entries
+not_before a = all_weaker (λ (e : Entry). e.epoch ≤ last_epoch a.entries) (λ (e : Entry). e.epoch ≤ new_epoch a) a.entries (λ e low. later e.epoch low) (none_later a.entries) where
+  later : (epoch : ℕ) → epoch ≤ last_epoch a.entries → epoch ≤ new_epoch a
+  later epoch low = grind arith

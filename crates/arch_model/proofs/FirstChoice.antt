@@ -13,13 +13,13 @@ use Rattle.arch_model.proofs.Candidates.{free-last, met-other, below_or_at}
 use Rattle.arch_model.proofs.MadeIds.{made-once}
 
 module _ (entries : List Entry) (name text : List ℕ) (small : length entries < 2 ^ 63) where
-  abbrev made_meets : ℕ → Meeting
+  abbrev pub made_meets : ℕ → Meeting
   made_meets i = met (owner entries (made_id name text i)) (content_id_of text)
 
   abbrev MadeDecides : Choice → Type 0
   MadeDecides choice = (k : ℕ) × ((j : ℕ) → j < k → made_meets j ≡ Other) × Decides (made_meets k) (with_made name text k) choice
 
-  last_one : (i : ℕ) → i ≡ length entries → ((j : ℕ) → j < i → made_meets j ≡ Other) → made_meets i ≡ Free
+  pub last_one : (i : ℕ) → i ≡ length entries → ((j : ℕ) → j < i → made_meets j ≡ Other) → made_meets i ≡ Free
   last_one i at passed =
       let none : owner entries (made_id name text (length entries)) ≡ None =
       free-last entries (made_id name text) (λ j k b d e. made-once name text j k (omega (arith, b, small)) (omega (arith, d, small)) e)

@@ -10,3 +10,7 @@ pub mod EpochSteps
 pub mod FirstChoice
 mod Texts
 pub mod EpochLemmas
+pub mod ValidArchives
+mod Following
+mod TakenTexts
+mod Commands

@@ -56,6 +56,22 @@ end_passes = AllPass-from_list_all is_id_byte end_word refl
 inside_length : (digits : List ℕ) (k : ℕ) (name : List ℕ) → length (made_inside digits k name) ≡ length digits + length (decimal k) + length name + 10
 inside_length digits k name = omega (arith, length-append digits ((46 ∷ decimal k) ++ ((64 ∷ name) ++ end_word)), length-append (46 ∷ decimal k) ((64 ∷ name) ++ end_word), length-append (64 ∷ name) end_word)
 
+-- what stands between its brackets is short, since a SHA-1 has 40 digits, a count at most 20 and a name at most 64 bytes
+inside-short : (name text : List ℕ) (k : ℕ) → IsName name → k < 2 ^ 64 → length (made_inside (encode_lower (sha1 text)) k name) ≤ 134
+inside-short name text k is small =
+    let id = IsId-id_of text in
+    let digits : List ℕ = encode_lower (sha1 text) in
+    let some : length digits ≡ 2 * length (sha1 text) = digits_length (sha1 text) in
+    let twenty : length (sha1 text) ≡ 20 = id.len in
+    let short : length (decimal k) ≤ 20 = length-decimal-le 20 k (omega arith) (omega arith) small in
+    let name_short : length name ≤ 64 = is.short in
+    omega (arith, inside_length digits k name, some, twenty, short, name_short)
+
+-- and so is a made id
+pub made-length : (name text : List ℕ) (k : ℕ) → IsName name → k < 2 ^ 64 → length (made_id name text k) ≤ 136
+unfolding id_with
+made-length name text k is small = omega (arith, inside-short name text k is small, length-append (made_inside (encode_lower (sha1 text)) k name) (62 ∷ []))
+
 -- a made id is an id
 pub made-IsId : (name text : List ℕ) (k : ℕ) → IsName name → k < 2 ^ 64 → IsId (made_id name text k)
 unfolding id_with
@@ -65,14 +81,12 @@ made-IsId name text k is small =
     let id = IsId-id_of text in
     let some : length digits ≡ 2 * length (sha1 text) = digits_length (sha1 text) in
     let twenty : length (sha1 text) ≡ 20 = id.len in
-    let short : length (decimal k) ≤ 20 = length-decimal-le 20 k (omega arith) (omega arith) small in
-    let name_short : length name ≤ 64 = is.short in
     let whole : length (made_inside digits k name) ≡ length digits + length (decimal k) + length name + 10 = inside_length digits k name in
     record {
       inside = made_inside digits k name;
       is = refl;
       some = omega (arith, whole, some, twenty);
-      short = omega (arith, whole, some, twenty, short, name_short);
+      short = omega (arith, inside-short name text k is small);
       bytes = All-append P digits ((46 ∷ decimal k) ++ ((64 ∷ name) ++ end_word)) (digits_pass (sha1 text) id.bytes)
           (All-append P (46 ∷ decimal k) ((64 ∷ name) ++ end_word) (All-cons P 46 (decimal k) refl (decimal_passes k small))
           (All-append P (64 ∷ name) end_word (All-cons P 64 name refl (name_passes name is)) end_passes));

@@ -89,7 +89,7 @@ not_same e text id false is own other = refl
 abbrev pub FrontFree : Entry → List Entry → List ℕ → Type 0
 FrontFree e es id = (is_id id (own_id e.text) ≡ false) × (owner es id ≡ None)
 
-front_free : (e : Entry) (found : Option Entry) (t : Bool) → (if t then Some e else found) ≡ None → (t ≡ false) × (found ≡ None)
+pub front_free : (e : Entry) (found : Option Entry) (t : Bool) → (if t then Some e else found) ≡ None → (t ≡ false) × (found ≡ None)
 front_free e found true h = absurd (cc)
 front_free e found false h = (refl, h)
 

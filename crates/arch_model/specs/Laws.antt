@@ -1,12 +1,16 @@
 -- What holds of deliveries.
-use Rattle.std.specs.Prelude.{◌≡◌, ◌<◌, ◌≤◌, ◌^◌, ℕ, zero, suc, List, Option, Some, None, Ok, length}
+use Rattle.std.specs.Prelude.{◌≡◌, ◌<◌, ◌≤◌, ◌^◌, ℕ, zero, suc, List, Option, Some, None, IsSome, Ok, length}
 use Rattle.arch_base.specs.declared.ids.Id20.{Id20}
+use Rattle.arch_base.specs.Names.{IsName}
+use Rattle.mail_reader.specs.StorageTexts.{IsStorageText}
 use Rattle.mail_reader.specs.Stored.{stored}
 use Rattle.mail_reader.specs.Ids.{own_id}
 use Rattle.mail_reader.specs.Content.{content_id_of}
 use Rattle.arch_model.specs.Archives.{Archive, owner, text_of}
 use Rattle.arch_model.specs.Candidates.{made_id, with_made, met, choice_of}
 use Rattle.arch_model.specs.Delivery.{delivered, applied}
+use Rattle.arch_model.specs.Following.{Follows}
+use Rattle.arch_model.specs.Validity.{IsArchive, last_moment}
 use Rattle.arch_model.specs.declared.answer.Answer.TheVariants as answer
 use Rattle.arch_model.specs.declared.choice.Meeting.{Meeting}
 use Rattle.arch_model.specs.declared.choice.Meeting.TheVariants.{Free, Same, Other}
@@ -26,6 +30,20 @@ KeepsNumbers =
 -- A command leaves the numbers below the next one.
 abbrev pub StaysNumbered : Type 0
 StaysNumbered = (a : Archive) (command : Command) (moment : ℕ) → 1 ≤ a.next → IsNumbered a → (1 ≤ (applied a command moment).archive.next) × IsNumbered (applied a command moment).archive
+
+-- What storing bytes gives is a storage text, where it has an own id; and so it is with a made id in front.
+abbrev pub TakenAreStorage : Type 0
+TakenAreStorage =
+    (name bytes text : List ℕ) → stored bytes ≡ Ok text
+    → (IsSome (own_id text) → IsStorageText text) × (IsName name → (k : ℕ) → k < 2 ^ 64 → IsStorageText (with_made name text k))
+
+-- A command up to the last moment leaves an archive that may be kept one that may be kept.
+abbrev pub KeepsValid : Type 0
+KeepsValid = (a : Archive) (command : Command) (moment : ℕ) → moment ≤ last_moment → IsArchive a → IsArchive (applied a command moment).archive
+
+-- An archive behind a command follows the one before it.
+abbrev pub CommandFollows : Type 0
+CommandFollows = (a : Archive) (command : Command) (moment : ℕ) → Follows a (applied a command moment).archive
 
 -- One message in, the same message out: the number of an accepted message has the text that the candidates for its id came to,
 -- which is the storage form of its bytes with a Message-ID field in front or none.

@@ -4,6 +4,8 @@ pub mod Commits
 pub mod Delivery
 pub mod Epochs
 pub mod Facts
+pub mod Following
 pub mod Judging
 pub mod Laws
 pub mod Memory
+pub mod Validity

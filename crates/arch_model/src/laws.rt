@@ -1,5 +1,8 @@
-//! What holds of commands, for every archive, message and moment.
-ghost use Rattle.arch_model.specs.Laws.{FirstDecides, KeepsNumbers, StaysNumbered, ShowsDelivered};
+//! What holds of commands, for every archive, message and moment, and of archives that follow one another.
+ghost use Rattle.arch_model.specs.Following.{FollowsItself, FollowsThrough, FollowsWithEntry, NumbersStay};
+ghost use Rattle.arch_model.specs.Laws.{CommandFollows, FirstDecides, KeepsNumbers, KeepsValid, StaysNumbered, ShowsDelivered, TakenAreStorage};
+
+use mail_reader::{field_in_front, forms_are_short, id_line_is_kept, stored_once};
 
 /// A delivery leaves each number with its text.
 pub fn numbers_keep_their_texts()
@@ -21,3 +24,32 @@ pub fn delivered_is_shown()
 pub fn first_candidate_decides()
     ensures { FirstDecides }
 {}
+
+/// An archive with one more entry follows, and what follows shows by an old number what was shown by it, or nothing.
+#[tactic(auto, using(crate::proofs::Following::follows_itself, crate::proofs::Following::follows_through, crate::proofs::Following::numbers_stay))]
+pub fn law_of_numbers()
+    ensures itself { FollowsItself }
+    ensures through { FollowsThrough }
+    ensures with_entry { FollowsWithEntry }
+    ensures stay { NumbersStay }
+{}
+
+/// What storing bytes gives is a storage text, where it has an own id; and so it is with a made id in front.
+pub fn law_of_taken_texts()
+    ensures { TakenAreStorage }
+{
+    stored_once();
+    forms_are_short();
+    field_in_front();
+    id_line_is_kept();
+}
+
+/// A command up to the last moment leaves an archive that may be kept one that may be kept, and the archive behind any command
+/// follows the one before it.
+#[tactic(auto, using(crate::proofs::Commands::command_follows))]
+pub fn law_of_commands()
+    ensures valid { KeepsValid }
+    ensures follows { CommandFollows }
+{
+    law_of_taken_texts();
+}

@@ -10,9 +10,11 @@ mod index;
 mod judging;
 mod kept;
 mod laws;
+mod line;
 mod made;
 mod memory;
 mod opening;
+mod text_refusal;
 
 pub use answer::Answer;
 pub use command::Command;
@@ -21,11 +23,13 @@ pub use index::Index;
 pub use judging::{Verdict, judge};
 pub use kept::Owner;
 pub use laws::{
-    delivered_is_shown, first_candidate_decides, numbers_keep_their_texts,
-    numbers_stay_below_the_next,
+    delivered_is_shown, first_candidate_decides, law_of_commands, law_of_numbers,
+    law_of_taken_texts, numbers_keep_their_texts, numbers_stay_below_the_next,
 };
+pub use line::EntryLine;
 pub use memory::MemArchive;
 pub use opening::OpenRefusal;
+pub use text_refusal::TextRefusal;
 
 #[cfg(test)]
 mod commit_tests;

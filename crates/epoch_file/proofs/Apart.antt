@@ -17,7 +17,8 @@ use Rattle.mail_date.specs.declared.moment.Moment.{Moment}
 use Rattle.arch_model.specs.Facts.{from_fact, email_fact, subject_fact, date_fact}
 use Rattle.arch_model.specs.Commits.{commit_of, written_at}
 use Rattle.arch_model.specs.Epochs.{magic, tree_of}
-use Rattle.epoch_file.specs.Entries.{EpochEntry, IsEpochEntry, AreEpochEntries, bytes_behind, commit_behind, chain, last_moment, EpochsDiffer}
+use Rattle.epoch_file.specs.Entries.{EpochEntry, IsEpochEntry, AreEpochEntries, bytes_behind, commit_behind, chain, EpochsDiffer}
+use Rattle.arch_model.specs.Validity.{last_moment}
 use Rattle.epoch_file.proofs.Sizes.{content_behind, objects, headed, length-entry}
 
 -- a number and a space tell the number

@@ -14,7 +14,8 @@ use Rattle.arch_model.specs.Commits.{commit_of}
 use Rattle.arch_model.specs.Epochs.{tree_of, entry_bytes}
 use Rattle.epoch_file.specs.declared.entry.Seen.{Seen}
 use Rattle.epoch_file.specs.declared.reading.Parts.{Parts}
-use Rattle.epoch_file.specs.Entries.{EpochEntry, IsEpochEntry, bytes_behind, last_moment}
+use Rattle.epoch_file.specs.Entries.{EpochEntry, IsEpochEntry, bytes_behind}
+use Rattle.arch_model.specs.Validity.{last_moment}
 use Rattle.epoch_file.specs.Reading.{IsParted, HasParts, PartsAgain, AreIds, IsRead, Reads, ReadsWhere, seen_by}
 use Rattle.epoch_file.specs.Walking.{seen_at}
 use Rattle.epoch_file.proofs.Kept.{commit_valid, committed-is}

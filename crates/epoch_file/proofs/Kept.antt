@@ -13,7 +13,8 @@ use Rattle.mime_words.specs.Decoding.{decoded}
 use Rattle.arch_model.specs.Facts.{name_or, clean_address, from_of, from_fact, email_of, email_fact, first_mailbox, subject_fact, date_fact}
 use Rattle.arch_model.specs.Commits.{commit_of, written_at}
 use Rattle.arch_model.specs.Epochs.{commit_text, commit_id}
-use Rattle.epoch_file.specs.Entries.{EpochEntry, last_moment, commit_behind, last_of}
+use Rattle.epoch_file.specs.Entries.{EpochEntry, commit_behind, last_of}
+use Rattle.arch_model.specs.Validity.{last_moment}
 use Rattle.epoch_file.proofs.Zones.{IsNear, date-near}
 
 name_clean : (name address : List ℕ) → IsClean name → IsClean address → IsClean (name_or name address)

@@ -5,16 +5,13 @@ use Rattle.arch_base.specs.declared.ids.Id20.{Id20}
 use Rattle.git_objects.specs.Objects.{is_entry_name}
 use Rattle.mail_reader.specs.StorageTexts.{IsStorageText}
 use Rattle.arch_model.specs.Epochs.{commit_id, entry_bytes, magic}
+use Rattle.arch_model.specs.Validity.{last_moment}
 
 -- an entry: the name of its file, `m` or `d`, the text that the file has, and the second since 1970 of its commit
 pub record EpochEntry : Type 0 where
   pub name : ℕ
   pub text : List ℕ
   pub moment : ℕ
-
--- the last moment of a commit: the last second of the year 9999
-abbrev pub last_moment : ℕ
-last_moment = 253402300799
 
 -- the entries that a file may have: a message `m` or a deletion `d` of a storage text, at a moment up to the last one
 pub record IsEpochEntry (e : EpochEntry) : Type 0 where

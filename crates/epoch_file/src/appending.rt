@@ -3,7 +3,8 @@ ghost use Rattle.std.specs.Prelude.{◌≡◌, ◌++◌, ◌<◌, ◌≤◌, ◌
 ghost use Rattle.arch_base.specs.Counts.{Rose};
 ghost use Rattle.disk_model.specs.Disk.{WhereTold, IsAtMostLength, Elapses};
 ghost use Rattle.git_objects.specs.Objects.{is_entry_name, blob_id_of};
-ghost use Rattle.epoch_file.specs.Entries.{last_moment, commit_behind};
+ghost use Rattle.epoch_file.specs.Entries.{commit_behind};
+ghost use Rattle.arch_model.specs.Validity.{last_moment};
 ghost use Rattle.epoch_file.specs.Appending.{appended, entry_of, front_at, written_of, AppendLeaves};
 
 use crate::entry::{NewEntry, Written};

@@ -7,7 +7,8 @@ ghost use Rattle.git_objects.specs.Commits.{IsCommit, commit_content};
 ghost use Rattle.git_objects.specs.Objects.{CommitOf, HasSize, blob_spelling, is_entry_name, spelling, tree_spelling};
 ghost use Rattle.arch_model.specs.Epochs.{commit_id, entry_bytes};
 ghost use Rattle.mail_reader.specs.Ids.{own_id as own_id_of};
-ghost use Rattle.epoch_file.specs.Entries.{EpochEntry, IsEpochEntry, bytes_behind, last_moment};
+ghost use Rattle.epoch_file.specs.Entries.{EpochEntry, IsEpochEntry, bytes_behind};
+ghost use Rattle.arch_model.specs.Validity.{last_moment};
 ghost use Rattle.epoch_file.specs.Reading.{IsParted, HasParts, PartsAgain, Respells, Reads, ReadsWhere, seen_by};
 
 use crate::entry::Seen;

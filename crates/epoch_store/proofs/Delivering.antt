@@ -13,10 +13,9 @@ use Rattle.git_objects.specs.Objects.{blob_id_of}
 use Rattle.mail_reader.specs.Ids.{own_id}
 use Rattle.mail_reader.specs.StorageTexts.{IsStorageText}
 use Rattle.arch_model.specs.Archives.{Entry, Archive, with_entry, in_epoch}
-use Rattle.arch_model.specs.Delivery.{new_epoch, last_epoch}
 use Rattle.arch_model.specs.Epochs.{entry_bytes, last_commit}
 use Rattle.number_map.specs.Records.{record_bytes}
-use Rattle.epoch_file.specs.Entries.{bytes_behind, last_moment}
+use Rattle.epoch_file.specs.Entries.{bytes_behind}
 use Rattle.epoch_file.specs.declared.entry.NewEntry.{NewEntry}
 use Rattle.epoch_file.specs.Appending.{front_at, appended, entry_of}
 use Rattle.root_slots.specs.declared.root.Place.{Place}
@@ -31,12 +30,13 @@ use Rattle.epoch_store.specs.declared.next.NextPlace.{NextPlace}
 use Rattle.epoch_store.specs.declared.putting.Part.{Part}
 use Rattle.epoch_store.specs.Files.{map_name, epoch_name, map_file_of, epoch_file_of, StandsFor, IsOn}
 use Rattle.epoch_store.specs.TwoFiles.{Appending, AreAppended}
-use Rattle.epoch_store.specs.Validity.{IsEntry, IsArchive}
+use Rattle.arch_model.specs.Validity.{IsEntry, IsArchive, last_moment}
 use Rattle.epoch_store.specs.Recovery.{record_for, map_bytes, bytes_in, Names}
 use Rattle.epoch_store.specs.Stores.{View, in_file, stored_at, stored_behind, Keeps, IsStoreOf, RecoversEither, Accepts, IsNextPlace, next_sequence, place_of, root_after, IsMessage, HasSizes}
 use Rattle.epoch_store.proofs.Appends.{nat_eq_or_not, epoch_isnt_root, map_isnt_root, epoch_isnt_map, Grows, map_part, appending_stands, Follows, committing, is_on}
-use Rattle.epoch_store.proofs.Growing.{all_weaker, map_grows, bytes_here, bytes_other, stored_more, archive_grows}
-use Rattle.epoch_store.proofs.Ends.{none_later}
+use Rattle.arch_model.proofs.ValidArchives.{archive_grows}
+use Rattle.epoch_store.proofs.Growing.{map_grows, bytes_here, bytes_other, stored_more}
+use Rattle.arch_model.proofs.Ends.{not_before}
 use Rattle.epoch_store.proofs.Mapped.{map_length}
 
 -- some bytes are put there of each entry
@@ -76,12 +76,6 @@ ids_of text before (e ∷ es) free valid = ((λ is. free.0 (is ∙ kept_id e.tex
 blobs_of : (text : List ℕ) (before es : List Entry) → AllByRecursion (λ (e : StoredEntry). blob_id_of text ≢ e.seen.blob) (stored_behind before es) → AllByRecursion (λ (e : Entry). blob_id_of text ≢ blob_id_of e.text) es
 blobs_of text before [] free = tt
 blobs_of text before (e ∷ es) free = (free.0, blobs_of text (before ++ e ∷ []) es free.1)
-
--- the epoch of the next entry isn't before that of any other
-not_before : (a : Archive) → AllByRecursion (λ (e : Entry). e.epoch ≤ new_epoch a) a.entries
-not_before a = all_weaker (λ (e : Entry). e.epoch ≤ last_epoch a.entries) (λ (e : Entry). e.epoch ≤ new_epoch a) a.entries (λ e low. later e.epoch low) (none_later a.entries) where
-  later : (epoch : ℕ) → epoch ≤ last_epoch a.entries → epoch ≤ new_epoch a
-  later epoch low = grind arith
 
 -- a place of the next root
 place_after : (root : Root) (p : NextPlace) (end_ e : ℕ) → length root.epochs ≡ 64 → e < 64 → (e ≡ p.epoch) ⊎ (e ≢ p.epoch) → (get_or (root_after root p end_).epochs e no_place ≡ record { gen_ = p.gen_; length = end_ }) ⊎ (get_or (root_after root p end_).epochs e no_place ≡ get_or root.epochs e no_place)

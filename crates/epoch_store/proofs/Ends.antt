@@ -12,10 +12,12 @@ use Rattle.arch_base.specs.declared.config.Config.{Config}
 use Rattle.root_slots.specs.Valid.{no_place}
 use Rattle.epoch_store.specs.declared.entries.StoredEntry.{StoredEntry}
 use Rattle.epoch_store.specs.declared.next.End.{End}
-use Rattle.epoch_store.specs.Validity.{Rise}
+use Rattle.arch_model.specs.Validity.{Rise}
+use Rattle.arch_model.proofs.Ends.{none_later}
 use Rattle.epoch_store.specs.Recovery.{bytes_in}
 use Rattle.epoch_store.specs.Stores.{View, Keeps, IsEnd, IsNextPlace, next_sequence, place_of, stored_at, stored_behind}
-use Rattle.epoch_store.proofs.Growing.{all_weaker, in_epoch-here, stored_more}
+use Rattle.arch_model.proofs.ValidArchives.{all_weaker}
+use Rattle.epoch_store.proofs.Growing.{in_epoch-here, stored_more}
 
 -- a list is empty, or some and a last one
 pub record Last {X : Type 0} (xs : List X) : Type 0 where
@@ -45,15 +47,7 @@ last_is_greatest number epoch (f ∷ es) e rise =
     let low = rise.1 in
     (ap (greater f.epoch) rest.0 ∙ greater_second f.epoch e.epoch rest.1, omega (arith, low, rest.1))
 
--- no entry is of a greater epoch
-pub none_later : (es : List Entry) → AllByRecursion (λ (e : Entry). e.epoch ≤ last_epoch es) es
-none_later [] = tt
-none_later (e ∷ es) = (grind (arith, nat_tests), weaker es (none_later es)) where
-  weaker : (fs : List Entry) → AllByRecursion (λ (f : Entry). f.epoch ≤ last_epoch es) fs → AllByRecursion (λ (f : Entry). f.epoch ≤ greater e.epoch (last_epoch es)) fs
-  weaker [] all = tt
-  weaker (f ∷ fs) all = ((let low : f.epoch ≤ last_epoch es = all.0 in grind (arith, nat_tests)), weaker fs all.1)
-
--- so the next epoch has none
+-- where all are of lesser epochs, an epoch has none
 pub none_in : (es : List Entry) (epoch : ℕ) → AllByRecursion (λ (e : Entry). e.epoch < epoch) es → in_epoch es epoch ≡ []
 none_in [] epoch below = refl
 none_in (e ∷ es) epoch below =

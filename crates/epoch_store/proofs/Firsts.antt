@@ -12,40 +12,23 @@ use Rattle.git_objects.specs.Objects.{blob_id_of}
 use Rattle.arch_model.specs.Archives.{Entry}
 use Rattle.number_map.specs.declared.line.Record.{Record}
 use Rattle.number_map.specs.Records.{AreRecordsFrom}
-use Rattle.epoch_store.specs.Validity.{IsEntry, Rise, IdsDiffer, BlobsAgree}
+use Rattle.arch_model.specs.Validity.{IsEntry, IdsDiffer, BlobsAgree}
+use Rattle.arch_model.proofs.ValidArchives.{all_behind, rise_more, ids_more, blobs_more}
 use Rattle.epoch_store.specs.Stores.{stored_behind}
 use Rattle.epoch_store.specs.Damage.{messages, has_message, record_of, AreFirst}
 use Rattle.epoch_store.specs.Joined.{has_id, has_blob, AreBefore}
-use Rattle.epoch_store.proofs.Growing.{all_behind}
 
 -- what holds of each of some and of one more holds of the one
 pub all_last : {X : Type 0} (P : X → Type 0) (xs : List X) (x : X) → AllByRecursion P (xs ++ x ∷ []) → P x
 all_last P [] x all = all.0
 all_last P (y ∷ ys) x all = all_last P ys x all.1
 
--- numbers that rise on, and epochs that don't fall
-rise_behind : (number epoch : ℕ) (es : List Entry) (new : Entry) → Rise number epoch es → number ≤ new.number → epoch ≤ new.epoch
-    → AllByRecursion (λ (e : Entry). e.number < new.number) es → AllByRecursion (λ (e : Entry). e.epoch ≤ new.epoch) es → Rise number epoch (es ++ new ∷ [])
-rise_behind number epoch [] new rise low early below older = (low, early, tt)
-rise_behind number epoch (e ∷ es) new rise low early below older =
-    let less : e.number < new.number = below.0 in
-    (rise.0, rise.1, rise_behind (e.number + 1) e.epoch es new rise.2 (omega (arith, less)) older.0 below.1 older.1)
-
--- ids differ where the last one's does, and only there
-ids_behind : (es : List Entry) (new : Entry) → IdsDiffer es → AllByRecursion (λ (e : Entry). own_id new.text ≢ own_id e.text) es → IdsDiffer (es ++ new ∷ [])
-ids_behind [] new differ free = (tt, tt)
-ids_behind (e ∷ es) new differ free = (all_behind (λ (f : Entry). own_id f.text ≢ own_id e.text) es new differ.0 free.0, ids_behind es new differ.1 free.1)
-
+-- where ids differ, the last one's does
 ids_apart : (es : List Entry) (new : Entry) → IdsDiffer (es ++ new ∷ []) → AllByRecursion (λ (e : Entry). own_id new.text ≢ own_id e.text) es
 ids_apart [] new differ = tt
 ids_apart (e ∷ es) new differ = (all_last (λ (f : Entry). own_id f.text ≢ own_id e.text) es new differ.0, ids_apart es new differ.1)
 
--- texts of one blob id are the same where the last one has a blob id of its own
-blobs_behind : (es : List Entry) (new : Entry) → BlobsAgree es → AllByRecursion (λ (e : Entry). blob_id_of new.text ≢ blob_id_of e.text) es → BlobsAgree (es ++ new ∷ [])
-blobs_behind [] new agree free = (tt, tt)
-blobs_behind (e ∷ es) new agree free = (all_behind (λ (f : Entry). blob_id_of f.text ≡ blob_id_of e.text → f.text ≡ e.text) es new agree.0 (λ is. absurd (free.0 is)), blobs_behind es new agree.1 free.1)
-
--- where ids differ too, it has one
+-- where texts of one blob id are the same and ids differ, the last one has a blob id of its own
 blobs_apart : (es : List Entry) (new : Entry) → BlobsAgree (es ++ new ∷ []) → AllByRecursion (λ (e : Entry). own_id new.text ≢ own_id e.text) es → AllByRecursion (λ (e : Entry). blob_id_of new.text ≢ blob_id_of e.text) es
 blobs_apart [] new agree apart = tt
 blobs_apart (e ∷ es) new agree apart =
@@ -173,9 +156,9 @@ first_more rs behind es new numbered first entry older ids blobs =
     let below = numbers_rise 1 rs es (record_of new) behind numbered first.records in
     record {
       valid = all_behind IsEntry es new first.valid entry;
-      order = rise_behind 1 0 es new first.order below.1 (omega arith) below.0 older;
-      ids = ids_behind es new first.ids ids;
-      blobs = blobs_behind es new first.blobs blobs;
+      order = rise_more 1 0 es new first.order below.1 (omega arith) below.0 older;
+      ids = ids_more es new first.ids ids;
+      blobs = blobs_more es new first.blobs blobs;
       records = first.records ∙ sym (map_behind record_of es new behind);
     }
 

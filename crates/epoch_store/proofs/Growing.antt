@@ -7,28 +7,15 @@ use Rattle.std.proofs.lemmas.List.Elements.{filter-append}
 use Rattle.std.proofs.lemmas.Grind.{flat_map-append}
 use Rattle.std.proofs.lemmas.Bool.Decides.{nat_tests}
 use Rattle.arch_base.specs.declared.ids.Id20.{Id20}
-use Rattle.git_objects.specs.Objects.{blob_id_of}
-use Rattle.mail_reader.specs.Ids.{own_id}
-use Rattle.arch_model.specs.Archives.{Entry, Archive, with_entry, in_epoch}
+use Rattle.arch_model.specs.Archives.{Entry, Archive, in_epoch}
 use Rattle.arch_model.specs.Epochs.{epoch_bytes, entries_bytes, last_commit, magic, message_name, entry_bytes, commit_id}
 use Rattle.number_map.specs.declared.line.Record.{Record}
 use Rattle.number_map.specs.Records.{record_bytes}
 use Rattle.epoch_file.specs.Entries.{bytes_behind}
 use Rattle.epoch_file.specs.Appending.{front_at}
-use Rattle.epoch_store.specs.Validity.{IsEntry, Rise, IdsDiffer, BlobsAgree, IsArchive}
 use Rattle.epoch_store.specs.Recovery.{entry_of, record_for, records_from, records_of, map_bytes, bytes_in}
 use Rattle.epoch_store.specs.Stores.{in_file, stored_at, stored_behind}
 use Rattle.epoch_store.specs.declared.entries.StoredEntry.{StoredEntry}
-
--- what holds of each of some and of one more
-pub all_behind : {X : Type 0} (P : X → Type 0) (xs : List X) (x : X) → AllByRecursion P xs → P x → AllByRecursion P (xs ++ x ∷ [])
-all_behind P [] x all one = (one, tt)
-all_behind P (y ∷ ys) x all one = (all.0, all_behind P ys x all.1 one)
-
--- what holds of each says less too
-pub all_weaker : {X : Type 0} (P Q : X → Type 0) (xs : List X) → ((x : X) → P x → Q x) → AllByRecursion P xs → AllByRecursion Q xs
-all_weaker P Q [] less all = tt
-all_weaker P Q (x ∷ xs) less all = (less x all.0, all_weaker P Q xs less all.1)
 
 -- a test on numbers that are the same, and on those that aren't
 same_test : (m n : ℕ) → m ≡ n → (m == n) ≡ true
@@ -120,37 +107,3 @@ bytes_other a new epoch apart = ap epoch_bytes (in_epoch-other a.entries new epo
 pub stored_more : (before es : List Entry) (new : Entry) → stored_behind before (es ++ new ∷ []) ≡ stored_behind before es ++ stored_at (before ++ es) new ∷ []
 stored_more before [] new = ap (λ (b : List Entry). stored_at b new ∷ []) (sym (append-nil before))
 stored_more before (e ∷ es) new = ap (λ (s : List StoredEntry). stored_at before e ∷ s) (stored_more (before ++ e ∷ []) es new ∙ ap (λ (b : List Entry). stored_behind (before ++ e ∷ []) es ++ stored_at b new ∷ []) (append_assoc before (e ∷ []) es))
-
--- numbers still rise, and epochs still don't fall
-rise_more : (number epoch : ℕ) (es : List Entry) (new : Entry) → Rise number epoch es → number ≤ new.number → epoch ≤ new.epoch → AllByRecursion (λ (e : Entry). e.number < new.number) es → AllByRecursion (λ (e : Entry). e.epoch ≤ new.epoch) es → Rise number epoch (es ++ new ∷ [])
-rise_more number epoch [] new rise low in_time below older = (low, in_time, tt)
-rise_more number epoch (e ∷ es) new rise low in_time below older =
-    let less : e.number < new.number = below.0 in
-    (rise.0, rise.1, rise_more (e.number + 1) e.epoch es new rise.2 (omega (arith, less)) older.0 below.1 older.1)
-
-ids_more : (es : List Entry) (new : Entry) → IdsDiffer es → AllByRecursion (λ (e : Entry). own_id new.text ≢ own_id e.text) es → IdsDiffer (es ++ new ∷ [])
-ids_more [] new differ free = (tt, tt)
-ids_more (e ∷ es) new differ free = (all_behind (λ (f : Entry). own_id f.text ≢ own_id e.text) es new differ.0 free.0, ids_more es new differ.1 free.1)
-
-blobs_more : (es : List Entry) (new : Entry) → BlobsAgree es → AllByRecursion (λ (e : Entry). blob_id_of new.text ≢ blob_id_of e.text) es → BlobsAgree (es ++ new ∷ [])
-blobs_more [] new agree free = (tt, tt)
-blobs_more (e ∷ es) new agree free = (all_behind (λ (f : Entry). blob_id_of f.text ≡ blob_id_of e.text → f.text ≡ e.text) es new agree.0 (λ is. absurd (free.0 is)), blobs_more es new agree.1 free.1)
-
--- an archive with one more entry of its next number, in an epoch that isn't before any other's, with an id and a blob id of its own
-pub archive_grows : (a : Archive) (epoch : ℕ) (text : List ℕ) (moment : ℕ) → IsArchive a → a.next < 2147483648 → IsEntry (record { number = a.next; epoch = epoch; text = text; moment = moment })
-    → AllByRecursion (λ (e : Entry). e.epoch ≤ epoch) a.entries → AllByRecursion (λ (e : Entry). own_id text ≢ own_id e.text) a.entries → AllByRecursion (λ (e : Entry). blob_id_of text ≢ blob_id_of e.text) a.entries
-    → IsArchive (with_entry a epoch text moment)
-archive_grows a epoch text moment valid room entry older id blob =
-    let new : Entry = record { number = a.next; epoch = epoch; text = text; moment = moment } in
-    let least = valid.next_least in
-    record {
-      name = valid.name;
-      config = valid.config;
-      next_least = omega arith;
-      next_most = omega (arith, room);
-      entries = all_behind IsEntry a.entries new valid.entries entry;
-      below = all_behind (λ (e : Entry). e.number < a.next + 1) a.entries new (all_weaker (λ (e : Entry). e.number < a.next) (λ (e : Entry). e.number < a.next + 1) a.entries (λ e less. omega (arith, less)) valid.below) (omega arith);
-      order = rise_more 1 0 a.entries new valid.order least (omega arith) valid.below older;
-      ids = ids_more a.entries new valid.ids id;
-      blobs = blobs_more a.entries new valid.blobs blob;
-    }

@@ -19,7 +19,7 @@ use Rattle.root_slots.specs.Slots.{HasRoot, Ready, IsShutFile, EachShut}
 use Rattle.root_slots.specs.Spelling.{spelling}
 use Rattle.root_slots.specs.Valid.{PlaceFits, no_place}
 use Rattle.epoch_store.specs.Files.{map_file_of, epoch_file_of, Fronts, StandsFor, as_read}
-use Rattle.epoch_store.specs.Validity.{IsArchive}
+use Rattle.arch_model.specs.Validity.{IsArchive}
 use Rattle.epoch_store.specs.Recovery.{map_bytes, bytes_in, Names}
 use Rattle.epoch_store.specs.Stores.{IsDiskOf, HasSizes}
 use Rattle.epoch_store.specs.First.{MakesRoot, MakingLeaves, HasOnly, first_root_of}

@@ -18,11 +18,12 @@ use Rattle.epoch_file.specs.Walking.{seen_at, seen_from}
 use Rattle.epoch_store.specs.declared.entries.StoredEntry.{StoredEntry}
 use Rattle.epoch_store.specs.declared.known.JoinRefusal.{JoinRefusal}
 use Rattle.epoch_store.specs.declared.known.JoinRefusal.TheVariants.{NoMemory, Damaged}
-use Rattle.epoch_store.specs.Validity.{IsEntry}
+use Rattle.arch_model.specs.Validity.{IsEntry}
 use Rattle.epoch_store.specs.Stores.{in_file, stored_at, stored_behind}
 use Rattle.epoch_store.specs.Damage.{record_of, AreFirst}
 use Rattle.epoch_store.specs.Joined.{Joined, Holds, AreBefore, has_id, has_blob, entry_seen, IsWanted, JoinsNext, with_seen, JoinsOne, JoinsAll, AreJoined, StopsAt}
-use Rattle.epoch_store.proofs.Growing.{all_behind, all_weaker, stored_more}
+use Rattle.arch_model.proofs.ValidArchives.{all_behind, all_weaker}
+use Rattle.epoch_store.proofs.Growing.{stored_more}
 use Rattle.epoch_store.proofs.Ends.{none_in, last_commit_is}
 use Rattle.epoch_store.proofs.Firsts.{first_is, first_none, first_more, record_behind, map_behind, stored_count, stored_before, free_ids, apart_ids, free_blobs, apart_blobs, ids_of_last, blobs_of_last}
 

@@ -11,7 +11,6 @@ mod Kept
 mod UniqueRoots
 mod UniqueEntries
 mod Unique
-mod UniqueNumbers
 mod FirstRoots
 mod Making
 mod Initial

@@ -9,7 +9,7 @@ use Rattle.git_objects.proofs.ObjectIds.{IsId-id_of}
 use Rattle.arch_model.specs.Archives.{Entry, Archive}
 use Rattle.number_map.specs.Records.{IsRecord, AreRecordsFrom}
 use Rattle.number_map.specs.Sizes.{records_length}
-use Rattle.epoch_store.specs.Validity.{IsEntry, IsArchive}
+use Rattle.arch_model.specs.Validity.{IsEntry, IsArchive}
 use Rattle.epoch_store.specs.Recovery.{entry_of, record_for, records_from, records_of, map_bytes}
 
 -- twenty zeros are an id

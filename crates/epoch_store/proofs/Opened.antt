@@ -13,11 +13,11 @@ use Rattle.number_map.specs.Laws.{RecordsDiffer}
 use Rattle.number_map.specs.Records.{record_bytes, IsRecord, AreRecordsFrom}
 use Rattle.number_map.specs.Sizes.{records_length}
 use Rattle.epoch_store.specs.Files.{map_file_of}
-use Rattle.epoch_store.specs.Validity.{IsEntry, Rise}
+use Rattle.arch_model.specs.Validity.{IsEntry, Rise}
 use Rattle.epoch_store.specs.Recovery.{entry_of, record_for, records_from, records_of, map_bytes}
 use Rattle.epoch_store.specs.Damage.{has_message, messages, record_of}
 use Rattle.epoch_store.specs.Openings.{archive_of, OpenedRecovers, RecoversOpened}
-use Rattle.epoch_store.proofs.Growing.{all_weaker}
+use Rattle.arch_model.proofs.ValidArchives.{all_weaker}
 use Rattle.epoch_store.proofs.Mapped.{records_are_valid, map_length}
 use Rattle.epoch_store.proofs.Firsts.{numbers_rise}
 use Rattle.epoch_store.proofs.Opening.{fronts_by}

@@ -16,11 +16,11 @@ use Rattle.epoch_file.specs.Entries.{EntriesDiffer, EpochEntry, IsEpochEntry, Ar
 use Rattle.epoch_file.specs.Walking.{IsEpoch, EndsEarly}
 use Rattle.root_slots.specs.declared.root.Root.{Root}
 use Rattle.epoch_store.specs.Files.{Fronts, epoch_file_of}
-use Rattle.epoch_store.specs.Validity.{IsEntry}
+use Rattle.arch_model.specs.Validity.{IsEntry}
 use Rattle.epoch_store.specs.Stores.{in_file}
 use Rattle.epoch_store.specs.Damage.{AreFirst, named_length, named_bytes, AreWhole, LacksNext}
 use Rattle.epoch_store.specs.Joined.{Joined, AreJoined, StopsAt}
-use Rattle.epoch_store.proofs.Growing.{all_weaker}
+use Rattle.arch_model.proofs.ValidArchives.{all_weaker}
 use Rattle.epoch_store.proofs.Firsts.{all_last}
 use Rattle.epoch_store.proofs.Joins.{all_joined, only_here}
 

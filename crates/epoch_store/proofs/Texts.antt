@@ -17,11 +17,11 @@ use Rattle.epoch_file.specs.Entries.{bytes_behind}
 use Rattle.epoch_file.specs.Walking.{blob_front}
 use Rattle.epoch_store.specs.declared.entries.StoredEntry.{StoredEntry}
 use Rattle.epoch_store.specs.Files.{Fronts, epoch_file_of}
-use Rattle.epoch_store.specs.Validity.{IsEntry}
+use Rattle.arch_model.specs.Validity.{IsEntry}
 use Rattle.epoch_store.specs.Recovery.{bytes_in}
 use Rattle.epoch_store.specs.Stores.{View, IsDiskOf, in_file, stored_at, stored_behind}
-use Rattle.epoch_store.specs.declared.reading.TextRefusal.{TextRefusal}
-use Rattle.epoch_store.specs.declared.reading.TextRefusal.TheVariants.{DiskFault, Damaged, NoMemory}
+use Rattle.arch_model.specs.declared.text_refusal.TextRefusal.{TextRefusal}
+use Rattle.arch_model.specs.declared.text_refusal.TextRefusal.TheVariants.{DiskFault, Damaged, NoMemory}
 use Rattle.root_slots.specs.declared.root.Root.{Root}
 use Rattle.epoch_store.specs.Stores.{IsStoreOf}
 use Rattle.disk_model.specs.declared.name.FileName.{FileName}

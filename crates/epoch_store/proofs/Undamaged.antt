@@ -16,11 +16,11 @@ use Rattle.epoch_file.specs.Entries.{EntriesDiffer, EpochEntry, AreEpochEntries,
 use Rattle.root_slots.specs.declared.root.Root.{Root}
 use Rattle.root_slots.specs.Valid.{RootFits}
 use Rattle.epoch_store.specs.Files.{epoch_file_of}
-use Rattle.epoch_store.specs.Validity.{IsEntry, Rise, IdsDiffer, BlobsAgree}
+use Rattle.arch_model.specs.Validity.{IsEntry, Rise, IdsDiffer, BlobsAgree}
 use Rattle.epoch_store.specs.Stores.{in_file}
 use Rattle.epoch_store.specs.Damage.{record_of, AreFirst, AreOpened, named_length, named_bytes, AreWhole, LacksFront, LacksNext, LacksLast}
 use Rattle.epoch_store.specs.Openings.{OpenedUndamaged}
-use Rattle.epoch_store.proofs.Growing.{all_weaker}
+use Rattle.arch_model.proofs.ValidArchives.{all_weaker}
 use Rattle.epoch_store.proofs.Appends.{nat_eq_or_not}
 use Rattle.epoch_store.proofs.Ends.{none_in}
 use Rattle.epoch_store.proofs.UniqueRoots.{front_is_one}

@@ -1,4 +1,4 @@
--- Files stand for at most one archive.
+-- Files stand for at most one archive, and a store's own disk stands for its archive.
 use Rattle.std.specs.Prelude.{◌≡◌, ◌^◌, ◌-◌, ◌*◌, ◌<◌, ℕ, length, Some, None, refl}
 use Rattle.std.proofs.Common.{◌∙◌, sym, ap, subst, arith}
 use Rattle.disk_model.specs.Disk.{Files}
@@ -10,7 +10,7 @@ use Rattle.root_slots.specs.Laws.{SpellingsDiffer}
 use Rattle.root_slots.specs.RootName.{root_name}
 use Rattle.root_slots.specs.Spelling.{spelling}
 use Rattle.epoch_store.specs.Files.{map_file_of, epoch_file_of}
-use Rattle.epoch_store.specs.Laws.{RecoversOne, RecoversSomeOne, ExactRecovers}
+use Rattle.epoch_store.specs.Laws.{RecoversOne, RecoversSomeOne, ExactRecovers, StoreRecovers}
 use Rattle.epoch_store.specs.Recovery.{records_from, records_of, map_bytes, bytes_in, RecoversBy}
 use Rattle.epoch_store.proofs.Mapped.{map_length, records_are_valid}
 use Rattle.epoch_store.proofs.UniqueRoots.{root_is_one, not_shut, front_is_one}
@@ -58,3 +58,8 @@ recovers_some_one spellings records epochs image (Some a) (Some b) p q = ap (λ 
 -- files that are exactly those of an archive stand for it
 pub exact_recovers : ExactRecovers
 exact_recovers files a p = (p.0, record { valid = p.1.valid; names = p.1.names; stands = p.1.exact.stands })
+
+-- a store's own disk stands for its archive
+pub store_recovers : StoreRecovers
+store_recovers v a k own =
+    (λ image left. (v.root, record { valid = own.keeps.valid; names = own.keeps.names; stands = own.on.images image left }), (v.root, record { valid = own.keeps.valid; names = own.keeps.names; exact = own.on.exact }))

@@ -9,7 +9,7 @@ use Rattle.arch_model.specs.Archives.{Entry, in_epoch}
 use Rattle.arch_model.specs.Epochs.{epoch_bytes, entries_bytes, magic}
 use Rattle.number_map.specs.declared.line.Record.{Record}
 use Rattle.epoch_file.specs.Entries.{EpochEntry, AreEpochEntries, bytes_behind, commit_behind, chain, epoch_of, EpochsDiffer}
-use Rattle.epoch_store.specs.Validity.{IsEntry, Rise}
+use Rattle.arch_model.specs.Validity.{IsEntry, Rise}
 use Rattle.epoch_store.specs.Recovery.{entry_of, record_for, records_from}
 use Rattle.epoch_store.specs.Stores.{in_file}
 use Rattle.epoch_store.proofs.Appends.{nat_eq_or_not}

@@ -12,7 +12,7 @@ use Rattle.epoch_file.specs.Walking.{LacksMagic}
 use Rattle.root_slots.specs.declared.root.Root.{Root}
 use Rattle.root_slots.specs.Valid.{no_place}
 use Rattle.epoch_store.specs.Files.{Fronts, epoch_file_of}
-use Rattle.epoch_store.specs.Validity.{IsEntry, Rise, IdsDiffer, BlobsAgree}
+use Rattle.arch_model.specs.Validity.{IsEntry, Rise, IdsDiffer, BlobsAgree}
 use Rattle.epoch_store.specs.Stores.{in_file}
 
 -- whether the number of a record has a message

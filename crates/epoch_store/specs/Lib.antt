@@ -1,6 +1,5 @@
 pub mod Files
 pub mod TwoFiles
-pub mod Validity
 pub mod Recovery
 pub mod Stores
 pub mod Damage

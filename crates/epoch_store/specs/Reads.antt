@@ -4,9 +4,9 @@ use Rattle.disk_model.specs.declared.name.FileName.{FileName}
 use Rattle.disk_model.specs.Disk.{Content, bytes_of}
 use Rattle.git_objects.specs.Objects.{blob_id_of}
 use Rattle.arch_model.specs.Archives.{Archive, Entry}
-use Rattle.epoch_store.specs.declared.line.EntryLine.{EntryLine}
-use Rattle.epoch_store.specs.declared.reading.TextRefusal.{TextRefusal}
-use Rattle.epoch_store.specs.declared.reading.TextRefusal.TheVariants.{DiskFault, Damaged, NoMemory}
+use Rattle.arch_model.specs.declared.line.EntryLine.{EntryLine}
+use Rattle.arch_model.specs.declared.text_refusal.TextRefusal.{TextRefusal}
+use Rattle.arch_model.specs.declared.text_refusal.TextRefusal.TheVariants.{DiskFault, Damaged, NoMemory}
 use Rattle.root_slots.specs.declared.root.Root.{Root}
 use Rattle.epoch_store.specs.declared.entries.StoredEntry.{StoredEntry}
 use Rattle.epoch_store.specs.Files.{epoch_file_of}

@@ -12,7 +12,7 @@ use Rattle.root_slots.specs.RootName.{root_name}
 use Rattle.root_slots.specs.Slots.{IsShutFile}
 use Rattle.root_slots.specs.Valid.{IsRoot, RootFits, no_place}
 use Rattle.epoch_store.specs.Files.{StandsFor, IsExact}
-use Rattle.epoch_store.specs.Validity.{IsArchive}
+use Rattle.arch_model.specs.Validity.{IsArchive}
 
 -- the entry of a number, where it has one
 abbrev pub entry_of : List Entry → ℕ → Option Entry

@@ -22,7 +22,7 @@ use Rattle.epoch_store.specs.declared.entries.StoredEntry.{StoredEntry}
 use Rattle.epoch_store.specs.declared.next.End.{End}
 use Rattle.epoch_store.specs.declared.next.NextPlace.{NextPlace}
 use Rattle.epoch_store.specs.Files.{map_file_of, epoch_file_of, IsOn}
-use Rattle.epoch_store.specs.Validity.{IsArchive}
+use Rattle.arch_model.specs.Validity.{IsArchive}
 use Rattle.epoch_store.specs.Recovery.{Names, map_bytes, bytes_in, Recovers}
 
 -- What is kept in memory: the current root and its slot, and of each entry all but its text.

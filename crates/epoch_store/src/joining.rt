@@ -17,7 +17,7 @@ const MESSAGE: u8 = b'm';
 /// The records of a map that have a message, and what is kept of the entries that have come so far: those of the first records,
 /// in order, each with an own id and a blob id that no other has.
 #[derive(Drop)]
-pub struct Joining {
+pub(crate) struct Joining {
     records: Vec<Record>,
     known: Known,
     entries: Vec<StoredEntry>,
@@ -47,7 +47,7 @@ fn with_message(alloc: Global, records: &[Record]) -> Result<Vec<Record>, AllocE
 impl Joining {
     /// The records of a map, and no entry yet.
     #[tactic(auto, using(crate::proofs::Firsts::messages_small))]
-    pub fn new(alloc: Global, records: &Records) -> Result<Joining, NoMemory>
+    pub(crate) fn new(alloc: Global, records: &Records) -> Result<Joining, NoMemory>
         ensures records { IfOk result (λ joining. joining.records ≡ messages records.now) }
         ensures entries { IfOk result (λ joining. joining.entries ≡ []) }
     {
@@ -117,7 +117,7 @@ impl Joining {
     ///
     /// Damaged comes exactly where an entry isn't the message of the map's next record, or has the own id or the blob id of an
     /// earlier one, with the place of the first such entry. NoMemory comes only for want of memory. All is dropped then.
-    pub fn take_epoch(self, epoch: u32, seen: SeenList) -> Result<Joining, JoinRefusal>
+    pub(crate) fn take_epoch(self, epoch: u32, seen: SeenList) -> Result<Joining, JoinRefusal>
         requires small { epoch ≤ 63 }
         requires before { AreBefore epoch self.entries }
         ensures taken { TakesEpoch self epoch seen result }
@@ -135,7 +135,7 @@ impl Joining {
 
     /// What is kept of the entries, where all records of the map that have a message have one. Else the epoch that the first
     /// other message should stand in.
-    pub fn finish(self) -> Result<Vec<StoredEntry>, Unmatched>
+    pub(crate) fn finish(self) -> Result<Vec<StoredEntry>, Unmatched>
         ensures finished { Finishes self result }
         ensures kept { IfOk result (λ kept. kept.items ≡ self.entries) }
         ensures small { IfErr result (λ refusal. refusal.epoch < 64) }

@@ -9,7 +9,7 @@ use thiserror::Error;
 
 /// Why the entries of an epoch weren't joined to the records of the map.
 #[derive(Debug, Drop, PartialEq, Eq, Error)]
-pub enum JoinRefusal {
+pub(crate) enum JoinRefusal {
     /// Memory was wanted, and there was none.
     #[error("out of memory")]
     NoMemory,
@@ -35,7 +35,7 @@ impl From<NoMemory> for JoinRefusal {
 /// The map has a message that stands in no epoch.
 #[derive(Clone, Copy, Debug, Drop, PartialEq, Eq, Error)]
 #[error("a message is not in epoch {epoch}")]
-pub struct Unmatched {
+pub(crate) struct Unmatched {
     /// The epoch that the first such message should stand in.
     pub epoch: u32,
 }

@@ -1,5 +1,5 @@
-//! Laws of files that stand for archives, and of archives that follow one another.
-ghost use Rattle.epoch_store.specs.Laws.{RecoversOne, RecoversSomeOne, FollowsItself, FollowsThrough, FollowsWithEntry, NumbersStay, StoreRecovers, ExactRecovers};
+//! Laws of files that stand for archives.
+ghost use Rattle.epoch_store.specs.Laws.{RecoversOne, RecoversSomeOne, StoreRecovers, ExactRecovers};
 
 use epoch_file::law_of_epochs;
 use number_map::law_of_records;
@@ -15,18 +15,9 @@ pub fn law_of_recovery()
     law_of_epochs();
 }
 
-/// An archive with one more entry follows, and what follows shows by an old number what was shown by it, or nothing.
-#[tactic(auto, using(crate::proofs::UniqueNumbers::follows_itself, crate::proofs::UniqueNumbers::follows_through, crate::proofs::UniqueNumbers::numbers_stay))]
-pub fn law_of_numbers()
-    ensures itself { FollowsItself }
-    ensures through { FollowsThrough }
-    ensures with_entry { FollowsWithEntry }
-    ensures stay { NumbersStay }
-{}
-
 /// A store's own disk is exactly that of its archive, and each crash leaves files that stand for it. Files that are exactly
 /// an archive's stand for it.
-#[tactic(auto, using(crate::proofs::UniqueNumbers::store_recovers, crate::proofs::Unique::exact_recovers))]
+#[tactic(auto, using(crate::proofs::Unique::store_recovers, crate::proofs::Unique::exact_recovers))]
 pub fn law_of_stores()
     ensures recovers { StoreRecovers }
     ensures exact { ExactRecovers }

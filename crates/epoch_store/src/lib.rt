@@ -7,11 +7,9 @@ mod first;
 mod joining;
 mod known;
 mod laws;
-mod line;
 mod next;
 mod opening_laws;
 mod putting;
-mod reading;
 mod reads;
 mod refusal;
 mod settling;
@@ -19,10 +17,8 @@ mod store;
 mod store_opening;
 
 pub use entries::StoredEntry;
-pub use laws::{law_of_numbers, law_of_recovery, law_of_stores};
-pub use line::EntryLine;
+pub use laws::{law_of_recovery, law_of_stores};
 pub use opening_laws::{law_of_opening, law_of_undamaged_files};
-pub use reading::TextRefusal;
 pub use refusal::InitRefusal;
 pub use store::Store;
 

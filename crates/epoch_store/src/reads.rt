@@ -3,18 +3,17 @@ ghost use Rattle.std.specs.Prelude.{◌≡◌, ◌≤◌, ◌<◌, ◌+◌, Err,
 ghost use Rattle.arch_base.specs.Counts.{Rose};
 ghost use Rattle.arch_model.specs.Archives.{Archive};
 ghost use Rattle.disk_model.specs.Disk.{Image, Told, WhereTold, Unchanged, LeavesOnly, bytes_of};
-ghost use Rattle.epoch_store.specs.declared.reading.TextRefusal.{TextRefusal};
+ghost use Rattle.arch_model.specs.declared.text_refusal.TextRefusal.{TextRefusal};
 ghost use Rattle.epoch_store.specs.declared.entries.StoredEntry.{StoredEntry};
 ghost use Rattle.epoch_store.specs.Files.{epoch_file_of};
 ghost use Rattle.epoch_store.specs.Stores.{IsStoreOf};
 ghost use Rattle.epoch_store.specs.Reads.{line_of, line_if, place_if, GivesText, FindsText, GivesTextOf, StandsAt, AnswersQuietly};
 
 use crate::entries::StoredEntry;
-use crate::line::EntryLine;
 use crate::putting::epoch_file;
-use crate::reading::TextRefusal;
 use crate::store::Store;
 use arch_base::{Bytes, Config, NoMemory};
+use arch_model::{EntryLine, TextRefusal};
 use disk_model::{Disk, FileName};
 use git_objects::blob_id;
 use std::alloc::Global;

@@ -18,7 +18,7 @@ use std::alloc::{AllocError, Global};
 
 /// Makes the slot that isn't the current one ready for the next root: where it is shut, the current root is put into it, and it is
 /// left shut.
-pub fn ready_other<D: Disk>(disk: &mut D, slot: u8, root: &Root) -> Result<(), DiskFault>
+pub(crate) fn ready_other<D: Disk>(disk: &mut D, slot: u8, root: &Root) -> Result<(), DiskFault>
     requires slot { slot < 2 }
     requires size { WhereTold HasRootSize (D.content disk.old) }
     requires root { IsRoot root.now }
@@ -46,7 +46,7 @@ fn epoch_part(root: &Root, epoch: usize) -> FilePart
 }
 
 /// The parts of the files that a root names: the map's, and those of the epochs.
-pub fn named_parts(alloc: Global, root: &Root) -> Result<Vec<FilePart>, AllocError>
+pub(crate) fn named_parts(alloc: Global, root: &Root) -> Result<Vec<FilePart>, AllocError>
     ensures { IfOk result (λ parts. parts.items ≡ named_parts_of root.now) }
 {
     let mut parts = Vec::new(alloc);
@@ -62,7 +62,7 @@ pub fn named_parts(alloc: Global, root: &Root) -> Result<Vec<FilePart>, AllocErr
 
 /// Brings the disk of an archive to rest: makes the other slot ready for the next root, cuts the tails of the files that the root
 /// names, takes the others away, and syncs.
-pub fn sweep<D: Disk>(
+pub(crate) fn sweep<D: Disk>(
     disk: &mut D,
     slot: u8,
     root: &Root,
@@ -108,7 +108,11 @@ fn is_place(place: Place, gen_: u64) -> bool
 }
 
 /// Those of the names that a root doesn't name.
-pub fn unnamed(alloc: Global, names: &[FileName], root: &Root) -> Result<Vec<FileName>, AllocError>
+pub(crate) fn unnamed(
+    alloc: Global,
+    names: &[FileName],
+    root: &Root,
+) -> Result<Vec<FileName>, AllocError>
     ensures { IfOk result (λ others. others.items ≡ filter (λ (name : FileName). not (names_file root.now name)) names.now) }
 {
     names

@@ -7,7 +7,7 @@ ghost use Rattle.mail_reader.specs.Content.{content_id_of};
 ghost use Rattle.git_objects.specs.Objects.{blob_id_of};
 ghost use Rattle.arch_model.specs.Archives.{Archive, with_entry};
 ghost use Rattle.arch_model.specs.Delivery.{new_epoch};
-ghost use Rattle.epoch_file.specs.Entries.{last_moment};
+ghost use Rattle.arch_model.specs.Validity.{last_moment};
 ghost use Rattle.epoch_file.specs.Appending.{written_of};
 ghost use Rattle.root_slots.specs.Valid.{IsRoot};
 ghost use Rattle.arch_base.specs.Configs.{IsConfig};

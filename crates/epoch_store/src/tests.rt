@@ -6,9 +6,9 @@ ghost use Rattle.git_objects.specs.Objects.{blob_id_of};
 ghost use Rattle.mail_reader.specs.Ids.{own_id as own_id_in};
 ghost use Rattle.epoch_store.specs.Stores.{Accepts, HasSizes};
 
-use crate::{InitRefusal, Store, StoredEntry, TextRefusal};
+use crate::{InitRefusal, Store, StoredEntry};
 use arch_base::{Bytes, Config, Name, Numbers, id_of_hex};
-use arch_model::{Command, MemArchive};
+use arch_model::{Command, MemArchive, TextRefusal};
 use disk_model::{Disk, DiskFault, FileKind, FileName, FuseDisk, MemDisk};
 use epoch_file::StoreRefusal;
 use git_objects::blob_id;

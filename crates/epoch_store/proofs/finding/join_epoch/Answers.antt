@@ -8,7 +8,7 @@ use Rattle.epoch_store.specs.Damage.{named_length}
 use Rattle.epoch_store.specs.Finding.{ReadsEpoch, StopsEpoch}
 use Rattle.epoch_store.proofs.FindingTold.{told_both, told_any, told_so}
 use Rattle.epoch_store.proofs.FindingTurns.{empty_read, seen_read, left_read}
-use Rattle.epoch_store.proofs.Growing.{all_weaker}
+use Rattle.arch_model.proofs.ValidArchives.{all_weaker}
 use Rattle.epoch_store.proofs.finding.join_epoch.Goals as goal
 
 pub returns-then-length-eq0-clause-joined : goal.returns-then-length-eq0-clause-joined

@@ -3,7 +3,7 @@ use Rattle.std.proofs.lemmas.List.{nil_from_length}
 use Rattle.std.specs.Vec.Iter.{into_iter_items}
 use Rattle.epoch_store.specs.declared.entries.StoredEntry.{StoredEntry}
 use Rattle.epoch_store.specs.Joined.{Joined, AreBefore, entry_seen}
-use Rattle.epoch_store.proofs.Growing.{all_behind, all_weaker}
+use Rattle.arch_model.proofs.ValidArchives.{all_behind, all_weaker}
 use Rattle.epoch_store.proofs.Joins.{comes_first, comes_more, all_come, joins_or_stops}
 use Rattle.epoch_store.proofs.joining.Joining.take_epoch.Goals as goal
 

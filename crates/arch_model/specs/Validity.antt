@@ -7,7 +7,10 @@ use Rattle.mail_reader.specs.StorageTexts.{IsStorageText}
 use Rattle.mail_reader.specs.Ids.{own_id}
 use Rattle.git_objects.specs.Objects.{blob_id_of}
 use Rattle.arch_model.specs.Archives.{Entry, Archive}
-use Rattle.epoch_file.specs.Entries.{last_moment}
+
+-- the last moment of a commit: the last second of the year 9999
+abbrev pub last_moment : ℕ
+last_moment = 253402300799
 
 -- an entry keeps a storage text in one of the 64 epochs, since a moment from 1970 to 9999
 pub record IsEntry (e : Entry) : Type 0 where

@@ -1,10 +1,10 @@
--- No number of an archive names a second message later, and a store's own disk stands for its archive.
+-- No number of an archive names a second message later.
 use Rattle.std.specs.Prelude.{◌≡◌, ◌≢◌, ◌<◌, ◌==◌, ℕ, Bool, true, false, List, [], ◌∷◌, ◌++◌, Option, Some, None, if◌then◌else◌, unwrap_or, refl}
+use Rattle.std.specs.List.{AllByRecursion}
 use Rattle.std.proofs.Common.{◌∙◌, sym, ap, arith}
 use Rattle.std.proofs.lemmas.Bool.Decides.{nat_tests}
 use Rattle.arch_model.specs.Archives.{Entry, text_of}
-use Rattle.epoch_store.specs.Laws.{FollowsItself, FollowsThrough, FollowsWithEntry, NumbersStay, StoreRecovers}
-use Rattle.epoch_store.proofs.UniqueEntries.{AreBelow}
+use Rattle.arch_model.specs.Following.{FollowsItself, FollowsThrough, FollowsWithEntry, NumbersStay}
 
 -- an archive follows itself
 pub follows_itself : FollowsItself
@@ -33,7 +33,7 @@ follows_with_entry a epoch text moment = record {
 }
 
 -- a number that has a text is below all that are above each entry's
-number_below : (es : List Entry) (high n : ℕ) (text : List ℕ) → AreBelow high es → text_of es n ≡ Some text → n < high
+number_below : (es : List Entry) (high n : ℕ) (text : List ℕ) → AllByRecursion (λ (e : Entry). e.number < high) es → text_of es n ≡ Some text → n < high
 number_below [] high n text below is = let wrong : None ≡ Some text = is in cc
 number_below (e ∷ es) high n text below is = by (e.number == n) refl (number_below es high n text below.1) is where
   by : (b : Bool) → (e.number == n) ≡ b → (text_of es n ≡ Some text → n < high) → (if b then Some e.text else text_of es n) ≡ Some text → n < high
@@ -45,8 +45,3 @@ pub numbers_stay : NumbersStay
 numbers_stay a b valid follows n old new was is =
     let found : text_of a.entries n ≡ Some new = follows.texts n new (number_below a.entries a.next n old valid.below was) is in
     ap (λ (o : Option (List ℕ)). unwrap_or o new) (sym found ∙ was)
-
--- a store's own disk stands for its archive
-pub store_recovers : StoreRecovers
-store_recovers v a k own =
-    (λ image left. (v.root, record { valid = own.keeps.valid; names = own.keeps.names; stands = own.on.images image left }), (v.root, record { valid = own.keeps.valid; names = own.keeps.names; exact = own.on.exact }))

@@ -24,7 +24,7 @@ pub enum TextRefusal {
 
 impl From<DiskFault> for TextRefusal {
     ghost use Rattle.std.specs.Prelude.{◌≡◌};
-    ghost use Rattle.epoch_store.specs.declared.reading.TextRefusal.{TextRefusal};
+    ghost use Rattle.arch_model.specs.declared.text_refusal.TextRefusal.{TextRefusal};
 
     ghost from_gives = { λ _ e. e ≡ TextRefusal.DiskFault };
 
@@ -35,7 +35,7 @@ impl From<DiskFault> for TextRefusal {
 
 impl From<NoMemory> for TextRefusal {
     ghost use Rattle.std.specs.Prelude.{◌≡◌};
-    ghost use Rattle.epoch_store.specs.declared.reading.TextRefusal.{TextRefusal};
+    ghost use Rattle.arch_model.specs.declared.text_refusal.TextRefusal.{TextRefusal};
 
     ghost from_gives = { λ _ e. e ≡ TextRefusal.NoMemory };
 

@@ -1,0 +1,94 @@
+-- A command on an archive that may be kept leaves one, and it follows.
+use Rattle.std.specs.Prelude.{◌≡◌, ◌≢◌, ◌+◌, ◌^◌, ◌<◌, ◌≤◌, ◌==◌, ◌||◌, ℕ, Bool, true, false, nat_lt, List, [], ◌∷◌, length, Option, Some, None, refl, if◌then◌else◌}
+use Rattle.std.specs.List.{AllByRecursion}
+use Rattle.std.specs.Str.{bytes_eq}
+use Rattle.std.proofs.Common.{◌∙◌, sym, ap, arith}
+use Rattle.std.proofs.lemmas.Bool.Decides.{nat_tests}
+use Rattle.std.proofs.lemmas.Slice.Eq.{bytes_eq-Decides}
+use Rattle.arch_base.specs.declared.ids.Id20.{Id20}
+use Rattle.git_objects.specs.Objects.{blob_id_of}
+use Rattle.mail_reader.specs.Ids.{own_id}
+use Rattle.arch_model.specs.Archives.{Entry, Archive, owner, is_id, in_epoch}
+use Rattle.arch_model.specs.Delivery.{Done, last_epoch, new_epoch, delivered}
+use Rattle.arch_model.specs.Epochs.{epoch_bytes}
+use Rattle.arch_model.specs.Following.{Follows}
+use Rattle.arch_model.specs.Laws.{TakenAreStorage, KeepsValid, CommandFollows}
+use Rattle.arch_model.specs.Memory.{blob_number}
+use Rattle.arch_model.specs.Validity.{IsEntry, Rise, IsArchive, last_moment}
+use Rattle.arch_model.specs.declared.command.Command.TheVariants.{Deliver}
+use Rattle.arch_model.proofs.Deliveries.{Comes, Refused, Accepted, comes}
+use Rattle.arch_model.proofs.Ends.{not_before}
+use Rattle.arch_model.proofs.Following.{follows_itself, follows_with_entry}
+use Rattle.arch_model.proofs.Maps.{bytes_eq-refl}
+use Rattle.arch_model.proofs.Owners.{front_free, collision-free}
+use Rattle.arch_model.proofs.TakenTexts.{taken}
+use Rattle.arch_model.proofs.ValidArchives.{archive_grows}
+
+-- numbers that rise are no more than there is room for
+rise_count : (es : List Entry) (low epoch high : ℕ) → low ≤ high → Rise low epoch es → AllByRecursion (λ (e : Entry). e.number < high) es → low + length es ≤ high
+rise_count [] low epoch high least rise below = omega (arith, least)
+rise_count (e ∷ es) low epoch high least rise below =
+    let less : e.number < high = below.0 in
+    let first : low ≤ e.number = rise.0 in
+    let rest = rise_count es (e.number + 1) e.epoch high (omega (arith, less)) rise.2 below.1 in
+    omega (arith, first, rest)
+
+-- an archive that may be kept has few entries
+pub few_entries : (a : Archive) → IsArchive a → length a.entries < 2 ^ 63
+few_entries a valid = let count = rise_count a.entries 1 0 a.next valid.next_least valid.order valid.below in let most = valid.next_most in omega (arith, count, most)
+
+-- an own id that has no owner differs from those of all
+pub apart_ids : (es : List Entry) (text id : List ℕ) → own_id text ≡ Some id → owner es id ≡ None → AllByRecursion (λ (e : Entry). own_id text ≢ own_id e.text) es
+apart_ids [] text id own free = tt
+apart_ids (e ∷ es) text id own free =
+    let both = front_free e (owner es id) (is_id id (own_id e.text)) free in
+    (λ same. (let yes : is_id id (own_id e.text) ≡ true = ap (is_id id) (sym same ∙ own) ∙ bytes_eq-refl id id refl in let bad : true ≡ false = sym yes ∙ both.0 in cc), apart_ids es text id own both.1)
+
+-- and a blob id that has no number
+number_free : (n : ℕ) (rest : Option ℕ) (t : Bool) → (if t then Some n else rest) ≡ None → (t ≡ false) × (rest ≡ None)
+number_free n rest true is = absurd (cc)
+number_free n rest false is = (refl, is)
+
+pub apart_blobs : (es : List Entry) (text : List ℕ) → blob_number es (blob_id_of text).0 ≡ None → AllByRecursion (λ (e : Entry). blob_id_of text ≢ blob_id_of e.text) es
+apart_blobs [] text none = tt
+apart_blobs (e ∷ es) text none =
+    let blob = (blob_id_of text).0 in
+    let other = (blob_id_of e.text).0 in
+    let both = number_free e.number (blob_number es blob) (bytes_eq blob other) none in
+    (λ same. (let yes : bytes_eq blob other ≡ true = (bytes_eq-Decides blob other).1 (ap (λ (i : Id20). i.0) same) in let bad : true ≡ false = sym yes ∙ both.0 in cc), apart_blobs es text both.1)
+
+-- the epoch of the next entry is one of the 64
+last_small : (es : List Entry) → AllByRecursion IsEntry es → last_epoch es ≤ 63
+last_small [] all = omega arith
+last_small (e ∷ es) all = let one : e.epoch ≤ 63 = all.0.epoch in let rest = last_small es all.1 in grind (arith, nat_tests, one, rest)
+
+new_small : (a : Archive) → AllByRecursion IsEntry a.entries → new_epoch a ≤ 63
+new_small a all = by (last_epoch a.entries) (nat_lt (length (epoch_bytes (in_epoch a.entries (last_epoch a.entries)))) a.config.limit) (last_small a.entries all) where
+  by : (last : ℕ) (t : Bool) → last ≤ 63 → (if last == 63 || t then last else last + 1) ≤ 63
+  by last true small = grind (arith, nat_tests, small)
+  by last false small = grind (arith, nat_tests, small)
+
+module _ (law : TakenAreStorage) where
+  valid_by : (a : Archive) (bytes : List ℕ) (moment : ℕ) (d : Done) → moment ≤ last_moment → IsArchive a → Comes a bytes moment d → IsArchive d.archive
+  valid_by a bytes moment d in_time valid (Refused answer other) = valid
+  valid_by a bytes moment d in_time valid (Accepted form kept is takes alone room) =
+      let t = taken law a.entries a.config.name bytes form (few_entries a valid) valid.name is kept (own_id form) refl takes in
+      let id = t.free.0 in
+      let unseen : blob_number a.entries (blob_id_of kept).0 ≡ None = sym (collision-free a.entries kept id t.free.1 t.free.2) ∙ alone in
+      let left : a.next ≤ a.config.max = grind (arith, nat_tests, room) in
+      let high = valid.config.max_high in
+      archive_grows a (new_epoch a) kept moment valid (omega (arith, left, high))
+      (record { text = t.storage; epoch = new_small a valid.entries; moment = in_time })
+      (not_before a) (apart_ids a.entries kept id t.free.1 t.free.2) (apart_blobs a.entries kept unseen)
+
+  -- a command leaves a valid archive valid
+  pub keeps_valid : KeepsValid
+  keeps_valid a (Deliver bytes) moment in_time valid = valid_by a bytes.now moment (delivered a bytes.now moment) in_time valid (comes a bytes.now moment)
+
+follows_by : (a : Archive) (bytes : List ℕ) (moment : ℕ) (d : Done) → Comes a bytes moment d → Follows a d.archive
+follows_by a bytes moment d (Refused answer other) = follows_itself a
+follows_by a bytes moment d (Accepted form kept is takes alone room) = follows_with_entry a (new_epoch a) kept moment
+
+-- an archive follows the one before a command
+pub command_follows : CommandFollows
+command_follows a (Deliver bytes) moment = follows_by a bytes.now moment (delivered a bytes.now moment) (comes a bytes.now moment)

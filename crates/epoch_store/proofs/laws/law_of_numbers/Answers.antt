@@ -1,5 +1,0 @@
-use Rattle.epoch_store.proofs.UniqueNumbers.{follows_with_entry}
-use Rattle.epoch_store.proofs.laws.law_of_numbers.Goals as goal
-
-pub returns-clause-with_entry : goal.returns-clause-with_entry
-returns-clause-with_entry c = follows_with_entry
