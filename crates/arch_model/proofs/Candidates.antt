@@ -1,23 +1,16 @@
 -- That one of more made ids than there are messages is free, and what trying them one by one comes to.
-use Rattle.std.proofs.Common.{◌⊎◌, inl, inr, ◌≡◌, ◌+◌, ◌-◌, ◌^◌, ◌≤◌, ◌<◌, ℕ, zero, suc, Bool, true, false, ◌||◌, List, [], ◌∷◌, length, Option, Some, None, is_some, Result, Ok, Err, IfOk, refl, sym, ◌∙◌, ap, subst, arith, if◌then◌else◌}
+use Rattle.std.proofs.Common.{◌⊎◌, inl, inr, ◌≡◌, ◌+◌, ◌-◌, ◌^◌, ◌≤◌, ◌<◌, ℕ, zero, suc, Bool, true, false, ◌||◌, List, [], ◌∷◌, length, Option, Some, None, is_some, refl, sym, ◌∙◌, ap, subst, arith, if◌then◌else◌}
 use Rattle.std.specs.Str.{bytes_eq}
 use Rattle.std.proofs.lemmas.Slice.Eq.{bytes_eq-Decides}
-use Rattle.arch_base.specs.Names.{IsName}
-use Rattle.arch_base.specs.declared.sequence.NoMemory.{NoMemory}
 use Rattle.mail_reader.specs.Ids.{own_id}
 use Rattle.mail_reader.specs.Content.{content_id_of}
 use Rattle.arch_model.specs.Archives.{Entry, Archive, owner, is_id}
-use Rattle.sha1.specs.Sha1.{sha1}
-use Rattle.hex.specs.Hex.{encode_lower}
-use Rattle.arch_base.specs.declared.ids.Id20.{Id20}
-use Rattle.git_objects.specs.Objects.{id_of}
-use Rattle.arch_model.specs.Candidates.{id_with, met, made_id, with_made, made_choice, decided}
-use Rattle.arch_model.specs.Memory.{IsFree, TakesFree}
+use Rattle.arch_model.specs.Candidates.{met, made_id, with_made, made_choice, decided}
 use Rattle.arch_model.specs.declared.choice.Meeting.{Meeting}
 use Rattle.arch_model.specs.declared.choice.Meeting.TheVariants.{Free, Same, Other}
 use Rattle.arch_model.specs.declared.choice.Choice.{Choice}
 use Rattle.arch_model.specs.declared.choice.Choice.TheVariants.{Take, Repeat}
-use Rattle.arch_model.proofs.MadeIds.{made-own, made-once}
+use Rattle.arch_model.proofs.MadeIds.{made-once}
 
 abbrev one_if : Bool → ℕ
 one_if true = 1
@@ -81,14 +74,15 @@ none_of : (o : Option Entry) → (is_some o ≡ true → ⊥) → o ≡ None
 none_of None h = refl
 none_of (Some e) h = absurd (h refl)
 
+-- a number is below another one, or the same
+order_of : (j n : ℕ) → j ≤ n → (j < n) ⊎ (j ≡ n)
+order_of zero zero h = inr refl
+order_of zero (suc n) h = inl (omega arith)
+order_of (suc j) zero h = absurd (omega arith)
+order_of (suc j) (suc n) h = elim (order_of j n (omega arith)) [ inl less ↦ inl (omega arith) | inr same ↦ inr (ap suc same) ]
+
 pub below_or_at : (j n : ℕ) (P : ℕ → Type 0) → ((i : ℕ) → i < n → P i) → P n → j < suc n → P j
 below_or_at j n P low here l = elim (order_of j n (omega arith)) [ inl less ↦ low j less | inr same ↦ subst P (sym same) here ]
-  where
-    order_of : (j n : ℕ) → j ≤ n → (j < n) ⊎ (j ≡ n)
-    order_of zero zero h = inr refl
-    order_of zero (suc n) h = inl (omega arith)
-    order_of (suc j) zero h = absurd (omega arith)
-    order_of (suc j) (suc n) h = elim (order_of j n (omega arith)) [ inl less ↦ inl (omega arith) | inr same ↦ inr (ap suc same) ]
 
 -- where as many different ids as there are entries are owned, one more is free
 pub free-last : (es : List Entry) (ids : ℕ → List ℕ) → ((j k : ℕ) → j < suc (length es) → k < suc (length es) → ids j ≡ ids k → j ≡ k) → ((j : ℕ) → j < length es → is_some (owner es (ids j)) ≡ true) → owner es (ids (length es)) ≡ None
@@ -107,10 +101,6 @@ met-free (Some e) content h = absurd (met_step (bytes_eq (content_id_of e.text) 
 pub met-other : (o : Option Entry) (content : List ℕ) → met o content ≡ Other → is_some o ≡ true
 met-other None content h = absurd (cc)
 met-other (Some e) content h = refl
-
-pub ok-map : (r : Result Choice NoMemory) (P Q : Choice → Type 0) → IfOk r P → ((c : Choice) → P c → Q c) → IfOk r Q
-ok-map (Ok c) P Q h f = f c h
-ok-map (Err e) P Q h f = h
 
 module _ (a : Archive) (text : List ℕ) where
   -- how the made id of a count meets the messages
@@ -134,45 +124,44 @@ module _ (a : Archive) (text : List ℕ) where
       let more : length a.entries - i ≡ suc (length a.entries - (i + 1)) = omega arith in
       ap (λ (n : ℕ). made_choice a.entries a.config.name text i n) more
 
-  pub passed-more : (i : ℕ) → i < length a.entries → Passed i → meets i ≡ Other → Passed (i + 1)
-  passed-more i l passed other = (
-    λ j lt. below_or_at j i (λ k. meets k ≡ Other) passed.0 other (omega arith),
-    passed.1 ∙ one_tried i l ∙ ap (λ (m : Meeting). decided m (with_made a.config.name text i) (made_choice a.entries a.config.name text (i + 1) (length a.entries - (i + 1)))) other,
-  )
+  -- among n messages the made id of the count n is free, where all before it are passed over
+  free-at : (i : ℕ) → i ≡ length a.entries → i < 2 ^ 64 → ((j : ℕ) → j < i → meets j ≡ Other) → meets i ≡ Free
+  free-at i at small others =
+      let none : owner a.entries (made_id a.config.name text (length a.entries)) ≡ None =
+      free-last a.entries (made_id a.config.name text) (λ j k b d e. made-once a.config.name text j k (omega (arith, b, at, small)) (omega (arith, d, at, small)) e)
+      (λ j l. met-other (owner a.entries (made_id a.config.name text j)) (content_id_of text) (others j (omega (arith, l, at)))) in
+      ap meets at ∙ ap (λ (o : Option Entry). met o (content_id_of text)) none
 
-  pub passed-same : (i n : ℕ) → i < length a.entries → Passed i → meets i ≡ Same n → Repeat n ≡ all_made
-  passed-same i n l passed same = sym (passed.1 ∙ one_tried i l ∙ ap (λ (m : Meeting). decided m (with_made a.config.name text i) (made_choice a.entries a.config.name text (i + 1) (length a.entries - (i + 1)))) same)
+  last-free : (i : ℕ) → i ≡ length a.entries → i < 2 ^ 64 → Passed i → meets i ≡ Free
+  last-free i at small passed = free-at i at small passed.0
 
-  pub passed-free : (i : ℕ) → i < length a.entries → Passed i → meets i ≡ Free → Take (with_made a.config.name text i) ≡ all_made
-  passed-free i l passed free = sym (passed.1 ∙ one_tried i l ∙ ap (λ (m : Meeting). decided m (with_made a.config.name text i) (made_choice a.entries a.config.name text (i + 1) (length a.entries - (i + 1)))) free)
+  -- so no n + 1 of them are passed over
+  pub not-all-passed : (i : ℕ) → length a.entries < i → length a.entries < 2 ^ 64 → Passed i → ⊥
+  not-all-passed i over small passed =
+      let free : meets (length a.entries) ≡ Free = free-at (length a.entries) refl small (λ j l. passed.0 j (omega (arith, l, over))) in
+      let wrong : Free ≡ Other = sym free ∙ passed.0 (length a.entries) over in
+      cc
 
-  pub passed-all : (i : ℕ) → i ≡ length a.entries → Passed i → Take (with_made a.config.name text i) ≡ all_made
-  passed-all i at passed = let none : length a.entries - i ≡ 0 = omega (arith, at) in sym (passed.1 ∙ ap (λ (n : ℕ). made_choice a.entries a.config.name text i n) none)
+  decides : (i : ℕ) (m : Meeting) → i < length a.entries → Passed i → meets i ≡ m → all_made ≡ decided m (with_made a.config.name text i) (made_choice a.entries a.config.name text (i + 1) (length a.entries - (i + 1)))
+  decides i m l passed is = passed.1 ∙ one_tried i l ∙ ap (λ (m : Meeting). decided m (with_made a.config.name text i) (made_choice a.entries a.config.name text (i + 1) (length a.entries - (i + 1)))) is
 
-  -- a text with a free made id in front is free
-  pub made-free : (i : ℕ) → IsName a.config.name → i < 2 ^ 64 → owner a.entries (made_id a.config.name text i) ≡ None → IsFree a.entries (with_made a.config.name text i)
-  made-free i name small none = (made_id a.config.name text i, made-own a.config.name text i name small, none)
+  -- a made id that is passed over isn't the last one
+  pub passed-more : (i : ℕ) → i ≤ length a.entries → i < 2 ^ 64 → Passed i → meets i ≡ Other → Passed (i + 1)
+  passed-more i within small passed other = elim (order_of i (length a.entries) within) [
+    | inl l ↦ (λ j lt. below_or_at j i (λ k. meets k ≡ Other) passed.0 other (omega (arith, lt)), decides i Other l passed other)
+    | inr at ↦ absurd (let wrong : Free ≡ Other = sym (last-free i at small passed) ∙ other in cc)
+  ]
 
-  pub last-free : (i : ℕ) → i ≡ length a.entries → i < 2 ^ 63 → Passed i → owner a.entries (made_id a.config.name text i) ≡ None
-  last-free i at small passed =
-      subst (λ (n : ℕ). owner a.entries (made_id a.config.name text n) ≡ None) (sym at)
-      (free-last a.entries (made_id a.config.name text) (λ j k b d e. made-once a.config.name text j k (omega (arith, b, at, small)) (omega (arith, d, at, small)) e)
-      (λ j l. met-other (owner a.entries (made_id a.config.name text j)) (content_id_of text) (passed.0 j (omega (arith, l, at)))))
+  -- nor does it repeat a message
+  pub passed-same : (i n : ℕ) → i ≤ length a.entries → i < 2 ^ 64 → Passed i → meets i ≡ Same n → Repeat n ≡ all_made
+  passed-same i n within small passed same = elim (order_of i (length a.entries) within) [
+    | inl l ↦ sym (decides i (Same n) l passed same)
+    | inr at ↦ absurd (let wrong : Free ≡ Same n = sym (last-free i at small passed) ∙ same in cc)
+  ]
 
-  -- what a made text gives is the choice, and free
-  abbrev pub Chosen : Result Choice NoMemory → Type 0
-  Chosen r = IfOk r (λ c. c ≡ all_made) × IfOk r (λ c. TakesFree a.entries c)
-
-  pub chosen : (i : ℕ) (r : Result Choice NoMemory) → IsName a.config.name → i < 2 ^ 63 → IfOk r (λ c. c ≡ Take (with_made a.config.name text i)) → Take (with_made a.config.name text i) ≡ all_made → owner a.entries (made_id a.config.name text i) ≡ None → Chosen r
-  chosen i r name small made is none = (
-    ok-map r (λ c. c ≡ Take (with_made a.config.name text i)) (λ c. c ≡ all_made) made (λ c e. e ∙ is),
-    ok-map r (λ c. c ≡ Take (with_made a.config.name text i)) (λ c. TakesFree a.entries c) made (λ c e. subst (TakesFree a.entries) (sym e) (made-free i name (omega (arith, small)) none)),
-  )
-
--- a piece of digits, a count and a name is the made id
-pub same_made : (id digits name text own_name : List ℕ) (i : ℕ) (object : Id20) → id ≡ id_with digits i name → digits ≡ encode_lower object.0 → object ≡ id_of text → name ≡ own_name → id ≡ made_id own_name text i
-same_made id digits name text own_name i object is digits_is object_is name_is =
-    is ∙ ap (λ (d : List ℕ). id_with d i name) (digits_is ∙ ap (λ (o : Id20). encode_lower o.0) object_is) ∙ ap (λ (n : List ℕ). id_with (encode_lower (sha1 text)) i n) name_is
-
-pub same_meeting : (a : Archive) (text id content : List ℕ) (i : ℕ) (m : Meeting) → m ≡ met (owner a.entries id) content → id ≡ made_id a.config.name text i → content ≡ content_id_of text → meets a text i ≡ m
-same_meeting a text id content i m is id_is content_is = sym (is ∙ ap (λ (q : List ℕ). met (owner a.entries q) content) id_is ∙ ap (met (owner a.entries (made_id a.config.name text i))) content_is)
+  -- the first free one is taken
+  pub passed-free : (i : ℕ) → i ≤ length a.entries → Passed i → meets i ≡ Free → Take (with_made a.config.name text i) ≡ all_made
+  passed-free i within passed free = elim (order_of i (length a.entries) within) [
+    | inl l ↦ sym (decides i Free l passed free)
+    | inr at ↦ (let none : length a.entries - i ≡ 0 = omega (arith, at) in sym (passed.1 ∙ ap (λ (n : ℕ). made_choice a.entries a.config.name text i n) none))
+  ]

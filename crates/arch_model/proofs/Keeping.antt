@@ -1,18 +1,17 @@
 -- What an archive in memory holds with one more message.
-use Rattle.std.proofs.Common.{◌≡◌, ◌+◌, ◌≤◌, ℕ, List, [], ◌∷◌, ◌++◌, length, Option, Some, None, refl, sym, ◌∙◌, ap, subst, arith, length-append}
+use Rattle.std.proofs.Common.{◌≡◌, ◌+◌, ◌≤◌, ℕ, List, [], ◌∷◌, ◌++◌, length, Some, None, refl, sym, ◌∙◌, ap, subst, arith, length-append}
 use Rattle.arch_base.specs.declared.config.Config.{Config}
 use Rattle.arch_base.specs.declared.ids.Id20.{Id20}
 use Rattle.mail_reader.specs.Ids.{own_id}
 use Rattle.mail_reader.specs.Content.{content_id_of}
 use Rattle.git_objects.specs.Objects.{blob_id_of}
-use Rattle.arch_model.specs.Archives.{Entry, Archive, owner, with_entry}
-use Rattle.arch_model.specs.Delivery.{collision, delivered_kept, last_epoch, new_epoch}
-use Rattle.arch_model.specs.Memory.{archive_of, entries_from, end_after, end_for_new, number_in, blob_number, IsEnd, IsIndex, IsFree, IsKept, Puts}
-use Rattle.arch_model.specs.declared.answer.Answer.TheVariants as answer
+use Rattle.arch_model.specs.Archives.{Entry, owner, with_entry}
+use Rattle.arch_model.specs.Delivery.{last_epoch, new_epoch}
+use Rattle.arch_model.specs.Memory.{archive_of, entries_from, end_after, end_for_new, blob_number, IsEnd, IsIndex, IsFree, IsKept, Puts}
 use Rattle.arch_model.specs.declared.kept.Kept.{Kept}
 use Rattle.arch_model.specs.declared.kept.End.{End}
 use Rattle.arch_model.specs.declared.index.Index.{Index}
-use Rattle.arch_model.proofs.Owners.{IsIndex-push, collision-free}
+use Rattle.arch_model.proofs.Owners.{IsIndex-push}
 use Rattle.arch_model.proofs.Ends.{IsEnd-new, IsEnd-push, last_epoch-push}
 
 -- one more message stands behind the others, with the next number
@@ -25,21 +24,6 @@ entries_from-push n (x ∷ ks) k =
 pub length-entries_from : (n : ℕ) (ks : List Kept) → length (entries_from n ks) ≡ length ks
 length-entries_from n [] = refl
 length-entries_from n (k ∷ ks) = omega (arith, length-entries_from (n + 1) ks)
-
--- where the blob id of a text that no message has is found, it collides
-module _ (a : Archive) (text : List ℕ) (moment : ℕ) (config : Config) (ks : List Kept) (index : Index) (blob : Id20) (is : archive_of config ks ≡ a) (indexed : IsIndex (entries_from 1 ks) index) (free : IsFree a.entries text) (blob_is : blob ≡ blob_id_of text) where
-  found : (o : Option ℕ) → o ≡ number_in index.blobs blob.0 → collision a.entries text ≡ o
-  found o given =
-      collision-free a.entries text free.0 free.1 free.2
-      ∙ ap (λ (i : Id20). blob_number a.entries i.0) (sym blob_is)
-      ∙ sym (subst (λ (b : Archive). number_in index.blobs blob.0 ≡ blob_number b.entries blob.0) is (indexed.blobs blob.0))
-      ∙ sym given
-
-  pub kept-collides : (n : ℕ) → Some n ≡ number_in index.blobs blob.0 → delivered_kept a text moment (collision a.entries text) ≡ record { archive = a; answer = answer.Collision n }
-  kept-collides n given = ap (delivered_kept a text moment) (found (Some n) given)
-
-  pub kept-alone : None ≡ number_in index.blobs blob.0 → delivered_kept a text moment None ≡ delivered_kept a text moment (collision a.entries text)
-  kept-alone given = ap (delivered_kept a text moment) (sym (found None given))
 
 same_id : (es : List Entry) (text id : List ℕ) → own_id text ≡ Some id → IsFree es text → owner es id ≡ None
 same_id es text id own free =

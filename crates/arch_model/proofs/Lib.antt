@@ -14,3 +14,5 @@ pub mod ValidArchives
 mod Following
 mod TakenTexts
 mod Commands
+mod Choosing
+mod Judged

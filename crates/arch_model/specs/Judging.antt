@@ -1,8 +1,9 @@
 -- What the delivery of a message comes to, before anything is kept.
-use Rattle.std.specs.Prelude.{◌≡◌, ◌≤◌, ℕ, false, List, length, Some, None}
+use Rattle.std.specs.Prelude.{◌≡◌, ◌≤◌, ℕ, false, List, length, Some, None, Ok}
 use Rattle.arch_base.specs.declared.config.Config.{Config}
 use Rattle.arch_base.specs.declared.ids.Id20.{Id20}
 use Rattle.mail_reader.specs.StorageTexts.{IsStorageText}
+use Rattle.mail_reader.specs.Stored.{stored}
 use Rattle.mail_reader.specs.Ids.{own_id}
 use Rattle.git_objects.specs.Objects.{blob_id_of}
 use Rattle.arch_model.specs.Archives.{Archive, with_entry}
@@ -10,6 +11,8 @@ use Rattle.arch_model.specs.Delivery.{delivered, refused, new_epoch}
 use Rattle.arch_model.specs.Memory.{IsIndex, owner_in, number_in}
 use Rattle.arch_model.specs.declared.answer.Answer.{Answer}
 use Rattle.arch_model.specs.declared.answer.Answer.TheVariants as answer
+use Rattle.arch_model.specs.declared.choice.Choice.{Choice}
+use Rattle.arch_model.specs.declared.choice.Choice.TheVariants as choice
 use Rattle.arch_model.specs.declared.index.Index.{Index}
 use Rattle.arch_model.specs.declared.judging.Verdict.{Verdict}
 use Rattle.arch_model.specs.declared.judging.Verdict.TheVariants.{Take, Refuse}
@@ -71,3 +74,17 @@ IsForDelivery (answer.Damaged file place) = ⊥
 abbrev pub MayTake : Config → Index → ℕ → Verdict → Type 0
 MayTake config index next (Take text blob number) = MayBeKept config index next text blob number
 MayTake config index next (Refuse reply) = IsForDelivery reply
+
+-- a text is what storing some bytes gave
+abbrev pub IsStored : List ℕ → Type 0
+IsStored text = (bytes : List ℕ) × (stored bytes ≡ Ok text)
+
+-- a storage text whose own id no message has
+pub record IsNewText (index : Index) (text : List ℕ) : Type 0 where
+  pub storage : IsStorageText text
+  pub new_id : (id : List ℕ) → own_id text ≡ Some id → owner_in index.owners id ≡ None
+
+-- what the candidates for an id come to is such a text, where it is one
+abbrev pub TakesNewText : Index → Choice → Type 0
+TakesNewText index (choice.Take text) = IsNewText index text
+TakesNewText index (choice.Repeat number) = Unit {0}

@@ -19,10 +19,8 @@ use Rattle.arch_model.specs.declared.kept.Owner.{Owner}
 use Rattle.arch_model.specs.declared.kept.End.{End}
 use Rattle.arch_base.specs.declared.sequence.NoMemory.{NoMemory}
 use Rattle.arch_model.specs.declared.choice.Meeting.{Meeting}
-use Rattle.arch_model.specs.declared.choice.Meeting.TheVariants.{Same, Other}
+use Rattle.arch_model.specs.declared.choice.Meeting.TheVariants.{Free, Same, Other}
 use Rattle.arch_model.specs.declared.index.Index.{Index}
-use Rattle.arch_model.specs.declared.choice.Choice.{Choice}
-use Rattle.arch_model.specs.declared.choice.Choice.TheVariants.{Take, Repeat}
 
 -- the entries of kept messages, the first of which has this number
 abbrev pub entries_from : ℕ → List Kept → List Entry
@@ -78,11 +76,6 @@ TakesBack put new id blob = (old : Index) (message : Owner) → Puts old put id 
 abbrev pub IsFree : List Entry → List ℕ → Type 0
 IsFree entries text = (id : List ℕ) × (own_id text ≡ Some id) × (owner entries id ≡ None)
 
--- a text that is taken has an own id that no entry has
-abbrev pub TakesFree : List Entry → Choice → Type 0
-TakesFree entries (Take text) = IsFree entries text
-TakesFree entries (Repeat number) = Unit {0}
-
 -- what is kept of an epoch is its room and its last commit
 pub record IsEnd (limit : ℕ) (entries : List Entry) (end_ : End) : Type 0 where
   pub room : end_.room ≡ limit - length (epoch_bytes (in_epoch entries end_.epoch))
@@ -126,6 +119,11 @@ Grows old new = take (length old) new ≡ old
 -- how a candidate for an id meets the message that has it
 abbrev pub met_owner : Owner → List ℕ → Meeting
 met_owner message content = if bytes_eq message.content content then Same message.number else Other
+
+-- how it meets what a map by ids has for it
+abbrev pub met_in : Option Owner → List ℕ → Meeting
+met_in None content = Free
+met_in (Some message) content = met_owner message content
 
 -- whether there is an entry
 abbrev pub has_entry : List Entry → Bool

@@ -1,7 +1,8 @@
 //! The messages of an archive in memory by their ids and by their blob ids.
 ghost use Rattle.std.specs.Prelude.{◌≡◌, [], OnOk, OnErr, None};
-ghost use Rattle.arch_model.specs.Memory.{Puts, Loses, TakesBack, HasSame, owner_in, number_in};
+ghost use Rattle.arch_model.specs.Memory.{Puts, Loses, TakesBack, HasSame, met_in, owner_in, number_in};
 
+use crate::choice::Meeting;
 use crate::kept::Owner;
 use arch_base::{NoMemory, ObjectId};
 use std::alloc::Global;
@@ -31,6 +32,16 @@ impl Index {
         ensures { result ≡ owner_in self.now.owners id.now }
     {
         self.owners.get(id).copied()
+    }
+
+    /// How a candidate for an id meets the messages that are there.
+    pub(crate) fn meet(&self, id: &[u8], content: &[u8; 32]) -> Meeting
+        ensures { result ≡ met_in (owner_in self.now.owners id.now) content.now }
+    {
+        match self.owner(id) {
+            None => Meeting::Free,
+            Some(owner) => owner.meet(content),
+        }
     }
 
     /// The number of the message with a blob id.

@@ -3,21 +3,20 @@ ghost use Rattle.std.specs.Prelude.{◌≡◌, ◌≢◌, ◌++◌, ◌≤◌, [
 ghost use Rattle.arch_base.specs.Configs.{IsConfig};
 ghost use Rattle.mail_reader.specs.Content.{content_id_of};
 ghost use Rattle.git_objects.specs.Objects.{blob_id_of};
-ghost use Rattle.arch_model.specs.Archives.{empty_archive, with_entry, owner, text_of, in_epoch};
-ghost use Rattle.arch_model.specs.Candidates.{choice_of, made_choice, met};
-ghost use Rattle.arch_model.specs.Delivery.{Delivers, applied, delivered, delivered_choice, delivered_kept, delivered_new, collision, new_epoch};
+ghost use Rattle.arch_model.specs.Archives.{empty_archive, with_entry, text_of, in_epoch};
+ghost use Rattle.arch_model.specs.Delivery.{Delivers, applied, delivered, new_epoch};
 ghost use Rattle.arch_model.specs.Epochs.{epoch_bytes};
-ghost use Rattle.arch_model.specs.Memory.{IsFree, TakesFree, blob_number, GivesEpoch, Grows, has_entry};
+ghost use Rattle.arch_model.specs.Memory.{IsFree, blob_number, GivesEpoch, Grows, has_entry};
+ghost use Rattle.arch_model.specs.declared.answer.Answer.{Answer};
 
 use crate::answer::Answer;
-use crate::choice::{Choice, Meeting};
 use crate::command::Command;
 use crate::index::Index;
+use crate::judging::{Verdict, judge};
 use crate::kept::{End, Kept, Owner, push_behind};
-use crate::made::{made_id, own_id_bytes, with_id};
-use arch_base::{Bytes, Config, NoMemory, ObjectId, hex_of};
-use git_objects::{blob_id, object_id};
-use mail_reader::{StoredRefusal, content_id, own_id, stored};
+use crate::made::own_id_bytes;
+use arch_base::{Bytes, Config, NoMemory, ObjectId};
+use mail_reader::content_id;
 use std::alloc::Global;
 use std::marker::Model;
 
@@ -127,100 +126,22 @@ impl MemArchive {
     fn deliver(&mut self, bytes: &[u8], moment: u64) -> Answer
         ensures { Delivers self.old result self.new (delivered self.old bytes.now moment) }
     {
-        if self.config.mirror {
-            return Answer::IsMirror;
-        }
-        match stored(self.alloc, bytes) {
-            Err(StoredRefusal::NoFields) => Answer::NoFields,
-            Err(StoredRefusal::TooLarge(len)) => Answer::TooLarge(len),
-            Err(StoredRefusal::NoMemory) => Answer::NoMemory,
-            Ok(text) => self.deliver_text(text, moment),
+        let count = self.kept.len();
+        let next = self.next();
+        match judge(self.alloc, &self.config, &self.index, count, next, bytes) {
+            Verdict::Refuse(answer) => answer,
+            Verdict::Take { text, blob, number } => self.take(text, blob, number, moment),
         }
     }
 
-    /// Delivers a text in storage form.
-    fn deliver_text(&mut self, text: Bytes, moment: u64) -> Answer
-        ensures { Delivers self.old result self.new (delivered_choice self.old moment (choice_of self.old text)) }
-    {
-        match self.choose(text) {
-            Err(NoMemory) => Answer::NoMemory,
-            Ok(Choice::Repeat(number)) => Answer::Duplicate(number),
-            Ok(Choice::Take(text)) => self.deliver_kept(text, moment),
-        }
-    }
-
-    /// What the candidates for a text's id come to.
-    fn choose(&self, text: Bytes) -> Result<Choice, NoMemory>
-        ensures choice { IfOk result (λ choice. choice ≡ choice_of self.now text) }
-        ensures free { IfOk result (λ choice. TakesFree self.now.entries choice) }
-    {
-        let content = content_id(text.as_slice());
-        let Some(id) = own_id(text.as_slice()) else {
-            return self.choose_made(text.as_slice(), &content);
-        };
-        match self.meet(id, &content) {
-            Meeting::Free => Ok(Choice::Take(text)),
-            Meeting::Same(number) => Ok(Choice::Repeat(number)),
-            Meeting::Other => self.choose_made(text.as_slice(), &content),
-        }
-    }
-
-    /// What the made ids for a text come to.
-    fn choose_made(&self, text: &[u8], content: &[u8; 32]) -> Result<Choice, NoMemory>
-        requires content { content.now ≡ content_id_of text.now }
-        ensures choice { IfOk result (λ choice. choice ≡ made_choice self.now.entries self.now.config.name text.now 0 (length self.now.entries)) }
-        ensures free { IfOk result (λ choice. TakesFree self.now.entries choice) }
-    {
-        let name = self.config.name.as_slice();
-        let digits = hex_of(&object_id(text));
-        let len = self.kept.len();
-        for count in 0..len {
-            let id = made_id(self.alloc, &digits, count as u64, name)?;
-            match self.meet(id.as_slice(), content) {
-                Meeting::Free => return with_id(id.as_slice(), text, self.alloc),
-                Meeting::Same(number) => return Ok(Choice::Repeat(number)),
-                Meeting::Other => {}
-            }
-        }
-        // Among n messages one of n + 1 made ids is free.
-        let id = made_id(self.alloc, &digits, len as u64, name)?;
-        with_id(id.as_slice(), text, self.alloc)
-    }
-
-    /// How a candidate for an id meets the messages that are there.
-    fn meet(&self, id: &[u8], content: &[u8; 32]) -> Meeting
-        ensures { result ≡ met (owner self.now.entries id.now) content.now }
-    {
-        match self.index.owner(id) {
-            None => Meeting::Free,
-            Some(owner) => owner.meet(content),
-        }
-    }
-
-    /// Delivers a text whose own id is free.
-    fn deliver_kept(&mut self, text: Bytes, moment: u64) -> Answer
-        requires free { IsFree self.old.entries text }
-        ensures { Delivers self.old result self.new (delivered_kept self.old text moment (collision self.old.entries text)) }
-    {
-        let blob = blob_id(text.as_slice());
-        // No message has this text, since none has its id.
-        match self.index.number(&blob) {
-            Some(number) => Answer::Collision(number),
-            None => self.deliver_new(text, blob, moment),
-        }
-    }
-
-    /// Delivers a text whose own id and blob id no message has.
-    fn deliver_new(&mut self, text: Bytes, blob: ObjectId, moment: u64) -> Answer
+    /// Keeps a message under the next number, and answers that.
+    fn take(&mut self, text: Bytes, blob: ObjectId, number: u32, moment: u64) -> Answer
         requires free { IsFree self.old.entries text }
         requires blob { blob ≡ blob_id_of text }
         requires unseen { blob_number self.old.entries blob.0 ≡ None }
-        ensures { Delivers self.old result self.new (delivered_new self.old text moment) }
+        requires room { self.old.next ≤ self.old.config.max }
+        ensures { Delivers self.old result self.new (record { archive = with_entry self.old (new_epoch self.old) text moment; answer = Answer.Ok number blob }) }
     {
-        let number = self.next();
-        if number > self.config.max {
-            return Answer::Full(self.config.max);
-        }
         match self.keep(text, blob, moment) {
             Ok(()) => Answer::Ok { number, id: blob },
             Err(NoMemory) => Answer::NoMemory,

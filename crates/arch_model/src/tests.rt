@@ -2,8 +2,10 @@
 ghost use Rattle.std.specs.Prelude.{◌≤◌, IfSome};
 ghost use Rattle.arch_base.specs.Configs.{IsConfig};
 
-use crate::{Answer, Command, MemArchive};
+use crate::{Answer, Command, Index, MemArchive, Owner, Verdict, judge};
 use arch_base::{Bytes, Config, Name, id_of_hex};
+use git_objects::blob_id;
+use mail_reader::content_id;
 use std::alloc::Global;
 
 const FIRST: &[u8] =
@@ -89,6 +91,41 @@ fn a_taken_made_id_gives_way_to_the_next(rt: HostRuntime) {
     let text =
         b"Message-ID: <a8f4aef97c4217e79c7ac7c8d9fa4cba3317bffd.1@list.invalid>\nSubject: u\n\nx\n";
     assert!(rt; archive.text(2) == Some(text.as_slice()));
+}
+
+/// An index of one message, FIRST, which has the number 1.
+fn index_of_first(alloc: Global) -> Option<Index> {
+    let mut index = Index::new(alloc);
+    let id = Vec::from_slice(alloc, b"<a@x>").ok()?;
+    let owner = Owner {
+        number: 1,
+        content: content_id(FIRST),
+    };
+    index.insert(id, blob_id(FIRST), owner).ok()?;
+    Some(index)
+}
+
+#[test]
+fn a_delivery_is_judged_by_an_index(rt: HostRuntime) {
+    let (Some(settings), Some(index)) = (settings(1000, 2, false), index_of_first(rt.alloc()))
+    else {
+        return assert!(rt; false);
+    };
+    assert!(rt; matches!(index.owner(b"<a@x>"), Some(Owner { number: 1, .. })));
+    assert!(rt; index.owner(b"<b@x>").is_none());
+    assert!(rt;
+        index.number(&blob_id(FIRST)) == Some(1) && index.number(&blob_id(RENAMED)).is_none()
+    );
+    let again = judge(rt.alloc(), &settings, &index, 1, 2, FIRST);
+    assert!(rt; matches!(again, Verdict::Refuse(Answer::Duplicate(1))));
+    let full = judge(rt.alloc(), &settings, &index, 1, 3, RENAMED);
+    assert!(rt; matches!(full, Verdict::Refuse(Answer::Full(2))));
+    match judge(rt.alloc(), &settings, &index, 1, 2, RENAMED) {
+        Verdict::Refuse(_) => assert!(rt; false),
+        Verdict::Take { text, blob, number } => {
+            assert!(rt; text.as_slice() == RENAMED && blob == blob_id(RENAMED) && number == 2);
+        }
+    }
 }
 
 #[test]

@@ -4,7 +4,7 @@ use Rattle.std.specs.List.{AllByRecursion}
 use Rattle.std.proofs.Common.{◌∙◌, ap, arith}
 use Rattle.arch_model.specs.Archives.{Entry, Archive}
 use Rattle.epoch_store.specs.Stores.{View, Keeps, stored_behind}
-use Rattle.epoch_store.specs.Validity.{Rise}
+use Rattle.arch_model.specs.Validity.{Rise}
 
 -- entries whose numbers rise from one on and stay below another aren't more than are between
 few : (number epoch next : ℕ) (es : List Entry) → number ≤ next → Rise number epoch es → AllByRecursion (λ (e : Entry). e.number < next) es → number + length es ≤ next

@@ -14,7 +14,7 @@ use Rattle.arch_model.specs.declared.index.Index.{Index}
 use Rattle.arch_model.specs.declared.kept.Owner.{Owner}
 use Rattle.epoch_store.specs.declared.entries.StoredEntry.{StoredEntry}
 use Rattle.epoch_store.specs.Stores.{View, Accepts, AddsEntry, Keeps, stored_at, stored_behind}
-use Rattle.epoch_store.specs.Validity.{IsEntry}
+use Rattle.arch_model.specs.Validity.{IsEntry}
 use Rattle.archive_core.specs.Kept.{IndexesStored, PutsText, TakesBackText, owner_kept, stored_owner, stored_number}
 
 -- bytes that are the same are found to be

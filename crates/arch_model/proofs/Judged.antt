@@ -1,0 +1,103 @@
+-- What a delivery is judged to be is the definition's, and what is taken may be kept.
+use Rattle.std.specs.Prelude.{◌≡◌, ◌<◌, ◌≤◌, ℕ, Bool, true, false, nat_lt, List, length, Option, Some, None, IsSome, Result, Ok, refl, if◌then◌else◌}
+use Rattle.std.proofs.Common.{◌∙◌, sym, ap, subst, arith}
+use Rattle.std.proofs.lemmas.Bool.Decides.{nat_tests}
+use Rattle.arch_base.specs.declared.config.Config.{Config}
+use Rattle.arch_base.specs.declared.ids.Id20.{Id20}
+use Rattle.git_objects.specs.Objects.{blob_id_of}
+use Rattle.mail_reader.specs.Ids.{own_id}
+use Rattle.mail_reader.specs.Stored.{stored}
+use Rattle.mail_reader.specs.declared.storing.StoredRefusal.{StoredRefusal}
+use Rattle.arch_model.specs.Archives.{Archive, with_entry}
+use Rattle.arch_model.specs.Candidates.{choice_of}
+use Rattle.arch_model.specs.Delivery.{Delivers, delivered, delivered_form, delivered_choice, delivered_kept, refused, collision, new_epoch}
+use Rattle.arch_model.specs.Judging.{IsKnownBy, IsNewText, RefusesBy}
+use Rattle.arch_model.specs.Memory.{IsIndex, IsKept, archive_of, blob_number, number_in}
+use Rattle.arch_model.specs.declared.answer.Answer.{Answer}
+use Rattle.arch_model.specs.declared.answer.Answer.TheVariants as answer
+use Rattle.arch_model.specs.declared.choice.Choice.{Choice}
+use Rattle.arch_model.specs.declared.choice.Choice.TheVariants.{Take}
+use Rattle.arch_model.specs.declared.index.Index.{Index}
+use Rattle.arch_model.specs.declared.kept.End.{End}
+use Rattle.arch_model.specs.declared.kept.Kept.{Kept}
+use Rattle.arch_model.proofs.Keeping.{length-entries_from}
+use Rattle.arch_model.proofs.Owners.{collision-free, unowned}
+
+-- what there is
+there : (o : Option (List ℕ)) → IsSome o → (id : List ℕ) × (o ≡ Some id)
+there None some = absurd (let wrong : false ≡ true = some in cc)
+there (Some id) some = (id, refl)
+
+module _ (a : Archive) (config : Config) (index : Index) (count next : ℕ) (known : IsKnownBy config index count next a) (bytes : List ℕ) where
+  module _ (writable : config.mirror ≡ false) where
+    -- any other goes by the storage form
+    pub formed : (form : Result (List ℕ) StoredRefusal) → stored bytes ≡ form → (moment : ℕ) → delivered a bytes moment ≡ delivered_form a moment form
+    formed form is moment =
+        ap (λ (t : Bool). if t then refused a answer.IsMirror else delivered_form a moment (stored bytes)) (ap (λ (c : Config). c.mirror) known.config_is ∙ writable) ∙ ap (delivered_form a moment) is
+
+    -- and by the choice
+    pub chosen : (form : List ℕ) (choice : Choice) → stored bytes ≡ Ok form → choice ≡ choice_of a form → (moment : ℕ) → delivered a bytes moment ≡ delivered_choice a moment choice
+    chosen form choice is choice_is moment = formed (Ok form) is moment ∙ ap (delivered_choice a moment) (sym choice_is)
+
+    module _ (form text : List ℕ) (blob : Id20) (is : stored bytes ≡ Ok form) (takes : choice_of a form ≡ Take text) (new : IsNewText index text) (blob_is : blob ≡ blob_id_of text) where
+      met_as : (found : Option ℕ) → found ≡ number_in index.blobs blob.0 → collision a.entries text ≡ found
+      met_as found given =
+          let own = there (own_id text) new.storage.id in
+          collision-free a.entries text own.0 own.1 (unowned a.entries index own.0 known.indexed (new.new_id own.0 own.1))
+          ∙ ap (λ (i : Id20). blob_number a.entries i.0) (sym blob_is)
+          ∙ sym (known.indexed.blobs blob.0)
+          ∙ sym given
+
+      kept_as : (found : Option ℕ) → found ≡ number_in index.blobs blob.0 → (moment : ℕ) → delivered a bytes moment ≡ delivered_kept a text moment found
+      kept_as found given moment = chosen form (Take text) is (sym takes) moment ∙ ap (delivered_kept a text moment) (met_as found given)
+
+      -- a blob id that a message has collides
+      pub collides : (n : ℕ) → Some n ≡ number_in index.blobs blob.0 → (moment : ℕ) → delivered a bytes moment ≡ refused a (answer.Collision n)
+      collides n given moment = kept_as (Some n) given moment
+
+      test_of : nat_lt a.config.max a.next ≡ nat_lt config.max next
+      test_of = ap (λ (c : Config). nat_lt c.max a.next) known.config_is ∙ ap (nat_lt config.max) known.next_is
+
+      numbered : (t : Bool) → nat_lt config.max next ≡ t → None ≡ number_in index.blobs blob.0 → (moment : ℕ)
+          → delivered a bytes moment ≡ (if t then refused a (answer.Full a.config.max) else record { archive = with_entry a (new_epoch a) text moment; answer = answer.Ok a.next (blob_id_of text) })
+      numbered t test given moment =
+          kept_as None given moment
+          ∙ ap (λ (u : Bool). if u then refused a (answer.Full a.config.max) else record { archive = with_entry a (new_epoch a) text moment; answer = answer.Ok a.next (blob_id_of text) }) (test_of ∙ test)
+
+      -- no number is left
+      pub filled : None ≡ number_in index.blobs blob.0 → config.max < next → (moment : ℕ) → delivered a bytes moment ≡ refused a (answer.Full config.max)
+      filled given over moment =
+          let test : nat_lt config.max next ≡ true = grind (arith, nat_tests, over) in
+          numbered true test given moment ∙ ap (λ (c : Config). refused a (answer.Full c.max)) known.config_is
+
+      -- else the text is kept
+      pub kept : None ≡ number_in index.blobs blob.0 → next ≤ config.max → (moment : ℕ) → delivered a bytes moment ≡ record { archive = with_entry a (new_epoch a) text moment; answer = answer.Ok next blob }
+      kept given room moment =
+          let test : nat_lt config.max next ≡ false = grind (arith, nat_tests, room) in
+          numbered false test given moment
+          ∙ (ap (λ (n : ℕ). record { archive = with_entry a (new_epoch a) text moment; answer = answer.Ok n (blob_id_of text) }) known.next_is
+          ∙ ap (λ (i : Id20). record { archive = with_entry a (new_epoch a) text moment; answer = answer.Ok next i }) (sym blob_is))
+
+-- an archive in memory is known by what it keeps
+pub kept_known : (config : Config) (ks : List Kept) (index : Index) (end_ : End) (a : Archive) (count next : ℕ) → archive_of config ks ≡ a → IsKept config ks index end_ → count ≡ length ks → next ≡ a.next → IsKnownBy config index count next a
+kept_known config ks index end_ a count next is holds count_is next_is = record {
+  config_is = sym (ap (λ (b : Archive). b.config) is);
+  next_is = sym next_is;
+  count_is = sym (ap (λ (b : Archive). length b.entries) is) ∙ (length-entries_from 1 ks ∙ sym count_is);
+  indexed = subst (λ (b : Archive). IsIndex b.entries index) is holds.indexed;
+}
+
+-- a refusal is delivered as it is
+pub refuses : (a : Archive) (bytes : List ℕ) (moment : ℕ) (reply : Answer) → RefusesBy a bytes reply → Delivers a reply a (delivered a bytes moment)
+refuses a bytes moment answer.NoMemory h = refl
+refuses a bytes moment (answer.Ok number id) h = absurd h
+refuses a bytes moment (answer.Duplicate number) h = h moment
+refuses a bytes moment answer.NoFields h = h moment
+refuses a bytes moment (answer.TooLarge len) h = h moment
+refuses a bytes moment (answer.Full max) h = h moment
+refuses a bytes moment (answer.Collision number) h = h moment
+refuses a bytes moment (answer.NotLive number) h = absurd h
+refuses a bytes moment (answer.NoText number) h = absurd h
+refuses a bytes moment answer.IsMirror h = h moment
+refuses a bytes moment answer.DiskFault h = h
+refuses a bytes moment (answer.Damaged file place) h = h
