@@ -30,6 +30,21 @@ DoneBy v a wanted (answer.NotLive number) content = ⊥
 DoneBy v a wanted (answer.NoText number) content = ⊥
 DoneBy v a wanted (answer.Damaged file place) content = ⊥
 
+-- what holds where a command was answered Ok
+abbrev pub OnDone : Answer → Type 0 → Type 0
+OnDone (answer.Ok number id) P = P
+OnDone (answer.Duplicate number) P = Unit {0}
+OnDone answer.NoFields P = Unit {0}
+OnDone (answer.TooLarge len) P = Unit {0}
+OnDone (answer.Full max) P = Unit {0}
+OnDone (answer.Collision number) P = Unit {0}
+OnDone (answer.NotLive number) P = Unit {0}
+OnDone (answer.NoText number) P = Unit {0}
+OnDone answer.IsMirror P = Unit {0}
+OnDone answer.DiskFault P = Unit {0}
+OnDone (answer.Damaged file place) P = Unit {0}
+OnDone answer.NoMemory P = Unit {0}
+
 -- what holds where a command wasn't answered Ok
 abbrev pub OnRefusal : Answer → Type 0 → Type 0
 OnRefusal (answer.Ok number id) P = Unit {0}

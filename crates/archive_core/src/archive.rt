@@ -15,9 +15,9 @@ ghost use Rattle.epoch_store.specs.Files.{as_read};
 ghost use Rattle.epoch_store.specs.Opens.{RecoversOf, AllRecoverOf, ReadsAs, Opens, OpensWell};
 ghost use Rattle.archive_core.specs.Openings.{RefusesKindly};
 ghost use Rattle.epoch_store.specs.First.{MakingLeaves, MakingAnswers};
-ghost use Rattle.epoch_store.specs.Stores.{IsDiskOf, IsStoreOf, Keeps, HasSizes, RecoversEither, SeesNoDamage};
+ghost use Rattle.epoch_store.specs.Stores.{IsDiskOf, IsStoreOf, Keeps, HasSizes, RecoversEither, SeesNoDamage, next_sequence};
 ghost use Rattle.epoch_store.specs.declared.refusal.InitRefusal.{InitRefusal};
-ghost use Rattle.archive_core.specs.Commands.{DoneBy, OnRefusal, UnlessFault, IsForCommand, refusal_answer};
+ghost use Rattle.archive_core.specs.Commands.{DoneBy, OnDone, OnRefusal, UnlessFault, IsForCommand, refusal_answer};
 
 use crate::entries::index_of;
 use crate::texts::{put_text, take_text};
@@ -128,6 +128,7 @@ impl DiskArchive {
         // What is answered is the definition's, and then the disk is the definition's archive's own.
         ensures done { (a : Archive) → IsStoreOf self.old a (D.content disk.old) → self.old.root.sequence + 1 < 2 ^ 64
             → DoneBy self.new a (applied a command.now moment) result (D.content disk.new) }
+        ensures sequence { OnDone result (self.new.root.sequence ≡ next_sequence self.old.root.sequence) }
         ensures same { OnRefusal result (self.new ≡ self.old) }
         ensures untouched { OnRefusal result (UnlessFault result (disk.new ≡ disk.old)) }
         ensures sizes { UnlessFault result (WhereTold (HasSizes self.new) (D.content disk.new)) }
@@ -149,6 +150,7 @@ impl DiskArchive {
             → LeavesOnly D.moment D.left_since disk.old disk.new (RecoversEither a (delivered a bytes.now moment).archive) }
         ensures done { (a : Archive) → IsStoreOf self.old a (D.content disk.old) → self.old.root.sequence + 1 < 2 ^ 64
             → DoneBy self.new a (delivered a bytes.now moment) result (D.content disk.new) }
+        ensures sequence { OnDone result (self.new.root.sequence ≡ next_sequence self.old.root.sequence) }
         ensures same { OnRefusal result (self.new ≡ self.old) }
         ensures untouched { OnRefusal result (UnlessFault result (disk.new ≡ disk.old)) }
         ensures sizes { UnlessFault result (WhereTold (HasSizes self.new) (D.content disk.new)) }
@@ -201,6 +203,7 @@ impl DiskArchive {
         ensures done { (a : Archive) → IsStoreOf self.old a (D.content disk.old) → self.old.root.sequence + 1 < 2 ^ 64
             → OnOk result (IsStoreOf self.new (with_entry a (new_epoch a) text.now moment) (D.content disk.new)) }
         ensures sizes { OnOk result (WhereTold (HasSizes self.new) (D.content disk.new)) }
+        ensures sequence { OnOk result (self.new.root.sequence ≡ next_sequence self.old.root.sequence) }
         ensures same { OnErr result (self.new ≡ self.old) }
         ensures refused { result ≡ Err StoreRefusal.NoMemory → disk.new ≡ disk.old }
         ensures undamaged { SeesNoDamage result }

@@ -1,5 +1,6 @@
 //! The entries of two epochs, joined to the records of a map by hand.
-use crate::{JoinRefusal, Joining, Unmatched};
+use crate::joining::Joining;
+use crate::known::{JoinRefusal, Unmatched};
 use arch_base::{Bytes, Id20, NoMemory};
 use epoch_file::{Seen, SeenList};
 use number_map::{Record, Records};

@@ -23,6 +23,12 @@ pub use refusal::InitRefusal;
 pub use store::Store;
 
 #[cfg(test)]
+mod damage_tests;
+#[cfg(test)]
+mod fault_tests;
+#[cfg(test)]
 mod joining_tests;
+#[cfg(test)]
+mod opening_tests;
 #[cfg(test)]
 mod tests;

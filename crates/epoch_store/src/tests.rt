@@ -1,5 +1,5 @@
 //! Archives on disks in memory: what is made, what is answered, and what is read of them.
-ghost use Rattle.std.specs.Prelude.{◌≢◌, ◌≤◌, Some, IfSome, IsTrue, OnOk};
+ghost use Rattle.std.specs.Prelude.{◌≢◌, ◌≤◌, Some, IfSome, IfOk, IsTrue, OnOk};
 ghost use Rattle.arch_base.specs.Configs.{IsConfig};
 ghost use Rattle.disk_model.specs.Disk.{WhereTold};
 ghost use Rattle.git_objects.specs.Objects.{blob_id_of};
@@ -16,31 +16,32 @@ use mail_reader::{is_stored, own_id};
 use std::alloc::Global;
 use std::test::Fail;
 
-const FIRST: &[u8] =
+/// A mail.
+pub(crate) const FIRST: &[u8] =
     b"From: Ann <ann@example.org>\nDate: Thu, 1 Feb 2024 10:00:00 +0000\nSubject: first\nMessage-ID: <a@x>\n\none\n";
 
 /// The same mail with another id.
-const SECOND: &[u8] =
+pub(crate) const SECOND: &[u8] =
     b"From: Ann <ann@example.org>\nDate: Thu, 1 Feb 2024 10:00:00 +0000\nSubject: first\nMessage-ID: <b@x>\n\none\n";
 
 const MOMENT: u64 = 1_706_781_700;
 
 /// The file of the root.
-const ROOT: FileName = FileName {
+pub(crate) const ROOT: FileName = FileName {
     kind: FileKind::Root,
     number: 0,
     gen_: 0,
 };
 
 /// The file of the first map.
-const MAP: FileName = FileName {
+pub(crate) const MAP: FileName = FileName {
     kind: FileKind::Map,
     number: 0,
     gen_: 1,
 };
 
 /// The file of an epoch.
-fn epoch(number: u32, gen_: u64) -> FileName {
+pub(crate) fn epoch(number: u32, gen_: u64) -> FileName {
     FileName {
         kind: FileKind::Epoch,
         number,
@@ -98,7 +99,7 @@ fn is_apart(one: &StoredEntry, text: &[u8]) -> bool
 }
 
 /// Puts a message into an archive of one at most.
-fn put<D: Disk>(
+pub(crate) fn put<D: Disk>(
     alloc: Global,
     disk: &mut D,
     store: &mut Store,
@@ -113,20 +114,29 @@ fn put<D: Disk>(
     store.deliver_entry(alloc, disk, text, MOMENT)
 }
 
-/// Makes an archive and puts both messages into it.
-fn fill<D: Disk>(alloc: Global, disk: &mut D, limit: u64) -> Result<Store, StoreRefusal>
+/// Makes an archive.
+pub(crate) fn make<D: Disk>(alloc: Global, disk: &mut D, limit: u64) -> Result<Store, StoreRefusal>
     requires low { 1 ≤ limit }
     requires high { limit ≤ 1099511627776 }
+    ensures sizes { IfOk result (λ store. WhereTold (HasSizes store) (D.content disk.new)) }
 {
     let Some(config) = settings(limit) else {
         return Err(StoreRefusal::Damaged { file: ROOT, at: 1 });
     };
-    let mut store = match Store::init(alloc, disk, &config) {
-        Ok(store) => store,
-        Err(InitRefusal::DiskFault) => return Err(StoreRefusal::DiskFault),
-        Err(InitRefusal::NoMemory) => return Err(StoreRefusal::NoMemory),
-        Err(InitRefusal::Exists) => return Err(StoreRefusal::Damaged { file: ROOT, at: 2 }),
-    };
+    match Store::init(alloc, disk, &config) {
+        Ok(store) => Ok(store),
+        Err(InitRefusal::DiskFault) => Err(StoreRefusal::DiskFault),
+        Err(InitRefusal::NoMemory) => Err(StoreRefusal::NoMemory),
+        Err(InitRefusal::Exists) => Err(StoreRefusal::Damaged { file: ROOT, at: 2 }),
+    }
+}
+
+/// Makes an archive and puts both messages into it.
+pub(crate) fn fill<D: Disk>(alloc: Global, disk: &mut D, limit: u64) -> Result<Store, StoreRefusal>
+    requires low { 1 ≤ limit }
+    requires high { limit ≤ 1099511627776 }
+{
+    let mut store = make(alloc, disk, limit)?;
     put(alloc, disk, &mut store, FIRST)?;
     put(alloc, disk, &mut store, SECOND)?;
     Ok(store)
@@ -218,12 +228,23 @@ fn text_of<D: Disk>(
     Ok(bytes)
 }
 
-/// Writes an `F` into a file.
-fn spoil(disk: &mut MemDisk, file: FileName, place: u64) -> Result<(), DiskFault> {
-    if place > 1 << 40 || place > disk.length(file)? {
+/// Writes bytes into a file.
+pub(crate) fn write(
+    disk: &mut MemDisk,
+    file: FileName,
+    place: u64,
+    bytes: &[u8],
+) -> Result<(), DiskFault> {
+    if place > 1 << 40 || bytes.len() > 4096 || place > disk.length(file)? {
         return Err(DiskFault);
     }
-    disk.write_at(file, place, b"F")
+    disk.write_at(file, place, bytes)
+}
+
+/// Puts ten bytes behind those of a file.
+pub(crate) fn append(disk: &mut MemDisk, file: FileName) -> Result<(), DiskFault> {
+    let place = disk.length(file)?;
+    write(disk, file, place, b"0123456789")
 }
 
 #[test]
@@ -234,7 +255,7 @@ fn a_text_is_read_where_it_stands_unharmed(rt: HostRuntime) -> Result<(), Fail> 
     let bytes = text_of(alloc, &mut disk, &store, 1)?;
     assert!(rt; bytes.as_slice().len() == 104 && bytes.as_slice().ends_with(SECOND));
     // The subject of the first text becomes another one.
-    spoil(&mut disk, epoch(0, 2), 91)?;
+    write(&mut disk, epoch(0, 2), 91, b"F")?;
     match text_of(alloc, &mut disk, &store, 0) {
         Err(TextRefusal::Damaged { named, found }) => {
             assert!(rt; Some(named) == id_of_hex(b"1d023c572ccd6f3cc82ae855343346b043adaba5"));

@@ -1,0 +1,155 @@
+//! Archives opened behind a call of the disk that failed, also one of an opening before.
+ghost use Rattle.std.specs.Prelude.{◌≤◌};
+
+use crate::opening_tests::{Change, Listing, open_moment, opened};
+use crate::tests::{FIRST, MAP, ROOT, SECOND, append, epoch, make, put, write};
+use arch_base::{NoMemory, Numbers};
+use arch_model::OpenRefusal;
+use disk_model::{Disk, DiskFault, MemDisk};
+use epoch_file::StoreRefusal;
+use std::alloc::Global;
+use std::process::Abort;
+use std::test::Fail;
+
+/// More calls than all here make on a disk.
+const ENOUGH: u64 = 1000;
+
+/// A disk of which one call fails, by its ordinal from 1.
+fn failing(alloc: Global, ordinal: u64) -> Result<MemDisk, NoMemory> {
+    let mut faults = Numbers::new(alloc);
+    faults.push(ordinal)?;
+    Ok(MemDisk::new(alloc, faults))
+}
+
+/// Makes an archive and puts both messages into it, up to the first refusal. It says how many of these three calls answered Ok.
+fn advance<D: Disk>(alloc: Global, disk: &mut D, limit: u64) -> (u64, Result<(), StoreRefusal>)
+    requires low { 1 ≤ limit }
+    requires high { limit ≤ 1099511627776 }
+{
+    let mut store = match make(alloc, disk, limit) {
+        Ok(store) => store,
+        Err(refusal) => return (0, Err(refusal)),
+    };
+    if let Err(refusal) = put(alloc, disk, &mut store, FIRST) {
+        return (1, Err(refusal));
+    }
+    match put(alloc, disk, &mut store, SECOND) {
+        Ok(()) => (3, Ok(())),
+        Err(refusal) => (2, Err(refusal)),
+    }
+}
+
+/// What is found on a disk of which one call at most is still to fail.
+fn opened_at_last<D: Disk>(alloc: Global, disk: &mut D) -> Result<Option<Listing>, OpenRefusal> {
+    match opened(alloc, disk) {
+        Err(OpenRefusal::DiskFault) => opened(alloc, disk),
+        answer => answer,
+    }
+}
+
+/// Lets a call of the disk fail while an archive is made and filled, and opens it. It says whether none of those calls failed.
+fn fail_at(rt: &impl Abort, alloc: Global, limit: u64, ordinal: u64) -> Result<bool, Fail>
+    requires low { 1 ≤ limit }
+    requires high { limit ≤ 1099511627776 }
+{
+    let mut disk = failing(alloc, ordinal)?;
+    let (calls, answer) = advance(alloc, &mut disk, limit);
+    let found = opened_at_last(alloc, &mut disk)?;
+    let done = answer.is_ok();
+    assert!(rt; done || answer == Err(StoreRefusal::DiskFault));
+    assert!(rt; calls <= 3 && done == (calls == 3));
+    let mut change = Change::between(alloc, limit, calls, if done { calls } else { calls + 1 })?;
+    assert!(rt; change.finds(&found), "ordinal {ordinal}");
+    Ok(done)
+}
+
+/// Lets each call of the disk fail in turn while an archive is made and filled, up to the first run in which none does.
+fn fail_each(rt: &impl Abort, alloc: Global, limit: u64) -> Result<(), Fail>
+    requires low { 1 ≤ limit }
+    requires high { limit ≤ 1099511627776 }
+{
+    for ordinal in 1..ENOUGH {
+        if fail_at(rt, alloc, limit, ordinal)? {
+            assert!(rt; ordinal > 1);
+            return Ok(());
+        }
+    }
+    Ok(assert!(rt; false, "no run without a fault"))
+}
+
+#[test]
+fn a_fault_leaves_the_archive_before_or_after(rt: HostRuntime) -> Result<(), Fail> {
+    fail_each(&rt, rt.alloc(), 1_073_741_824)?;
+    fail_each(&rt, rt.alloc(), 316)
+}
+
+/// Leaves work to an opening: the other slot is shut, two files have tails, and there are files that no root names.
+fn disturb(disk: &mut MemDisk) -> Result<(), DiskFault> {
+    write(disk, ROOT, 1, b"\0")?;
+    append(disk, MAP)?;
+    append(disk, epoch(0, 2))?;
+    append(disk, epoch(0, 9))?;
+    append(disk, epoch(63, 1))
+}
+
+/// Where the call failed that was to fail while an archive is made and filled, disturbed and then opened.
+#[derive(Clone, Copy, PartialEq, Eq)]
+enum Fault {
+    /// Before it is opened.
+    Before,
+    /// In the opening.
+    Opening,
+    /// Nowhere.
+    Nowhere,
+}
+
+/// Lets a call of the disk fail while an archive is made and filled, disturbed and then opened. The opening, each image of it
+/// and a second opening have the same archive.
+fn fail_opening(
+    rt: &impl Abort,
+    alloc: Global,
+    ordinal: u64,
+    same: &mut Change,
+) -> Result<Fault, Fail> {
+    let mut disk = failing(alloc, ordinal)?;
+    let (_calls, answer) = advance(alloc, &mut disk, 316);
+    if answer.is_err() || disturb(&mut disk).is_err() {
+        return Ok(Fault::Before);
+    }
+    let start = disk.moments();
+    let (fault, first) = match opened(alloc, &mut disk) {
+        Err(refusal) => {
+            assert_eq!(rt; refusal, OpenRefusal::DiskFault);
+            // A call that fails changes nothing of this disk: the moments before are those of the opening without a fault.
+            (Fault::Opening, disk.moments())
+        }
+        Ok(found) => {
+            assert!(rt; same.finds(&found));
+            (Fault::Nowhere, start)
+        }
+    };
+    for at in first..=disk.moments() {
+        open_moment(rt, alloc, &disk, at, same, false)?;
+    }
+    let found = opened_at_last(alloc, &mut disk)?;
+    assert!(rt; same.finds(&found));
+    Ok(fault)
+}
+
+#[test]
+fn an_opening_that_fails_leaves_the_archive(rt: HostRuntime) -> Result<(), Fail> {
+    let mut same = Change::between(rt.alloc(), 316, 3, 3)?;
+    let mut faults = 0;
+    for ordinal in 1..ENOUGH {
+        match fail_opening(&rt, rt.alloc(), ordinal, &mut same)? {
+            Fault::Before => assert!(rt; faults == 0),
+            Fault::Opening => faults = ordinal,
+            Fault::Nowhere => {
+                // Each call of the opening failed once.
+                assert!(rt; faults.saturating_add(1) == ordinal && faults > 0);
+                return Ok(());
+            }
+        }
+    }
+    Ok(assert!(rt; false, "no run without a fault"))
+}

@@ -1,0 +1,222 @@
+//! Archives opened behind a stop of the call before, behind a call of the disk that failed, and after an opening that failed.
+ghost use Rattle.std.specs.Prelude.{◌≤◌, IfSome, IfOk};
+ghost use Rattle.disk_model.specs.Disk.{WhereTold};
+ghost use Rattle.epoch_store.specs.Stores.{HasSizes};
+
+use crate::Store;
+use crate::tests::{FIRST, SECOND, make, put};
+use arch_base::{NoMemory, Numbers};
+use arch_model::{EntryLine, OpenRefusal};
+use disk_model::{Disk, FuseDisk, MemDisk};
+use epoch_file::StoreRefusal;
+use std::alloc::Global;
+use std::process::Abort;
+use std::test::Fail;
+
+/// More calls than any one here makes on a disk.
+const ENOUGH: u64 = 1000;
+
+/// What is asked of an archive: the number of the next message, and each entry.
+#[derive(Debug, PartialEq, Eq, Drop)]
+pub(crate) struct Listing {
+    next: u32,
+    entries: Vec<EntryLine>,
+}
+
+/// What an archive has.
+fn listed(alloc: Global, store: &Store) -> Result<Listing, NoMemory> {
+    let mut entries = Vec::new(alloc);
+    for index in 0..store.entries.len() {
+        if let Some(line) = store.entry(index as u64) {
+            entries.push(line)?;
+        }
+    }
+    Ok(Listing {
+        next: store.next_number(),
+        entries,
+    })
+}
+
+/// What the archive has that is opened on a disk. None where there is no archive.
+pub(crate) fn opened<D: Disk>(alloc: Global, disk: &mut D) -> Result<Option<Listing>, OpenRefusal> {
+    match Store::open(alloc, disk) {
+        Ok(store) => Ok(Some(listed(alloc, &store)?)),
+        Err(OpenRefusal::NoArchive) => Ok(None),
+        Err(refusal) => Err(refusal),
+    }
+}
+
+/// Does the first ones of three calls: makes an archive, puts a message into it, and puts a second one into it.
+pub(crate) fn begin<D: Disk>(
+    alloc: Global,
+    disk: &mut D,
+    limit: u64,
+    calls: u64,
+) -> Result<Option<Store>, StoreRefusal>
+    requires low { 1 ≤ limit }
+    requires high { limit ≤ 1099511627776 }
+    ensures sizes { IfOk result (λ begun. IfSome begun (λ store. WhereTold (HasSizes store) (D.content disk.new))) }
+{
+    if calls == 0 {
+        return Ok(None);
+    }
+    let mut store = make(alloc, disk, limit)?;
+    if calls == 1 {
+        return Ok(Some(store));
+    }
+    put(alloc, disk, &mut store, FIRST)?;
+    if calls == 2 {
+        return Ok(Some(store));
+    }
+    put(alloc, disk, &mut store, SECOND)?;
+    Ok(Some(store))
+}
+
+/// Does the next of the three calls.
+fn go_on<D: Disk>(
+    alloc: Global,
+    disk: &mut D,
+    limit: u64,
+    store: Option<Store>,
+) -> Result<(), StoreRefusal>
+    requires low { 1 ≤ limit }
+    requires high { limit ≤ 1099511627776 }
+    requires sizes { IfSome store (λ begun. WhereTold (HasSizes begun) (D.content disk.old)) }
+{
+    let Some(store) = store else {
+        make(alloc, disk, limit)?;
+        return Ok(());
+    };
+    let mut store = store;
+    let text = if store.next_number() == 1 {
+        FIRST
+    } else {
+        SECOND
+    };
+    put(alloc, disk, &mut store, text)
+}
+
+/// What the archive has behind so many of the three calls.
+pub(crate) fn listed_behind(alloc: Global, limit: u64, calls: u64) -> Result<Option<Listing>, Fail>
+    requires low { 1 ≤ limit }
+    requires high { limit ≤ 1099511627776 }
+{
+    let mut disk = MemDisk::new(alloc, Numbers::new(alloc));
+    match begin(alloc, &mut disk, limit, calls)? {
+        None => Ok(None),
+        Some(store) => Ok(Some(listed(alloc, &store)?)),
+    }
+}
+
+/// A call, by what the archive had before it and has after it, and whether either was found behind a stop of it.
+#[derive(Drop)]
+pub(crate) struct Change {
+    before: Option<Listing>,
+    after: Option<Listing>,
+    found_before: bool,
+    found_after: bool,
+}
+
+impl Change {
+    /// The call that has so many of the three calls behind it after it, and so many before.
+    pub(crate) fn between(
+        alloc: Global,
+        limit: u64,
+        before: u64,
+        after: u64,
+    ) -> Result<Change, Fail>
+        requires low { 1 ≤ limit }
+        requires high { limit ≤ 1099511627776 }
+    {
+        Ok(Change {
+            before: listed_behind(alloc, limit, before)?,
+            after: listed_behind(alloc, limit, after)?,
+            found_before: false,
+            found_after: false,
+        })
+    }
+
+    /// Whether this was there before or after the call.
+    pub(crate) fn finds(&mut self, found: &Option<Listing>) -> bool {
+        let is_before = *found == self.before;
+        let is_after = *found == self.after;
+        self.found_before = self.found_before || is_before;
+        self.found_after = self.found_after || is_after;
+        is_before || is_after
+    }
+}
+
+/// Opens each image that a crash at a moment may leave. It is the archive before a call or after it, and where the call is done
+/// the latter.
+pub(crate) fn open_moment(
+    rt: &impl Abort,
+    alloc: Global,
+    disk: &MemDisk,
+    at: u64,
+    change: &mut Change,
+    done: bool,
+) -> Result<(), Fail> {
+    for pick in 0..4 {
+        assert!(rt; at <= disk.moments() && pick <= 3);
+        let mut image = disk.image(at, pick)?;
+        let found = opened(alloc, &mut image)?;
+        assert!(rt; change.finds(&found), "moment {at}, pick {pick}");
+        assert!(rt; !done || found == change.after, "moment {at}, pick {pick}");
+    }
+    Ok(())
+}
+
+/// Stops the call behind so many others after so many calls of the disk, and opens each image since it began. It says whether
+/// there was no stop.
+fn stop_after(
+    rt: &impl Abort,
+    alloc: Global,
+    limit: u64,
+    calls: u64,
+    passes: u64,
+    change: &mut Change,
+) -> Result<bool, Fail>
+    requires low { 1 ≤ limit }
+    requires high { limit ≤ 1099511627776 }
+{
+    let mut disk = MemDisk::new(alloc, Numbers::new(alloc));
+    let store = begin(alloc, &mut disk, limit, calls)?;
+    let start = disk.moments();
+    let mut fuse = FuseDisk::new(disk, passes);
+    let answer = go_on(alloc, &mut fuse, limit, store);
+    let done = answer.is_ok();
+    assert!(rt; done || answer == Err(StoreRefusal::DiskFault));
+    let disk = fuse.into_inner();
+    let end = disk.moments();
+    for at in start..=end {
+        open_moment(rt, alloc, &disk, at, change, done && at == end)?;
+    }
+    Ok(done)
+}
+
+/// Stops the call behind so many others after 0, 1, 2 .. calls of the disk, up to the first run without a stop.
+fn stop_each(rt: &impl Abort, alloc: Global, limit: u64, calls: u64) -> Result<(), Fail>
+    requires low { 1 ≤ limit }
+    requires high { limit ≤ 1099511627776 }
+    requires calls { calls ≤ 2 }
+{
+    let mut change = Change::between(alloc, limit, calls, calls + 1)?;
+    assert!(rt; change.before != change.after);
+    for passes in 0..ENOUGH {
+        if stop_after(rt, alloc, limit, calls, passes, &mut change)? {
+            assert!(rt; change.found_before && change.found_after && passes > 0);
+            return Ok(());
+        }
+    }
+    Ok(assert!(rt; false, "no run without a stop"))
+}
+
+#[test]
+fn a_stop_leaves_the_archive_before_or_after(rt: HostRuntime) -> Result<(), Fail> {
+    for calls in 0..3 {
+        // Both messages in one epoch, and each in its own.
+        stop_each(&rt, rt.alloc(), 1_073_741_824, calls)?;
+        stop_each(&rt, rt.alloc(), 316, calls)?;
+    }
+    Ok(())
+}
