@@ -3,3 +3,4 @@ pub mod Playing
 pub mod Printed
 pub mod Transcripts
 pub mod Leaving
+pub mod OnDisk

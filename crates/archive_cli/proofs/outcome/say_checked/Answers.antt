@@ -7,24 +7,23 @@ use Rattle.archive_cli.proofs.outcome.say_checked.Goals as goal
 pieces : (entries : ℕ) (rest : List ℕ) → line (codes "entries " ++ (decimal entries ++ rest)) ≡ codes "entries " ++ (decimal entries ++ line rest)
 pieces entries rest = ap (λ (t : List ℕ). codes "entries " ++ t) (append_assoc (decimal entries) rest (10 ∷ []))
 
--- what stands behind the entries
-behind : ℕ → ℕ → List ℕ
-behind live next = codes " live " ++ (decimal live ++ (codes " next " ++ decimal next))
-
 pub returns-then-not-say-clause-said : goal.returns-then-not-say-clause-said
 returns-then-not-say-clause-said g c =
-    rw (pieces c.args.entries (behind c.args.live c.args.next)) (Says-first (codes "entries ") (decimal c.args.entries ++ line (behind c.args.live c.args.next)) _ _ _ _ c.if-not-say.ensures.said)
+    let rest : List ℕ = codes " live " ++ (decimal c.args.live ++ (codes " next " ++ decimal c.args.next)) in
+    rw (pieces c.args.entries rest) (Says-first (codes "entries ") (decimal c.args.entries ++ line rest) _ _ _ _ c.if-not-say.ensures.said)
 
 pub returns-then-not-say-2-clause-said : goal.returns-then-not-say-2-clause-said
 returns-then-not-say-2-clause-said g c =
+    let rest : List ℕ = codes " live " ++ (decimal c.args.live ++ (codes " next " ++ decimal c.args.next)) in
     let digits : c.as_bytes.result.now ≡ decimal c.args.entries = c.as_bytes.ensures.value ∙ c.format.ensures.text in
-    rw (pieces c.args.entries (behind c.args.live c.args.next))
-    (Says-then (codes "entries ") (decimal c.args.entries ++ line (behind c.args.live c.args.next)) _ _ _ _ _ _ false c.if-not-say.ensures.said
-    (Says-first (decimal c.args.entries) (line (behind c.args.live c.args.next)) _ _ _ _ (rw digits at c.if-not-say-2.ensures.said)))
+    rw (pieces c.args.entries rest)
+    (Says-then (codes "entries ") (decimal c.args.entries ++ line rest) _ _ _ _ _ _ false c.if-not-say.ensures.said
+    (Says-first (decimal c.args.entries) (line rest) _ _ _ _ (rw digits at c.if-not-say-2.ensures.said)))
 
 pub returns-clause-said : goal.returns-clause-said
 returns-clause-said g c =
+    let rest : List ℕ = codes " live " ++ (decimal c.args.live ++ (codes " next " ++ decimal c.args.next)) in
     let digits : c.as_bytes.result.now ≡ decimal c.args.entries = c.as_bytes.ensures.value ∙ c.format.ensures.text in
-    rw (pieces c.args.entries (behind c.args.live c.args.next))
-    (Says-then (codes "entries ") (decimal c.args.entries ++ line (behind c.args.live c.args.next)) _ _ _ _ _ _ _ c.if-not-say.ensures.said
-    (Says-then (decimal c.args.entries) (line (behind c.args.live c.args.next)) _ _ _ _ _ _ _ (rw digits at c.if-not-say-2.ensures.said) c.say_numbers.ensures.said))
+    rw (pieces c.args.entries rest)
+    (Says-then (codes "entries ") (decimal c.args.entries ++ line rest) _ _ _ _ _ _ _ c.if-not-say.ensures.said
+    (Says-then (decimal c.args.entries) (line rest) _ _ _ _ _ _ _ (rw digits at c.if-not-say-2.ensures.said) c.say_numbers.ensures.said))

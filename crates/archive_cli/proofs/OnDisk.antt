@@ -1,0 +1,87 @@
+-- What `deliver` and `check` come to by the calls below them.
+use Rattle.std.specs.Prelude.{◌≡◌, ◌⊎◌, ◌+◌, ◌<◌, ◌^◌, ℕ, zero, suc, List, [], length, Option, Some, None, Ok, Err, refl}
+use Rattle.std.specs.List.{Contains}
+use Rattle.std.proofs.Common.{◌∙◌, ap, inl, inr, arith}
+use Rattle.disk_model.specs.Disk.{File, Files, Content, WhereTold, ReadsFit}
+use Rattle.root_slots.specs.Each.{IfThere}
+use Rattle.root_slots.specs.RootName.{root_name}
+use Rattle.root_slots.specs.Slots.{Current, IsShutFile}
+use Rattle.root_slots.specs.Spelling.{spelling}
+use Rattle.arch_model.specs.Archives.{Archive}
+use Rattle.arch_model.specs.Delivery.{Done, delivered}
+use Rattle.arch_model.specs.declared.answer.Answer.{Answer}
+use Rattle.arch_model.specs.declared.answer.Answer.TheVariants as answer
+use Rattle.arch_model.specs.declared.opening.OpenRefusal.{OpenRefusal}
+use Rattle.arch_model.specs.declared.opening.OpenRefusal.TheVariants as refusal
+use Rattle.epoch_store.specs.declared.entries.StoredEntry.{StoredEntry}
+use Rattle.epoch_store.specs.Files.{as_read}
+use Rattle.epoch_store.specs.Opens.{Opens, ReadsAs, RecoversOf, AllRecoverOf, IsWant}
+use Rattle.epoch_store.specs.Stores.{View, IsStoreOf, Keeps, RecoversEither}
+use Rattle.archive_core.specs.Commands.{DoneBy}
+use Rattle.archive_core.specs.Openings.{RefusesKindly}
+use Rattle.archive_core.proofs.Counting.{stored_length}
+use Rattle.archive_cli.specs.DiskCommands.{HasRoom, Answers, DeliversTo, ChecksTo, RecoversBehind}
+use Rattle.archive_cli.specs.declared.outcome.Outcome.TheVariants.{Checked, Unopened}
+
+-- what a refusal of the opening leaves of an archive that a message was for
+pub unopened-delivers : (T : Type 0) (a : Archive) (bytes : List ℕ) (moment : ℕ) (why : OpenRefusal) (old new : Option Content) → ReadsAs a old → IsWant why → RefusesKindly {T = T} (Err why) old new → DeliversTo a bytes moment (Unopened why) new
+unopened-delivers T a bytes moment refusal.NoArchive old new reads want kind = absurd want
+unopened-delivers T a bytes moment (refusal.Damaged file at) old new reads want kind = absurd want
+unopened-delivers T a bytes moment refusal.DiskFault old new reads want kind = tt
+unopened-delivers T a bytes moment refusal.NoMemory old new reads want kind = kind a reads
+
+-- and of one that was to be checked
+pub unopened-checks : (T : Type 0) (a : Archive) (why : OpenRefusal) (old new : Option Content) → ReadsAs a old → IsWant why → RefusesKindly {T = T} (Err why) old new → ChecksTo a (Unopened why) new
+unopened-checks T a refusal.NoArchive old new reads want kind = absurd want
+unopened-checks T a (refusal.Damaged file at) old new reads want kind = absurd want
+unopened-checks T a refusal.DiskFault old new reads want kind = tt
+unopened-checks T a refusal.NoMemory old new reads want kind = kind a reads
+
+-- what is counted of a store is its archive's
+pub opened-checks : (v : View) (a : Archive) (content : Option Content) (entries live next : ℕ) → IsStoreOf v a content → entries ≡ length v.entries → ((b : Archive) → Keeps v b → live ≡ length b.entries) → next ≡ v.root.next
+    → ChecksTo a (Checked entries live next) content
+opened-checks v a None entries live next store count lives following = absurd store
+opened-checks v a (Some k) entries live next store count lives following =
+    (count ∙ (ap (λ (es : List StoredEntry). length es) store.keeps.kept ∙ stored_length [] a.entries), lives a store.keeps, following ∙ store.keeps.names.next, (v, store))
+
+-- what a command is answered on an open archive is answered on the disk
+pub done-answers : (v : View) (a : Archive) (wanted : Done) (reply : Answer) (content : Option Content) → DoneBy v a wanted reply content → Answers a wanted reply content
+done-answers v a wanted answer.NoMemory content done = (v, done)
+done-answers v a wanted answer.DiskFault content done = tt
+done-answers v a wanted (answer.Ok number id) content done = record { answer_is = done.answer_is; own = (v, done.store) }
+done-answers v a wanted (answer.Duplicate number) content done = record { answer_is = done.answer_is; own = (v, done.store) }
+done-answers v a wanted answer.NoFields content done = record { answer_is = done.answer_is; own = (v, done.store) }
+done-answers v a wanted (answer.TooLarge len) content done = record { answer_is = done.answer_is; own = (v, done.store) }
+done-answers v a wanted (answer.Full max) content done = record { answer_is = done.answer_is; own = (v, done.store) }
+done-answers v a wanted (answer.Collision number) content done = record { answer_is = done.answer_is; own = (v, done.store) }
+done-answers v a wanted answer.IsMirror content done = record { answer_is = done.answer_is; own = (v, done.store) }
+done-answers v a wanted (answer.NotLive number) content done = absurd done
+done-answers v a wanted (answer.NoText number) content done = absurd done
+done-answers v a wanted (answer.Damaged file at) content done = absurd done
+
+-- a slot that has the current root is open
+not_shut : (slot : ℕ) (body : List ℕ) (file : File) → IfThere (Current slot body) file → IsShutFile file → ⊥
+not_shut slot body None there shut = absurd there
+not_shut zero body (Some bytes) there (inl size) = size there.size
+not_shut zero body (Some bytes) there (inr shut) = shut.0 there.opened
+not_shut (suc zero) body (Some bytes) there (inl size) = size there.size
+not_shut (suc zero) body (Some bytes) there (inr shut) = shut.1 there.opened
+not_shut (suc (suc n)) body (Some bytes) there shut = let below = there.in_range in absurd (omega (arith, below))
+
+-- what is opened reads as one of the archives that a crash may leave
+pub opened-reads : (may : List (Option Archive)) (v : View) (k : Option Content) → ReadsFit k → AllRecoverOf may k → WhereTold (λ c. Opens (as_read c) (Ok v)) k → (a : Archive) × Contains may (Some a) × ReadsAs a k
+opened-reads may v None fit all opens = absurd all
+opened-reads may v (Some k) fit all opens = of_one (all (as_read k) (λ name. fit k refl name)) where
+  of_one : RecoversOf may (as_read k) → (a : Archive) × Contains may (Some a) × ReadsAs a (Some k)
+  of_one (None, in_may, shut) = absurd (not_shut v.slot (spelling v.root) (as_read k root_name) opens.root.current shut)
+  of_one (Some a, in_may, recovers) = (a, in_may, recovers)
+
+-- and has room for a next root
+pub opened-room : (v : View) (a : Archive) (k : Option Content) → ReadsAs a k → HasRoom k → WhereTold (λ c. Opens (as_read c) (Ok v)) k → v.root.sequence + 1 < 2 ^ 64
+opened-room v a None reads room opens = absurd reads
+opened-room v a (Some k) reads room opens = room v.root v.slot opens.root
+
+-- the archive before a command, or behind it
+pub either-behind : (may : List (Option Archive)) (a : Archive) (bytes : List ℕ) (moment : ℕ) (image : Files) → Contains may (Some a) → RecoversEither a (delivered a bytes moment).archive image → RecoversBehind may bytes moment image
+either-behind may a bytes moment image in_may (inl before) = inl (Some a, in_may, before)
+either-behind may a bytes moment image in_may (inr after) = inr (a, in_may, after)

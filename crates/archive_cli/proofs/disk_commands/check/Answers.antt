@@ -1,0 +1,10 @@
+use Rattle.archive_cli.proofs.OnDisk.{opened-checks, unopened-checks}
+use Rattle.archive_cli.proofs.disk_commands.check.Goals as goal
+
+pub returns-in-Ok-clause-done : goal.returns-in-Ok-clause-done
+returns-in-Ok-clause-done g c = λ a reads.
+    opened-checks c.in-Ok.archive a (g.D.Disk.content c.open.new.disk) c.entry_count.result c.live_count.result c.next_number.result (c.in-Ok.ensures.done a reads) c.entry_count.ensures c.live_count.ensures c.next_number.ensures
+
+pub returns-in-Err-clause-done : goal.returns-in-Err-clause-done
+returns-in-Err-clause-done g c = λ a reads.
+    unopened-checks _ a c.in-Err.refusal (g.D.Disk.content c.args.disk.now) (g.D.Disk.content c.open.new.disk) reads (c.in-Err.ensures.well a reads) c.in-Err.ensures.refused
