@@ -1,12 +1,11 @@
 -- What an archive on a disk keeps beside its store: its messages by their ids and by their blob ids.
-use Rattle.std.specs.Prelude.{◌≡◌, ℕ, List, Option, option_map}
+use Rattle.std.specs.Prelude.{◌≡◌, ℕ, List, Option, Some, option_map}
 use Rattle.std.specs.List.{find}
 use Rattle.std.specs.Str.{bytes_eq}
 use Rattle.git_objects.specs.Objects.{blob_id_of}
 use Rattle.arch_base.specs.declared.ids.Id20.{Id20}
 use Rattle.mail_reader.specs.Content.{content_id_of}
 use Rattle.mail_reader.specs.Ids.{own_id}
-use Rattle.std.specs.Prelude.{Some}
 use Rattle.arch_model.specs.Memory.{Puts, TakesBack, owner_in, number_in}
 use Rattle.arch_model.specs.Judging.{IsForDelivery}
 use Rattle.arch_model.specs.declared.index.Index.{Index}
