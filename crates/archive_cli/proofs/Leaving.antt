@@ -1,15 +1,13 @@
 -- What a crash leaves while a command works on a disk, at whichever moment is the first to come.
-use Rattle.std.specs.Prelude.{◌≡◌, ℕ, List, take, Option, Some, None, refl}
-use Rattle.std.proofs.Common.{subst, inl, inr}
+use Rattle.std.specs.Prelude.{◌≡◌, ℕ, List, take, Option, Some, None}
+use Rattle.std.proofs.Common.{subst, inl}
 use Rattle.arch_base.specs.declared.config.Config.{Config}
 use Rattle.disk_model.specs.Disk.{Files, Content, Image}
-use Rattle.edge_io.specs.Coming.{Moments, IsFirst}
-use Rattle.arch_model.specs.Archives.{Archive, empty_archive}
-use Rattle.epoch_store.specs.First.{MakingLeaves}
-use Rattle.epoch_store.specs.Opens.{RecoversOf, AllRecoverOf}
-use Rattle.archive_cli.specs.DiskCommands.{RecoversBehind}
+use Rattle.edge_io.specs.Coming.{Moments}
+use Rattle.arch_model.specs.Archives.{Archive}
+use Rattle.epoch_store.specs.Opens.{AllRecoverOf}
 use Rattle.archive_cli.specs.Printing.{BytesLeave}
-use Rattle.archive_cli.specs.Program.{InitLeaves, DeliverLeaves, IsInput, message_limit, message_of, made_at}
+use Rattle.archive_cli.specs.Program.{InitLeaves, DeliverLeaves, IsInput, message_limit}
 use Rattle.archive_cli.proofs.Printed.{some-moment, some-input}
 
 -- before an archive is made

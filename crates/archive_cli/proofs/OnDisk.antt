@@ -1,5 +1,5 @@
 -- What `deliver` and `check` come to by the calls below them.
-use Rattle.std.specs.Prelude.{◌≡◌, ◌⊎◌, ◌+◌, ◌<◌, ◌^◌, ℕ, zero, suc, List, [], length, Option, Some, None, Ok, Err, refl}
+use Rattle.std.specs.Prelude.{◌≡◌, ◌+◌, ◌<◌, ◌^◌, ℕ, zero, suc, List, [], length, Option, Some, None, Ok, refl}
 use Rattle.std.specs.List.{Contains}
 use Rattle.std.proofs.Common.{◌∙◌, ap, inl, inr, arith}
 use Rattle.disk_model.specs.Disk.{File, Files, Content, WhereTold, ReadsFit}
@@ -18,24 +18,24 @@ use Rattle.epoch_store.specs.Files.{as_read}
 use Rattle.epoch_store.specs.Opens.{Opens, ReadsAs, RecoversOf, AllRecoverOf, IsWant}
 use Rattle.epoch_store.specs.Stores.{View, IsStoreOf, Keeps, RecoversEither}
 use Rattle.archive_core.specs.Commands.{DoneBy}
-use Rattle.archive_core.specs.Openings.{RefusesKindly}
+use Rattle.archive_core.specs.Openings.{LeavesKindly}
 use Rattle.archive_core.proofs.Counting.{stored_length}
 use Rattle.archive_cli.specs.DiskCommands.{HasRoom, Answers, DeliversTo, ChecksTo, RecoversBehind}
 use Rattle.archive_cli.specs.declared.outcome.Outcome.TheVariants.{Checked, Unopened}
 
 -- what a refusal of the opening leaves of an archive that a message was for
-pub unopened-delivers : (T : Type 0) (a : Archive) (bytes : List ℕ) (moment : ℕ) (why : OpenRefusal) (old new : Option Content) → ReadsAs a old → IsWant why → RefusesKindly {T = T} (Err why) old new → DeliversTo a bytes moment (Unopened why) new
-unopened-delivers T a bytes moment refusal.NoArchive old new reads want kind = absurd want
-unopened-delivers T a bytes moment (refusal.Damaged file at) old new reads want kind = absurd want
-unopened-delivers T a bytes moment refusal.DiskFault old new reads want kind = tt
-unopened-delivers T a bytes moment refusal.NoMemory old new reads want kind = kind a reads
+pub unopened-delivers : (a : Archive) (bytes : List ℕ) (moment : ℕ) (why : OpenRefusal) (old new : Option Content) → ReadsAs a old → IsWant why → LeavesKindly why old new → DeliversTo a bytes moment (Unopened why) new
+unopened-delivers a bytes moment refusal.NoArchive old new reads want kind = absurd want
+unopened-delivers a bytes moment (refusal.Damaged file at) old new reads want kind = absurd want
+unopened-delivers a bytes moment refusal.DiskFault old new reads want kind = tt
+unopened-delivers a bytes moment refusal.NoMemory old new reads want kind = kind a reads
 
 -- and of one that was to be checked
-pub unopened-checks : (T : Type 0) (a : Archive) (why : OpenRefusal) (old new : Option Content) → ReadsAs a old → IsWant why → RefusesKindly {T = T} (Err why) old new → ChecksTo a (Unopened why) new
-unopened-checks T a refusal.NoArchive old new reads want kind = absurd want
-unopened-checks T a (refusal.Damaged file at) old new reads want kind = absurd want
-unopened-checks T a refusal.DiskFault old new reads want kind = tt
-unopened-checks T a refusal.NoMemory old new reads want kind = kind a reads
+pub unopened-checks : (a : Archive) (why : OpenRefusal) (old new : Option Content) → ReadsAs a old → IsWant why → LeavesKindly why old new → ChecksTo a (Unopened why) new
+unopened-checks a refusal.NoArchive old new reads want kind = absurd want
+unopened-checks a (refusal.Damaged file at) old new reads want kind = absurd want
+unopened-checks a refusal.DiskFault old new reads want kind = tt
+unopened-checks a refusal.NoMemory old new reads want kind = kind a reads
 
 -- what is counted of a store is its archive's
 pub opened-checks : (v : View) (a : Archive) (content : Option Content) (entries live next : ℕ) → IsStoreOf v a content → entries ≡ length v.entries → ((b : Archive) → Keeps v b → live ≡ length b.entries) → next ≡ v.root.next

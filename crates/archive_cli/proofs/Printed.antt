@@ -1,5 +1,5 @@
 -- What is printed of what is due.
-use Rattle.std.proofs.Common.{◌≡◌, ◌≤◌, ◌<◌, inl, inr, ℕ, Bool, true, false, List, [], ◌++◌, length, take, codes, decimal, Option, Some, None, Err, ◌+◌, refl, sym, ◌∙◌, ap, subst, append_assoc, arith, length-append, if◌then◌else◌}
+use Rattle.std.proofs.Common.{◌≡◌, ◌≤◌, ◌<◌, inl, inr, ℕ, Bool, true, false, List, [], ◌++◌, length, take, codes, decimal, Option, Some, None, Err, refl, sym, ◌∙◌, ap, subst, append_assoc, arith, length-append, if◌then◌else◌}
 use Rattle.arch_base.specs.declared.config.Config.{Config}
 use Rattle.edge_io.specs.Left.{before, IsUsedUp}
 use Rattle.edge_io.specs.Scripts.{Arrival, IsScript, IsBad}
@@ -11,11 +11,12 @@ use Rattle.archive_cli.specs.Words.{IsJob, AsksFor}
 use Rattle.archive_cli.specs.Frames.{line}
 use Rattle.archive_cli.specs.Turns.{World, Transcript, before_stop}
 use Rattle.archive_cli.specs.Plays.{PlaysSome}
+use Rattle.disk_model.specs.Disk.{Content}
 use Rattle.edge_io.specs.Coming.{Moments, IsFirst}
 use Rattle.archive_cli.specs.Outcomes.{outcome_line, status_of}
 use Rattle.archive_cli.specs.declared.outcome.Outcome.{Outcome}
-use Rattle.archive_cli.specs.Program.{Edges, Acts, IsInput, IsDue, Ends, Ran, start, input_limit, TookAtMost}
-use Rattle.archive_cli.specs.Printing.{Printed, Exactly, IsReplayDue, Replayed, IsPieceRead, IsOutcomeDue, InitDone, InputDone, IsUnread}
+use Rattle.archive_cli.specs.Program.{Edges, all_edges, Acts, IsInput, IsDue, Ends, Ran, start, input_limit, TookAtMost}
+use Rattle.archive_cli.specs.Printing.{Printed, Exactly, IsReplayDue, Replayed, IsPieceRead, IsOutcomeDue, JobDone, InputDone, IsUnread}
 use Rattle.archive_cli.specs.declared.reading.InputRefusal.{InputRefusal}
 use Rattle.archive_cli.specs.declared.reading.InputRefusal.TheVariants.{Fault, TooLong, NoMemory}
 use Rattle.archive_cli.specs.declared.words.Job.{Job}
@@ -112,7 +113,7 @@ ran-replayed words config status i j asked (inl r) kept = ran-printed words r.0 
 ran-replayed words config status i j asked (inr r) kept = inr (inl (record { asked = inl (config, asked); rose = r.1; silent = record { status_is = r.0; taken_is = r.2; lost_kept = r.3; kept = kept } }))
 
 -- an archive that was to be made is a run
-pub ran-made : (words : List (List ℕ)) (config : Config) (status : ℕ) (i j : Edges) → AsksFor words (Init config) → InitDone config status i j → Ran words status i j
+pub ran-made : (words : List (List ℕ)) (config : Config) (status : ℕ) (i j : Edges) → AsksFor words (Init config) → JobDone (Init config) [] status i j → Ran words status i j
 ran-made words config status i j asked (inl p) =
     let given = some-input i.left in
     ran-printed words given.0 status i j (IsOutcomeDue (Init config) [] i j) given.1
@@ -141,6 +142,25 @@ pub outcome-due : (job : Job) (input : List ℕ) (status : ℕ) (i j : Edges) (o
 outcome-due job input status i j o acts p =
     printed-as i.taken i.lost j.taken j.lost (Exactly (line (outcome_line o)) (status_of o)) (IsOutcomeDue job input i j) status p
     (λ s words e. record { outcome = o; acts = acts; status_is = e.status_is; printed_is = e.words_is })
+
+-- what is done of a job over the disk doesn't hang on the input's end
+pub job-moved : (job : Job) (input : List ℕ) (status : ℕ) (left left' : Option (List ℕ)) (unread unread' : ℕ) (taken taken' : Option (List ℕ)) (lost lost' : ℕ) (coming coming' : Option Moments) (missed missed' : ℕ) (content content' : Option Content) (broken broken' : ℕ)
+    → JobDone job input status (all_edges None 0 taken lost coming missed content broken) (all_edges None 0 taken' lost' coming' missed' content' broken')
+    → JobDone job input status (all_edges left unread taken lost coming missed content broken) (all_edges left' unread' taken' lost' coming' missed' content' broken')
+job-moved job input status left left' unread unread' taken taken' lost lost' coming coming' missed missed' content content' broken broken' (inl p) =
+    inl (printed-as taken lost taken' lost' _ _ status p (λ s words due. record {
+      outcome = due.outcome;
+      acts = record { moment = due.acts.moment; first = due.acts.first; acts = due.acts.acts; fault = due.acts.fault };
+      status_is = due.status_is;
+      printed_is = due.printed_is;
+    }))
+job-moved job input status left left' unread unread' taken taken' lost lost' coming coming' missed missed' content content' broken broken' (inr m) =
+    inr (record { status_is = m.0.status_is; taken_is = m.0.taken_is; lost_kept = m.0.lost_kept; kept = m.0.kept }, m.1)
+
+-- the line for want of memory is due where a message wasn't read
+pub unread-due : (status : ℕ) (i j : Edges) (out : Option (List ℕ)) (lost : ℕ) (out' : Option (List ℕ)) (lost' : ℕ) → j.content ≡ i.content → Printed (Exactly (line (codes "12 no memory")) 7) status out lost out' lost' → Printed (IsUnread i j) status out lost out' lost'
+unread-due status i j out lost out' lost' kept p =
+    printed-as out lost out' lost' (Exactly (line (codes "12 no memory")) 7) (IsUnread i j) status p (λ s words e. record { status_is = e.status_is; printed_is = e.words_is; kept = kept })
 
 -- some moment is the first to come
 pub some-moment : (coming : Option Moments) → (moment : ℕ) × IsFirst moment coming

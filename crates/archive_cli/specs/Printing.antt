@@ -1,5 +1,5 @@
 -- What is printed of what is due, and what is read of the input.
-use Rattle.std.specs.Prelude.{◌≡◌, ◌<◌, ◌≤◌, ◌⊎◌, ◌+◌, ℕ, Bool, List, [], ◌++◌, length, take, codes, Option, Result, Ok, Err, if◌then◌else◌}
+use Rattle.std.specs.Prelude.{◌≡◌, ◌<◌, ◌≤◌, ◌⊎◌, ◌+◌, ℕ, Bool, List, ◌++◌, length, take, codes, Option, Result, Ok, Err, if◌then◌else◌}
 use Rattle.arch_base.specs.Counts.{Rose}
 use Rattle.arch_base.specs.declared.config.Config.{Config}
 use Rattle.line_door.specs.Phrases.{Says}
@@ -9,7 +9,7 @@ use Rattle.arch_model.specs.Archives.{Archive}
 use Rattle.archive_cli.specs.DiskCommands.{RecoversBehind}
 use Rattle.archive_cli.specs.Frames.{line}
 use Rattle.archive_cli.specs.declared.words.Job.{Job}
-use Rattle.archive_cli.specs.declared.words.Job.TheVariants.{Init, Deliver}
+use Rattle.archive_cli.specs.declared.words.Job.TheVariants.{Deliver}
 use Rattle.archive_cli.specs.Program.{Edges, EndsBy, IsSilent, IsInput, input_limit, Replays, StopsShort}
 use Rattle.edge_io.specs.Left.{before, IsUsedUp}
 use Rattle.archive_cli.specs.declared.reading.Piece.{Piece}
@@ -74,13 +74,9 @@ IsOutcomeDue job input i j status printed = EndsBy job input i j status printed
 abbrev pub MissesMoment : ℕ → Edges → Edges → Type 0
 MissesMoment status i j = IsSilent status i j × Rose i.missed j.missed
 
--- an archive was to be made: what was due is printed, or the clock failed
-abbrev pub InitDone : Config → ℕ → Edges → Edges → Type 0
-InitDone config status i j = Printed (IsOutcomeDue (Init config) [] i j) status i.taken i.lost j.taken j.lost ⊎ MissesMoment status i j
-
--- the message of an input was to be delivered: what was due is printed, or the clock failed
-abbrev pub BytesDone : List ℕ → ℕ → Edges → Edges → Type 0
-BytesDone input status i j = Printed (IsOutcomeDue Deliver input i j) status i.taken i.lost j.taken j.lost ⊎ MissesMoment status i j
+-- a job over the disk at the clock's moment was to be done: what was due is printed, or the clock failed
+abbrev pub JobDone : Job → List ℕ → ℕ → Edges → Edges → Type 0
+JobDone job input status i j = Printed (IsOutcomeDue job input i j) status i.taken i.lost j.taken j.lost ⊎ MissesMoment status i j
 
 -- what a crash leaves while a message is delivered at the first moment to come
 abbrev pub BytesLeave : List (Option Archive) → List ℕ → Option Moments → Files → Type 0
@@ -95,5 +91,5 @@ pub record IsUnread (i j : Edges) (status : ℕ) (printed : List ℕ) : Type 0 w
 -- the message on the input was to be delivered: what was due is printed; or it wasn't read, or the input failed
 abbrev pub InputDone : ℕ → Edges → Edges → Type 0
 InputDone status i j =
-    ((input : List ℕ) × IsInput i.left input × BytesDone input status i j)
+    ((input : List ℕ) × IsInput i.left input × JobDone Deliver input status i j)
     ⊎ (Printed (IsUnread i j) status i.taken i.lost j.taken j.lost ⊎ (IsSilent status i j × Rose i.unread j.unread))

@@ -236,6 +236,14 @@ TakesInput words left unread left' unread' =
 abbrev pub InitLeaves : Config → Option Moments → Option Content → Files → Type 0
 InitLeaves config coming old image = (moment : ℕ) × IsFirst moment coming × MakingLeaves (empty_archive (made_at config moment)) old image
 
+-- words ask for an archive to be made
+abbrev pub AsksForInit : List (List ℕ) → Type 0
+AsksForInit words = (config : Config) × AsksFor words (Init config)
+
+-- what a crash leaves while the archive is made that words ask for
+abbrev pub WordsLeave : List (List ℕ) → Option Moments → Option Content → Files → Type 0
+WordsLeave words coming old image = (config : Config) × AsksFor words (Init config) × InitLeaves config coming old image
+
 -- What a crash leaves while the message on the input is delivered at the first moment to come: one of the archives that the disk may
 -- have stood for, or the one that the delivery leaves.
 abbrev pub DeliverLeaves : List (Option Archive) → Option (List ℕ) → Option Moments → Files → Type 0

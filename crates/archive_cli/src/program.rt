@@ -9,8 +9,8 @@ ghost use Rattle.arch_base.specs.declared.config.Config.{Config};
 ghost use Rattle.archive_cli.specs.DiskCommands.{HasRoom};
 ghost use Rattle.archive_cli.specs.Outcomes.{outcome_line, status_of};
 ghost use Rattle.archive_cli.specs.Frames.{line};
-ghost use Rattle.archive_cli.specs.Program.{Ran, TakesInput, TookAtMost, LeavesDisk, InitLeaves, DeliverLeaves, all_edges, edges, input_limit, message_limit, message_of, made_at};
-ghost use Rattle.archive_cli.specs.Printing.{Printed, Exactly, IsReplayDue, Replayed, InitDone, InputDone, BytesDone, BytesLeave};
+ghost use Rattle.archive_cli.specs.Program.{Ran, TakesInput, TookAtMost, LeavesDisk, AsksForInit, WordsLeave, InitLeaves, DeliverLeaves, all_edges, edges, input_limit, message_limit, message_of, made_at};
+ghost use Rattle.archive_cli.specs.Printing.{Printed, Exactly, IsReplayDue, Replayed, JobDone, InputDone, BytesLeave};
 ghost use Rattle.arch_base.specs.Configs.{IsConfig};
 ghost use Rattle.edge_io.specs.Scripts.{IsScript};
 
@@ -46,7 +46,7 @@ pub fn run<D: Disk, S: Source, O: Sink, C: Clock>(
     ensures sink { O.alike out.old out.new }
     ensures disk { LeavesDisk (spelled words.now) → result.1 ≡ disk }
     // Whatever crash comes while an archive is made: what might have been left before, no archive, or that one.
-    ensures init { (config : Config) → AsksFor (spelled words.now) (Init config) → LeavesOnly D.moment D.left_since disk result.1 (InitLeaves config (C.coming clock.old) (D.content disk)) }
+    ensures init { AsksForInit (spelled words.now) → LeavesOnly D.moment D.left_since disk result.1 (WordsLeave (spelled words.now) (C.coming clock.old) (D.content disk)) }
     // Whatever crash comes while a message is delivered: an archive that the disk may have stood for, or the one with the message.
     ensures deliver { (may : List (Option Archive)) → AsksFor (spelled words.now) Deliver → AllRecoverOf may (D.content disk) → HasRoom (D.content disk)
         → LeavesOnly D.moment D.left_since disk result.1 (DeliverLeaves may (S.left input.old) (C.coming clock.old)) }
@@ -74,7 +74,7 @@ fn act<D: Disk, S: Source, O: Sink, C: Clock>(
     ensures sink { O.alike out.old out.new }
     ensures disk { LeavesDisk (spelled words.now) → disk.new ≡ disk.old }
     // Whatever crash comes while an archive is made: what might have been left before, no archive, or that one.
-    ensures init { (config : Config) → AsksFor (spelled words.now) (Init config) → LeavesOnly D.moment D.left_since disk.old disk.new (InitLeaves config (C.coming clock.old) (D.content disk.old)) }
+    ensures init { AsksForInit (spelled words.now) → LeavesOnly D.moment D.left_since disk.old disk.new (WordsLeave (spelled words.now) (C.coming clock.old) (D.content disk.old)) }
     // Whatever crash comes while a message is delivered: an archive that the disk may have stood for, or the one with the message.
     ensures deliver { (may : List (Option Archive)) → AsksFor (spelled words.now) Deliver → AllRecoverOf may (D.content disk.old) → HasRoom (D.content disk.old)
         → LeavesOnly D.moment D.left_since disk.old disk.new (DeliverLeaves may (S.left input.old) (C.coming clock.old)) }
@@ -101,7 +101,7 @@ fn init<D: Disk, O: Sink, C: Clock>(
     clock: &mut C,
 ) -> u8
     requires { IsConfig config }
-    ensures ends { InitDone config result
+    ensures ends { JobDone (Init config) [] result
         (all_edges None 0 (O.taken out.old) (O.faults out.old) (C.coming clock.old) (C.faults clock.old) (D.content disk.old) (D.faults disk.old))
         (all_edges None 0 (O.taken out.new) (O.faults out.new) (C.coming clock.new) (C.faults clock.new) (D.content disk.new) (D.faults disk.new)) }
     ensures any_moment { LeavesOnly D.moment D.left_since disk.old disk.new (InitLeaves config (C.coming clock.old) (D.content disk.old)) }
@@ -157,7 +157,7 @@ fn deliver_bytes<D: Disk, O: Sink, C: Clock>(
     out: &mut O,
     clock: &mut C,
 ) -> u8
-    ensures ends { (input : List ℕ) → bytes.now ≡ message_of input → BytesDone input result
+    ensures ends { (input : List ℕ) → bytes.now ≡ message_of input → JobDone Deliver input result
         (all_edges None 0 (O.taken out.old) (O.faults out.old) (C.coming clock.old) (C.faults clock.old) (D.content disk.old) (D.faults disk.old))
         (all_edges None 0 (O.taken out.new) (O.faults out.new) (C.coming clock.new) (C.faults clock.new) (D.content disk.new) (D.faults disk.new)) }
     ensures any_moment { (may : List (Option Archive)) → AllRecoverOf may (D.content disk.old) → HasRoom (D.content disk.old)

@@ -1,4 +1,4 @@
-mod Counting
+pub mod Counting
 mod Standing
 mod Indexes
 mod Verdicts

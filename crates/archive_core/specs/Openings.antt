@@ -12,9 +12,13 @@ StillReads old new = (a : Archive) → ReadsAs a old → ReadsAs a new
 
 -- Where there is no archive, or a file is damaged, nothing is changed. For want of memory the disk may be brought to rest before, and
 -- reads as the archive that it did.
+abbrev pub LeavesKindly : OpenRefusal → Option Content → Option Content → Type 0
+LeavesKindly NoArchive old new = Told IsOnlySynced old new
+LeavesKindly (Damaged file at) old new = Told IsOnlySynced old new
+LeavesKindly DiskFault old new = Unit {0}
+LeavesKindly NoMemory old new = StillReads old new
+
+-- the same of an answer
 abbrev pub RefusesKindly : {T : Type 0} → Result T OpenRefusal → Option Content → Option Content → Type 0
 RefusesKindly (Ok made) old new = Unit {0}
-RefusesKindly (Err NoArchive) old new = Told IsOnlySynced old new
-RefusesKindly (Err (Damaged file at)) old new = Told IsOnlySynced old new
-RefusesKindly (Err DiskFault) old new = Unit {0}
-RefusesKindly (Err NoMemory) old new = StillReads old new
+RefusesKindly (Err refusal) old new = LeavesKindly refusal old new

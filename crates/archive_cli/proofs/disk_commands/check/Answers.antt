@@ -7,4 +7,4 @@ returns-in-Ok-clause-done g c = λ a reads.
 
 pub returns-in-Err-clause-done : goal.returns-in-Err-clause-done
 returns-in-Err-clause-done g c = λ a reads.
-    unopened-checks _ a c.in-Err.refusal (g.D.Disk.content c.args.disk.now) (g.D.Disk.content c.open.new.disk) reads (c.in-Err.ensures.well a reads) c.in-Err.ensures.refused
+    unopened-checks a c.in-Err.refusal (g.D.Disk.content c.args.disk.now) (g.D.Disk.content c.open.new.disk) reads (c.in-Err.ensures.well a reads) c.in-Err.ensures.refused

@@ -31,4 +31,4 @@ returns-in-Err-clause-any_moment g c = λ may all room.
 
 pub returns-in-Err-clause-done : goal.returns-in-Err-clause-done
 returns-in-Err-clause-done g c = λ a reads room.
-    unopened-delivers _ a c.args.bytes.now c.args.moment c.in-Err.refusal (g.D.Disk.content c.args.disk.now) (g.D.Disk.content c.open.new.disk) reads (c.in-Err.ensures.well a reads) c.in-Err.ensures.refused
+    unopened-delivers a c.args.bytes.now c.args.moment c.in-Err.refusal (g.D.Disk.content c.args.disk.now) (g.D.Disk.content c.open.new.disk) reads (c.in-Err.ensures.well a reads) c.in-Err.ensures.refused

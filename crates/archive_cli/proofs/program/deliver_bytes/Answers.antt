@@ -1,0 +1,18 @@
+use Rattle.disk_model.specs.Moments.{started, weaker}
+use Rattle.archive_cli.specs.DiskCommands.{RecoversBehind}
+use Rattle.archive_cli.specs.Printing.{BytesLeave}
+use Rattle.archive_cli.proofs.Leaving.{bytes-first}
+use Rattle.archive_cli.proofs.program.deliver_bytes.Goals as goal
+
+pub returns-in-Err-clause-any_moment : goal.returns-in-Err-clause-any_moment
+returns-in-Err-clause-any_moment g c = λ may all room.
+    let disk = c.args.disk.now in
+    let bytes = c.args.bytes.now in
+    let coming = g.C.Clock.coming c.args.clock.now in
+    started g.D.Disk.moment g.D.Disk.left_since disk (BytesLeave may bytes coming) (λ image left. bytes-first may bytes coming (g.D.Disk.content disk) image all (g.met.D.Disk.only_now disk image left))
+
+pub returns-clause-any_moment : goal.returns-clause-any_moment
+returns-clause-any_moment g c = λ may all room.
+    let bytes = c.args.bytes.now in
+    weaker g.D.Disk.moment g.D.Disk.left_since c.args.disk.now c.deliver.new.disk (RecoversBehind may bytes c.in-Ok.moment) (BytesLeave may bytes (g.C.Clock.coming c.args.clock.now)) (c.deliver.ensures.any_moment may all room)
+    (λ image leaves. (c.in-Ok.moment, c.in-Ok.ensures.first, leaves))

@@ -1,0 +1,23 @@
+use Rattle.std.proofs.Common.{subst}
+use Rattle.disk_model.specs.Moments.{started, weaker}
+use Rattle.arch_base.specs.declared.config.Config.{Config}
+use Rattle.arch_model.specs.Archives.{empty_archive}
+use Rattle.disk_model.specs.Disk.{LeavesOnly}
+use Rattle.epoch_store.specs.First.{MakingLeaves}
+use Rattle.archive_cli.specs.Program.{InitLeaves}
+use Rattle.archive_cli.proofs.Leaving.{init-first}
+use Rattle.archive_cli.proofs.program.init.Goals as goal
+
+pub returns-in-Err-clause-any_moment : goal.returns-in-Err-clause-any_moment
+returns-in-Err-clause-any_moment g c =
+    let disk = c.args.disk.now in
+    let coming = g.C.Clock.coming c.args.clock.now in
+    started g.D.Disk.moment g.D.Disk.left_since disk (InitLeaves c.args.config coming (g.D.Disk.content disk)) (λ image left. init-first c.args.config coming (g.D.Disk.content disk) image (g.met.D.Disk.only_now disk image left))
+
+pub returns-clause-any_moment : goal.returns-clause-any_moment
+returns-clause-any_moment g c =
+    let disk = c.args.disk.now in
+    let k0 = g.D.Disk.content disk in
+    let coming = g.C.Clock.coming c.args.clock.now in
+    let made = subst (λ (config : Config). LeavesOnly g.D.Disk.moment g.D.Disk.left_since disk c.make.new.disk (MakingLeaves (empty_archive config) k0)) c.config_at-config.ensures.at c.make.ensures.any_moment in
+    weaker g.D.Disk.moment g.D.Disk.left_since disk c.make.new.disk _ (InitLeaves c.args.config coming k0) made (λ image leaves. (c.in-Ok.moment, c.in-Ok.ensures.first, leaves))
