@@ -1,7 +1,9 @@
 //! Runs of the program over an input and an output in memory.
+use crate::disk_tests::Still;
 use crate::program::run;
 use crate::words::{Job, read_words};
 use arch_base::{Bytes, Config, Numbers};
+use disk_model::MemDisk;
 use edge_io::{MemSink, MemSource, Source, SourceFault};
 use std::alloc::Global;
 
@@ -23,17 +25,18 @@ fn ran(
 ) -> Option<(u8, MemSink)> {
     let mut source = MemSource::new(alloc, bytes(alloc, input)?, numbers(alloc, unread)?);
     let mut sink = MemSink::new(alloc, numbers(alloc, unwritten)?);
-    let status = run(alloc, words, &mut source, &mut sink);
+    let disk = MemDisk::new(alloc, Numbers::new(alloc));
+    let (status, _disk) = run(alloc, words, disk, &mut source, &mut sink, &mut Still);
     Some((status, sink))
 }
 
-fn bytes(alloc: Global, text: &[u8]) -> Option<Bytes> {
+pub(crate) fn bytes(alloc: Global, text: &[u8]) -> Option<Bytes> {
     let mut made = Bytes::new(alloc);
     made.push_slice(text).ok()?;
     Some(made)
 }
 
-fn numbers(alloc: Global, listed: &[u64]) -> Option<Numbers> {
+pub(crate) fn numbers(alloc: Global, listed: &[u64]) -> Option<Numbers> {
     let mut made = Numbers::new(alloc);
     for number in listed {
         made.push(*number).ok()?;
@@ -326,7 +329,9 @@ impl Source for Endless {
 #[test]
 fn an_input_without_an_end_is_too_long(rt: HostRuntime) {
     let mut sink = MemSink::new(rt.alloc(), Numbers::new(rt.alloc()));
-    let status = run(rt.alloc(), &["replay", "list"], &mut Endless, &mut sink);
+    let disk = MemDisk::new(rt.alloc(), Numbers::new(rt.alloc()));
+    let words = &["replay", "list"];
+    let (status, _disk) = run(rt.alloc(), words, disk, &mut Endless, &mut sink, &mut Still);
     assert!(rt; status == 9);
     assert!(rt; sink.taken() == b"script too long\n".as_slice());
 }
