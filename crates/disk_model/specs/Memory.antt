@@ -32,6 +32,10 @@ plan_of disk = disk.plan
 abbrev pub starved_of : MemDisk → ℕ
 starved_of disk = disk.plan.starved
 
+-- how many calls failed
+abbrev pub failed_of : MemDisk → ℕ
+failed_of disk = disk.plan.faults
+
 -- how many reads there were
 abbrev pub reads_of : MemDisk → ℕ
 reads_of disk = disk.reads

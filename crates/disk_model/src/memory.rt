@@ -28,7 +28,7 @@ impl MemDisk {
     ghost use Rattle.std.specs.Prelude.{◌≤◌, ◌++◌, ◌∷◌, [], take, IfOk, OnOk, OnErr};
     ghost use Rattle.disk_model.specs.Disk.{Image};
     ghost use Rattle.disk_model.specs.Applied.{IsPicked};
-    ghost use Rattle.disk_model.specs.Memory.{base_of, files_of, changes_of, content_then, plan_of, starved_of, reads_of, no_files, IsFresh};
+    ghost use Rattle.disk_model.specs.Memory.{base_of, files_of, changes_of, content_then, plan_of, starved_of, failed_of, reads_of, no_files, IsFresh};
 
     /// A disk without files, of which those calls fail whose ordinal, from 1, is listed. All seven calls of a disk count.
     pub fn new(alloc: Global, faults: Numbers) -> MemDisk
@@ -49,6 +49,13 @@ impl MemDisk {
         ensures { result ≡ starved_of self.now }
     {
         self.plan.starved
+    }
+
+    /// How many calls failed, up to 2^64 - 1: those listed, and those that found no memory.
+    pub fn failed(&self) -> u64
+        ensures { result ≡ failed_of self.now }
+    {
+        self.plan.faults
     }
 
     /// How many moments there have been: one for each write, cut, removal and sync that answered Ok.
