@@ -1,6 +1,6 @@
 -- The small door has the laws under which a piece may be cut anywhere.
 use Rattle.std.proofs.Common.{◌≡◌, ◌<◌, ◌⊎◌, ℕ, List, ◌++◌, length, Some, None, Bool, true, false, inl, inr, refl, sym, ap, subst, ◌∙◌, append_assoc}
-use Rattle.line_door.specs.Acts.{Way, Plain, Memory, Disk}
+use Rattle.line_door.specs.Acts.{Way, Plain, Memory, Disk, Newer}
 use Rattle.line_door.specs.Lines.{Front, Whole, Long, Partial, front, is_whole, content}
 use Rattle.line_door.specs.Plain.{silent}
 use Rattle.line_door.specs.Cuts.{said_with, CutDoor}
@@ -15,6 +15,7 @@ line-behind : (q : List ℕ) (a : ℕ) (line rest : List ℕ) (way : Way) → ec
 line-behind q a line rest Plain = plain-behind q (is_quit line) a line rest
 line-behind q a line rest Memory = refl
 line-behind q a line rest Disk = plain-behind q (is_quit line) a line rest
+line-behind q a line rest Newer = plain-behind q (is_quit line) a line rest
 
 stays-at : (q : List ℕ) (a : ℕ) (h : List ℕ) (way : Way) (f : Front) → front 512 h ≡ f → is_whole f ≡ true → echo_said a (h ++ q) way ≡ said_with (echo_more q) (echo_at a h f way)
 stays-at q a h way (Whole line rest) e is = ap (λ (f : Front). echo_at a (h ++ q) f way) (front-goes_on 512 h q line rest e) ∙ line-behind q a (content line) rest way
@@ -25,6 +26,7 @@ kept-at : (a : ℕ) (h : List ℕ) (way : Way) → ((echo_rest a h way).next ≡
 kept-at a h Plain = inr refl
 kept-at a h Memory = inl refl
 kept-at a h Disk = inr refl
+kept-at a h Newer = inr refl
 
 plain-rest : (t : Bool) (a : ℕ) (line rest k : List ℕ) → (echo_plain t a line rest).next ≡ Some k → k ≡ rest
 plain-rest true a line rest k e = absurd (cc)

@@ -19,11 +19,13 @@ pub record Said (H A : Type 0) : Type 0 where
   pub streamed : Bool
   pub after : A
 
--- an act is done by the rules, or it is answered by a word for want of memory or for a fault of the disk
+-- An act is done by the rules, or it is answered by a word for want of memory or for a fault of the disk; or an opening again finds
+-- what was in doubt.
 pub data Way : Type 0 where
   Plain : Way
   Memory : Way
   Disk : Way
+  Newer : Way
 
 -- the session that goes on with this one, or none
 abbrev pub held_if : {H : Type 0} → Bool → H → Option H

@@ -1,7 +1,7 @@
 -- A small door, at which the laws of all doors are proved: each line is answered by itself, and `quit` closes.
 use Rattle.std.specs.Prelude.{◌+◌, ◌==◌, ◌&&◌, ℕ, nat_eq, List, [], ◌∷◌, ◌++◌, length, codes, Some, None, Bool, true, false}
 use Rattle.std.specs.List.{starts_with}
-use Rattle.line_door.specs.Acts.{Said, Way, Plain, Memory, Disk}
+use Rattle.line_door.specs.Acts.{Said, Way, Plain, Memory, Disk, Newer}
 use Rattle.line_door.specs.Lines.{Front, Whole, Long, Partial, front, is_whole, content}
 use Rattle.line_door.specs.Plain.{silent}
 use Rattle.line_door.specs.Cuts.{CutLaw, PiecesLaw, PlainLaw, PlainIsFed}
@@ -24,12 +24,14 @@ abbrev pub echo_line : ℕ → List ℕ → List ℕ → Way → Said (List ℕ)
 echo_line a line rest Plain = echo_plain (is_quit line) a line rest
 echo_line a line rest Memory = record { next = Some rest; words = memory_word; streamed = false; after = a }
 echo_line a line rest Disk = echo_plain (is_quit line) a line rest
+echo_line a line rest Newer = echo_plain (is_quit line) a line rest
 
 -- a rest is kept, or the word for want of memory closes
 abbrev pub echo_rest : ℕ → List ℕ → Way → Said (List ℕ) ℕ
 echo_rest a bytes Plain = silent a bytes
 echo_rest a bytes Memory = record { next = None; words = memory_word; streamed = false; after = a }
 echo_rest a bytes Disk = silent a bytes
+echo_rest a bytes Newer = silent a bytes
 
 abbrev pub echo_at : ℕ → List ℕ → Front → Way → Said (List ℕ) ℕ
 echo_at a bytes (Whole line rest) way = echo_line a (content line) rest way
