@@ -13,6 +13,7 @@ use Rattle.arch_model.specs.Candidates.{choice_of}
 use Rattle.arch_model.specs.Delivery.{Delivers, delivered, delivered_form, delivered_choice, delivered_kept, refused, collision, new_epoch}
 use Rattle.arch_model.specs.Judging.{IsKnownBy, IsNewText, RefusesBy}
 use Rattle.arch_model.specs.Memory.{IsIndex, IsKept, archive_of, blob_number, number_in}
+use Rattle.arch_model.specs.Standing.{IsUntouched}
 use Rattle.arch_model.specs.declared.answer.Answer.{Answer}
 use Rattle.arch_model.specs.declared.answer.Answer.TheVariants as answer
 use Rattle.arch_model.specs.declared.choice.Choice.{Choice}
@@ -101,3 +102,18 @@ refuses a bytes moment (answer.NoText number) h = absurd h
 refuses a bytes moment answer.IsMirror h = h moment
 refuses a bytes moment answer.DiskFault h = h
 refuses a bytes moment (answer.Damaged file place) h = h
+
+-- what stays is untouched, whatever was answered
+pub untouched-same : {K : Type 0} (reply : Answer) (k : K) → IsUntouched reply k k
+untouched-same (answer.Ok number id) k = tt
+untouched-same answer.DiskFault k = tt
+untouched-same (answer.Damaged file at) k = tt
+untouched-same (answer.Duplicate number) k = refl
+untouched-same answer.NoFields k = refl
+untouched-same (answer.TooLarge len) k = refl
+untouched-same (answer.Full max) k = refl
+untouched-same (answer.Collision number) k = refl
+untouched-same (answer.NotLive number) k = refl
+untouched-same (answer.NoText number) k = refl
+untouched-same answer.IsMirror k = refl
+untouched-same answer.NoMemory k = refl

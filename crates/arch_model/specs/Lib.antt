@@ -8,4 +8,5 @@ pub mod Following
 pub mod Judging
 pub mod Laws
 pub mod Memory
+pub mod Standing
 pub mod Validity

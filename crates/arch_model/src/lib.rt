@@ -8,11 +8,13 @@ mod commits;
 mod facts;
 mod index;
 mod judging;
+mod keep;
 mod kept;
 mod laws;
 mod line;
 mod made;
 mod memory;
+mod memory_keep;
 mod opening;
 mod text_refusal;
 
@@ -21,6 +23,7 @@ pub use command::Command;
 pub use commits::{EntryIds, entry_commit, epoch_grows, push_entry};
 pub use index::Index;
 pub use judging::{Verdict, judge};
+pub use keep::Keep;
 pub use kept::Owner;
 pub use laws::{
     delivered_is_shown, first_candidate_decides, law_of_commands, law_of_numbers,

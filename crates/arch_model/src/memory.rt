@@ -7,6 +7,7 @@ ghost use Rattle.arch_model.specs.Archives.{empty_archive, with_entry, text_of, 
 ghost use Rattle.arch_model.specs.Delivery.{Delivers, applied, delivered, new_epoch};
 ghost use Rattle.arch_model.specs.Epochs.{epoch_bytes};
 ghost use Rattle.arch_model.specs.Memory.{IsFree, blob_number, GivesEpoch, Grows, has_entry};
+ghost use Rattle.arch_model.specs.Standing.{IsLeastLive, IsUntouched};
 ghost use Rattle.arch_model.specs.declared.answer.Answer.{Answer};
 
 use crate::answer::Answer;
@@ -75,6 +76,18 @@ impl MemArchive {
         }
     }
 
+    /// The least number of a message that is at least this one, or None where there is none.
+    pub fn number_from(&self, number: u32) -> Option<u32>
+        ensures { IsLeastLive self.now.entries number result }
+    {
+        let least = number.max(1);
+        if least as usize <= self.kept.as_slice().len() {
+            Some(least)
+        } else {
+            None
+        }
+    }
+
     /// Puts the bytes of an epoch behind others, and says whether it has an entry. For want of memory nothing is put there.
     pub fn push_epoch(&self, epoch: u32, into: &mut Bytes) -> Result<bool, NoMemory>
         ensures { GivesEpoch into.old into.new result (in_epoch self.now.entries epoch) }
@@ -115,7 +128,8 @@ impl MemArchive {
     /// `Deliver`: the message takes the next number, or is refused by the first cause of a mirror, no field, too many bytes, a
     /// message that is the same, another text with its blob id, and no number left. A refusal leaves all as it was.
     pub fn command(&mut self, command: &Command<'_>, moment: u64) -> Answer
-        ensures { Delivers self.old result self.new (applied self.old command.now moment) }
+        ensures done { Delivers self.old result self.new (applied self.old command.now moment) }
+        ensures untouched { IsUntouched result self.old self.new }
     {
         match command {
             Command::Deliver(bytes) => self.deliver(bytes, moment),
@@ -124,7 +138,8 @@ impl MemArchive {
 
     /// Delivers a message, or refuses it.
     fn deliver(&mut self, bytes: &[u8], moment: u64) -> Answer
-        ensures { Delivers self.old result self.new (delivered self.old bytes.now moment) }
+        ensures done { Delivers self.old result self.new (delivered self.old bytes.now moment) }
+        ensures untouched { IsUntouched result self.old self.new }
     {
         let count = self.kept.len();
         let next = self.next();
@@ -140,7 +155,8 @@ impl MemArchive {
         requires blob { blob ≡ blob_id_of text }
         requires unseen { blob_number self.old.entries blob.0 ≡ None }
         requires room { self.old.next ≤ self.old.config.max }
-        ensures { Delivers self.old result self.new (record { archive = with_entry self.old (new_epoch self.old) text moment; answer = Answer.Ok number blob }) }
+        ensures done { Delivers self.old result self.new (record { archive = with_entry self.old (new_epoch self.old) text moment; answer = Answer.Ok number blob }) }
+        ensures untouched { IsUntouched result self.old self.new }
     {
         match self.keep(text, blob, moment) {
             Ok(()) => Answer::Ok { number, id: blob },
