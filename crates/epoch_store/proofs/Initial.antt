@@ -65,10 +65,10 @@ empty_stands config image there = record {
 }
 
 -- what a crash leaves while the root is made
-pub makes_empty : (config : Config) (old k : Option Content) (image : Files) → IsName config.name → IsConfig config → (k ≡ None → old ≡ None) → MakesRoot (spelling (first_root_of config)) k image → MakingLeaves (empty_archive config) old image
-makes_empty config old None image name valid same makes = inl (subst (λ (o : Option Content). Image o image) (sym (same refl)) tt)
-makes_empty config old (Some k) image name valid same (inl shut) = inr (inl shut)
-makes_empty config old (Some k) image name valid same (inr there) = inr (inr (first_root_of config, record { valid = empty_valid config name valid; names = empty_names config name valid; stands = empty_stands config image there }))
+pub makes_empty : (config : Config) (old k : Option Content) (image : Files) → IsName config.name → IsConfig config → (k ≡ None → old ≡ None) → WhereTold (λ c. IsShutFile (c root_name).seen) old → MakesRoot (spelling (first_root_of config)) k image → MakingLeaves (empty_archive config) old image
+makes_empty config old None image name valid same was makes = inl (subst (λ (o : Option Content). Image o image) (sym (same refl)) tt)
+makes_empty config old (Some k) image name valid same was (inl shut) = inr (was, inl shut)
+makes_empty config old (Some k) image name valid same was (inr there) = inr (was, inr (first_root_of config, record { valid = empty_valid config name valid; names = empty_names config name valid; stands = empty_stands config image there }))
 
 -- a root that is ready is there
 root_there : (body : List ℕ) (file : File) → IfThere (Ready 1 body) file → IfThere (HasRoot body) file

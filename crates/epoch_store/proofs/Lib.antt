@@ -8,7 +8,7 @@ mod Sets
 mod Firsts
 mod Joins
 mod Kept
-mod UniqueRoots
+pub mod UniqueRoots
 mod UniqueEntries
 mod Unique
 mod FirstRoots
@@ -27,3 +27,4 @@ mod Texts
 mod Recovered
 mod Unnamed
 mod Reopening
+mod WholeEpochs

@@ -48,6 +48,10 @@ open_slot file slot x p (inr shut) =
     ]
 
 -- the same of a file that is there
+pub slot_not_shut : (file : File) (slot : ℕ) (x : List ℕ) → IfThere (Current slot x) file → IsShutFile file → ⊥
+slot_not_shut None slot x p shut = absurd p
+slot_not_shut (Some bytes) slot x p shut = open_slot bytes slot x p shut
+
 pub not_shut : (file : File) (x : List ℕ) → IfThere (HasRoot x) file → IsShutFile file → ⊥
 not_shut None x p shut = absurd p
 not_shut (Some bytes) x p shut = open_slot bytes p.0 x p.1 shut

@@ -6,13 +6,14 @@ use Rattle.root_slots.specs.declared.root.Root.{Root}
 use Rattle.root_slots.specs.Valid.{no_place}
 use Rattle.epoch_store.specs.declared.refusal.InitRefusal.{InitRefusal}
 use Rattle.epoch_store.specs.declared.refusal.InitRefusal.TheVariants.{Exists, DiskFault, NoMemory}
-use Rattle.disk_model.specs.Disk.{File, Files, Content, Image, Fits}
+use Rattle.disk_model.specs.Disk.{File, Files, Content, Image, Told, WhereTold, Fits}
 use Rattle.disk_model.specs.Synced.{IsSettled}
 use Rattle.arch_model.specs.Archives.{Archive}
 use Rattle.root_slots.specs.RootName.{root_name}
 use Rattle.root_slots.specs.Each.{IfThere}
 use Rattle.root_slots.specs.Slots.{Elsewhere, HasRoot, Ready, IsShutFile}
 use Rattle.epoch_store.specs.Recovery.{Recovers}
+use Rattle.epoch_store.specs.Opens.{IsOnlySynced}
 
 -- all bytes of a root file are zeros
 abbrev pub AreZeros : List ℕ → Type 0
@@ -28,9 +29,10 @@ abbrev pub ShutOrFirst : List ℕ → Option Content → Files → Type 0
 ShutOrFirst body None image = Unit {0}
 ShutOrFirst body (Some k) image = IsShutOrFirst body k image
 
--- what a crash leaves while an archive is made: what it might have left before, or no open slot, or the archive without entries
+-- What a crash leaves while an archive is made: what it might have left before; and where no slot was open, no open slot, or the
+-- archive without entries.
 abbrev pub MakingLeaves : Archive → Option Content → Files → Type 0
-MakingLeaves a content image = Image content image ⊎ (IsShutFile (image root_name) ⊎ Recovers image a)
+MakingLeaves a content image = Image content image ⊎ (WhereTold (λ k. IsShutFile (k root_name).seen) content × (IsShutFile (image root_name) ⊎ Recovers image a))
 
 -- no slot is open, or the root of this body is there
 abbrev pub ShutOrRoot : List ℕ → Files → Type 0
@@ -65,3 +67,14 @@ MakingAnswers (Ok store) k = IsShutFile (k root_name).seen
 MakingAnswers (Err Exists) k = IsShutFile (k root_name).seen → ⊥
 MakingAnswers (Err DiskFault) k = Unit {0}
 MakingAnswers (Err NoMemory) k = Unit {0}
+
+-- behind this refusal, unless the disk failed, all files are synced and no more
+abbrev pub OnlySyncs : InitRefusal → Option Content → Option Content → Type 0
+OnlySyncs Exists old new = Told IsOnlySynced old new
+OnlySyncs DiskFault old new = Unit {0}
+OnlySyncs NoMemory old new = Told IsOnlySynced old new
+
+-- a refusal to make an archive, but for the disk's fault, comes before anything is changed
+abbrev pub RefusesToMake : {T : Type 0} → Result T InitRefusal → Option Content → Option Content → Type 0
+RefusesToMake (Ok made) old new = Unit {0}
+RefusesToMake (Err why) old new = OnlySyncs why old new

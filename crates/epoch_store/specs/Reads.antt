@@ -1,5 +1,5 @@
 -- What a store tells of its entries, and what reading a text gives.
-use Rattle.std.specs.Prelude.{◌≡◌, ◌≢◌, ◌+◌, ◌≤◌, ℕ, List, ◌++◌, length, take, drop, slice_get, Option, Some, None, Result, Ok, Err}
+use Rattle.std.specs.Prelude.{◌≡◌, ◌≢◌, ◌+◌, ◌<◌, ◌≤◌, ℕ, Bool, true, false, List, ◌++◌, length, take, drop, slice_get, get_or, Option, Some, None, Result, Ok, Err}
 use Rattle.disk_model.specs.declared.name.FileName.{FileName}
 use Rattle.disk_model.specs.Disk.{Content, bytes_of}
 use Rattle.git_objects.specs.Objects.{blob_id_of}
@@ -8,6 +8,7 @@ use Rattle.arch_model.specs.declared.line.EntryLine.{EntryLine}
 use Rattle.arch_model.specs.declared.text_refusal.TextRefusal.{TextRefusal}
 use Rattle.arch_model.specs.declared.text_refusal.TextRefusal.TheVariants.{DiskFault, Damaged, NoMemory}
 use Rattle.root_slots.specs.declared.root.Root.{Root}
+use Rattle.root_slots.specs.Valid.{no_place}
 use Rattle.epoch_store.specs.declared.entries.StoredEntry.{StoredEntry}
 use Rattle.epoch_store.specs.Files.{epoch_file_of}
 
@@ -71,3 +72,15 @@ IsQuiet (Damaged named found) = ⊥
 abbrev pub AnswersQuietly : {T : Type 0} → Result T TextRefusal → Type 0
 AnswersQuietly (Ok made) = Unit {0}
 AnswersQuietly (Err e) = IsQuiet e
+
+-- what asking for an epoch gives by what the root names: as many bytes as it names behind those before, or that it names none
+abbrev pub IsEpochFound : Root → ℕ → List ℕ → List ℕ → Result Bool TextRefusal → Type 0
+IsEpochFound root e old new (Ok true) = (bytes : List ℕ) × (length bytes ≡ (get_or root.epochs e no_place).length) × (0 < length bytes) × (new ≡ old ++ bytes)
+IsEpochFound root e old new (Ok false) = (get_or root.epochs e no_place).length ≡ 0
+IsEpochFound root e old new (Err refused) = Unit {0}
+
+-- the bytes that are read stand at the front of the epoch's file
+abbrev pub FindsEpoch : Root → ℕ → List ℕ → List ℕ → Result Bool TextRefusal → Content → Type 0
+FindsEpoch root e old new (Ok true) k = (bytes : List ℕ) × StandsAt (bytes_of (k (epoch_file_of root e)).seen) 0 (get_or root.epochs e no_place).length bytes × (new ≡ old ++ bytes)
+FindsEpoch root e old new (Ok false) k = Unit {0}
+FindsEpoch root e old new (Err refused) k = Unit {0}

@@ -10,7 +10,7 @@ ghost use Rattle.root_slots.specs.Slots.{EachShut};
 ghost use Rattle.arch_base.specs.Configs.{IsConfig};
 ghost use Rattle.arch_base.specs.Names.{IsName};
 ghost use Rattle.disk_files.specs.Listing.{AreAllNames};
-ghost use Rattle.epoch_store.specs.First.{AreZeros, ShutOrFirst, MakesRoot, HasOnly, MakingAnswers, first_root_of};
+ghost use Rattle.epoch_store.specs.First.{AreZeros, ShutOrFirst, MakesRoot, HasOnly, MakingAnswers, RefusesToMake, first_root_of};
 ghost use Rattle.arch_base.specs.Counts.{Rose};
 ghost use Rattle.epoch_store.specs.declared.refusal.InitRefusal.{InitRefusal};
 
@@ -73,11 +73,13 @@ pub fn raise_first<D: Disk>(disk: &mut D, root: &Root) -> Result<(), DiskFault>
     raise(disk, 0)
 }
 
-/// Whether there is no archive: it syncs, and no slot of the root is open. Exists comes exactly where one is.
+/// Whether there is no archive: it syncs, and no slot of the root is open. Exists comes exactly where one is, and nothing but the
+/// sync is done.
 pub fn no_archive<D: Disk>(disk: &mut D) -> Result<(), InitRefusal>
     ensures any_moment { LeavesOnly D.moment D.left_since disk.old disk.new (Image (D.content disk.old)) }
     ensures answer { WhereTold (MakingAnswers result) (D.content disk.old) }
     ensures synced { OnOk result (Told Synced (D.content disk.old) (D.content disk.new)) }
+    ensures refused { RefusesToMake result (D.content disk.old) (D.content disk.new) }
     ensures later { D.faults disk.old ≤ D.faults disk.new }
     ensures fault { result ≡ Err InitRefusal.DiskFault → Rose (D.faults disk.old) (D.faults disk.new) }
 {

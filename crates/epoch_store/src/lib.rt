@@ -2,6 +2,7 @@
 #![tactic(auto)]
 
 mod entries;
+mod epochs;
 mod finding;
 mod first;
 mod joining;
@@ -24,6 +25,8 @@ pub use store::Store;
 
 #[cfg(test)]
 mod damage_tests;
+#[cfg(test)]
+mod epoch_tests;
 #[cfg(test)]
 mod fault_tests;
 #[cfg(test)]

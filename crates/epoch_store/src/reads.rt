@@ -62,7 +62,7 @@ impl Store {
     }
 
     /// The file of an epoch.
-    fn file_of(&self, epoch: u32) -> FileName
+    pub(crate) fn file_of(&self, epoch: u32) -> FileName
         requires { epoch ≤ 63 }
         ensures { result ≡ epoch_file_of self.now.root epoch }
     {
@@ -131,7 +131,7 @@ fn room_for(alloc: Global, size: u64) -> Result<Vec<u8>, NoMemory>
 }
 
 /// The bytes of a file from a place on, so many. For those that the file lacks anything may stand.
-fn read_text<D: Disk>(
+pub(crate) fn read_text<D: Disk>(
     alloc: Global,
     disk: &mut D,
     file: FileName,

@@ -12,7 +12,7 @@ ghost use Rattle.epoch_file.specs.Appending.{written_of};
 ghost use Rattle.root_slots.specs.Valid.{IsRoot};
 ghost use Rattle.arch_base.specs.Configs.{IsConfig};
 ghost use Rattle.arch_model.specs.Archives.{empty_archive};
-ghost use Rattle.epoch_store.specs.First.{MakingLeaves, MakingAnswers};
+ghost use Rattle.epoch_store.specs.First.{MakingLeaves, MakingAnswers, RefusesToMake};
 ghost use Rattle.epoch_store.specs.declared.refusal.InitRefusal.{InitRefusal};
 ghost use Rattle.epoch_store.specs.Stores.{IsDiskOf, IsStoreOf, Keeps, IsEnd, IsNextPlace, next_sequence, place_of, root_after, RecoversEither, HasSizes, Accepts, IsMessage, GoesNext, with_message, view_after, stored_at, AddsEntry, SeesNoDamage};
 
@@ -61,13 +61,15 @@ impl Store {
     /// Makes an archive without entries, in the place of a disk without an open slot: it takes all files away and makes a root file
     /// with the first root, of sequence 1.
     ///
-    /// At each moment a crash leaves what it might have left before, or no open slot, or the archive. Exists comes exactly where
-    /// a slot is open, and then nothing is written. DiskFault comes only where the disk's count of faults rose, and NoMemory only
-    /// for want of memory, before anything is written.
+    /// At each moment a crash leaves what it might have left before; and where no slot was open, no open slot, or the archive.
+    /// Exists comes exactly where a slot is open, and then nothing is written. DiskFault comes only where the disk's count of faults
+    /// rose, and NoMemory only for want of memory, before anything is written.
     pub fn init<D: Disk>(alloc: Global, disk: &mut D, config: &Config) -> Result<Store, InitRefusal>
         requires config { IsConfig config.now }
         ensures any_moment { LeavesOnly D.moment D.left_since disk.old disk.new (MakingLeaves (empty_archive config.now) (D.content disk.old)) }
         ensures answer { WhereTold (MakingAnswers result) (D.content disk.old) }
+        // Behind Exists and NoMemory the disk is synced, and no more.
+        ensures refused { RefusesToMake result (D.content disk.old) (D.content disk.new) }
         ensures done { IfOk result (λ store. WhereTold (IsDiskOf store (empty_archive config.now)) (D.content disk.new)) }
         ensures sizes { IfOk result (λ store. WhereTold (HasSizes store) (D.content disk.new)) }
         ensures first { IfOk result (λ store. store.root.sequence ≡ 1) }

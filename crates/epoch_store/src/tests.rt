@@ -24,7 +24,7 @@ pub(crate) const FIRST: &[u8] =
 pub(crate) const SECOND: &[u8] =
     b"From: Ann <ann@example.org>\nDate: Thu, 1 Feb 2024 10:00:00 +0000\nSubject: first\nMessage-ID: <b@x>\n\none\n";
 
-const MOMENT: u64 = 1_706_781_700;
+pub(crate) const MOMENT: u64 = 1_706_781_700;
 
 /// The file of the root.
 pub(crate) const ROOT: FileName = FileName {
@@ -50,7 +50,7 @@ pub(crate) fn epoch(number: u32, gen_: u64) -> FileName {
 }
 
 /// Settings of an archive of the name `list`.
-fn settings(limit: u64) -> Option<Config>
+pub(crate) fn settings(limit: u64) -> Option<Config>
     requires low { 1 ≤ limit }
     requires high { limit ≤ 1099511627776 }
     ensures { IfSome result IsConfig }

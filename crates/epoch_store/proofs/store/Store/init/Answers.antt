@@ -36,7 +36,7 @@ returns-in_err-make-clause-any_moment g c =
     subst (λ (r : Root). LeavesOnly g.D.Disk.moment g.D.Disk.left_since d2 c.make.new.disk (MakesRoot (spelling r) k2)) root_is (c.make.ensures.any_moment shut) in
     joined g.D.Disk.moment g.D.Disk.left_since disk d2 c.make.new.disk P (MakesRoot (spelling (first_root_of config)) k2) P first made
     (λ image leaves. leaves)
-    (λ image. makes_empty config k0 k2 image name c.requires.config (none_before k0 k1 k2 synced same))
+    (λ image. makes_empty config k0 k2 image name c.requires.config (none_before k0 k1 k2 synced same) c.in_ok-no_archive.ensures.answer)
 
 pub returns-clause-any_moment : goal.returns-clause-any_moment
 returns-clause-any_moment g c =
@@ -60,7 +60,7 @@ returns-clause-any_moment g c =
     subst (λ (r : Root). LeavesOnly g.D.Disk.moment g.D.Disk.left_since d2 c.make.new.disk (MakesRoot (spelling r) k2)) root_is (c.make.ensures.any_moment shut) in
     joined g.D.Disk.moment g.D.Disk.left_since disk d2 c.make.new.disk P (MakesRoot (spelling (first_root_of config)) k2) P first made
     (λ image leaves. leaves)
-    (λ image. makes_empty config k0 k2 image name c.requires.config (none_before k0 k1 k2 synced same))
+    (λ image. makes_empty config k0 k2 image name c.requires.config (none_before k0 k1 k2 synced same) c.in_ok-no_archive.ensures.answer)
 
 pub returns-clause-done : goal.returns-clause-done
 returns-clause-done g c =

@@ -1,0 +1,71 @@
+//! What is read of the epochs of an archive on a disk.
+ghost use Rattle.std.specs.Prelude.{◌≡◌, ◌<◌, ◌≤◌, ◌+◌, get_or, Err};
+ghost use Rattle.arch_base.specs.Counts.{Rose};
+ghost use Rattle.arch_model.specs.Archives.{Archive, in_epoch};
+ghost use Rattle.arch_model.specs.Standing.{GivesEpochIn, KeepsUnlessFound};
+ghost use Rattle.disk_model.specs.Disk.{Image, Told, WhereTold, Unchanged, LeavesOnly};
+ghost use Rattle.arch_model.specs.declared.text_refusal.TextRefusal.{TextRefusal};
+ghost use Rattle.root_slots.specs.Valid.{no_place};
+ghost use Rattle.epoch_store.specs.Stores.{IsStoreOf};
+ghost use Rattle.epoch_store.specs.Reads.{AnswersQuietly, IsEpochFound, FindsEpoch};
+
+use crate::reads::read_text;
+use crate::store::Store;
+use arch_base::Bytes;
+use arch_model::TextRefusal;
+use disk_model::Disk;
+
+impl Store {
+    /// The sequence of the current root.
+    pub fn sequence(&self) -> u64
+        ensures { result ≡ self.now.root.sequence }
+    {
+        self.root.sequence
+    }
+
+    /// How many bytes of an epoch the root names, none of one that there is not.
+    fn named_length(&self, epoch: u32) -> u64
+        ensures length { result ≡ (get_or self.now.root.epochs epoch no_place).length }
+        ensures there { 0 < result → epoch ≤ 63 }
+    {
+        match self.root.epochs.get(epoch as usize) {
+            None => 0,
+            Some(place) => place.length,
+        }
+    }
+
+    /// Puts the bytes of an epoch behind others, read by one call of the disk, and says whether it has an entry: false comes
+    /// exactly where the root names no bytes of it.
+    ///
+    /// DiskFault comes only where the disk's count of faults rose, and NoMemory only for want of memory; that a file is damaged
+    /// is never answered. A refusal leaves the bytes as they were, and so does an epoch without an entry. Nothing changes on the
+    /// disk.
+    pub fn epoch<D: Disk>(
+        &self,
+        disk: &mut D,
+        epoch: u32,
+        into: &mut Bytes,
+    ) -> Result<bool, TextRefusal>
+        ensures bytes { (a : Archive) → IsStoreOf self.now a (D.content disk.old) → GivesEpochIn (in_epoch a.entries epoch) into.old into.new result }
+        ensures named { IsEpochFound self.now.root epoch into.old into.new result }
+        ensures found { WhereTold (FindsEpoch self.now.root epoch into.old into.new result) (D.content disk.old) }
+        ensures kept { KeepsUnlessFound into.old into.new result }
+        ensures undamaged { AnswersQuietly result }
+        ensures same { Told Unchanged (D.content disk.old) (D.content disk.new) }
+        ensures any_moment { LeavesOnly D.moment D.left_since disk.old disk.new (Image (D.content disk.old)) }
+        ensures later { D.faults disk.old ≤ D.faults disk.new }
+        ensures fault { result ≡ Err TextRefusal.DiskFault → Rose (D.faults disk.old) (D.faults disk.new) }
+        ensures fewest { D.reads disk.old ≤ D.reads disk.new }
+        ensures count { D.reads disk.new ≤ D.reads disk.old + 1 }
+    {
+        let named = self.named_length(epoch);
+        if named == 0 {
+            return Ok(false);
+        }
+        let file = self.file_of(epoch);
+        let alloc = *self.entries.allocator();
+        let bytes = read_text(alloc, disk, file, 0, named)?;
+        into.push_slice(bytes.as_slice())?;
+        Ok(true)
+    }
+}
