@@ -3,3 +3,5 @@ mod Standing
 mod Indexes
 mod Verdicts
 mod Openings
+mod ByNumber
+mod Engines

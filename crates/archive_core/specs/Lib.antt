@@ -1,3 +1,6 @@
 pub mod Commands
 pub mod Kept
 pub mod Openings
+pub mod Numbers
+pub mod Engines
+pub mod HandedBack

@@ -14,7 +14,7 @@ ghost use Rattle.arch_model.specs.declared.opening.OpenRefusal.{OpenRefusal};
 ghost use Rattle.epoch_store.specs.Files.{as_read};
 ghost use Rattle.epoch_store.specs.Opens.{RecoversOf, AllRecoverOf, ReadsAs, Opens, OpensWell};
 ghost use Rattle.archive_core.specs.Openings.{RefusesKindly};
-ghost use Rattle.epoch_store.specs.First.{MakingLeaves, MakingAnswers};
+ghost use Rattle.epoch_store.specs.First.{MakingLeaves, MakingAnswers, RefusesToMake};
 ghost use Rattle.epoch_store.specs.Stores.{IsDiskOf, IsStoreOf, Keeps, HasSizes, RecoversEither, SeesNoDamage, next_sequence};
 ghost use Rattle.epoch_store.specs.declared.refusal.InitRefusal.{InitRefusal};
 ghost use Rattle.archive_core.specs.Commands.{DoneBy, OnDone, OnRefusal, UnlessFault, IsForCommand, refusal_answer};
@@ -33,7 +33,7 @@ use std::marker::Model;
 #[derive(Drop)]
 pub struct DiskArchive {
     alloc: Global,
-    store: Store,
+    pub(crate) store: Store,
     index: Index,
 }
 
@@ -52,9 +52,9 @@ impl DiskArchive {
     /// Makes an archive without entries, in the place of a disk without an open slot: it takes all files away and makes a root file
     /// with the first root, of sequence 1.
     ///
-    /// At each moment a crash leaves what it might have left before, or no open slot, or the archive. Exists comes exactly where
-    /// a slot is open, and then nothing is written. DiskFault comes only where the disk's count of faults rose, and NoMemory only
-    /// for want of memory, before anything is written.
+    /// At each moment a crash leaves what it might have left before; and where no slot was open, no open slot, or the archive.
+    /// Exists comes exactly where a slot is open, and then nothing is written. DiskFault comes only where the disk's count of faults
+    /// rose, and NoMemory only for want of memory, before anything is written.
     pub fn init<D: Disk>(
         alloc: Global,
         disk: &mut D,
@@ -63,6 +63,8 @@ impl DiskArchive {
         requires config { IsConfig config.now }
         ensures any_moment { LeavesOnly D.moment D.left_since disk.old disk.new (MakingLeaves (empty_archive config.now) (D.content disk.old)) }
         ensures answer { WhereTold (MakingAnswers result) (D.content disk.old) }
+        // Behind Exists and NoMemory the disk is synced, and no more.
+        ensures refused { RefusesToMake result (D.content disk.old) (D.content disk.new) }
         ensures done { IfOk result (λ made. WhereTold (IsDiskOf made (empty_archive config.now)) (D.content disk.new)) }
         ensures sizes { IfOk result (λ made. WhereTold (HasSizes made) (D.content disk.new)) }
         ensures first { IfOk result (λ made. made.root.sequence ≡ 1) }

@@ -2,10 +2,19 @@
 #![tactic(auto)]
 
 mod archive;
+mod engine;
 mod entries;
+mod not_made;
+mod reading;
 mod texts;
 
 pub use archive::DiskArchive;
+pub use engine::Engine;
+pub use not_made::{NotMade, NotOpened};
 
+#[cfg(test)]
+mod engine_tests;
+#[cfg(test)]
+mod reading_tests;
 #[cfg(test)]
 mod tests;

@@ -13,20 +13,20 @@ use epoch_store::InitRefusal;
 use std::alloc::Global;
 use std::test::Fail;
 
-const FIRST: &[u8] =
+pub(crate) const FIRST: &[u8] =
     b"From: Ann <ann@example.org>\nDate: Thu, 1 Feb 2024 10:00:00 +0000\nSubject: first\nMessage-ID: <a@x>\n\none\n";
 
 /// The same mail with another id, and with another body.
-const SECOND: &[u8] =
+pub(crate) const SECOND: &[u8] =
     b"From: Ann <ann@example.org>\nDate: Thu, 1 Feb 2024 10:00:00 +0000\nSubject: first\nMessage-ID: <b@x>\n\none\n";
 
 const OTHER: &[u8] =
     b"From: Ann <ann@example.org>\nDate: Thu, 1 Feb 2024 10:00:00 +0000\nSubject: first\nMessage-ID: <a@x>\n\ntwo\n";
 
-const MOMENT: u64 = 1_706_781_700;
+pub(crate) const MOMENT: u64 = 1_706_781_700;
 
 /// Settings of an archive of the name `list`, whose epochs take one message each.
-fn settings(max: u32, mirror: bool) -> Option<Config>
+pub(crate) fn settings(max: u32, mirror: bool) -> Option<Config>
     requires some { 1 ≤ max }
     requires few { max ≤ 2147483647 }
     ensures { IfSome result IsConfig }
@@ -43,7 +43,7 @@ fn settings(max: u32, mirror: bool) -> Option<Config>
 }
 
 /// An archive that was made on a disk.
-fn made<D: Disk>(
+pub(crate) fn made<D: Disk>(
     alloc: Global,
     disk: &mut D,
     max: u32,
@@ -75,7 +75,7 @@ fn deliver<D: Disk>(
 }
 
 /// The answer that a delivery of this blob id under this number gets.
-fn accepted(number: u32, hex: &[u8]) -> Option<Answer> {
+pub(crate) fn accepted(number: u32, hex: &[u8]) -> Option<Answer> {
     let id = id_of_hex(hex)?;
     Some(Answer::Ok { number, id })
 }
@@ -161,7 +161,11 @@ fn filled<D: Disk>(alloc: Global, disk: &mut D) -> Result<u64, InitRefusal> {
 }
 
 /// Puts a new message into an archive.
-fn put<D: Disk>(archive: &mut DiskArchive, disk: &mut D, bytes: &[u8]) -> Result<(), InitRefusal>
+pub(crate) fn put<D: Disk>(
+    archive: &mut DiskArchive,
+    disk: &mut D,
+    bytes: &[u8],
+) -> Result<(), InitRefusal>
     requires sizes { WhereTold (HasSizes archive.old) (D.content disk.old) }
     ensures sizes { OnOk result (WhereTold (HasSizes archive.new) (D.content disk.new)) }
 {

@@ -1,0 +1,200 @@
+//! An archive on a disk that it owns, as what keeps one.
+ghost use Rattle.std.specs.Prelude.{◌≡◌, ◌≤◌, [], false, Err, IfOk, Option, List};
+ghost use Rattle.arch_base.specs.Configs.{IsConfig};
+ghost use Rattle.arch_base.specs.Counts.{Rose};
+ghost use Rattle.disk_model.specs.Disk.{Files, WhereTold, LeavesOnly};
+ghost use Rattle.arch_model.specs.Archives.{Archive, empty_archive};
+ghost use Rattle.arch_model.specs.declared.opening.OpenRefusal.{OpenRefusal};
+ghost use Rattle.epoch_store.specs.Files.{as_read};
+ghost use Rattle.epoch_store.specs.First.{MakingLeaves, MakingAnswers, RefusesToMake};
+ghost use Rattle.epoch_store.specs.Opens.{RecoversOf, AllRecoverOf, ReadsAs, Opens, OpensWell};
+ghost use Rattle.epoch_store.specs.Stores.{IsDiskOf, IsStoreOf, HasSizes};
+ghost use Rattle.epoch_store.specs.declared.refusal.InitRefusal.{InitRefusal};
+ghost use Rattle.archive_core.specs.Engines.{needs_opening as needs_opening_behind, store_left};
+ghost use Rattle.archive_core.specs.HandedBack.{disk_made, made_or_why, disk_opened, opened_or_why};
+ghost use Rattle.archive_core.specs.Numbers.{has_number};
+ghost use Rattle.archive_core.specs.Openings.{RefusesKindly};
+
+use crate::archive::DiskArchive;
+use crate::not_made::{NotMade, NotOpened};
+use arch_base::{Bytes, Config};
+use arch_model::{Answer, Command, Keep, OpenRefusal, TextRefusal};
+use disk_model::Disk;
+use std::alloc::Global;
+use std::marker::Model;
+
+/// An archive on a disk that it owns.
+///
+/// Behind a command that the disk failed it is stale: it isn't known whether the command was done, and nothing is answered until
+/// the archive is opened again. So it is behind the answer that a file is damaged, which a command on an archive's own disk never
+/// gives.
+#[derive(Drop)]
+pub struct Engine<D: Disk> {
+    alloc: Global,
+    disk: D,
+    archive: DiskArchive,
+    stale: bool,
+}
+
+impl<D: Disk> Model for Engine<D> {
+    ghost use Rattle.archive_core.specs.Engines.{Owning, SizesUnless};
+
+    ghost Value = { Owning D };
+
+    ghost view = { λ e. record { disk = e.disk; view = e.archive; stale = e.stale } };
+
+    ghost invariant = { λ e. SizesUnless e.stale e.archive (D.content e.disk) };
+}
+
+impl<D: Disk> Engine<D> {
+    /// Makes an archive without entries, in the place of a disk without an open slot: it takes all files away and makes a root file
+    /// with the first root, of sequence 1. A refusal hands the disk back.
+    ///
+    /// At each moment a crash leaves what it might have left before; and where no slot was open, no open slot, or the archive.
+    /// Exists comes exactly where a slot is open, and then nothing is written. DiskFault comes only where the disk's count of faults
+    /// rose, and NoMemory only for want of memory, before anything is written.
+    pub fn make(alloc: Global, disk: D, config: &Config) -> Result<Engine<D>, NotMade<D>>
+        requires config { IsConfig config.now }
+        ensures any_moment { LeavesOnly D.moment D.left_since disk (disk_made result) (MakingLeaves (empty_archive config.now) (D.content disk)) }
+        ensures answer { WhereTold (MakingAnswers (made_or_why result)) (D.content disk) }
+        // Behind Exists and NoMemory the disk is synced, and no more.
+        ensures refused { RefusesToMake (made_or_why result) (D.content disk) (D.content (disk_made result)) }
+        ensures done { IfOk result (λ made. WhereTold (IsDiskOf made.view (empty_archive config.now)) (D.content made.disk)) }
+        ensures sizes { IfOk result (λ made. WhereTold (HasSizes made.view) (D.content made.disk)) }
+        ensures ready { IfOk result (λ made. made.stale ≡ false) }
+        ensures first { IfOk result (λ made. made.view.root.sequence ≡ 1) }
+        ensures none { IfOk result (λ made. made.view.entries ≡ []) }
+        ensures later { D.faults disk ≤ D.faults (disk_made result) }
+        ensures fault { made_or_why result ≡ Err InitRefusal.DiskFault → Rose (D.faults disk) (D.faults (disk_made result)) }
+    {
+        let mut disk = disk;
+        match DiskArchive::init(alloc, &mut disk, config) {
+            Ok(archive) => Ok(Engine {
+                alloc,
+                disk,
+                archive,
+                stale: false,
+            }),
+            Err(why) => Err(NotMade { disk, why }),
+        }
+    }
+
+    /// Opens the archive on a disk. It syncs first and reads all that the current root names, and only then changes the disk: where the
+    /// other slot is shut it is filled with the current root and left shut, tails are cut, and files that the root doesn't name are
+    /// taken away. A refusal hands the disk back.
+    ///
+    /// At each moment a crash leaves files that stand for an archive that they might have stood for before. NoArchive comes only where
+    /// no slot is open, and Damaged only where the files that the root names leave their form, with the first place where they do:
+    /// of the root, then of the map, then of the epochs in order; neither comes where the files stand for an archive, and behind
+    /// either all files read as before. DiskFault comes only where the disk's count of faults rose. NoMemory comes only for want of
+    /// memory, and the files still stand for the archive that they stood for.
+    pub fn open(alloc: Global, disk: D) -> Result<Engine<D>, NotOpened<D>>
+        ensures any_moment { (may : List (Option Archive)) → AllRecoverOf may (D.content disk) → LeavesOnly D.moment D.left_since disk (disk_opened result) (RecoversOf may) }
+        ensures answer { WhereTold (λ k. Opens (as_read k) (opened_or_why result)) (D.content disk) }
+        ensures done { (a : Archive) → ReadsAs a (D.content disk) → IfOk result (λ opened. IsStoreOf opened.view a (D.content opened.disk)) }
+        ensures well { (a : Archive) → ReadsAs a (D.content disk) → OpensWell (opened_or_why result) }
+        ensures refused { RefusesKindly (opened_or_why result) (D.content disk) (D.content (disk_opened result)) }
+        ensures sizes { IfOk result (λ opened. WhereTold (HasSizes opened.view) (D.content opened.disk)) }
+        ensures ready { IfOk result (λ opened. opened.stale ≡ false) }
+        ensures later { D.faults disk ≤ D.faults (disk_opened result) }
+        ensures fault { opened_or_why result ≡ Err OpenRefusal.DiskFault → Rose (D.faults disk) (D.faults (disk_opened result)) }
+    {
+        let mut disk = disk;
+        match DiskArchive::open(alloc, &mut disk) {
+            Ok(archive) => Ok(Engine {
+                alloc,
+                disk,
+                archive,
+                stale: false,
+            }),
+            Err(why) => Err(NotOpened { disk, why }),
+        }
+    }
+
+    /// The disk, as the archive left it.
+    pub fn into_disk(self) -> D
+        ensures { result ≡ self.disk }
+    {
+        let Engine {
+            alloc: _,
+            disk,
+            archive: _,
+            stale: _,
+        } = self;
+        disk
+    }
+
+    /// The disk.
+    pub fn disk(&self) -> &D
+        ensures { result.now ≡ self.now.disk }
+    {
+        &self.disk
+    }
+}
+
+impl<D: Disk> Keep for Engine<D> {
+    ghost holds = { λ e a. IsStoreOf e.view a (D.content e.disk) };
+
+    ghost live = { λ e n. has_number e.view.entries n };
+
+    ghost stale = { λ e. e.stale };
+
+    ghost clock = { λ e. D.moment e.disk };
+
+    ghost leaves = { λ e t may. (image : Files) → D.left_since e.disk t image → RecoversOf may image };
+
+    ghost faults = { λ e. D.faults e.disk };
+
+    fn is_stale(&self) -> bool {
+        self.stale
+    }
+
+    fn live_from(&self, n: u32) -> Option<u32> {
+        self.archive.live_from(n)
+    }
+
+    fn text(&mut self, n: u32, into: &mut Bytes) -> Result<(), TextRefusal> {
+        self.archive.text(&mut self.disk, n, into)
+    }
+
+    fn epoch_bytes(&mut self, epoch: u32, into: &mut Bytes) -> Result<bool, TextRefusal> {
+        self.archive.epoch_bytes(&mut self.disk, epoch, into)
+    }
+
+    fn command(&mut self, command: &Command<'_>, moment: u64) -> Answer {
+        // Behind the last root of 64 bits nothing is done. No archive takes so many commands.
+        if !self.archive.has_next_root() {
+            return Answer::NoMemory;
+        }
+        let answer = self.archive.command(&mut self.disk, command, moment);
+        self.stale = needs_opening(&answer);
+        answer
+    }
+
+    fn fresh(&mut self) -> Result<(), OpenRefusal> {
+        if !self.stale {
+            return Ok(());
+        }
+        match DiskArchive::open(self.alloc, &mut self.disk) {
+            Ok(archive) => {
+                self.archive = archive;
+                self.stale = false;
+                Ok(())
+            }
+            Err(refusal) => Err(refusal),
+        }
+    }
+
+    ghost holds_left = { λ e a store image left. store_left e.view a (D.content e.disk) image store (D.only_now e.disk image left) };
+}
+
+/// Whether an archive has to be opened again behind this answer: the disk failed, or a file is damaged.
+fn needs_opening(answer: &Answer) -> bool
+    ensures { result ≡ needs_opening_behind answer.now }
+{
+    match answer {
+        Answer::DiskFault => true,
+        Answer::Damaged { file: _, at: _ } => true,
+        _other => false,
+    }
+}

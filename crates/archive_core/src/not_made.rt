@@ -1,0 +1,21 @@
+//! A disk that is handed back, since no archive was made or opened on it.
+use arch_model::OpenRefusal;
+use epoch_store::InitRefusal;
+
+/// A disk on which no archive was made, and why.
+#[derive(Drop)]
+pub struct NotMade<D> {
+    /// The disk.
+    pub disk: D,
+    /// Why no archive was made.
+    pub why: InitRefusal,
+}
+
+/// A disk whose archive was not opened, and why.
+#[derive(Drop)]
+pub struct NotOpened<D> {
+    /// The disk.
+    pub disk: D,
+    /// Why the archive was not opened.
+    pub why: OpenRefusal,
+}
