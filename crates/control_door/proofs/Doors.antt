@@ -1,13 +1,15 @@
 -- The laws of the control door.
-use Rattle.std.proofs.Common.{◌≡◌, ◌<◌, ◌⊎◌, inl, inr, ℕ, true, List, [], ◌∷◌, ◌++◌, length, Some, None, refl, ap, append_assoc, arith}
-use Rattle.line_door.specs.Acts.{Way, Plain, Memory, Disk}
-use Rattle.line_door.specs.Plain.{silent}
+use Rattle.std.proofs.Common.{◌≡◌, ◌<◌, ◌⊎◌, ◌∙◌, inl, inr, ℕ, suc, Bool, true, false, List, [], ◌∷◌, ◌++◌, Some, None, refl, sym, ap, subst, append_assoc, arith}
+use Rattle.line_door.specs.Acts.{Said, Way, Plain, Memory, Disk, Newer, Sent}
+use Rattle.line_door.specs.Course.{talk}
+use Rattle.line_door.specs.Plain.{silent, then_say, if_request, plain_from, plain}
 use Rattle.line_door.specs.Cuts.{CutDoor, said_with}
 use Rattle.line_door.proofs.Cutting.{door_laws}
 use Rattle.arch_model.specs.Archives.{Archive}
-use Rattle.control_door.specs.Requests.{Request, Delivers, Shows, Lists, Quits, Mistakes, Exceeds, Ahead, Asked, Unfinished, ahead, is_asked, is_request}
-use Rattle.control_door.specs.Door.{said, said_at, said_to, answered, unkept, with_piece}
-use Rattle.control_door.specs.Laws.{ControlLaws}
+use Rattle.arch_model.specs.Standing.{Standing, standing}
+use Rattle.control_door.specs.Requests.{Request, Delivers, Shows, Lists, Quits, Mistakes, Exceeds, Ahead, Asked, Unfinished, ahead, is_asked}
+use Rattle.control_door.specs.Door.{Waiting, waiting, said, said_at, said_to, said_opening, answered, unkept, has_request, with_piece, left}
+use Rattle.control_door.specs.Laws.{ControlLaws, OpeningIsSilent, OpeningJoins, SaysTheSame, bytes_of}
 use Rattle.control_door.proofs.Aheads.{Goes, Same, Over, Open, ahead-goes, ahead-shorter, unfinished}
 
 goes_request : (q : List ℕ) (a b : Ahead) → Goes q a b → is_asked a ≡ true → is_asked b ≡ true
@@ -15,70 +17,157 @@ goes_request q a b (Same request rest) h = refl
 goes_request q a b Over h = refl
 goes_request q a b (Open next) h = absurd (cc h)
 
-request_behind : (moment : ℕ) (a : Archive) (q rest : List ℕ) (request : Request) (way : Way) → said_to moment a request (rest ++ q) way ≡ said_with (with_piece q) (said_to moment a request rest way)
-request_behind moment a q rest (Delivers message) Plain = refl
-request_behind moment a q rest (Delivers message) Memory = refl
-request_behind moment a q rest (Delivers message) Disk = refl
-request_behind moment a q rest (Shows number) Plain = refl
-request_behind moment a q rest (Shows number) Memory = refl
-request_behind moment a q rest (Shows number) Disk = refl
-request_behind moment a q rest Lists Plain = refl
-request_behind moment a q rest Lists Memory = refl
-request_behind moment a q rest Lists Disk = refl
-request_behind moment a q rest Quits Plain = refl
-request_behind moment a q rest Quits Memory = refl
-request_behind moment a q rest Quits Disk = refl
-request_behind moment a q rest Mistakes Plain = refl
-request_behind moment a q rest Mistakes Memory = refl
-request_behind moment a q rest Mistakes Disk = refl
-request_behind moment a q rest Exceeds Plain = refl
-request_behind moment a q rest Exceeds Memory = refl
-request_behind moment a q rest Exceeds Disk = refl
+request_behind : (moment : ℕ) (s : Standing) (q rest : List ℕ) (request : Request) (way : Way) → said_to moment s request (rest ++ q) way ≡ said_with (with_piece q) (said_to moment s request rest way)
+request_behind moment s q rest (Delivers message) Plain = refl
+request_behind moment s q rest (Delivers message) Memory = refl
+request_behind moment s q rest (Delivers message) Disk = refl
+request_behind moment s q rest (Delivers message) Newer = refl
+request_behind moment s q rest (Shows number) Plain = refl
+request_behind moment s q rest (Shows number) Memory = refl
+request_behind moment s q rest (Shows number) Disk = refl
+request_behind moment s q rest (Shows number) Newer = refl
+request_behind moment s q rest Lists Plain = refl
+request_behind moment s q rest Lists Memory = refl
+request_behind moment s q rest Lists Disk = refl
+request_behind moment s q rest Lists Newer = refl
+request_behind moment s q rest Quits Plain = refl
+request_behind moment s q rest Quits Memory = refl
+request_behind moment s q rest Quits Disk = refl
+request_behind moment s q rest Quits Newer = refl
+request_behind moment s q rest Mistakes Plain = refl
+request_behind moment s q rest Mistakes Memory = refl
+request_behind moment s q rest Mistakes Disk = refl
+request_behind moment s q rest Mistakes Newer = refl
+request_behind moment s q rest Exceeds Plain = refl
+request_behind moment s q rest Exceeds Memory = refl
+request_behind moment s q rest Exceeds Disk = refl
+request_behind moment s q rest Exceeds Newer = refl
 
-over_behind : (moment : ℕ) (a : Archive) (q : List ℕ) (way : Way) → said_to moment a Exceeds [] way ≡ said_with (with_piece q) (said_to moment a Exceeds [] way)
-over_behind moment a q Plain = refl
-over_behind moment a q Memory = refl
-over_behind moment a q Disk = refl
+-- an opening again leaves the bytes
+opening_behind : (s : Standing) (bytes q : List ℕ) (way : Way) → said_opening s (bytes ++ q) way ≡ said_with (with_piece q) (said_opening s bytes way)
+opening_behind s bytes q Plain = refl
+opening_behind s bytes q Memory = refl
+opening_behind s bytes q Disk = refl
+opening_behind s bytes q Newer = refl
 
-goes_said : (moment : ℕ) (a : Archive) (bytes q : List ℕ) (way : Way) (x y : Ahead) → Goes q x y → is_asked x ≡ true → said_at moment a (bytes ++ q) y way ≡ said_with (with_piece q) (said_at moment a bytes x way)
-goes_said moment a bytes q way x y (Same request rest) h = request_behind moment a q rest request way
-goes_said moment a bytes q way x y Over h = over_behind moment a q way
-goes_said moment a bytes q way x y (Open next) h = absurd (cc h)
+over_behind : (moment : ℕ) (s : Standing) (q : List ℕ) (way : Way) → said_to moment s Exceeds [] way ≡ said_with (with_piece q) (said_to moment s Exceeds [] way)
+over_behind moment s q Plain = refl
+over_behind moment s q Memory = refl
+over_behind moment s q Disk = refl
+over_behind moment s q Newer = refl
 
-unkept-either : (a : Archive) (bytes : List ℕ) → ((unkept a bytes).next ≡ None) ⊎ (unkept a bytes ≡ silent a bytes)
-unkept-either a [] = inr refl
-unkept-either a (byte ∷ bytes) = inl refl
+goes_said : (moment : ℕ) (s : Standing) (bytes q : List ℕ) (opened : Bool) (way : Way) (x y : Ahead) → Goes q x y → is_asked x ≡ true
+    → said_at moment s (waiting (bytes ++ q) opened) y way ≡ said_with (with_piece q) (said_at moment s (waiting bytes opened) x way)
+goes_said moment s bytes q true way x y (Same request rest) h = request_behind moment s q rest request way
+goes_said moment s bytes q false way x y (Same request rest) h = opening_behind s bytes q way
+goes_said moment s bytes q true way x y Over h = over_behind moment s q way
+goes_said moment s bytes q false way x y Over h = opening_behind s bytes q way
+goes_said moment s bytes q opened way x y (Open next) h = absurd (cc h)
 
-kept : (moment : ℕ) (a : Archive) (bytes : List ℕ) (way : Way) (x : Ahead) → x ≡ Unfinished → ((said_at moment a bytes x way).next ≡ None) ⊎ (said_at moment a bytes x way ≡ silent a bytes)
-kept moment a bytes Plain x h = rw h (inr refl)
-kept moment a bytes Memory x h = rw h (unkept-either a bytes)
-kept moment a bytes Disk x h = rw h (inr refl)
+unkept-either : (s : Standing) (w : Waiting) (bytes : List ℕ) → ((unkept s w bytes).next ≡ None) ⊎ (unkept s w bytes ≡ silent s w)
+unkept-either s w [] = inr refl
+unkept-either s w (byte ∷ bytes) = inl refl
+
+kept : (moment : ℕ) (s : Standing) (w : Waiting) (way : Way) (x : Ahead) → x ≡ Unfinished → ((said_at moment s w x way).next ≡ None) ⊎ (said_at moment s w x way ≡ silent s w)
+kept moment s w Plain x h = rw h (inr refl)
+kept moment s w Memory x h = rw h (unkept-either s w w.bytes)
+kept moment s w Disk x h = rw h (inr refl)
+kept moment s w Newer x h = rw h (inr refl)
 
 -- what is left open by an answer is what follows its request, or its door closes
-left_open : (moment : ℕ) (a : Archive) (request : Request) (rest k : List ℕ) → (answered moment a request rest).next ≡ Some k → (rest ≡ k) × (request ≡ Exceeds → ⊥)
-left_open moment a (Delivers message) rest k h = (cc, λ e. cc)
-left_open moment a (Shows number) rest k h = (cc, λ e. cc)
-left_open moment a Lists rest k h = (cc, λ e. cc)
-left_open moment a Quits rest k h = absurd (cc h)
-left_open moment a Mistakes rest k h = (cc, λ e. cc)
-left_open moment a Exceeds rest k h = absurd (cc h)
+left_open : (moment : ℕ) (s : Standing) (request : Request) (rest : List ℕ) (k : Waiting) → (answered moment s request rest).next ≡ Some k → (waiting rest false ≡ k) × (request ≡ Exceeds → ⊥)
+left_open moment s (Delivers message) rest k h = (cc, λ e. cc)
+left_open moment s (Shows number) rest k h = (cc, λ e. cc)
+left_open moment s Lists rest k h = (cc, λ e. cc)
+left_open moment s Quits rest k h = absurd (cc h)
+left_open moment s Mistakes rest k h = (cc, λ e. cc)
+left_open moment s Exceeds rest k h = absurd (cc h)
 
-shorter_at : (moment : ℕ) (a : Archive) (bytes k : List ℕ) (x : Ahead) → ahead bytes ≡ x → is_asked x ≡ true → (said_at moment a bytes x Plain).next ≡ Some k → length k < length bytes
-shorter_at moment a bytes k (Asked request rest) is h next =
-    let left = left_open moment a request rest k next in
-    elim (ahead-shorter bytes request rest is) [ inl over ↦ absurd (left.1 over) | inr less ↦ omega (arith, ap length left.0, less) ]
-shorter_at moment a bytes k Unfinished is h next = absurd (cc h)
+shorter_at : (moment : ℕ) (s : Standing) (bytes : List ℕ) (opened : Bool) (k : Waiting) (x : Ahead) → ahead bytes ≡ x → is_asked x ≡ true → (said_at moment s (waiting bytes opened) x Plain).next ≡ Some k → left k < left (waiting bytes opened)
+shorter_at moment s bytes true k (Asked request rest) is h next =
+    let behind = left_open moment s request rest k next in
+    let size : left (waiting rest false) ≡ left k = ap left behind.0 in
+    elim (ahead-shorter bytes request rest is) [ inl over ↦ absurd (behind.1 over) | inr less ↦ omega (arith, size, less) ]
+shorter_at moment s bytes false k (Asked request rest) is h next =
+    let same : waiting bytes true ≡ k = cc in
+    let size : left (waiting bytes true) ≡ left k = ap left same in
+    omega (arith, size)
+shorter_at moment s bytes opened k Unfinished is h next = absurd (cc h)
 
-control_cuts : (moment : ℕ) → CutDoor (said moment) is_request with_piece length
+control_cuts : (moment : ℕ) → CutDoor (said moment) has_request with_piece left
 control_cuts moment = record {
-  request_stays = λ q h asked. goes_request q (ahead h) (ahead (h ++ q)) (ahead-goes h q) asked;
-  said_stays = λ q a h way asked. goes_said moment a h q way (ahead h) (ahead (h ++ q)) (ahead-goes h q) asked;
-  rest_plain = λ a h part. rw (unfinished (ahead h) part) refl;
-  rest_kept = λ a h way part. kept moment a h way (ahead h) (unfinished (ahead h) part);
-  more_joined = λ p q h. append_assoc h p q;
-  shorter = λ a h k asked next. shorter_at moment a h k (ahead h) refl asked next;
+  request_stays = λ q h asked. goes_request q (ahead h.bytes) (ahead (h.bytes ++ q)) (ahead-goes h.bytes q) asked;
+  said_stays = λ q s h way asked. goes_said moment s h.bytes q h.opened way (ahead h.bytes) (ahead (h.bytes ++ q)) (ahead-goes h.bytes q) asked;
+  rest_plain = λ s h part. rw (unfinished (ahead h.bytes) part) refl;
+  rest_kept = λ s h way part. kept moment s h way (ahead h.bytes) (unfinished (ahead h.bytes) part);
+  more_joined = λ p q h. ap (λ (bytes : List ℕ). waiting bytes h.opened) (append_assoc h.bytes p q);
+  shorter = λ s h k asked next. shorter_at moment s h.bytes h.opened k (ahead h.bytes) refl asked next;
 }
+
+-- at a request an opening changes nothing where nothing is in doubt
+opening_first : (moment : ℕ) (a : Archive) (bytes : List ℕ) (n : ℕ) (request : Request) (rest : List ℕ) → ahead bytes ≡ Asked request rest
+    → plain_from (said moment) has_request (suc n) (standing a None) (waiting bytes false) ≡ plain_from (said moment) has_request n (standing a None) (waiting bytes true)
+opening_first moment a bytes n request rest is =
+    ap (λ (b : Bool). if_request b (said moment) (plain_from (said moment) has_request n) (standing a None) (waiting bytes false)) (ap is_asked is)
+    ∙ ap (λ (x : Ahead). then_say (said_at moment (standing a None) (waiting bytes false) x Plain) (plain_from (said moment) has_request n)) is
+
+-- where no request stands, nothing is said
+silent_first : (moment : ℕ) (s : Standing) (w : Waiting) (n : ℕ) → ahead w.bytes ≡ Unfinished → plain_from (said moment) has_request (suc n) s w ≡ silent s w
+silent_first moment s w n is = ap (λ (b : Bool). if_request b (said moment) (plain_from (said moment) has_request n) s w) (ap is_asked is)
+
+-- the sessions that begin a piece with an opening and without one, where so many requests are asked for at most
+opening_at : (moment : ℕ) (a : Archive) (bytes : List ℕ) (n : ℕ) (x : Ahead) → ahead bytes ≡ x
+    → SaysTheSame (plain_from (said moment) has_request (suc (suc n)) (standing a None) (waiting bytes false)) (plain_from (said moment) has_request (suc n) (standing a None) (waiting bytes true))
+opening_at moment a bytes n (Asked request rest) is =
+    let same = opening_first moment a bytes (suc n) request rest is in
+    record { bytes = ap (λ (s : Said Waiting Standing). bytes_of s.next) same; words = ap (λ (s : Said Waiting Standing). s.words) same; after = ap (λ (s : Said Waiting Standing). s.after) same }
+opening_at moment a bytes n Unfinished is =
+    let one = silent_first moment (standing a None) (waiting bytes false) (suc n) is in
+    let other = silent_first moment (standing a None) (waiting bytes true) n is in
+    record {
+      bytes = ap (λ (s : Said Waiting Standing). bytes_of s.next) one ∙ sym (ap (λ (s : Said Waiting Standing). bytes_of s.next) other);
+      words = ap (λ (s : Said Waiting Standing). s.words) one ∙ sym (ap (λ (s : Said Waiting Standing). s.words) other);
+      after = ap (λ (s : Said Waiting Standing). s.after) one ∙ sym (ap (λ (s : Said Waiting Standing). s.after) other);
+    }
+
+opening_silent : OpeningIsSilent
+unfolding plain
+opening_silent moment a bytes =
+    let size : suc (left (waiting bytes true)) ≡ left (waiting bytes false) = omega arith in
+    subst
+    (λ (n : ℕ). SaysTheSame (plain_from (said moment) has_request (suc n) (standing a None) (waiting bytes false)) (plain_from (said moment) has_request (suc (left (waiting bytes true))) (standing a None) (waiting bytes true)))
+    size
+    (opening_at moment a bytes (left (waiting bytes true)) (ahead bytes) refl)
+
+-- at a request a session that isn't opened says what an opening says
+opening_says : (moment : ℕ) (s : Standing) (bytes : List ℕ) (x : Ahead) (way : Way) → is_asked x ≡ true → said_opening s bytes way ≡ said_at moment s (waiting bytes false) x way
+opening_says moment s bytes (Asked request rest) way h = refl
+opening_says moment s bytes Unfinished way h = absurd (cc h)
+
+opening_joins : OpeningJoins
+opening_joins moment bytes s t i j v asked opens fed = (
+  talk (Some (waiting bytes true)) t j ∷ fed.0,
+  fed.1,
+  (
+    (
+      waiting bytes false,
+      asked,
+      record {
+        held = refl;
+        acts = record {
+          way = opens.way;
+          disk_cause = opens.disk_cause;
+          disk_later = opens.disk_later;
+          lost_later = opens.lost_later;
+          sent = subst (λ (x : Said Waiting Standing). Sent x i (Some (waiting bytes true)) t j) (opening_says moment s bytes (ahead bytes) opens.way asked) opens.sent;
+        };
+      },
+    ),
+    fed.2,
+  ),
+  fed.3,
+)
 
 -- the laws
 pub control_laws : ControlLaws
-control_laws moment = door_laws (said moment) is_request with_piece length (control_cuts moment)
+control_laws = record { door = λ moment. door_laws (said moment) has_request with_piece left (control_cuts moment); opening = opening_silent; joins = opening_joins }

@@ -1,11 +1,12 @@
 -- What the control door answers: its session is the bytes that are not answered yet, and its requests read and change an archive.
-use Rattle.std.specs.Prelude.{ℕ, zero, suc, false, List, [], ◌∷◌, ◌++◌, length, codes, decimal, Option, Some, None}
-use Rattle.line_door.specs.Acts.{Said, Way, Plain, Memory, Disk}
+use Rattle.std.specs.Prelude.{◌+◌, ◌*◌, ℕ, zero, suc, Bool, true, false, List, [], ◌∷◌, ◌++◌, length, codes, decimal, Option, Some, None, if◌then◌else◌}
+use Rattle.line_door.specs.Acts.{Said, Way, Plain, Memory, Disk, Newer}
 use Rattle.line_door.specs.Plain.{silent}
 use Rattle.arch_model.specs.Archives.{Entry, Archive, text_of, in_epoch}
 use Rattle.arch_model.specs.Epochs.{epoch_bytes}
 use Rattle.arch_model.specs.Delivery.{Done, delivered, answer_line}
-use Rattle.control_door.specs.Requests.{Request, Delivers, Shows, Lists, Quits, Mistakes, Exceeds, Ahead, Asked, Unfinished, ahead}
+use Rattle.arch_model.specs.Standing.{Standing, standing}
+use Rattle.control_door.specs.Requests.{Request, Delivers, Shows, Lists, Quits, Mistakes, Exceeds, Ahead, Asked, Unfinished, ahead, is_request}
 
 -- a line of a reply ends with a line feed
 abbrev pub reply_line : List ℕ → List ℕ
@@ -13,6 +14,9 @@ reply_line words = words ++ 10 ∷ []
 
 abbrev pub memory_word : List ℕ
 memory_word = reply_line (codes "12 no memory")
+
+abbrev pub disk_word : List ℕ
+disk_word = reply_line (codes "10 disk fault")
 
 abbrev pub bad_word : List ℕ
 bad_word = reply_line (codes "13 bad line")
@@ -40,61 +44,118 @@ listed_below (suc epoch) entries = listed_below epoch entries ++ listed epoch (i
 abbrev pub epochs_words : List Entry → List ℕ
 epochs_words entries = listed_below 64 entries ++ reply_line (codes "end")
 
--- the session goes on with these bytes
-abbrev pub goes_on : List ℕ → List ℕ → Archive → Said (List ℕ) Archive
-goes_on rest words a = record { next = Some rest; words = words; streamed = false; after = a }
+-- A session: its bytes that are not answered yet, and whether the archive was opened again since the last request. Before a request
+-- it is opened again, which does nothing while no command is in doubt.
+pub record Waiting : Type 0 where
+  pub bytes : List ℕ
+  pub opened : Bool
+
+abbrev pub waiting : List ℕ → Bool → Waiting
+waiting bytes opened = record { bytes = bytes; opened = opened }
+
+-- what an act of a session says, and the session and the archive behind it
+abbrev pub Says : Type 0
+Says = Said Waiting Standing
+
+-- the session goes on, with these bytes
+abbrev pub goes_on : List ℕ → List ℕ → Standing → Says
+goes_on rest words s = record { next = Some (waiting rest false); words = words; streamed = false; after = s }
 
 -- the session is closed
-abbrev pub closes : List ℕ → Archive → Said (List ℕ) Archive
-closes words a = record { next = None; words = words; streamed = false; after = a }
+abbrev pub closes : List ℕ → Standing → Says
+closes words s = record { next = None; words = words; streamed = false; after = s }
 
 -- the archive and the line of an answer
-abbrev pub delivers : Done → List ℕ → Said (List ℕ) Archive
-delivers done rest = goes_on rest (reply_line (answer_line done.answer)) done.archive
+abbrev pub delivers : Done → List ℕ → Says
+delivers done rest = goes_on rest (reply_line (answer_line done.answer)) (standing done.archive None)
 
 -- a request at a moment, answered by the rules
-abbrev pub answered : ℕ → Archive → Request → List ℕ → Said (List ℕ) Archive
-answered moment a (Delivers message) rest = delivers (delivered a message moment) rest
-answered moment a (Shows number) rest = goes_on rest (shown number (text_of a.entries number)) a
-answered moment a Lists rest = goes_on rest (epochs_words a.entries) a
-answered moment a Quits rest = closes [] a
-answered moment a Mistakes rest = goes_on rest bad_word a
-answered moment a Exceeds rest = closes bad_word a
+abbrev pub answered : ℕ → Standing → Request → List ℕ → Says
+answered moment s (Delivers message) rest = delivers (delivered s.archive message moment) rest
+answered moment s (Shows number) rest = goes_on rest (shown number (text_of s.archive.entries number)) s
+answered moment s Lists rest = goes_on rest (epochs_words s.archive.entries) s
+answered moment s Quits rest = closes [] s
+answered moment s Mistakes rest = goes_on rest bad_word s
+answered moment s Exceeds rest = closes bad_word s
 
--- A delivery for which there is no memory leaves the archive as it was, and the list of the epochs is said whole or not at all.
--- Nothing else wants memory.
-abbrev pub refused_memory : ℕ → Archive → Request → List ℕ → Said (List ℕ) Archive
-refused_memory moment a (Delivers message) rest = goes_on rest memory_word a
-refused_memory moment a (Shows number) rest = answered moment a (Shows number) rest
-refused_memory moment a Lists rest = goes_on rest memory_word a
-refused_memory moment a Quits rest = answered moment a Quits rest
-refused_memory moment a Mistakes rest = answered moment a Mistakes rest
-refused_memory moment a Exceeds rest = answered moment a Exceeds rest
+-- A delivery for which there is no memory leaves the archive as it was; a text and the list of the epochs are said whole or not at
+-- all. Nothing else wants memory.
+abbrev pub refused_memory : ℕ → Standing → Request → List ℕ → Says
+refused_memory moment s (Delivers message) rest = goes_on rest memory_word s
+refused_memory moment s (Shows number) rest = goes_on rest memory_word s
+refused_memory moment s Lists rest = goes_on rest memory_word s
+refused_memory moment s Quits rest = answered moment s Quits rest
+refused_memory moment s Mistakes rest = answered moment s Mistakes rest
+refused_memory moment s Exceeds rest = answered moment s Exceeds rest
 
-abbrev pub said_to : ℕ → Archive → Request → List ℕ → Way → Said (List ℕ) Archive
-said_to moment a request rest Plain = answered moment a request rest
-said_to moment a request rest Memory = refused_memory moment a request rest
-said_to moment a request rest Disk = answered moment a request rest
+-- Behind a delivery that the disk failed it isn't known whether it was done. A text and the list of the epochs are said whole or not
+-- at all. Nothing else asks the disk.
+abbrev pub refused_disk : ℕ → Standing → Request → List ℕ → Says
+refused_disk moment s (Delivers message) rest = goes_on rest disk_word (standing s.archive (Some (delivered s.archive message moment).archive))
+refused_disk moment s (Shows number) rest = goes_on rest disk_word s
+refused_disk moment s Lists rest = goes_on rest disk_word s
+refused_disk moment s Quits rest = answered moment s Quits rest
+refused_disk moment s Mistakes rest = answered moment s Mistakes rest
+refused_disk moment s Exceeds rest = answered moment s Exceeds rest
+
+abbrev pub said_to : ℕ → Standing → Request → List ℕ → Way → Says
+said_to moment s request rest Plain = answered moment s request rest
+said_to moment s request rest Memory = refused_memory moment s request rest
+said_to moment s request rest Disk = refused_disk moment s request rest
+said_to moment s request rest Newer = answered moment s request rest
+
+abbrev pub newer_of : Archive → Option Archive → Archive
+newer_of a None = a
+newer_of a (Some b) = b
+
+-- the archive that is in doubt, where there is one
+abbrev pub newer : Standing → Archive
+newer s = newer_of s.archive s.doubt
+
+-- an opening again found this archive, and nothing is in doubt
+abbrev pub opens : Archive → List ℕ → Says
+opens a bytes = record { next = Some (waiting bytes true); words = []; streamed = false; after = standing a None }
+
+-- An opening again finds the older archive or the one in doubt; or there is no memory for it, or the disk fails, which closes.
+abbrev pub said_opening : Standing → List ℕ → Way → Says
+said_opening s bytes Plain = opens s.archive bytes
+said_opening s bytes Newer = opens (newer s) bytes
+said_opening s bytes Memory = closes memory_word s
+said_opening s bytes Disk = closes disk_word s
 
 -- where there is no memory for the beginning of a request, the word for that closes; an empty rest wants no memory
-abbrev pub unkept : Archive → List ℕ → Said (List ℕ) Archive
-unkept a [] = silent a []
-unkept a (byte ∷ bytes) = closes memory_word a
+abbrev pub unkept : Standing → Waiting → List ℕ → Says
+unkept s w [] = silent s w
+unkept s w (byte ∷ bytes) = closes memory_word s
 
 -- the beginning of a request is kept without a word, or there is no memory for it
-abbrev pub said_keeping : Archive → List ℕ → Way → Said (List ℕ) Archive
-said_keeping a bytes Plain = silent a bytes
-said_keeping a bytes Memory = unkept a bytes
-said_keeping a bytes Disk = silent a bytes
+abbrev pub said_keeping : Standing → Waiting → Way → Says
+said_keeping s w Plain = silent s w
+said_keeping s w Memory = unkept s w w.bytes
+said_keeping s w Disk = silent s w
+said_keeping s w Newer = silent s w
 
-abbrev pub said_at : ℕ → Archive → List ℕ → Ahead → Way → Said (List ℕ) Archive
-said_at moment a bytes (Asked request rest) way = said_to moment a request rest way
-said_at moment a bytes Unfinished way = said_keeping a bytes way
+-- at a whole request the archive is opened again, and then the request is answered
+abbrev pub said_asked : Bool → ℕ → Standing → List ℕ → Request → List ℕ → Way → Says
+said_asked true moment s bytes request rest way = said_to moment s request rest way
+said_asked false moment s bytes request rest way = said_opening s bytes way
 
--- what the door says at a moment to a session with these bytes
-abbrev pub said : ℕ → Archive → List ℕ → Way → Said (List ℕ) Archive
-said moment a bytes way = said_at moment a bytes (ahead bytes) way
+abbrev pub said_at : ℕ → Standing → Waiting → Ahead → Way → Says
+said_at moment s w (Asked request rest) way = said_asked w.opened moment s w.bytes request rest way
+said_at moment s w Unfinished way = said_keeping s w way
+
+-- what the door says at a moment to a session
+abbrev pub said : ℕ → Standing → Waiting → Way → Says
+said moment s w way = said_at moment s w (ahead w.bytes) way
+
+-- whether a whole request stands at the front of a session
+abbrev pub has_request : Waiting → Bool
+has_request w = is_request w.bytes
 
 -- a piece stands behind the bytes of a session
-abbrev pub with_piece : List ℕ → List ℕ → List ℕ
-with_piece piece bytes = bytes ++ piece
+abbrev pub with_piece : List ℕ → Waiting → Waiting
+with_piece piece w = waiting (w.bytes ++ piece) w.opened
+
+-- how much of a session is left: each request makes it smaller, and so does the opening before one
+abbrev pub left : Waiting → ℕ
+left w = 2 * length w.bytes + (if w.opened then 0 else 1)

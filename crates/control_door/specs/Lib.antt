@@ -1,5 +1,6 @@
 pub mod Orders
 pub mod Requests
 pub mod Door
+pub mod Refusals
 pub mod Sessions
 pub mod Laws

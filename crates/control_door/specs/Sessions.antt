@@ -1,15 +1,20 @@
--- What a session holds between pieces, and what one act of it is.
-use Rattle.std.specs.Prelude.{◌≡◌, ◌+◌, ◌<◌, ◌≤◌, ℕ, true, false, List, ◌++◌, length, drop, Option, Some, None}
+-- What a session holds between pieces, what stands ahead of it, and what one act of it is.
+use Rattle.std.specs.Prelude.{◌≡◌, ◌+◌, ◌<◌, ◌≤◌, ℕ, Bool, true, false, List, ◌++◌, length, drop, Option, Some, None}
 use Rattle.line_door.specs.Lines as line
-use Rattle.line_door.specs.Acts.{Outside, Acts}
+use Rattle.line_door.specs.Acts.{Outside, Acts, held_if}
 use Rattle.arch_model.specs.Archives.{Archive}
+use Rattle.arch_model.specs.Standing.{Standing, standing, Fits}
 use Rattle.control_door.specs.Orders.{order_of}
-use Rattle.control_door.specs.Requests.{line_limit, is_request}
-use Rattle.control_door.specs.Door.{said}
+use Rattle.control_door.specs.Requests.{Request, Delivers, Shows, Lists, Quits, Mistakes, Exceeds, Asked, ahead, line_limit, is_request}
+use Rattle.control_door.specs.Door.{waiting, said, said_to, said_opening}
 use Rattle.control_door.specs.declared.order.Order.TheVariants.{Deliver}
-use Rattle.control_door.specs.declared.session.Payload.{Payload}
+use Rattle.control_door.specs.declared.next.Payload.{Payload}
+use Rattle.control_door.specs.declared.next.Requested.{Requested}
+use Rattle.control_door.specs.declared.next.Requested.TheVariants as requested
+use Rattle.control_door.specs.declared.next.Next.{Next}
+use Rattle.control_door.specs.declared.next.Next.TheVariants as next
 use Rattle.control_door.specs.declared.session.Turn.{Turn}
-use Rattle.control_door.specs.declared.session.Turn.TheVariants.{Went, Kept, Closed}
+use Rattle.control_door.specs.declared.session.Turn.TheVariants.{Opened, Went, Kept, Closed}
 
 -- what is held is the beginning of a delivery, whose message stands from `start` on and ends at `end`
 pub record IsPayload (bytes : List ℕ) (start end : ℕ) : Type 0 where
@@ -27,10 +32,70 @@ abbrev pub IsHeld : List ℕ → Option Payload → Type 0
 IsHeld bytes None = line.front line_limit bytes ≡ line.Partial
 IsHeld bytes (Some payload) = IsPayload bytes payload.start payload.end
 
--- one act on the bytes ahead: a request that took so many bytes of the piece and left the session open, the keeping of the
--- piece, or the close
-abbrev pub IsTurn : ℕ → Archive → List ℕ → List ℕ → Outside → Turn → Archive → List ℕ → Outside → Type 0
-IsTurn moment a old piece i (Went n) b new j =
-    (0 < n) × (n ≤ length piece) × (is_request (old ++ piece) ≡ true) × Acts (said moment a (old ++ piece)) i (Some (new ++ drop n piece)) b j
-IsTurn moment a old piece i Kept b new j = (is_request (old ++ piece) ≡ false) × Acts (said moment a (old ++ piece)) i (Some new) b j
-IsTurn moment a old piece i Closed b new j = Acts (said moment a (old ++ piece)) i None b j
+-- the request that was found, where so much is held
+abbrev pub request_of : List ℕ → Requested → Request
+request_of held (requested.Message message) = Delivers message.now
+request_of held (requested.Joined start last) = Delivers (drop start (held ++ last.now))
+request_of held (requested.Text number) = Shows number
+request_of held requested.Epochs = Lists
+request_of held requested.Quit = Quits
+request_of held requested.Mistake = Mistakes
+request_of held requested.Excess = Exceeds
+
+-- a message that was begun begins within what is held
+abbrev pub StartsWithin : List ℕ → Requested → Type 0
+StartsWithin held (requested.Message message) = Unit {0}
+StartsWithin held (requested.Joined start last) = start ≤ length held
+StartsWithin held (requested.Text number) = Unit {0}
+StartsWithin held requested.Epochs = Unit {0}
+StartsWithin held requested.Quit = Unit {0}
+StartsWithin held requested.Mistake = Unit {0}
+StartsWithin held requested.Excess = Unit {0}
+
+-- a whole request stands ahead, which takes so many bytes of the piece
+pub record IsRequested (held piece : List ℕ) (request : Requested) (taken : ℕ) : Type 0 where
+  pub some : 0 < taken
+  pub within : taken ≤ length piece
+  pub starts : StartsWithin held request
+  pub stands : ahead (held ++ piece) ≡ Asked (request_of held request) (drop taken piece)
+
+-- what stands ahead: the beginning of a request, or a whole one
+abbrev pub IsNext : List ℕ → List ℕ → Next → Type 0
+IsNext held piece (next.Rest payload) = IsHeld (held ++ piece) payload
+IsNext held piece (next.Whole request taken) = IsRequested held piece request taken
+
+-- one act on the bytes ahead, before which the archive was opened again or not: that opening, a request that took so many bytes of
+-- the piece and left the session open, the keeping of the piece, or the close
+abbrev pub IsTurn : ℕ → Bool → Standing → List ℕ → List ℕ → Outside → Turn → Standing → List ℕ → Outside → Type 0
+IsTurn moment opened s old piece i Opened t new j =
+    (is_request (old ++ piece) ≡ true) × Acts (said moment s (waiting (old ++ piece) opened)) i (Some (waiting (new ++ piece) true)) t j
+IsTurn moment opened s old piece i (Went n) t new j =
+    (is_request (old ++ piece) ≡ true) × Acts (said moment s (waiting (old ++ piece) opened)) i (Some (waiting (new ++ drop n piece) false)) t j
+IsTurn moment opened s old piece i Kept t new j =
+    (is_request (old ++ piece) ≡ false) × Acts (said moment s (waiting (old ++ piece) opened)) i (Some (waiting new opened)) t j
+IsTurn moment opened s old piece i Closed t new j = Acts (said moment s (waiting (old ++ piece) opened)) i None t j
+
+-- an opening comes only where there was none, and a request takes bytes of the piece
+abbrev pub Takes : Bool → List ℕ → Turn → Type 0
+Takes opened piece Opened = opened ≡ false
+Takes opened piece (Went n) = (0 < n) × (n ≤ length piece)
+Takes opened piece Kept = Unit {0}
+Takes opened piece Closed = Unit {0}
+
+-- A keeper of archives: which archives it holds, whether it has to be opened again, its moment, and what each crash since a moment
+-- has left.
+module _ {K : Type 0} (holds : K → Archive → Type 0) (stale : K → Bool) (clock : K → ℕ) (leaves : K → ℕ → List (Option Archive) → Type 0) where
+  -- whichever archive is held, a request to it is answered, and the keeper stands as that leaves it
+  abbrev pub Answers : ℕ → Request → K → Outside → Bool → K → Outside → Type 0
+  Answers moment request old i goes_on new j =
+      (a : Archive) (rest : List ℕ) → holds old a → (t : Standing) × Fits holds stale clock leaves new t × Acts (said_to moment (standing a None) request rest) i (held_if goes_on (waiting rest false)) t j
+
+  -- however the keeper stands, it is opened again, or that is refused
+  abbrev pub Opens : K → Outside → Bool → K → Outside → Type 0
+  Opens old i opened new j =
+      (s : Standing) (bytes : List ℕ) → Fits holds stale clock leaves old s → (t : Standing) × Fits holds stale clock leaves new t × Acts (said_opening s bytes) i (held_if opened (waiting bytes true)) t j
+
+  -- however the keeper stands, one act is done, and it stands as that leaves it
+  abbrev pub Turns : ℕ → Bool → List ℕ → List ℕ → K → Outside → Turn → List ℕ → K → Outside → Type 0
+  Turns moment opened held piece old i turn left new j =
+      (s : Standing) → Fits holds stale clock leaves old s → (t : Standing) × Fits holds stale clock leaves new t × IsTurn moment opened s held piece i turn t left j

@@ -1,7 +1,10 @@
 //! The control door: a connection over which messages are delivered and shown, and the epochs listed.
 #![tactic(auto)]
 
+mod answers;
+mod epochs;
 mod laws;
+mod next;
 mod order;
 mod replies;
 mod session;

@@ -1,21 +1,17 @@
 //! Replies of the control door. Each of their lines ends with a line feed.
-ghost use Rattle.std.specs.Prelude.{◌≡◌, ◌++◌, ◌∷◌, [], codes, decimal, option_copied, IfOk, OnOk};
+ghost use Rattle.std.specs.Prelude.{◌≡◌, ◌++◌, ◌∷◌, [], codes, decimal, Some, None};
 ghost use Rattle.hex.specs.Hex.{encode_lower};
 ghost use Rattle.line_door.specs.Phrases.{Says};
-ghost use Rattle.arch_model.specs.Archives.{in_epoch};
 ghost use Rattle.arch_model.specs.Delivery.{answer_line, file_words};
-ghost use Rattle.control_door.specs.Door.{reply_line, bad_word, memory_word, shown, listed, epochs_words};
+ghost use Rattle.control_door.specs.Door.{reply_line, bad_word, memory_word, disk_word, shown};
+ghost use Rattle.control_door.specs.Refusals.{unread_words, unopened_words};
 
-use arch_base::{Bytes, NoMemory, ObjectId, hex_of};
-use arch_model::{Answer, MemArchive};
+use arch_base::{ObjectId, hex_of};
+use arch_model::{Answer, OpenRefusal, TextRefusal};
 use disk_model::{FileKind, FileName};
 use edge_io::Sink;
 use itoa::Buffer;
 use line_door::{say, say_line};
-use std::alloc::Global;
-
-/// So many epochs there may be.
-const EPOCHS: u32 = 64;
 
 /// Says that a line is no order. It answers whether all was taken.
 pub(crate) fn say_bad<O: Sink>(out: &mut O) -> bool
@@ -31,6 +27,53 @@ pub(crate) fn say_memory<O: Sink>(out: &mut O) -> bool
     ensures sink { O.alike out.old out.new }
 {
     say_line(b"12 no memory", out)
+}
+
+/// Says that the disk failed.
+pub(crate) fn say_disk<O: Sink>(out: &mut O) -> bool
+    ensures said { Says disk_word (O.taken out.old) (O.faults out.old) (O.taken out.new) (O.faults out.new) result }
+    ensures sink { O.alike out.old out.new }
+{
+    say_line(b"10 disk fault", out)
+}
+
+/// Says why a text, or an epoch, was not read.
+pub(crate) fn say_unread<O: Sink>(refusal: TextRefusal, out: &mut O) -> bool
+    ensures said { Says (unread_words refusal) (O.taken out.old) (O.faults out.old) (O.taken out.new) (O.faults out.new) result }
+    ensures sink { O.alike out.old out.new }
+{
+    match refusal {
+        TextRefusal::DiskFault => say_disk(out),
+        TextRefusal::Damaged { named, found } => say_other_text(&named, &found, out),
+        TextRefusal::NoMemory => say_memory(out),
+    }
+}
+
+/// Says that a text is damaged: its id, and the id of what stands there.
+fn say_other_text<O: Sink>(named: &ObjectId, found: &ObjectId, out: &mut O) -> bool
+    ensures said { Says (reply_line (codes "11 damaged " ++ (encode_lower named.now.0 ++ 32 ∷ encode_lower found.now.0))) (O.taken out.old) (O.faults out.old) (O.taken out.new) (O.faults out.new) result }
+    ensures sink { O.alike out.old out.new }
+{
+    if !say(b"11 damaged ", out) {
+        return false;
+    }
+    if !say(&hex_of(named), out) {
+        return false;
+    }
+    say_id(found, out)
+}
+
+/// Says why an archive was not opened again.
+pub(crate) fn say_unopened<O: Sink>(refusal: OpenRefusal, out: &mut O) -> bool
+    ensures said { Says (unopened_words refusal) (O.taken out.old) (O.faults out.old) (O.taken out.new) (O.faults out.new) result }
+    ensures sink { O.alike out.old out.new }
+{
+    match refusal {
+        OpenRefusal::NoArchive => say_line(b"11 damaged root 0", out),
+        OpenRefusal::Damaged { file, at } => say_damaged(file, at, out),
+        OpenRefusal::DiskFault => say_disk(out),
+        OpenRefusal::NoMemory => say_memory(out),
+    }
 }
 
 /// Says the line of an answer, with its line feed. It answers whether all was taken.
@@ -104,19 +147,16 @@ fn say_epoch<O: Sink>(number: u32, out: &mut O) -> bool
     say(buffer.format(number).as_bytes(), out)
 }
 
-/// Says the text of a number, behind a line with its length; or that the number has none.
-pub(crate) fn say_shown<O: Sink>(number: u32, text: Option<&[u8]>, out: &mut O) -> bool
-    ensures said { Says (shown number (option_copied text.entry)) (O.taken out.old) (O.faults out.old) (O.taken out.new) (O.faults out.new) result }
+/// Says that a number has no text.
+pub(crate) fn say_not_live<O: Sink>(number: u32, out: &mut O) -> bool
+    ensures said { Says (shown number None) (O.taken out.old) (O.faults out.old) (O.taken out.new) (O.faults out.new) result }
     ensures sink { O.alike out.old out.new }
 {
-    match text {
-        None => say_number(b"7 not live ", u64::from(number), out),
-        Some(text) => say_text(text, out),
-    }
+    say_number(b"7 not live ", u64::from(number), out)
 }
 
 /// Says a text, behind a line with its length.
-fn say_text<O: Sink>(text: &[u8], out: &mut O) -> bool
+pub(crate) fn say_text<O: Sink>(text: &[u8], out: &mut O) -> bool
     ensures said { Says (shown 0 (Some text.now)) (O.taken out.old) (O.faults out.old) (O.taken out.new) (O.faults out.new) result }
     ensures sink { O.alike out.old out.new }
 {
@@ -150,41 +190,6 @@ fn say_id<O: Sink>(id: &ObjectId, out: &mut O) -> bool
         return false;
     }
     say_line(&hex_of(id), out)
-}
-
-/// The words that list the epochs of an archive. They are made whole before any is said.
-pub(crate) fn epochs_of(alloc: Global, archive: &MemArchive) -> Result<Bytes, NoMemory>
-    ensures { IfOk result (λ words. words ≡ epochs_words archive.now.entries) }
-{
-    let mut words = Bytes::new(alloc);
-    for epoch in 0..EPOCHS {
-        push_listed(alloc, epoch, archive, &mut words)?;
-    }
-    words.push_slice(b"end\n")?;
-    Ok(words)
-}
-
-/// Puts the words of an epoch behind others, where it has an entry. For want of memory a part may be put there.
-fn push_listed(
-    alloc: Global,
-    epoch: u32,
-    archive: &MemArchive,
-    into: &mut Bytes,
-) -> Result<(), NoMemory>
-    ensures { OnOk result (into.new ≡ into.old ++ listed epoch (in_epoch archive.now.entries epoch)) }
-{
-    let mut bytes = Bytes::new(alloc);
-    if !archive.push_epoch(epoch, &mut bytes)? {
-        return Ok(());
-    }
-    let mut buffer = Buffer::new();
-    into.push_slice(b"epoch ")?;
-    into.push_slice(buffer.format(epoch).as_bytes())?;
-    into.push_slice(b" ")?;
-    into.push_slice(buffer.format(bytes.as_slice().len()).as_bytes())?;
-    into.push_slice(b"\n")?;
-    into.push_slice(bytes.as_slice())?;
-    into.push_slice(b"\n")
 }
 
 /// Says words, a number in digits and a line feed. It answers whether all was taken.

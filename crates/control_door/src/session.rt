@@ -1,35 +1,33 @@
 //! One control connection: the bytes that it has not answered yet, and the answer to a piece.
-ghost use Rattle.std.specs.Prelude.{◌≡◌, ◌+◌, ◌<◌, ◌≤◌, ℕ, List, [], ◌++◌, ◌∷◌, length, take, drop, true, false, Option, Some, None, if◌then◌else◌};
-ghost use Rattle.line_door.specs.Lines.{front, Partial, Whole, content};
-ghost use Rattle.line_door.specs.Acts.{outside, Acts, held_if};
+ghost use Rattle.std.specs.Prelude.{◌≡◌, ◌⊎◌, ◌+◌, ◌<◌, ◌≤◌, ℕ, List, [], ◌++◌, ◌∷◌, length, take, drop, Bool, true, false, Option, Some, None, if◌then◌else◌};
+ghost use Rattle.line_door.specs.Lines.{front, Whole, content};
+ghost use Rattle.line_door.specs.Acts.{outside, held_if};
 ghost use Rattle.line_door.specs.Course.{talk, Fed};
-ghost use Rattle.arch_model.specs.Archives.{Archive};
+ghost use Rattle.arch_model.specs.Validity.{last_moment};
+ghost use Rattle.arch_model.specs.Standing.{Standing, Fits};
 ghost use Rattle.control_door.specs.Orders.{order_of};
-ghost use Rattle.control_door.specs.Requests.{line_limit, is_request, Delivers, Shows, Lists};
-ghost use Rattle.control_door.specs.Door.{said as said_of, said_to, said_keeping};
+ghost use Rattle.control_door.specs.Requests.{line_limit};
+ghost use Rattle.control_door.specs.Door.{waiting, said as said_of, has_request};
 
+use crate::answers::{open_again, say_requested};
+use crate::next::{Next, Payload, Requested};
 use crate::order::{Order, read_order};
-use crate::replies::{epochs_of, say_answer, say_bad, say_memory, say_shown};
-use arch_base::{Bytes, NoMemory};
-use arch_model::{Command, MemArchive};
+use crate::replies::say_memory;
+use arch_base::Bytes;
+use arch_model::Keep;
 use edge_io::Sink;
-use line_door::{Ahead, line_content, next_in, say};
+use line_door::{Ahead, line_content, next_in};
 use std::alloc::Global;
 use std::marker::Model;
 
 /// The most octets of a line with its line end.
 const LINE_LIMIT: usize = 512;
 
-/// Where the message stands in what a session holds of a delivery: from `start` on, before `end`.
-#[derive(Clone, Copy, Debug, Drop)]
-pub(crate) struct Payload {
-    pub(crate) start: usize,
-    pub(crate) end: usize,
-}
-
 /// What an act on the bytes ahead came to.
 #[derive(Clone, Copy, Debug, Drop)]
 pub(crate) enum Turn {
+    /// The archive was opened again, or nothing was in doubt.
+    Opened,
     /// A request that took so many bytes of the piece was answered, and the session goes on.
     Went(usize),
     /// The piece is kept behind what was held.
@@ -58,7 +56,7 @@ impl Model for Session {
 }
 
 impl Session {
-    ghost use Rattle.control_door.specs.Sessions.{IsTurn, IsHeld, IsPayload};
+    ghost use Rattle.control_door.specs.Sessions.{IsTurn, IsHeld, IsPayload, IsNext, Turns, Takes};
 
     /// A session without a byte. The control door has no greeting.
     pub fn open(alloc: Global) -> Session
@@ -72,71 +70,92 @@ impl Session {
     }
 
     /// Answers the whole requests of a piece at a moment, in seconds since 1970, one by one, and keeps the rest. It answers
-    /// whether the session goes on.
+    /// whether the session goes on. What keeps the archive has been opened; before each request but the first it is opened
+    /// again, which does nothing while no command is in doubt.
     ///
     /// It ends, and what stands behind is dropped, at `quit`, which writes nothing; at a line of more than 512 octets with
     /// its line end, and at `deliver` with a SIZE above 9,000,000, which write `13 bad line`; where there is no memory for a
-    /// rest that isn't empty, which writes `12 no memory`; and where words weren't taken whole: a prefix of them was, the
-    /// sink's count of faults rose, and what the request changed stays. Nothing is then said of what the session holds.
+    /// rest that isn't empty, which writes `12 no memory`; where the archive can't be opened again, which writes `12 no memory`
+    /// or `10 disk fault`, and `11 damaged` with a file only where no archive is kept; and where words weren't taken whole: a prefix of them was, the sink's count of faults rose, and
+    /// what the request changed stays. Nothing is then said of what the session holds.
     ///
-    /// A delivery or a list of the epochs for which there is no memory writes `12 no memory` and leaves the archive as it was,
-    /// and the session goes on.
-    pub fn feed<O: Sink>(
+    /// A delivery, a text or a list of the epochs for which there is no memory writes `12 no memory` and leaves the archive as
+    /// it was; one at which the disk failed writes `10 disk fault`, and the count of faults of what keeps the archive rose. The
+    /// session goes on. Only opening the archive again shows whether such a delivery was done.
+    pub fn feed<K: Keep, O: Sink>(
         &mut self,
         piece: &[u8],
         moment: u64,
-        archive: &mut MemArchive,
+        keep: &mut K,
         out: &mut O,
     ) -> bool
-        ensures fed { Fed (said_of moment) is_request
-            (talk (Some (self.old ++ piece.now)) archive.old (outside (O.taken out.old) 0 (O.faults out.old)))
-            (talk (held_if result self.new) archive.new (outside (O.taken out.new) 0 (O.faults out.new))) }
+        requires ready { K.stale keep.old ≡ false }
+        requires moment { moment ≤ last_moment }
+        ensures fed { (s : Standing) → Fits K.holds K.stale K.clock K.leaves keep.old s →
+            (t : Standing) × (opened : Bool) × Fits K.holds K.stale K.clock K.leaves keep.new t
+            × Fed (said_of moment) has_request
+            (talk (Some (waiting (self.old ++ piece.now) true)) s (outside (O.taken out.old) (K.faults keep.old) (O.faults out.old)))
+            (talk (held_if result (waiting self.new opened)) t (outside (O.taken out.new) (K.faults keep.new) (O.faults out.new))) }
+        ensures later { K.faults keep.old ≤ K.faults keep.new }
         ensures sink { O.alike out.old out.new }
     {
         let mut rest = piece;
+        let mut opened = true;
         loop {
-            match self.act(rest, moment, archive, out) {
-                Turn::Went(taken) => rest = rest.split_at(taken).1,
+            match self.act(rest, opened, moment, keep, out) {
+                Turn::Opened => opened = true,
+                Turn::Went(taken) => {
+                    rest = rest.split_at(taken).1;
+                    opened = false;
+                }
                 Turn::Kept => return true,
                 Turn::Closed => return false,
             }
         }
     }
 
-    /// One act on the bytes ahead.
-    fn act<O: Sink>(
+    /// One act on the bytes ahead: a whole request is answered only where the archive was opened again right before.
+    fn act<K: Keep, O: Sink>(
         &mut self,
         piece: &[u8],
+        opened: bool,
         moment: u64,
-        archive: &mut MemArchive,
+        keep: &mut K,
         out: &mut O,
     ) -> Turn
-        ensures turn { IsTurn moment archive.old self.old piece.now
-            (outside (O.taken out.old) 0 (O.faults out.old))
-            result archive.new self.new
-            (outside (O.taken out.new) 0 (O.faults out.new)) }
+        requires ready { opened ≡ true → K.stale keep.old ≡ false }
+        requires moment { moment ≤ last_moment }
+        ensures turn { Turns K.holds K.stale K.clock K.leaves moment opened self.old piece.now keep.old
+            (outside (O.taken out.old) (K.faults keep.old) (O.faults out.old))
+            result self.new keep.new
+            (outside (O.taken out.new) (K.faults keep.new) (O.faults out.new)) }
+        ensures takes { Takes opened piece.now result }
+        ensures ready { result ≡ Turn.Opened → K.stale keep.new ≡ false }
+        ensures later { K.faults keep.old ≤ K.faults keep.new }
         ensures sink { O.alike out.old out.new }
     {
-        if let Some(payload) = self.payload {
-            return self.go_on(payload, piece, moment, archive, out);
-        }
-        match next_in(self.held.as_slice(), piece, LINE_LIMIT) {
-            Ahead::More => self.keep(piece, None, out),
-            Ahead::Long => {
-                let _ = say_bad(out);
-                Turn::Closed
+        match self.next(piece) {
+            Next::Rest(payload) => self.hold(piece, payload, out),
+            Next::Whole(request, taken) => {
+                if !opened {
+                    return reopened(open_again(keep, out));
+                }
+                let goes_on = say_requested(request, self.alloc, &mut self.held, moment, keep, out);
+                self.held.truncate(0);
+                self.payload = None;
+                went(taken, goes_on)
             }
-            Ahead::Line(len) => self.line(len, piece, moment, archive, out),
         }
     }
 
     /// Keeps a piece of a request whose end isn't there. An empty piece wants no memory.
-    fn keep<O: Sink>(&mut self, piece: &[u8], payload: Option<Payload>, out: &mut O) -> Turn
+    fn hold<O: Sink>(&mut self, piece: &[u8], payload: Option<Payload>, out: &mut O) -> Turn
         requires { IsHeld (self.old ++ piece.now) payload }
-        ensures turn { (moment : ℕ) (a : Archive) → IsTurn moment a self.old piece.now
-            (outside (O.taken out.old) 0 (O.faults out.old))
-            result a self.new
-            (outside (O.taken out.new) 0 (O.faults out.new)) }
+        ensures turn { (moment disk : ℕ) (opened : Bool) (s : Standing) → IsTurn moment opened s self.old piece.now
+            (outside (O.taken out.old) disk (O.faults out.old))
+            result s self.new
+            (outside (O.taken out.new) disk (O.faults out.new)) }
+        ensures ends { (result ≡ Turn.Kept) ⊎ (result ≡ Turn.Closed) }
         ensures sink { O.alike out.old out.new }
     {
         if piece.is_empty() {
@@ -151,171 +170,85 @@ impl Session {
         Turn::Kept
     }
 
-    /// Answers the line that ends at a byte of the piece, or keeps the piece where the line's message isn't whole.
-    fn line<O: Sink>(
-        &mut self,
-        len: usize,
-        piece: &[u8],
-        moment: u64,
-        archive: &mut MemArchive,
-        out: &mut O,
-    ) -> Turn
-        requires within { len < length piece.now }
-        requires short { length self.old + len < line_limit }
-        requires line { front line_limit (self.old ++ piece.now) ≡ Whole (self.old ++ take len piece.now) (drop (len + 1) piece.now) }
-        ensures turn { IsTurn moment archive.old self.old piece.now
-            (outside (O.taken out.old) 0 (O.faults out.old))
-            result archive.new self.new
-            (outside (O.taken out.new) 0 (O.faults out.new)) }
-        ensures sink { O.alike out.old out.new }
+    /// What stands ahead where a piece is behind what is held.
+    fn next<'a>(&self, piece: &'a [u8]) -> Next<'a>
+        ensures { IsNext self.now piece.now result }
     {
-        let said = match line_order(self.held.as_slice(), &piece[..len]) {
-            Order::Deliver(size) => return self.message(size, len, piece, moment, archive, out),
-            Order::Show(number) => say_shown(number, archive.text(number), out),
-            Order::Epochs => say_epochs(self.alloc, archive, out),
-            Order::Bad => say_bad(out),
-            Order::TooMuch => {
-                let _ = say_bad(out);
-                return Turn::Closed;
-            }
-            Order::Quit => return Turn::Closed,
-        };
-        self.clear();
-        went(len + 1, said)
+        if let Some(payload) = self.payload {
+            return self.joined(payload, piece);
+        }
+        match next_in(self.held.as_slice(), piece, LINE_LIMIT) {
+            Ahead::More => Next::Rest(None),
+            Ahead::Long => Next::Whole(Requested::Excess, piece.len()),
+            Ahead::Line(len) => self.line(len, piece),
+        }
     }
 
-    /// Delivers the message behind a line that ends at a byte of the piece, or keeps the piece where the message isn't whole.
-    fn message<O: Sink>(
-        &mut self,
-        size: u32,
-        len: usize,
-        piece: &[u8],
-        moment: u64,
-        archive: &mut MemArchive,
-        out: &mut O,
-    ) -> Turn
+    /// What stands ahead where the beginning of a delivery is held.
+    fn joined<'a>(&self, payload: Payload, piece: &'a [u8]) -> Next<'a>
+        requires { IsPayload self.now payload.start payload.end }
+        ensures { IsNext self.now piece.now result }
+    {
+        let missing = payload.end - self.held.as_slice().len();
+        if piece.len() < missing {
+            return Next::Rest(Some(payload));
+        }
+        let last = piece.split_at(missing).0;
+        Next::Whole(Requested::Joined(payload.start, last), missing)
+    }
+
+    /// What stands ahead where a line ends at a byte of the piece.
+    fn line<'a>(&self, len: usize, piece: &'a [u8]) -> Next<'a>
         requires within { len < length piece.now }
-        requires short { length self.old + len < line_limit }
-        requires line { front line_limit (self.old ++ piece.now) ≡ Whole (self.old ++ take len piece.now) (drop (len + 1) piece.now) }
-        requires order { order_of (content (self.old ++ take len piece.now)) ≡ Order.Deliver size }
-        ensures turn { IsTurn moment archive.old self.old piece.now
-            (outside (O.taken out.old) 0 (O.faults out.old))
-            result archive.new self.new
-            (outside (O.taken out.new) 0 (O.faults out.new)) }
-        ensures sink { O.alike out.old out.new }
+        requires short { length self.now + len < line_limit }
+        requires line { front line_limit (self.now ++ piece.now) ≡ Whole (self.now ++ take len piece.now) (drop (len + 1) piece.now) }
+        ensures { IsNext self.now piece.now result }
+    {
+        match line_order(self.held.as_slice(), &piece[..len]) {
+            Order::Deliver(size) => self.message(size, len, piece),
+            Order::TooMuch => Next::Whole(Requested::Excess, len + 1),
+            Order::Show(number) => Next::Whole(Requested::Text(number), len + 1),
+            Order::Epochs => Next::Whole(Requested::Epochs, len + 1),
+            Order::Quit => Next::Whole(Requested::Quit, len + 1),
+            Order::Bad => Next::Whole(Requested::Mistake, len + 1),
+        }
+    }
+
+    /// What stands ahead where a line that ends at a byte of the piece announces a message.
+    fn message<'a>(&self, size: u32, len: usize, piece: &'a [u8]) -> Next<'a>
+        requires within { len < length piece.now }
+        requires short { length self.now + len < line_limit }
+        requires line { front line_limit (self.now ++ piece.now) ≡ Whole (self.now ++ take len piece.now) (drop (len + 1) piece.now) }
+        requires order { order_of (content (self.now ++ take len piece.now)) ≡ Order.Deliver size }
+        ensures { IsNext self.now piece.now result }
     {
         let size = size as usize;
         let (_line, behind) = piece.split_at(len + 1);
         if size <= behind.len() {
-            let said = say_delivered(behind.split_at(size).0, moment, archive, out);
-            self.clear();
-            return went(len + 1 + size, said);
+            let message = behind.split_at(size).0;
+            return Next::Whole(Requested::Message(message), len + 1 + size);
         }
         let start = self.held.as_slice().len() + len + 1;
         let end = start + size;
-        self.keep(piece, Some(Payload { start, end }), out)
-    }
-
-    /// Delivers a message whose beginning is held, or keeps the piece where it isn't whole.
-    fn go_on<O: Sink>(
-        &mut self,
-        payload: Payload,
-        piece: &[u8],
-        moment: u64,
-        archive: &mut MemArchive,
-        out: &mut O,
-    ) -> Turn
-        requires { IsPayload self.old payload.start payload.end }
-        ensures turn { IsTurn moment archive.old self.old piece.now
-            (outside (O.taken out.old) 0 (O.faults out.old))
-            result archive.new self.new
-            (outside (O.taken out.new) 0 (O.faults out.new)) }
-        ensures sink { O.alike out.old out.new }
-    {
-        let missing = payload.end - self.held.as_slice().len();
-        if piece.len() < missing {
-            return self.keep(piece, Some(payload), out);
-        }
-        let last = piece.split_at(missing).0;
-        let said = say_joined(&mut self.held, payload.start, last, moment, archive, out);
-        self.payload = None;
-        went(missing, said)
-    }
-
-    /// Holds nothing any more.
-    fn clear(&mut self)
-        ensures { self.new ≡ [] }
-    {
-        self.held.truncate(0);
-        self.payload = None;
+        Next::Rest(Some(Payload { start, end }))
     }
 }
 
-/// What it comes to that a request, which took so many bytes, was answered whole or not.
-fn went(taken: usize, said: bool) -> Turn
-    ensures { result ≡ (if said then Turn.Went taken else Turn.Closed) }
+/// What it comes to that the archive was opened again or not.
+fn reopened(done: bool) -> Turn
+    ensures { result ≡ (if done then Turn.Opened else Turn.Closed) }
 {
-    if said {
+    if done { Turn::Opened } else { Turn::Closed }
+}
+
+/// What it comes to that a request took so many bytes, and the session goes on or not.
+fn went(taken: usize, goes_on: bool) -> Turn
+    ensures { result ≡ (if goes_on then Turn.Went taken else Turn.Closed) }
+{
+    if goes_on {
         Turn::Went(taken)
     } else {
         Turn::Closed
-    }
-}
-
-/// Delivers a message and says the answer. It answers whether all was taken.
-fn say_delivered<O: Sink>(
-    message: &[u8],
-    moment: u64,
-    archive: &mut MemArchive,
-    out: &mut O,
-) -> bool
-    ensures acts { (rest : List ℕ) → Acts (said_to moment archive.old (Delivers message.now) rest)
-        (outside (O.taken out.old) 0 (O.faults out.old))
-        (held_if result rest) archive.new
-        (outside (O.taken out.new) 0 (O.faults out.new)) }
-    ensures sink { O.alike out.old out.new }
-{
-    let answer = archive.command(&Command::Deliver(message), moment);
-    say_answer(answer, out)
-}
-
-/// Delivers the message whose beginning is held from `start` on, and says the answer. Nothing is held behind it.
-fn say_joined<O: Sink>(
-    held: &mut Bytes,
-    start: usize,
-    last: &[u8],
-    moment: u64,
-    archive: &mut MemArchive,
-    out: &mut O,
-) -> bool
-    requires { start ≤ length held.old }
-    ensures acts { (rest : List ℕ) → Acts (said_to moment archive.old (Delivers (drop start (held.old ++ last.now))) rest)
-        (outside (O.taken out.old) 0 (O.faults out.old))
-        (held_if result rest) archive.new
-        (outside (O.taken out.new) 0 (O.faults out.new)) }
-    ensures emptied { held.new ≡ [] }
-    ensures sink { O.alike out.old out.new }
-{
-    if held.push_slice(last).is_err() {
-        held.truncate(0);
-        return say_memory(out);
-    }
-    let said = say_delivered(held.as_slice().split_at(start).1, moment, archive, out);
-    held.truncate(0);
-    said
-}
-
-/// Says the list of the epochs, or that there is no memory for it. It answers whether all was taken.
-fn say_epochs<O: Sink>(alloc: Global, archive: &MemArchive, out: &mut O) -> bool
-    ensures acts { (moment : ℕ) (rest : List ℕ) → Acts (said_to moment archive.now Lists rest)
-        (outside (O.taken out.old) 0 (O.faults out.old))
-        (held_if result rest) archive.now
-        (outside (O.taken out.new) 0 (O.faults out.new)) }
-    ensures sink { O.alike out.old out.new }
-{
-    match epochs_of(alloc, archive) {
-        Ok(words) => say(words.as_slice(), out),
-        Err(NoMemory) => say_memory(out),
     }
 }
 

@@ -1,9 +1,10 @@
 //! Streams worked out by hand from the rules of the control door, each fed in every way that its length allows.
+ghost use Rattle.std.specs.Prelude.{true};
 ghost use Rattle.arch_base.specs.Configs.{IsConfig};
 
 use crate::{Order, Session, cut_laws, read_order};
-use arch_base::{Config, Name, Numbers};
-use arch_model::MemArchive;
+use arch_base::{Bytes, Config, Name, NoMemory, Numbers};
+use arch_model::{Answer, Command, Keep, MemArchive, OpenRefusal, TextRefusal};
 use edge_io::MemSink;
 use std::alloc::Global;
 
@@ -145,6 +146,113 @@ impl Connection {
     fn was_answered(&self, words: &[u8], open: bool) -> bool {
         self.out.taken() == words && self.open == open
     }
+}
+
+/// The call of a keeper that the disk fails.
+#[derive(Clone, Copy, Debug, PartialEq, Eq, Drop)]
+enum Failing {
+    /// A command, which is done all the same or not.
+    Command(bool),
+    /// A command, which isn't done, and the opening behind it.
+    Opening,
+    /// The same, where there is no memory for the opening.
+    OpeningWithoutMemory,
+    /// The reading of a text.
+    Text,
+    /// The reading of an epoch.
+    Epoch,
+}
+
+/// An archive in memory, of which one call is failed again and again. It tells nothing of what it holds.
+#[derive(Drop)]
+struct FailingKeep {
+    archive: MemArchive,
+    failing: Failing,
+    stale: bool,
+    faults: u64,
+}
+
+impl Keep for FailingKeep {
+    ghost holds = { λ k a. ⊥ };
+
+    ghost live = { λ k n. true };
+
+    ghost stale = { λ k. k.stale };
+
+    ghost clock = { λ k. 0 };
+
+    ghost leaves = { λ k t may. ⊥ };
+
+    ghost faults = { λ k. k.faults };
+
+    fn is_stale(&self) -> bool {
+        self.stale
+    }
+
+    fn live_from(&self, n: u32) -> Option<u32> {
+        self.archive.number_from(n)
+    }
+
+    fn text(&mut self, n: u32, into: &mut Bytes) -> Result<(), TextRefusal> {
+        if self.failing == Failing::Text {
+            self.faults = self.faults.saturating_add(1);
+            return Err(TextRefusal::DiskFault);
+        }
+        match self.archive.text(n) {
+            None => Ok(()),
+            Some(text) => {
+                into.push_slice(text)?;
+                Ok(())
+            }
+        }
+    }
+
+    fn epoch_bytes(&mut self, epoch: u32, into: &mut Bytes) -> Result<bool, TextRefusal> {
+        if self.failing == Failing::Epoch {
+            self.faults = self.faults.saturating_add(1);
+            return Err(TextRefusal::DiskFault);
+        }
+        match self.archive.push_epoch(epoch, into) {
+            Ok(found) => Ok(found),
+            Err(NoMemory) => Err(TextRefusal::NoMemory),
+        }
+    }
+
+    fn command(&mut self, command: &Command<'_>, moment: u64) -> Answer {
+        match self.failing {
+            Failing::Text | Failing::Epoch => self.archive.command(command, moment),
+            Failing::Command(true) => {
+                let _ = self.archive.command(command, moment);
+                self.stale = true;
+                self.faults = self.faults.saturating_add(1);
+                Answer::DiskFault
+            }
+            Failing::Command(false) | Failing::Opening | Failing::OpeningWithoutMemory => {
+                self.stale = true;
+                self.faults = self.faults.saturating_add(1);
+                Answer::DiskFault
+            }
+        }
+    }
+
+    fn fresh(&mut self) -> Result<(), OpenRefusal> {
+        if !self.stale {
+            return Ok(());
+        }
+        match self.failing {
+            Failing::Opening => {
+                self.faults = self.faults.saturating_add(1);
+                Err(OpenRefusal::DiskFault)
+            }
+            Failing::OpeningWithoutMemory => Err(OpenRefusal::NoMemory),
+            _ => {
+                self.stale = false;
+                Ok(())
+            }
+        }
+    }
+
+    ghost holds_left = { λ k a no. no };
 }
 
 /// The settings of an archive of this name.
@@ -291,5 +399,109 @@ fn a_line_is_too_long_at_512_bytes(rt: HostRuntime) {
         assert!(rt; connection.was_answered(b"", true));
         connection.hear(b"a");
         assert!(rt; connection.was_answered(b"13 bad line\n", false));
+    }
+}
+
+/// What is sent, which call the disk fails, what is answered, and whether the connection is then still open.
+type FailingRow = (&'static [u8], Failing, &'static [u8], bool);
+
+/// Streams at a disk that fails. What is in doubt is looked for before the next whole request, and not before a part of one.
+const FAILURES: [FailingRow; 12] = [
+    (
+        b"deliver 18\nMessage-ID: <a@x>\nshow 1\n",
+        Failing::Command(false),
+        b"10 disk fault\n7 not live 1\n",
+        true,
+    ),
+    (
+        b"deliver 18\nMessage-ID: <a@x>\nshow 1\n",
+        Failing::Command(true),
+        b"10 disk fault\ntext 19\nMessage-ID: <a@x>\n\n",
+        true,
+    ),
+    (
+        b"deliver 18\nMessage-ID: <a@x>\nshow 1\nshow 1\n",
+        Failing::Opening,
+        b"10 disk fault\n10 disk fault\n",
+        false,
+    ),
+    (
+        b"deliver 18\nMessage-ID: <a@x>\nx\n",
+        Failing::OpeningWithoutMemory,
+        b"10 disk fault\n12 no memory\n",
+        false,
+    ),
+    (
+        b"deliver 18\nMessage-ID: <a@x>\nquit\n",
+        Failing::Opening,
+        b"10 disk fault\n10 disk fault\n",
+        false,
+    ),
+    (
+        b"deliver 18\nMessage-ID: <a@x>\ndeliver 1\nxdeliver 1\nx",
+        Failing::Opening,
+        b"10 disk fault\n10 disk fault\n",
+        false,
+    ),
+    (
+        b"deliver 18\nMessage-ID: <a@x>\n",
+        Failing::Opening,
+        b"10 disk fault\n",
+        true,
+    ),
+    (
+        b"deliver 18\nMessage-ID: <a@x>\nshow 1",
+        Failing::Opening,
+        b"10 disk fault\n",
+        true,
+    ),
+    (
+        b"deliver 18\nMessage-ID: <a@x>\ndeliver 3\nxy",
+        Failing::Opening,
+        b"10 disk fault\n",
+        true,
+    ),
+    (
+        b"x\nshow 1\nepochs\nx\n",
+        Failing::Opening,
+        b"13 bad line\n7 not live 1\nend\n13 bad line\n",
+        true,
+    ),
+    (
+        b"deliver 18\nMessage-ID: <a@x>\nshow 1\nshow 2\n",
+        Failing::Text,
+        b"1 ok 1 df7a16e6b23ee491f39d84e89298f10b0d4ae4e0\n10 disk fault\n7 not live 2\n",
+        true,
+    ),
+    (
+        b"epochs\nshow 1\n",
+        Failing::Epoch,
+        b"10 disk fault\n7 not live 1\n",
+        true,
+    ),
+];
+
+/// Whether a stream that comes in one piece is answered so where the disk fails.
+fn is_answered_failing(alloc: Global, name: &Name, row: FailingRow) -> bool {
+    let (stream, failing, words, open) = row;
+    let mut keep = FailingKeep {
+        archive: MemArchive::new(alloc, config(name.copy())),
+        failing,
+        stale: false,
+        faults: 0,
+    };
+    let mut session = Session::open(alloc);
+    let mut out = MemSink::new(alloc, Numbers::new(alloc));
+    let goes_on = session.feed(stream, 1_706_781_700, &mut keep, &mut out);
+    out.taken() == words && goes_on == open
+}
+
+#[test]
+fn a_disk_that_fails_is_said_and_opened_again(rt: HostRuntime) {
+    let Some(name) = Name::read(b"list") else {
+        return assert!(rt; false);
+    };
+    for row in FAILURES {
+        assert!(rt; is_answered_failing(rt.alloc(), &name, row), "{:?}", row.0);
     }
 }

@@ -1,0 +1,18 @@
+use Rattle.std.proofs.Common.{◌≡◌, ◌++◌, ◌∙◌, List, ℕ, drop, None, is_ok, true, not, ap, arith}
+use Rattle.arch_model.specs.Standing.{standing}
+use Rattle.control_door.proofs.Answering.{fits-ready, acts-refusing}
+use Rattle.control_door.proofs.answers.say_joined.Goals as goal
+
+pub returns-then-is_err-clause-acts : goal.returns-then-is_err-clause-acts
+returns-then-is_err-clause-acts g c = λ a rest held. (
+  standing a None,
+  fits-ready g.K.Keep.holds g.K.Keep.stale g.K.Keep.clock g.K.Keep.leaves _ a held (g.met.K.Keep.holds_left _ a held),
+  acts-refusing c.args.moment (standing a None) (drop c.args.start (c.args.held.now ++ c.args.last.now)) rest _ _ _ (omega arith) c.say_memory.ensures.said,
+)
+
+pub returns-clause-acts : goal.returns-clause-acts
+returns-clause-acts g c =
+    let ok : is_ok c.push_slice.result ≡ true = c.is_err.ensures.negation ∙ ap not c.if-is_err.false in
+    let kept : c.push_slice.new.self ≡ c.args.held.now ++ c.args.last.now = rw ok at c.push_slice.ensures in
+    let message : c.split_at.result.1.now ≡ drop c.args.start (c.args.held.now ++ c.args.last.now) = c.split_at.ensures.back ∙ ap (λ (h : List ℕ). drop c.args.start h) (c.as_slice.ensures ∙ kept) in
+    rw message at c.say_delivered.ensures.acts

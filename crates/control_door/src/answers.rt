@@ -1,0 +1,158 @@
+//! Answers to the requests of a control connection, by what keeps the archive.
+ghost use Rattle.std.specs.Prelude.{◌≡◌, ◌≤◌, ◌++◌, ℕ, List, length, drop, true, false, Option, Some, None, is_some};
+ghost use Rattle.line_door.specs.Acts.{outside};
+ghost use Rattle.arch_model.specs.Archives.{Archive, text_of};
+ghost use Rattle.arch_model.specs.Validity.{last_moment};
+ghost use Rattle.control_door.specs.Requests.{Delivers, Shows, Lists};
+ghost use Rattle.control_door.specs.Sessions.{request_of, StartsWithin, Answers, Opens};
+
+use crate::epochs::epochs_of;
+use crate::next::Requested;
+use crate::replies::{
+    say_answer, say_bad, say_memory, say_not_live, say_text, say_unopened, say_unread,
+};
+use arch_base::Bytes;
+use arch_model::{Command, Keep};
+use edge_io::Sink;
+use line_door::say;
+use std::alloc::Global;
+
+/// Opens the archive again, which does nothing while no command is in doubt. A refusal is said. It answers whether it is open.
+pub(crate) fn open_again<K: Keep, O: Sink>(keep: &mut K, out: &mut O) -> bool
+    ensures acts { Opens K.holds K.stale K.clock K.leaves keep.old
+        (outside (O.taken out.old) (K.faults keep.old) (O.faults out.old))
+        result keep.new
+        (outside (O.taken out.new) (K.faults keep.new) (O.faults out.new)) }
+    ensures ready { result ≡ true → K.stale keep.new ≡ false }
+    ensures later { K.faults keep.old ≤ K.faults keep.new }
+    ensures sink { O.alike out.old out.new }
+{
+    match keep.fresh() {
+        Ok(()) => true,
+        Err(refusal) => {
+            let _ = say_unopened(refusal, out);
+            false
+        }
+    }
+}
+
+/// Answers a whole request. It answers whether the session goes on. What is held may be changed.
+pub(crate) fn say_requested<K: Keep, O: Sink>(
+    request: Requested<'_>,
+    alloc: Global,
+    held: &mut Bytes,
+    moment: u64,
+    keep: &mut K,
+    out: &mut O,
+) -> bool
+    requires ready { K.stale keep.old ≡ false }
+    requires moment { moment ≤ last_moment }
+    requires starts { StartsWithin held.old request }
+    ensures acts { Answers K.holds K.stale K.clock K.leaves moment (request_of held.old request.entry) keep.old
+        (outside (O.taken out.old) (K.faults keep.old) (O.faults out.old))
+        result keep.new
+        (outside (O.taken out.new) (K.faults keep.new) (O.faults out.new)) }
+    ensures later { K.faults keep.old ≤ K.faults keep.new }
+    ensures sink { O.alike out.old out.new }
+{
+    match request {
+        Requested::Message(message) => say_delivered(message, moment, keep, out),
+        Requested::Joined(start, last) => say_joined(held, start, last, moment, keep, out),
+        Requested::Text(number) => say_message(alloc, number, keep, out),
+        Requested::Epochs => say_epochs(alloc, keep, out),
+        Requested::Quit => false,
+        Requested::Mistake => say_bad(out),
+        Requested::Excess => {
+            let _ = say_bad(out);
+            false
+        }
+    }
+}
+
+/// Delivers a message and says the answer. It answers whether all was taken.
+fn say_delivered<K: Keep, O: Sink>(message: &[u8], moment: u64, keep: &mut K, out: &mut O) -> bool
+    requires ready { K.stale keep.old ≡ false }
+    requires moment { moment ≤ last_moment }
+    ensures acts { Answers K.holds K.stale K.clock K.leaves moment (Delivers message.now) keep.old
+        (outside (O.taken out.old) (K.faults keep.old) (O.faults out.old))
+        result keep.new
+        (outside (O.taken out.new) (K.faults keep.new) (O.faults out.new)) }
+    ensures later { K.faults keep.old ≤ K.faults keep.new }
+    ensures sink { O.alike out.old out.new }
+{
+    let answer = keep.command(&Command::Deliver(message), moment);
+    say_answer(answer, out)
+}
+
+/// Delivers the message whose beginning is held from `start` on, and says the answer.
+fn say_joined<K: Keep, O: Sink>(
+    held: &mut Bytes,
+    start: usize,
+    last: &[u8],
+    moment: u64,
+    keep: &mut K,
+    out: &mut O,
+) -> bool
+    requires ready { K.stale keep.old ≡ false }
+    requires moment { moment ≤ last_moment }
+    requires starts { start ≤ length held.old }
+    ensures acts { Answers K.holds K.stale K.clock K.leaves moment (Delivers (drop start (held.old ++ last.now))) keep.old
+        (outside (O.taken out.old) (K.faults keep.old) (O.faults out.old))
+        result keep.new
+        (outside (O.taken out.new) (K.faults keep.new) (O.faults out.new)) }
+    ensures later { K.faults keep.old ≤ K.faults keep.new }
+    ensures sink { O.alike out.old out.new }
+{
+    if held.push_slice(last).is_err() {
+        return say_memory(out);
+    }
+    say_delivered(held.as_slice().split_at(start).1, moment, keep, out)
+}
+
+/// Says the text of a number, or why it isn't said. It answers whether all was taken.
+fn say_message<K: Keep, O: Sink>(alloc: Global, number: u32, keep: &mut K, out: &mut O) -> bool
+    requires { K.stale keep.old ≡ false }
+    ensures acts { (moment : ℕ) → Answers K.holds K.stale K.clock K.leaves moment (Shows number) keep.old
+        (outside (O.taken out.old) (K.faults keep.old) (O.faults out.old))
+        result keep.new
+        (outside (O.taken out.new) (K.faults keep.new) (O.faults out.new)) }
+    ensures later { K.faults keep.old ≤ K.faults keep.new }
+    ensures sink { O.alike out.old out.new }
+{
+    if !is_live(number, keep) {
+        return say_not_live(number, out);
+    }
+    let mut text = Bytes::new(alloc);
+    match keep.text(number, &mut text) {
+        Ok(()) => say_text(text.as_slice(), out),
+        Err(refusal) => say_unread(refusal, out),
+    }
+}
+
+/// Whether a number has a text.
+fn is_live<K: Keep>(number: u32, keep: &K) -> bool
+    requires { K.stale keep.now ≡ false }
+    ensures known { result ≡ true → K.live keep.now number ≡ true }
+    ensures text { (a : Archive) → K.holds keep.now a → is_some (text_of a.entries number) ≡ result }
+{
+    match keep.live_from(number) {
+        Some(found) => found == number,
+        None => false,
+    }
+}
+
+/// Says the list of the epochs, or why it isn't said. It answers whether all was taken.
+fn say_epochs<K: Keep, O: Sink>(alloc: Global, keep: &mut K, out: &mut O) -> bool
+    requires { K.stale keep.old ≡ false }
+    ensures acts { (moment : ℕ) → Answers K.holds K.stale K.clock K.leaves moment Lists keep.old
+        (outside (O.taken out.old) (K.faults keep.old) (O.faults out.old))
+        result keep.new
+        (outside (O.taken out.new) (K.faults keep.new) (O.faults out.new)) }
+    ensures later { K.faults keep.old ≤ K.faults keep.new }
+    ensures sink { O.alike out.old out.new }
+{
+    match epochs_of(alloc, keep) {
+        Ok(words) => say(words.as_slice(), out),
+        Err(refusal) => say_unread(refusal, out),
+    }
+}

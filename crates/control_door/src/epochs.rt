@@ -1,0 +1,93 @@
+//! The list of the epochs of an archive.
+ghost use Rattle.std.specs.Prelude.{◌≡◌, ◌≤◌, ◌++◌, [], false, Err, OnOk};
+ghost use Rattle.arch_base.specs.Counts.{Rose};
+ghost use Rattle.arch_model.specs.Archives.{Archive, in_epoch};
+ghost use Rattle.arch_model.specs.declared.text_refusal.TextRefusal.{TextRefusal};
+ghost use Rattle.control_door.specs.Door.{listed, listed_below, epoch_words, epochs_words};
+ghost use Rattle.control_door.specs.Refusals.{PutsBehind, Makes};
+
+use arch_base::{Bytes, NoMemory};
+use arch_model::{Keep, TextRefusal};
+use itoa::Buffer;
+use std::alloc::Global;
+
+/// So many epochs there may be.
+const EPOCHS: u32 = 64;
+
+/// The words that list the epochs of an archive. They are made whole before any is said.
+pub(crate) fn epochs_of<K: Keep>(alloc: Global, keep: &mut K) -> Result<Bytes, TextRefusal>
+    requires { K.stale keep.old ≡ false }
+    ensures words { (a : Archive) → K.holds keep.old a → Makes (epochs_words a.entries) result }
+    ensures same { (a : Archive) → K.holds keep.old a → K.holds keep.new a }
+    ensures ready { K.stale keep.new ≡ false }
+    ensures later { K.faults keep.old ≤ K.faults keep.new }
+    ensures fault { result ≡ Err TextRefusal.DiskFault → Rose (K.faults keep.old) (K.faults keep.new) }
+{
+    let mut words = Bytes::new(alloc);
+    match push_epochs(alloc, keep, &mut words) {
+        Ok(()) => {}
+        Err(refusal) => return Err(refusal),
+    }
+    match words.push_slice(b"end\n") {
+        Ok(()) => Ok(words),
+        Err(NoMemory) => Err(TextRefusal::NoMemory),
+    }
+}
+
+/// Puts the words of each epoch that has an entry behind each other. A refusal may leave a part of them there.
+fn push_epochs<K: Keep>(alloc: Global, keep: &mut K, into: &mut Bytes) -> Result<(), TextRefusal>
+    requires ready { K.stale keep.old ≡ false }
+    requires empty { into.old ≡ [] }
+    ensures words { (a : Archive) → K.holds keep.old a → PutsBehind (listed_below 64 a.entries) [] into.new result }
+    ensures same { (a : Archive) → K.holds keep.old a → K.holds keep.new a }
+    ensures ready { K.stale keep.new ≡ false }
+    ensures later { K.faults keep.old ≤ K.faults keep.new }
+    ensures fault { result ≡ Err TextRefusal.DiskFault → Rose (K.faults keep.old) (K.faults keep.new) }
+{
+    for epoch in 0..EPOCHS {
+        match push_listed(alloc, epoch, keep, into) {
+            Ok(()) => {}
+            Err(refusal) => return Err(refusal),
+        }
+    }
+    Ok(())
+}
+
+/// Puts the words of an epoch behind others, where it has an entry. A refusal may leave a part of them there.
+fn push_listed<K: Keep>(
+    alloc: Global,
+    epoch: u32,
+    keep: &mut K,
+    into: &mut Bytes,
+) -> Result<(), TextRefusal>
+    requires { K.stale keep.old ≡ false }
+    ensures words { (a : Archive) → K.holds keep.old a → PutsBehind (listed epoch (in_epoch a.entries epoch)) into.old into.new result }
+    ensures same { (a : Archive) → K.holds keep.old a → K.holds keep.new a }
+    ensures ready { K.stale keep.new ≡ false }
+    ensures later { K.faults keep.old ≤ K.faults keep.new }
+    ensures fault { result ≡ Err TextRefusal.DiskFault → Rose (K.faults keep.old) (K.faults keep.new) }
+{
+    let mut bytes = Bytes::new(alloc);
+    match keep.epoch_bytes(epoch, &mut bytes) {
+        Ok(true) => match push_epoch(epoch, bytes.as_slice(), into) {
+            Ok(()) => Ok(()),
+            Err(NoMemory) => Err(TextRefusal::NoMemory),
+        },
+        Ok(false) => Ok(()),
+        Err(refusal) => Err(refusal),
+    }
+}
+
+/// Puts the words of an epoch with these bytes behind others. For want of memory a part of them may be put there.
+fn push_epoch(epoch: u32, bytes: &[u8], into: &mut Bytes) -> Result<(), NoMemory>
+    ensures { OnOk result (into.new ≡ into.old ++ epoch_words epoch bytes.now) }
+{
+    let mut buffer = Buffer::new();
+    into.push_slice(b"epoch ")?;
+    into.push_slice(buffer.format(epoch).as_bytes())?;
+    into.push_slice(b" ")?;
+    into.push_slice(buffer.format(bytes.len()).as_bytes())?;
+    into.push_slice(b"\n")?;
+    into.push_slice(bytes)?;
+    into.push_slice(b"\n")
+}
