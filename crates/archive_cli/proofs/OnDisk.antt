@@ -1,11 +1,9 @@
 -- What `deliver` and `check` come to by the calls below them.
-use Rattle.std.specs.Prelude.{◌≡◌, ◌+◌, ◌<◌, ◌^◌, ℕ, zero, suc, List, [], length, Option, Some, None, Ok, refl}
+use Rattle.std.specs.Prelude.{◌≡◌, ◌+◌, ◌<◌, ◌^◌, ℕ, List, [], length, Option, Some, None, Ok, refl}
 use Rattle.std.specs.List.{Contains}
-use Rattle.std.proofs.Common.{◌∙◌, ap, inl, inr, arith}
-use Rattle.disk_model.specs.Disk.{File, Files, Content, WhereTold, ReadsFit}
-use Rattle.root_slots.specs.Each.{IfThere}
+use Rattle.std.proofs.Common.{◌∙◌, ap, inl, inr}
+use Rattle.disk_model.specs.Disk.{Files, Content, WhereTold, ReadsFit}
 use Rattle.root_slots.specs.RootName.{root_name}
-use Rattle.root_slots.specs.Slots.{Current, IsShutFile}
 use Rattle.root_slots.specs.Spelling.{spelling}
 use Rattle.arch_model.specs.Archives.{Archive}
 use Rattle.arch_model.specs.Delivery.{Done, delivered}
@@ -17,6 +15,7 @@ use Rattle.epoch_store.specs.declared.entries.StoredEntry.{StoredEntry}
 use Rattle.epoch_store.specs.Files.{as_read}
 use Rattle.epoch_store.specs.Opens.{Opens, ReadsAs, RecoversOf, AllRecoverOf, IsWant}
 use Rattle.epoch_store.specs.Stores.{View, IsStoreOf, Keeps, RecoversEither}
+use Rattle.epoch_store.proofs.UniqueRoots.{slot_not_shut}
 use Rattle.archive_core.specs.Commands.{DoneBy}
 use Rattle.archive_core.specs.Openings.{LeavesKindly}
 use Rattle.archive_core.proofs.Counting.{stored_length}
@@ -59,21 +58,12 @@ done-answers v a wanted (answer.NotLive number) content done = absurd done
 done-answers v a wanted (answer.NoText number) content done = absurd done
 done-answers v a wanted (answer.Damaged file at) content done = absurd done
 
--- a slot that has the current root is open
-not_shut : (slot : ℕ) (body : List ℕ) (file : File) → IfThere (Current slot body) file → IsShutFile file → ⊥
-not_shut slot body None there shut = absurd there
-not_shut zero body (Some bytes) there (inl size) = size there.size
-not_shut zero body (Some bytes) there (inr shut) = shut.0 there.opened
-not_shut (suc zero) body (Some bytes) there (inl size) = size there.size
-not_shut (suc zero) body (Some bytes) there (inr shut) = shut.1 there.opened
-not_shut (suc (suc n)) body (Some bytes) there shut = let below = there.in_range in absurd (omega (arith, below))
-
 -- what is opened reads as one of the archives that a crash may leave
 pub opened-reads : (may : List (Option Archive)) (v : View) (k : Option Content) → ReadsFit k → AllRecoverOf may k → WhereTold (λ c. Opens (as_read c) (Ok v)) k → (a : Archive) × Contains may (Some a) × ReadsAs a k
 opened-reads may v None fit all opens = absurd all
 opened-reads may v (Some k) fit all opens = of_one (all (as_read k) (λ name. fit k refl name)) where
   of_one : RecoversOf may (as_read k) → (a : Archive) × Contains may (Some a) × ReadsAs a (Some k)
-  of_one (None, in_may, shut) = absurd (not_shut v.slot (spelling v.root) (as_read k root_name) opens.root.current shut)
+  of_one (None, in_may, shut) = absurd (slot_not_shut (as_read k root_name) v.slot (spelling v.root) opens.root.current shut)
   of_one (Some a, in_may, recovers) = (a, in_may, recovers)
 
 -- and has room for a next root

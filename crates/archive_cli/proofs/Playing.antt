@@ -1,29 +1,24 @@
 -- A script, played up to some event.
-use Rattle.std.proofs.Common.{◌≡◌, ◌<◌, ◌+◌, ℕ, zero, suc, Bool, true, false, List, [], ◌∷◌, ◌++◌, length, drop, Option, Some, None, Result, Ok, Err, OnOk, refl, sym, ◌∙◌, ap, subst, append_assoc, arith, add-one}
+use Rattle.std.proofs.Common.{◌≡◌, ◌<◌, ◌≤◌, ◌+◌, ℕ, zero, suc, Bool, true, false, List, [], ◌∷◌, ◌++◌, length, drop, Option, Some, None, Result, Ok, Err, OnOk, OnErr, refl, sym, ◌∙◌, ap, subst, append_assoc, arith, add-one}
 use Rattle.std.proofs.lemmas.List.{append-nil, drop_all}
-use Rattle.edge_io.specs.declared.events.Event.{Event}
-use Rattle.edge_io.specs.Scripts.{Arrival, event_at, piece_at}
+use Rattle.std.proofs.lemmas.List.Elements.{All-head, All-tail}
+use Rattle.std.specs.List.{All}
 use Rattle.std.specs.Option.{is_none}
+use Rattle.edge_io.specs.declared.events.Event.{Event}
+use Rattle.edge_io.specs.Scripts.{Arrival, IsArrival, event_at, piece_at}
+use Rattle.arch_model.specs.Validity.{last_moment}
 use Rattle.edge_io.specs.declared.events.What.TheVariants.{Quiet, Stop}
-use Rattle.line_door.specs.Acts.{outside}
+use Rattle.line_door.specs.Acts.{outside, held_if}
 use Rattle.line_door.specs.Course.{talk, Fed}
-use Rattle.arch_model.specs.Archives.{Archive}
-use Rattle.control_door.specs.Requests.{is_request}
-use Rattle.control_door.specs.Door.{said}
+use Rattle.arch_base.specs.declared.config.Config.{Config}
+use Rattle.arch_model.specs.Archives.{Archive, empty_archive}
+use Rattle.arch_model.specs.Standing.{Standing, standing, one_of, Fits}
+use Rattle.control_door.specs.Door.{Waiting, waiting, said, has_request}
 use Rattle.archive_cli.specs.Frames.{frame}
-use Rattle.archive_cli.specs.Turns.{World, world, CameTo, Transcript, before_stop, is_stop, kept_unless}
-use Rattle.archive_cli.specs.Plays.{Prints, PrintsPiece, PlaysSome}
+use Rattle.archive_cli.specs.Turns.{World, world, waiting_if, CameTo, Turned, Transcript, before_stop, is_stop, kept_unless}
+use Rattle.archive_cli.specs.Plays.{Played, Shows, Prints, PrintsPiece, PlaysSome, PlaysAll}
+use Rattle.archive_cli.specs.Program.{start}
 use Rattle.archive_cli.proofs.Transcripts.{Transcript-more}
-
--- the events before this place were turned, and none of them stops
-pub record Playing (arrivals : List Arrival) (w : World) (index : ℕ) (frames : List ℕ) (v : World) : Type 0 where
-  pub first : List Arrival
-  pub transcript : Transcript first w frames v
-  pub split : before_stop arrivals ≡ first ++ before_stop (drop index arrivals)
-
--- before the first
-pub Playing-none : (arrivals : List Arrival) (w : World) (frames : List ℕ) → frames ≡ [] → Playing arrivals w 0 frames w
-Playing-none arrivals w frames none = record { first = []; transcript = (none, refl); split = refl }
 
 -- what stands from a place on
 pub drop-at : (arrivals : List Arrival) (i : ℕ) (e : Event) → event_at arrivals i ≡ Some e → drop i arrivals ≡ (e, piece_at arrivals i) ∷ drop (i + 1) arrivals
@@ -36,85 +31,133 @@ drop-past [] i h = drop_all i [] (omega arith)
 drop-past (a ∷ arrivals) zero h = absurd (cc h)
 drop-past (a ∷ arrivals) (suc i) h = drop-past arrivals i h
 
-module _ (arrivals : List Arrival) (w : World) (index : ℕ) (frames : List ℕ) (v : World) (p : Playing arrivals w index frames v) where
-  -- one more event
-  pub Playing-more : (e : Event) (new : List ℕ) (u : World) → event_at arrivals index ≡ Some e → is_stop e.what ≡ false → Prints (e, piece_at arrivals index) v frames u new → Playing arrivals w (index + 1) new u
-  Playing-more e new u at goes prints = record {
-    first = p.first ++ (e, piece_at arrivals index) ∷ [];
-    transcript = subst (λ o. Transcript (p.first ++ (e, piece_at arrivals index) ∷ []) w o u) (sym prints.frames) (Transcript-more p.first w frames v (e, piece_at arrivals index) prints.printed u p.transcript prints.turned);
-    split =
-        p.split
-        ∙ ap (λ (xs : List Arrival). p.first ++ before_stop xs) (drop-at arrivals index e at)
-        ∙ ap (λ b. p.first ++ kept_unless b (e, piece_at arrivals index) (before_stop (drop (index + 1) arrivals))) goes
-        ∙ sym (append_assoc p.first ((e, piece_at arrivals index) ∷ []) (before_stop (drop (index + 1) arrivals)));
+-- a keeper of archives
+module _ {K : Type 0} (holds : K → Archive → Type 0) (stale : K → Bool) (clock : K → ℕ) (leaves : K → ℕ → List (Option Archive) → Type 0) (faults : K → ℕ) where
+  -- the events before this place were turned, and none of them stops
+  pub record Playing (arrivals : List Arrival) (w : World) (index : ℕ) (frames : List ℕ) (p : Played K) : Type 0 where
+    pub after : World
+    pub shows : Shows holds stale clock leaves faults p after
+    pub first : List Arrival
+    pub transcript : Transcript first w frames after
+    pub split : before_stop arrivals ≡ first ++ before_stop (drop index arrivals)
+
+  -- before the first
+  pub Playing-none : (arrivals : List Arrival) (w : World) (frames : List ℕ) (p : Played K) → Shows holds stale clock leaves faults p w → frames ≡ [] → Playing arrivals w 0 frames p
+  Playing-none arrivals w frames p shows none = record { after = w; shows = shows; first = []; transcript = (none, refl); split = refl }
+
+  module _ (arrivals : List Arrival) (w : World) (index : ℕ) (frames : List ℕ) (p : Played K) (now : Playing arrivals w index frames p) where
+    -- one more event
+    pub Playing-more : (e : Event) (new : List ℕ) (q : Played K) → event_at arrivals index ≡ Some e → is_stop e.what ≡ false → Prints holds stale clock leaves faults (e, piece_at arrivals index) now.after frames q new → Playing arrivals w (index + 1) new q
+    Playing-more e new q at goes prints = record {
+      after = prints.after;
+      shows = prints.shows;
+      first = now.first ++ (e, piece_at arrivals index) ∷ [];
+      transcript =
+          subst (λ o. Transcript (now.first ++ (e, piece_at arrivals index) ∷ []) w o prints.after) (sym prints.frames)
+          (Transcript-more now.first w frames now.after (e, piece_at arrivals index) prints.printed prints.after now.transcript prints.turned);
+      split =
+          now.split
+          ∙ ap (λ (xs : List Arrival). now.first ++ before_stop xs) (drop-at arrivals index e at)
+          ∙ ap (λ b. now.first ++ kept_unless b (e, piece_at arrivals index) (before_stop (drop (index + 1) arrivals))) goes
+          ∙ sym (append_assoc now.first ((e, piece_at arrivals index) ∷ []) (before_stop (drop (index + 1) arrivals)));
+    }
+
+    all_of : before_stop (drop index arrivals) ≡ [] → PlaysAll (before_stop arrivals) w frames
+    all_of none = record {
+      after = now.after;
+      transcript = subst (λ (es : List Arrival). Transcript es w frames now.after) (sym (now.split ∙ ap (λ (es : List Arrival). now.first ++ es) none ∙ append-nil now.first)) now.transcript;
+    }
+
+    -- behind the last
+    pub Playing-end : event_at arrivals index ≡ None → PlaysAll (before_stop arrivals) w frames
+    Playing-end at = all_of (ap before_stop (drop-past arrivals index at))
+
+    -- at a stop
+    pub Playing-stop : (e : Event) → event_at arrivals index ≡ Some e → is_stop e.what ≡ true → PlaysAll (before_stop arrivals) w frames
+    Playing-stop e at stops = all_of (ap before_stop (drop-at arrivals index e at) ∙ ap (λ b. kept_unless b (e, piece_at arrivals index) (before_stop (drop (index + 1) arrivals))) stops)
+
+    -- where it ends early
+    pub Playing-some : (new : List ℕ) → new ≡ frames → PlaysSome (before_stop arrivals) w new
+    Playing-some new same = record { first = now.first; more = before_stop (drop index arrivals); split = now.split; after = now.after; transcript = subst (λ o. Transcript now.first w o now.after) (sym same) now.transcript }
+
+  -- one that holds an archive without entries, and hasn't failed, stands as a script begins
+  pub shows-start : (k : K) (config : Config) → holds k (empty_archive config) → stale k ≡ false → leaves k (clock k) (one_of (standing (empty_archive config) None)) → faults k ≡ 0
+      → Shows holds stale clock leaves faults (record { session = None; keep = k }) (start config)
+  shows-start k config held ready left unfailed = record { session_is = refl; fits = record { ready = λ r. (held, refl); left = left }; unfailed = unfailed }
+
+  -- an event that changes the session alone, and writes nothing
+  pub prints-silent : (event : Event) (piece : List ℕ) (w v : World) (old : List ℕ) (q : Played K) → Shows holds stale clock leaves faults q v → Turned (event, piece) w [] v → Prints holds stale clock leaves faults (event, piece) w old q old
+  prints-silent event piece w v old q shows turned = record { after = v; shows = shows; printed = []; turned = turned; frames = sym (append-nil old) }
+
+  -- the keeper that stands as a world does, and a session
+  pub shows-session : (p q : Played K) (w : World) (session : Option (List ℕ)) → Shows holds stale clock leaves faults p w → q.keep ≡ p.keep → session ≡ q.session → Shows holds stale clock leaves faults q (world session w.standing)
+  shows-session p q w session shows kept is = record {
+    session_is = is;
+    fits = subst (λ (k : K). Fits holds stale clock leaves k w.standing) (sym kept) shows.fits;
+    unfailed = ap faults kept ∙ shows.unfailed;
   }
 
-  all_of : before_stop (drop index arrivals) ≡ [] → Transcript (before_stop arrivals) w frames v
-  all_of none = subst (λ (es : List Arrival). Transcript es w frames v) (sym (p.split ∙ ap (λ (es : List Arrival). p.first ++ es) none ∙ append-nil p.first)) p.transcript
+  -- a piece without a session
+  pub prints-passed : (conn moment : ℕ) (piece : List ℕ) (p q : Played K) (w : World) (old : List ℕ) → Shows holds stale clock leaves faults p w → p.session ≡ None → q.session ≡ None → q.keep ≡ p.keep → PrintsPiece holds stale clock leaves faults conn moment piece w old q old
+  prints-passed conn moment piece p q w old shows none gone kept = record {
+    after = w;
+    shows = record { session_is = shows.session_is ∙ none ∙ sym gone; fits = subst (λ (k : K). Fits holds stale clock leaves k w.standing) (sym kept) shows.fits; unfailed = ap faults kept ∙ shows.unfailed };
+    bytes = [];
+    closed = false;
+    came = subst (λ (s : Option (List ℕ)). CameTo s moment piece w [] false w) (sym (shows.session_is ∙ none)) (record { silent = record { bytes_is = refl; closed_is = refl }; same = refl });
+    frames = sym (append-nil old);
+  }
 
-  -- behind the last
-  pub Playing-end : event_at arrivals index ≡ None → Transcript (before_stop arrivals) w frames v
-  Playing-end at = all_of (ap before_stop (drop-past arrivals index at))
+  -- what a piece that came to a session leaves, where the disk didn't fail
+  pub prints-fed : (conn moment : ℕ) (piece held : List ℕ) (p q : Played K) (w : World) (old new bytes : List ℕ) (t : Standing) (opened closed : Bool) →
+      Shows holds stale clock leaves faults p w → p.session ≡ Some held → closed ≡ is_none q.session → Fits holds stale clock leaves q.keep t → faults q.keep ≡ 0
+      → Fed (said moment) has_request (talk (Some (waiting (held ++ piece) true)) w.standing (outside (Some []) 0 0)) (talk (waiting_if q.session opened) t (outside (Some bytes) 0 0))
+      → new ≡ old ++ frame conn bytes closed → PrintsPiece holds stale clock leaves faults conn moment piece w old q new
+  prints-fed conn moment piece held p q w old new bytes t opened closed shows there ends fits unfailed fed frames = record {
+    after = world q.session t;
+    shows = record { session_is = refl; fits = fits; unfailed = unfailed };
+    bytes = bytes;
+    closed = closed;
+    came = subst (λ (s : Option (List ℕ)). CameTo s moment piece w bytes closed (world q.session t)) (sym (shows.session_is ∙ there)) (record { closed_is = ends; opened = opened; fed = fed });
+    frames = frames;
+  }
 
-  -- at a stop
-  pub Playing-stop : (e : Event) → event_at arrivals index ≡ Some e → is_stop e.what ≡ true → Transcript (before_stop arrivals) w frames v
-  Playing-stop e at stops = all_of (ap before_stop (drop-at arrivals index e at) ∙ ap (λ b. kept_unless b (e, piece_at arrivals index) (before_stop (drop (index + 1) arrivals))) stops)
+  -- what a session makes of a piece: see `feed`
+  abbrev pub Feeds : ℕ → List ℕ → List ℕ → K → List ℕ → ℕ → Bool → List ℕ → K → List ℕ → ℕ → Type 0
+  Feeds moment held piece old taken lost goes_on session new bytes lost' =
+      (s : Standing) → Fits holds stale clock leaves old s
+      → (t : Standing) × (opened : Bool) × Fits holds stale clock leaves new t
+      × Fed (said moment) has_request (talk (Some (waiting (held ++ piece) true)) s (outside (Some taken) (faults old) lost)) (talk (held_if goes_on (waiting session opened)) t (outside (Some bytes) (faults new) lost'))
 
-  -- where it ends early
-  pub Playing-some : (new : List ℕ) → new ≡ frames → PlaysSome (before_stop arrivals) w new
-  Playing-some new same = record { first = p.first; more = before_stop (drop index arrivals); split = p.split; after = v; transcript = subst (λ o. Transcript p.first w o v) (sym same) p.transcript }
+  module _ (conn moment : ℕ) (piece held : List ℕ) (p : Played K) (w : World) (old new taken bytes session : List ℕ) (lost lost' : ℕ) (keep : K) (goes_on : Bool)
+      (shows : Shows holds stale clock leaves faults p w) (there : p.session ≡ Some held) (none : taken ≡ []) (unlost : lost ≡ 0) (fed : Feeds moment held piece p.keep taken lost goes_on session keep bytes lost')
+      (unfailed : faults keep ≡ 0) (whole : lost' ≡ 0) where
+    -- the session goes on
+    pub piece-goes_on : goes_on ≡ true → new ≡ old ++ frame conn bytes false → PrintsPiece holds stale clock leaves faults conn moment piece w old (record { session = Some session; keep = keep }) new
+    piece-goes_on goes frames =
+        let f = fed w.standing shows.fits in
+        prints-fed conn moment piece held p (record { session = Some session; keep = keep }) w old new bytes f.0 f.1 false shows there refl f.2 unfailed (rw (none, shows.unfailed, unlost, goes, unfailed, whole) at f.3) frames
 
--- an event at which nothing happens
-pub prints-quiet : (event : Event) (piece : List ℕ) (w : World) (old : List ℕ) → event.what ≡ Quiet → Prints (event, piece) w old w old
-prints-quiet event piece w old h = record {
-  printed = [];
-  turned = record { bytes = []; closed = false; turn = rw h (record { silent = record { bytes_is = refl; closed_is = refl }; same = refl }); printed_is = refl };
-  frames = sym (append-nil old);
-}
+    -- the session is closed
+    pub piece-closes : goes_on ≡ false → (session_left : Option (List ℕ)) → session_left ≡ None → new ≡ old ++ frame conn bytes true → PrintsPiece holds stale clock leaves faults conn moment piece w old (record { session = session_left; keep = keep }) new
+    piece-closes goes session_left gone frames =
+        let f = fed w.standing shows.fits in
+        subst (λ (s : Option (List ℕ)). PrintsPiece holds stale clock leaves faults conn moment piece w old (record { session = s; keep = keep }) new) (sym gone)
+        (prints-fed conn moment piece held p (record { session = None; keep = keep }) w old new bytes f.0 f.1 true shows there refl f.2 unfailed (rw (none, shows.unfailed, unlost, goes, unfailed, whole) at f.3) frames)
 
-pub prints-stop : (event : Event) (piece : List ℕ) (w : World) (old : List ℕ) → event.what ≡ Stop → Prints (event, piece) w old w old
-prints-stop event piece w old h = record {
-  printed = [];
-  turned = record { bytes = []; closed = false; turn = rw h (record { silent = record { bytes_is = refl; closed_is = refl }; same = refl }); printed_is = refl };
-  frames = sym (append-nil old);
-}
-
--- a piece without a session
-pub prints-passed : (conn moment : ℕ) (piece : List ℕ) (session left : Option (List ℕ)) (archive : Archive) (w : World) (old : List ℕ) → world session archive ≡ w → session ≡ None → left ≡ None → PrintsPiece conn moment piece w old (world left archive) old
-prints-passed conn moment piece session left archive w old is none gone = record {
-  bytes = [];
-  closed = false;
-  came =
-      subst (λ (x : World). CameTo x.session moment piece x [] false (world left archive)) is
-      (rw none (record { silent = record { bytes_is = refl; closed_is = refl }; same = ap (λ (s : Option (List ℕ)). world s archive) gone }));
-  frames = sym (append-nil old);
-}
-
--- a piece that came to a session
-pub prints-fed : (conn moment : ℕ) (piece held : List ℕ) (session next : Option (List ℕ)) (archive after : Archive) (w : World) (old new bytes : List ℕ) (faults : ℕ) (closed : Bool) → world session archive ≡ w → session ≡ Some held → closed ≡ is_none next → faults ≡ 0
-    → Fed (said moment) is_request (talk (Some (held ++ piece)) archive (outside (Some []) 0 0)) (talk next after (outside (Some bytes) 0 faults)) → new ≡ old ++ frame conn bytes closed → PrintsPiece conn moment piece w old (world next after) new
-prints-fed conn moment piece held session next archive after w old new bytes faults closed is there ends whole fed frames = record {
-  bytes = bytes;
-  closed = closed;
-  came =
-      subst (λ (x : World). CameTo x.session moment piece x bytes closed (world next after)) is
-      (rw there (record { closed_is = ends; fed = rw whole at fed }));
-  frames = frames;
-}
-
--- two facts of an answer that is Ok give a third
-pub on_ok-both : {T E P Q R : Type 0} (answer : Result T E) → (P → Q → R) → OnOk answer P → OnOk answer Q → OnOk answer R
-on_ok-both (Ok x) f p q = f p q
-on_ok-both (Err e) f p q = tt
-
--- a piece that closed the session, where no session is left
-pub prints-closed : (conn moment : ℕ) (piece held : List ℕ) (session left : Option (List ℕ)) (archive after : Archive) (w : World) (old new taken bytes : List ℕ) (lost faults : ℕ) → world session archive ≡ w → session ≡ Some held → left ≡ None → taken ≡ [] → lost ≡ 0
-    → Fed (said moment) is_request (talk (Some (held ++ piece)) archive (outside (Some taken) 0 lost)) (talk None after (outside (Some bytes) 0 faults)) → faults ≡ 0 → new ≡ old ++ frame conn bytes true → PrintsPiece conn moment piece w old (world left after) new
-prints-closed conn moment piece held session left archive after w old new taken bytes lost faults is there gone none zero_lost fed whole frames =
-    rw gone (prints-fed conn moment piece held session None archive after w old new bytes faults true is there refl whole (rw (none, zero_lost) at fed) frames)
+-- three facts of an answer that is Ok give a fourth
+pub on_ok-three : {T E P Q R S : Type 0} (answer : Result T E) → (P → Q → R → S) → OnOk answer P → OnOk answer Q → OnOk answer R → OnOk answer S
+on_ok-three (Ok x) f p q r = f p q r
+on_ok-three (Err e) f p q r = tt
 
 -- an event stands within the script
 pub within-at : (arrivals : List Arrival) (i : ℕ) (e : Event) → event_at arrivals i ≡ Some e → i < length arrivals
 within-at [] i e h = absurd (cc h)
 within-at (a ∷ arrivals) zero e h = omega arith
 within-at (a ∷ arrivals) (suc i) e h = omega (arith, within-at arrivals i e h)
+
+-- the moment of an event of a script
+pub moment-at : (arrivals : List Arrival) (i : ℕ) (e : Event) → All IsArrival arrivals → event_at arrivals i ≡ Some e → e.moment ≤ last_moment
+moment-at [] i e all h = absurd (cc h)
+moment-at (a ∷ arrivals) zero e all h = let same : a.0 ≡ e = cc in subst (λ (x : Event). x.moment ≤ last_moment) same (All-head IsArrival a arrivals all).in_range.moment
+moment-at (a ∷ arrivals) (suc i) e all h = moment-at arrivals i e (All-tail IsArrival a arrivals all) h

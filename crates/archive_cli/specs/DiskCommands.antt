@@ -2,7 +2,7 @@
 use Rattle.std.specs.Prelude.{◌≡◌, ◌⊎◌, ◌+◌, ◌<◌, ◌^◌, ℕ, List, length, Option, Some, Ok, Err}
 use Rattle.std.specs.List.{Contains}
 use Rattle.arch_base.specs.declared.config.Config.{Config}
-use Rattle.disk_model.specs.Disk.{Files, Content, WhereTold}
+use Rattle.disk_model.specs.Disk.{Files, Content, Told, WhereTold}
 use Rattle.root_slots.specs.declared.root.Root.{Root}
 use Rattle.root_slots.specs.RootName.{root_name}
 use Rattle.root_slots.specs.Slots.{IsShutFile}
@@ -13,9 +13,10 @@ use Rattle.arch_model.specs.declared.answer.Answer.TheVariants as answer
 use Rattle.arch_model.specs.declared.opening.OpenRefusal.TheVariants as refusal
 use Rattle.epoch_store.specs.Files.{as_read}
 use Rattle.epoch_store.specs.Finding.{IsCurrentRoot}
-use Rattle.epoch_store.specs.Opens.{Opens, ReadsAs, RecoversOf}
+use Rattle.epoch_store.specs.Opens.{IsOnlySynced, Opens, ReadsAs, RecoversOf}
 use Rattle.epoch_store.specs.Recovery.{Recovers}
 use Rattle.epoch_store.specs.Stores.{View, IsStoreOf, IsDiskOf}
+use Rattle.archive_core.specs.Openings.{LeavesKindly}
 use Rattle.archive_cli.specs.declared.outcome.Outcome.{Outcome}
 use Rattle.archive_cli.specs.declared.outcome.Outcome.TheVariants.{Made, Exists, Checked, Answered, Unopened}
 
@@ -27,13 +28,13 @@ IsOwn a content = (v : View) × IsStoreOf v a content
 abbrev pub HasRoom : Option Content → Type 0
 HasRoom content = WhereTold (λ k. (root : Root) (slot : ℕ) → IsCurrentRoot root slot (as_read k) → root.sequence + 1 < 2 ^ 64) content
 
--- How `init` ends: an archive is made where no slot is open, and the disk is its own; else there is one. The disk may have failed, or
--- memory was wanted.
+-- How `init` ends: an archive is made where no slot is open, and the disk is its own; else there is one, and the disk is synced and no
+-- more. The disk may have failed; or memory was wanted, and the disk is synced and no more.
 abbrev pub Makes : Config → Outcome → Option Content → Option Content → Type 0
 Makes config (Made name) old new = (name ≡ config.name) × WhereTold (λ k. IsShutFile (k root_name).seen) old × WhereTold (λ k. (v : View) × IsDiskOf v (empty_archive config) k) new
-Makes config Exists old new = WhereTold (λ k. IsShutFile (k root_name).seen → ⊥) old
+Makes config Exists old new = WhereTold (λ k. IsShutFile (k root_name).seen → ⊥) old × Told IsOnlySynced old new
 Makes config (Answered answer.DiskFault) old new = Unit {0}
-Makes config (Answered answer.NoMemory) old new = Unit {0}
+Makes config (Answered answer.NoMemory) old new = Told IsOnlySynced old new
 Makes config (Answered (answer.Ok number id)) old new = ⊥
 Makes config (Answered (answer.Duplicate number)) old new = ⊥
 Makes config (Answered answer.NoFields) old new = ⊥
@@ -98,6 +99,15 @@ IsOpenedAs files (Checked entries live next) = (v : View) × Opens files (Ok v) 
 IsOpenedAs files (Answered reply) = (v : View) × Opens files (Ok v)
 IsOpenedAs files (Made name) = ⊥
 IsOpenedAs files Exists = ⊥
+
+-- What isn't opened is left alone: where there is no archive, or a file is damaged, all files are synced and no more; where memory was
+-- wanted they still read as those of the archive that they did. Of any other outcome nothing is said here.
+abbrev pub LeavesUnopened : Outcome → Option Content → Option Content → Type 0
+LeavesUnopened (Unopened why) old new = LeavesKindly why old new
+LeavesUnopened (Checked entries live next) old new = Unit {0}
+LeavesUnopened (Answered reply) old new = Unit {0}
+LeavesUnopened (Made name) old new = Unit {0}
+LeavesUnopened Exists old new = Unit {0}
 
 -- files stand for one of these archives, or for what a delivery to one of them leaves
 abbrev pub RecoversBehind : List (Option Archive) → List ℕ → ℕ → Files → Type 0

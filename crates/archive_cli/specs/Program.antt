@@ -7,11 +7,12 @@ use Rattle.edge_io.specs.Coming.{Moments, IsFirst}
 use Rattle.edge_io.specs.Taken.{plus}
 use Rattle.edge_io.specs.Left.{before}
 use Rattle.edge_io.specs.Scripts.{Arrival, IsScript, IsBad}
+use Rattle.arch_model.specs.Standing.{standing}
 use Rattle.arch_model.specs.Archives.{Archive, empty_archive}
 use Rattle.epoch_store.specs.Files.{as_read}
 use Rattle.epoch_store.specs.First.{MakingLeaves}
 use Rattle.epoch_store.specs.Opens.{ReadsAs}
-use Rattle.archive_cli.specs.DiskCommands.{HasRoom, Makes, DeliversTo, ChecksTo, IsOpenedAs, IsFault, RecoversBehind}
+use Rattle.archive_cli.specs.DiskCommands.{HasRoom, Makes, DeliversTo, ChecksTo, IsOpenedAs, IsFault, RecoversBehind, LeavesUnopened}
 use Rattle.archive_cli.specs.Outcomes.{outcome_line, status_of}
 use Rattle.archive_cli.specs.Words.{IsJob, AsksFor}
 use Rattle.archive_cli.specs.Frames.{line}
@@ -24,7 +25,7 @@ use Rattle.archive_cli.specs.declared.texts.TheConstants.{HELP, VERSION}
 
 -- a script begins with an empty archive and without a session
 abbrev pub start : Config → World
-start config = record { session = None; archive = empty_archive config }
+start config = record { session = None; standing = standing (empty_archive config) None }
 
 -- the greatest length of a script
 abbrev pub input_limit : ℕ
@@ -93,8 +94,8 @@ message_of input = take message_limit input
 abbrev pub ActsBy : Job → List ℕ → ℕ → Option Content → Option Content → Outcome → Type 0
 ActsBy (Init config) input moment old new o = Makes (made_at config moment) o old new
 ActsBy Deliver input moment old new o =
-    ((a : Archive) → ReadsAs a old → HasRoom old → DeliversTo a (message_of input) moment o new) × WhereTold (λ k. IsOpenedAs (as_read k) o) old
-ActsBy Check input moment old new o = ((a : Archive) → ReadsAs a old → ChecksTo a o new) × WhereTold (λ k. IsOpenedAs (as_read k) o) old
+    ((a : Archive) → ReadsAs a old → HasRoom old → DeliversTo a (message_of input) moment o new) × WhereTold (λ k. IsOpenedAs (as_read k) o) old × LeavesUnopened o old new
+ActsBy Check input moment old new o = ((a : Archive) → ReadsAs a old → ChecksTo a o new) × WhereTold (λ k. IsOpenedAs (as_read k) o) old × LeavesUnopened o old new
 ActsBy Help input moment old new o = ⊥
 ActsBy Version input moment old new o = ⊥
 ActsBy (Replay config) input moment old new o = ⊥

@@ -1,5 +1,5 @@
 -- What the events of a script make of an archive and its one connection.
-use Rattle.std.specs.Prelude.{◌≡◌, ◌++◌, ℕ, Bool, true, false, List, [], ◌∷◌, length, Option, Some, None, is_none}
+use Rattle.std.specs.Prelude.{◌≡◌, ◌++◌, ℕ, Bool, true, false, List, [], ◌∷◌, Option, Some, None, is_none}
 use Rattle.edge_io.specs.Scripts.{Arrival}
 use Rattle.edge_io.specs.declared.events.What.{What}
 use Rattle.edge_io.specs.declared.events.What.TheVariants.{Opened, Bytes, Ended, Quiet, Stop}
@@ -7,14 +7,16 @@ use Rattle.line_door.specs.Acts.{Said, outside}
 use Rattle.line_door.specs.Course.{talk, Fed}
 use Rattle.line_door.specs.Plain.{plain}
 use Rattle.arch_model.specs.Archives.{Archive}
-use Rattle.control_door.specs.Requests.{is_request}
-use Rattle.control_door.specs.Door.{said}
+use Rattle.arch_model.specs.Standing.{Standing, standing}
+use Rattle.control_door.specs.Door.{Waiting, waiting, said, has_request, left}
+use Rattle.control_door.specs.Laws.{bytes_of}
 use Rattle.archive_cli.specs.Frames.{frame}
 
--- the session of the connection, which is its bytes that are not answered yet, or none; and the archive
+-- the session of the connection, which is its bytes that are not answered yet, or none; and the archive, with the one that is in
+-- doubt, if any
 pub record World : Type 0 where
   pub session : Option (List ℕ)
-  pub archive : Archive
+  pub standing : Standing
 
 -- the connection that an event is about
 abbrev pub conn_of : What → ℕ
@@ -37,12 +39,18 @@ pub record Passed (w : World) (bytes : List ℕ) (closed : Bool) (v : World) : T
 -- the session of the connection is now this one
 pub record Changed (w : World) (session : Option (List ℕ)) (bytes : List ℕ) (closed : Bool) (v : World) : Type 0 where
   pub silent : Silent bytes closed
-  pub same : v ≡ record { session = session; archive = w.archive }
+  pub same : v ≡ record { session = session; standing = w.standing }
 
--- a session took a piece: its requests were answered, and the connection is closed where no session is left
+-- the session that is open, if it is: its bytes, and whether the archive was opened behind its last request
+abbrev pub waiting_if : Option (List ℕ) → Bool → Option Waiting
+waiting_if None opened = None
+waiting_if (Some bytes) opened = Some (waiting bytes opened)
+
+-- A session took a piece: its requests were answered, and the connection is closed where no session is left. The disk did not fail.
 pub record FedTo (moment : ℕ) (held piece : List ℕ) (w : World) (bytes : List ℕ) (closed : Bool) (v : World) : Type 0 where
   pub closed_is : closed ≡ is_none v.session
-  pub fed : Fed (said moment) is_request (talk (Some (held ++ piece)) w.archive (outside (Some []) 0 0)) (talk v.session v.archive (outside (Some bytes) 0 0))
+  pub opened : Bool
+  pub fed : Fed (said moment) has_request (talk (Some (waiting (held ++ piece) true)) w.standing (outside (Some []) 0 0)) (talk (waiting_if v.session opened) v.standing (outside (Some bytes) 0 0))
 
 -- a piece comes to the session that is there; without one it is passed over
 abbrev pub CameTo : Option (List ℕ) → ℕ → List ℕ → World → List ℕ → Bool → World → Type 0
@@ -89,8 +97,8 @@ Transcript (arrival ∷ arrivals) w printed v =
 
 -- The same as a function, without any want of memory.
 
-abbrev pub world : Option (List ℕ) → Archive → World
-world session archive = record { session = session; archive = archive }
+abbrev pub world : Option (List ℕ) → Standing → World
+world session standing = record { session = session; standing = standing }
 
 pub record Turn : Type 0 where
   pub bytes : List ℕ
@@ -100,17 +108,17 @@ pub record Turn : Type 0 where
 abbrev pub silent_turn : World → Turn
 silent_turn v = record { bytes = []; closed = false; after = v }
 
-abbrev pub said_turn : Said (List ℕ) Archive → Turn
-said_turn s = record { bytes = s.words; closed = is_none s.next; after = world s.next s.after }
+abbrev pub said_turn : Said Waiting Standing → Turn
+said_turn s = record { bytes = s.words; closed = is_none (bytes_of s.next); after = world (bytes_of s.next) s.after }
 
 abbrev pub plain_piece : Option (List ℕ) → ℕ → List ℕ → World → Turn
 plain_piece None moment piece w = silent_turn w
-plain_piece (Some held) moment piece w = said_turn (plain (said moment) is_request (λ bytes. length bytes) w.archive (held ++ piece))
+plain_piece (Some held) moment piece w = said_turn (plain (said moment) has_request left w.standing (waiting (held ++ piece) true))
 
 abbrev pub plain_turn : What → ℕ → List ℕ → World → Turn
-plain_turn (Opened conn door) moment piece w = silent_turn (world (Some []) w.archive)
+plain_turn (Opened conn door) moment piece w = silent_turn (world (Some []) w.standing)
 plain_turn (Bytes conn len) moment piece w = plain_piece w.session moment piece w
-plain_turn (Ended conn) moment piece w = silent_turn (world None w.archive)
+plain_turn (Ended conn) moment piece w = silent_turn (world None w.standing)
 plain_turn Quiet moment piece w = silent_turn w
 plain_turn Stop moment piece w = silent_turn w
 

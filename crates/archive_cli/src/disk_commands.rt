@@ -8,7 +8,7 @@ ghost use Rattle.arch_model.specs.Validity.{last_moment};
 ghost use Rattle.epoch_store.specs.Files.{as_read};
 ghost use Rattle.epoch_store.specs.First.{MakingLeaves};
 ghost use Rattle.epoch_store.specs.Opens.{AllRecoverOf, ReadsAs, RecoversOf};
-ghost use Rattle.archive_cli.specs.DiskCommands.{Makes, DeliversTo, ChecksTo, IsOpenedAs, RecoversBehind, HasRoom, IsFault};
+ghost use Rattle.archive_cli.specs.DiskCommands.{Makes, DeliversTo, ChecksTo, IsOpenedAs, LeavesUnopened, RecoversBehind, HasRoom, IsFault};
 
 use crate::outcome::Outcome;
 use arch_base::Config;
@@ -41,6 +41,7 @@ pub(crate) fn deliver<D: Disk>(alloc: Global, disk: &mut D, bytes: &[u8], moment
         → LeavesOnly D.moment D.left_since disk.old disk.new (RecoversBehind may bytes.now moment) }
     ensures done { (a : Archive) → ReadsAs a (D.content disk.old) → HasRoom (D.content disk.old) → DeliversTo a bytes.now moment result (D.content disk.new) }
     ensures answer { WhereTold (λ k. IsOpenedAs (as_read k) result) (D.content disk.old) }
+    ensures unopened { LeavesUnopened result (D.content disk.old) (D.content disk.new) }
     ensures later { D.faults disk.old ≤ D.faults disk.new }
     ensures fault { IsFault result → Rose (D.faults disk.old) (D.faults disk.new) }
 {
@@ -58,6 +59,7 @@ pub(crate) fn check<D: Disk>(alloc: Global, disk: &mut D) -> Outcome
     ensures any_moment { (may : List (Option Archive)) → AllRecoverOf may (D.content disk.old) → LeavesOnly D.moment D.left_since disk.old disk.new (RecoversOf may) }
     ensures done { (a : Archive) → ReadsAs a (D.content disk.old) → ChecksTo a result (D.content disk.new) }
     ensures answer { WhereTold (λ k. IsOpenedAs (as_read k) result) (D.content disk.old) }
+    ensures unopened { LeavesUnopened result (D.content disk.old) (D.content disk.new) }
     ensures later { D.faults disk.old ≤ D.faults disk.new }
     ensures fault { IsFault result → Rose (D.faults disk.old) (D.faults disk.new) }
 {

@@ -43,4 +43,6 @@ fn main(rt: HostRuntime) -> ExitCode {
 #[cfg(test)]
 mod disk_tests;
 #[cfg(test)]
+mod replay_tests;
+#[cfg(test)]
 mod tests;

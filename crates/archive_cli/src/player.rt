@@ -1,54 +1,69 @@
-//! The events of a script, turned one by one over an archive in memory and its one connection.
-ghost use Rattle.std.specs.Prelude.{◌≡◌, ◌++◌, [], ℕ, List, OnOk, OnErr, None};
-ghost use Rattle.arch_base.specs.Configs.{IsConfig};
-ghost use Rattle.arch_model.specs.Archives.{empty_archive};
-ghost use Rattle.archive_cli.specs.Turns.{world, Transcript, before_stop, is_stop as stops};
-ghost use Rattle.archive_cli.specs.Plays.{Prints, PrintsPiece, PlaysSome};
+//! The events of a script, turned one by one over what keeps an archive and its one connection.
+ghost use Rattle.std.specs.Prelude.{◌≡◌, ◌≤◌, ◌++◌, [], ℕ, List, All, OnOk, OnErr, None};
+ghost use Rattle.edge_io.specs.Scripts.{IsArrival};
+ghost use Rattle.arch_model.specs.Validity.{last_moment};
+ghost use Rattle.archive_cli.specs.Turns.{World, before_stop, is_stop as stops};
+ghost use Rattle.archive_cli.specs.Plays.{Shows, Prints, PrintsPiece, PlaysSome, PlaysAll};
 ghost use Rattle.archive_cli.specs.Frames.{frame};
 
 use crate::frames::push_frame;
-use arch_base::{Bytes, Config, NoMemory, Numbers};
-use arch_model::MemArchive;
+use arch_base::{Bytes, NoMemory, Numbers};
+use arch_model::Keep;
+use archive_core::Engine;
 use control_door::Session;
+use disk_model::MemDisk;
 use edge_io::{Event, MemSink, Script, What};
 use std::alloc::Global;
 use std::marker::Model;
 
-/// An archive in memory, and the session of its one connection, if that is open.
+/// What keeps an archive and tells how often its disk has failed.
+pub(crate) trait CountedKeep: Keep {
+    /// How often its disk has failed.
+    fn failed(&self) -> u64
+        ensures { result ≡ Self.faults self.now };
+}
+
+impl CountedKeep for Engine<MemDisk> {
+    fn failed(&self) -> u64 {
+        self.disk().failed()
+    }
+}
+
+/// What keeps an archive, and the session of its one connection, if that is open.
 #[derive(Drop)]
-pub(crate) struct Player {
+pub(crate) struct Player<K> {
     alloc: Global,
     session: Option<Session>,
-    archive: MemArchive,
+    keep: K,
 }
 
-impl Model for Player {
-    ghost use Rattle.archive_cli.specs.Turns.{World, world};
+impl<K> Model for Player<K> {
+    ghost use Rattle.archive_cli.specs.Plays.{Played};
 
-    ghost Value = { World };
+    ghost Value = { Played K };
 
-    ghost view = { λ p. world p.session p.archive };
+    ghost view = { λ p. record { session = p.session; keep = p.keep } };
 }
 
-impl Player {
-    /// An archive without entries and without a session.
-    pub(crate) fn new(alloc: Global, config: Config) -> Player
-        requires { IsConfig config }
-        ensures { result ≡ world None (empty_archive config) }
+impl<K: CountedKeep> Player<K> {
+    /// What keeps an archive, without a session.
+    pub(crate) fn new(alloc: Global, keep: K) -> Player<K>
+        ensures { result ≡ record { session = None; keep = keep } }
     {
         Player {
             alloc,
             session: None,
-            archive: MemArchive::new(alloc, config),
+            keep,
         }
     }
 
-    /// Turns the events of a script up to the first stop, and puts what they write into frames. Where there is no memory, the
-    /// frames are those of the events before.
+    /// Turns the events of a script up to the first stop, and puts what they write into frames. Where there is no memory, or the disk
+    /// fails, the frames are those of the events before.
     pub(crate) fn play(&mut self, script: &Script, frames: &mut Bytes) -> Result<(), NoMemory>
-        requires { frames.old ≡ [] }
-        ensures ok { OnOk result (Transcript (before_stop script.now) self.old frames.new self.new) }
-        ensures err { OnErr result (PlaysSome (before_stop script.now) self.old frames.new) }
+        requires none { frames.old ≡ [] }
+        requires script { All IsArrival script.now }
+        ensures ok { (w : World) → Shows K.holds K.stale K.clock K.leaves K.faults self.old w → OnOk result (PlaysAll (before_stop script.now) w frames.new) }
+        ensures err { (w : World) → Shows K.holds K.stale K.clock K.leaves K.faults self.old w → OnErr result (PlaysSome (before_stop script.now) w frames.new) }
     {
         let mut index: u64 = 0;
         while let Some(event) = script.event(index) {
@@ -61,9 +76,10 @@ impl Player {
         Ok(())
     }
 
-    /// Turns one event, and puts what it wrote behind the frames. Where there is no memory, the frames stay.
+    /// Turns one event, and puts what it wrote behind the frames. Where there is no memory, or the disk fails, the frames stay.
     fn turn(&mut self, event: &Event, piece: &[u8], frames: &mut Bytes) -> Result<(), NoMemory>
-        ensures ok { OnOk result (Prints (event.now, piece.now) self.old frames.old self.new frames.new) }
+        requires moment { event.now.moment ≤ last_moment }
+        ensures ok { (w : World) → Shows K.holds K.stale K.clock K.leaves K.faults self.old w → OnOk result (Prints K.holds K.stale K.clock K.leaves K.faults (event.now, piece.now) w frames.old self.new frames.new) }
         ensures err { OnErr result (frames.new ≡ frames.old) }
     {
         match event.what {
@@ -89,38 +105,47 @@ impl Player {
         piece: &[u8],
         frames: &mut Bytes,
     ) -> Result<(), NoMemory>
-        ensures ok { OnOk result (PrintsPiece conn moment piece.now self.old frames.old self.new frames.new) }
+        requires moment { moment ≤ last_moment }
+        ensures ok { (w : World) → Shows K.holds K.stale K.clock K.leaves K.faults self.old w → OnOk result (PrintsPiece K.holds K.stale K.clock K.leaves K.faults conn moment piece.now w frames.old self.new frames.new) }
         ensures err { OnErr result (frames.new ≡ frames.old) }
     {
         let Some(mut session) = self.session.take() else {
             return Ok(());
         };
-        let mut sink = MemSink::new(self.alloc, Numbers::new(self.alloc));
-        if session.feed(piece, moment, &mut self.archive, &mut sink) {
-            self.session = Some(session);
-            return push_taken(self.alloc, &sink, conn, false, frames);
+        if self.keep.is_stale() {
+            return Err(NoMemory);
         }
-        push_taken(self.alloc, &sink, conn, true, frames)
+        let mut sink = MemSink::new(self.alloc, Numbers::new(self.alloc));
+        if session.feed(piece, moment, &mut self.keep, &mut sink) {
+            self.session = Some(session);
+            return self.push_taken(&sink, conn, false, frames);
+        }
+        self.push_taken(&sink, conn, true, frames)
     }
-}
 
-/// Puts the frame of what a sink took behind the frames. Where the sink or the frame finds no memory, the frames stay.
-fn push_taken(
-    alloc: Global,
-    sink: &MemSink,
-    conn: u32,
-    closed: bool,
-    frames: &mut Bytes,
-) -> Result<(), NoMemory>
-    requires { sink.now.listed ≡ [] }
-    ensures whole { OnOk result (sink.now.faults ≡ 0) }
-    ensures ok { OnOk result (frames.new ≡ frames.old ++ frame conn sink.now.taken closed) }
-    ensures err { OnErr result (frames.new ≡ frames.old) }
-{
-    if sink.starved() > 0 {
-        return Err(NoMemory);
+    /// Puts the frame of what a sink took behind the frames. Where the sink or the frame finds no memory, or the disk failed, the
+    /// frames stay.
+    fn push_taken(
+        &self,
+        sink: &MemSink,
+        conn: u32,
+        closed: bool,
+        frames: &mut Bytes,
+    ) -> Result<(), NoMemory>
+        requires { sink.now.listed ≡ [] }
+        ensures unfailed { OnOk result (K.faults self.now.keep ≡ 0) }
+        ensures whole { OnOk result (sink.now.faults ≡ 0) }
+        ensures ok { OnOk result (frames.new ≡ frames.old ++ frame conn sink.now.taken closed) }
+        ensures err { OnErr result (frames.new ≡ frames.old) }
+    {
+        if sink.starved() > 0 {
+            return Err(NoMemory);
+        }
+        if self.keep.failed() > 0 {
+            return Err(NoMemory);
+        }
+        push_frame(self.alloc, frames, conn, sink.taken(), closed)
     }
-    push_frame(alloc, frames, conn, sink.taken(), closed)
 }
 
 /// Whether an event stops the script.

@@ -1,7 +1,7 @@
 //! What the program does: all of it, over a handed-in input and output.
-ghost use Rattle.std.specs.Prelude.{◌≡◌, ◌≤◌, ◌+◌, ◌++◌, ◌∷◌, [], ℕ, List, Option, None, length, codes, decimal};
+ghost use Rattle.std.specs.Prelude.{◌≡◌, ◌≤◌, ◌+◌, ◌++◌, ◌∷◌, [], ℕ, List, All, Option, None, false, length, codes, decimal};
 ghost use Rattle.disk_model.specs.Disk.{LeavesOnly};
-ghost use Rattle.arch_model.specs.Archives.{Archive};
+ghost use Rattle.arch_model.specs.Archives.{Archive, empty_archive};
 ghost use Rattle.epoch_store.specs.Opens.{AllRecoverOf, RecoversOf};
 ghost use Rattle.archive_cli.specs.Words.{spelled, AsksFor};
 ghost use Rattle.archive_cli.specs.declared.words.Job.TheVariants.{Init, Deliver, Check};
@@ -12,16 +12,17 @@ ghost use Rattle.archive_cli.specs.Frames.{line};
 ghost use Rattle.archive_cli.specs.Program.{Ran, TakesInput, TookAtMost, LeavesDisk, AsksForInit, WordsLeave, InitLeaves, DeliverLeaves, all_edges, edges, input_limit, message_limit, message_of, made_at};
 ghost use Rattle.archive_cli.specs.Printing.{Printed, Exactly, IsReplayDue, Replayed, JobDone, InputDone, BytesLeave};
 ghost use Rattle.arch_base.specs.Configs.{IsConfig};
-ghost use Rattle.edge_io.specs.Scripts.{IsScript};
+ghost use Rattle.edge_io.specs.Scripts.{IsArrival, IsScript};
 
 use crate::disk_commands::{check, deliver, make};
 use crate::outcome::Outcome;
-use crate::player::Player;
+use crate::player::{CountedKeep, Player};
 use crate::reading::{InputRefusal, read_input, read_message};
 use crate::texts::{HELP, VERSION};
 use crate::words::{Job, read_words};
-use arch_base::{Bytes, Config, NoMemory};
-use disk_model::Disk;
+use arch_base::{Bytes, Config, NoMemory, Numbers};
+use archive_core::Engine;
+use disk_model::{Disk, MemDisk};
 use edge_io::{Clock, ClockFault, Script, ScriptRefusal, Sink, Source, script};
 use itoa::Buffer;
 use line_door::say;
@@ -215,14 +216,38 @@ fn replay_text<O: Sink>(alloc: Global, config: Config, text: &[u8], out: &mut O)
     }
 }
 
-/// Plays a script, and prints what its events wrote.
+/// Plays a script over an empty archive of these settings, on a disk in memory, and prints what its events wrote.
 fn replay_script<O: Sink>(alloc: Global, config: Config, events: &Script, out: &mut O) -> u8
-    requires { IsConfig config }
+    requires valid { IsConfig config }
+    requires script { All IsArrival events.now }
     ensures printed { (text : List ℕ) → IsScript events.now text → length text ≤ input_limit →
         Printed (IsReplayDue config text) result (O.taken out.old) (O.faults out.old) (O.taken out.new) (O.faults out.new) }
     ensures sink { O.alike out.old out.new }
 {
-    let mut player = Player::new(alloc, config);
+    let disk = MemDisk::new(alloc, Numbers::new(alloc));
+    match Engine::make(alloc, disk, &config) {
+        Ok(engine) => play_script(alloc, engine, events, out),
+        Err(_refused) => print_no_memory(out),
+    }
+}
+
+/// Plays a script over what keeps an archive, and prints what its events wrote.
+pub(crate) fn play_script<K: CountedKeep + Drop, O: Sink>(
+    alloc: Global,
+    keep: K,
+    events: &Script,
+    out: &mut O,
+) -> u8
+    requires script { All IsArrival events.now }
+    ensures printed { (config : Config) → K.holds keep (empty_archive config) → K.stale keep ≡ false
+        → (text : List ℕ) → IsScript events.now text → length text ≤ input_limit
+        → Printed (IsReplayDue config text) result (O.taken out.old) (O.faults out.old) (O.taken out.new) (O.faults out.new) }
+    ensures sink { O.alike out.old out.new }
+{
+    if keep.failed() > 0 {
+        return print_no_memory(out);
+    }
+    let mut player = Player::new(alloc, keep);
     let mut frames = Bytes::new(alloc);
     match player.play(events, &mut frames) {
         Ok(()) => print(frames.as_slice(), 0, out),

@@ -16,7 +16,7 @@ const FIRST_FRAME: &[u8] =
     b"1 160\n1 ok 1 1d023c572ccd6f3cc82ae855343346b043adaba5\ntext 103\nFrom: Ann <ann@example.org>\nDate: Thu, 1 Feb 2024 10:00:00 +0000\nSubject: first\nMessage-ID: <a@x>\n\none\n\n";
 
 /// The status of a run of words on an input, of which listed reads fail, and what it printed to an output, of which listed writes fail.
-fn ran(
+pub(crate) fn ran(
     alloc: Global,
     words: &[&str],
     input: &[u8],
@@ -267,11 +267,11 @@ fn a_failed_read_or_write_gives_six(rt: HostRuntime) {
 }
 
 /// Words, an input and what is printed.
-type Run = (&'static [&'static str], &'static [u8], &'static [u8]);
+pub(crate) type Run = (&'static [&'static str], &'static [u8], &'static [u8]);
 
 /// Runs worked out by hand, each with its words, its input and what it prints: an id that is made, one that is taken, the greatest number,
 /// and two messages in two epochs and in one.
-const WORKED: [Run; 5] = [
+pub(crate) const WORKED: [Run; 5] = [
     (
         &["replay", "list"],
         b"1706781700 o 1 control\n1706781700 b 1 352\ndeliver 103\nFrom: Ann <ann@example.org>\nDate: Thu, 1 Feb 2024 10:00:00 +0000\nSubject: first\nMessage-ID: <a@x>\n\none\ndeliver 103\nFrom: Ann <ann@example.org>\nDate: Thu, 1 Feb 2024 10:00:00 +0000\nSubject: first\nMessage-ID: <a@x>\n\none\ndeliver 103\nFrom: Ann <ann@example.org>\nDate: Thu, 1 Feb 2024 10:00:00 +0000\nSubject: first\nMessage-ID: <a@x>\n\ntwo\nshow 2\n\n1706781701 s\n",

@@ -1,4 +1,4 @@
-use Rattle.archive_cli.proofs.Transcripts.{plain-transcript}
+use Rattle.archive_cli.proofs.PlainTranscripts.{plain-transcript}
 use Rattle.archive_cli.proofs.laws.plain_is_transcript.Goals as goal
 
 pub returns : goal.returns

@@ -1,9 +1,13 @@
 use Rattle.std.proofs.Common.{◌-◌, length}
+use Rattle.archive_cli.specs.Turns.{World}
+use Rattle.archive_cli.specs.Plays.{Shows}
 use Rattle.archive_cli.proofs.Playing.{Playing}
 use Rattle.archive_cli.proofs.player.Player.play.Given as goal
 
 abbrev pub invariant-loop-event : goal.invariant-loop-event
-invariant-loop-event l = Playing l.script l.fn.self l.index l.frames l.self
+invariant-loop-event g l =
+    (w : World) → Shows g.K.Keep.holds g.K.Keep.stale g.K.Keep.clock g.K.Keep.leaves g.K.Keep.faults l.fn.self w
+    → Playing g.K.Keep.holds g.K.Keep.stale g.K.Keep.clock g.K.Keep.leaves g.K.Keep.faults l.script w l.index l.frames l.self
 
 abbrev pub decreases-loop-event : goal.decreases-loop-event
-decreases-loop-event l = length l.script - l.index
+decreases-loop-event g l = length l.script - l.index

@@ -1,0 +1,24 @@
+use Rattle.std.proofs.Common.{◌≡◌, ◌∙◌, None, refl, sym, subst, arith}
+use Rattle.arch_model.specs.Archives.{empty_archive}
+use Rattle.archive_cli.specs.Plays.{Played, Shows}
+use Rattle.archive_cli.specs.Program.{start}
+use Rattle.archive_cli.proofs.Playing.{shows-start}
+use Rattle.archive_cli.proofs.Printed.{printed-as, due-none, due-played, due-part}
+use Rattle.archive_cli.proofs.program.play_script.Goals as goal
+
+pub returns-then-failed-gt0-clause-printed : goal.returns-then-failed-gt0-clause-printed
+returns-then-failed-gt0-clause-printed g c = λ config held ready text script short. printed-as _ _ _ _ _ _ _ c.print_no_memory.ensures.printed (due-none config text)
+
+pub returns-in-Ok-clause-printed : goal.returns-in-Ok-clause-printed
+returns-in-Ok-clause-printed g c = λ config held ready text script short.
+    let zero : c.failed.result ≡ 0 = omega (arith, c.if-failed-gt0.false) in
+    let shows = shows-start g.K.Keep.holds g.K.Keep.stale g.K.Keep.clock g.K.Keep.leaves g.K.Keep.faults c.args.keep config held ready (g.met.K.Keep.holds_left c.args.keep (empty_archive config) held) (sym c.failed.ensures ∙ zero) in
+    let played = c.in-Ok.ensures.ok (start config) (subst (λ p. Shows g.K.Keep.holds g.K.Keep.stale g.K.Keep.clock g.K.Keep.leaves g.K.Keep.faults p (start config)) (sym c.new-player.ensures) shows) in
+    printed-as _ _ _ _ _ _ _ c.print.ensures.printed (due-played config text c.as_slice.result.now c.args.events.now played.after short script (rw (sym c.as_slice.ensures) at played.transcript))
+
+pub returns-clause-printed : goal.returns-clause-printed
+returns-clause-printed g c = λ config held ready text script short.
+    let zero : c.failed.result ≡ 0 = omega (arith, c.if-failed-gt0.false) in
+    let shows = shows-start g.K.Keep.holds g.K.Keep.stale g.K.Keep.clock g.K.Keep.leaves g.K.Keep.faults c.args.keep config held ready (g.met.K.Keep.holds_left c.args.keep (empty_archive config) held) (sym c.failed.ensures ∙ zero) in
+    let played = c.in-Err.ensures.err (start config) (subst (λ p. Shows g.K.Keep.holds g.K.Keep.stale g.K.Keep.clock g.K.Keep.leaves g.K.Keep.faults p (start config)) (sym c.new-player.ensures) shows) in
+    printed-as _ _ _ _ _ _ _ c.print_two.ensures.printed (due-part config text c.as_slice-in-Err.result.now c.args.events.now short script (rw (sym c.as_slice-in-Err.ensures) at played))
