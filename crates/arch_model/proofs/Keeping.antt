@@ -1,4 +1,4 @@
--- What an archive in memory holds with one more message.
+-- What the archive in memory holds after one more message.
 use Rattle.std.proofs.Common.{◌≡◌, ◌+◌, ◌≤◌, ℕ, List, [], ◌∷◌, ◌++◌, length, Some, None, refl, sym, ◌∙◌, ap, subst, arith, length-append}
 use Rattle.arch_base.specs.declared.config.Config.{Config}
 use Rattle.arch_base.specs.declared.ids.Id20.{Id20}
@@ -14,7 +14,7 @@ use Rattle.arch_model.specs.declared.index.Index.{Index}
 use Rattle.arch_model.proofs.Owners.{IsIndex-push}
 use Rattle.arch_model.proofs.Ends.{IsEnd-new, IsEnd-push, last_epoch-push}
 
--- one more message stands behind the others, with the next number
+-- One more message is appended as the entry with the next number.
 pub entries_from-push : (n : ℕ) (ks : List Kept) (k : Kept) → entries_from n (ks ++ k ∷ []) ≡ entries_from n ks ++ record { number = n + length ks; epoch = k.epoch; text = k.text; moment = k.moment } ∷ []
 entries_from-push n [] k = let same : n ≡ n + 0 = omega arith in ap (λ m. record { number = m; epoch = k.epoch; text = k.text; moment = k.moment } ∷ []) same
 entries_from-push n (x ∷ ks) k =
