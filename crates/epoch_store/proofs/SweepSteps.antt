@@ -1,4 +1,4 @@
--- The steps by which a disk is brought to rest, of a disk that tells its content.
+-- The steps of settling a disk that tells its content.
 use Rattle.std.specs.Prelude.{◌≡◌, ◌≢◌, ℕ, List, get_or, Option, Some, None}
 use Rattle.std.proofs.Common.{sym, subst}
 use Rattle.disk_model.specs.declared.name.FileName.{FileName}
@@ -17,18 +17,18 @@ use Rattle.epoch_store.specs.Settling.{Rests, StaysCurrent, IsReadied, ToSweep, 
 use Rattle.epoch_store.proofs.Appends.{map_isnt_root, epoch_isnt_root}
 use Rattle.epoch_store.proofs.Sweeping.{stands_ready, cutting_stands, removing_stands, swept}
 
--- the current root is there
+-- The current root is there.
 pub current_root : (slot : ℕ) (body : List ℕ) (file : File) → IfThere (Current slot body) file → IfThere (HasRoot body) file
 current_root slot body None there = absurd there
 current_root slot body (Some file) there = (slot, there)
 
 module _ (root : Root) (slot : ℕ) (map : List ℕ) (epochs : ℕ → List ℕ) (others : List FileName) where
-  -- what is to be swept rests
+  -- A disk that is to be settled is synced and has its current root.
   pub to_sweep_rests : (k : Option Content) → ToSweep root slot map epochs others k → Rests slot (spelling root) k
   to_sweep_rests None sweep = absurd sweep
   to_sweep_rests (Some k) sweep = sweep.found.rests
 
-  -- while the other slot is made ready
+  -- While the other slot is made ready.
   pub during_ready : (k : Option Content) (image : Files) → ToSweep root slot map epochs others k → StaysCurrent slot (spelling root) k image → StandsFor root map epochs image
   during_ready None image sweep stays = absurd sweep
   during_ready (Some k) image sweep stays = record {
@@ -39,13 +39,13 @@ module _ (root : Root) (slot : ℕ) (map : List ℕ) (epochs : ℕ → List ℕ)
     rests : (name : FileName) → name ≢ root_name → image name ≡ (k name).seen
     rests name apart = Fits-exact (k name).seen (image name) (Fits-Within (k name).sure (exact (k name).seen) (image name) (sweep.found.rests.settled name) (stays.elsewhere name apart))
 
-  -- while tails are cut
+  -- While tails are cut.
   pub during_cut : (k0 k1 : Option Content) (image : Files) → ToSweep root slot map epochs others k0 → Told (IsReadied slot (spelling root)) k0 k1 → HasFronts (named_parts_of root) k1 image → StandsFor root map epochs image
   during_cut None k1 image sweep readied fronts = absurd sweep
   during_cut (Some k0) None image sweep readied fronts = absurd readied
   during_cut (Some k0) (Some k1) image sweep readied fronts = cutting_stands root slot map epochs sweep.found.map_long sweep.found.epochs_long k1 image (stands_ready root slot map epochs others k0 k1 sweep readied) fronts
 
-  -- while other files are taken away
+  -- While other files are removed.
   pub during_removal : (k0 k1 k2 : Option Content) (image : Files) → ToSweep root slot map epochs others k0 → Told (IsReadied slot (spelling root)) k0 k1 → Told (AreCut (named_parts_of root)) k1 k2 → ReadsFit k2
       → ((i : Files) → Image k2 i → HasFronts (named_parts_of root) k1 i) → Fewer others k2 image → StandsFor root map epochs image
   during_removal None k1 k2 image sweep readied cut fit each fewer = absurd sweep
@@ -55,7 +55,7 @@ module _ (root : Root) (slot : ℕ) (map : List ℕ) (epochs : ℕ → List ℕ)
       removing_stands root slot map epochs sweep.found.map_long sweep.found.epochs_long others k0 k1 k2 sweep readied cut image fit
       (λ i left. cutting_stands root slot map epochs sweep.found.map_long sweep.found.epochs_long k1 i (stands_ready root slot map epochs others k0 k1 sweep readied) (each i left)) fewer
 
-  -- what stands in the end
+  -- The state at the end.
   pub at_rest_then : (k0 k1 k2 k3 k4 : Option Content) → ToSweep root slot map epochs others k0 → Told (IsReadied slot (spelling root)) k0 k1 → Told (AreCut (named_parts_of root)) k1 k2 → Told (AreRemoved others) k2 k3 → ReadsFit k4 → Told Synced k3 k4 → OnDisk root slot map epochs k4
   at_rest_then None k1 k2 k3 k4 sweep readied cut removed fit synced = absurd sweep
   at_rest_then (Some k0) None k2 k3 k4 sweep readied cut removed fit synced = absurd readied

@@ -1,4 +1,4 @@
--- A sync, and a look at the root.
+-- A sync, and a read of the root.
 use Rattle.disk_model.specs.Disk.{Files, Image}
 use Rattle.disk_model.specs.Laws.{sync_image}
 use Rattle.disk_model.specs.Moments.{started, goes_on, joined}

@@ -1,4 +1,4 @@
--- What is left while the disk is brought to rest, and what stands then.
+-- What is left while the disk is settled, and what is there then.
 use Rattle.std.proofs.Common.{sym, subst, List}
 use Rattle.disk_model.specs.declared.name.FileName.{FileName}
 use Rattle.disk_model.specs.Disk.{Image, WhereTold}

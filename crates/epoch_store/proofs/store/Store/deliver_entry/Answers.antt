@@ -1,4 +1,4 @@
--- What is kept, and what stands on the disk.
+-- What is kept, and what is on the disk.
 use Rattle.std.proofs.Common.{◌≡◌, ◌∙◌, ◌-◌, ◌++◌, ◌∷◌, [], List, ℕ, sym, ap, subst, is_ok, ◌≤◌, arith}
 use Rattle.disk_model.specs.Disk.{LeavesOnly}
 use Rattle.disk_model.specs.Moments.{started}

@@ -1,4 +1,4 @@
--- What is left while the archive is made, and what is there in the end.
+-- What is left while the archive is created, and what is there at the end.
 use Rattle.std.proofs.Common.{◌≡◌, ◌<◌, sym, subst, inl, arith, List, []}
 use Rattle.disk_model.specs.Disk.{Image, LeavesOnly, WhereTold}
 use Rattle.disk_model.specs.Moments.{joined}

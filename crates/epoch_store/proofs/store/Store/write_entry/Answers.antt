@@ -1,4 +1,4 @@
--- One step for the entry that is put, and one for the root that is committed.
+-- One step for appending the entry, and one for committing the root.
 use Rattle.std.proofs.Common.{◌≡◌, ◌<◌, ◌+◌, ◌-◌, ◌^◌, ◌∙◌, ℕ, List, length, sym, ap, subst, arith}
 use Rattle.disk_model.specs.Disk.{Told, WhereTold, IsAtMostLength, LeavesOnly}
 use Rattle.disk_model.specs.Moments.{joined, weaker}
