@@ -11,26 +11,46 @@ const TREE: &[u8] = b"ff904aaaf3647f5d5e49c759a67194e6c0ea3fa7";
 
 const FIRST: &[u8] = b"76063a3a91ab738c9e5856b47d2659e12609e101";
 
+/// Whether an id is spelled so in hexadecimal.
+fn has_digits(id: &ObjectId, digits: &[u8]) -> bool {
+    Some(*id) == id_of_hex(digits)
+}
+
 #[test]
-fn blobs_and_trees_have_the_ids_of_git(rt: HostRuntime) {
-    let Some(blob) = id_of_hex(BLOB) else {
-        return assert!(rt; false);
-    };
-    assert!(rt; blob_id(b"hello\n") == blob);
-    assert!(rt; Some(blob_id(b"")) == id_of_hex(b"e69de29bb2d1d6434b8b29ae775ad8c2e48c5391"));
-    assert!(rt; Some(object_id(&tree_bytes(b'm', &blob))) == id_of_hex(TREE));
-    assert!(rt;
-        Some(object_id(&tree_bytes(b'd', &blob)))
-            == id_of_hex(b"087bd2d5b1a1d0198d0588d026926acab77d3921")
-    );
-    match read_object(b"blob 6\0hello\ntree") {
-        Some((Object::Blob(content), 13)) => assert!(rt; content == b"hello\n".as_slice()),
-        _ => assert!(rt; false),
+fn blobs_have_the_ids_of_git(rt: HostRuntime) {
+    let empty = b"e69de29bb2d1d6434b8b29ae775ad8c2e48c5391";
+    assert!(rt; has_digits(&blob_id(b"hello\n"), BLOB));
+    assert!(rt; has_digits(&blob_id(b""), empty));
+}
+
+#[test]
+fn trees_have_the_ids_of_git(rt: HostRuntime) {
+    let deletion = b"087bd2d5b1a1d0198d0588d026926acab77d3921";
+    let blob = blob_id(b"hello\n");
+    assert!(rt; has_digits(&object_id(&tree_bytes(b'm', &blob)), TREE));
+    assert!(rt; has_digits(&object_id(&tree_bytes(b'd', &blob)), deletion));
+}
+
+/// Whether the blob of a content stands at the front of bytes, and takes so many.
+fn begins_with_blob(bytes: &[u8], wanted: &[u8], taken: usize) -> bool {
+    match read_object(bytes) {
+        Some((Object::Blob(content), len)) => content == wanted && len == taken,
+        _ => false,
     }
-    match read_object(&tree_bytes(b'd', &blob)) {
-        Some((Object::Tree { name, id }, 37)) => assert!(rt; name == b'd' && id == blob),
-        _ => assert!(rt; false),
+}
+
+/// Whether the spelling of the tree of a deletion is read as that tree, and is taken whole.
+fn reads_deletion_again(blob: &ObjectId) -> bool {
+    match read_object(&tree_bytes(b'd', blob)) {
+        Some((Object::Tree { name, id }, 37)) => name == b'd' && id == *blob,
+        _ => false,
     }
+}
+
+#[test]
+fn objects_are_read(rt: HostRuntime) {
+    assert!(rt; begins_with_blob(b"blob 6\0hello\ntree", b"hello\n", 13));
+    assert!(rt; reads_deletion_again(&blob_id(b"hello\n")));
 }
 
 #[test]
