@@ -25,6 +25,11 @@ impl Taker {
             faults: 0,
         }
     }
+
+    /// Whether it took these bytes, and one write failed.
+    fn holds(&self, bytes: &[u8]) -> bool {
+        self.bytes.as_slice() == bytes && self.faults == 1
+    }
 }
 
 impl Sink for Taker {
@@ -103,17 +108,24 @@ fn one_carriage_return_is_dropped(rt: HostRuntime) {
     }
 }
 
+/// Whether a sink that takes three writes takes words and a line, and no word after them.
+fn takes_three_writes(sink: &mut Taker) -> bool {
+    let words = say(b"ab", sink);
+    let line = say_line(b"cd", sink);
+    let lost = !say(b"ef", sink);
+    words && line && lost && sink.holds(b"abcd\n")
+}
+
+/// Whether a sink that takes one write takes the words of a line without its line feed.
+fn takes_one_write(sink: &mut Taker) -> bool {
+    let lost = !say_line(b"cd", sink);
+    lost && sink.holds(b"cd")
+}
+
 #[test]
 fn words_stop_where_the_sink_fails(rt: HostRuntime) {
-    let alloc = rt.alloc();
-    let mut sink = Taker::new(alloc, 3);
-    assert!(rt; say(b"ab", &mut sink));
-    assert!(rt; say_line(b"cd", &mut sink));
-    assert!(rt; !say(b"ef", &mut sink));
-    assert!(rt; sink.bytes.as_slice() == b"abcd\n".as_slice() && sink.faults == 1);
-    let mut short = Taker::new(alloc, 1);
-    assert!(rt; !say_line(b"cd", &mut short));
-    assert!(rt; short.bytes.as_slice() == b"cd".as_slice() && short.faults == 1);
+    assert!(rt; takes_three_writes(&mut Taker::new(rt.alloc(), 3)));
+    assert!(rt; takes_one_write(&mut Taker::new(rt.alloc(), 1)));
     cut_law();
     pieces_law();
     plain_law();
