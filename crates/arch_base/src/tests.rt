@@ -52,14 +52,18 @@ fn reads_name(text: &[u8]) -> bool {
     }
 }
 
+/// Names.
+const NAMES: [&[u8]; 5] = [b"list", b"0", b"a.b-c_d", b"lists.example.org", &[b'a'; 64]];
+
+/// Texts that are no names.
+const OTHER_NAMES: [&[u8]; 7] = [b"", b".a", b"a.", b"-a", b"A", b"a b", &[b'a'; 65]];
+
 #[test]
 fn names_are_read(rt: HostRuntime) {
-    let good: [&[u8]; 5] = [b"list", b"0", b"a.b-c_d", b"lists.example.org", &[b'a'; 64]];
-    for text in good {
+    for text in &NAMES {
         assert!(rt; reads_name(text));
     }
-    let bad: [&[u8]; 7] = [b"", b".a", b"a.", b"-a", b"A", b"a b", &[b'a'; 65]];
-    for text in bad {
+    for text in &OTHER_NAMES {
         assert!(rt; Name::read(text).is_none());
     }
 }
@@ -70,23 +74,34 @@ fn prints(alloc: Global, number: u64, text: &[u8]) -> Result<bool, NoMemory> {
     Ok(printed.as_slice() == text)
 }
 
+/// Decimals, and their values.
+const DECIMALS: [(&[u8], u64); 3] = [
+    (b"0", 0),
+    (b"10", 10),
+    (b"18446744073709551615", 18446744073709551615),
+];
+
+/// Texts that are no decimals of 64 bits.
+const OTHER_DECIMALS: [&[u8]; 6] = [b"", b"00", b"01", b"1 ", b"-1", b"18446744073709551616"];
+
 #[test]
 fn decimals_are_printed_and_read(rt: HostRuntime) {
     let most = prints(rt.alloc(), 18446744073709551615, b"18446744073709551615");
     assert!(rt; matches!(most, Ok(true)));
-    let good: [(&[u8], u64); 3] = [
-        (b"0", 0),
-        (b"10", 10),
-        (b"18446744073709551615", 18446744073709551615),
-    ];
-    for (text, value) in good {
-        assert!(rt; read_decimal(text) == Some(value));
+    for (text, value) in &DECIMALS {
+        assert!(rt; read_decimal(text) == Some(*value));
     }
-    let bad: [&[u8]; 6] = [b"", b"00", b"01", b"1 ", b"-1", b"18446744073709551616"];
-    for text in bad {
+    for text in &OTHER_DECIMALS {
         assert!(rt; read_decimal(text).is_none());
     }
 }
+
+/// Texts that are no ids in lower case.
+const OTHER_IDS: [&[u8]; 3] = [
+    b"CE0000000000000000000000000000000000004a",
+    b"ce0000000000000000000000000000000000004",
+    b"ce0000000000000000000000000000000000004g",
+];
 
 #[test]
 fn ids_are_spelled_and_read(rt: HostRuntime) {
@@ -97,12 +112,7 @@ fn ids_are_spelled_and_read(rt: HostRuntime) {
     let text = b"ce0000000000000000000000000000000000004a";
     assert!(rt; hex_of(&id).as_slice() == text.as_slice());
     assert!(rt; id_of_hex(text) == Some(id));
-    let bad: [&[u8]; 3] = [
-        b"CE0000000000000000000000000000000000004a",
-        b"ce0000000000000000000000000000000000004",
-        b"ce0000000000000000000000000000000000004g",
-    ];
-    for text in bad {
+    for text in &OTHER_IDS {
         assert!(rt; id_of_hex(text).is_none());
     }
 }
