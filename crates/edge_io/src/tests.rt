@@ -46,69 +46,79 @@ fn piece_len(alloc: Global, line: &str, len: usize) -> Result<usize, Fail> {
     Ok(made.piece(0).len())
 }
 
-/// Why the bytes of one piece are no script.
-fn refusal_of_piece(
-    alloc: Global,
-    line: &str,
-    len: usize,
-) -> Result<Option<ScriptRefusal>, AllocError> {
-    let text = script_of_piece(alloc, line, len)?;
-    Ok(script(alloc, &text).err())
+/// Whether bytes are no script, and this event, from 1, is the first that is bad.
+fn is_bad_at(alloc: Global, bytes: &[u8], event: u64) -> bool {
+    script(alloc, bytes).err() == Some(ScriptRefusal::Bad { event })
 }
+
+/// Whether the script of one piece is bad at that piece.
+fn is_bad_piece(alloc: Global, line: &str, len: usize) -> Result<bool, AllocError> {
+    let text = script_of_piece(alloc, line, len)?;
+    Ok(is_bad_at(alloc, &text, 1))
+}
+
+/// Scripts, and how many events each has.
+const WHOLE: [(&str, u64); 9] = [
+    ("", 0),
+    ("0 q\n", 1),
+    ("253402300799 s\n", 1),
+    ("5 q\n4 q\n", 2),
+    ("5 o 1 control\n", 1),
+    ("5 e 1\n", 1),
+    ("5 b 1 1\n\n\n", 1),
+    ("5 b 1 5\n5 q\n\n\n", 1),
+    ("5 s\n5 q\n", 2),
+];
 
 #[test]
 fn whole_scripts_are_read(rt: HostRuntime) -> Result<(), Fail> {
     read_in_one_way();
-    for (text, count) in [
-        ("", 0),
-        ("0 q\n", 1),
-        ("253402300799 s\n", 1),
-        ("5 q\n4 q\n", 2),
-        ("5 o 1 control\n", 1),
-        ("5 e 1\n", 1),
-        ("5 b 1 1\n\n\n", 1),
-        ("5 b 1 5\n5 q\n\n\n", 1),
-        ("5 s\n5 q\n", 2),
-    ] {
-        assert!(rt; has_events(rt.alloc(), text, count)?, "{text}");
+    for (text, count) in &WHOLE {
+        assert!(rt; has_events(rt.alloc(), text, *count)?, "{text}");
     }
     assert_eq!(rt; piece_len(rt.alloc(), "5 b 1 1048576\n", 1048576)?, 1048576);
     Ok(())
 }
 
+/// Texts that are no scripts, and the first bad event of each, from 1.
+const BAD: [(&str, u64); 23] = [
+    ("5 x 1\n", 1),
+    ("5 q", 1),
+    ("\n", 1),
+    ("5 b 1 3\nabc", 1),
+    ("5 b 1 3\nabcd\n", 1),
+    ("5 b 1 3\nab\n", 1),
+    ("5 b 1 0\n\n", 1),
+    ("5 b 1 01\na\n", 1),
+    ("5 b 2 1\na\n", 1),
+    ("253402300800 q\n", 1),
+    ("05 q\n", 1),
+    ("5  q\n", 1),
+    ("5 q\r\n", 1),
+    ("5 q \n", 1),
+    ("5 Q\n", 1),
+    ("5 o 2 control\n", 1),
+    ("5 o 1 Control\n", 1),
+    ("5 o 1 http\n", 1),
+    ("5 e 2\n", 1),
+    ("5 q\nx", 2),
+    ("5 q\n\n", 2),
+    ("5 s\n5 x\n", 2),
+    ("5 b 1 2\nab\n5 q\n5 b 1 9\nabc\n", 3),
+];
+
 #[test]
 fn the_first_bad_event_is_named(rt: HostRuntime) -> Result<(), Fail> {
-    for (text, event) in [
-        ("5 x 1\n", 1),
-        ("5 q", 1),
-        ("\n", 1),
-        ("5 b 1 3\nabc", 1),
-        ("5 b 1 3\nabcd\n", 1),
-        ("5 b 1 3\nab\n", 1),
-        ("5 b 1 0\n\n", 1),
-        ("5 b 1 01\na\n", 1),
-        ("5 b 2 1\na\n", 1),
-        ("253402300800 q\n", 1),
-        ("05 q\n", 1),
-        ("5  q\n", 1),
-        ("5 q\r\n", 1),
-        ("5 q \n", 1),
-        ("5 Q\n", 1),
-        ("5 o 2 control\n", 1),
-        ("5 o 1 Control\n", 1),
-        ("5 o 1 http\n", 1),
-        ("5 e 2\n", 1),
-        ("5 q\nx", 2),
-        ("5 q\n\n", 2),
-        ("5 s\n5 x\n", 2),
-        ("5 b 1 2\nab\n5 q\n5 b 1 9\nabc\n", 3),
-    ] {
-        let refused = script(rt.alloc(), text.as_bytes()).err();
-        assert!(rt; refused == Some(ScriptRefusal::Bad { event }), "{text}");
+    for (text, event) in &BAD {
+        assert!(rt; is_bad_at(rt.alloc(), text.as_bytes(), *event), "{text}");
     }
-    let refused = refusal_of_piece(rt.alloc(), "5 b 1 1048577\n", 1048577)?;
-    assert!(rt; refused == Some(ScriptRefusal::Bad { event: 1 }));
+    assert!(rt; is_bad_piece(rt.alloc(), "5 b 1 1048577\n", 1048577)?);
     Ok(())
+}
+
+/// An event.
+fn event(moment: u64, what: What) -> Event {
+    Event { moment, what }
 }
 
 /// Whether a script's event of this number, from 0, is this one, with this piece.
@@ -118,24 +128,29 @@ fn has_arrival(made: &Script, i: u64, event: &Event, piece: &str) -> bool {
     same && carries
 }
 
+/// The opening of a connection.
+const OPENED: What = What::Opened {
+    conn: 1,
+    door: Door::Control,
+};
+
+/// The numbers, from 0, the moments and the pieces of six events.
+const ARRIVALS: [(u64, u64, What, &str); 6] = [
+    (0, 0, OPENED, ""),
+    (1, 5, What::Bytes { conn: 1, len: 3 }, "a\nb"),
+    (2, 7, What::Quiet, ""),
+    (3, 6, What::Bytes { conn: 1, len: 1 }, "c"),
+    (4, 8, What::Ended { conn: 1 }, ""),
+    (5, 9, What::Stop, ""),
+];
+
 #[test]
 fn events_have_their_pieces(rt: HostRuntime) -> Result<(), Fail> {
-    let text = "0 o 1 control\n5 b 1 3\na\nb\n7 q\n6 b 1 1\nc\n8 e 1\n9 s\n";
-    let made = script(rt.alloc(), text.as_bytes())?;
-    let opened = What::Opened {
-        conn: 1,
-        door: Door::Control,
-    };
-    for (i, moment, what, piece) in [
-        (0, 0, opened, ""),
-        (1, 5, What::Bytes { conn: 1, len: 3 }, "a\nb"),
-        (2, 7, What::Quiet, ""),
-        (3, 6, What::Bytes { conn: 1, len: 1 }, "c"),
-        (4, 8, What::Ended { conn: 1 }, ""),
-        (5, 9, What::Stop, ""),
-    ] {
+    let text = b"0 o 1 control\n5 b 1 3\na\nb\n7 q\n6 b 1 1\nc\n8 e 1\n9 s\n";
+    let made = script(rt.alloc(), text)?;
+    for (i, moment, what, piece) in &ARRIVALS {
         assert!(rt;
-            has_arrival(&made, i, &Event { moment, what }, piece),
+            has_arrival(&made, *i, &event(*moment, *what), piece),
             "event {i}"
         );
     }
