@@ -4,7 +4,8 @@ use Rattle.std.specs.Prelude.{◌≡◌, ◌-◌, ◌*◌, ◌<◌, ◌≤◌, �
 use Rattle.std.specs.List.{flat_map}
 use Rattle.std.proofs.Common.{◌∙◌, sym, ap, subst, inl, inr, arith}
 use Rattle.disk_model.specs.declared.name.FileName.{FileName}
-use Rattle.disk_model.specs.Disk.{File, Files, Content, Image, Told, WhereTold, Unchanged, Synced, Within, exact, bytes_of, ReadsFit}
+use Rattle.disk_model.specs.Disk.{File, Files, Content, Image, Told, WhereTold, Unchanged, Synced, Within, exact, bytes_of, ReadsFit, LeavesOnly}
+use Rattle.disk_model.specs.Moments.{joined}
 use Rattle.disk_model.specs.Synced.{settled_image}
 use Rattle.arch_model.specs.Archives.{Archive, in_epoch}
 use Rattle.arch_model.specs.Epochs.{epoch_bytes}
@@ -29,12 +30,13 @@ use Rattle.epoch_store.specs.Laws.{RecoversOne}
 use Rattle.epoch_store.specs.Openings.{archive_of, HasMap, OpenedRecovers, RecoversUndamaged}
 use Rattle.epoch_store.specs.Opens.{RecoversOf, AllRecoverOf, ReadsAs, Opens, IsWant, IsOnlySynced, SyncsBy, RefusesBefore}
 use Rattle.epoch_store.specs.Recovery.{map_bytes, bytes_in, Recovers, RecoversBy}
-use Rattle.epoch_store.specs.Settling.{IsFound, FoundOn, OnDisk, TellsAs}
+use Rattle.epoch_store.specs.Settling.{IsFound, FoundOn, OnDisk, TellsAs, AreOthers, ToSweep}
 use Rattle.epoch_store.specs.Stores.{View, IsStoreOf, HasSizes, InEpochs, stored_behind}
 use Rattle.epoch_store.proofs.Mapped.{map_length}
 use Rattle.epoch_store.proofs.Opening.{fronts_by}
 use Rattle.epoch_store.proofs.SweepSteps.{current_root}
 use Rattle.epoch_store.proofs.UniqueRoots.{root_is_one, not_shut}
+use Rattle.epoch_store.proofs.Unnamed.{to_sweep}
 
 -- What is found after a sync is found of the files as they read before it.
 pub found_before : (result : Result Found OpenRefusal) (k m : Option Content) → Told Synced k m → WhereTold (λ c. Finds (as_read c) result) m → WhereTold (λ c. Finds (as_read c) result) k
@@ -300,3 +302,13 @@ rest_refuses U NoArchive k m n well synced same = absurd well
 rest_refuses U (Damaged file at) k m n well synced same = absurd well
 rest_refuses U DiskFault k m n well synced same = tt
 rest_refuses U NoMemory k m n well synced same = still_synced k m n synced (same refl)
+
+module _ (root : Root) (slot : ℕ) (map : List ℕ) (epochs : ℕ → List ℕ) (k0 k1 : Option Content) (found : FoundOn root slot map epochs k0) (same : Told Unchanged k0 k1) (names others : List FileName) (names_are : names ≡ others) (unnamed : WhereTold (AreOthers root others) k0) where
+  -- the files that are listed are to be swept
+  pub listed_to_sweep : ToSweep root slot map epochs names k1
+  listed_to_sweep = to_sweep root slot map epochs names k0 k1 found (subst (λ (l : List FileName). WhereTold (AreOthers root l) k0) (sym names_are) unnamed) same
+
+  -- what a crash leaves while files are listed and the disk is then swept
+  pub settling_leaves : {D : Type 0} (moment : D → ℕ) (left_since : D → ℕ → Files → Type 0) (disk mid new : D) → LeavesOnly moment left_since disk mid (Image k0) → LeavesOnly moment left_since mid new (StandsFor root map epochs) → LeavesOnly moment left_since disk new (StandsFor root map epochs)
+  settling_leaves moment left_since disk mid new lists sweeps =
+      joined moment left_since disk mid new (Image k0) (StandsFor root map epochs) (StandsFor root map epochs) lists sweeps (λ image. found_image root slot map epochs k0 image found) (λ image stands. stands)
