@@ -1,11 +1,13 @@
 //! The edges on real folders, and on readers, printers and clocks that fail.
 use crate::names::{name_of, path_in};
 use crate::{FolderDisk, StdSink, StdSource, SystemClock};
+use arch_base::NoMemory;
 use disk_model::{Disk, DiskFault, FileKind, FileName};
 use edge_io::{Clock, ClockFault, Sink, SinkFault};
 use std::fmt::Display;
-use std::fs;
+use std::fs::{self, File, Permissions};
 use std::io::{self, ErrorKind, Print};
+use std::os::unix::fs::{PermissionsExt, symlink};
 use std::test::Fail;
 use std::time::Duration;
 
@@ -200,7 +202,67 @@ fn what_the_system_refuses_is_a_fault(rt: HostRuntime) -> Result<(), Fail> {
     assert_eq!(rt; disk.cut(ROOT, 0), Err(DiskFault));
     assert_eq!(rt; disk.remove(ROOT), Err(DiskFault));
     assert_eq!(rt; disk.name_at(0), Err(DiskFault));
+    assert!(rt; says(&disk, "refused: not a directory")?);
     fs::remove_file(&rt, "refused")?;
+    Ok(())
+}
+
+/// The disk of another run, which waits for a short time only.
+fn other(rt: &HostRuntime, path: &str) -> Result<FolderDisk, NoMemory> {
+    FolderDisk::open_within(rt, rt.alloc(), path, Duration::from_millis(20))
+}
+
+/// Says whether the first failure of a disk is told so.
+fn says(disk: &FolderDisk, words: &str) -> Result<bool, NoMemory> {
+    Ok(is_told(disk.cause()?, words))
+}
+
+/// Says whether another run gets neither to read nor to write, since the folder is in use.
+fn is_refused(rt: &HostRuntime, path: &str) -> Result<bool, NoMemory> {
+    let mut disk = other(rt, path)?;
+    let read = disk.length(ROOT).is_err();
+    let written = disk.write_at(ROOT, 0, b"x").is_err();
+    let removed = disk.remove(ROOT).is_err();
+    let told = says(&disk, "locked is in use by another run")?;
+    Ok(read && written && removed && told)
+}
+
+/// Returns how long the root is for another run.
+fn length_for_other(rt: &HostRuntime, path: &str) -> Result<Option<u64>, NoMemory> {
+    Ok(other(rt, path)?.length(ROOT).ok())
+}
+
+// No contract can see the lock itself: that it is taken, and that no call lets it go, is shown by what another run gets
+// before each call, between two and after the last. That each call asks for it first, and that it isn't asked for anew,
+// is in the clauses of the call that finds the folder.
+#[test]
+fn a_second_run_waits_and_gives_up(rt: HostRuntime) -> Result<(), Fail> {
+    let mut first = FolderDisk::open(&rt, rt.alloc(), "locked")?;
+    assert_eq!(rt; length_for_other(&rt, "locked")?, Some(0));
+    assert_eq!(rt; first.write_at(ROOT, 0, b"abc"), Ok(()));
+    assert!(rt; is_refused(&rt, "locked")?);
+    assert_eq!(rt; first.sync(), Ok(()));
+    assert!(rt; is_refused(&rt, "locked")?);
+    drop(first);
+    assert_eq!(rt; length_for_other(&rt, "locked")?, Some(3));
+    fs::remove_dir_all(&rt, "locked")?;
+    Ok(())
+}
+
+#[test]
+fn a_folder_that_was_filled_meanwhile_is_refused(rt: HostRuntime) -> Result<(), Fail> {
+    let mut late = FolderDisk::open(&rt, rt.alloc(), "filled")?;
+    assert_eq!(rt; late.length(ROOT), Ok(0));
+    fs::create_dir(&rt, "filled")?;
+    fs::write(&rt, "filled/root", b"abc".as_slice())?;
+    assert_eq!(rt; late.write_at(ROOT, 0, b"x"), Err(DiskFault));
+    assert_eq!(rt; late.length(ROOT), Ok(0));
+    assert!(rt; says(&late, "filled was made by another run meanwhile")?);
+    assert!(rt; fs::read(&rt, "filled/root")?.as_slice() == b"abc".as_slice());
+    // One that was made meanwhile and has no file is fine.
+    fs::remove_file(&rt, "filled/root")?;
+    assert_eq!(rt; late.write_at(ROOT, 0, b"x"), Ok(()));
+    fs::remove_dir_all(&rt, "filled")?;
     Ok(())
 }
 
@@ -208,12 +270,86 @@ fn what_the_system_refuses_is_a_fault(rt: HostRuntime) -> Result<(), Fail> {
 fn after_a_failed_sync_none_is_answered(rt: HostRuntime) -> Result<(), Fail> {
     let mut disk = FolderDisk::open(&rt, rt.alloc(), "failed")?;
     assert_eq!(rt; disk.write_at(ROOT, 0, b"a"), Ok(()));
-    fs::remove_dir_all(&rt, "failed")?;
+    // A device can't be synced.
+    symlink(&rt, "/dev/null", "failed/epoch-0.1")?;
+    assert_eq!(rt; disk.length(epoch(0, 1)), Err(DiskFault));
+    fs::remove_file(&rt, "failed/epoch-0.1")?;
     assert_eq!(rt; disk.sync(), Err(DiskFault));
-    fs::create_dir(&rt, "failed")?;
-    assert_eq!(rt; disk.sync(), Err(DiskFault));
-    assert_eq!(rt; FolderDisk::open(&rt, rt.alloc(), "failed")?.sync(), Ok(()));
+    assert!(rt; says(&disk, "failed/epoch-0.1: Invalid argument")?);
+    assert!(rt; fs::exists(&rt, "failed/sync-failed")?);
+    drop(disk);
+    assert_eq!(rt; length_for_other(&rt, "failed")?, Some(1));
+    assert!(rt; !fs::exists(&rt, "failed/sync-failed")?);
     fs::remove_dir_all(&rt, "failed")?;
+    Ok(())
+}
+
+/// Plants the mark of a failed sync, and says whether a run finds the root of this length, all files as they were, and
+/// removes the mark.
+fn mends(rt: &HostRuntime, length: u64) -> Result<bool, Fail> {
+    let before = fs::read(rt, "marked/root")?;
+    fs::write(rt, "marked/sync-failed", b"".as_slice())?;
+    let found = length_for_other(rt, "marked")?;
+    let after = fs::read(rt, "marked/root")?;
+    let same = before.as_slice() == after.as_slice();
+    Ok(same && found == Some(length) && !fs::exists(rt, "marked/sync-failed")?)
+}
+
+#[test]
+fn behind_a_mark_all_is_written_again(rt: HostRuntime) -> Result<(), Fail> {
+    let mut disk = FolderDisk::open(&rt, rt.alloc(), "marked")?;
+    assert_eq!(rt; disk.write_at(ROOT, 0, b"head"), Ok(()));
+    assert_eq!(rt; disk.write_at(epoch(0, 1), 0, b""), Ok(()));
+    drop(disk);
+    assert!(rt; mends(&rt, 4)?);
+    for offset in [65_532, 65_533, 131_068, 200_000] {
+        let mut disk = other(&rt, "marked")?;
+        assert_eq!(rt; disk.write_at(ROOT, offset, b"tail"), Ok(()));
+        drop(disk);
+        assert!(rt; mends(&rt, offset + 4)?, "at {offset}");
+    }
+    fs::remove_dir_all(&rt, "marked")?;
+    Ok(())
+}
+
+#[test]
+fn a_mark_stays_where_a_file_cannot_be_synced(rt: HostRuntime) -> Result<(), Fail> {
+    fs::create_dir(&rt, "stays")?;
+    fs::write(&rt, "stays/sync-failed", b"".as_slice())?;
+    symlink(&rt, "/dev/null", "stays/epoch-0.1")?;
+    assert_eq!(rt; length_for_other(&rt, "stays")?, None);
+    assert!(rt; fs::exists(&rt, "stays/sync-failed")?);
+    fs::remove_file(&rt, "stays/epoch-0.1")?;
+    assert_eq!(rt; length_for_other(&rt, "stays")?, Some(0));
+    assert!(rt; !fs::exists(&rt, "stays/sync-failed")?);
+    fs::remove_dir_all(&rt, "stays")?;
+    Ok(())
+}
+
+/// Says whether a folder is made by the first write while the one above it may be read, and not before.
+fn is_made_when_readable(rt: &HostRuntime) -> Result<bool, Fail> {
+    let mut disk = other(rt, "above/below")?;
+    let refused = disk.write_at(ROOT, 0, b"a").is_err();
+    let told = says(&disk, "above: Permission denied")?;
+    let gone = !fs::exists(rt, "above/below")?;
+    fs::set_permissions(rt, "above", Permissions::from_mode(0o700))?;
+    let made = disk.write_at(ROOT, 0, b"a").is_ok();
+    let synced = disk.sync().is_ok();
+    Ok(refused && told && gone && made && synced)
+}
+
+#[test]
+fn a_folder_above_that_may_not_be_read(rt: HostRuntime) -> Result<(), Fail> {
+    fs::create_dir(&rt, "above")?;
+    fs::set_permissions(&rt, "above", Permissions::from_mode(0o300))?;
+    // Who may read all sees nothing of this.
+    if File::open(&rt, "above").is_err() {
+        assert!(rt; is_made_when_readable(&rt)?);
+        fs::set_permissions(&rt, "above", Permissions::from_mode(0o300))?;
+        assert_eq!(rt; other(&rt, "above/below")?.sync(), Ok(()));
+        fs::set_permissions(&rt, "above", Permissions::from_mode(0o700))?;
+    }
+    fs::remove_dir_all(&rt, "above")?;
     Ok(())
 }
 
@@ -255,6 +391,7 @@ fn a_time_that_is_no_moment_is_a_fault(rt: HostRuntime) -> Result<(), Fail> {
         let stands = Stands(seconds);
         let mut clock = SystemClock::new(&stands, rt.alloc())?;
         assert_eq!(rt; clock.now(), found);
+        assert_eq!(rt; clock.cause(rt.alloc())?.is_none(), found.is_ok());
     }
     Ok(())
 }
@@ -277,13 +414,21 @@ impl Print for Closed {
     }
 }
 
+/// Says whether a cause is told so.
+fn is_told(cause: Option<String>, words: &str) -> bool {
+    match cause {
+        Some(text) => text.as_str() == words,
+        None => false,
+    }
+}
+
 #[test]
 fn what_is_not_printed_is_a_fault(rt: HostRuntime) -> Result<(), Fail> {
     let closed = Closed;
-    assert_eq!(rt;
-        StdSink::new(&closed, rt.alloc())?.write(b"a"),
-        Err(SinkFault)
-    );
+    let mut sink = StdSink::new(&closed, rt.alloc())?;
+    assert!(rt; sink.cause(rt.alloc())?.is_none());
+    assert_eq!(rt; sink.write(b"a"), Err(SinkFault));
+    assert!(rt; is_told(sink.cause(rt.alloc())?, "broken pipe"));
     assert_eq!(rt; StdSink::new(&rt, rt.alloc())?.write(b""), Ok(()));
     assert!(rt; StdSource::new(&rt, rt.alloc()).is_ok());
     Ok(())
