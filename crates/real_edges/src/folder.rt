@@ -17,7 +17,7 @@ pub(crate) struct Folder {
     rt: HostRuntime,
     alloc: Global,
     path: String,
-    // How long another run is waited for.
+    // How long another run is still waited for.
     wait: Duration,
     home: Home,
 }
@@ -141,17 +141,22 @@ impl Folder {
         ensures keeps { Keeps self.old.home self.new.home }
     {
         if let Home::Unseen = self.home {
-            self.home = match HeldFolder::take(
-                &self.rt,
-                self.alloc,
-                self.path.as_str(),
-                self.wait,
-            )? {
+            self.home = match self.take()? {
                 Some(held) => Home::Held(held),
                 None => Home::Missing,
             };
         }
         Ok(())
+    }
+
+    /// Opens the folder and takes its lock, or None where it is missing. Another run that was waited for in vain isn't
+    /// waited for a second time.
+    fn take(&mut self) -> Result<Option<HeldFolder>, Failure> {
+        let taken = HeldFolder::take(&self.rt, self.alloc, self.path.as_str(), self.wait);
+        if let Err(Failure::InUse) = taken {
+            self.wait = Duration::ZERO;
+        }
+        taken
     }
 
     /// Makes the folder, where it was missing, and takes its lock.
@@ -168,8 +173,7 @@ impl Folder {
     /// where that can't be done, a folder that was made here is removed again.
     fn make(&mut self) -> Result<(), Failure> {
         let made = self.create()?;
-        let taken = HeldFolder::take(&self.rt, self.alloc, self.path.as_str(), self.wait)?;
-        let Some(mut held) = taken else {
+        let Some(mut held) = self.take()? else {
             return Err(missing());
         };
         if held.has_files() {

@@ -122,7 +122,7 @@ impl HeldFolder {
         self.keep_name()?;
         self.open(name, true)?;
         let Some(file) = self.open_files.get_mut(&name) else {
-            return Ok(());
+            return Err(Failure::on(Spot::File(name), ErrorKind::NotFound.into()));
         };
         match file.write(offset, bytes) {
             Ok(()) => Ok(()),
