@@ -8,21 +8,21 @@ use Rattle.std.proofs.lemmas.Str.Parse.{IsNumeralModel, numerals_by_fold, tells_
 use Rattle.std.proofs.lemmas.Bool.Decides.{nat_tests}
 use Rattle.arch_base.specs.Decimals.{read_on, IsValue, IsPadded, decimal_of}
 
--- the value of digits, as std reads them
+-- `read_on` agrees with std's model of numerals.
 pub digits_model : IsNumeralModel (λ ds. all_ascii_digits ds ≡ true) (read_on 0)
 digits_model = numerals_by_fold _ tells_all_ascii_digits read_on (record {
   empty = λ n. refl;
   more = λ n c cs k. let e : 10 * n + (c - 48) ≡ n * 10 + (c - 48) = omega arith in ap (λ m. read_on m cs) e;
 })
 
--- digits without a leading zero are the decimal of their value
+-- Digits without a leading zero are the decimal of their value.
 pub printed-value : (text : List ℕ) (found : Option ℕ) → 0 < length text → (get_or text 0 0 ≡ 48 → length text ≡ 1) → IsValue text found → IfSome found (λ value. text ≡ printed value)
 printed-value text None some lead h = tt
 printed-value text (Some value) some lead h =
     let small : read_on 0 text < 2 ^ 64 = omega (arith, h.1, h.2) in
     sym (decimal-digits_value digits_model text h.0 some lead small) ∙ ap printed (sym h.1)
 
--- where no value is found, the text is no decimal
+-- A text for which no value is found is not a decimal.
 pub printed-none : (text : List ℕ) (found : Option ℕ) → IsValue text found → IfNone found ((value : ℕ) → value < 2 ^ 64 → text ≢ printed value)
 printed-none text None h = λ value small is.
     let wide : 2 ^ 64 ≤ read_on 0 text = h (subst (λ ds. all_ascii_digits ds ≡ true) (sym is) (digits_decimal digits_model value small)) in
@@ -30,7 +30,7 @@ printed-none text None h = λ value small is.
     omega arith
 printed-none text (Some value) h = tt
 
--- no decimal is empty, and none but that of zero begins with a zero
+-- No decimal is empty, and only the decimal of zero starts with a zero.
 pub printed-padded : (text : List ℕ) → (length text ≡ 0) ⊎ ((get_or text 0 0 ≡ 48) × (1 < length text)) → (value : ℕ) → value < 2 ^ 64 → text ≢ printed value
 printed-padded text (inl empty) value small is = let some : 0 < length (printed value) = decimal_nonempty value small in omega (arith, ap length is)
 printed-padded text (inr padded) zero small is = let one : length (printed 0) ≡ 1 = ap length (decimal_digit 0 (omega arith)) in omega (arith, padded.1, ap length is)
@@ -38,33 +38,34 @@ printed-padded text (inr padded) (suc n) small is =
     let first : 48 < get_or (printed (suc n)) 0 0 = first_decimal (suc n) (omega arith) small in
     omega (arith, padded.0, ap (λ ds. get_or ds 0 0) is)
 
--- the number read on is no less than the one before
+-- Reading on never lowers the number.
 pub le-read_on : (n : ℕ) (ds : List ℕ) → n ≤ read_on n ds
 le-read_on n [] = omega arith
 le-read_on n (c ∷ cs) = omega (arith, le-read_on (10 * n + (c - 48)) cs)
 
--- where one more digit does not fit, the value does not
+-- If one more digit makes the value too wide, the whole value is too wide.
 pub read_on-wide : (n : ℕ) (i : ℕ) (text : List ℕ) (all : ℕ) → i < length text → read_on n (drop i text) ≡ all → 2 ^ 64 ≤ 10 * n + (get_or text i 0 - 48) → 2 ^ 64 ≤ all
 read_on-wide n i text all here is wide =
     let next : read_on n (drop i text) ≡ read_on (10 * n + (get_or text i 0 - 48)) (drop (suc i) text) = ap (read_on n) (drop-cons text i 0 here) in
     omega (arith, le-read_on (10 * n + (get_or text i 0 - 48)) (drop (suc i) text))
 
--- behind the last byte nothing is read on
+-- Nothing is read on after the last byte.
 pub read_on-end : (n : ℕ) (i : ℕ) (text : List ℕ) (all : ℕ) → length text ≤ i → read_on n (drop i text) ≡ all → n ≡ all
 read_on-end n i text all past is = sym (at_drop_all (read_on n) text i past) ∙ is
 
--- and all of nothing are digits
+-- An empty rest is all digits.
 pub digits-end : (i : ℕ) (text : List ℕ) (all : Bool) → length text ≤ i → all_ascii_digits (drop i text) ≡ all → all ≡ true
 digits-end i text all past is = sym is ∙ at_drop_all all_ascii_digits text i past
 
--- a text has a digit, and no zero that others follow
+-- The text does not start with a zero that other bytes follow.
 abbrev is_sound : List ℕ → Bool
 is_sound text = not (slice_index text 0 == 48 && nat_lt 1 (length text))
 
+-- The number if all four tests hold.
 abbrev read_if : Bool → Bool → Bool → Bool → ℕ → Option ℕ
 read_if a b d f value = if a && b && d && f then Some value else None
 
--- where a text is padded, no number is read
+-- A padded text spells no number.
 pub decimal_of-padded : (text : List ℕ) → IsPadded text true → decimal_of text ≡ None
 decimal_of-padded text (inl empty) = let a : nat_lt 0 (length text) ≡ false = grind (arith, nat_tests) in rw a refl
 decimal_of-padded text (inr padded) =
@@ -74,7 +75,7 @@ decimal_of-padded text (inr padded) =
     ∙ ap (λ x. read_if true x (all_ascii_digits text) (nat_lt (read_on 0 text) 18446744073709551616) (read_on 0 text)) b
     ∙ refl
 
--- what is read of digits that are not padded
+-- What is read from digits that are not padded.
 read_value : (d f : Bool) (value : ℕ) (found : Option ℕ) → (f ≡ true → value < 2 ^ 64) → (f ≡ false → 2 ^ 64 ≤ value)
     → MatchOption found (d ≡ true → 2 ^ 64 ≤ value) (λ v. (d ≡ true) × (v ≡ value) × (v < 2 ^ 64)) → found ≡ read_if true true d f value
 read_value true true value None small wide h = absurd (omega (arith, h refl, small refl))
@@ -84,7 +85,7 @@ read_value true true value (Some v) small wide h = ap Some h.1
 read_value true false value (Some v) small wide h = absurd (omega (arith, h.1, h.2, wide refl))
 read_value false f value (Some v) small wide h = absurd (cc h.0)
 
--- the value of digits that are not padded
+-- The value of digits that are not padded is the number that the text spells.
 pub decimal_of-value : (text : List ℕ) (found : Option ℕ) → IsPadded text false → IsValue text found → found ≡ decimal_of text
 decimal_of-value text found sound h =
     let a : nat_lt 0 (length text) ≡ true = grind (arith, nat_tests, sound.0) in

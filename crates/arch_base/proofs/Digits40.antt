@@ -1,21 +1,21 @@
--- Ids and their digits.
+-- Ids and their hexadecimal digits.
 use Rattle.std.proofs.Common.{◌∷◌, [], true, eq-eqb, ◌≡◌, ℕ, List, length, Result, Ok, Err, MatchResult, refl, ◌∙◌, ap}
 use Rattle.std.specs.Str.{bytes_eq}
 use Rattle.hex.specs.Hex.{encode_lower, decode_sized, IsBytes}
 use Rattle.hex.specs.declared.error.FromHexError.{FromHexError}
 use Rattle.hex.proofs.HexLemmas.{decode_sized-encode_lower}
 
--- what a call that decodes into a buffer answers at digits
+-- The result of decoding a text into a buffer of `room` bytes.
 abbrev pub Decodes : List ℕ → ℕ → List ℕ → Result Unit FromHexError → Type 0
 Decodes text room out answer = MatchResult (decode_sized text room) (λ bytes. (answer ≡ Ok tt) × (out ≡ bytes)) (λ e. answer ≡ Err e)
 
--- the digits of bytes are decoded into those bytes
+-- Decoding the digits of bytes returns those bytes.
 pub decodes-encode : (text xs out : List ℕ) (room : ℕ) (answer : Result Unit FromHexError) → length xs ≡ room → IsBytes xs → text ≡ encode_lower xs → Decodes text room out answer → (answer ≡ Ok tt) × (out ≡ xs)
 decodes-encode text xs out room answer len bytes is h =
     let decoded : decode_sized text room ≡ Ok xs = ap (λ t. decode_sized t room) is ∙ decode_sized-encode_lower xs room len bytes in
     rw decoded at h
 
--- equal bytes are found equal
+-- `bytes_eq` returns true for equal bytes.
 pub bytes_eq-same : (a b : List ℕ) → a ≡ b → bytes_eq a b ≡ true
 bytes_eq-same a b is = ap (λ t. bytes_eq t b) is ∙ bytes_eq-self b
   where

@@ -1,8 +1,8 @@
--- The settings of an archive, as they may be.
+-- The valid settings of an archive.
 use Rattle.std.specs.Prelude.{◌≤◌}
 use Rattle.arch_base.specs.declared.config.Config.{Config}
 
--- the ranges of an archive's settings
+-- The ranges of an archive's settings.
 pub record IsConfig (config : Config) : Type 0 where
   pub limit_low : 1 ≤ config.limit
   pub limit_high : config.limit ≤ 1099511627776

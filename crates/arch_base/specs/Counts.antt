@@ -1,17 +1,17 @@
--- Counts of faults, which never fall.
+-- Counts of faults. Such a count never falls.
 use Rattle.std.specs.Prelude.{◌≡◌, ◌+◌, ◌-◌, ◌^◌, ◌≤◌, ℕ, min, Result, OnOk, OnErr}
 
--- a count rose, or stands at the end of its type
+-- The count rose, or it stands at 2^64 - 1, the end of its type.
 abbrev pub Rose : ℕ → ℕ → Type 0
 Rose before now = min (before + 1) (2 ^ 64 - 1) ≤ now
 
--- a failure has a cause, that the count rose; an Ok leaves the count
+-- The count never falls. It rises if the call fails, and stays the same if the call succeeds.
 pub record HasCause {T E : Type 0} (before now : ℕ) (result : Result T E) : Type 0 where
   pub later : before ≤ now
   pub failed : OnErr result (Rose before now)
   pub kept : OnOk result (now ≡ before)
 
--- a failure has a cause, that the count rose; of an Ok nothing is asked but that the count didn't fall
+-- The count never falls, and it rises if the call fails. It may rise if the call succeeds.
 pub record IsCaused {T E : Type 0} (before now : ℕ) (result : Result T E) : Type 0 where
   pub later : before ≤ now
   pub failed : OnErr result (Rose before now)

@@ -3,25 +3,27 @@ ghost use Rattle.std.specs.Prelude.{◌≡◌};
 
 use crate::name::Name;
 
-/// The settings of an archive, which it is made with.
+/// The settings that an archive is created with.
+///
+/// The ranges below are those of `IsConfig`.
 #[derive(Debug, Drop)]
 pub struct Config {
-    /// The list's name.
+    /// The name of the list.
     pub name: Name,
-    /// An epoch that has so many bytes takes no further entry: 1 to 1,099,511,627,776.
+    /// The length in bytes from which an epoch takes no further entry: 1 to 1,099,511,627,776.
     pub limit: u64,
-    /// How many numbers a mailbox has: 1 to 1,000,000.
+    /// The count of numbers in a mailbox: 1 to 1,000,000.
     pub slice: u32,
-    /// The greatest number of a message: 1 to 2,147,483,647.
+    /// The greatest number that a message may get: 1 to 2,147,483,647.
     pub max: u32,
-    /// Whether the archive follows another one and takes no commands.
+    /// Whether the archive mirrors another one, and takes no commands.
     pub mirror: bool,
-    /// When the archive was made, in seconds since 1970: 1 to 4,294,967,295.
+    /// When the archive was created, in seconds since 1970 UTC: 1 to 4,294,967,295.
     pub born: u32,
 }
 
 impl Config {
-    /// The same settings once more, without memory.
+    /// Returns a copy. Allocates nothing.
     pub fn copy(&self) -> Config
         ensures { result ≡ self.now }
     {

@@ -1,4 +1,4 @@
-//! Numbers in digits.
+//! Writes and reads unsigned decimals.
 ghost use Rattle.std.specs.Prelude.{◌≡◌, ◌≢◌, ◌<◌, ◌≤◌, ◌^◌, ◌+◌, ◌-◌, ◌*◌, ℕ, IfOk, IfSome, IfNone, MatchOption};
 ghost use Rattle.std.specs.Fmt.{decimal as printed};
 ghost use Rattle.arch_base.specs.Decimals.{IsPadded, IsValue, decimal_of};
@@ -6,7 +6,9 @@ ghost use Rattle.arch_base.specs.Decimals.{IsPadded, IsValue, decimal_of};
 use crate::sequence::{Bytes, NoMemory};
 use std::alloc::Global;
 
-/// The number in digits, without a leading zero.
+/// Returns the decimal digits of a number, without leading zeros.
+///
+/// `NoMemory` if an allocation fails.
 pub fn decimal(alloc: Global, value: u64) -> Result<Bytes, NoMemory>
     ensures { IfOk result (λ text. text ≡ printed value) }
 {
@@ -14,7 +16,10 @@ pub fn decimal(alloc: Global, value: u64) -> Result<Bytes, NoMemory>
     Ok(Bytes::from_vec(text.into_bytes()))
 }
 
-/// The number that a text spells: `0`, or digits without a leading zero, of a value below 2^64.
+/// Returns the number that a text spells, or `None` if it spells none.
+///
+/// A text spells a number if it is `0`, or digits without a leading zero, and the value is below
+/// 2^64.
 pub fn read_decimal(text: &[u8]) -> Option<u64>
     ensures value { result ≡ decimal_of text.now }
     ensures found { IfSome result (λ value. text.now ≡ printed value) }
@@ -26,14 +31,16 @@ pub fn read_decimal(text: &[u8]) -> Option<u64>
     value_of(text)
 }
 
-/// Whether a text has no digit, or a zero and more behind it.
+/// Returns whether a text is empty, or starts with a zero and has more bytes.
 fn is_padded(text: &[u8]) -> bool
     ensures { IsPadded text.now result }
 {
     text.is_empty() || (text[0] == b'0' && text.len() > 1)
 }
 
-/// The value of digits, where all bytes are digits and it fits.
+/// Returns the value of a text of digits.
+///
+/// `None` if a byte is not a digit, or if the value does not fit in a `u64`.
 fn value_of(text: &[u8]) -> Option<u64>
     ensures { IsValue text.now result }
 {
@@ -50,7 +57,9 @@ fn value_of(text: &[u8]) -> Option<u64>
     Some(value)
 }
 
-/// A value with one more digit behind it, where that fits.
+/// Appends a decimal digit to a value.
+///
+/// `None` if the result does not fit in a `u64`.
 fn with_digit(value: u64, digit: u8) -> Option<u64>
     requires { 48 ≤ digit }
     ensures { MatchOption result (2 ^ 64 ≤ 10 * value + (digit - 48)) (λ next. next ≡ 10 * value + (digit - 48)) }

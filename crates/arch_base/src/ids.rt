@@ -1,18 +1,18 @@
-//! Ids of git objects, and their 40 digits.
+//! Ids of git objects, and their 40 hexadecimal digits.
 ghost use Rattle.std.specs.Prelude.{◌≡◌, ◌≢◌, IfSome, IfNone};
 ghost use Rattle.hex.specs.Hex.{encode_lower};
 ghost use Rattle.arch_base.specs.Ids.{IsId};
 
 use hex::{decode_to_slice, encode_to_slice};
 
-/// The SHA-1 of an object's spelling.
+/// A SHA-1 in 20 bytes: the hash of a git object's header and content.
 #[derive(Debug, Clone, Copy, PartialEq, Eq, PartialOrd, Ord, Drop)]
 pub struct Id20(pub [u8; 20]);
 
-/// The id of a git object, wherever one stands in a signature.
+/// The id of a git object.
 pub type ObjectId = Id20;
 
-/// The 40 lower-case digits of an id.
+/// Returns the 40 lower-case hexadecimal digits of an id.
 pub fn hex_of(id: &ObjectId) -> [u8; 40]
     ensures { result ≡ encode_lower id.now.0 }
 {
@@ -21,7 +21,7 @@ pub fn hex_of(id: &ObjectId) -> [u8; 40]
     digits
 }
 
-/// The id that 40 lower-case digits spell, or None for any other text.
+/// Returns the id that 40 lower-case hexadecimal digits spell, or `None` for any other text.
 pub fn id_of_hex(text: &[u8]) -> Option<ObjectId>
     ensures found { IfSome result (λ id. text.now ≡ encode_lower id.0) }
     ensures none { IfNone result ((id : Id20) → IsId id → text.now ≢ encode_lower id.0) }
@@ -31,7 +31,7 @@ pub fn id_of_hex(text: &[u8]) -> Option<ObjectId>
         return None;
     }
     let id = Id20(bytes);
-    // The decoder also takes digits in upper case.
+    // The decoder also accepts upper-case digits.
     if hex_of(&id).as_slice() == text {
         Some(id)
     } else {

@@ -1,4 +1,4 @@
-//! What every crate of the archive stands on: lists, names, decimals, ids of objects and the settings of an archive.
+//! The base types of the archive: lists, archive names, decimals, object ids and archive settings.
 #![tactic(auto)]
 
 mod config;

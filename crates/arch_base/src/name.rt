@@ -4,8 +4,10 @@ ghost use Rattle.arch_base.specs.Names.{IsName, is_letter_or_digit as letter_or_
 
 use std::marker::Model;
 
-/// The name of an archive: 1 to 64 bytes, lower-case letters, digits, `-`, `_` and `.`, of which the first is a
-/// letter or digit and the last no dot.
+/// The name of an archive.
+///
+/// It has 1 to 64 bytes: lower-case ASCII letters, digits, `-`, `_` and `.`. The first byte is a
+/// letter or a digit, and the last is not a dot.
 #[derive(Debug, Drop)]
 pub struct Name {
     bytes: [u8; 64],
@@ -24,7 +26,7 @@ impl Model for Name {
 }
 
 impl Name {
-    /// The name that a text is, or None where it is none.
+    /// Returns a text as a name, or `None` if it is not a valid name.
     pub fn read(text: &[u8]) -> Option<Name>
         ensures found { IfSome result (λ name. (name ≡ text.now) × IsName text.now) }
         ensures none { IfNone result (IsName text.now → ⊥) }
@@ -40,7 +42,7 @@ impl Name {
         })
     }
 
-    /// The same name once more, without memory.
+    /// Returns a copy. Allocates nothing.
     pub fn copy(&self) -> Name
         ensures { result ≡ self.now }
     {
@@ -50,7 +52,7 @@ impl Name {
         }
     }
 
-    /// Its bytes.
+    /// Returns the bytes of the name.
     pub fn as_slice(&self) -> &[u8]
         ensures value { result.now ≡ self.now }
         ensures valid { IsName self.now }
@@ -59,21 +61,21 @@ impl Name {
     }
 }
 
-/// Whether a byte may stand in a name.
+/// Returns whether a byte is allowed in a name.
 fn is_name_byte(byte: u8) -> bool
     ensures { result ≡ name_byte byte }
 {
     is_letter_or_digit(byte) || byte == b'-' || byte == b'_' || byte == b'.'
 }
 
-/// Whether a byte is a letter in lower case or a digit.
+/// Returns whether a byte is a lower-case ASCII letter or a digit.
 fn is_letter_or_digit(byte: u8) -> bool
     ensures { result ≡ letter_or_digit byte }
 {
     byte.is_ascii_lowercase() || byte.is_ascii_digit()
 }
 
-/// Whether a text is a name.
+/// Returns whether a text is a valid name.
 fn is_name(text: &[u8]) -> bool
     ensures { IsTrue result ↔ IsName text.now }
 {

@@ -1,11 +1,11 @@
-//! Lists over a `Vec`. A contract sees one as the list of its items.
+//! A growable list over `Vec`. Contracts see it as the list of its items.
 ghost use Rattle.std.specs.Prelude.{◌≡◌, ◌++◌, [], ◌∷◌, List, length, take, IfOk, OnOk, OnErr, if◌then◌else◌, is_ok};
 
 use std::alloc::{AllocError, AllocFailed, Global};
 use std::marker::Model;
 use thiserror::Error;
 
-/// Memory was wanted, and there was none.
+/// An allocation failed.
 #[derive(Debug, Drop, Error)]
 #[error("out of memory")]
 pub struct NoMemory;
@@ -22,7 +22,7 @@ impl<T: Drop> From<AllocFailed<T>> for NoMemory {
     }
 }
 
-/// A list that grows at its end. It keeps its allocator.
+/// A list that grows at its end, and keeps its allocator.
 #[derive(Debug, Drop)]
 pub struct Sequence<T> {
     items: Vec<T>,
@@ -34,7 +34,7 @@ impl<T> Model for Sequence<T> {
     ghost view = { λ s. s.items.items };
 }
 
-/// Bytes, as a text or a file has them.
+/// The bytes of a text or a file.
 pub type Bytes = Sequence<u8>;
 
 /// A list of texts.
@@ -43,9 +43,9 @@ pub type Texts = Sequence<Bytes>;
 /// A list of numbers.
 pub type Numbers = Sequence<u64>;
 
-/// What can be copied, where there is memory for it.
+/// A type whose values can be copied, which may allocate.
 pub trait Duplicate: Drop {
-    /// The same value once more.
+    /// Returns a copy, or `NoMemory` if an allocation fails.
     fn duplicate(&self) -> Result<Self, NoMemory>
         ensures { IfOk result (λ made. made ≡ self.now) };
 }
@@ -69,7 +69,7 @@ impl<T: Duplicate> Duplicate for Sequence<T> {
 }
 
 impl<T> Sequence<T> {
-    /// The empty list, which takes no memory yet.
+    /// Returns an empty list. Allocates nothing.
     pub fn new(alloc: Global) -> Self
         ensures { result ≡ [] }
     {
@@ -78,14 +78,14 @@ impl<T> Sequence<T> {
         }
     }
 
-    /// The list of a vector's items, without memory.
+    /// Returns the list of a vector's items. Allocates nothing.
     pub fn from_vec(items: Vec<T>) -> Self
         ensures { result ≡ items.items }
     {
         Sequence { items }
     }
 
-    /// The vector of the items, without memory.
+    /// Returns the vector of the items. Allocates nothing.
     pub fn into_vec(self) -> Vec<T>
         ensures { result.items ≡ self }
     {
@@ -93,14 +93,14 @@ impl<T> Sequence<T> {
         items
     }
 
-    /// The items.
+    /// Returns the items as a slice.
     pub fn as_slice(&self) -> &[T]
         ensures { result.now ≡ self.now }
     {
         self.items.as_slice()
     }
 
-    /// Drops the items behind the first `len`.
+    /// Keeps the first `len` items and drops the rest.
     pub fn truncate(&mut self, len: usize)
     where
         T: Drop,
@@ -109,7 +109,9 @@ impl<T> Sequence<T> {
         self.items.truncate(len);
     }
 
-    /// Puts one more item at the end, or changes nothing.
+    /// Appends an item.
+    ///
+    /// `NoMemory` leaves the list unchanged.
     pub fn push(&mut self, item: T) -> Result<(), NoMemory>
     where
         T: Drop,
@@ -121,7 +123,7 @@ impl<T> Sequence<T> {
 }
 
 impl<T: Duplicate> Sequence<T> {
-    /// The same list once more.
+    /// Returns a copy, or `NoMemory` if an allocation fails.
     pub fn copy(&self) -> Result<Self, NoMemory>
         ensures { IfOk result (λ made. made ≡ self.now) }
     {
@@ -134,7 +136,9 @@ impl<T: Duplicate> Sequence<T> {
 }
 
 impl Sequence<u8> {
-    /// Puts bytes at the end, or changes nothing.
+    /// Appends bytes.
+    ///
+    /// `NoMemory` leaves the list unchanged.
     pub fn push_slice(&mut self, bytes: &[u8]) -> Result<(), NoMemory>
         ensures { self.new ≡ (if is_ok result then self.old ++ bytes.now else self.old) }
     {

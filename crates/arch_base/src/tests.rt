@@ -1,67 +1,107 @@
 //! Each call once with ample memory, and values worked out outside.
-use crate::{Bytes, Config, Id20, Name, Numbers, Texts, decimal, hex_of, id_of_hex, read_decimal};
+use crate::{
+    Bytes, Config, Id20, Name, NoMemory, Numbers, Texts, decimal, hex_of, id_of_hex, read_decimal,
+};
+use std::alloc::Global;
+
+/// Bytes that grew by one and by three, and were shortened by one.
+fn grown(alloc: Global) -> Result<Bytes, NoMemory> {
+    let mut bytes = Bytes::new(alloc);
+    bytes.push(b'a')?;
+    bytes.push_slice(b"bcd")?;
+    bytes.truncate(3);
+    Ok(bytes)
+}
+
+/// Whether such bytes, and their copy, are `abc`.
+fn copies_bytes(alloc: Global) -> Result<bool, NoMemory> {
+    let bytes = grown(alloc)?;
+    let same = bytes.copy()?;
+    Ok(bytes.as_slice() == b"abc".as_slice() && same.as_slice() == b"abc".as_slice())
+}
+
+/// Whether a copy of a list of one text has that text alone.
+fn copies_texts(alloc: Global) -> Result<bool, NoMemory> {
+    let mut texts = Texts::new(alloc);
+    texts.push(grown(alloc)?)?;
+    let same = texts.copy()?;
+    let same = same.as_slice();
+    Ok(same.len() == 1 && same[0].as_slice() == b"abc".as_slice())
+}
+
+/// Whether a copy of a list of one number is a vector of that number.
+fn copies_numbers(alloc: Global) -> Result<bool, NoMemory> {
+    let mut numbers = Numbers::new(alloc);
+    numbers.push(7)?;
+    let same = numbers.copy()?.into_vec();
+    Ok(same.as_slice() == [7].as_slice())
+}
 
 #[test]
 fn lists_grow_shrink_and_are_copied(rt: HostRuntime) {
-    let alloc = rt.alloc();
-    let mut bytes = Bytes::new(alloc);
-    assert!(rt; bytes.push(b'a').is_ok());
-    assert!(rt; bytes.push_slice(b"bcd").is_ok());
-    bytes.truncate(3);
-    assert!(rt; bytes.as_slice() == b"abc".as_slice());
-    let Ok(copied) = bytes.copy() else {
-        return assert!(rt; false);
-    };
-    let mut texts = Texts::new(alloc);
-    assert!(rt; texts.push(copied).is_ok());
-    let Ok(again) = texts.copy() else {
-        return assert!(rt; false);
-    };
-    assert!(rt; again.as_slice().len() == 1 && again.as_slice()[0].as_slice() == b"abc".as_slice());
-    let mut numbers = Numbers::new(alloc);
-    assert!(rt; numbers.push(7).is_ok());
-    let Ok(same) = numbers.copy() else {
-        return assert!(rt; false);
-    };
-    assert!(rt; same.into_vec().as_slice() == [7].as_slice());
+    assert!(rt; matches!(copies_bytes(rt.alloc()), Ok(true)));
+    assert!(rt; matches!(copies_texts(rt.alloc()), Ok(true)));
+    assert!(rt; matches!(copies_numbers(rt.alloc()), Ok(true)));
 }
+
+/// Whether a text is read as a name, whose copy has that text.
+fn reads_name(text: &[u8]) -> bool {
+    match Name::read(text) {
+        Some(name) => name.copy().as_slice() == text,
+        None => false,
+    }
+}
+
+/// Names.
+const NAMES: [&[u8]; 5] = [b"list", b"0", b"a.b-c_d", b"lists.example.org", &[b'a'; 64]];
+
+/// Texts that are no names.
+const OTHER_NAMES: [&[u8]; 7] = [b"", b".a", b"a.", b"-a", b"A", b"a b", &[b'a'; 65]];
 
 #[test]
 fn names_are_read(rt: HostRuntime) {
-    let good: [&[u8]; 4] = [b"list", b"0", b"a.b-c_d", b"lists.example.org"];
-    for text in good {
-        let Some(name) = Name::read(text) else {
-            return assert!(rt; false);
-        };
-        assert!(rt; name.copy().as_slice() == text);
+    for text in &NAMES {
+        assert!(rt; reads_name(text));
     }
-    let bad: [&[u8]; 7] = [b"", b".a", b"a.", b"-a", b"A", b"a b", &[b'a'; 65]];
-    for text in bad {
+    for text in &OTHER_NAMES {
         assert!(rt; Name::read(text).is_none());
     }
-    assert!(rt; Name::read(&[b'a'; 64]).is_some());
 }
+
+/// Whether a number is printed as this text.
+fn prints(alloc: Global, number: u64, text: &[u8]) -> Result<bool, NoMemory> {
+    let printed = decimal(alloc, number)?;
+    Ok(printed.as_slice() == text)
+}
+
+/// Decimals, and their values.
+const DECIMALS: [(&[u8], u64); 3] = [
+    (b"0", 0),
+    (b"10", 10),
+    (b"18446744073709551615", 18446744073709551615),
+];
+
+/// Texts that are no decimals of 64 bits.
+const OTHER_DECIMALS: [&[u8]; 6] = [b"", b"00", b"01", b"1 ", b"-1", b"18446744073709551616"];
 
 #[test]
 fn decimals_are_printed_and_read(rt: HostRuntime) {
-    let alloc = rt.alloc();
-    let Ok(text) = decimal(alloc, 18446744073709551615) else {
-        return assert!(rt; false);
-    };
-    assert!(rt; text.as_slice() == b"18446744073709551615".as_slice());
-    let good: [(&[u8], u64); 3] = [
-        (b"0", 0),
-        (b"10", 10),
-        (b"18446744073709551615", 18446744073709551615),
-    ];
-    for (text, value) in good {
-        assert!(rt; read_decimal(text) == Some(value));
+    let most = prints(rt.alloc(), 18446744073709551615, b"18446744073709551615");
+    assert!(rt; matches!(most, Ok(true)));
+    for (text, value) in &DECIMALS {
+        assert!(rt; read_decimal(text) == Some(*value));
     }
-    let bad: [&[u8]; 6] = [b"", b"00", b"01", b"1 ", b"-1", b"18446744073709551616"];
-    for text in bad {
+    for text in &OTHER_DECIMALS {
         assert!(rt; read_decimal(text).is_none());
     }
 }
+
+/// Texts that are no ids in lower case.
+const OTHER_IDS: [&[u8]; 3] = [
+    b"CE0000000000000000000000000000000000004a",
+    b"ce0000000000000000000000000000000000004",
+    b"ce0000000000000000000000000000000000004g",
+];
 
 #[test]
 fn ids_are_spelled_and_read(rt: HostRuntime) {
@@ -72,21 +112,13 @@ fn ids_are_spelled_and_read(rt: HostRuntime) {
     let text = b"ce0000000000000000000000000000000000004a";
     assert!(rt; hex_of(&id).as_slice() == text.as_slice());
     assert!(rt; id_of_hex(text) == Some(id));
-    let bad: [&[u8]; 3] = [
-        b"CE0000000000000000000000000000000000004a",
-        b"ce0000000000000000000000000000000000004",
-        b"ce0000000000000000000000000000000000004g",
-    ];
-    for text in bad {
+    for text in &OTHER_IDS {
         assert!(rt; id_of_hex(text).is_none());
     }
 }
 
-#[test]
-fn settings_are_copied(rt: HostRuntime) {
-    let Some(name) = Name::read(b"list") else {
-        return assert!(rt; false);
-    };
+/// Whether a copy of settings has their name, limit, greatest number and no mirror.
+fn copies_settings(name: Name) -> bool {
     let config = Config {
         name,
         limit: 316,
@@ -96,10 +128,13 @@ fn settings_are_copied(rt: HostRuntime) {
         born: 1,
     };
     let same = config.copy();
-    assert!(rt;
-        same.name.as_slice() == b"list".as_slice()
-            && same.limit == 316
-            && same.max == 2
-            && !same.mirror
-    );
+    same.name.as_slice() == b"list".as_slice() && same.limit == 316 && same.max == 2 && !same.mirror
+}
+
+#[test]
+fn settings_are_copied(rt: HostRuntime) {
+    let Some(name) = Name::read(b"list") else {
+        return assert!(rt; false);
+    };
+    assert!(rt; copies_settings(name));
 }

@@ -1,4 +1,4 @@
--- That one of more made ids than there are messages is free, and what trying them one by one comes to.
+-- Among one made id more than there are messages one is free, and trying them in order finds it.
 use Rattle.std.proofs.Common.{◌⊎◌, inl, inr, ◌≡◌, ◌+◌, ◌-◌, ◌^◌, ◌≤◌, ◌<◌, ℕ, zero, suc, Bool, true, false, ◌||◌, List, [], ◌∷◌, length, Option, Some, None, is_some, refl, sym, ◌∙◌, ap, subst, arith, if◌then◌else◌}
 use Rattle.std.specs.Str.{bytes_eq}
 use Rattle.std.proofs.lemmas.Slice.Eq.{bytes_eq-Decides}
@@ -16,7 +16,7 @@ abbrev one_if : Bool → ℕ
 one_if true = 1
 one_if false = 0
 
--- how many numbers below a bound pass
+-- The count of numbers below a bound that pass.
 abbrev count : (ℕ → Bool) → ℕ → ℕ
 count p zero = 0
 count p (suc m) = one_if (p m) + count p m
@@ -62,7 +62,7 @@ some_or : (t : Bool) (e : Entry) (found : Option Entry) → is_some (if t then S
 some_or true e found = refl
 some_or false e found = refl
 
--- of different ids no more are owned than there are entries
+-- Of different ids, no more are owned than there are entries.
 owned-count : (es : List Entry) (ids : ℕ → List ℕ) (m : ℕ) → ((j k : ℕ) → j < m → k < m → ids j ≡ ids k → j ≡ k) → count (λ k. is_some (owner es (ids k))) m ≤ length es
 owned-count [] ids m apart = omega (arith, count-none (λ k. false) m (λ j l. refl))
 owned-count (e ∷ es) ids m apart =
@@ -74,7 +74,7 @@ none_of : (o : Option Entry) → (is_some o ≡ true → ⊥) → o ≡ None
 none_of None h = refl
 none_of (Some e) h = absurd (h refl)
 
--- a number is below another one, or the same
+-- A number is below another one, or equal to it.
 order_of : (j n : ℕ) → j ≤ n → (j < n) ⊎ (j ≡ n)
 order_of zero zero h = inr refl
 order_of zero (suc n) h = inl (omega arith)
@@ -84,7 +84,7 @@ order_of (suc j) (suc n) h = elim (order_of j n (omega arith)) [ inl less ↦ in
 pub below_or_at : (j n : ℕ) (P : ℕ → Type 0) → ((i : ℕ) → i < n → P i) → P n → j < suc n → P j
 below_or_at j n P low here l = elim (order_of j n (omega arith)) [ inl less ↦ low j less | inr same ↦ subst P (sym same) here ]
 
--- where as many different ids as there are entries are owned, one more is free
+-- If as many different ids as there are entries are owned, one more is free.
 pub free-last : (es : List Entry) (ids : ℕ → List ℕ) → ((j k : ℕ) → j < suc (length es) → k < suc (length es) → ids j ≡ ids k → j ≡ k) → ((j : ℕ) → j < length es → is_some (owner es (ids j)) ≡ true) → owner es (ids (length es)) ≡ None
 free-last es ids apart owned = none_of (owner es (ids (length es))) (λ here.
     let all = count-all (λ k. is_some (owner es (ids k))) (suc (length es)) (λ j l. below_or_at j (length es) (λ i. is_some (owner es (ids i)) ≡ true) owned here l) in
@@ -103,14 +103,14 @@ met-other None content h = absurd (cc)
 met-other (Some e) content h = refl
 
 module _ (a : Archive) (text : List ℕ) where
-  -- how the made id of a count meets the messages
+  -- How the made id of a count meets the messages.
   abbrev pub meets : ℕ → Meeting
   meets i = met (owner a.entries (made_id a.config.name text i)) (content_id_of text)
 
   abbrev pub all_made : Choice
   all_made = made_choice a.entries a.config.name text 0 (length a.entries)
 
-  -- the made ids before this count are passed over
+  -- The made ids before this count are skipped.
   abbrev pub Passed : ℕ → Type 0
   Passed i = ((j : ℕ) → j < i → meets j ≡ Other) × (all_made ≡ made_choice a.entries a.config.name text i (length a.entries - i))
 
@@ -124,7 +124,7 @@ module _ (a : Archive) (text : List ℕ) where
       let more : length a.entries - i ≡ suc (length a.entries - (i + 1)) = omega arith in
       ap (λ (n : ℕ). made_choice a.entries a.config.name text i n) more
 
-  -- among n messages the made id of the count n is free, where all before it are passed over
+  -- Among n messages the made id of the count n is free, if all before it are skipped.
   free-at : (i : ℕ) → i ≡ length a.entries → i < 2 ^ 64 → ((j : ℕ) → j < i → meets j ≡ Other) → meets i ≡ Free
   free-at i at small others =
       let none : owner a.entries (made_id a.config.name text (length a.entries)) ≡ None =
@@ -135,7 +135,7 @@ module _ (a : Archive) (text : List ℕ) where
   last-free : (i : ℕ) → i ≡ length a.entries → i < 2 ^ 64 → Passed i → meets i ≡ Free
   last-free i at small passed = free-at i at small passed.0
 
-  -- so no n + 1 of them are passed over
+  -- So n + 1 of them are never all skipped.
   pub not-all-passed : (i : ℕ) → length a.entries < i → length a.entries < 2 ^ 64 → Passed i → ⊥
   not-all-passed i over small passed =
       let free : meets (length a.entries) ≡ Free = free-at (length a.entries) refl small (λ j l. passed.0 j (omega (arith, l, over))) in
@@ -145,21 +145,21 @@ module _ (a : Archive) (text : List ℕ) where
   decides : (i : ℕ) (m : Meeting) → i < length a.entries → Passed i → meets i ≡ m → all_made ≡ decided m (with_made a.config.name text i) (made_choice a.entries a.config.name text (i + 1) (length a.entries - (i + 1)))
   decides i m l passed is = passed.1 ∙ one_tried i l ∙ ap (λ (m : Meeting). decided m (with_made a.config.name text i) (made_choice a.entries a.config.name text (i + 1) (length a.entries - (i + 1)))) is
 
-  -- a made id that is passed over isn't the last one
+  -- A made id that is skipped isn't the last one.
   pub passed-more : (i : ℕ) → i ≤ length a.entries → i < 2 ^ 64 → Passed i → meets i ≡ Other → Passed (i + 1)
   passed-more i within small passed other = elim (order_of i (length a.entries) within) [
     | inl l ↦ (λ j lt. below_or_at j i (λ k. meets k ≡ Other) passed.0 other (omega (arith, lt)), decides i Other l passed other)
     | inr at ↦ absurd (let wrong : Free ≡ Other = sym (last-free i at small passed) ∙ other in cc)
   ]
 
-  -- nor does it repeat a message
+  -- A made id of the same message repeats it.
   pub passed-same : (i n : ℕ) → i ≤ length a.entries → i < 2 ^ 64 → Passed i → meets i ≡ Same n → Repeat n ≡ all_made
   passed-same i n within small passed same = elim (order_of i (length a.entries) within) [
     | inl l ↦ sym (decides i (Same n) l passed same)
     | inr at ↦ absurd (let wrong : Free ≡ Same n = sym (last-free i at small passed) ∙ same in cc)
   ]
 
-  -- the first free one is taken
+  -- The first free made id is taken.
   pub passed-free : (i : ℕ) → i ≤ length a.entries → Passed i → meets i ≡ Free → Take (with_made a.config.name text i) ≡ all_made
   passed-free i within passed free = elim (order_of i (length a.entries) within) [
     | inl l ↦ sym (decides i Free l passed free)

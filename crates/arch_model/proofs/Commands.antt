@@ -1,4 +1,4 @@
--- A command on an archive that may be kept leaves one, and it follows.
+-- A command leaves a valid archive valid, and the archive after it follows.
 use Rattle.std.specs.Prelude.{◌≡◌, ◌≢◌, ◌+◌, ◌^◌, ◌<◌, ◌≤◌, ◌==◌, ◌||◌, ℕ, Bool, true, false, nat_lt, List, [], ◌∷◌, length, Option, Some, None, refl, if◌then◌else◌}
 use Rattle.std.specs.List.{AllByRecursion}
 use Rattle.std.specs.Str.{bytes_eq}
@@ -24,7 +24,7 @@ use Rattle.arch_model.proofs.Owners.{front_free, collision-free}
 use Rattle.arch_model.proofs.TakenTexts.{taken}
 use Rattle.arch_model.proofs.ValidArchives.{archive_grows}
 
--- numbers that rise are no more than there is room for
+-- Numbers that rise are no more than the range has.
 rise_count : (es : List Entry) (low epoch high : ℕ) → low ≤ high → Rise low epoch es → AllByRecursion (λ (e : Entry). e.number < high) es → low + length es ≤ high
 rise_count [] low epoch high least rise below = omega (arith, least)
 rise_count (e ∷ es) low epoch high least rise below =
@@ -33,18 +33,18 @@ rise_count (e ∷ es) low epoch high least rise below =
     let rest = rise_count es (e.number + 1) e.epoch high (omega (arith, less)) rise.2 below.1 in
     omega (arith, first, rest)
 
--- an archive that may be kept has few entries
+-- A valid archive has few entries.
 pub few_entries : (a : Archive) → IsArchive a → length a.entries < 2 ^ 63
 few_entries a valid = let count = rise_count a.entries 1 0 a.next valid.next_least valid.order valid.below in let most = valid.next_most in omega (arith, count, most)
 
--- an own id that has no owner differs from those of all
+-- An own id without an owner differs from all own ids.
 pub apart_ids : (es : List Entry) (text id : List ℕ) → own_id text ≡ Some id → owner es id ≡ None → AllByRecursion (λ (e : Entry). own_id text ≢ own_id e.text) es
 apart_ids [] text id own free = tt
 apart_ids (e ∷ es) text id own free =
     let both = front_free e (owner es id) (is_id id (own_id e.text)) free in
     (λ same. (let yes : is_id id (own_id e.text) ≡ true = ap (is_id id) (sym same ∙ own) ∙ bytes_eq-refl id id refl in let bad : true ≡ false = sym yes ∙ both.0 in cc), apart_ids es text id own both.1)
 
--- and a blob id that has no number
+-- A blob id without a number differs from all blob ids.
 number_free : (n : ℕ) (rest : Option ℕ) (t : Bool) → (if t then Some n else rest) ≡ None → (t ≡ false) × (rest ≡ None)
 number_free n rest true is = absurd (cc)
 number_free n rest false is = (refl, is)
@@ -57,7 +57,7 @@ apart_blobs (e ∷ es) text none =
     let both = number_free e.number (blob_number es blob) (bytes_eq blob other) none in
     (λ same. (let yes : bytes_eq blob other ≡ true = (bytes_eq-Decides blob other).1 (ap (λ (i : Id20). i.0) same) in let bad : true ≡ false = sym yes ∙ both.0 in cc), apart_blobs es text both.1)
 
--- the epoch of the next entry is one of the 64
+-- The last epoch is one of the 64.
 last_small : (es : List Entry) → AllByRecursion IsEntry es → last_epoch es ≤ 63
 last_small [] all = omega arith
 last_small (e ∷ es) all = let one : e.epoch ≤ 63 = all.0.epoch in let rest = last_small es all.1 in grind (arith, nat_tests, one, rest)
@@ -81,7 +81,7 @@ module _ (law : TakenAreStorage) where
       (record { text = t.storage; epoch = new_small a valid.entries; moment = in_time })
       (not_before a) (apart_ids a.entries kept id t.free.1 t.free.2) (apart_blobs a.entries kept unseen)
 
-  -- a command leaves a valid archive valid
+  -- A command leaves a valid archive valid.
   pub keeps_valid : KeepsValid
   keeps_valid a (Deliver bytes) moment in_time valid = valid_by a bytes.now moment (delivered a bytes.now moment) in_time valid (comes a bytes.now moment)
 
@@ -89,6 +89,6 @@ follows_by : (a : Archive) (bytes : List ℕ) (moment : ℕ) (d : Done) → Come
 follows_by a bytes moment d (Refused answer other) = follows_itself a
 follows_by a bytes moment d (Accepted form kept is takes alone room) = follows_with_entry a (new_epoch a) kept moment
 
--- an archive follows the one before a command
+-- The archive after a command follows the one before it.
 pub command_follows : CommandFollows
 command_follows a (Deliver bytes) moment = follows_by a bytes.now moment (delivered a bytes.now moment) (comes a bytes.now moment)

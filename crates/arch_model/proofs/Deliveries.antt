@@ -16,7 +16,7 @@ use Rattle.arch_model.specs.declared.command.Command.TheVariants.{Deliver}
 use Rattle.arch_model.specs.declared.answer.Answer.{Answer}
 use Rattle.arch_model.specs.declared.answer.Answer.TheVariants as named
 
--- what a delivery comes to: a refusal that leaves the archive, or one more entry
+-- The result of a delivery: a refusal that leaves the archive unchanged, or one more entry.
 pub data Comes (a : Archive) (bytes : List ℕ) (moment : ℕ) : Done → Type 0 where
   Refused : (answer : Answer) → ((number : ℕ) (id : Id20) → answer ≡ named.Ok number id → ⊥) → Comes a bytes moment (refused a answer)
   Accepted : (text kept : List ℕ) → stored bytes ≡ Ok text → choice_of a text ≡ Take kept → collision a.entries kept ≡ None → nat_lt a.config.max a.next ≡ false → Comes a bytes moment (record { archive = with_entry a (new_epoch a) kept moment; answer = named.Ok a.next (blob_id_of kept) })
@@ -51,7 +51,7 @@ front_step : (e : Entry) (es fs : List Entry) (n : ℕ) (text : List ℕ) (t : B
 front_step e es fs n text true is later h = rw is (rw is at h)
 front_step e es fs n text false is later h = rw is (later (rw is at h))
 
--- what is found in front stays found
+-- What is found in the first list stays found.
 text_of-front : (es fs : List Entry) (n : ℕ) (text : List ℕ) → text_of es n ≡ Some text → text_of (es ++ fs) n ≡ Some text
 text_of-front [] fs n text h = absurd (cc h)
 text_of-front (e ∷ es) fs n text h = front_step e es fs n text (e.number == n) refl (text_of-front es fs n text) h
@@ -64,7 +64,7 @@ either_step : (x e : Entry) (es : List Entry) (n : ℕ) (text : List ℕ) (t : B
 either_step x e es n text true is later h = inl (rw is (rw is at h))
 either_step x e es n text false is later h = rw is (later (rw is at h))
 
--- what is found is found in front or behind it
+-- What is found is in the first list or is the last entry.
 text_of-either : (es : List Entry) (e : Entry) (n : ℕ) (text : List ℕ) → text_of (es ++ e ∷ []) n ≡ Some text → (text_of es n ≡ Some text) ⊎ (e.number ≡ n)
 text_of-either [] e n text h = none_step e n text (e.number == n) refl h
 text_of-either (x ∷ es) e n text h = either_step x e es n text (x.number == n) refl (text_of-either es e n text) h
@@ -74,7 +74,7 @@ last_step : (x e : Entry) (es : List Entry) (t : Bool) → (x.number == e.number
 last_step x e es true is later none = absurd (none x.text (rw is refl))
 last_step x e es false is later none = rw is (later (λ text h. none text (rw is h)))
 
--- the last entry is found where none in front has its number
+-- The last entry is found if no entry before it has its number.
 text_of-last : (es : List Entry) (e : Entry) → ((text : List ℕ) → text_of es e.number ≡ Some text → ⊥) → text_of (es ++ e ∷ []) e.number ≡ Some e.text
 text_of-last [] e none = let same : (e.number == e.number) ≡ true = grind (arith, nat_tests) in rw same refl
 text_of-last (x ∷ es) e none = last_step x e es (x.number == e.number) refl (text_of-last es e) none

@@ -1,4 +1,4 @@
--- What stands behind the last entry, when one more comes.
+-- The end of an archive, after one more entry.
 use Rattle.std.proofs.Common.{◌≡◌, ◌+◌, ◌-◌, ◌≤◌, ◌<◌, ◌==◌, ◌||◌, nat_lt, ℕ, Bool, true, false, List, [], ◌∷◌, ◌++◌, length, Option, Some, None, refl, sym, ◌∙◌, ap, arith, length-append, if◌then◌else◌}
 use Rattle.std.proofs.lemmas.List.{append-nil, append_assoc}
 use Rattle.std.proofs.lemmas.List.Elements.{filter-append}
@@ -26,7 +26,7 @@ entries_bytes-behind p (x ∷ es) e =
     ap (λ bs. entry_bytes message_name x.text x.moment p ++ bs) (entries_bytes-behind (Some (commit_id message_name x.text x.moment p)) es e)
     ∙ sym (append_assoc (entry_bytes message_name x.text x.moment p) (entries_bytes (Some (commit_id message_name x.text x.moment p)) es) (entry_bytes message_name e.text e.moment (last_commit (Some (commit_id message_name x.text x.moment p)) es)))
 
--- an epoch's bytes with one more entry
+-- The bytes of an epoch with one more entry.
 pub epoch_bytes-behind : (es : List Entry) (e : Entry) → epoch_bytes (es ++ e ∷ []) ≡ epoch_bytes es ++ (front_bytes (last_commit None es) ++ entry_bytes message_name e.text e.moment (last_commit None es))
 epoch_bytes-behind [] e = ap (λ bs. magic ++ bs) (append-nil (entry_bytes message_name e.text e.moment None))
 epoch_bytes-behind (x ∷ es) e =
@@ -66,7 +66,7 @@ none_above (e ∷ es) k h =
     let other : (e.epoch == k) ≡ false = grind (arith, nat_tests, low.0) in
     rw other (none_above es k low.1)
 
--- the last epoch is that of the last entry, where epochs don't fall
+-- The last epoch is that of the last entry, if epochs don't fall.
 pub last_epoch-push : (es : List Entry) (e : Entry) → last_epoch es ≤ e.epoch → last_epoch (es ++ e ∷ []) ≡ e.epoch
 last_epoch-push [] e h = zero_end e.epoch where
   zero_end : (n : ℕ) → greater n 0 ≡ n
@@ -78,7 +78,7 @@ last_epoch-push (x ∷ es) e h =
     let low = greater_low x.epoch (last_epoch es) (e.epoch + 1) (omega (arith, h)) in
     ap (greater x.epoch) (last_epoch-push es e (omega (arith, low.1))) ∙ greater_end x.epoch e.epoch (omega (arith, low.0))
 
--- the end behind one more entry in its epoch
+-- The end after one more entry in its epoch.
 pub IsEnd-push : (limit : ℕ) (es : List Entry) (e : Entry) (end_ : End) → IsEnd limit es end_ → e.epoch ≡ end_.epoch → IsEnd limit (es ++ e ∷ []) (end_after end_ e.text e.moment)
 IsEnd-push limit es e end_ is at =
     let here : List Entry = in_epoch es end_.epoch in
@@ -92,7 +92,7 @@ IsEnd-push limit es e end_ is at =
       small = is.small;
     }
 
--- the end that a new entry stands behind, and its epoch
+-- The end to which a new entry is appended, and its epoch.
 abbrev pub NewEnd : ℕ → List Entry → ℕ → End → Type 0
 NewEnd limit es epoch end_ = IsEnd limit es end_ × (end_.epoch ≡ epoch) × (last_epoch es ≤ end_.epoch)
 
@@ -123,7 +123,7 @@ IsEnd-new a end_ is last =
     below : (k : ℕ) (t : Bool) → k ≤ 63 → (k == 63 || t) ≡ false → k < 63
     below k t small closed = grind (arith, nat_tests, small, closed)
 
--- no entry is of a greater epoch
+-- No entry has an epoch after the last one.
 pub none_later : (es : List Entry) → AllByRecursion (λ (e : Entry). e.epoch ≤ last_epoch es) es
 none_later [] = tt
 none_later (e ∷ es) = (grind (arith, nat_tests), weaker es (none_later es)) where
@@ -131,7 +131,7 @@ none_later (e ∷ es) = (grind (arith, nat_tests), weaker es (none_later es)) wh
   weaker [] all = tt
   weaker (f ∷ fs) all = ((let low : f.epoch ≤ last_epoch es = all.0 in grind (arith, nat_tests)), weaker fs all.1)
 
--- the epoch of the next entry isn't before that of any other
+-- The epoch of the next entry isn't before that of any other.
 pub not_before : (a : Archive) → AllByRecursion (λ (e : Entry). e.epoch ≤ new_epoch a) a.entries
 not_before a = all_weaker (λ (e : Entry). e.epoch ≤ last_epoch a.entries) (λ (e : Entry). e.epoch ≤ new_epoch a) a.entries (λ e low. later e.epoch low) (none_later a.entries) where
   later : (epoch : ℕ) → epoch ≤ last_epoch a.entries → epoch ≤ new_epoch a

@@ -1,4 +1,4 @@
--- The bytes of an entry, and of an epoch with one entry more.
+-- The bytes of an entry, and of an epoch with one more entry.
 use Rattle.std.proofs.Common.{◌≡◌, ℕ, List, [], ◌∷◌, ◌++◌, codes, length, arith, FitsSigned, w16, Option, Some, None, refl, sym, ap, ◌∙◌, append-nil, append_assoc}
 use Rattle.std.specs.Fmt.{decimal}
 use Rattle.std.specs.Prelude.{ℤ, Result, Ok, Err, IfOk}
@@ -15,7 +15,7 @@ use Rattle.arch_model.specs.Facts.{from_fact, email_fact, subject_fact, date_fac
 use Rattle.arch_model.specs.Commits.{commit_of, written_at}
 use Rattle.arch_model.specs.Epochs.{tree_of, commit_text, commit_id, entry_bytes, entries_bytes, last_commit, magic, message_name, epoch_bytes}
 
--- the commit of the facts of a text
+-- The commit of what a text says of itself.
 pub commit_of-made : (text : List ℕ) (tree : Id20) (parent : Option Id20) (moment : ℕ) (author email subject : List ℕ) (written : Moment) (zone : ℤ)
     → author ≡ from_fact text → email ≡ email_fact text → subject ≡ clean (subject_fact text) → written ≡ written_at (date_fact text) moment
     → zone ≡ written.zone → let made : Commit = record { tree = tree; parent = parent; author = author; email = email; secs = written.secs; zone = zone; committed = moment; subject = subject } in
@@ -23,14 +23,14 @@ pub commit_of-made : (text : List ℕ) (tree : Id20) (parent : Option Id20) (mom
 unfolding commit_of
 commit_of-made text tree parent moment author email subject written zone a e s w z = rw (z, a, e, s, w) refl
 
--- the zone of a commit is a number of 16 bits
+-- The zone of a commit fits in 16 bits.
 pub zone_fits : (zone : ℤ) → IsZone zone → FitsSigned w16 zone
 zone_fits zone h =
     let low = h.low in
     let high = h.high in
     omega (arith, ints)
 
--- the spelling of the commit of a text
+-- The form of the commit of a text.
 pub commit_text-made : (made : Result (List ℕ) NoMemory) (name : ℕ) (text : List ℕ) (moment : ℕ) (parent : Option Id20) (tree : Id20) (commit : Commit) → tree ≡ id_of (tree_of name text)
     → commit ≡ commit_of text tree parent moment → IfOk made (λ spelled. spelled ≡ commit_spelling commit) → IfOk made (λ spelled. spelled ≡ commit_text name text moment parent)
 unfolding commit_text
@@ -38,7 +38,7 @@ commit_text-made (Ok spelled) name text moment parent tree commit t e h =
     h ∙ ap commit_spelling (e ∙ ap (λ id. commit_of text id parent moment) t)
 commit_text-made (Err refused) name text moment parent tree commit t e h = tt
 
--- the objects of an entry, its blob's in two pieces
+-- The objects of an entry, its blob's in two parts.
 pub entry_bytes-pieces : (name : ℕ) (text : List ℕ) (moment : ℕ) (parent : Option Id20) (head tree commit : List ℕ)
     → head ≡ codes "blob " ++ (decimal (length text) ++ 0 ∷ []) → tree ≡ tree_of name text → commit ≡ commit_text name text moment parent
     → head ++ (text ++ (tree ++ commit)) ≡ entry_bytes name text moment parent
@@ -49,12 +49,12 @@ entry_bytes-pieces name text moment parent head tree commit h t c =
     let blob : head ++ (text ++ (tree ++ commit)) ≡ blob_spelling text ++ (tree ++ commit) = rw h (ap (λ bytes. codes "blob " ++ bytes) inner) in
     blob ∙ rw (t, c) refl
 
--- the id of the commit of a text
+-- The id of the commit of a text.
 pub commit_id-made : (name : ℕ) (text : List ℕ) (moment : ℕ) (parent : Option Id20) (id : Id20) → id ≡ id_of (commit_text name text moment parent) → id ≡ commit_id name text moment parent
 unfolding commit_id
 commit_id-made name text moment parent id h = h
 
--- one entry more behind others
+-- One more entry after the others.
 pub entries_bytes-push : (parent : Option Id20) (entries : List Entry) (entry : Entry)
     → entries_bytes parent (entries ++ entry ∷ []) ≡ entries_bytes parent entries ++ entry_bytes message_name entry.text entry.moment (last_commit parent entries)
 entries_bytes-push parent [] entry = append-nil (entry_bytes message_name entry.text entry.moment parent)
@@ -63,17 +63,17 @@ entries_bytes-push parent (first ∷ entries) entry =
     ∙ sym (append_assoc (entry_bytes message_name first.text first.moment parent) (entries_bytes (Some (commit_id message_name first.text first.moment parent)) entries)
     (entry_bytes message_name entry.text entry.moment (last_commit (Some (commit_id message_name first.text first.moment parent)) entries)))
 
--- and its commit is the last
+-- Its commit is the last one.
 pub last_commit-push : (parent : Option Id20) (entries : List Entry) (entry : Entry)
     → last_commit parent (entries ++ entry ∷ []) ≡ Some (commit_id message_name entry.text entry.moment (last_commit parent entries))
 last_commit-push parent [] entry = refl
 last_commit-push parent (first ∷ entries) entry = last_commit-push (Some (commit_id message_name first.text first.moment parent)) entries entry
 
--- an epoch's first entry
+-- The bytes of an epoch's first entry.
 pub epoch_bytes-first : (entry : Entry) → epoch_bytes (entry ∷ []) ≡ magic ++ entry_bytes message_name entry.text entry.moment None
 epoch_bytes-first entry = ap (λ bytes. magic ++ bytes) (append-nil (entry_bytes message_name entry.text entry.moment None))
 
--- an epoch with one entry more: its bytes with the entry's behind them
+-- One more entry appends its bytes to the epoch.
 pub epoch_bytes-push : (first : Entry) (entries : List Entry) (entry : Entry)
     → epoch_bytes ((first ∷ entries) ++ entry ∷ []) ≡ epoch_bytes (first ∷ entries) ++ entry_bytes message_name entry.text entry.moment (last_commit None (first ∷ entries))
 epoch_bytes-push first entries entry =

@@ -10,11 +10,12 @@ use Rattle.arch_model.specs.declared.kept.Kept.{Kept}
 use Rattle.arch_model.proofs.Ends.{epoch_bytes-behind, last_commit-behind, in_epoch-at, in_epoch-else}
 use Rattle.arch_model.proofs.Keeping.{entries_from-push}
 
--- the entries of an epoch among the first so many messages
+-- The entries of an epoch among the first `i` messages.
 abbrev pub of_first : List Kept → ℕ → ℕ → List Entry
 of_first items i epoch = in_epoch (entries_from 1 (take i items)) epoch
 
--- the bytes of an epoch among the first so many messages are pushed, and the last commit is known
+-- The bytes of an epoch's entries among the first `i` messages are appended, and the last commit is
+-- known.
 abbrev pub HasPushed : List Kept → ℕ → List ℕ → ℕ → List ℕ → Option Id20 → Type 0
 HasPushed items epoch old i into parent = (into ≡ old ++ epoch_bytes (of_first items i epoch)) × (parent ≡ last_commit None (of_first items i epoch))
 
@@ -49,7 +50,7 @@ some_of : (id : Id20) (es : List Entry) → is_some (last_commit (Some id) es) �
 some_of id [] = refl
 some_of id (e ∷ es) = some_of (commit_id message_name e.text e.moment (Some id)) es
 
--- there is a last commit where there is an entry
+-- There is a last commit if there is an entry.
 pub last_commit-some : (es : List Entry) → is_some (last_commit None es) ≡ has_entry es
 last_commit-some [] = refl
 last_commit-some (e ∷ es) = some_of (commit_id message_name e.text e.moment None) es
@@ -62,7 +63,7 @@ take-whole [] i l = take_nil i where
 take-whole (x ∷ items) zero l = absurd (omega arith)
 take-whole (x ∷ items) (suc i) l = ap (λ ks. x ∷ ks) (take-whole items i (omega arith))
 
--- all are pushed
+-- All entries are appended.
 pub pushed-all : (a : Archive) (config : Config) (items : List Kept) (epoch : ℕ) (old : List ℕ) (i : ℕ) (into : List ℕ) (parent : Option Id20) → archive_of config items ≡ a → length items ≤ i → HasPushed items epoch old i into parent
     → (into ≡ old ++ epoch_bytes (in_epoch a.entries epoch)) × (is_some parent ≡ has_entry (in_epoch a.entries epoch))
 pushed-all a config items epoch old i into parent is whole has =

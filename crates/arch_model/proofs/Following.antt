@@ -1,4 +1,4 @@
--- No number of an archive names a second message later.
+-- No number of an archive ever names a second message.
 use Rattle.std.specs.Prelude.{◌≡◌, ◌≢◌, ◌<◌, ◌==◌, ℕ, Bool, true, false, List, [], ◌∷◌, ◌++◌, Option, Some, None, if◌then◌else◌, unwrap_or, refl}
 use Rattle.std.specs.List.{AllByRecursion}
 use Rattle.std.proofs.Common.{◌∙◌, sym, ap, arith}
@@ -6,18 +6,18 @@ use Rattle.std.proofs.lemmas.Bool.Decides.{nat_tests}
 use Rattle.arch_model.specs.Archives.{Entry, text_of}
 use Rattle.arch_model.specs.Following.{FollowsItself, FollowsThrough, FollowsWithEntry, NumbersStay}
 
--- an archive follows itself
+-- An archive follows itself.
 pub follows_itself : FollowsItself
 follows_itself a = record { next = omega arith; texts = λ n text less is. is }
 
--- what follows a follower follows
+-- What follows a follower follows.
 pub follows_through : FollowsThrough
 follows_through a b c p q =
     let more = p.next in
     let most = q.next in
     record { next = omega (arith, more, most); texts = λ n text less is. p.texts n text less (q.texts n text (omega (arith, less, more)) is) }
 
--- one entry more leaves the texts of other numbers
+-- One more entry leaves the texts of other numbers unchanged.
 other_test : (m n : ℕ) → m ≢ n → (m == n) ≡ false
 other_test m n apart = grind (arith, nat_tests)
 
@@ -25,14 +25,14 @@ text_kept : (es : List Entry) (new : Entry) (n : ℕ) → new.number ≢ n → t
 text_kept [] new n apart = rw (other_test new.number n apart) refl
 text_kept (e ∷ es) new n apart = ap (λ (rest : Option (List ℕ)). if e.number == n then Some e.text else rest) (text_kept es new n apart)
 
--- an archive with one more entry follows
+-- An archive with one more entry follows the one without it.
 pub follows_with_entry : FollowsWithEntry
 follows_with_entry a epoch text moment = record {
   next = omega arith;
   texts = λ n old less is. sym (text_kept a.entries (record { number = a.next; epoch = epoch; text = text; moment = moment }) n (λ same. absurd (omega (arith, less, same)))) ∙ is;
 }
 
--- a number that has a text is below all that are above each entry's
+-- A number with a text is below each bound of all numbers.
 number_below : (es : List Entry) (high n : ℕ) (text : List ℕ) → AllByRecursion (λ (e : Entry). e.number < high) es → text_of es n ≡ Some text → n < high
 number_below [] high n text below is = let wrong : None ≡ Some text = is in cc
 number_below (e ∷ es) high n text below is = by (e.number == n) refl (number_below es high n text below.1) is where
@@ -40,7 +40,7 @@ number_below (e ∷ es) high n text below is = by (e.number == n) refl (number_b
   by true test rest found = let less : e.number < high = below.0 in let same : e.number ≡ n = grind (arith, nat_tests) in omega (arith, less, same)
   by false test rest found = rest found
 
--- no number of an archive names a second message in one that follows
+-- A number names the same text in an archive and in one that follows it.
 pub numbers_stay : NumbersStay
 numbers_stay a b valid follows n old new was is =
     let found : text_of a.entries n ≡ Some new = follows.texts n new (number_below a.entries a.next n old valid.below was) is in

@@ -1,4 +1,4 @@
--- What a delivery is judged to be is the definition's, and what is taken may be kept.
+-- The verdict on a delivery is that of the definition, and a text that is taken may be kept.
 use Rattle.std.specs.Prelude.{◌≡◌, ◌<◌, ◌≤◌, ℕ, Bool, true, false, nat_lt, List, length, Option, Some, None, IsSome, Result, Ok, refl, if◌then◌else◌}
 use Rattle.std.proofs.Common.{◌∙◌, sym, ap, subst, arith}
 use Rattle.std.proofs.lemmas.Bool.Decides.{nat_tests}
@@ -24,19 +24,19 @@ use Rattle.arch_model.specs.declared.kept.Kept.{Kept}
 use Rattle.arch_model.proofs.Keeping.{length-entries_from}
 use Rattle.arch_model.proofs.Owners.{collision-free, unowned}
 
--- what there is
+-- The value of an option that is Some.
 there : (o : Option (List ℕ)) → IsSome o → (id : List ℕ) × (o ≡ Some id)
 there None some = absurd (let wrong : false ≡ true = some in cc)
 there (Some id) some = (id, refl)
 
 module _ (a : Archive) (config : Config) (index : Index) (count next : ℕ) (known : IsKnownBy config index count next a) (bytes : List ℕ) where
   module _ (writable : config.mirror ≡ false) where
-    -- any other goes by the storage form
+    -- A delivery to an archive that is no mirror goes by the storage form.
     pub formed : (form : Result (List ℕ) StoredRefusal) → stored bytes ≡ form → (moment : ℕ) → delivered a bytes moment ≡ delivered_form a moment form
     formed form is moment =
         ap (λ (t : Bool). if t then refused a answer.IsMirror else delivered_form a moment (stored bytes)) (ap (λ (c : Config). c.mirror) known.config_is ∙ writable) ∙ ap (delivered_form a moment) is
 
-    -- and by the choice
+    -- It goes by what the candidate ids decide.
     pub chosen : (form : List ℕ) (choice : Choice) → stored bytes ≡ Ok form → choice ≡ choice_of a form → (moment : ℕ) → delivered a bytes moment ≡ delivered_choice a moment choice
     chosen form choice is choice_is moment = formed (Ok form) is moment ∙ ap (delivered_choice a moment) (sym choice_is)
 
@@ -52,7 +52,7 @@ module _ (a : Archive) (config : Config) (index : Index) (count next : ℕ) (kno
       kept_as : (found : Option ℕ) → found ≡ number_in index.blobs blob.0 → (moment : ℕ) → delivered a bytes moment ≡ delivered_kept a text moment found
       kept_as found given moment = chosen form (Take text) is (sym takes) moment ∙ ap (delivered_kept a text moment) (met_as found given)
 
-      -- a blob id that a message has collides
+      -- A blob id that a message has collides.
       pub collides : (n : ℕ) → Some n ≡ number_in index.blobs blob.0 → (moment : ℕ) → delivered a bytes moment ≡ refused a (answer.Collision n)
       collides n given moment = kept_as (Some n) given moment
 
@@ -65,13 +65,13 @@ module _ (a : Archive) (config : Config) (index : Index) (count next : ℕ) (kno
           kept_as None given moment
           ∙ ap (λ (u : Bool). if u then refused a (answer.Full a.config.max) else record { archive = with_entry a (new_epoch a) text moment; answer = answer.Ok a.next (blob_id_of text) }) (test_of ∙ test)
 
-      -- no number is left
+      -- No number is left.
       pub filled : None ≡ number_in index.blobs blob.0 → config.max < next → (moment : ℕ) → delivered a bytes moment ≡ refused a (answer.Full config.max)
       filled given over moment =
           let test : nat_lt config.max next ≡ true = grind (arith, nat_tests, over) in
           numbered true test given moment ∙ ap (λ (c : Config). refused a (answer.Full c.max)) known.config_is
 
-      -- else the text is kept
+      -- Otherwise the text is kept.
       pub kept : None ≡ number_in index.blobs blob.0 → next ≤ config.max → (moment : ℕ) → delivered a bytes moment ≡ record { archive = with_entry a (new_epoch a) text moment; answer = answer.Ok next blob }
       kept given room moment =
           let test : nat_lt config.max next ≡ false = grind (arith, nat_tests, room) in
@@ -79,7 +79,7 @@ module _ (a : Archive) (config : Config) (index : Index) (count next : ℕ) (kno
           ∙ (ap (λ (n : ℕ). record { archive = with_entry a (new_epoch a) text moment; answer = answer.Ok n (blob_id_of text) }) known.next_is
           ∙ ap (λ (i : Id20). record { archive = with_entry a (new_epoch a) text moment; answer = answer.Ok next i }) (sym blob_is))
 
--- an archive in memory is known by what it keeps
+-- What an archive in memory keeps tells its settings, messages and next number.
 pub kept_known : (config : Config) (ks : List Kept) (index : Index) (end_ : End) (a : Archive) (count next : ℕ) → archive_of config ks ≡ a → IsKept config ks index end_ → count ≡ length ks → next ≡ a.next → IsKnownBy config index count next a
 kept_known config ks index end_ a count next is holds count_is next_is = record {
   config_is = sym (ap (λ (b : Archive). b.config) is);
@@ -88,7 +88,7 @@ kept_known config ks index end_ a count next is holds count_is next_is = record 
   indexed = subst (λ (b : Archive). IsIndex b.entries index) is holds.indexed;
 }
 
--- a refusal is delivered as it is
+-- A refusal is delivered as it is.
 pub refuses : (a : Archive) (bytes : List ℕ) (moment : ℕ) (reply : Answer) → RefusesBy a bytes reply → Delivers a reply a (delivered a bytes moment)
 refuses a bytes moment answer.NoMemory h = refl
 refuses a bytes moment (answer.Ok number id) h = absurd h
@@ -103,7 +103,7 @@ refuses a bytes moment answer.IsMirror h = h moment
 refuses a bytes moment answer.DiskFault h = h
 refuses a bytes moment (answer.Damaged file place) h = h
 
--- what stays is untouched, whatever was answered
+-- A keeper that stays the same is untouched, whatever the answer.
 pub untouched-same : {K : Type 0} (reply : Answer) (k : K) → IsUntouched reply k k
 untouched-same (answer.Ok number id) k = tt
 untouched-same answer.DiskFault k = tt

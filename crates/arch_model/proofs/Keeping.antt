@@ -1,20 +1,21 @@
--- What an archive in memory holds with one more message.
+-- What the archive in memory holds after one more message.
 use Rattle.std.proofs.Common.{◌≡◌, ◌+◌, ◌≤◌, ℕ, List, [], ◌∷◌, ◌++◌, length, Some, None, refl, sym, ◌∙◌, ap, subst, arith, length-append}
 use Rattle.arch_base.specs.declared.config.Config.{Config}
 use Rattle.arch_base.specs.declared.ids.Id20.{Id20}
 use Rattle.mail_reader.specs.Ids.{own_id}
 use Rattle.mail_reader.specs.Content.{content_id_of}
 use Rattle.git_objects.specs.Objects.{blob_id_of}
-use Rattle.arch_model.specs.Archives.{Entry, owner, with_entry}
+use Rattle.arch_model.specs.Archives.{Archive, Entry, owner, with_entry}
 use Rattle.arch_model.specs.Delivery.{last_epoch, new_epoch}
 use Rattle.arch_model.specs.Memory.{archive_of, entries_from, end_after, end_for_new, blob_number, IsEnd, IsIndex, IsFree, IsKept, Puts}
 use Rattle.arch_model.specs.declared.kept.Kept.{Kept}
+use Rattle.arch_model.specs.declared.kept.Owner.{Owner}
 use Rattle.arch_model.specs.declared.kept.End.{End}
 use Rattle.arch_model.specs.declared.index.Index.{Index}
 use Rattle.arch_model.proofs.Owners.{IsIndex-push}
 use Rattle.arch_model.proofs.Ends.{IsEnd-new, IsEnd-push, last_epoch-push}
 
--- one more message stands behind the others, with the next number
+-- One more message is appended as the entry with the next number.
 pub entries_from-push : (n : ℕ) (ks : List Kept) (k : Kept) → entries_from n (ks ++ k ∷ []) ≡ entries_from n ks ++ record { number = n + length ks; epoch = k.epoch; text = k.text; moment = k.moment } ∷ []
 entries_from-push n [] k = let same : n ≡ n + 0 = omega arith in ap (λ m. record { number = m; epoch = k.epoch; text = k.text; moment = k.moment } ∷ []) same
 entries_from-push n (x ∷ ks) k =
@@ -72,3 +73,23 @@ module _ (config : Config) (ks : List Kept) (index new : Index) (end_ next : End
       ∙ ap (λ (n : ℕ). record { config = config; entries = entries_from 1 ks ++ record { number = n; epoch = next.epoch; text = text; moment = moment } ∷ []; next = length (ks ++ message ∷ []) + 1 }) number
       ∙ ap (λ (n : ℕ). record { config = config; entries = entries_from 1 ks ++ record { number = length ks + 1; epoch = n; text = text; moment = moment } ∷ []; next = length (ks ++ message ∷ []) + 1 }) epoch_is
       ∙ ap (λ (n : ℕ). record { config = config; entries = entries_from 1 ks ++ record { number = length ks + 1; epoch = new_epoch (archive_of config ks); text = text; moment = moment } ∷ []; next = n }) more
+
+-- The same of an archive that these stand for, where what was read of the text and the message that was made are as they should be.
+pub keeps : (config : Config) (ks : List Kept) (index new : Index) (end_ next : End) (text read spelled digested : List ℕ) (moment : ℕ) (blob : Id20) (id : List ℕ) (made : Owner) (a : Archive)
+    → archive_of config ks ≡ a → IsKept config ks index end_ → a.next ≤ a.config.max → IsFree a.entries text → blob ≡ blob_id_of text → blob_number a.entries blob.0 ≡ None
+    → next ≡ end_after (end_for_new config.limit end_) read moment → read ≡ text → own_id spelled ≡ Some id → spelled ≡ text
+    → made ≡ record { number = a.next; content = content_id_of digested } → digested ≡ text → Puts index new id blob made
+    → IsKept config (ks ++ record { epoch = next.epoch; text = text; moment = moment } ∷ []) new next
+    × (archive_of config (ks ++ record { epoch = next.epoch; text = text; moment = moment } ∷ []) ≡ with_entry a (new_epoch a) text moment)
+keeps config ks index new end_ next text read spelled digested moment blob id made a is kept room free blob_is unseen next_is read_is own spelled_is made_is digested_is puts =
+    let few : length ks + 1 ≤ config.max = subst (λ (b : Archive). b.next ≤ b.config.max) (sym is) room in
+    let unowned : IsFree (entries_from 1 ks) text = subst (λ (b : Archive). IsFree b.entries text) (sym is) free in
+    let unnumbered : blob_number (entries_from 1 ks) blob.0 ≡ None = subst (λ (b : Archive). blob_number b.entries blob.0 ≡ None) (sym is) unseen in
+    let after : next ≡ end_after (end_for_new config.limit end_) text moment = next_is ∙ ap (λ (t : List ℕ). end_after (end_for_new config.limit end_) t moment) read_is in
+    let named : own_id text ≡ Some id = ap own_id (sym spelled_is) ∙ own in
+    let message : made ≡ record { number = length ks + 1; content = content_id_of text } =
+    made_is ∙ ap (λ (b : Archive). record { number = b.next; content = content_id_of digested }) (sym is) ∙ ap (λ (t : List ℕ). record { number = length ks + 1; content = content_id_of t }) digested_is in
+    let put : Puts index new id blob (record { number = length ks + 1; content = content_id_of text }) = subst (λ (o : Owner). Puts index new id blob o) message puts in (
+      kept-behind config ks index new end_ next text moment blob id kept few unowned blob_is unnumbered after named put,
+      archive-behind config ks index new end_ next text moment blob id kept few unowned blob_is unnumbered after named put ∙ ap (λ (b : Archive). with_entry b (new_epoch b) text moment) is,
+    )

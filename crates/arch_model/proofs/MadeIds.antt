@@ -1,4 +1,4 @@
--- Made ids: that they are ids, differ, and are the own ids of texts that have them in front.
+-- Made ids are ids, differ, and are the own ids of texts that start with them.
 use Rattle.std.proofs.Common.{◌≡◌, ◌+◌, ◌*◌, ◌/◌, ◌%◌, ◌^◌, ◌≤◌, ◌<◌, ℕ, suc, true, List, [], ◌∷◌, ◌++◌, length, drop, get_or, codes, decimal, slice_index, Some, refl, ap, arith, length-append}
 use Rattle.std.specs.List.{AllPass}
 use Rattle.std.proofs.lemmas.Bool.Decides.{nat_tests}
@@ -56,7 +56,8 @@ end_passes = AllPass-from_list_all is_id_byte end_word refl
 inside_length : (digits : List ℕ) (k : ℕ) (name : List ℕ) → length (made_inside digits k name) ≡ length digits + length (decimal k) + length name + 10
 inside_length digits k name = omega (arith, length-append digits ((46 ∷ decimal k) ++ ((64 ∷ name) ++ end_word)), length-append (46 ∷ decimal k) ((64 ∷ name) ++ end_word), length-append (64 ∷ name) end_word)
 
--- what stands between its brackets is short, since a SHA-1 has 40 digits, a count at most 20 and a name at most 64 bytes
+-- A made id without its brackets is short: a SHA-1 has 40 digits, a count at most 20 and a name at
+-- most 64 bytes.
 inside-short : (name text : List ℕ) (k : ℕ) → IsName name → k < 2 ^ 64 → length (made_inside (encode_lower (sha1 text)) k name) ≤ 134
 inside-short name text k is small =
     let id = IsId-id_of text in
@@ -67,12 +68,12 @@ inside-short name text k is small =
     let name_short : length name ≤ 64 = is.short in
     omega (arith, inside_length digits k name, some, twenty, short, name_short)
 
--- and so is a made id
+-- A made id is short.
 pub made-length : (name text : List ℕ) (k : ℕ) → IsName name → k < 2 ^ 64 → length (made_id name text k) ≤ 136
 unfolding id_with
 made-length name text k is small = omega (arith, inside-short name text k is small, length-append (made_inside (encode_lower (sha1 text)) k name) (62 ∷ []))
 
--- a made id is an id
+-- A made id is an id.
 pub made-IsId : (name text : List ℕ) (k : ℕ) → IsName name → k < 2 ^ 64 → IsId (made_id name text k)
 unfolding id_with
 made-IsId name text k is small =
@@ -92,7 +93,7 @@ made-IsId name text k is small =
           (All-append P (64 ∷ name) end_word (All-cons P 64 name refl (name_passes name is)) end_passes));
     }
 
--- the own id of a text with a made id in front is that id
+-- The own id of a text with a made id at the front is that id.
 pub made-own : (name text : List ℕ) (k : ℕ) → IsName name → k < 2 ^ 64 → own_id (with_made name text k) ≡ Some (made_id name text k)
 made-own name text k is small = id_in_front text (made_id name text k) (made-IsId name text k is small)
 
@@ -102,7 +103,7 @@ counts_once digits rest j k a b e =
     let counts : 46 ∷ decimal j ≡ 46 ∷ decimal k = append_cancel_right (46 ∷ decimal j) (46 ∷ decimal k) rest tails in
     decimal_injective j k a b (ap (drop 1) counts)
 
--- made ids of different counts differ
+-- Made ids of different counts differ.
 pub made-once : (name text : List ℕ) (j k : ℕ) → j < 2 ^ 64 → k < 2 ^ 64 → made_id name text j ≡ made_id name text k → j ≡ k
 unfolding id_with
 made-once name text j k a b e = counts_once (encode_lower (sha1 text)) ((64 ∷ name) ++ end_word) j k a b (append_cancel_right (made_inside (encode_lower (sha1 text)) j name) (made_inside (encode_lower (sha1 text)) k name) (62 ∷ []) (ap (drop 1) e))

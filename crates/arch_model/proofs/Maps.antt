@@ -1,4 +1,4 @@
--- What an ordered map has after one more entry.
+-- The content of an ordered map after one more entry.
 use Rattle.std.proofs.Common.{◌≡◌, ℕ, Bool, true, false, cond, List, [], ◌∷◌, Option, Some, None, refl, sym, ◌∙◌, ap, subst, if◌then◌else◌}
 use Rattle.std.specs.Str.{bytes_eq}
 use Rattle.std.specs.Ordering.{nat_cmp, is_eq, match_ordering}
@@ -62,7 +62,7 @@ module _ {K : Type 0} (bytes : K → List ℕ) where
       lookup_by_order (has q) (key_cmp k e.0) ((k, v) ∷ e ∷ es) ((e.0, v) ∷ es) (e ∷ insert_entry key_cmp es k v)
       ∙ insert_step v e.1 (has q k) (has q e.0) (key_cmp k e.0) (lookup (has q) (insert_entry key_cmp es k v)) (lookup (has q) es) (has_same q k e.0) (has_apart q k e.0) (lookup_insert q k v es)
 
-  -- a key that was put in is found, and so is each that was there
+  -- An inserted key is found, and so is each that was there.
   pub found_behind : {X : Type 0} (q : List ℕ) (k : K) (v : X) (old new : List (K × X)) → new ≡ insert_entry key_cmp old k v → lookup (has q) new ≡ (if bytes_eq q (bytes k) then Some v else lookup (has q) old)
   found_behind q k v old new is = ap (lookup (has q)) is ∙ lookup_insert q k v old ∙ ap (λ (t : Bool). if t then Some v else lookup (has q) old) (is_eq-slice_cmp q (bytes k))
 
@@ -89,14 +89,14 @@ module _ {K : Type 0} (bytes : K → List ℕ) where
           let no : true ≡ false = sym (bytes_eq-refl q id (one ∙ sym two)) ∙ other in
           cc
 
-  -- a key that was taken out isn't found, and each other one is as before
+  -- A removed key isn't found, and each other one is unchanged.
   pub lost_behind : {X : Type 0} (q id : List ℕ) (old new : List (K × X)) → new ≡ remove_entry (has id) old → lookup (has id) new ≡ None → lookup (has q) new ≡ (if bytes_eq q id then None else lookup (has q) old)
   lost_behind q id old new is none = by (bytes_eq q id) refl where
     by : (t : Bool) → bytes_eq q id ≡ t → lookup (has q) new ≡ (if t then None else lookup (has q) old)
     by true same = ap (λ (b : List ℕ). lookup (has b) new) ((bytes_eq-Decides q id).0 same) ∙ none
     by false other = ap (lookup (has q)) is ∙ lookup_remove q id old other
 
--- what was put in new and taken out again is as before
+-- A new value that was inserted and removed again leaves what was there.
 pub back_again : {X : Type 0} (q id : List ℕ) (x : X) (found : List ℕ → Option X) (mid new : Option X) → found id ≡ None → mid ≡ (if bytes_eq q id then Some x else found q) → new ≡ (if bytes_eq q id then None else mid) → new ≡ found q
 back_again q id x found mid new none put lost = by (bytes_eq q id) refl where
   by : (t : Bool) → bytes_eq q id ≡ t → new ≡ found q
@@ -109,7 +109,7 @@ back_step true false n found same none = absurd (cc)
 back_step false true n found same none = absurd (cc)
 back_step false false n found same none = refl
 
--- what was put in and taken out again leaves a map as it was
+-- Inserting and removing a new blob id leaves a map with the same content.
 pub taken_back : (blob : List ℕ) (n : ℕ) (old mid new : BTreeMap (List ℕ) ℕ) → number_in old blob ≡ None → mid.entries ≡ insert_entry (slice_cmp nat_cmp) old.entries blob n → UpdatesBy (slice_cmp nat_cmp) (slice_cmp nat_cmp blob) mid new None
     → (q : List ℕ) → number_in new q ≡ number_in old q
 taken_back blob n old mid new none put updates q =

@@ -7,35 +7,35 @@ use Rattle.arch_model.specs.Memory.{entries_from, archive_of}
 use Rattle.arch_base.specs.declared.config.Config.{Config}
 use Rattle.arch_model.specs.declared.kept.Kept.{Kept}
 
--- no entry has a number below the first
+-- No entry has a number below the first.
 pub text_of-below : (m n : ℕ) (ks : List Kept) → n < m → text_of (entries_from m ks) n ≡ None
 text_of-below m n [] h = refl
 text_of-below m n (k ∷ ks) h = let other : (m == n) ≡ false = grind (arith, nat_tests) in rw other (text_of-below (m + 1) n ks (omega arith))
 
--- the entry at a place has the number of that place
+-- The entry at an index has the number of that index.
 pub text_of-at : (m i n : ℕ) (ks : List Kept) (k : Kept) → n ≡ m + i → i < length ks → k ≡ get_or ks i k → text_of (entries_from m ks) n ≡ Some k.text
 text_of-at m i n [] k is h at = absurd (omega arith)
 text_of-at m zero n (x ∷ ks) k is h at = let same : (m == n) ≡ true = grind (arith, nat_tests) in rw same (ap (λ (y : Kept). Some y.text) (sym at))
 text_of-at m (suc i) n (x ∷ ks) k is h at = let other : (m == n) ≡ false = grind (arith, nat_tests) in rw other (text_of-at (m + 1) i n ks k (omega arith) (omega arith) at)
 
--- no entry has a number behind the last
+-- No entry has a number above the last.
 pub text_of-past : (m i n : ℕ) (ks : List Kept) → n ≡ m + i → length ks ≤ i → text_of (entries_from m ks) n ≡ None
 text_of-past m i n [] is h = refl
 text_of-past m zero n (x ∷ ks) is h = absurd (omega arith)
 text_of-past m (suc i) n (x ∷ ks) is h = let other : (m == n) ≡ false = grind (arith, nat_tests) in rw other (text_of-past (m + 1) i n ks (omega arith) (omega arith))
 
--- the entry at a place has a text
+-- The entry at an index has a text.
 pub some-at : (m i n : ℕ) (ks : List Kept) → n ≡ m + i → i < length ks → is_some (text_of (entries_from m ks) n) ≡ true
 some-at m i n [] is h = absurd (omega arith)
 some-at m zero n (k ∷ ks) is h = let same : (m == n) ≡ true = grind (arith, nat_tests) in rw same refl
 some-at m (suc i) n (k ∷ ks) is h = let other : (m == n) ≡ false = grind (arith, nat_tests) in rw other (some-at (m + 1) i n ks (omega arith) (omega arith))
 
--- a least number that was found has a text
+-- A least number that was found has a text.
 pub live-known : (es : List Entry) (n : ℕ) (r : Option ℕ) → IsLeastLive es n r → IsKnownLive (λ m. is_some (text_of es m)) r
 live-known es n None h = tt
 live-known es n (Some m) h = h.1
 
--- the same in an archive of kept messages
+-- The same in an archive of kept messages.
 module _ (config : Config) (ks : List Kept) (a : Archive) (is : archive_of config ks ≡ a) where
   pub text_in-none : (n : ℕ) → n ≡ 0 → text_of a.entries n ≡ None
   text_in-none n zero_is = rw (← is) (text_of-below 1 n ks (omega arith))
@@ -46,11 +46,11 @@ module _ (config : Config) (ks : List Kept) (a : Archive) (is : archive_of confi
   pub text_in-at : (n : ℕ) (k : Kept) → n ≢ 0 → n - 1 < length ks → k ≡ get_or ks (n - 1) k → text_of a.entries n ≡ Some k.text
   text_in-at n k some h at = rw (← is) (text_of-at 1 (n - 1) n ks k (omega arith) h at)
 
-  -- a number is the least one that is at least another
+  -- A number is the least one that is at least another.
   pub live_in-at : (n least : ℕ) → least ≡ max n 1 → least ≤ length ks → IsLeastLive a.entries n (Some least)
   live_in-at n least is_max h = (omega (arith, is_max), rw (← is) (some-at 1 (least - 1) least ks (omega (arith, is_max)) (omega (arith, is_max))), λ m at_least below. text_in-none m (omega (arith, is_max)))
 
-  -- behind the last number there is none
+  -- There is no number above the last.
   pub live_in-past : (n least : ℕ) → least ≡ max n 1 → length ks < least → IsLeastLive a.entries n None
   live_in-past n least is_max h = λ m at_least. none m (zero_or_past m at_least)
     where

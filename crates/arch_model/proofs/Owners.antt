@@ -1,4 +1,4 @@
--- The messages by their ids and blob ids, when one more comes.
+-- The messages by their own ids and blob ids, after one more message.
 use Rattle.std.proofs.Common.{◌≡◌, ℕ, Bool, true, false, not, ◌&&◌, List, [], ◌∷◌, ◌++◌, Option, Some, None, option_map, refl, sym, ◌∙◌, ap, subst, if◌then◌else◌}
 use Rattle.std.specs.Str.{bytes_eq}
 use Rattle.std.proofs.lemmas.Slice.Eq.{bytes_eq-Decides}
@@ -12,7 +12,7 @@ use Rattle.arch_model.specs.declared.index.Index.{Index}
 use Rattle.arch_model.specs.declared.kept.Owner.{Owner}
 use Rattle.arch_model.proofs.Maps.{bytes_eq-refl}
 
--- the first of two that is there
+-- The first of two options that is Some.
 abbrev pub first_found : {X : Type 0} → Option X → Option X → Option X
 first_found None other = other
 first_found (Some x) other = Some x
@@ -43,7 +43,7 @@ number_step false true n found same none = absurd (cc)
 number_step false false n None same none = refl
 number_step false false n (Some z) same none = refl
 
--- an index with one more message is that of one more entry
+-- An index with one more message is the index of one more entry.
 pub IsIndex-push : (es : List Entry) (e : Entry) (old new : Index) (id : List ℕ) (blob : Id20) (message : Owner) → IsIndex es old → Puts old new id blob message → owner_of e ≡ message → own_id e.text ≡ Some id → owner es id ≡ None
     → blob ≡ blob_id_of e.text → blob_number es blob.0 ≡ None → IsIndex (es ++ e ∷ []) new
 IsIndex-push es e old new id blob message is puts known own free blob_is unseen = record {
@@ -62,11 +62,11 @@ IsIndex-push es e old new id blob message is puts known own free blob_is unseen 
       ∙ sym (blob_number-push es e q);
 }
 
--- an index that has the same is that of the same entries
+-- An index with the same content is an index of the same entries.
 pub IsIndex-same : (es : List Entry) (old new : Index) → IsIndex es old → HasSame old new → IsIndex es new
 IsIndex-same es old new is same = record { owners = λ q. same.owners q ∙ is.owners q; blobs = λ q. same.blobs q ∙ is.blobs q }
 
--- no message with an id: whoever it is looked up in has none
+-- If an index has no message with an id, no entry has that own id.
 pub unowned : (es : List Entry) (index : Index) (id : List ℕ) → IsIndex es index → owner_in index.owners id ≡ None → owner es id ≡ None
 unowned es index id is none = empty (owner es id) (sym (is.owners id) ∙ none) where
   empty : (o : Option Entry) → option_map owner_of o ≡ None → o ≡ None
@@ -93,7 +93,7 @@ pub front_free : (e : Entry) (found : Option Entry) (t : Bool) → (if t then So
 front_free e found true h = absurd (cc)
 front_free e found false h = (refl, h)
 
--- where no entry has a text's id, each that has its blob id has another text
+-- If no entry has a text's own id, each entry with its blob id has another text.
 pub collision-free : (es : List Entry) (text id : List ℕ) → own_id text ≡ Some id → owner es id ≡ None → collision es text ≡ blob_number es (blob_id_of text).0
 collision-free [] text id own free = refl
 collision-free (e ∷ es) text id own free =

@@ -1,4 +1,4 @@
--- A text that is taken has an own id that no entry has, and is a storage text.
+-- A text that is taken is a storage text with an own id that no entry has.
 use Rattle.std.specs.Prelude.{◌≡◌, ◌+◌, ◌^◌, ◌<◌, ◌≤◌, ℕ, zero, suc, Bool, true, false, nat_lt, List, [], ◌∷◌, ◌++◌, length, codes, Option, Some, None, IsSome, Ok, Err, refl, if◌then◌else◌}
 use Rattle.std.proofs.Common.{sym, ap, subst, arith, length-append}
 use Rattle.std.proofs.lemmas.Bool.Decides.{nat_tests}
@@ -20,7 +20,7 @@ use Rattle.arch_model.proofs.Candidates.{met-free, below_or_at}
 use Rattle.arch_model.proofs.FirstChoice.{made_meets, last_one}
 use Rattle.arch_model.proofs.MadeIds.{made-IsId, made-own, made-length}
 
--- what is stored is the form of bytes that aren't too many
+-- What is stored is the form of bytes that aren't too many.
 form_is : (len : ℕ) (form : Option (List ℕ)) (text : List ℕ) → limited len form ≡ Ok text → (form ≡ Some text) × (len ≤ max_len)
 form_is len None text is = absurd (cc)
 form_is len (Some t) text is = by (nat_lt max_len len) refl is where
@@ -28,14 +28,14 @@ form_is len (Some t) text is = by (nat_lt max_len len) refl is where
   by true test e = absurd (cc)
   by false test e = let same : t ≡ text = cc in (ap Some same, grind (arith, nat_tests, test))
 
--- what is stored is a storage text, where it has an own id
+-- What is stored is a storage text, if it has an own id.
 as_it_is : StoredOnce → FormsAreShort → (bytes text : List ℕ) → stored bytes ≡ Ok text → IsSome (own_id text) → IsStorageText text
 as_it_is once short bytes text is some =
     let form = form_is (length bytes) (storage_form bytes) text is in
     let few = short bytes text form.0 in
     record { short = omega (arith, few, form.1); form = once bytes text form.0; id = some }
 
--- and so it is with a made id in front
+-- It is a storage text with a made id at the front, too.
 with_id : FormsAreShort → FieldInFront → IdLineIsKept → (name bytes text : List ℕ) → stored bytes ≡ Ok text → IsName name → (k : ℕ) → k < 2 ^ 64 → IsStorageText (with_made name text k)
 with_id short in_front kept_line name bytes text is is_name k small =
     let form = form_is (length bytes) (storage_form bytes) text is in
@@ -52,7 +52,7 @@ with_id short in_front kept_line name bytes text is is_name k small =
 pub taken_are_storage : StoredOnce → FormsAreShort → FieldInFront → IdLineIsKept → TakenAreStorage
 taken_are_storage once short in_front kept_line name bytes text is = (as_it_is once short bytes text is, with_id short in_front kept_line name bytes text is)
 
--- a text that is taken: no entry has its own id, and it is a storage text
+-- The text that is taken is a storage text, and no entry has its own id.
 pub record IsTaken (entries : List Entry) (kept : List ℕ) : Type 0 where
   pub free : IsFree entries kept
   pub storage : IsStorageText kept
@@ -85,7 +85,7 @@ module _ (law : TakenAreStorage) (entries : List Entry) (name bytes text : List 
   own_taken kept id (Same n) own is e = absurd (cc)
   own_taken kept id Other own is e = made_taken 0 (length entries) kept (omega arith) (λ j l. absurd (omega (arith, l))) e
 
-  -- so is what the choice takes
+  -- The text that the choice takes is such a text.
   pub taken : (kept : List ℕ) (own : Option (List ℕ)) → own_id text ≡ own → choice_from entries name text own ≡ Take kept → IsTaken entries kept
   taken kept None is e = made_taken 0 (length entries) kept (omega arith) (λ j l. absurd (omega (arith, l))) e
   taken kept (Some id) is e = own_taken kept id (met (owner entries id) (content_id_of text)) is refl e

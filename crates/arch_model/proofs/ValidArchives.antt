@@ -1,4 +1,4 @@
--- An archive with one more entry is still one that may be kept.
+-- An archive with one more entry is still valid.
 use Rattle.std.specs.Prelude.{◌≡◌, ◌≢◌, ◌+◌, ◌<◌, ◌≤◌, ℕ, List, [], ◌∷◌, ◌++◌}
 use Rattle.std.specs.List.{AllByRecursion}
 use Rattle.std.proofs.Common.{arith}
@@ -7,34 +7,35 @@ use Rattle.mail_reader.specs.Ids.{own_id}
 use Rattle.arch_model.specs.Archives.{Entry, Archive, with_entry}
 use Rattle.arch_model.specs.Validity.{IsEntry, Rise, IdsDiffer, BlobsAgree, IsArchive}
 
--- what holds of each of some and of one more
+-- What holds for each of a list and for one more.
 pub all_behind : {X : Type 0} (P : X → Type 0) (xs : List X) (x : X) → AllByRecursion P xs → P x → AllByRecursion P (xs ++ x ∷ [])
 all_behind P [] x all one = (one, tt)
 all_behind P (y ∷ ys) x all one = (all.0, all_behind P ys x all.1 one)
 
--- what holds of each says less too
+-- A weaker fact holds for each.
 pub all_weaker : {X : Type 0} (P Q : X → Type 0) (xs : List X) → ((x : X) → P x → Q x) → AllByRecursion P xs → AllByRecursion Q xs
 all_weaker P Q [] less all = tt
 all_weaker P Q (x ∷ xs) less all = (less x all.0, all_weaker P Q xs less all.1)
 
--- numbers still rise, and epochs still don't fall
+-- Numbers still rise, and epochs still don't fall.
 pub rise_more : (number epoch : ℕ) (es : List Entry) (new : Entry) → Rise number epoch es → number ≤ new.number → epoch ≤ new.epoch → AllByRecursion (λ (e : Entry). e.number < new.number) es → AllByRecursion (λ (e : Entry). e.epoch ≤ new.epoch) es → Rise number epoch (es ++ new ∷ [])
 rise_more number epoch [] new rise low in_time below older = (low, in_time, tt)
 rise_more number epoch (e ∷ es) new rise low in_time below older =
     let less : e.number < new.number = below.0 in
     (rise.0, rise.1, rise_more (e.number + 1) e.epoch es new rise.2 (omega (arith, less)) older.0 below.1 older.1)
 
--- ids still differ
+-- Own ids still differ.
 pub ids_more : (es : List Entry) (new : Entry) → IdsDiffer es → AllByRecursion (λ (e : Entry). own_id new.text ≢ own_id e.text) es → IdsDiffer (es ++ new ∷ [])
 ids_more [] new differ free = (tt, tt)
 ids_more (e ∷ es) new differ free = (all_behind (λ (f : Entry). own_id f.text ≢ own_id e.text) es new differ.0 free.0, ids_more es new differ.1 free.1)
 
--- and a blob id still has one text
+-- Each blob id still has one text.
 pub blobs_more : (es : List Entry) (new : Entry) → BlobsAgree es → AllByRecursion (λ (e : Entry). blob_id_of new.text ≢ blob_id_of e.text) es → BlobsAgree (es ++ new ∷ [])
 blobs_more [] new agree free = (tt, tt)
 blobs_more (e ∷ es) new agree free = (all_behind (λ (f : Entry). blob_id_of f.text ≡ blob_id_of e.text → f.text ≡ e.text) es new agree.0 (λ is. absurd (free.0 is)), blobs_more es new agree.1 free.1)
 
--- an archive with one more entry of its next number, in an epoch that isn't before any other's, with an id and a blob id of its own
+-- An archive stays valid with one more entry that has its next number, an epoch not before any
+-- other, and an own id and a blob id that no other entry has.
 pub archive_grows : (a : Archive) (epoch : ℕ) (text : List ℕ) (moment : ℕ) → IsArchive a → a.next < 2147483648 → IsEntry (record { number = a.next; epoch = epoch; text = text; moment = moment })
     → AllByRecursion (λ (e : Entry). e.epoch ≤ epoch) a.entries → AllByRecursion (λ (e : Entry). own_id text ≢ own_id e.text) a.entries → AllByRecursion (λ (e : Entry). blob_id_of text ≢ blob_id_of e.text) a.entries
     → IsArchive (with_entry a epoch text moment)

@@ -6,13 +6,14 @@ use Rattle.git_objects.specs.CleanText.{clean}
 use Rattle.mail_date.specs.declared.moment.Moment.{Moment}
 use Rattle.arch_model.specs.Facts.{from_fact, email_fact, subject_fact, date_fact}
 
--- when the author wrote: the moment of the text's Date, or the one at which it was taken, in UTC
+-- When the author wrote: the moment of the text's Date field, or the moment at which the text was
+-- taken, in UTC.
 abbrev pub written_at : Option Moment → ℕ → Moment
 written_at None moment = record { secs = moment; zone = pos 0 }
 written_at (Some written) moment = written
 
--- The commit that keeps a text: its author is who the text is from, its subject the text's made clean, and it was committed
--- at the moment at which the text was taken.
+-- The commit that keeps a text. Its author is the author of the text, its subject the clean subject
+-- of the text, and it was committed at the moment at which the text was taken.
 unfoldable pub commit_of : List ℕ → Id20 → Option Id20 → ℕ → Commit
 commit_of text tree parent moment = record {
   tree = tree;

@@ -1,4 +1,4 @@
--- What a delivery does to an archive, and what it is answered.
+-- What a delivery does to an archive, and its answer.
 use Rattle.std.specs.Prelude.{◌≡◌, ◌+◌, ℕ, Bool, not, ◌&&◌, ◌||◌, ◌==◌, nat_lt, List, [], ◌∷◌, ◌++◌, length, codes, decimal, Option, Some, None, Result, Ok, Err, if◌then◌else◌}
 use Rattle.std.specs.Str.{bytes_eq}
 use Rattle.hex.specs.Hex.{encode_lower}
@@ -19,76 +19,79 @@ use Rattle.arch_model.specs.declared.command.Command.TheVariants.{Deliver}
 use Rattle.arch_model.specs.declared.answer.Answer.{Answer}
 use Rattle.arch_model.specs.declared.answer.Answer.TheVariants as answer
 
--- the greater of two numbers
+-- The greater of two numbers.
 abbrev pub greater : ℕ → ℕ → ℕ
 greater m n = if nat_lt m n then n else m
 
--- the last epoch: the greatest one of an entry, or 0
+-- The greatest epoch of an entry, or 0 without entries.
 abbrev pub last_epoch : List Entry → ℕ
 last_epoch [] = 0
 last_epoch (e ∷ es) = greater e.epoch (last_epoch es)
 
--- whether an epoch of a length takes one more entry: it is shorter than the limit, or it is the greatest one, 63, which grows
--- without end
+-- An epoch of a length takes one more entry: it is shorter than the limit, or it is the greatest
+-- epoch, 63, which grows without a limit.
 abbrev pub takes_more : ℕ → ℕ → ℕ → Bool
 takes_more limit epoch len = epoch == 63 || nat_lt len limit
 
--- the epoch of a new entry: the last one where that takes one more, and else the next one (public-inbox-v2-format, "GIT EPOCHS")
+-- The epoch of a new entry: the last one if it takes one more, otherwise the next one
+-- (public-inbox-v2-format, "GIT EPOCHS").
 abbrev pub new_epoch : Archive → ℕ
 new_epoch a =
     if takes_more a.config.limit (last_epoch a.entries) (length (epoch_bytes (in_epoch a.entries (last_epoch a.entries)))) then last_epoch a.entries
     else last_epoch a.entries + 1
 
--- whether an entry has the blob id of a text, and another text
+-- The entry has the blob id of the text, and another text.
 abbrev pub clashes : List ℕ → Entry → Bool
 clashes text e = bytes_eq (blob_id_of text).0 (blob_id_of e.text).0 && not (bytes_eq text e.text)
 
--- the number of the first entry that has the blob id of a text and another text, where there is one
+-- The number of the first entry with the blob id of the text and another text, if there is one.
 abbrev pub collision : List Entry → List ℕ → Option ℕ
 collision [] text = None
 collision (e ∷ es) text = if clashes text e then Some e.number else collision es text
 
--- an archive, and the answer that goes with it
+-- An archive, and the answer that comes with it.
 pub record Done : Type 0 where
   pub archive : Archive
   pub answer : Answer
 
+-- The archive is unchanged, and this is the answer.
 abbrev pub refused : Archive → Answer → Done
 refused a answer = record { archive = a; answer = answer }
 
--- a text takes the next number, where that is not above the greatest one
+-- The text is kept under the next number, unless that is above the greatest one.
 abbrev pub delivered_new : Archive → List ℕ → ℕ → Done
 delivered_new a text moment =
     if nat_lt a.config.max a.next then refused a (answer.Full a.config.max)
     else record { archive = with_entry a (new_epoch a) text moment; answer = answer.Ok a.next (blob_id_of text) }
 
--- a text that is to be kept, unless another one has its blob id
+-- The text is delivered, unless another text has its blob id.
 abbrev pub delivered_kept : Archive → List ℕ → ℕ → Option ℕ → Done
 delivered_kept a text moment (Some number) = refused a (answer.Collision number)
 delivered_kept a text moment None = delivered_new a text moment
 
--- what the candidates for the id come to
+-- What the candidate ids decided is carried out.
 abbrev pub delivered_choice : Archive → ℕ → Choice → Done
 delivered_choice a moment (Repeat number) = refused a (answer.Duplicate number)
 delivered_choice a moment (Take text) = delivered_kept a text moment (collision a.entries text)
 
--- the bytes of a message are brought into storage form, or refused
+-- The storage form of the bytes is delivered, or there is none and the message is refused.
 abbrev pub delivered_form : Archive → ℕ → Result (List ℕ) StoredRefusal → Done
 delivered_form a moment (Ok text) = delivered_choice a moment (choice_of a text)
 delivered_form a moment (Err stored_refusal.NoFields) = refused a answer.NoFields
 delivered_form a moment (Err (stored_refusal.TooLarge len)) = refused a (answer.TooLarge len)
 delivered_form a moment (Err stored_refusal.NoMemory) = refused a answer.NoMemory
 
--- what the delivery of bytes at a moment comes to: a mirror takes none
+-- The delivery of bytes at a moment. A mirror takes none.
 abbrev pub delivered : Archive → List ℕ → ℕ → Done
 delivered a bytes moment = if a.config.mirror then refused a answer.IsMirror else delivered_form a moment (stored bytes)
 
--- what a command at a moment comes to
+-- A command at a moment.
 abbrev pub applied : Archive → Command → ℕ → Done
 applied a (Deliver bytes) moment = delivered a bytes.now moment
 
--- what a call answered, and the archive behind it, are what is wanted; for want of memory all is as before. An archive that has
--- no disk never answers that one failed or is damaged.
+-- The answer of a call and the archive after it are what is wanted. `NoMemory` leaves the archive
+-- unchanged. An archive without a disk never answers that the disk failed or that a file is
+-- damaged.
 abbrev pub Delivers : Archive → Answer → Archive → Done → Type 0
 Delivers old answer.NoMemory new wanted = new ≡ old
 Delivers old (answer.Ok number id) new wanted = wanted ≡ record { archive = new; answer = answer.Ok number id }
@@ -103,18 +106,18 @@ Delivers old answer.IsMirror new wanted = wanted ≡ record { archive = new; ans
 Delivers old answer.DiskFault new wanted = ⊥
 Delivers old (answer.Damaged file place) new wanted = ⊥
 
--- the words for a file of a kind and a number: `root`, `map`, `epoch E` or `cache`
+-- The words for a kind of file and a number: `root`, `map`, `epoch E` or `cache`.
 abbrev pub kind_words : FileKind → ℕ → List ℕ
 kind_words Root number = codes "root"
 kind_words Map number = codes "map"
 kind_words Epoch number = codes "epoch " ++ decimal number
 kind_words Cache number = codes "cache"
 
--- the words for a file of an archive
+-- The words for a file of an archive.
 abbrev pub file_words : FileName → List ℕ
 file_words file = kind_words file.kind file.number
 
--- the line of an answer, without its line feed
+-- The line of an answer, without its line feed.
 abbrev pub answer_line : Answer → List ℕ
 answer_line (answer.Ok number id) = codes "1 ok " ++ (decimal number ++ 32 ∷ encode_lower id.0)
 answer_line (answer.Duplicate number) = codes "2 duplicate " ++ decimal number

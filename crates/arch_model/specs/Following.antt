@@ -1,26 +1,26 @@
--- Archives that follow one another: no number of an archive names a second message later.
+-- Archives that follow one another: no number of an archive ever names a second message.
 use Rattle.std.specs.Prelude.{◌≡◌, ◌<◌, ◌≤◌, ℕ, List, Some}
 use Rattle.arch_model.specs.Archives.{Archive, with_entry, text_of}
 use Rattle.arch_model.specs.Validity.{IsArchive}
 
--- An archive may follow another: its next number isn't less, and what it shows by a number that the other had given away, the
--- other showed by it too.
+-- `b` follows `a`: its next number isn't less, and the text that it shows under a number below the
+-- next of `a` is the one that `a` showed.
 pub record Follows (a b : Archive) : Type 0 where
   pub next : a.next ≤ b.next
   pub texts : (n : ℕ) (text : List ℕ) → n < a.next → text_of b.entries n ≡ Some text → text_of a.entries n ≡ Some text
 
--- an archive follows itself
+-- An archive follows itself.
 abbrev pub FollowsItself : Type 0
 FollowsItself = (a : Archive) → Follows a a
 
--- what follows a follower follows
+-- What follows a follower follows.
 abbrev pub FollowsThrough : Type 0
 FollowsThrough = (a b c : Archive) → Follows a b → Follows b c → Follows a c
 
--- an archive with one more entry follows
+-- An archive with one more entry follows the one without it.
 abbrev pub FollowsWithEntry : Type 0
 FollowsWithEntry = (a : Archive) (epoch : ℕ) (text : List ℕ) (moment : ℕ) → Follows a (with_entry a epoch text moment)
 
--- no number of an archive names a second message in one that follows
+-- A number names the same text in an archive and in one that follows it, if both show a text.
 abbrev pub NumbersStay : Type 0
 NumbersStay = (a b : Archive) → IsArchive a → Follows a b → (n : ℕ) (old new : List ℕ) → text_of a.entries n ≡ Some old → text_of b.entries n ≡ Some new → new ≡ old

@@ -1,4 +1,4 @@
--- What the delivery of a message comes to, before anything is kept.
+-- What the delivery of a message does, before anything is kept.
 use Rattle.std.specs.Prelude.{◌≡◌, ◌≤◌, ℕ, false, List, length, Some, None, Ok}
 use Rattle.arch_base.specs.declared.config.Config.{Config}
 use Rattle.arch_base.specs.declared.ids.Id20.{Id20}
@@ -17,14 +17,16 @@ use Rattle.arch_model.specs.declared.index.Index.{Index}
 use Rattle.arch_model.specs.declared.judging.Verdict.{Verdict}
 use Rattle.arch_model.specs.declared.judging.Verdict.TheVariants.{Take, Refuse}
 
--- An archive has these settings, this next number, and so many messages, which an index has by their ids.
+-- An archive has these settings, this next number, and `count` messages, which the index has by
+-- their ids.
 pub record IsKnownBy (config : Config) (index : Index) (count next : ℕ) (a : Archive) : Type 0 where
   pub config_is : a.config ≡ config
   pub next_is : a.next ≡ next
   pub count_is : length a.entries ≡ count
   pub indexed : IsIndex a.entries index
 
--- A refusal is the definition's at each moment. Want of memory is free; and no delivery is refused by an answer that isn't for one.
+-- A refusal is that of the definition, at each moment. `NoMemory` may come at any time, and an
+-- answer that isn't for a delivery never comes.
 abbrev pub RefusesBy : Archive → List ℕ → Answer → Type 0
 RefusesBy a bytes answer.NoMemory = Unit {0}
 RefusesBy a bytes (answer.Duplicate number) = (moment : ℕ) → delivered a bytes moment ≡ refused a (answer.Duplicate number)
@@ -39,13 +41,13 @@ RefusesBy a bytes (answer.NoText number) = ⊥
 RefusesBy a bytes answer.DiskFault = ⊥
 RefusesBy a bytes (answer.Damaged file place) = ⊥
 
--- what the delivery of bytes to an archive comes to, at each moment
+-- The verdict is what the definition says of the delivery, at each moment.
 abbrev pub Judges : Archive → List ℕ → Verdict → Type 0
 Judges a bytes (Take text blob number) = (moment : ℕ) → delivered a bytes moment ≡ record { archive = with_entry a (new_epoch a) text moment; answer = answer.Ok number blob }
 Judges a bytes (Refuse reply) = RefusesBy a bytes reply
 
--- A text may be kept: the archive is no mirror and has a number left, the text is a storage text, and no message has its own id or
--- its blob id.
+-- The text may be kept: the archive is not a mirror and has a number left, the text is a storage
+-- text, and no message has its own id or its blob id.
 pub record MayBeKept (config : Config) (index : Index) (next : ℕ) (text : List ℕ) (blob : Id20) (number : ℕ) : Type 0 where
   pub writable : config.mirror ≡ false
   pub number_left : next ≤ config.max
@@ -55,7 +57,7 @@ pub record MayBeKept (config : Config) (index : Index) (next : ℕ) (text : List
   pub new_id : (id : List ℕ) → own_id text ≡ Some id → owner_in index.owners id ≡ None
   pub new_blob : number_in index.blobs blob.0 ≡ None
 
--- what is refused is refused by an answer that is for a delivery
+-- The answer is one that may refuse a delivery.
 abbrev pub IsForDelivery : Answer → Type 0
 IsForDelivery answer.NoMemory = Unit {0}
 IsForDelivery (answer.Duplicate number) = Unit {0}
@@ -70,21 +72,21 @@ IsForDelivery (answer.NoText number) = ⊥
 IsForDelivery answer.DiskFault = ⊥
 IsForDelivery (answer.Damaged file place) = ⊥
 
--- what is taken may be kept
+-- A text that is taken may be kept, and a refusal is for a delivery.
 abbrev pub MayTake : Config → Index → ℕ → Verdict → Type 0
 MayTake config index next (Take text blob number) = MayBeKept config index next text blob number
 MayTake config index next (Refuse reply) = IsForDelivery reply
 
--- a text is what storing some bytes gave
+-- The text is the storage form of some bytes.
 abbrev pub IsStored : List ℕ → Type 0
 IsStored text = (bytes : List ℕ) × (stored bytes ≡ Ok text)
 
--- a storage text whose own id no message has
+-- The text is a storage text, and no message has its own id.
 pub record IsNewText (index : Index) (text : List ℕ) : Type 0 where
   pub storage : IsStorageText text
   pub new_id : (id : List ℕ) → own_id text ≡ Some id → owner_in index.owners id ≡ None
 
--- what the candidates for an id come to is such a text, where it is one
+-- A text that the candidate ids decide to take is new.
 abbrev pub TakesNewText : Index → Choice → Type 0
 TakesNewText index (choice.Take text) = IsNewText index text
 TakesNewText index (choice.Repeat number) = Unit {0}

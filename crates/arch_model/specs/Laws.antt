@@ -1,4 +1,4 @@
--- What holds of deliveries.
+-- The laws of deliveries.
 use Rattle.std.specs.Prelude.{◌≡◌, ◌<◌, ◌≤◌, ◌^◌, ℕ, zero, suc, List, Option, Some, None, IsSome, Ok, length}
 use Rattle.arch_base.specs.declared.ids.Id20.{Id20}
 use Rattle.arch_base.specs.Names.{IsName}
@@ -18,7 +18,7 @@ use Rattle.arch_model.specs.declared.choice.Choice.{Choice}
 use Rattle.arch_model.specs.declared.choice.Choice.TheVariants.{Take, Repeat}
 use Rattle.arch_model.specs.declared.command.Command.{Command}
 
--- each number that has a text is below the next one, and none is 0
+-- Each number that has a text is at least 1 and below the next one.
 abbrev pub IsNumbered : Archive → Type 0
 IsNumbered a = (n : ℕ) (text : List ℕ) → text_of a.entries n ≡ Some text → (1 ≤ n) × (n < a.next)
 
@@ -27,59 +27,62 @@ abbrev pub KeepsNumbers : Type 0
 KeepsNumbers =
     (a : Archive) (bytes : List ℕ) (moment n : ℕ) (text : List ℕ) → text_of a.entries n ≡ Some text → text_of (delivered a bytes moment).archive.entries n ≡ Some text
 
--- A command leaves the numbers below the next one.
+-- A command leaves each number that has a text below the next one.
 abbrev pub StaysNumbered : Type 0
 StaysNumbered = (a : Archive) (command : Command) (moment : ℕ) → 1 ≤ a.next → IsNumbered a → (1 ≤ (applied a command moment).archive.next) × IsNumbered (applied a command moment).archive
 
--- What storing bytes gives is a storage text, where it has an own id; and so it is with a made id in front.
+-- The storage form of bytes is a storage text if it has an own id, and it is one with a made id at
+-- the front.
 abbrev pub TakenAreStorage : Type 0
 TakenAreStorage =
     (name bytes text : List ℕ) → stored bytes ≡ Ok text
     → (IsSome (own_id text) → IsStorageText text) × (IsName name → (k : ℕ) → k < 2 ^ 64 → IsStorageText (with_made name text k))
 
--- A command up to the last moment leaves an archive that may be kept one that may be kept.
+-- A command up to the last moment leaves a valid archive valid.
 abbrev pub KeepsValid : Type 0
 KeepsValid = (a : Archive) (command : Command) (moment : ℕ) → moment ≤ last_moment → IsArchive a → IsArchive (applied a command moment).archive
 
--- An archive behind a command follows the one before it.
+-- The archive after a command follows the one before it.
 abbrev pub CommandFollows : Type 0
 CommandFollows = (a : Archive) (command : Command) (moment : ℕ) → Follows a (applied a command moment).archive
 
--- One message in, the same message out: the number of an accepted message has the text that the candidates for its id came to,
--- which is the storage form of its bytes with a Message-ID field in front or none.
+-- The message that goes in comes out: the number of an accepted message has the text that the
+-- candidate ids decided on. That is the storage form of its bytes, with a Message-ID field at the
+-- front or not.
 abbrev pub ShowsDelivered : Type 0
 ShowsDelivered =
     (a : Archive) (bytes : List ℕ) (moment number : ℕ) (id : Id20) → IsNumbered a → (delivered a bytes moment).answer ≡ answer.Ok number id →
     (text : List ℕ) × (kept : List ℕ) × (stored bytes ≡ Ok text) × (choice_of a text ≡ Take kept) × (text_of (delivered a bytes moment).archive.entries number ≡ Some kept)
 
--- the candidates for the id of a text in order: its own id, where it has one, and then the made ones
+-- The candidate ids of a text in order: its own id, if it has one, and then the made ids.
 abbrev pub candidate : List ℕ → List ℕ → Option (List ℕ) → ℕ → List ℕ
 candidate name text None k = made_id name text k
 candidate name text (Some id) zero = id
 candidate name text (Some id) (suc k) = made_id name text k
 
--- the text as it is kept with that candidate
+-- The text as it is kept with the k-th candidate.
 abbrev pub kept_with : List ℕ → List ℕ → Option (List ℕ) → ℕ → List ℕ
 kept_with name text None k = with_made name text k
 kept_with name text (Some id) zero = text
 kept_with name text (Some id) (suc k) = with_made name text k
 
--- how the k-th candidate meets the messages of an archive
+-- How the k-th candidate meets the messages of an archive.
 abbrev pub meeting : Archive → List ℕ → ℕ → Meeting
 meeting a text k = met (owner a.entries (candidate a.config.name text (own_id text) k)) (content_id_of text)
 
--- what a candidate that isn't passed over decides
+-- What a candidate that isn't skipped decides.
 abbrev pub Decides : Meeting → List ℕ → Choice → Type 0
 Decides Free text choice = choice ≡ Take text
 Decides (Same number) text choice = choice ≡ Repeat number
 Decides Other text choice = ⊥
 
--- the k-th candidate decides, and all before it are passed over
+-- The k-th candidate decides, and all before it are skipped.
 abbrev pub IsChosenAt : Archive → List ℕ → ℕ → Choice → Type 0
 IsChosenAt a text k choice =
     ((j : ℕ) → j < k → meeting a text j ≡ Other) × Decides (meeting a text k) (kept_with a.config.name text (own_id text) k) choice
 
--- Some candidate decides, and what it decides is the choice; nothing else is decided by one behind passed ones.
+-- Among fewer than 2^63 entries some candidate decides on the choice, and no candidate after
+-- skipped ones decides otherwise.
 abbrev pub FirstDecides : Type 0
 FirstDecides =
     (a : Archive) (text : List ℕ) → length a.entries < 2 ^ 63 → ((k : ℕ) × IsChosenAt a text k (choice_of a text)) × ((k : ℕ) (choice : Choice) → IsChosenAt a text k choice → choice ≡ choice_of a text)

@@ -1,4 +1,4 @@
--- What an archive in memory holds.
+-- What the archive in memory holds.
 use Rattle.std.specs.Prelude.{◌≡◌, ◌+◌, ◌-◌, ◌≤◌, ◌==◌, ◌||◌, nat_lt, ℕ, take, Bool, true, false, Result, Ok, Err, List, [], ◌∷◌, ◌++◌, length, Option, Some, None, option_map, if◌then◌else◌}
 use Rattle.std.specs.Str.{bytes_eq}
 use Rattle.std.specs.Ordering.{nat_cmp}
@@ -22,68 +22,68 @@ use Rattle.arch_model.specs.declared.choice.Meeting.{Meeting}
 use Rattle.arch_model.specs.declared.choice.Meeting.TheVariants.{Free, Same, Other}
 use Rattle.arch_model.specs.declared.index.Index.{Index}
 
--- the entries of kept messages, the first of which has this number
+-- The entries of kept messages, the first of which has this number.
 abbrev pub entries_from : ℕ → List Kept → List Entry
 entries_from n [] = []
 entries_from n (k ∷ ks) = record { number = n; epoch = k.epoch; text = k.text; moment = k.moment } ∷ entries_from (n + 1) ks
 
--- the archive of kept messages
+-- The archive of kept messages.
 abbrev pub archive_of : Config → List Kept → Archive
 archive_of config kept = record { config = config; entries = entries_from 1 kept; next = length kept + 1 }
 
--- what is kept of an entry as the one that has an id
+-- What an index holds of an entry under its own id.
 abbrev pub owner_of : Entry → Owner
 owner_of e = record { number = e.number; content = content_id_of e.text }
 
--- the number of the first entry with a blob id
+-- The number of the first entry with a blob id.
 abbrev pub blob_number : List Entry → List ℕ → Option ℕ
 blob_number [] blob = None
 blob_number (e ∷ es) blob = if bytes_eq blob (blob_id_of e.text).0 then Some e.number else blob_number es blob
 
--- what a map by ids has for an id
+-- The value of an id in a map by ids.
 abbrev pub owner_in : BTreeMap (Vec ℕ) Owner → List ℕ → Option Owner
 owner_in owners id = get_by (λ (k : Vec ℕ). slice_cmp nat_cmp id k.items) owners
 
--- what a map by blob ids has for one
+-- The value of a blob id in a map by blob ids.
 abbrev pub number_in : BTreeMap (List ℕ) ℕ → List ℕ → Option ℕ
 number_in blobs blob = get_by (λ (k : List ℕ). slice_cmp nat_cmp blob k) blobs
 
--- an index has the entries by their ids, and their numbers by their blob ids
+-- The index has the entries by their own ids, and their numbers by their blob ids.
 pub record IsIndex (entries : List Entry) (index : Index) : Type 0 where
   pub owners : (id : List ℕ) → owner_in index.owners id ≡ option_map owner_of (owner entries id)
   pub blobs : (blob : List ℕ) → number_in index.blobs blob ≡ blob_number entries blob
 
--- an index got one more id and one more blob id
+-- One id and one blob id were put into the index.
 pub record Puts (old new : Index) (id : List ℕ) (blob : Id20) (message : Owner) : Type 0 where
   pub owners : (q : List ℕ) → owner_in new.owners q ≡ (if bytes_eq q id then Some message else owner_in old.owners q)
   pub blobs : (q : List ℕ) → number_in new.blobs q ≡ (if bytes_eq q blob.0 then Some message.number else number_in old.blobs q)
 
--- an index lost an id and a blob id
+-- An id and a blob id were removed from the index.
 pub record Loses (old new : Index) (id : List ℕ) (blob : Id20) : Type 0 where
   pub owners : (q : List ℕ) → owner_in new.owners q ≡ (if bytes_eq q id then None else owner_in old.owners q)
   pub blobs : (q : List ℕ) → number_in new.blobs q ≡ (if bytes_eq q blob.0 then None else number_in old.blobs q)
 
--- two indexes have the same
+-- Two indexes have the same content.
 pub record HasSame (old new : Index) : Type 0 where
   pub owners : (q : List ℕ) → owner_in new.owners q ≡ owner_in old.owners q
   pub blobs : (q : List ℕ) → number_in new.blobs q ≡ number_in old.blobs q
 
--- an index has the same as the one before an id and a blob id were put there that were new to it
+-- The index has the content from before a new id and a new blob id were put into it.
 abbrev pub TakesBack : Index → Index → List ℕ → Id20 → Type 0
 TakesBack put new id blob = (old : Index) (message : Owner) → Puts old put id blob message → owner_in old.owners id ≡ None → number_in old.blobs blob.0 ≡ None → HasSame old new
 
--- a text has an own id that no entry has
+-- The text has an own id that no entry has.
 abbrev pub IsFree : List Entry → List ℕ → Type 0
 IsFree entries text = (id : List ℕ) × (own_id text ≡ Some id) × (owner entries id ≡ None)
 
--- what is kept of an epoch is its room and its last commit
+-- The end holds the room and the last commit of its epoch.
 pub record IsEnd (limit : ℕ) (entries : List Entry) (end_ : End) : Type 0 where
   pub room : end_.room ≡ limit - length (epoch_bytes (in_epoch entries end_.epoch))
   pub parent : end_.parent ≡ last_commit None (in_epoch entries end_.epoch)
   pub small : end_.epoch ≤ 63
 
--- the settings are as they may be, no number is above the greatest, the index has the messages, and the end is that of the last
--- epoch
+-- What is kept is sound: the settings are valid, no number is above the greatest, the index has the
+-- messages, and the end is that of the last epoch.
 pub record IsKept (config : Config) (kept : List Kept) (index : Index) (end_ : End) : Type 0 where
   pub settings : IsConfig config
   pub numbers : length kept ≤ config.max
@@ -91,20 +91,20 @@ pub record IsKept (config : Config) (kept : List Kept) (index : Index) (end_ : E
   pub last : end_.epoch ≡ last_epoch (entries_from 1 kept)
   pub ends : IsEnd config.limit (entries_from 1 kept) end_
 
--- what stands in front of an entry's bytes: an epoch's first bytes, where the entry has no parent
+-- The bytes before those of an entry: an epoch's first bytes, if the entry has no parent.
 abbrev pub front_bytes : Option Id20 → List ℕ
 front_bytes None = magic
 front_bytes (Some id) = []
 
--- the end that a new entry stands behind, where the last epoch has so much room
+-- The end to which a new entry is appended, if the last epoch has `room` bytes left.
 abbrev pub end_by_room : ℕ → ℕ → End → End
 end_by_room room limit end_ = if end_.epoch == 63 || nat_lt 0 room then end_ else record { epoch = end_.epoch + 1; room = limit; parent = None }
 
--- the same by the room that it has
+-- The same, by the end's own room.
 abbrev pub end_for_new : ℕ → End → End
 end_for_new limit end_ = end_by_room end_.room limit end_
 
--- the end behind one more entry
+-- The end after one more entry.
 abbrev pub end_after : End → List ℕ → ℕ → End
 end_after end_ text moment = record {
   epoch = end_.epoch;
@@ -112,25 +112,26 @@ end_after end_ text moment = record {
   parent = Some (commit_id message_name text moment end_.parent);
 }
 
--- bytes have others at their front
+-- The new bytes start with the old ones.
 abbrev pub Grows : List ℕ → List ℕ → Type 0
 Grows old new = take (length old) new ≡ old
 
--- how a candidate for an id meets the message that has it
+-- How a candidate for an id meets the message that has it.
 abbrev pub met_owner : Owner → List ℕ → Meeting
 met_owner message content = if bytes_eq message.content content then Same message.number else Other
 
--- how it meets what a map by ids has for it
+-- How it meets what a map by ids has for it.
 abbrev pub met_in : Option Owner → List ℕ → Meeting
 met_in None content = Free
 met_in (Some message) content = met_owner message content
 
--- whether there is an entry
+-- There is an entry.
 abbrev pub has_entry : List Entry → Bool
 has_entry [] = false
 has_entry (e ∷ es) = true
 
--- bytes got those of an epoch, and it was said whether it has an entry; or for want of memory they are as before
+-- The bytes of an epoch were appended, and it is told whether it has an entry. `NoMemory` leaves
+-- the bytes unchanged.
 abbrev pub GivesEpoch : List ℕ → List ℕ → Result Bool NoMemory → List Entry → Type 0
 GivesEpoch old new (Ok found) entries = (new ≡ old ++ epoch_bytes entries) × (found ≡ has_entry entries)
 GivesEpoch old new (Err refused) entries = new ≡ old

@@ -1,41 +1,44 @@
-//! What a command is answered.
+//! The answers to commands.
 use arch_base::ObjectId;
 use disk_model::FileName;
 
-/// The answer to a command. All but `Ok` leave the archive as it was; but behind `DiskFault` it is only known whether the
-/// command was done when the archive has been opened again.
+/// The answer to a command.
+///
+/// `Ok` changes the archive. After `DiskFault` and `Damaged` the archive has to be reopened, and
+/// after `DiskFault` only that shows whether the command was carried out. Any other answer leaves
+/// the archive unchanged.
 #[derive(Clone, Copy, Debug, PartialEq, Eq, Drop)]
 pub enum Answer {
-    /// The message has this number, and its text this blob id.
+    /// The message was kept with this number, and its text has this blob id.
     Ok {
         number: u32,
         id: ObjectId,
     },
-    /// The message of this number is the same.
+    /// The message with this number is the same.
     Duplicate(u32),
-    /// No field is left in the message.
+    /// The message has no field left.
     NoFields,
-    /// So many bytes are more than are taken.
+    /// The message has this many bytes, which are too many.
     TooLarge(u64),
-    /// There is no number left: this is the greatest.
+    /// No number is left. This is the greatest.
     Full(u32),
-    /// The message of this number has the same blob id, and another text.
+    /// The message with this number has the same blob id, and another text.
     Collision(u32),
-    /// This number isn't live.
+    /// This number is not live.
     NotLive(u32),
     /// This number has no text.
     NoText(u32),
-    /// The archive follows another one and takes no commands.
+    /// The archive mirrors another one, and takes no commands.
     IsMirror,
     /// A call of the disk failed.
     DiskFault,
-    /// A file of the archive does not have the form that it should have.
+    /// A file of the archive is malformed.
     Damaged {
         /// The file.
         file: FileName,
-        /// The place of the first part that does not have it, in bytes.
+        /// The offset of the first malformed part, in bytes.
         at: u64,
     },
-    /// Memory was wanted, and there was none.
+    /// An allocation failed.
     NoMemory,
 }

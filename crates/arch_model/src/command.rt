@@ -1,8 +1,8 @@
-//! What an archive can be told to do.
+//! The commands of an archive.
 
-/// A command on an archive. To remove, purge or edit a message isn't built yet.
+/// A command on an archive. There is none yet to remove, purge or edit a message.
 #[derive(Clone, Copy, Debug, Drop)]
 pub enum Command<'a> {
-    /// The message that these bytes are is to be delivered.
+    /// Delivers the message with these bytes.
     Deliver(&'a [u8]),
 }

@@ -12,9 +12,13 @@ use git_objects::{Commit, blob_id, commit_bytes, object_id, tree_bytes};
 use itoa::Buffer;
 use std::alloc::Global;
 
-/// The commit that keeps a text: `tree` is the id of the tree that has the text, `parent` that of the commit before it, and
-/// `moment` the second since 1970 at which the text was taken. What it gives can be spelled by `commit_bytes`. NoMemory
-/// comes only for want of memory.
+/// Returns the commit that keeps a text.
+///
+/// `tree` is the id of the tree that has the text, and `parent` that of the commit before it.
+/// `moment` is when the text was taken, in seconds since 1970 UTC. `commit_bytes` accepts the
+/// result.
+///
+/// `NoMemory` if an allocation fails.
 pub fn entry_commit(
     alloc: Global,
     text: &[u8],
@@ -52,10 +56,14 @@ pub struct EntryIds {
     pub commit: ObjectId,
 }
 
-/// Puts the objects of an entry at the end of an epoch's bytes: the blob of a text, its tree, where the text is the file of
-/// this name (`m` for a message, `d` for a deletion), and the commit that keeps it behind `parent`, taken at `moment` in
-/// seconds since 1970. The answer is the ids of the blob and of that commit. NoMemory comes only for want of memory, and
-/// then the bytes are as before.
+/// Appends the objects of an entry to the bytes of an epoch, and returns the ids of its blob and
+/// commit.
+///
+/// The objects are the blob of the text, its tree, in which the text is the file `name` (`m` for a
+/// message, `d` for a deletion), and the commit that keeps it after `parent`. `moment` is when the
+/// text was taken, in seconds since 1970 UTC.
+///
+/// `NoMemory` if an allocation fails, and the bytes are unchanged.
 pub fn push_entry(
     alloc: Global,
     name: u8,
@@ -81,7 +89,7 @@ pub fn push_entry(
     })
 }
 
-/// The spelling of the commit that keeps a text under a name, with the tree of this spelling.
+/// Returns the form of the commit that keeps a text under a name. `tree` is the form of its tree.
 fn commit_text(
     alloc: Global,
     name: u8,
@@ -97,7 +105,7 @@ fn commit_text(
     commit_bytes(alloc, &commit)
 }
 
-/// What stands before the content of a blob of a size.
+/// Returns the bytes before the content of a blob of this length.
 fn blob_head(alloc: Global, len: usize) -> Result<Bytes, NoMemory>
     ensures { IfOk result (λ made. made ≡ codes "blob " ++ (decimal len ++ 0 ∷ [])) }
 {
@@ -109,7 +117,9 @@ fn blob_head(alloc: Global, len: usize) -> Result<Bytes, NoMemory>
     Ok(head)
 }
 
-/// Puts four pieces at the end, or changes nothing.
+/// Appends four slices.
+///
+/// `NoMemory` leaves the bytes unchanged.
 fn push_all(
     into: &mut Bytes,
     head: &[u8],
@@ -127,7 +137,9 @@ fn push_all(
     pushed
 }
 
-/// Puts four pieces at the end, or some of them.
+/// Appends four slices.
+///
+/// `NoMemory` may leave some of them appended.
 fn push_each(
     into: &mut Bytes,
     head: &[u8],
@@ -144,7 +156,7 @@ fn push_each(
     into.push_slice(commit)
 }
 
-/// One entry more in an epoch leaves its bytes as they are and puts the entry's behind them.
+/// Shows that one more entry in an epoch appends its bytes, and leaves those before it unchanged.
 pub fn epoch_grows()
     ensures { EpochGrows }
 {}

@@ -1,4 +1,4 @@
-//! Who a text of mail is from, what it is about, and when it was written.
+//! What a mail says of itself: its author, its subject and its date.
 ghost use Rattle.std.specs.Prelude.{◌≡◌, ◌++◌, ◌∷◌, ◌≤◌, length, drop, IfOk, IfSome, OnOk, codes, option_copied, option_map, Some};
 ghost use Rattle.std.specs.List.{filter, flat_map, prefix_len, suffix_len};
 ghost use Rattle.std.specs.Str.{str_eq_ignore_ascii_case};
@@ -18,16 +18,18 @@ use mail_reader::{fields, flat};
 use mime_words::decode;
 use std::alloc::{AllocError, Global};
 
-/// A name and an address, as a commit names its author by them.
+/// The name and the address by which a commit names its author.
 #[derive(Debug, Drop)]
 pub(crate) struct Signature {
-    /// The name, clean; never empty.
+    /// The name, which is clean and never empty.
     pub(crate) name: Bytes,
-    /// The address, clean; it may be empty.
+    /// The address, which is clean and may be empty.
     pub(crate) email: Bytes,
 }
 
-/// Who a text is from: the first mailbox of its From fields (RFC 5322, section 3.6.2).
+/// Returns the author of a text: the first mailbox of its From fields (RFC 5322, section 3.6.2).
+///
+/// Without a mailbox the name is `unknown`, and the address is empty.
 pub(crate) fn author(alloc: Global, text: &[u8]) -> Result<Signature, NoMemory>
     ensures name { IfOk result (λ made. made.name ≡ from_fact text.now) }
     ensures email { IfOk result (λ made. made.email ≡ email_fact text.now) }
@@ -44,7 +46,7 @@ pub(crate) fn author(alloc: Global, text: &[u8]) -> Result<Signature, NoMemory>
     }
 }
 
-/// The author that a mailbox is: its name, or its address where that is empty.
+/// Returns the author that a mailbox names. The address stands for an empty name.
 fn author_of(alloc: Global, mailbox: &Address) -> Result<Signature, NoMemory>
     ensures name { IfOk result (λ made. made.name ≡ from_of (Some mailbox.now)) }
     ensures email { IfOk result (λ made. made.email ≡ email_of (Some mailbox.now)) }
@@ -62,7 +64,7 @@ fn author_of(alloc: Global, mailbox: &Address) -> Result<Signature, NoMemory>
     Ok(Signature { name, email })
 }
 
-/// The addresses of all From fields of a text.
+/// Returns the addresses of all From fields of a text.
 fn from_addresses(alloc: Global, text: &[u8]) -> Result<Addresses, NoMemory>
     ensures { IfOk result (λ found. found ≡ addresses_of (from_list text.now)) }
 {
@@ -70,7 +72,7 @@ fn from_addresses(alloc: Global, text: &[u8]) -> Result<Addresses, NoMemory>
     list(alloc, without_comma(values.as_slice()))
 }
 
-/// The flat values of all From fields of a text, each behind a comma and a space.
+/// Returns the flat values of all From fields of a text, each after a comma and a space.
 fn from_values(alloc: Global, text: &[u8]) -> Result<Bytes, NoMemory>
     ensures { IfOk result (λ made. made ≡ flat_map behind_comma (values_of (codes "From") (fields_of text.now))) }
 {
@@ -83,14 +85,14 @@ fn from_values(alloc: Global, text: &[u8]) -> Result<Bytes, NoMemory>
     Ok(values)
 }
 
-/// Whether two names of fields are the same but for the case of letters.
+/// Returns whether two field names are equal, ignoring the case of ASCII letters.
 fn is_same_name(name: &[u8], other: &[u8]) -> bool
     ensures { result ≡ str_eq_ignore_ascii_case name.now other.now }
 {
     name.eq_ignore_ascii_case(other)
 }
 
-/// Puts a comma, a space and a flat value at the end.
+/// Appends a comma, a space and the flat value of a field.
 fn push_value(alloc: Global, into: &mut Bytes, value: &[u8]) -> Result<(), NoMemory>
     ensures { OnOk result (into.new ≡ into.old ++ behind_comma (flat_of value.now)) }
 {
@@ -99,7 +101,7 @@ fn push_value(alloc: Global, into: &mut Bytes, value: &[u8]) -> Result<(), NoMem
     into.push_slice(value.as_slice())
 }
 
-/// Bytes without their first two.
+/// Returns the bytes without the first two.
 fn without_comma(bytes: &[u8]) -> &[u8]
     ensures { result.now ≡ drop 2 bytes.now }
 {
@@ -109,7 +111,7 @@ fn without_comma(bytes: &[u8]) -> &[u8]
     bytes.split_at(2).1
 }
 
-/// The first mailbox of a list of addresses, in a group or not.
+/// Returns the first mailbox of a list of addresses, in a group or not.
 fn first_mailbox(addresses: &Addresses) -> Option<&Address>
     ensures { option_copied result ≡ first_mailbox_of addresses.now }
 {
@@ -119,7 +121,7 @@ fn first_mailbox(addresses: &Addresses) -> Option<&Address>
         .find(|address| matches!(address.kind, AddressKind::Mailbox))
 }
 
-/// The address of a mailbox, made clean.
+/// Returns the clean address of a mailbox.
 fn clean_address(alloc: Global, mailbox: &Address) -> Result<Bytes, NoMemory>
     ensures value { IfOk result (λ made. made ≡ clean_address_of mailbox.now) }
     ensures clean { IfOk result IsClean }
@@ -131,7 +133,7 @@ fn clean_address(alloc: Global, mailbox: &Address) -> Result<Bytes, NoMemory>
     clean(alloc, address.as_slice())
 }
 
-/// A value with its encoded words decoded, made clean.
+/// Decodes the encoded words of a value, and returns the clean result.
 fn clean_words(alloc: Global, value: &[u8]) -> Result<Bytes, NoMemory>
     ensures value { IfOk result (λ made. made ≡ clean_of (decoded value.now)) }
     ensures clean { IfOk result IsClean }
@@ -140,7 +142,8 @@ fn clean_words(alloc: Global, value: &[u8]) -> Result<Bytes, NoMemory>
     clean(alloc, text.as_slice())
 }
 
-/// A text made clean: without bytes below 32, 127, `<` and `>`, and then without the spaces at its two ends.
+/// Returns a clean text: without bytes below 32, 127, `<` and `>`, and then without the spaces at
+/// its two ends.
 fn clean(alloc: Global, text: &[u8]) -> Result<Bytes, NoMemory>
     ensures value { IfOk result (λ made. made ≡ clean_of text.now) }
     ensures clean { IfOk result IsClean }
@@ -149,7 +152,7 @@ fn clean(alloc: Global, text: &[u8]) -> Result<Bytes, NoMemory>
     copied(alloc, trimmed(kept.as_slice()))
 }
 
-/// The bytes of a text that clean text may hold.
+/// Returns the bytes of a text that a clean text may have.
 fn clean_bytes(alloc: Global, text: &[u8]) -> Result<Vec<u8>, AllocError>
     ensures { IfOk result (λ made. made.items ≡ filter clean_byte text.now) }
 {
@@ -159,14 +162,14 @@ fn clean_bytes(alloc: Global, text: &[u8]) -> Result<Vec<u8>, AllocError>
         .collect(alloc)
 }
 
-/// Whether clean text may hold a byte.
+/// Returns whether a clean text may have a byte.
 fn is_clean_byte(byte: u8) -> bool
     ensures { result ≡ clean_byte byte }
 {
     byte >= 32 && byte != 127 && byte != b'<' && byte != b'>'
 }
 
-/// A text without the spaces at its two ends.
+/// Returns a text without the spaces at its two ends.
 fn trimmed(text: &[u8]) -> &[u8]
     ensures { result.now ≡ trimmed_of text.now }
 {
@@ -178,14 +181,14 @@ fn trimmed(text: &[u8]) -> &[u8]
     front.split_at(start).1
 }
 
-/// How many spaces stand at the front of a text.
+/// Returns the count of spaces at the front of a text.
 fn spaces_before(text: &[u8]) -> usize
     ensures { result ≡ prefix_len space text.now }
 {
     text.iter().take_while(|byte| is_space(**byte)).count()
 }
 
-/// How many spaces stand at the end of a text.
+/// Returns the count of spaces at the end of a text.
 fn spaces_behind(text: &[u8]) -> usize
     ensures value { result ≡ suffix_len space text.now }
     ensures within { result ≤ length text.now }
@@ -196,14 +199,14 @@ fn spaces_behind(text: &[u8]) -> usize
         .count()
 }
 
-/// Whether a byte is a space.
+/// Returns whether a byte is a space.
 fn is_space(byte: u8) -> bool
     ensures { result ≡ space byte }
 {
     byte == b' '
 }
 
-/// Bytes of one's own.
+/// Copies bytes.
 fn copied(alloc: Global, bytes: &[u8]) -> Result<Bytes, NoMemory>
     ensures { IfOk result (λ made. made ≡ bytes.now) }
 {
@@ -212,7 +215,8 @@ fn copied(alloc: Global, bytes: &[u8]) -> Result<Bytes, NoMemory>
     Ok(made)
 }
 
-/// The subject of a text, made clean (RFC 5322, section 3.6.5).
+/// Returns the clean subject of a text, which is empty without a Subject field (RFC 5322, section
+/// 3.6.5).
 pub(crate) fn subject(alloc: Global, text: &[u8]) -> Result<Bytes, NoMemory>
     ensures value { IfOk result (λ made. made ≡ clean_of (subject_fact text.now)) }
     ensures clean { IfOk result IsClean }
@@ -223,7 +227,7 @@ pub(crate) fn subject(alloc: Global, text: &[u8]) -> Result<Bytes, NoMemory>
     }
 }
 
-/// The flat value of a value, with its encoded words decoded, made clean.
+/// Flattens a field's value and decodes its encoded words, and returns the clean result.
 fn clean_flat(alloc: Global, value: &[u8]) -> Result<Bytes, NoMemory>
     ensures value { IfOk result (λ made. made ≡ clean_of (decoded (flat_of value.now))) }
     ensures clean { IfOk result IsClean }
@@ -232,7 +236,7 @@ fn clean_flat(alloc: Global, value: &[u8]) -> Result<Bytes, NoMemory>
     clean_words(alloc, value.as_slice())
 }
 
-/// The value of the first field of a name.
+/// Returns the value of the first field with a name.
 fn first_value<'a>(text: &'a [u8], name: &[u8]) -> Option<&'a [u8]>
     ensures { option_copied result ≡ option_map (λ (field : FieldText). field.value) (first_named name.now (fields_of text.now)) }
 {
@@ -244,7 +248,8 @@ fn first_value<'a>(text: &'a [u8], name: &[u8]) -> Option<&'a [u8]>
     None
 }
 
-/// When a text was written, and in which zone, by its first Date (RFC 5322, section 3.6.1).
+/// Returns when a text was written, and in which zone, by its first Date field (RFC 5322, section
+/// 3.6.1).
 fn date(text: &[u8]) -> Option<Moment>
     ensures value { result ≡ date_fact text.now }
     ensures zone { IfSome result (λ written. IsZone written.zone) }
@@ -253,7 +258,9 @@ fn date(text: &[u8]) -> Option<Moment>
     read(value)
 }
 
-/// When a text was written: by its Date, or where that spells no moment the moment at which it was taken, in UTC.
+/// Returns when a text was written.
+///
+/// If its Date field spells no moment, this is the moment at which the text was taken, in UTC.
 pub(crate) fn written_at(text: &[u8], moment: u64) -> Moment
     ensures value { result ≡ written_of (date_fact text.now) moment }
     ensures zone { IsZone result.zone }

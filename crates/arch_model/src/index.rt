@@ -1,4 +1,4 @@
-//! The messages of an archive in memory by their ids and by their blob ids.
+//! An index of an archive's messages by their own ids and by their blob ids.
 ghost use Rattle.std.specs.Prelude.{◌≡◌, [], OnOk, OnErr, None};
 ghost use Rattle.arch_model.specs.Memory.{Puts, Loses, TakesBack, HasSame, met_in, owner_in, number_in};
 
@@ -8,7 +8,7 @@ use arch_base::{NoMemory, ObjectId};
 use std::alloc::Global;
 use std::collections::BTreeMap;
 
-/// The messages by their ids, and their numbers by their blob ids.
+/// An index of messages by their own ids, and of their numbers by their blob ids.
 #[derive(Drop)]
 pub struct Index {
     pub(crate) owners: BTreeMap<Vec<u8>, Owner>,
@@ -16,7 +16,7 @@ pub struct Index {
 }
 
 impl Index {
-    /// An index of no message.
+    /// Returns an empty index.
     pub fn new(alloc: Global) -> Index
         ensures owners { result.owners.entries ≡ [] }
         ensures blobs { result.blobs.entries ≡ [] }
@@ -27,14 +27,14 @@ impl Index {
         }
     }
 
-    /// The message that has an id.
+    /// Returns the message that has an id.
     pub fn owner(&self, id: &[u8]) -> Option<Owner>
         ensures { result ≡ owner_in self.now.owners id.now }
     {
         self.owners.get(id).copied()
     }
 
-    /// How a candidate for an id meets the messages that are there.
+    /// Returns how a candidate id meets the message that has it, if there is one.
     pub(crate) fn meet(&self, id: &[u8], content: &[u8; 32]) -> Meeting
         ensures { result ≡ met_in (owner_in self.now.owners id.now) content.now }
     {
@@ -44,14 +44,16 @@ impl Index {
         }
     }
 
-    /// The number of the message with a blob id.
+    /// Returns the number of the message with a blob id.
     pub fn number(&self, blob: &ObjectId) -> Option<u32>
         ensures { result ≡ number_in self.now.blobs blob.now.0 }
     {
         self.blobs.get(&blob.0).copied()
     }
 
-    /// Puts a message with a new blob id, or changes nothing.
+    /// Inserts a message with a new blob id.
+    ///
+    /// `NoMemory` leaves the index unchanged.
     pub fn insert(&mut self, id: Vec<u8>, blob: ObjectId, owner: Owner) -> Result<(), NoMemory>
         requires unseen { number_in self.old.blobs blob.0 ≡ None }
         ensures ok { OnOk result (Puts self.old self.new id.items blob owner) }
@@ -65,7 +67,9 @@ impl Index {
         Ok(())
     }
 
-    /// Puts a message, in the place of those with its id and its blob id. For want of memory its blob id alone may be there.
+    /// Inserts a message, and replaces those with its own id and its blob id.
+    ///
+    /// `NoMemory` may leave its blob id alone inserted.
     pub fn put(&mut self, id: Vec<u8>, blob: ObjectId, owner: Owner) -> Result<(), NoMemory>
         ensures { OnOk result (Puts self.old self.new id.items blob owner) }
     {
@@ -74,7 +78,9 @@ impl Index {
         Ok(())
     }
 
-    /// Takes a message away. Behind `insert` of an id and a blob id that were new it has the same as before that.
+    /// Removes a message.
+    ///
+    /// After an `insert` of an id and a blob id that were both new, this restores the index.
     pub fn remove(&mut self, id: &[u8], blob: &ObjectId)
         ensures lost { Loses self.old self.new id.now blob.now }
         ensures back { TakesBack self.old self.new id.now blob.now }

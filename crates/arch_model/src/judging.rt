@@ -1,4 +1,4 @@
-//! What the delivery of a message comes to, before anything is kept: the same for each kind of archive.
+//! Decides what a delivery does, before anything is kept. Each kind of archive uses it.
 ghost use Rattle.std.specs.Prelude.{◌≡◌, List, ℕ, Ok, Some, IfOk, IfSome, false, length};
 ghost use Rattle.mail_reader.specs.Content.{content_id_of};
 ghost use Rattle.mail_reader.specs.Stored.{stored as stored_of};
@@ -17,21 +17,23 @@ use git_objects::{blob_id, object_id};
 use mail_reader::{StoredRefusal, content_id, own_id, stored};
 use std::alloc::Global;
 
-/// What the delivery of a message comes to.
+/// What the delivery of a message does.
 #[derive(Debug, Drop)]
 pub enum Verdict {
-    /// It is to be kept with this text, and takes this number. No message has its own id or its blob id.
+    /// Keeps this text under this number. No message has its own id or its blob id.
     Take {
         text: Bytes,
         blob: ObjectId,
         number: u32,
     },
-    /// It isn't kept, and this is the answer.
+    /// Keeps nothing, and gives this answer.
     Refuse(Answer),
 }
 
-/// What the delivery of a message comes to in an archive of these settings, with so many messages, which the index has by their
-/// ids, and with this next number. NoMemory comes only for want of memory.
+/// Decides what the delivery of a message does.
+///
+/// The archive has these settings and `count` messages, which the index has by their ids. `next` is
+/// its next number. Refuses with `NoMemory` if an allocation fails.
 pub fn judge(
     alloc: Global,
     config: &Config,
@@ -40,9 +42,10 @@ pub fn judge(
     next: u32,
     bytes: &[u8],
 ) -> Verdict
-    // Of each archive that they are of, it is the definition's.
+    // For each archive with these settings, messages and next number, the definition decides the
+    // same.
     ensures judged { (a : Archive) → IsKnownBy config.now index.now count next a → Judges a bytes.now result }
-    // Whatever they are of: what is taken may be kept.
+    // For any index: a text that is taken may be kept.
     ensures taken { MayTake config.now index.now next result }
 {
     if config.mirror {
@@ -56,7 +59,7 @@ pub fn judge(
     }
 }
 
-/// What the delivery of a text in storage form comes to.
+/// Decides what the delivery of a storage text does.
 fn judge_text(
     alloc: Global,
     config: &Config,
@@ -77,7 +80,7 @@ fn judge_text(
     }
 }
 
-/// What the candidates for a text's id come to.
+/// Returns what the candidate ids of a text decide.
 fn choose(
     alloc: Global,
     config: &Config,
@@ -101,7 +104,7 @@ fn choose(
     }
 }
 
-/// What the made ids for a text come to.
+/// Returns what the made ids of a text decide.
 fn choose_made(
     alloc: Global,
     config: &Config,
@@ -122,8 +125,9 @@ fn choose_made(
     }
 }
 
-/// What the first made id for a text that isn't passed over decides, or None where as many as there are messages and one more are
-/// passed over, which isn't so in any archive.
+/// Returns what the first made id that isn't skipped decides.
+///
+/// `None` if one made id more than there are messages is skipped, which no archive allows.
 fn first_made(
     alloc: Global,
     config: &Config,
@@ -151,7 +155,7 @@ fn first_made(
     Ok(None)
 }
 
-/// What the delivery of a text whose own id no message has comes to.
+/// Decides what the delivery of a text does, if no message has its own id.
 fn judge_new(config: &Config, index: &Index, next: u32, text: Bytes) -> Verdict
     requires writable { config.now.mirror ≡ false }
     requires new { IsNewText index.now text }

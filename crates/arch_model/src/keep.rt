@@ -1,4 +1,4 @@
-//! What keeps one archive, and takes commands to it.
+//! The trait of keepers: values that keep one archive, and carry out commands on it.
 ghost use Rattle.std.specs.Prelude.{◌≡◌, ◌≤◌, ℕ, Bool, true, false, List, Option, None, Some, Err, OnOk, OnErr, is_ok};
 ghost use Rattle.arch_base.specs.Counts.{Rose};
 ghost use Rattle.arch_model.specs.Archives.{Archive, in_epoch};
@@ -15,42 +15,47 @@ use crate::opening::OpenRefusal;
 use crate::text_refusal::TextRefusal;
 use arch_base::Bytes;
 
-/// What keeps one archive, and takes commands to it.
+/// A keeper: a value that keeps one archive, and carries out commands on it.
 ///
-/// It is ready, or stale: behind a command that the disk failed it isn't known whether that was done. Nothing is answered from a
-/// stale one until it is opened again, which finds the archive before the command or the one behind it.
+/// A keeper is ready or stale. It is stale after a command at which the disk failed, or that found
+/// a file damaged. After a fault of the disk it is not known whether the command was carried out. A
+/// stale keeper answers nothing until it is reopened, which finds the archive before the command or
+/// the one after it.
 pub trait Keep {
-    /// It holds this archive, where that is told. A stale one may hold any.
+    /// The keeper holds this archive, if that is told. A stale one may hold any.
     ghost holds: { Self → Archive → Type 0 };
 
-    /// Whether a number has a message.
+    /// A number has a message.
     ghost live: { Self → ℕ → Bool };
 
-    /// Whether it has to be opened again.
+    /// The keeper has to be reopened.
     ghost stale: { Self → Bool };
 
-    /// The moment, as a number that does not fall.
+    /// The moment, as a number that never falls.
     ghost clock: { Self → ℕ };
 
-    /// Each crash at that moment or a later one has left one of these archives, or none where that is one of these.
+    /// Each crash at that moment or later has left one of these archives. None stands for no
+    /// archive.
     ghost leaves: { Self → ℕ → List (Option Archive) → Type 0 };
 
-    /// How often its disk has failed.
+    /// The count of faults of the disk.
     ghost faults: { Self → ℕ };
 
-    /// Whether it has to be opened again.
+    /// Returns whether the keeper has to be reopened.
     fn is_stale(&self) -> bool
         ensures { result ≡ stale self.now };
 
-    /// The least number of a message that is at least this one, or None where there is none.
+    /// Returns the least number of a message that is at least this one, or `None` if there is none.
     fn live_from(&self, n: u32) -> Option<u32>
         requires ready { stale self.now ≡ false }
         ensures known { IsKnownLive (live self.now) result }
         ensures number { (a : Archive) → holds self.now a → IsLeastLive a.entries n result };
 
-    /// Puts the text of a message behind other bytes. DiskFault comes only where the count of faults rose, and NoMemory only for
-    /// want of memory. Damaged comes only where what was read is no text with the message's id, which never comes where an
-    /// archive is held. A refusal leaves the bytes as they were.
+    /// Appends the text of a message.
+    ///
+    /// `DiskFault` if the disk failed, and the count of faults rose. `NoMemory` if an allocation
+    /// fails. `Damaged` if the bytes that were read don't have the message's blob id, which never
+    /// happens while an archive is held. Each of them leaves `into` unchanged.
     fn text(&mut self, n: u32, into: &mut Bytes) -> Result<(), TextRefusal>
         requires ready { stale self.old ≡ false }
         requires live { live self.old n ≡ true }
@@ -62,8 +67,11 @@ pub trait Keep {
         ensures later { faults self.old ≤ faults self.new }
         ensures fault { result ≡ Err TextRefusal.DiskFault → Rose (faults self.old) (faults self.new) };
 
-    /// Puts the bytes of an epoch behind others, and says whether it has an entry. DiskFault comes only where the count of faults
-    /// rose, and NoMemory only for want of memory. A refusal leaves the bytes as they were, and so does an epoch without an entry.
+    /// Appends the bytes of an epoch, and returns whether the epoch has an entry.
+    ///
+    /// `DiskFault` if the disk failed, and the count of faults rose. `NoMemory` if an allocation
+    /// fails. `Damaged` never comes while an archive is held. Each of them, and an epoch without an
+    /// entry, leave `into` unchanged.
     fn epoch_bytes(&mut self, epoch: u32, into: &mut Bytes) -> Result<bool, TextRefusal>
         requires ready { stale self.old ≡ false }
         ensures bytes { (a : Archive) → holds self.old a → GivesEpochIn (in_epoch a.entries epoch) into.old into.new result }
@@ -74,10 +82,12 @@ pub trait Keep {
         ensures later { faults self.old ≤ faults self.new }
         ensures fault { result ≡ Err TextRefusal.DiskFault → Rose (faults self.old) (faults self.new) };
 
-    /// Takes a command at a moment, in seconds since 1970. What is answered is the definition's, or that there is no memory, or that
-    /// the disk failed: then it has to be opened again, and the command was done or not. A refusal, and want of memory, leave all as
-    /// it was. A crash leaves the archive before the
-    /// command or the one behind it. DiskFault comes only where the count of faults rose, and NoMemory only for want of memory.
+    /// Carries out a command at a moment, in seconds since 1970 UTC.
+    ///
+    /// The answer is that of the definition, or `NoMemory` if an allocation fails, or `DiskFault`
+    /// if the disk failed and the count of faults rose. A refusal, and `NoMemory`, leave the keeper
+    /// unchanged. After `DiskFault` the keeper has to be reopened, and the command was carried out
+    /// or not. A crash leaves the archive before the command or the one after it.
     fn command(&mut self, command: &Command<'_>, moment: u64) -> Answer
         requires ready { stale self.old ≡ false }
         requires moment { moment ≤ last_moment }
@@ -88,9 +98,11 @@ pub trait Keep {
         ensures later { faults self.old ≤ faults self.new }
         ensures fault { result ≡ Answer.DiskFault → Rose (faults self.old) (faults self.new) };
 
-    /// Opens again where that is needed, and else does nothing. It finds the archive before a command in doubt or the one behind it.
-    /// A crash leaves no archive that it might not have left before. DiskFault comes only where the count of faults rose, and
-    /// NoMemory only for want of memory.
+    /// Reopens the archive if the keeper is stale, and otherwise does nothing.
+    ///
+    /// Finds the archive before a command in doubt, or the one after it. A crash leaves no archive
+    /// that a crash before could not have left. `DiskFault` if the disk failed, and the count of
+    /// faults rose. `NoMemory` if an allocation fails.
     fn fresh(&mut self) -> Result<(), OpenRefusal>
         ensures nothing { stale self.old ≡ false → (is_ok result ≡ true) × (self.new ≡ self.old) }
         ensures found { (s : Standing) → Fits holds stale clock leaves self.old s → Reopens holds stale clock leaves s result self.new }
@@ -99,6 +111,6 @@ pub trait Keep {
         ensures later { faults self.old ≤ faults self.new }
         ensures fault { result ≡ Err OpenRefusal.DiskFault → Rose (faults self.old) (faults self.new) };
 
-    /// Of one that holds an archive a crash leaves that one.
+    /// A crash leaves the archive that a keeper holds.
     ghost holds_left: { (k : Self) (a : Archive) → holds k a → leaves k (clock k) (one_of (standing a None)) };
 }

@@ -1,4 +1,4 @@
-//! What an archive in memory keeps of each message.
+//! What the archive in memory keeps of each message, and of its last epoch.
 ghost use Rattle.std.specs.Prelude.{◌≡◌, ◌+◌, ◌-◌, ◌++◌, ◌≤◌, length, IfOk, OnOk, OnErr, is_ok, if◌then◌else◌};
 ghost use Rattle.arch_model.specs.Epochs.{commit_id, entry_bytes, message_name};
 ghost use Rattle.arch_model.specs.Memory.{front_bytes, end_for_new, end_by_room, end_after, met_owner, Grows};
@@ -8,14 +8,14 @@ use crate::commits::push_entry;
 use arch_base::{Bytes, NoMemory, ObjectId};
 use std::alloc::Global;
 
-/// A message as an archive in memory keeps it.
+/// A message as the archive in memory keeps it.
 #[derive(Debug, Drop)]
 pub(crate) struct Kept {
-    /// The epoch that it stands in.
+    /// The number of its epoch.
     pub(crate) epoch: u32,
     /// Its text.
     pub(crate) text: Bytes,
-    /// The moment of its delivery, in seconds since 1970.
+    /// The moment of its delivery, in seconds since 1970 UTC.
     pub(crate) moment: u64,
 }
 
@@ -29,7 +29,7 @@ pub struct Owner {
 }
 
 impl Owner {
-    /// How a candidate for an id that this message has meets it.
+    /// Returns how a candidate for this message's id meets it: with the same content or not.
     pub(crate) fn meet(&self, content: &[u8; 32]) -> Meeting
         ensures { result ≡ met_owner self.now content.now }
     {
@@ -41,25 +41,26 @@ impl Owner {
     }
 }
 
-/// What the next entry stands behind.
+/// The end of an archive, to which the next entry is appended.
 #[derive(Clone, Copy, Debug, Drop)]
 pub(crate) struct End {
-    /// The last epoch.
+    /// The number of the last epoch.
     pub(crate) epoch: u32,
-    /// How many bytes that epoch is shorter than one that takes no further entry.
+    /// Bytes left before the epoch is full.
     pub(crate) room: u64,
-    /// The id of that epoch's last commit, where it has one.
+    /// The id of the epoch's last commit, or `None` if it has none.
     pub(crate) parent: Option<ObjectId>,
 }
 
-/// The last epoch that there may be, which grows without end.
+/// The greatest number of an epoch. That epoch grows without a limit.
 const LAST_EPOCH: u32 = 63;
 
-/// The bytes that an epoch begins with.
+/// The first bytes of an epoch.
 const MAGIC: &[u8] = b"PIV2EP1\n";
 
 impl End {
-    /// The end behind one more entry, which stands in the last epoch, or in a new one where that takes no further entry.
+    /// Returns the end after one more entry, which goes to the last epoch, or to a new one if that
+    /// is full.
     pub(crate) fn with(
         self,
         alloc: Global,
@@ -74,8 +75,9 @@ impl End {
         self.for_new(room, limit).after(alloc, text, moment)
     }
 
-    /// The end that a new entry stands behind, where the last epoch has so much room: that of the last epoch, or of a new one
-    /// where that takes no further entry.
+    /// Returns the end to which a new entry is appended, if the last epoch has `room` bytes left.
+    ///
+    /// It is the end of the last epoch, or that of a new one if the last is full.
     fn for_new(self, room: u64, limit: u64) -> End
         requires { self.epoch ≤ 63 }
         ensures { result ≡ end_by_room room limit self }
@@ -91,7 +93,7 @@ impl End {
         }
     }
 
-    /// The end behind one more entry.
+    /// Returns the end after one more entry.
     fn after(self, alloc: Global, text: &[u8], moment: u64) -> Result<End, NoMemory>
         ensures { IfOk result (λ made. made ≡ end_after self text.now moment) }
     {
@@ -105,8 +107,10 @@ impl End {
     }
 }
 
-/// Puts the bytes of an entry behind others, with an epoch's first bytes where it has no parent, and gives the id of its commit.
-/// For want of memory a part may be put there.
+/// Appends the bytes of an entry, and returns the id of its commit.
+///
+/// The first bytes of an epoch come before them if the entry has no parent. `NoMemory` may leave a
+/// part appended.
 pub(crate) fn push_behind(
     alloc: Global,
     text: &[u8],
@@ -123,7 +127,9 @@ pub(crate) fn push_behind(
     Ok(ids.commit)
 }
 
-/// Puts an epoch's first bytes behind others where an entry has no parent.
+/// Appends the first bytes of an epoch if an entry has no parent.
+///
+/// `NoMemory` leaves the bytes unchanged.
 fn push_front(parent: Option<ObjectId>, into: &mut Bytes) -> Result<(), NoMemory>
     ensures { into.new ≡ (if is_ok result then into.old ++ front_bytes parent else into.old) }
 {

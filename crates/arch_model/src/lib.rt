@@ -1,4 +1,5 @@
-//! The archive as it is defined, and the plain archive in memory that does just what the definitions say.
+//! The archive as definitions state it, and a plain archive in memory that does exactly what they
+//! say.
 #![tactic(auto)]
 
 mod answer;

@@ -1,21 +1,21 @@
-//! An entry of an archive, all but its text.
+//! An entry of an archive without its text.
 use arch_base::ObjectId;
 
-/// An entry of an archive, all but its text.
+/// An entry of an archive without its text.
 #[derive(Clone, Copy, Debug, Drop, PartialEq, Eq)]
 pub struct EntryLine {
-    /// The name of the file that its tree has: `m` of a message.
+    /// The name of the file in its tree: `m` for a message.
     pub name: u8,
-    /// The number of its message.
+    /// The number of the message.
     pub number: u32,
-    /// The epoch that it stands in.
+    /// The number of its epoch.
     pub epoch: u32,
-    /// The moment of its commit, in seconds since 1970.
+    /// The moment of the commit, in seconds since 1970 UTC.
     pub secs: u64,
-    /// The id of the blob that has its text.
+    /// The id of the blob that holds the text.
     pub blob: ObjectId,
-    /// The size of its text, in bytes.
+    /// The size of the text, in bytes.
     pub size: u64,
-    /// The id of its commit.
+    /// The id of the commit.
     pub commit: ObjectId,
 }

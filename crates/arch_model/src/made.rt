@@ -1,4 +1,4 @@
-//! Made ids, and texts with one in front.
+//! Made ids, and texts with a made id at the front.
 ghost use Rattle.std.specs.Prelude.{◌≡◌, ◌++◌, IfOk, IsSome, Some};
 ghost use Rattle.mail_reader.specs.Laws.{id_line};
 ghost use Rattle.mail_reader.specs.Ids.{own_id as own_id_of};
@@ -11,7 +11,7 @@ use itoa::Buffer;
 use mail_reader::own_id;
 use std::alloc::Global;
 
-/// The made id `<DIGITS.COUNT@NAME.invalid>` (RFC 2606, section 2).
+/// Returns the made id `<DIGITS.COUNT@NAME.invalid>` (RFC 2606, section 2).
 #[tactic(auto, unfolding(crate::specs::Candidates::id_with))]
 pub(crate) fn made_id(
     alloc: Global,
@@ -33,7 +33,8 @@ pub(crate) fn made_id(
     Ok(id)
 }
 
-/// A text with a Message-ID field of an id in front (RFC 5322, section 3.6.4).
+/// Returns the choice to keep a text with a Message-ID field of this id at the front (RFC 5322,
+/// section 3.6.4).
 pub(crate) fn with_id(id: &[u8], text: &[u8], alloc: Global) -> Result<Choice, NoMemory>
     ensures { IfOk result (λ choice. choice ≡ Take (id_line id.now ++ text.now)) }
 {
@@ -45,7 +46,7 @@ pub(crate) fn with_id(id: &[u8], text: &[u8], alloc: Global) -> Result<Choice, N
     Ok(Choice::Take(bytes))
 }
 
-/// The own id of a text that has one.
+/// Returns a copy of the own id of a text that has one.
 pub(crate) fn own_id_bytes(alloc: Global, text: &[u8]) -> Result<Vec<u8>, NoMemory>
     requires { IsSome (own_id_of text.now) }
     ensures { IfOk result (λ id. own_id_of text.now ≡ Some id.items) }

@@ -1,4 +1,4 @@
-//! The plain archive in memory, whose every call is the definition's.
+//! A plain archive in memory, which does what the definitions say, call by call.
 ghost use Rattle.std.specs.Prelude.{◌≡◌, ◌≢◌, ◌++◌, ◌≤◌, [], length, take, option_copied, IfOk, OnOk, OnErr, is_ok, None, IsTrue, ◌↔◌};
 ghost use Rattle.arch_base.specs.Configs.{IsConfig};
 ghost use Rattle.mail_reader.specs.Content.{content_id_of};
@@ -43,7 +43,7 @@ impl Model for MemArchive {
 }
 
 impl MemArchive {
-    /// An archive without entries.
+    /// Returns an archive without entries.
     pub fn new(alloc: Global, config: Config) -> MemArchive
         requires { IsConfig config }
         ensures { result ≡ empty_archive config }
@@ -62,7 +62,7 @@ impl MemArchive {
         }
     }
 
-    /// The text of the message with a number, or None where there is none.
+    /// Returns the text of the message with a number, or `None` if there is none.
     pub fn text(&self, number: u32) -> Option<&[u8]>
         ensures { option_copied result ≡ text_of self.now.entries number }
     {
@@ -76,7 +76,7 @@ impl MemArchive {
         }
     }
 
-    /// The least number of a message that is at least this one, or None where there is none.
+    /// Returns the least number of a message that is at least this one, or `None` if there is none.
     pub fn number_from(&self, number: u32) -> Option<u32>
         ensures { IsLeastLive self.now.entries number result }
     {
@@ -88,7 +88,9 @@ impl MemArchive {
         }
     }
 
-    /// Puts the bytes of an epoch behind others, and says whether it has an entry. For want of memory nothing is put there.
+    /// Appends the bytes of an epoch, and returns whether the epoch has an entry.
+    ///
+    /// `NoMemory` leaves the bytes unchanged.
     pub fn push_epoch(&self, epoch: u32, into: &mut Bytes) -> Result<bool, NoMemory>
         ensures { GivesEpoch into.old into.new result (in_epoch self.now.entries epoch) }
     {
@@ -102,7 +104,9 @@ impl MemArchive {
         }
     }
 
-    /// Puts the bytes of an epoch behind others, and says whether it has an entry. For want of memory a part may be put there.
+    /// Appends the bytes of an epoch, and returns whether the epoch has an entry.
+    ///
+    /// `NoMemory` may leave a part appended.
     fn push_entries(&self, epoch: u32, into: &mut Bytes) -> Result<bool, NoMemory>
         ensures found { IfOk result (λ found. found ≡ has_entry (in_epoch self.now.entries epoch)) }
         ensures ok { OnOk result (into.new ≡ into.old ++ epoch_bytes (in_epoch self.now.entries epoch)) }
@@ -123,10 +127,12 @@ impl MemArchive {
         Ok(parent.is_some())
     }
 
-    /// Takes a command at a moment, in seconds since 1970.
+    /// Carries out a command at a moment, in seconds since 1970 UTC.
     ///
-    /// `Deliver`: the message takes the next number, or is refused by the first cause of a mirror, no field, too many bytes, a
-    /// message that is the same, another text with its blob id, and no number left. A refusal leaves all as it was.
+    /// `Deliver` keeps the message under the next number, or refuses it. The first cause decides:
+    /// the archive is a mirror, the message has no field, it has too many bytes, it is there
+    /// already, another text has its blob id, no number is left. A refusal, and `NoMemory`, leave
+    /// the archive unchanged.
     pub fn command(&mut self, command: &Command<'_>, moment: u64) -> Answer
         ensures done { Delivers self.old result self.new (applied self.old command.now moment) }
         ensures untouched { IsUntouched result self.old self.new }
@@ -149,7 +155,7 @@ impl MemArchive {
         }
     }
 
-    /// Keeps a message under the next number, and answers that.
+    /// Keeps a message under the next number, and answers with that number.
     fn take(&mut self, text: Bytes, blob: ObjectId, number: u32, moment: u64) -> Answer
         requires free { IsFree self.old.entries text }
         requires blob { blob ≡ blob_id_of text }
@@ -164,14 +170,14 @@ impl MemArchive {
         }
     }
 
-    /// The number of the next message.
+    /// Returns the number of the next message.
     fn next(&self) -> u32
         ensures { result ≡ self.now.next }
     {
         self.kept.len() as u32 + 1
     }
 
-    /// The next message, with this text, as the one that has its id.
+    /// Returns the index entry of the next message, if this is its text.
     fn owner_of(&self, text: &[u8]) -> Owner
         ensures { result ≡ record { number = self.now.next; content = content_id_of text.now } }
     {
@@ -181,7 +187,9 @@ impl MemArchive {
         }
     }
 
-    /// Keeps a message behind the others, or changes nothing.
+    /// Appends a message.
+    ///
+    /// `NoMemory` leaves the archive unchanged.
     fn keep(&mut self, text: Bytes, blob: ObjectId, moment: u64) -> Result<(), NoMemory>
         requires free { IsFree self.old.entries text }
         requires blob { blob ≡ blob_id_of text }

@@ -1,26 +1,26 @@
-//! Why an archive on a disk was not opened.
+//! Why an archive on a disk could not be opened.
 use arch_base::NoMemory;
 use disk_model::{DiskFault, FileName};
 use thiserror::Error;
 
-/// Why an archive on a disk was not opened.
+/// The reason why an archive on a disk could not be opened.
 #[derive(Debug, Drop, PartialEq, Eq, Error)]
 pub enum OpenRefusal {
-    /// No slot of the root is open: there is no archive.
+    /// There is no archive: no slot of the root is open.
     #[error("no archive")]
     NoArchive,
-    /// A file of the archive does not have the form that it should have.
+    /// A file of the archive is malformed.
     #[error("a file is damaged at {at}")]
     Damaged {
         /// The file.
         file: FileName,
-        /// The place of the first part that does not have it, in bytes.
+        /// The offset of the first malformed part, in bytes.
         at: u64,
     },
     /// A call of the disk failed.
     #[error("the disk failed")]
     DiskFault,
-    /// Memory was wanted, and there was none.
+    /// An allocation failed.
     #[error("out of memory")]
     NoMemory,
 }

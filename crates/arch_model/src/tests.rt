@@ -3,7 +3,7 @@ ghost use Rattle.std.specs.Prelude.{◌≤◌, IfSome};
 ghost use Rattle.arch_base.specs.Configs.{IsConfig};
 
 use crate::{Answer, Command, Index, MemArchive, Owner, Verdict, judge};
-use arch_base::{Bytes, Config, Name, id_of_hex};
+use arch_base::{Bytes, Config, Name, NoMemory, id_of_hex};
 use git_objects::blob_id;
 use mail_reader::content_id;
 use std::alloc::Global;
@@ -50,47 +50,63 @@ fn deliver(archive: &mut MemArchive, bytes: &[u8]) -> Answer {
     archive.command(&Command::Deliver(bytes), MOMENT)
 }
 
-/// The length of an epoch's bytes.
-fn epoch_len(alloc: Global, archive: &MemArchive, epoch: u32) -> Option<usize> {
-    let mut bytes = Bytes::new(alloc);
-    let found = archive.push_epoch(epoch, &mut bytes).ok()?;
-    if found {
-        Some(bytes.as_slice().len())
-    } else {
-        None
-    }
+/// Whether the delivery of a message gets this answer.
+fn answers_so(archive: &mut MemArchive, bytes: &[u8], wanted: Option<Answer>) -> bool {
+    Some(deliver(archive, bytes)) == wanted
+}
+
+/// An archive without messages.
+fn made(alloc: Global, limit: u64, max: u32, mirror: bool) -> Option<MemArchive>
+    requires low { 1 ≤ limit }
+    requires high { limit ≤ 1099511627776 }
+    requires some { 1 ≤ max }
+    requires few { max ≤ 2147483647 }
+{
+    Some(MemArchive::new(alloc, settings(limit, max, mirror)?))
+}
+
+/// Whether another mail with a taken id is kept under a made one, and both are known again.
+fn takes_two_of_an_id(archive: &mut MemArchive) -> bool {
+    let first = accepted(1, b"1d023c572ccd6f3cc82ae855343346b043adaba5");
+    let other = accepted(2, b"39f92e6e43521b9650c2c71e47523846b2ecc47a");
+    let one = answers_so(archive, FIRST, first);
+    let one_again = answers_so(archive, FIRST, Some(Answer::Duplicate(1)));
+    let two = answers_so(archive, OTHER, other);
+    let two_again = answers_so(archive, OTHER, Some(Answer::Duplicate(2)));
+    one && one_again && two && two_again
 }
 
 #[test]
 fn a_taken_id_gives_way_to_a_made_one(rt: HostRuntime) {
-    let Some(settings) = settings(1000, 10, false) else {
+    let Some(mut archive) = made(rt.alloc(), 1000, 10, false) else {
         return assert!(rt; false);
     };
-    let mut archive = MemArchive::new(rt.alloc(), settings);
-    let first = deliver(&mut archive, FIRST);
-    assert!(rt; Some(first) == accepted(1, b"1d023c572ccd6f3cc82ae855343346b043adaba5"));
-    assert!(rt; deliver(&mut archive, FIRST) == Answer::Duplicate(1));
-    let other = deliver(&mut archive, OTHER);
-    assert!(rt; Some(other) == accepted(2, b"39f92e6e43521b9650c2c71e47523846b2ecc47a"));
-    assert!(rt; deliver(&mut archive, OTHER) == Answer::Duplicate(2));
+    assert!(rt; takes_two_of_an_id(&mut archive));
+}
+
+/// A mail with the first id that would be made for another mail.
+const TAKEN: &[u8] =
+    b"Subject: v\nMessage-ID: <a8f4aef97c4217e79c7ac7c8d9fa4cba3317bffd.0@list.invalid>\n\nx\n";
+
+/// The text of that other mail, with the second id that is made for it.
+const MADE: &[u8] =
+    b"Message-ID: <a8f4aef97c4217e79c7ac7c8d9fa4cba3317bffd.1@list.invalid>\nSubject: u\n\nx\n";
+
+/// Whether a mail without an id, whose first made id is taken, is kept under the next one.
+fn takes_the_next_made_id(archive: &mut MemArchive) -> bool {
+    let taken = accepted(1, b"2fd7988ae8d54e85a7b575f5ccd453aec2207364");
+    let made = accepted(2, b"e30b50cddbd8790b5f73f4eb6fe526a4c7f12274");
+    let one = answers_so(archive, TAKEN, taken);
+    let two = answers_so(archive, b"Subject: u\n\nx\n", made);
+    one && two && archive.text(2) == Some(MADE)
 }
 
 #[test]
 fn a_taken_made_id_gives_way_to_the_next(rt: HostRuntime) {
-    let Some(settings) = settings(1000, 10, false) else {
+    let Some(mut archive) = made(rt.alloc(), 1000, 10, false) else {
         return assert!(rt; false);
     };
-    let mut archive = MemArchive::new(rt.alloc(), settings);
-    let taken = deliver(
-        &mut archive,
-        b"Subject: v\nMessage-ID: <a8f4aef97c4217e79c7ac7c8d9fa4cba3317bffd.0@list.invalid>\n\nx\n",
-    );
-    assert!(rt; Some(taken) == accepted(1, b"2fd7988ae8d54e85a7b575f5ccd453aec2207364"));
-    let made = deliver(&mut archive, b"Subject: u\n\nx\n");
-    assert!(rt; Some(made) == accepted(2, b"e30b50cddbd8790b5f73f4eb6fe526a4c7f12274"));
-    let text =
-        b"Message-ID: <a8f4aef97c4217e79c7ac7c8d9fa4cba3317bffd.1@list.invalid>\nSubject: u\n\nx\n";
-    assert!(rt; archive.text(2) == Some(text.as_slice()));
+    assert!(rt; takes_the_next_made_id(&mut archive));
 }
 
 /// An index of one message, FIRST, which has the number 1.
@@ -105,72 +121,128 @@ fn index_of_first(alloc: Global) -> Option<Index> {
     Some(index)
 }
 
-#[test]
-fn a_delivery_is_judged_by_an_index(rt: HostRuntime) {
-    let (Some(settings), Some(index)) = (settings(1000, 2, false), index_of_first(rt.alloc()))
-    else {
-        return assert!(rt; false);
-    };
-    assert!(rt; matches!(index.owner(b"<a@x>"), Some(Owner { number: 1, .. })));
-    assert!(rt; index.owner(b"<b@x>").is_none());
-    assert!(rt;
-        index.number(&blob_id(FIRST)) == Some(1) && index.number(&blob_id(RENAMED)).is_none()
-    );
-    let again = judge(rt.alloc(), &settings, &index, 1, 2, FIRST);
-    assert!(rt; matches!(again, Verdict::Refuse(Answer::Duplicate(1))));
-    let full = judge(rt.alloc(), &settings, &index, 1, 3, RENAMED);
-    assert!(rt; matches!(full, Verdict::Refuse(Answer::Full(2))));
-    match judge(rt.alloc(), &settings, &index, 1, 2, RENAMED) {
-        Verdict::Refuse(_) => assert!(rt; false),
+/// Whether an index finds FIRST, and no other message.
+fn finds_first_alone(index: &Index) -> bool {
+    let by_id = matches!(index.owner(b"<a@x>"), Some(Owner { number: 1, .. }));
+    let other_id = index.owner(b"<b@x>").is_none();
+    let by_blob = index.number(&blob_id(FIRST)) == Some(1);
+    let other_blob = index.number(&blob_id(RENAMED)).is_none();
+    by_id && other_id && by_blob && other_blob
+}
+
+/// The refusal of a message, where it is refused.
+fn refusal(
+    alloc: Global,
+    config: &Config,
+    index: &Index,
+    next: u32,
+    bytes: &[u8],
+) -> Option<Answer> {
+    match judge(alloc, config, index, 1, next, bytes) {
+        Verdict::Refuse(answer) => Some(answer),
+        Verdict::Take { .. } => None,
+    }
+}
+
+/// Whether RENAMED is to be kept as it stands, under the number 2.
+fn takes_renamed(alloc: Global, config: &Config, index: &Index) -> bool {
+    match judge(alloc, config, index, 1, 2, RENAMED) {
+        Verdict::Refuse(_) => false,
         Verdict::Take { text, blob, number } => {
-            assert!(rt; text.as_slice() == RENAMED && blob == blob_id(RENAMED) && number == 2);
+            text.as_slice() == RENAMED && blob == blob_id(RENAMED) && number == 2
         }
     }
 }
 
+/// Whether messages are judged by an index of FIRST.
+fn judges_by(alloc: Global, config: &Config, index: &Index) -> bool {
+    let again = refusal(alloc, config, index, 2, FIRST) == Some(Answer::Duplicate(1));
+    let full = refusal(alloc, config, index, 3, RENAMED) == Some(Answer::Full(2));
+    let taken = takes_renamed(alloc, config, index);
+    again && full && taken
+}
+
 #[test]
-fn refusals_come_in_their_order(rt: HostRuntime) {
-    let Some(settings) = settings(1000, 1, false) else {
+fn a_delivery_is_judged_by_an_index(rt: HostRuntime) {
+    let Some(index) = index_of_first(rt.alloc()) else {
         return assert!(rt; false);
     };
-    let mut archive = MemArchive::new(rt.alloc(), settings);
-    let _ = deliver(&mut archive, FIRST);
-    assert!(rt; deliver(&mut archive, b"") == Answer::NoFields);
-    assert!(rt; deliver(&mut archive, FIRST) == Answer::Duplicate(1));
-    assert!(rt; deliver(&mut archive, RENAMED) == Answer::Full(1));
-    assert!(rt; archive.text(1) == Some(FIRST) && archive.text(2).is_none());
+    assert!(rt; finds_first_alone(&index));
+    let Some(settings) = settings(1000, 2, false) else {
+        return assert!(rt; false);
+    };
+    assert!(rt; judges_by(rt.alloc(), &settings, &index));
+}
+
+/// Whether an archive that has room for one message refuses others, each by its first cause, and keeps the one.
+fn refuses_in_order(archive: &mut MemArchive) -> bool {
+    let _ = deliver(archive, FIRST);
+    let empty = answers_so(archive, b"", Some(Answer::NoFields));
+    let again = answers_so(archive, FIRST, Some(Answer::Duplicate(1)));
+    let full = answers_so(archive, RENAMED, Some(Answer::Full(1)));
+    let kept = archive.text(1) == Some(FIRST) && archive.text(2).is_none();
+    empty && again && full && kept
+}
+
+#[test]
+fn refusals_come_in_their_order(rt: HostRuntime) {
+    let Some(mut archive) = made(rt.alloc(), 1000, 1, false) else {
+        return assert!(rt; false);
+    };
+    assert!(rt; refuses_in_order(&mut archive));
 }
 
 #[test]
 fn a_mirror_takes_no_delivery(rt: HostRuntime) {
-    let Some(settings) = settings(1000, 1, true) else {
+    let Some(mut archive) = made(rt.alloc(), 1000, 1, true) else {
         return assert!(rt; false);
     };
-    let mut archive = MemArchive::new(rt.alloc(), settings);
-    assert!(rt; deliver(&mut archive, FIRST) == Answer::IsMirror);
+    assert!(rt; answers_so(&mut archive, FIRST, Some(Answer::IsMirror)));
+}
+
+/// An archive to which FIRST and RENAMED were delivered.
+fn with_two(alloc: Global, limit: u64) -> Option<MemArchive>
+    requires low { 1 ≤ limit }
+    requires high { limit ≤ 1099511627776 }
+{
+    let mut archive = made(alloc, limit, 10, false)?;
+    let _ = deliver(&mut archive, FIRST);
+    let _ = deliver(&mut archive, RENAMED);
+    Some(archive)
+}
+
+/// Whether an epoch has so many bytes, or no entry where None are asked.
+fn has_epoch(alloc: Global, archive: &MemArchive, epoch: u32, len: Option<usize>) -> bool {
+    let mut bytes = Bytes::new(alloc);
+    match archive.push_epoch(epoch, &mut bytes) {
+        Ok(true) => len == Some(bytes.as_slice().len()),
+        Ok(false) => len.is_none(),
+        Err(NoMemory) => false,
+    }
 }
 
 #[test]
 fn an_epoch_of_the_limit_takes_no_more(rt: HostRuntime) {
-    let Some(settings) = settings(316, 10, false) else {
+    let Some(archive) = with_two(rt.alloc(), 316) else {
         return assert!(rt; false);
     };
-    let mut archive = MemArchive::new(rt.alloc(), settings);
-    let _ = deliver(&mut archive, FIRST);
-    let _ = deliver(&mut archive, RENAMED);
-    assert!(rt; epoch_len(rt.alloc(), &archive, 0) == Some(316));
-    assert!(rt; epoch_len(rt.alloc(), &archive, 1) == Some(316));
-    assert!(rt; epoch_len(rt.alloc(), &archive, 2).is_none());
+    for (epoch, len) in [(0, Some(316)), (1, Some(316)), (2, None)] {
+        assert!(rt;
+            has_epoch(rt.alloc(), &archive, epoch, len),
+            "the epoch {epoch}"
+        );
+    }
 }
 
 #[test]
 fn an_epoch_below_the_limit_takes_one_more(rt: HostRuntime) {
-    let Some(settings) = settings(317, 10, false) else {
+    let Some(archive) = with_two(rt.alloc(), 317) else {
         return assert!(rt; false);
     };
-    let mut archive = MemArchive::new(rt.alloc(), settings);
-    let _ = deliver(&mut archive, FIRST);
-    let _ = deliver(&mut archive, RENAMED);
-    assert!(rt; epoch_len(rt.alloc(), &archive, 0) == Some(672));
-    assert!(rt; epoch_len(rt.alloc(), &archive, 1).is_none());
+    for (epoch, len) in [(0, Some(672)), (1, None)] {
+        assert!(rt;
+            has_epoch(rt.alloc(), &archive, epoch, len),
+            "the epoch {epoch}"
+        );
+    }
 }

@@ -1,23 +1,23 @@
-//! Why the text of an entry was not read.
+//! Why the text of an entry could not be read.
 use arch_base::{NoMemory, ObjectId};
 use disk_model::DiskFault;
 use thiserror::Error;
 
-/// Why the text of an entry was not read.
+/// The reason why the text of an entry could not be read.
 #[derive(Debug, Drop, PartialEq, Eq, Error)]
 pub enum TextRefusal {
     /// A call of the disk failed.
     #[error("the disk failed")]
     DiskFault,
-    /// What stands in the place of the text is another one.
+    /// The bytes in the text's place are not the text.
     #[error("the text is damaged")]
     Damaged {
-        /// The id of the blob that the entry has.
+        /// The id of the entry's blob.
         named: ObjectId,
-        /// The id of a blob with what stands there.
+        /// The id of a blob with the bytes that were found.
         found: ObjectId,
     },
-    /// Memory was wanted, and there was none.
+    /// An allocation failed.
     #[error("out of memory")]
     NoMemory,
 }

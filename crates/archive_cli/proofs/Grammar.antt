@@ -18,11 +18,11 @@ use Rattle.archive_cli.specs.declared.words.Setting.{Setting}
 use Rattle.archive_cli.specs.declared.words.Setting.TheVariants.{Limit, Slice, Max, Mirror}
 use Rattle.archive_cli.specs.declared.words.Settings.{Settings}
 
--- texts with other first bytes differ
+-- Texts with different first bytes differ.
 apart : (c d : ℕ) (x y : List ℕ) → c ≢ d → c ∷ x ≢ d ∷ y
 apart c d x y h e = h (ap (λ l. get_or l 0 0) e)
 
--- a word spells one setting at most
+-- A word spells at most one setting.
 pub same_setting : (g h : Setting) → IsSetting g → IsSetting h → setting_word g ≡ setting_word h → g ≡ h
 same_setting (Limit m) (Limit n) p q e = ap Limit (decimal_injective m n (omega (arith, p.1)) (omega (arith, q.1)) (ap (drop 6) e))
 same_setting (Limit m) Mirror p q e = absurd (apart 108 109 (codes "imit=" ++ decimal m) (codes "irror") (omega arith) e)
@@ -41,11 +41,11 @@ same_setting Mirror (Slice n) p q e = absurd (apart 109 115 (codes "irror") (cod
 same_setting Mirror (Max n) p q e = absurd (apart 105 97 (codes "rror") (codes "x=" ++ decimal n) (omega arith) (ap (drop 1) e))
 same_setting Mirror Mirror p q e = refl
 
--- two lists with the same first and the same behind it
+-- Lists with equal first items and equal rests are equal.
 grown : (f g : Setting) (gs rest : List Setting) → f ≡ g → gs ≡ rest → g ∷ gs ≡ f ∷ rest
 grown f g gs rest same behind = cc
 
--- so words spell one list of settings at most
+-- Words spell at most one list of settings.
 same_settings : (settings others : List Setting) → All IsSetting settings → All IsSetting others → map setting_word settings ≡ map setting_word others → settings ≡ others
 same_settings [] [] a b e = refl
 same_settings [] (h ∷ hs) a b e = absurd (cc e)
@@ -55,7 +55,7 @@ same_settings (g ∷ gs) (h ∷ hs) a b e =
     let behind : map setting_word gs ≡ map setting_word hs = cc e in
     grown h g gs hs (sym (same_setting g h (All-head IsSetting g gs a) (All-head IsSetting h hs b) spelling)) (same_settings gs hs (All-tail IsSetting g gs a) (All-tail IsSetting h hs b) behind)
 
--- settings that begin with other settings, and with one more behind them
+-- The settings are others in front, one more, and a rest.
 record Splits (front settings : List Setting) (word : List ℕ) : Type 0 where
   pub next : Setting
   pub later : List Setting
@@ -63,7 +63,7 @@ record Splits (front settings : List Setting) (word : List ℕ) : Type 0 where
   pub spelling : word ≡ setting_word next
   pub in_range : IsSetting next
 
--- they do, where their words begin with those of the others
+-- They are, if their words start with those of the front.
 splits : (front settings : List Setting) (word : List ℕ) (rest : List (List ℕ)) → All IsSetting front → All IsSetting settings → map setting_word front ++ word ∷ rest ≡ map setting_word settings → Splits front settings word
 splits [] [] word rest a b e = absurd (cc e)
 splits [] (g ∷ gs) word rest a b e = record { next = g; later = gs; split = refl; spelling = cc e; in_range = All-head IsSetting g gs b }
@@ -75,24 +75,24 @@ splits (f ∷ front) (g ∷ gs) word rest a b e =
     let s : Splits front gs word = splits front gs word rest (All-tail IsSetting f front a) (All-tail IsSetting g gs b) behind in
     record { next = s.next; later = s.later; split = grown f g gs (front ++ s.next ∷ s.later) same s.split; spelling = s.spelling; in_range = s.in_range }
 
--- what settings of a kind give, up to one setting more
+-- What settings of a kind give, with one more setting.
 given-more : {A : Type 0} (kind : Setting → List A) (front : List Setting) (g : Setting) (held : List A) → flat_map kind front ≡ held → flat_map kind (front ++ g ∷ []) ≡ held ++ kind g
 given-more kind front g held is = flat_map-append kind front (g ∷ []) ∙ ap (λ ns. ns ++ (kind g ++ [])) is ∙ ap (λ ns. held ++ ns) (append-nil (kind g))
 
--- and there are no fewer in all
+-- All settings give no fewer.
 given-le : {A : Type 0} (kind : Setting → List A) (front : List Setting) (g : Setting) (later : List Setting) (held : List A) → flat_map kind front ≡ held → length (held ++ kind g) ≤ length (flat_map kind (front ++ g ∷ later))
 given-le kind front g later held is =
     let all : flat_map kind (front ++ g ∷ later) ≡ held ++ (kind g ++ flat_map kind later) = flat_map-append kind front (g ∷ later) ∙ ap (λ ns. ns ++ (kind g ++ flat_map kind later)) is in
     omega (arith, ap length all, length-append held (kind g), length-append held (kind g ++ flat_map kind later), length-append (kind g) (flat_map kind later))
 
--- one of four kinds is given twice, and each is given at most once
+-- One of four kinds can't be given twice if each is given at most once.
 twice : {a b c d x y z w : ℕ} → (1 < a) ⊎ ((1 < b) ⊎ ((1 < c) ⊎ (1 < d))) → a ≤ x → b ≤ y → c ≤ z → d ≤ w → x ≤ 1 → y ≤ 1 → z ≤ 1 → w ≤ 1 → ⊥
 twice (inl p) e f g h i j k l = omega arith
 twice (inr (inl p)) e f g h i j k l = omega arith
 twice (inr (inr (inl p))) e f g h i j k l = omega arith
 twice (inr (inr (inr p))) e f g h i j k l = omega arith
 
--- the options up to some place were read
+-- The options before some index were read.
 pub record Reading (words rest : List (List ℕ)) (held : Settings) : Type 0 where
   pub settings : List Setting
   pub split : words ≡ map setting_word settings ++ rest
@@ -100,7 +100,7 @@ pub record Reading (words rest : List (List ℕ)) (held : Settings) : Type 0 whe
   pub holds : Holds settings held
 
 module _ (words : List (List ℕ)) (word : List ℕ) (rest : List (List ℕ)) (held : Settings) (r : Reading words (word ∷ rest) held) where
-  -- one option more
+  -- One more option.
   pub Reading-more : (g : Setting) (more : Settings) → IsSetting g → word ≡ setting_word g → HoldsMore held g more → Reading words rest more
   Reading-more g more h is m = record {
     settings = r.settings ++ g ∷ [];
@@ -121,11 +121,11 @@ module _ (words : List (List ℕ)) (word : List ℕ) (rest : List (List ℕ)) (h
   splits_at : (settings : List Setting) → words ≡ map setting_word settings → All IsSetting settings → Splits r.settings settings word
   splits_at settings is ranges = splits r.settings settings word rest r.ranges ranges (sym r.split ∙ is)
 
-  -- a word that is no setting
+  -- A word that is no setting.
   pub Reading-stuck : ((g : Setting) → IsSetting g → word ≢ setting_word g) → (settings : List Setting) → words ≡ map setting_word settings → All IsSetting settings → EachOnce settings → ⊥
   Reading-stuck none settings is ranges once = let s : Splits r.settings settings word = splits_at settings is ranges in none s.next s.in_range s.spelling
 
-  -- a second setting of a kind
+  -- A second setting of a kind.
   pub Reading-twice : (g : Setting) → IsSetting g → word ≡ setting_word g → HoldsTwo held g → (settings : List Setting) → words ≡ map setting_word settings → All IsSetting settings → EachOnce settings → ⊥
   Reading-twice g h spelling two settings is ranges once =
       let s : Splits r.settings settings word = splits_at settings is ranges in
@@ -138,15 +138,15 @@ module _ (words : List (List ℕ)) (word : List ℕ) (rest : List (List ℕ)) (h
       (subst (λ (k : List Setting). length (marks held.mirror ++ mirror_of g) ≤ length (mirrors k)) (sym split) (given-le mirror_of r.settings g s.later (marks held.mirror) r.holds.mirror_is))
       once.one_limit once.one_slice once.one_max once.one_mirror
 
--- the options from a place on
+-- The options from an index on.
 spelled-at : (options : List (Bor (List ℕ))) (i : ℕ) (d : Bor (List ℕ)) → i < length options → spelled (drop i options) ≡ (get_or options i d).now ∷ spelled (drop (i + 1) options)
 spelled-at options i d within = rw add-one (ap spelled (drop-cons options i d within))
 
--- what was read up to a place, and the option there
+-- What was read before an index, and the option there.
 pub Reading-at : (options : List (Bor (List ℕ))) (i : ℕ) (d : Bor (List ℕ)) (held : Settings) → i < length options → Reading (spelled options) (spelled (drop i options)) held → Reading (spelled options) ((get_or options i d).now ∷ spelled (drop (i + 1) options)) held
 Reading-at options i d held within r = subst (λ ws. Reading (spelled options) ws held) (spelled-at options i d within) r
 
--- settings of which the first mark is missing have no `mirror`
+-- Settings whose first mark is missing have no `mirror`.
 none_marked : (settings : List Setting) → mirror_in settings ≡ false → mirrors settings ≡ []
 none_marked [] e = refl
 none_marked (Limit n ∷ gs) e = none_marked gs e
@@ -154,26 +154,26 @@ none_marked (Slice n ∷ gs) e = none_marked gs e
 none_marked (Max n ∷ gs) e = none_marked gs e
 none_marked (Mirror ∷ gs) e = absurd (cc e)
 
--- whether settings make a mirror
+-- The settings of a mirror.
 mirror-made : (words : List (List ℕ)) (settings : List Setting) (config : Config) (b : Bool) → IsMade words settings config → config.mirror ≡ b → mirror_in settings ≡ b
 mirror-made words settings config b m e = sym (ap (λ (k : Config). k.mirror) m.config_is) ∙ e
 
--- settings that give no mark make no mirror
+-- Settings without a mark make no mirror.
 unmarked : (settings : List Setting) → mirrors settings ≡ [] → mirror_in settings ≡ true → ⊥
 unmarked settings none e = let plain : mirror_in settings ≡ false = ap (λ (ms : List Bool). get_or ms 0 false) none in absurd (cc (plain, e))
 
--- the same words make the same settings
+-- The same words give the same settings.
 same_made : (words : List (List ℕ)) (settings others : List Setting) (config other : Config) → IsMade words settings config → IsMade words others other → settings ≡ others
 same_made words settings others config other m n =
     let spelling : map setting_word settings ≡ map setting_word others = cc (m.is, n.is) in
     same_settings settings others m.ranges n.ranges spelling
 
 module _ (word name : List ℕ) (options : List (List ℕ)) where
-  -- a word and what makes an archive behind it
+  -- A word, and then the words that make an archive.
   behind_word : (command : List ℕ) (behind : List (List ℕ)) (settings : List Setting) (config : Config) → word ∷ name ∷ options ≡ command ∷ behind → IsMade behind settings config → IsMade (name ∷ options) settings config
   behind_word command behind settings config is m = subst (λ ws. IsMade ws settings config) (cc is) m
 
-  -- words that make no archive ask for no job
+  -- Words that make no archive ask for no job.
   pub not_made : ((settings : List Setting) (config : Config) → IsMade (name ∷ options) settings config → ⊥) → (job : Job) → AsksFor (word ∷ name ∷ options) job → ⊥
   not_made h Help e = cc e
   not_made h Version e = cc e
@@ -182,7 +182,7 @@ module _ (word name : List ℕ) (options : List (List ℕ)) where
   not_made h (Init config) i = h i.settings config (behind_word (codes "init") i.behind i.settings config i.is i.made)
   not_made h (Replay config) r = h r.settings config (behind_word (codes "replay") r.behind r.settings config r.is r.made)
 
-  -- nor do words of which the first is another
+  -- Words whose first is another ask for no job.
   pub other_word : word ≢ codes "init" → word ≢ codes "replay" → (job : Job) → AsksFor (word ∷ name ∷ options) job → ⊥
   other_word p q Help e = cc e
   other_word p q Version e = cc e
@@ -192,7 +192,7 @@ module _ (word name : List ℕ) (options : List (List ℕ)) where
   other_word p q (Replay config) r = q (cc r.is)
 
   module _ (config : Config) (is : word ≡ codes "replay") (made : (settings : List Setting) × IsMade (name ∷ options) settings config) where
-    -- `replay` and an archive that is no mirror
+    -- `replay` and an archive that is no mirror.
     pub replayed : config.mirror ≡ false → IsReplay (word ∷ name ∷ options) config
     replayed e = record {
       settings = made.0;
@@ -202,7 +202,7 @@ module _ (word name : List ℕ) (options : List (List ℕ)) where
       no_mirror = none_marked made.0 (mirror-made (name ∷ options) made.0 config false made.1 e);
     }
 
-    -- `replay` and a mirror
+    -- `replay` and a mirror.
     pub not_replayed : not config.mirror ≡ false → (job : Job) → AsksFor (word ∷ name ∷ options) job → ⊥
     not_replayed e Help f = cc f
     not_replayed e Version f = cc f
@@ -218,7 +218,7 @@ first-cons : (most default : ℕ) (ns ms : List ℕ) → IsUpTo most (get_or ns 
 first-cons most default [] ms p q = q
 first-cons most default (n ∷ ns) ms p q = p
 
--- the first number of a kind among settings in their ranges, or a default, is in a range
+-- The first number of a kind among settings in their ranges, or a default, is in a range.
 first-in : (kind : Setting → List ℕ) (most default : ℕ) → ((g : Setting) → IsSetting g → IsUpTo most (get_or (kind g) 0 default)) → IsUpTo most default
     → (settings : List Setting) → All IsSetting settings → IsUpTo most (get_or (flat_map kind settings) 0 default)
 first-in kind most default one d [] a = d
@@ -242,7 +242,7 @@ max-first (Slice n) h = (omega arith, omega arith)
 max-first (Max n) h = h
 max-first Mirror h = (omega arith, omega arith)
 
--- the settings of a made archive are in their ranges
+-- The settings of a made archive are in their ranges.
 made-config : (words : List (List ℕ)) (settings : List Setting) (config : Config) → IsMade words settings config → IsConfig config
 made-config words settings config m =
     let limit : IsUpTo 1099511627776 (limit_in settings) = first-in limit_of 1099511627776 1073741824 limit-first (omega arith, omega arith) settings m.ranges in

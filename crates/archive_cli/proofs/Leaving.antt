@@ -1,4 +1,4 @@
--- What a crash leaves while a command works on a disk, at whichever moment is the first to come.
+-- What a crash leaves while a command works on a disk, at any first moment to come.
 use Rattle.std.specs.Prelude.{◌≡◌, ℕ, List, take, Option, Some, None}
 use Rattle.std.proofs.Common.{subst, inl}
 use Rattle.arch_base.specs.declared.config.Config.{Config}
@@ -10,11 +10,11 @@ use Rattle.archive_cli.specs.Printing.{BytesLeave}
 use Rattle.archive_cli.specs.Program.{InitLeaves, DeliverLeaves, IsInput, message_limit}
 use Rattle.archive_cli.proofs.Printed.{some-moment, some-input}
 
--- before an archive is made
+-- Before an archive is made.
 pub init-first : (config : Config) (coming : Option Moments) (old : Option Content) (image : Files) → Image old image → InitLeaves config coming old image
 init-first config coming old image left = let some = some-moment coming in (some.0, some.1, inl left)
 
--- before a message is delivered
+-- Before a message is delivered.
 pub bytes-first : (may : List (Option Archive)) (bytes : List ℕ) (coming : Option Moments) (k : Option Content) (image : Files) → AllRecoverOf may k → Image k image → BytesLeave may bytes coming image
 bytes-first may bytes coming None image all left = absurd all
 bytes-first may bytes coming (Some k) image all left = let some = some-moment coming in (some.0, some.1, inl (all image left))
@@ -23,7 +23,7 @@ pub deliver-first : (may : List (Option Archive)) (left : Option (List ℕ)) (co
 deliver-first may left coming None image all there = absurd all
 deliver-first may left coming (Some k) image all there = let input = some-input left in let some = some-moment coming in (input.0, input.1, (some.0, some.1, inl (all image there)))
 
--- a message that is the front of the input
+-- A message that is the front of the input.
 pub deliver-bytes : (may : List (Option Archive)) (left : Option (List ℕ)) (bytes : List ℕ) (coming : Option Moments) (image : Files) → (input : List ℕ) × IsInput left input × (bytes ≡ take message_limit input) → BytesLeave may bytes coming image → DeliverLeaves may left coming image
 deliver-bytes may left bytes coming image front leaves =
     (front.0, front.1, subst (λ (b : List ℕ). BytesLeave may b coming image) front.2 leaves)

@@ -1,4 +1,4 @@
--- What `deliver` and `check` come to by the calls below them.
+-- What `deliver` and `check` do, by the calls below them.
 use Rattle.std.specs.Prelude.{◌≡◌, ◌+◌, ◌<◌, ◌^◌, ℕ, List, [], length, Option, Some, None, Ok, refl}
 use Rattle.std.specs.List.{Contains}
 use Rattle.std.proofs.Common.{◌∙◌, ap, inl, inr}
@@ -22,28 +22,28 @@ use Rattle.archive_core.proofs.Counting.{stored_length}
 use Rattle.archive_cli.specs.DiskCommands.{HasRoom, Answers, DeliversTo, ChecksTo, RecoversBehind}
 use Rattle.archive_cli.specs.declared.outcome.Outcome.TheVariants.{Checked, Unopened}
 
--- what a refusal of the opening leaves of an archive that a message was for
+-- What a refusal to open leaves of an archive that a message was for.
 pub unopened-delivers : (a : Archive) (bytes : List ℕ) (moment : ℕ) (why : OpenRefusal) (old new : Option Content) → ReadsAs a old → IsWant why → LeavesKindly why old new → DeliversTo a bytes moment (Unopened why) new
 unopened-delivers a bytes moment refusal.NoArchive old new reads want kind = absurd want
 unopened-delivers a bytes moment (refusal.Damaged file at) old new reads want kind = absurd want
 unopened-delivers a bytes moment refusal.DiskFault old new reads want kind = tt
 unopened-delivers a bytes moment refusal.NoMemory old new reads want kind = kind a reads
 
--- and of one that was to be checked
+-- What a refusal to open leaves of an archive that was to be checked.
 pub unopened-checks : (a : Archive) (why : OpenRefusal) (old new : Option Content) → ReadsAs a old → IsWant why → LeavesKindly why old new → ChecksTo a (Unopened why) new
 unopened-checks a refusal.NoArchive old new reads want kind = absurd want
 unopened-checks a (refusal.Damaged file at) old new reads want kind = absurd want
 unopened-checks a refusal.DiskFault old new reads want kind = tt
 unopened-checks a refusal.NoMemory old new reads want kind = kind a reads
 
--- what is counted of a store is its archive's
+-- The counts of a store are those of its archive.
 pub opened-checks : (v : View) (a : Archive) (content : Option Content) (entries live next : ℕ) → IsStoreOf v a content → entries ≡ length v.entries → ((b : Archive) → Keeps v b → live ≡ length b.entries) → next ≡ v.root.next
     → ChecksTo a (Checked entries live next) content
 opened-checks v a None entries live next store count lives following = absurd store
 opened-checks v a (Some k) entries live next store count lives following =
     (count ∙ (ap (λ (es : List StoredEntry). length es) store.keeps.kept ∙ stored_length [] a.entries), lives a store.keeps, following ∙ store.keeps.names.next, (v, store))
 
--- what a command is answered on an open archive is answered on the disk
+-- The answer of an open archive is the answer on the disk.
 pub done-answers : (v : View) (a : Archive) (wanted : Done) (reply : Answer) (content : Option Content) → DoneBy v a wanted reply content → Answers a wanted reply content
 done-answers v a wanted answer.NoMemory content done = (v, done)
 done-answers v a wanted answer.DiskFault content done = tt
@@ -58,7 +58,7 @@ done-answers v a wanted (answer.NotLive number) content done = absurd done
 done-answers v a wanted (answer.NoText number) content done = absurd done
 done-answers v a wanted (answer.Damaged file at) content done = absurd done
 
--- what is opened reads as one of the archives that a crash may leave
+-- What is opened reads as one of the archives that a crash may leave.
 pub opened-reads : (may : List (Option Archive)) (v : View) (k : Option Content) → ReadsFit k → AllRecoverOf may k → WhereTold (λ c. Opens (as_read c) (Ok v)) k → (a : Archive) × Contains may (Some a) × ReadsAs a k
 opened-reads may v None fit all opens = absurd all
 opened-reads may v (Some k) fit all opens = of_one (all (as_read k) (λ name. fit k refl name)) where
@@ -66,12 +66,12 @@ opened-reads may v (Some k) fit all opens = of_one (all (as_read k) (λ name. fi
   of_one (None, in_may, shut) = absurd (slot_not_shut (as_read k root_name) v.slot (spelling v.root) opens.root.current shut)
   of_one (Some a, in_may, recovers) = (a, in_may, recovers)
 
--- and has room for a next root
+-- What is opened has room for a next root.
 pub opened-room : (v : View) (a : Archive) (k : Option Content) → ReadsAs a k → HasRoom k → WhereTold (λ c. Opens (as_read c) (Ok v)) k → v.root.sequence + 1 < 2 ^ 64
 opened-room v a None reads room opens = absurd reads
 opened-room v a (Some k) reads room opens = room v.root v.slot opens.root
 
--- the archive before a command, or behind it
+-- The archive before a command, or the one after it.
 pub either-behind : (may : List (Option Archive)) (a : Archive) (bytes : List ℕ) (moment : ℕ) (image : Files) → Contains may (Some a) → RecoversEither a (delivered a bytes moment).archive image → RecoversBehind may bytes moment image
 either-behind may a bytes moment image in_may (inl before) = inl (Some a, in_may, before)
 either-behind may a bytes moment image in_may (inr after) = inr (a, in_may, after)

@@ -15,17 +15,17 @@ use Rattle.edge_io.specs.declared.events.What.TheVariants.{Opened, Bytes, Ended,
 use Rattle.archive_cli.specs.Turns.{World, waiting_if, Turned, TurnedBy, CameTo, FedTo, Transcript, Turn, plain_turn, plain_piece, plain_transcript, framed, said_turn}
 use Rattle.archive_cli.specs.Laws.{PlainIsTranscript}
 
--- whether a session was opened
+-- The archive was reopened since the session's last request.
 abbrev flag_of : Option Waiting → Bool
 flag_of None = false
 flag_of (Some w) = w.opened
 
--- a session is its bytes and that
+-- A session is its bytes and that flag.
 session_back : (h : Option Waiting) → h ≡ waiting_if (bytes_of h) (flag_of h)
 session_back None = refl
 session_back (Some w) = refl
 
--- a piece by the rules is a course of its session
+-- A piece by the rules is a course of its session.
 fed_plain : (moment : ℕ) (held piece : List ℕ) (w : World) → FedTo moment held piece w (said_turn (plain (said moment) has_request left w.standing (waiting (held ++ piece) true))).bytes (said_turn (plain (said moment) has_request left w.standing (waiting (held ++ piece) true))).closed (said_turn (plain (said moment) has_request left w.standing (waiting (held ++ piece) true))).after
 fed_plain moment held piece w =
     let laws : DoorLaws (said moment) has_request with_piece left = control_laws.door moment in
@@ -47,7 +47,7 @@ plain_turned (Ended conn) moment piece w = record { silent = record { bytes_is =
 plain_turned Quiet moment piece w = record { silent = record { bytes_is = refl; closed_is = refl }; same = refl }
 plain_turned Stop moment piece w = record { silent = record { bytes_is = refl; closed_is = refl }; same = refl }
 
--- what the plain function prints is a transcript
+-- What the plain function prints is a transcript.
 pub plain-transcript : PlainIsTranscript
 plain-transcript [] w = (refl, refl)
 plain-transcript (e ∷ es) w =

@@ -20,7 +20,7 @@ use Rattle.archive_cli.specs.Plays.{Played, Shows, Prints, PrintsPiece, PlaysSom
 use Rattle.archive_cli.specs.Program.{start}
 use Rattle.archive_cli.proofs.Transcripts.{Transcript-more}
 
--- what stands from a place on
+-- The events from an index on.
 pub drop-at : (arrivals : List Arrival) (i : ℕ) (e : Event) → event_at arrivals i ≡ Some e → drop i arrivals ≡ (e, piece_at arrivals i) ∷ drop (i + 1) arrivals
 drop-at [] i e h = absurd (cc h)
 drop-at (a ∷ arrivals) zero e h = let same : a.0 ≡ e = cc in ap (λ (x : Event). (x, a.1) ∷ arrivals) same
@@ -31,9 +31,9 @@ drop-past [] i h = drop_all i [] (omega arith)
 drop-past (a ∷ arrivals) zero h = absurd (cc h)
 drop-past (a ∷ arrivals) (suc i) h = drop-past arrivals i h
 
--- a keeper of archives
+-- A keeper.
 module _ {K : Type 0} (holds : K → Archive → Type 0) (stale : K → Bool) (clock : K → ℕ) (leaves : K → ℕ → List (Option Archive) → Type 0) (faults : K → ℕ) where
-  -- the events before this place were turned, and none of them stops
+  -- The events before this index were played, and none of them is a stop.
   pub record Playing (arrivals : List Arrival) (w : World) (index : ℕ) (frames : List ℕ) (p : Played K) : Type 0 where
     pub after : World
     pub shows : Shows holds stale clock leaves faults p after
@@ -41,12 +41,12 @@ module _ {K : Type 0} (holds : K → Archive → Type 0) (stale : K → Bool) (c
     pub transcript : Transcript first w frames after
     pub split : before_stop arrivals ≡ first ++ before_stop (drop index arrivals)
 
-  -- before the first
+  -- Before the first event.
   pub Playing-none : (arrivals : List Arrival) (w : World) (frames : List ℕ) (p : Played K) → Shows holds stale clock leaves faults p w → frames ≡ [] → Playing arrivals w 0 frames p
   Playing-none arrivals w frames p shows none = record { after = w; shows = shows; first = []; transcript = (none, refl); split = refl }
 
   module _ (arrivals : List Arrival) (w : World) (index : ℕ) (frames : List ℕ) (p : Played K) (now : Playing arrivals w index frames p) where
-    -- one more event
+    -- After one more event.
     pub Playing-more : (e : Event) (new : List ℕ) (q : Played K) → event_at arrivals index ≡ Some e → is_stop e.what ≡ false → Prints holds stale clock leaves faults (e, piece_at arrivals index) now.after frames q new → Playing arrivals w (index + 1) new q
     Playing-more e new q at goes prints = record {
       after = prints.after;
@@ -68,28 +68,29 @@ module _ {K : Type 0} (holds : K → Archive → Type 0) (stale : K → Bool) (c
       transcript = subst (λ (es : List Arrival). Transcript es w frames now.after) (sym (now.split ∙ ap (λ (es : List Arrival). now.first ++ es) none ∙ append-nil now.first)) now.transcript;
     }
 
-    -- behind the last
+    -- After the last event.
     pub Playing-end : event_at arrivals index ≡ None → PlaysAll (before_stop arrivals) w frames
     Playing-end at = all_of (ap before_stop (drop-past arrivals index at))
 
-    -- at a stop
+    -- At a stop.
     pub Playing-stop : (e : Event) → event_at arrivals index ≡ Some e → is_stop e.what ≡ true → PlaysAll (before_stop arrivals) w frames
     Playing-stop e at stops = all_of (ap before_stop (drop-at arrivals index e at) ∙ ap (λ b. kept_unless b (e, piece_at arrivals index) (before_stop (drop (index + 1) arrivals))) stops)
 
-    -- where it ends early
+    -- If the play ends early.
     pub Playing-some : (new : List ℕ) → new ≡ frames → PlaysSome (before_stop arrivals) w new
     Playing-some new same = record { first = now.first; more = before_stop (drop index arrivals); split = now.split; after = now.after; transcript = subst (λ o. Transcript now.first w o now.after) (sym same) now.transcript }
 
-  -- one that holds an archive without entries, and hasn't failed, stands as a script begins
+  -- A keeper that holds an archive without entries, and whose disk hasn't failed, fits the start of
+  -- a script.
   pub shows-start : (k : K) (config : Config) → holds k (empty_archive config) → stale k ≡ false → leaves k (clock k) (one_of (standing (empty_archive config) None)) → faults k ≡ 0
       → Shows holds stale clock leaves faults (record { session = None; keep = k }) (start config)
   shows-start k config held ready left unfailed = record { session_is = refl; fits = record { ready = λ r. (held, refl); left = left }; unfailed = unfailed }
 
-  -- an event that changes the session alone, and writes nothing
+  -- An event that changes only the session, and writes nothing.
   pub prints-silent : (event : Event) (piece : List ℕ) (w v : World) (old : List ℕ) (q : Played K) → Shows holds stale clock leaves faults q v → Turned (event, piece) w [] v → Prints holds stale clock leaves faults (event, piece) w old q old
   prints-silent event piece w v old q shows turned = record { after = v; shows = shows; printed = []; turned = turned; frames = sym (append-nil old) }
 
-  -- the keeper that stands as a world does, and a session
+  -- A keeper that fits a world, with another session.
   pub shows-session : (p q : Played K) (w : World) (session : Option (List ℕ)) → Shows holds stale clock leaves faults p w → q.keep ≡ p.keep → session ≡ q.session → Shows holds stale clock leaves faults q (world session w.standing)
   shows-session p q w session shows kept is = record {
     session_is = is;
@@ -97,7 +98,7 @@ module _ {K : Type 0} (holds : K → Archive → Type 0) (stale : K → Bool) (c
     unfailed = ap faults kept ∙ shows.unfailed;
   }
 
-  -- a piece without a session
+  -- A piece without a session.
   pub prints-passed : (conn moment : ℕ) (piece : List ℕ) (p q : Played K) (w : World) (old : List ℕ) → Shows holds stale clock leaves faults p w → p.session ≡ None → q.session ≡ None → q.keep ≡ p.keep → PrintsPiece holds stale clock leaves faults conn moment piece w old q old
   prints-passed conn moment piece p q w old shows none gone kept = record {
     after = w;
@@ -108,7 +109,7 @@ module _ {K : Type 0} (holds : K → Archive → Type 0) (stale : K → Bool) (c
     frames = sym (append-nil old);
   }
 
-  -- what a piece that came to a session leaves, where the disk didn't fail
+  -- What a piece leaves that came to a session, if the disk didn't fail.
   pub prints-fed : (conn moment : ℕ) (piece held : List ℕ) (p q : Played K) (w : World) (old new bytes : List ℕ) (t : Standing) (opened closed : Bool) →
       Shows holds stale clock leaves faults p w → p.session ≡ Some held → closed ≡ is_none q.session → Fits holds stale clock leaves q.keep t → faults q.keep ≡ 0
       → Fed (said moment) has_request (talk (Some (waiting (held ++ piece) true)) w.standing (outside (Some []) 0 0)) (talk (waiting_if q.session opened) t (outside (Some bytes) 0 0))
@@ -122,7 +123,7 @@ module _ {K : Type 0} (holds : K → Archive → Type 0) (stale : K → Bool) (c
     frames = frames;
   }
 
-  -- what a session makes of a piece: see `feed`
+  -- What a session does with a piece: see `feed`.
   abbrev pub Feeds : ℕ → List ℕ → List ℕ → K → List ℕ → ℕ → Bool → List ℕ → K → List ℕ → ℕ → Type 0
   Feeds moment held piece old taken lost goes_on session new bytes lost' =
       (s : Standing) → Fits holds stale clock leaves old s
@@ -132,31 +133,31 @@ module _ {K : Type 0} (holds : K → Archive → Type 0) (stale : K → Bool) (c
   module _ (conn moment : ℕ) (piece held : List ℕ) (p : Played K) (w : World) (old new taken bytes session : List ℕ) (lost lost' : ℕ) (keep : K) (goes_on : Bool)
       (shows : Shows holds stale clock leaves faults p w) (there : p.session ≡ Some held) (none : taken ≡ []) (unlost : lost ≡ 0) (fed : Feeds moment held piece p.keep taken lost goes_on session keep bytes lost')
       (unfailed : faults keep ≡ 0) (whole : lost' ≡ 0) where
-    -- the session goes on
+    -- The session continues.
     pub piece-goes_on : goes_on ≡ true → new ≡ old ++ frame conn bytes false → PrintsPiece holds stale clock leaves faults conn moment piece w old (record { session = Some session; keep = keep }) new
     piece-goes_on goes frames =
         let f = fed w.standing shows.fits in
         prints-fed conn moment piece held p (record { session = Some session; keep = keep }) w old new bytes f.0 f.1 false shows there refl f.2 unfailed (rw (none, shows.unfailed, unlost, goes, unfailed, whole) at f.3) frames
 
-    -- the session is closed
+    -- The session is closed.
     pub piece-closes : goes_on ≡ false → (session_left : Option (List ℕ)) → session_left ≡ None → new ≡ old ++ frame conn bytes true → PrintsPiece holds stale clock leaves faults conn moment piece w old (record { session = session_left; keep = keep }) new
     piece-closes goes session_left gone frames =
         let f = fed w.standing shows.fits in
         subst (λ (s : Option (List ℕ)). PrintsPiece holds stale clock leaves faults conn moment piece w old (record { session = s; keep = keep }) new) (sym gone)
         (prints-fed conn moment piece held p (record { session = None; keep = keep }) w old new bytes f.0 f.1 true shows there refl f.2 unfailed (rw (none, shows.unfailed, unlost, goes, unfailed, whole) at f.3) frames)
 
--- three facts of an answer that is Ok give a fourth
+-- Three facts of a result that is Ok imply a fourth.
 pub on_ok-three : {T E P Q R S : Type 0} (answer : Result T E) → (P → Q → R → S) → OnOk answer P → OnOk answer Q → OnOk answer R → OnOk answer S
 on_ok-three (Ok x) f p q r = f p q r
 on_ok-three (Err e) f p q r = tt
 
--- an event stands within the script
+-- An event is within the script.
 pub within-at : (arrivals : List Arrival) (i : ℕ) (e : Event) → event_at arrivals i ≡ Some e → i < length arrivals
 within-at [] i e h = absurd (cc h)
 within-at (a ∷ arrivals) zero e h = omega arith
 within-at (a ∷ arrivals) (suc i) e h = omega (arith, within-at arrivals i e h)
 
--- the moment of an event of a script
+-- The moment of an event of a script.
 pub moment-at : (arrivals : List Arrival) (i : ℕ) (e : Event) → All IsArrival arrivals → event_at arrivals i ≡ Some e → e.moment ≤ last_moment
 moment-at [] i e all h = absurd (cc h)
 moment-at (a ∷ arrivals) zero e all h = let same : a.0 ≡ e = cc in subst (λ (x : Event). x.moment ≤ last_moment) same (All-head IsArrival a arrivals all).in_range.moment

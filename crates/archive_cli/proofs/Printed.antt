@@ -1,4 +1,4 @@
--- What is printed of what is due.
+-- How what is due is printed.
 use Rattle.std.proofs.Common.{◌≡◌, ◌≤◌, ◌<◌, inl, inr, ℕ, Bool, true, false, List, [], ◌++◌, length, take, codes, decimal, Option, Some, None, Err, refl, sym, ◌∙◌, ap, subst, append_assoc, arith, length-append, if◌then◌else◌}
 use Rattle.arch_base.specs.declared.config.Config.{Config}
 use Rattle.edge_io.specs.Left.{before, IsUsedUp}
@@ -23,19 +23,19 @@ use Rattle.archive_cli.specs.declared.words.Job.{Job}
 use Rattle.archive_cli.specs.declared.words.Job.TheVariants.{Replay, Init, Deliver, Check}
 
 module _ (out : Option (List ℕ)) (lost : ℕ) (out' : Option (List ℕ)) (lost' : ℕ) where
-  -- what is due by one rule is due by another
+  -- What is due by one rule is due by another.
   pub printed-as : (due other : ℕ → List ℕ → Type 0) (status : ℕ) → Printed due status out lost out' lost' → ((s : ℕ) (words : List ℕ) → due s words → other s words) → Printed other status out lost out' lost'
   printed-as due other status p f = record { due_status = p.due_status; words = p.words; is_due = f p.due_status p.words p.is_due; whole = p.whole; said = p.said; status_is = p.status_is }
 
-  -- the same words, written otherwise
+  -- The same words, written otherwise.
   pub printed-same : (words others : List ℕ) (code status : ℕ) → words ≡ others → Printed (Exactly words code) status out lost out' lost' → Printed (Exactly others code) status out lost out' lost'
   printed-same words others code status same p = printed-as (Exactly words code) (Exactly others code) status p (λ s w e. record { status_is = e.status_is; words_is = e.words_is ∙ same })
 
-  -- the first of two pieces was lost
+  -- The first of two slices was lost.
   pub printed-first : (first second : List ℕ) (code : ℕ) → Says first out lost out' lost' false → Printed (Exactly (first ++ second) code) 6 out lost out' lost'
   printed-first first second code said = record { due_status = code; words = first ++ second; is_due = record { status_is = refl; words_is = refl }; whole = false; said = Says-first first second out out' lost lost' said; status_is = refl }
 
--- one piece, and then what is printed
+-- One slice, and then what is printed.
 pub printed-then : (first second : List ℕ) (code status : ℕ) (out middle out' : Option (List ℕ)) (lost between lost' : ℕ) → Says first out lost middle between true → Printed (Exactly second code) status middle between out' lost' → Printed (Exactly (first ++ second) code) status out lost out' lost'
 printed-then first second code status out middle out' lost between lost' said p = record {
   due_status = code;
@@ -46,43 +46,43 @@ printed-then first second code status out middle out' lost between lost' said p 
   status_is = p.status_is ∙ ap (λ s. if p.whole then s else 6) p.is_due.status_is;
 }
 
--- a script that is bad
+-- A script that is bad.
 pub due-bad : (config : Config) (text : List ℕ) (event : ℕ) → length text ≤ input_limit → IsBad event text → (s : ℕ) (words : List ℕ) → Exactly (line (codes "bad script " ++ decimal event)) 9 s words → IsReplayDue config text s words
 due-bad config text event short bad s words e = inl (inr (inl (record { short = short; event = event; bad = bad; status_is = e.status_is; printed_is = e.words_is })))
 
--- a script for which there is no memory
+-- A script that runs out of memory at once.
 pub due-none : (config : Config) (text : List ℕ) (s : ℕ) (words : List ℕ) → Exactly (line (codes "12 no memory")) 7 s words → IsReplayDue config text s words
 due-none config text s words e = inr (record { status_is = e.status_is; frames = []; played = inl refl; printed_is = e.words_is })
 
--- a script whose events were turned
+-- A script whose events were played.
 pub due-played : (config : Config) (text frames : List ℕ) (arrivals : List Arrival) (after : World) → length text ≤ input_limit → IsScript arrivals text → Transcript (before_stop arrivals) (start config) frames after → (s : ℕ) (words : List ℕ) → Exactly frames 0 s words → IsReplayDue config text s words
 due-played config text frames arrivals after short script played s words e =
     inl (inr (inr (record { short = short; arrivals = arrivals; script = script; after = after; status_is = e.status_is; transcript = subst (λ w. Transcript (before_stop arrivals) (start config) w after) (sym e.words_is) played })))
 
--- a script some of whose events were turned
+-- A script some of whose events were played.
 pub due-part : (config : Config) (text frames : List ℕ) (arrivals : List Arrival) → length text ≤ input_limit → IsScript arrivals text → PlaysSome (before_stop arrivals) (start config) frames → (s : ℕ) (words : List ℕ) → Exactly (frames ++ line (codes "12 no memory")) 7 s words → IsReplayDue config text s words
 due-part config text frames arrivals short script played s words e = inr (record { status_is = e.status_is; frames = frames; played = inr (record { short = short; arrivals = arrivals; script = script; played = played }); printed_is = e.words_is })
 
--- an input that is too long
+-- An input that is too long.
 pub due-long : (config : Config) (input : List ℕ) → input_limit < length input → (s : ℕ) (words : List ℕ) → Exactly (line (codes "script too long")) 9 s words → IsReplayDue config input s words
 due-long config input long s words e = inl (inl (record { long = long; status_is = e.status_is; printed_is = e.words_is }))
 
--- there is some input
+-- There is some input.
 pub some-input : (left : Option (List ℕ)) → (input : List ℕ) × IsInput left input
 some-input None = ([], tt)
 some-input (Some bytes) = (bytes, refl)
 
--- what was read of an input that is used up is all of it
+-- What was read of an input with no bytes left is all of it.
 pub input-whole : (left now : Option (List ℕ)) (bytes : List ℕ) → left ≡ before bytes now → IsUsedUp now → IsInput left bytes
 input-whole left None bytes is used = rw is tt
 input-whole left (Some more) bytes is used = rw (is, used) (append-nil bytes)
 
--- an input of which much was read
+-- An input of which more than the limit was read.
 pub input-long : (left now : Option (List ℕ)) (bytes : List ℕ) (limit : ℕ) → left ≡ before bytes now → limit < length bytes → (input : List ℕ) × IsInput left input × (limit < length input)
 input-long left None bytes limit is long = (bytes, rw is tt, long)
 input-long left (Some more) bytes limit is long = (bytes ++ more, rw is refl, omega (arith, length-append bytes more, long))
 
--- bytes that were read, and then more of them
+-- Bytes that were read, and then more of them.
 pub before-before : (left now later : Option (List ℕ)) (bytes more : List ℕ) → left ≡ before bytes now → now ≡ before more later → left ≡ before (bytes ++ more) later
 before-before left now None bytes more is next = is ∙ ap (before bytes) next
 before-before left now (Some rest) bytes more is next = is ∙ ap (before bytes) next ∙ ap Some (sym (append_assoc bytes more rest))
@@ -93,11 +93,11 @@ ran_by words input status i j due_status printed true told due said is =
 ran_by words input status i j due_status printed false told due said is =
     inr (inr (inr (record { status_is = is; rose = said.1; input = input; told = told; due_status = due_status; printed = printed; due = due; count = said.2.0; taken_is = said.2.1 })))
 
--- what was printed of what is due is a run
+-- What was printed of what is due is a run.
 pub ran-printed : (words : List (List ℕ)) (input : List ℕ) (status : ℕ) (i j : Edges) (due : ℕ → List ℕ → Type 0) → IsInput i.left input → ((s : ℕ) (printed : List ℕ) → due s printed → IsDue words input i j s printed) → Printed due status i.taken i.lost j.taken j.lost → Ran words status i j
 ran-printed words input status i j due told f p = ran_by words input status i j p.due_status p.words p.whole told (f p.due_status p.words p.is_due) p.said p.status_is
 
--- words that end with exactly these bytes, whatever the input
+-- Words that print exactly these bytes, whatever the input.
 pub ran-exactly : (words : List (List ℕ)) (job : Option Job) (text : List ℕ) (code status : ℕ) (i j : Edges) → IsJob words job → ((input : List ℕ) → Ends job input i j code text) → Printed (Exactly text code) status i.taken i.lost j.taken j.lost → Ran words status i j
 ran-exactly words job text code status i j asked ends p =
     let given = some-input i.left in
@@ -107,12 +107,12 @@ due_job : (words : List (List ℕ)) (config : Config) (input : List ℕ) (i j : 
 due_job words config input i j s printed asked (inl replays) = inl (record { job = Some (Replay config); asked = asked; ends = replays })
 due_job words config input i j s printed asked (inr short) = inr (inl (record { config = config; asked = asked; stops = short }))
 
--- a script that was run is a run
+-- A script that was run is a run.
 pub ran-replayed : (words : List (List ℕ)) (config : Config) (status : ℕ) (i j : Edges) → AsksFor words (Replay config) → Replayed config status i j → j.content ≡ i.content → Ran words status i j
 ran-replayed words config status i j asked (inl r) kept = ran-printed words r.0 status i j (IsReplayDue config r.0) r.1 (λ s printed due. due_job words config r.0 i j s printed asked due) r.2
 ran-replayed words config status i j asked (inr r) kept = inr (inl (record { asked = inl (config, asked); rose = r.1; silent = record { status_is = r.0; taken_is = r.2; lost_kept = r.3; kept = kept } }))
 
--- an archive that was to be made is a run
+-- An archive that was to be made is a run.
 pub ran-made : (words : List (List ℕ)) (config : Config) (status : ℕ) (i j : Edges) → AsksFor words (Init config) → JobDone (Init config) [] status i j → Ran words status i j
 ran-made words config status i j asked (inl p) =
     let given = some-input i.left in
@@ -120,7 +120,7 @@ ran-made words config status i j asked (inl p) =
     (λ s printed due. inl (record { job = Some (Init config); asked = asked; ends = record { outcome = due.outcome; acts = record { moment = due.acts.moment; first = due.acts.first; acts = due.acts.acts; fault = due.acts.fault }; status_is = due.status_is; printed_is = due.printed_is } })) p
 ran-made words config status i j asked (inr missed) = inr (inr (inl (record { asked = inl (config, asked); rose = missed.1; silent = missed.0 })))
 
--- and so is a message that was to be delivered
+-- A message that was to be delivered is a run.
 pub ran-delivered : (words : List (List ℕ)) (status : ℕ) (i j : Edges) → AsksFor words Deliver → InputDone status i j → Ran words status i j
 ran-delivered words status i j asked (inl (input, told, inl p)) =
     ran-printed words input status i j (IsOutcomeDue Deliver input i j) told (λ s printed due. inl (record { job = Some Deliver; asked = asked; ends = due })) p
@@ -130,20 +130,20 @@ ran-delivered words status i j asked (inr (inl p)) =
     ran-printed words given.0 status i j (IsUnread i j) given.1 (λ s printed unread. inr (inr (record { asked = asked; status_is = unread.status_is; printed_is = unread.printed_is; kept = unread.kept }))) p
 ran-delivered words status i j asked (inr (inr failed)) = inr (inl (record { asked = inr asked; rose = failed.1; silent = failed.0 }))
 
--- and a check
+-- A check is a run.
 pub ran-checked : (words : List (List ℕ)) (status : ℕ) (i j : Edges) (o : Outcome) → AsksFor words Check → ((input : List ℕ) → Acts Check input i j o) → Printed (Exactly (line (outcome_line o)) (status_of o)) status i.taken i.lost j.taken j.lost → Ran words status i j
 ran-checked words status i j o asked acts p =
     let given = some-input i.left in
     ran-printed words given.0 status i j (Exactly (line (outcome_line o)) (status_of o)) given.1
     (λ s printed e. inl (record { job = Some Check; asked = asked; ends = record { outcome = o; acts = acts given.0; status_is = e.status_is; printed_is = e.words_is } })) p
 
--- what was printed of an outcome is due by it
+-- What was printed of an outcome is due by it.
 pub outcome-due : (job : Job) (input : List ℕ) (status : ℕ) (i j : Edges) (o : Outcome) → Acts job input i j o → Printed (Exactly (line (outcome_line o)) (status_of o)) status i.taken i.lost j.taken j.lost → Printed (IsOutcomeDue job input i j) status i.taken i.lost j.taken j.lost
 outcome-due job input status i j o acts p =
     printed-as i.taken i.lost j.taken j.lost (Exactly (line (outcome_line o)) (status_of o)) (IsOutcomeDue job input i j) status p
     (λ s words e. record { outcome = o; acts = acts; status_is = e.status_is; printed_is = e.words_is })
 
--- what is done of a job over the disk doesn't hang on the input's end
+-- A job over the disk does not depend on the end of the input.
 pub job-moved : (job : Job) (input : List ℕ) (status : ℕ) (left left' : Option (List ℕ)) (unread unread' : ℕ) (taken taken' : Option (List ℕ)) (lost lost' : ℕ) (coming coming' : Option Moments) (missed missed' : ℕ) (content content' : Option Content) (broken broken' : ℕ)
     → JobDone job input status (all_edges None 0 taken lost coming missed content broken) (all_edges None 0 taken' lost' coming' missed' content' broken')
     → JobDone job input status (all_edges left unread taken lost coming missed content broken) (all_edges left' unread' taken' lost' coming' missed' content' broken')
@@ -157,36 +157,36 @@ job-moved job input status left left' unread unread' taken taken' lost lost' com
 job-moved job input status left left' unread unread' taken taken' lost lost' coming coming' missed missed' content content' broken broken' (inr m) =
     inr (record { status_is = m.0.status_is; taken_is = m.0.taken_is; lost_kept = m.0.lost_kept; kept = m.0.kept }, m.1)
 
--- the line for want of memory is due where a message wasn't read
+-- The line for out of memory is due if a message wasn't read.
 pub unread-due : (status : ℕ) (i j : Edges) (out : Option (List ℕ)) (lost : ℕ) (out' : Option (List ℕ)) (lost' : ℕ) → j.content ≡ i.content → Printed (Exactly (line (codes "12 no memory")) 7) status out lost out' lost' → Printed (IsUnread i j) status out lost out' lost'
 unread-due status i j out lost out' lost' kept p =
     printed-as out lost out' lost' (Exactly (line (codes "12 no memory")) 7) (IsUnread i j) status p (λ s words e. record { status_is = e.status_is; printed_is = e.words_is; kept = kept })
 
--- some moment is the first to come
+-- Some moment is the first to come.
 pub some-moment : (coming : Option Moments) → (moment : ℕ) × IsFirst moment coming
 some-moment None = (0, tt)
 some-moment (Some moments) = (moments.next, refl)
 
--- what a read that was refused took of the input, behind what was taken before
+-- What a refused read took of the input, after what was taken before.
 pub took-refused : (most : ℕ) (refused : InputRefusal) (start left left' : Option (List ℕ)) (bytes bytes' : List ℕ) (faults faults' : ℕ) → IsPieceRead most (Err refused) left left' bytes bytes' faults faults' → start ≡ before bytes left → length bytes < most → TookAtMost most start left'
 took-refused most Fault start left left' bytes bytes' faults faults' h read few = record { bytes = bytes; taken = read ∙ ap (before bytes) (sym h.0); few = omega (arith, few) }
 took-refused most TooLong start left left' bytes bytes' faults faults' h read few = absurd h
 took-refused most NoMemory start left left' bytes bytes' faults faults' h read few = record { bytes = bytes ++ h.0; taken = before-before start left left' bytes h.0 read h.1; few = omega (arith, length-append bytes h.0, h.2) }
 
--- what was read of an input that is used up is its front, however much may be read
+-- What was read of an input with no bytes left is its front, up to any limit that it keeps.
 pub front-whole : (most : ℕ) (left now : Option (List ℕ)) (bytes : List ℕ) → left ≡ before bytes now → IsUsedUp now → length bytes ≤ most → (input : List ℕ) × IsInput left input × (bytes ≡ take most input)
 front-whole most left now bytes is used few = (bytes, input-whole left now bytes is used, sym (take_all most bytes few))
 
--- and so is what has its greatest length
+-- What was read up to the limit is the front of the input.
 pub front-full : (most : ℕ) (left now : Option (List ℕ)) (bytes : List ℕ) → left ≡ before bytes now → length bytes ≡ most → (input : List ℕ) × IsInput left input × (bytes ≡ take most input)
 front-full most left None bytes is full = (bytes, rw is tt, sym (take_all most bytes (omega (arith, full))))
 front-full most left (Some more) bytes is full = (bytes ++ more, rw is refl, sym (ap (λ (n : ℕ). take n (bytes ++ more)) (sym full) ∙ take-append_seam bytes more))
 
--- an input whose front is longer than a limit is so too
+-- An input whose front is longer than a limit is longer than that limit.
 pub front-long : (left : Option (List ℕ)) (bytes : List ℕ) (most limit : ℕ) → (input : List ℕ) × IsInput left input × (bytes ≡ take most input) → limit < length bytes → (input : List ℕ) × IsInput left input × (limit < length input)
 front-long left bytes most limit front long = (front.0, front.1, (let size : length bytes ≡ length (take most front.0) = ap (λ (b : List ℕ). length b) front.2 in omega (arith, size, length-take most front.0, long)))
 
--- and one whose front is shorter than what may be read is the front
+-- An input whose front is shorter than what may be read is that front.
 pub front-short : (left : Option (List ℕ)) (bytes : List ℕ) (most : ℕ) → (input : List ℕ) × IsInput left input × (bytes ≡ take most input) → length bytes < most → IsInput left bytes
 front-short left bytes most front short =
     let size : length bytes ≡ length (take most front.0) = ap (λ (b : List ℕ). length b) front.2 in

@@ -4,7 +4,7 @@ use Rattle.std.proofs.lemmas.List.{append-nil}
 use Rattle.edge_io.specs.Scripts.{Arrival}
 use Rattle.archive_cli.specs.Turns.{World, Turned, Transcript}
 
--- one more event behind a transcript
+-- Appends one event to a transcript.
 pub Transcript-more : (es : List Arrival) (w : World) (out : List ℕ) (m : World) (e : Arrival) (first : List ℕ) (v : World) → Transcript es w out m → Turned e m first v → Transcript (es ++ e ∷ []) w (out ++ first) v
 Transcript-more [] w out m e first v t u = (
   v,

@@ -20,16 +20,17 @@ use Rattle.archive_core.specs.Openings.{LeavesKindly}
 use Rattle.archive_cli.specs.declared.outcome.Outcome.{Outcome}
 use Rattle.archive_cli.specs.declared.outcome.Outcome.TheVariants.{Made, Exists, Checked, Answered, Unopened}
 
--- a disk that tells its content is an archive's own: each crash leaves files that stand for it, and its files are exactly the archive's
+-- A disk that is told is an archive's own: each crash leaves files that stand for the archive, and
+-- the files are exactly those of the archive.
 abbrev pub IsOwn : Archive → Option Content → Type 0
 IsOwn a content = (v : View) × IsStoreOf v a content
 
--- the current root of a disk isn't the last one that there may be
+-- The sequence of the disk's current root can still be raised.
 abbrev pub HasRoom : Option Content → Type 0
 HasRoom content = WhereTold (λ k. (root : Root) (slot : ℕ) → IsCurrentRoot root slot (as_read k) → root.sequence + 1 < 2 ^ 64) content
 
--- How `init` ends: an archive is made where no slot is open, and the disk is its own; else there is one, and the disk is synced and no
--- more. The disk may have failed; or memory was wanted, and the disk is synced and no more.
+-- How `init` ends. An archive is made if no slot is open, and the disk is its own. Otherwise there
+-- is one already, or memory ran out, and the disk is synced and nothing more; or the disk failed.
 abbrev pub Makes : Config → Outcome → Option Content → Option Content → Type 0
 Makes config (Made name) old new = (name ≡ config.name) × WhereTold (λ k. IsShutFile (k root_name).seen) old × WhereTold (λ k. (v : View) × IsDiskOf v (empty_archive config) k) new
 Makes config Exists old new = WhereTold (λ k. IsShutFile (k root_name).seen → ⊥) old × Told IsOnlySynced old new
@@ -48,13 +49,14 @@ Makes config (Answered (answer.Damaged file at)) old new = ⊥
 Makes config (Checked entries live next) old new = ⊥
 Makes config (Unopened why) old new = ⊥
 
--- the definition's answer was given, and the disk is the definition's archive's own
+-- The answer is that of the definition, and the disk is the own disk of the definition's archive.
 pub record IsDone (wanted : Done) (reply : Answer) (new : Option Content) : Type 0 where
   pub answer_is : wanted.answer ≡ reply
   pub own : IsOwn wanted.archive new
 
--- What a delivery to this archive is answered, and what the disk is then. For want of memory the archive stays; behind a fault
--- of the disk the archive has to be opened again. No number is refused, and no file is damaged.
+-- The answer to a delivery to this archive, and the disk then. Out of memory the archive is
+-- unchanged, and after a fault of the disk it has to be reopened. No answer is about a number that
+-- isn't live or has no text, or about a damaged file.
 abbrev pub Answers : Archive → Done → Answer → Option Content → Type 0
 Answers a wanted answer.NoMemory new = IsOwn a new
 Answers a wanted answer.DiskFault new = Unit {0}
@@ -69,7 +71,7 @@ Answers a wanted (answer.NotLive number) new = ⊥
 Answers a wanted (answer.NoText number) new = ⊥
 Answers a wanted (answer.Damaged file at) new = ⊥
 
--- how `deliver` of a message at a moment ends on the disk of an archive
+-- How `deliver` of a message at a moment ends on the disk of an archive.
 abbrev pub DeliversTo : Archive → List ℕ → ℕ → Outcome → Option Content → Type 0
 DeliversTo a bytes moment (Answered reply) new = Answers a (delivered a bytes moment) reply new
 DeliversTo a bytes moment (Unopened refusal.DiskFault) new = Unit {0}
@@ -80,7 +82,7 @@ DeliversTo a bytes moment (Made name) new = ⊥
 DeliversTo a bytes moment Exists new = ⊥
 DeliversTo a bytes moment (Checked entries live next) new = ⊥
 
--- how `check` ends on the disk of an archive, each of whose entries is a message
+-- How `check` ends on the disk of an archive, each of whose entries is a message.
 abbrev pub ChecksTo : Archive → Outcome → Option Content → Type 0
 ChecksTo a (Checked entries live next) new = (entries ≡ length a.entries) × (live ≡ length a.entries) × (next ≡ a.next) × IsOwn a new
 ChecksTo a (Unopened refusal.DiskFault) new = Unit {0}
@@ -91,8 +93,8 @@ ChecksTo a (Made name) new = ⊥
 ChecksTo a Exists new = ⊥
 ChecksTo a (Answered reply) new = ⊥
 
--- What files that are opened are answered, whether or not they stand for an archive: the refusal of the opening, or what was done with
--- what was found.
+-- How a command on opened files ends, whether or not they stand for an archive: with the refusal to
+-- open them, or with what was done with what was found.
 abbrev pub IsOpenedAs : Files → Outcome → Type 0
 IsOpenedAs files (Unopened why) = Opens files (Err why)
 IsOpenedAs files (Checked entries live next) = (v : View) × Opens files (Ok v) × (entries ≡ length v.entries) × (next ≡ v.root.next)
@@ -100,8 +102,9 @@ IsOpenedAs files (Answered reply) = (v : View) × Opens files (Ok v)
 IsOpenedAs files (Made name) = ⊥
 IsOpenedAs files Exists = ⊥
 
--- What isn't opened is left alone: where there is no archive, or a file is damaged, all files are synced and no more; where memory was
--- wanted they still read as those of the archive that they did. Of any other outcome nothing is said here.
+-- What can't be opened is left alone. Without an archive, and with a damaged file, all files are
+-- synced and nothing more. Out of memory the files still read as the same archive. This says
+-- nothing of any other outcome.
 abbrev pub LeavesUnopened : Outcome → Option Content → Option Content → Type 0
 LeavesUnopened (Unopened why) old new = LeavesKindly why old new
 LeavesUnopened (Checked entries live next) old new = Unit {0}
@@ -109,10 +112,10 @@ LeavesUnopened (Answered reply) old new = Unit {0}
 LeavesUnopened (Made name) old new = Unit {0}
 LeavesUnopened Exists old new = Unit {0}
 
--- files stand for one of these archives, or for what a delivery to one of them leaves
+-- The files stand for one of these archives, or for what a delivery to one of them leaves.
 abbrev pub RecoversBehind : List (Option Archive) → List ℕ → ℕ → Files → Type 0
 RecoversBehind may bytes moment image = RecoversOf may image ⊎ ((a : Archive) × Contains may (Some a) × Recovers image (delivered a bytes moment).archive)
 
--- an outcome that tells that the disk failed
+-- The outcome tells that the disk failed.
 abbrev pub IsFault : Outcome → Type 0
 IsFault o = (o ≡ Answered answer.DiskFault) ⊎ (o ≡ Unopened refusal.DiskFault)

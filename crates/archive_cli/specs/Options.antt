@@ -1,4 +1,4 @@
--- What the code that reads options answers.
+-- The results of the code that reads options.
 use Rattle.std.specs.Prelude.{◌≡◌, ◌<◌, ◌⊎◌, ℕ, Bool, true, false, List, [], ◌∷◌, ◌++◌, map, length, All, Option, Some, None}
 use Rattle.std.specs.Option.{option_to_list, unwrap_or}
 use Rattle.arch_base.specs.declared.config.Config.{Config}
@@ -6,50 +6,50 @@ use Rattle.archive_cli.specs.Words.{setting_word, IsSetting, IsMade, EachOnce, l
 use Rattle.archive_cli.specs.declared.words.Setting.{Setting}
 use Rattle.archive_cli.specs.declared.words.Settings.{Settings}
 
--- one mark where `mirror` was given, and none where it wasn't
+-- One mark if `mirror` was given, otherwise none.
 abbrev pub marks : Bool → List Bool
 marks true = true ∷ []
 marks false = []
 
--- this is what settings of each kind give
+-- The held values are those that the settings give, kind by kind.
 pub record Holds (settings : List Setting) (held : Settings) : Type 0 where
   pub limit_is : limits settings ≡ option_to_list held.limit
   pub slice_is : slices settings ≡ option_to_list held.slice
   pub max_is : maxes settings ≡ option_to_list held.max
   pub mirror_is : mirrors settings ≡ marks held.mirror
 
--- one setting more is held
+-- One more setting is held.
 pub record HoldsMore (held : Settings) (setting : Setting) (more : Settings) : Type 0 where
   pub limit_is : option_to_list held.limit ++ limit_of setting ≡ option_to_list more.limit
   pub slice_is : option_to_list held.slice ++ slice_of setting ≡ option_to_list more.slice
   pub max_is : option_to_list held.max ++ max_of setting ≡ option_to_list more.max
   pub mirror_is : marks held.mirror ++ mirror_of setting ≡ marks more.mirror
 
--- one of the kind of a setting is held, which makes two with it
+-- A setting of this kind is held already.
 abbrev pub HoldsTwo : Settings → Setting → Type 0
 HoldsTwo held setting =
     (1 < length (option_to_list held.limit ++ limit_of setting))
     ⊎ ((1 < length (option_to_list held.slice ++ slice_of setting))
     ⊎ ((1 < length (option_to_list held.max ++ max_of setting)) ⊎ (1 < length (marks held.mirror ++ mirror_of setting))))
 
--- one setting more is held, or it is refused as the second of its kind
+-- One more setting is held, or it is refused as the second of its kind.
 abbrev pub IsWith : Settings → Setting → Option Settings → Type 0
 IsWith held setting (Some more) = HoldsMore held setting more
 IsWith held setting None = HoldsTwo held setting
 
--- the settings that words spell
+-- The words spell settings that give the held values.
 pub record Collects (words : List (List ℕ)) (held : Settings) : Type 0 where
   pub settings : List Setting
   pub is : words ≡ map setting_word settings
   pub ranges : All IsSetting settings
   pub holds : Holds settings held
 
--- the settings that words spell, or none where they spell none, or two of one kind
+-- The settings that words spell, or none if they spell none, or two of one kind.
 abbrev pub IsCollected : List (List ℕ) → Option Settings → Type 0
 IsCollected words (Some held) = Collects words held
 IsCollected words None = (settings : List Setting) → words ≡ map setting_word settings → All IsSetting settings → EachOnce settings → ⊥
 
--- the settings of an archive of this name by those that are held
+-- The settings of an archive with this name, by the held values.
 abbrev pub config_by : List ℕ → Settings → Config
 config_by name held = record {
   name = name;
@@ -60,7 +60,8 @@ config_by name held = record {
   born = 1;
 }
 
--- the settings of the archive that words make, or none where they aren't a name with settings behind it
+-- The settings of the archive that words give, or none if they aren't a name with settings after
+-- it.
 abbrev pub IsConfigured : List (List ℕ) → Option Config → Type 0
 IsConfigured words (Some config) = (settings : List Setting) × IsMade words settings config
 IsConfigured words None = (settings : List Setting) (config : Config) → IsMade words settings config → ⊥

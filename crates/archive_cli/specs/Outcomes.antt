@@ -1,4 +1,4 @@
--- What is printed of how a command over the archive on a disk ends, and the status that goes with it.
+-- What is printed of how a command over the archive on a disk ends, and its status.
 use Rattle.std.specs.Prelude.{ℕ, List, ◌∷◌, ◌++◌, codes, decimal}
 use Rattle.arch_model.specs.Delivery.{answer_line, file_words}
 use Rattle.arch_model.specs.declared.answer.Answer.{Answer}
@@ -8,18 +8,18 @@ use Rattle.arch_model.specs.declared.opening.OpenRefusal.TheVariants as refusal
 use Rattle.archive_cli.specs.declared.outcome.Outcome.{Outcome}
 use Rattle.archive_cli.specs.declared.outcome.Outcome.TheVariants.{Made, Exists, Checked, Answered, Unopened}
 
--- the line on what was read of an archive
+-- The line of a check of an archive.
 abbrev pub checked_line : ℕ → ℕ → ℕ → List ℕ
 checked_line entries live next = codes "entries " ++ (decimal entries ++ (codes " live " ++ (decimal live ++ (codes " next " ++ decimal next))))
 
--- the line on an archive that was not opened
+-- The line of an archive that could not be opened.
 abbrev pub refusal_line : OpenRefusal → List ℕ
 refusal_line refusal.NoArchive = codes "no archive"
 refusal_line (refusal.Damaged file at) = codes "damaged " ++ (file_words file ++ 32 ∷ decimal at)
 refusal_line refusal.DiskFault = answer_line answer.DiskFault
 refusal_line refusal.NoMemory = answer_line answer.NoMemory
 
--- the line on how a command ended
+-- The line of how a command ended.
 abbrev pub outcome_line : Outcome → List ℕ
 outcome_line (Made name) = codes "made " ++ name
 outcome_line Exists = codes "exists"
@@ -27,7 +27,7 @@ outcome_line (Checked entries live next) = checked_line entries live next
 outcome_line (Answered reply) = answer_line reply
 outcome_line (Unopened why) = refusal_line why
 
--- the status behind an answer: 0 where it is done, and for a message that is there already
+-- The status for an answer: 0 if the command is done, and for a message that is there already.
 abbrev pub answer_status : Answer → ℕ
 answer_status (answer.Ok number id) = 0
 answer_status (answer.Duplicate number) = 0
@@ -42,14 +42,14 @@ answer_status answer.DiskFault = 4
 answer_status (answer.Damaged file at) = 3
 answer_status answer.NoMemory = 7
 
--- the status behind an archive that was not opened
+-- The status for an archive that could not be opened.
 abbrev pub refusal_status : OpenRefusal → ℕ
 refusal_status refusal.NoArchive = 3
 refusal_status (refusal.Damaged file at) = 3
 refusal_status refusal.DiskFault = 4
 refusal_status refusal.NoMemory = 7
 
--- the status behind a command
+-- The status of a command.
 abbrev pub status_of : Outcome → ℕ
 status_of (Made name) = 0
 status_of Exists = 3

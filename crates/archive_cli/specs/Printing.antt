@@ -1,4 +1,4 @@
--- What is printed of what is due, and what is read of the input.
+-- How what is due is printed, and what is read of the input.
 use Rattle.std.specs.Prelude.{◌≡◌, ◌<◌, ◌≤◌, ◌⊎◌, ◌+◌, ℕ, Bool, List, ◌++◌, length, take, codes, Option, Result, Ok, Err, if◌then◌else◌}
 use Rattle.arch_base.specs.Counts.{Rose}
 use Rattle.arch_base.specs.declared.config.Config.{Config}
@@ -17,7 +17,8 @@ use Rattle.archive_cli.specs.declared.reading.Piece.TheVariants.{End, More}
 use Rattle.archive_cli.specs.declared.reading.InputRefusal.{InputRefusal}
 use Rattle.archive_cli.specs.declared.reading.InputRefusal.TheVariants.{Fault, TooLong, NoMemory}
 
--- Something was due, with a status. It was printed whole, which gives that status, or the output failed, which gives 6.
+-- Something was due, with a status. It was printed whole, and that is the status, or the output
+-- failed, and the status is 6.
 pub record Printed (due : ℕ → List ℕ → Type 0) (status : ℕ) (out : Option (List ℕ)) (lost : ℕ) (out' : Option (List ℕ)) (lost' : ℕ) : Type 0 where
   pub due_status : ℕ
   pub words : List ℕ
@@ -26,17 +27,17 @@ pub record Printed (due : ℕ → List ℕ → Type 0) (status : ℕ) (out : Opt
   pub said : Says words out lost out' lost' whole
   pub status_is : status ≡ (if whole then due_status else 6)
 
--- these words are due, with this status
+-- These words are due, with this status.
 pub record Exactly (words : List ℕ) (status : ℕ) (due_status : ℕ) (printed : List ℕ) : Type 0 where
   pub status_is : due_status ≡ status
   pub words_is : printed ≡ words
 
--- what a script over an archive of these settings on an input is due to print
+-- What a script on an input is due to print, over an archive with these settings.
 abbrev pub IsReplayDue : Config → List ℕ → ℕ → List ℕ → Type 0
 IsReplayDue config input status printed = Replays config input status printed ⊎ StopsShort config input status printed
 
--- One piece more of the input was put behind the bytes, and they are at most so many; or none is left; or the source failed, or
--- there was no memory for the piece, which was taken all the same.
+-- One more piece of the input was appended, and the bytes are at most `most`; or none remains; or
+-- the source failed; or memory ran out for a piece, which was taken all the same.
 abbrev pub IsPieceRead : ℕ → Result Piece InputRefusal → Option (List ℕ) → Option (List ℕ) → List ℕ → List ℕ → ℕ → ℕ → Type 0
 IsPieceRead most (Ok End) left left' bytes bytes' faults faults' = (left ≡ left') × IsUsedUp left' × (bytes' ≡ bytes)
 IsPieceRead most (Ok More) left left' bytes bytes' faults faults' =
@@ -46,49 +47,53 @@ IsPieceRead most (Err TooLong) left left' bytes bytes' faults faults' = ⊥
 IsPieceRead most (Err NoMemory) left left' bytes bytes' faults faults' =
     (piece : List ℕ) × (left ≡ before piece left') × (length bytes + length piece ≤ most)
 
--- the first bytes of the input were read, so many or all of it, or the source failed; want of memory is free
+-- The first `most` bytes of the input were read, or all of it; or the source failed. Memory may run
+-- out at any time.
 abbrev pub IsFrontRead : ℕ → Option (List ℕ) → ℕ → Result (List ℕ) InputRefusal → ℕ → Type 0
 IsFrontRead most left faults (Ok bytes) faults' = (input : List ℕ) × IsInput left input × (bytes ≡ take most input)
 IsFrontRead most left faults (Err TooLong) faults' = ⊥
 IsFrontRead most left faults (Err Fault) faults' = Rose faults faults'
 IsFrontRead most left faults (Err NoMemory) faults' = Unit {0}
 
--- the whole input was read, or it is too long, or the source failed; want of memory is free
+-- The whole input was read, or it is too long, or the source failed. Memory may run out at any
+-- time.
 abbrev pub IsRead : Option (List ℕ) → ℕ → Result (List ℕ) InputRefusal → ℕ → Type 0
 IsRead left faults (Ok bytes) faults' = IsInput left bytes × (length bytes ≤ input_limit)
 IsRead left faults (Err TooLong) faults' = (input : List ℕ) × IsInput left input × (input_limit < length input)
 IsRead left faults (Err Fault) faults' = Rose faults faults'
 IsRead left faults (Err NoMemory) faults' = Unit {0}
 
--- a script on the input was run: what was due is printed, or the input failed and nothing is
+-- A script on the input was run: what was due is printed, or the input failed and nothing is
+-- printed.
 abbrev pub Replayed : Config → ℕ → Edges → Edges → Type 0
 Replayed config status i j =
     ((input : List ℕ) × IsInput i.left input × Printed (IsReplayDue config input) status i.taken i.lost j.taken j.lost)
     ⊎ ((status ≡ 6) × Rose i.unread j.unread × (j.taken ≡ i.taken) × (j.lost ≡ i.lost))
 
--- a job over the disk is due to print its outcome
+-- A job over the disk is due to print its outcome.
 abbrev pub IsOutcomeDue : Job → List ℕ → Edges → Edges → ℕ → List ℕ → Type 0
 IsOutcomeDue job input i j status printed = EndsBy job input i j status printed
 
--- nothing was printed, and the disk was left alone, since the clock failed
+-- The clock failed: nothing was printed, and the disk is unchanged.
 abbrev pub MissesMoment : ℕ → Edges → Edges → Type 0
 MissesMoment status i j = IsSilent status i j × Rose i.missed j.missed
 
--- a job over the disk at the clock's moment was to be done: what was due is printed, or the clock failed
+-- A job over the disk at the clock's moment: what was due is printed, or the clock failed.
 abbrev pub JobDone : Job → List ℕ → ℕ → Edges → Edges → Type 0
 JobDone job input status i j = Printed (IsOutcomeDue job input i j) status i.taken i.lost j.taken j.lost ⊎ MissesMoment status i j
 
--- what a crash leaves while a message is delivered at the first moment to come
+-- What a crash leaves while a message is delivered at the first moment to come.
 abbrev pub BytesLeave : List (Option Archive) → List ℕ → Option Moments → Files → Type 0
 BytesLeave may bytes coming image = (moment : ℕ) × IsFirst moment coming × RecoversBehind may bytes moment image
 
--- for want of memory the message wasn't read
+-- The message was not read, because memory ran out.
 pub record IsUnread (i j : Edges) (status : ℕ) (printed : List ℕ) : Type 0 where
   pub status_is : status ≡ 7
   pub printed_is : printed ≡ line (codes "12 no memory")
   pub kept : j.content ≡ i.content
 
--- the message on the input was to be delivered: what was due is printed; or it wasn't read, or the input failed
+-- The message on the input was to be delivered: what was due is printed, or the message was not
+-- read, or the input failed.
 abbrev pub InputDone : ℕ → Edges → Edges → Type 0
 InputDone status i j =
     ((input : List ℕ) × IsInput i.left input × JobDone Deliver input status i j)

@@ -1,4 +1,4 @@
--- What a run of the program ends with: its status and all that it prints.
+-- What a run of the program ends with: its status, and all that it prints.
 use Rattle.std.specs.Prelude.{◌≡◌, ◌<◌, ◌≤◌, ◌⊎◌, ◌+◌, ℕ, min, max, List, [], ◌++◌, length, take, codes, decimal, Option, Some, None, MatchOption}
 use Rattle.arch_base.specs.Counts.{Rose}
 use Rattle.arch_base.specs.declared.config.Config.{Config}
@@ -23,25 +23,25 @@ use Rattle.archive_cli.specs.declared.words.Job.TheVariants.{Help, Version, Repl
 use Rattle.archive_cli.specs.declared.outcome.Outcome.{Outcome}
 use Rattle.archive_cli.specs.declared.texts.TheConstants.{HELP, VERSION}
 
--- a script begins with an empty archive and without a session
+-- A script starts with an empty archive and without a session.
 abbrev pub start : Config → World
 start config = record { session = None; standing = standing (empty_archive config) None }
 
--- the greatest length of a script
+-- The greatest length of a script, in bytes.
 abbrev pub input_limit : ℕ
 input_limit = 268435456
 
--- the greatest length of a message that is read
+-- The greatest length of a message that is read, in bytes.
 abbrev pub message_limit : ℕ
 message_limit = 9000001
 
--- the input is too long
+-- The input is too long.
 pub record IsTooLong (input : List ℕ) (status : ℕ) (printed : List ℕ) : Type 0 where
   pub long : input_limit < length input
   pub status_is : status ≡ 9
   pub printed_is : printed ≡ line (codes "script too long")
 
--- the input is no script
+-- The input is not a script.
 pub record IsBadScript (input : List ℕ) (status : ℕ) (printed : List ℕ) : Type 0 where
   pub short : length input ≤ input_limit
   pub event : ℕ
@@ -49,7 +49,7 @@ pub record IsBadScript (input : List ℕ) (status : ℕ) (printed : List ℕ) : 
   pub status_is : status ≡ 9
   pub printed_is : printed ≡ line (codes "bad script " ++ decimal event)
 
--- the input is a script, whose events up to the first stop are turned
+-- The input is a script, whose events up to the first stop are played.
 pub record IsPlayed (config : Config) (input : List ℕ) (status : ℕ) (printed : List ℕ) : Type 0 where
   pub short : length input ≤ input_limit
   pub arrivals : List Arrival
@@ -58,11 +58,12 @@ pub record IsPlayed (config : Config) (input : List ℕ) (status : ℕ) (printed
   pub status_is : status ≡ 0
   pub transcript : Transcript (before_stop arrivals) (start config) printed after
 
--- a script on an input over an empty archive of these settings ends so
+-- How a script on an input ends, over an empty archive with these settings.
 abbrev pub Replays : Config → List ℕ → ℕ → List ℕ → Type 0
 Replays config input status printed = IsTooLong input status printed ⊎ (IsBadScript input status printed ⊎ IsPlayed config input status printed)
 
--- the input that is left, what the output took, the moments to come, what the disk holds, and how often each failed
+-- The remaining input, what the output took, the moments to come, the content of the disk, and the
+-- count of faults of each.
 pub record Edges : Type 0 where
   pub left : Option (List ℕ)
   pub unread : ℕ
@@ -73,24 +74,25 @@ pub record Edges : Type 0 where
   pub content : Option Content
   pub broken : ℕ
 
--- the edges of a job that has no disk
+-- The edges of a job without a disk.
 abbrev pub edges : Option (List ℕ) → ℕ → Option (List ℕ) → ℕ → Edges
 edges left unread taken lost = record { left = left; unread = unread; taken = taken; lost = lost; coming = None; missed = 0; content = None; broken = 0 }
 
--- the edges of a run
+-- The edges of a run.
 abbrev pub all_edges : Option (List ℕ) → ℕ → Option (List ℕ) → ℕ → Option Moments → ℕ → Option Content → ℕ → Edges
 all_edges left unread taken lost coming missed content broken =
     record { left = left; unread = unread; taken = taken; lost = lost; coming = coming; missed = missed; content = content; broken = broken }
 
--- the settings of an archive that is made at a moment: since when it is there, at least 1 and at most the greatest number of 32 bits
+-- The settings of an archive that is made at a moment. `born` is that moment, but at least 1 and at
+-- most 2^32 - 1.
 abbrev pub made_at : Config → ℕ → Config
 made_at config moment = record { name = config.name; limit = config.limit; slice = config.slice; max = config.max; mirror = config.mirror; born = max 1 (min moment 4294967295) }
 
--- the message on an input
+-- The message on an input.
 abbrev pub message_of : List ℕ → List ℕ
 message_of input = take message_limit input
 
--- how a job over the archive on a disk ended: by what the disk held before, and what it holds
+-- How a job over the archive on a disk ended, by the content of the disk before and after.
 abbrev pub ActsBy : Job → List ℕ → ℕ → Option Content → Option Content → Outcome → Type 0
 ActsBy (Init config) input moment old new o = Makes (made_at config moment) o old new
 ActsBy Deliver input moment old new o =
@@ -100,21 +102,21 @@ ActsBy Help input moment old new o = ⊥
 ActsBy Version input moment old new o = ⊥
 ActsBy (Replay config) input moment old new o = ⊥
 
--- the same, at the first moment to come; the disk failed only where its count rose
+-- The same, at the first moment to come. The disk failed only if its count of faults rose.
 pub record Acts (job : Job) (input : List ℕ) (i j : Edges) (o : Outcome) : Type 0 where
   pub moment : ℕ
   pub first : IsFirst moment i.coming
   pub acts : ActsBy job input moment i.content j.content o
   pub fault : IsFault o → Rose i.broken j.broken
 
--- what a job over the archive on a disk ends with
+-- What a job over the archive on a disk ends with.
 pub record EndsBy (job : Job) (input : List ℕ) (i j : Edges) (status : ℕ) (printed : List ℕ) : Type 0 where
   pub outcome : Outcome
   pub acts : Acts job input i j outcome
   pub status_is : status ≡ status_of outcome
   pub printed_is : printed ≡ line (outcome_line outcome)
 
--- what a job on an input ends with
+-- What a job on an input ends with.
 abbrev pub Ends : Option Job → List ℕ → Edges → Edges → ℕ → List ℕ → Type 0
 Ends None input i j status printed = (status ≡ 2) × (printed ≡ line (codes "words not read"))
 Ends (Some Help) input i j status printed = (status ≡ 0) × (printed ≡ HELP.now)
@@ -124,51 +126,53 @@ Ends (Some (Init config)) input i j status printed = EndsBy (Init config) input 
 Ends (Some Deliver) input i j status printed = EndsBy Deliver input i j status printed
 Ends (Some Check) input i j status printed = EndsBy Check input i j status printed
 
--- what a run of words on an input ends with, by the rules
+-- What a run of words on an input ends with, by the rules.
 pub record Does (words : List (List ℕ)) (input : List ℕ) (i j : Edges) (status : ℕ) (printed : List ℕ) : Type 0 where
   pub job : Option Job
   pub asked : IsJob words job
   pub ends : Ends job input i j status printed
 
--- a script ran out of memory behind some of its events
+-- A script ran out of memory after some of its events.
 pub record PlaysPart (config : Config) (input : List ℕ) (frames : List ℕ) : Type 0 where
   pub short : length input ≤ input_limit
   pub arrivals : List Arrival
   pub script : IsScript arrivals input
   pub played : PlaysSome (before_stop arrivals) (start config) frames
 
--- For want of memory a script stops behind some of its events, or before it is read; what these events wrote is printed, and a
--- line that says so.
+-- Out of memory, a script stops after some of its events, or before it is read. What these events
+-- wrote is printed, and then a line that tells of it.
 pub record StopsShort (config : Config) (input : List ℕ) (status : ℕ) (printed : List ℕ) : Type 0 where
   pub status_is : status ≡ 7
   pub frames : List ℕ
   pub played : (frames ≡ []) ⊎ PlaysPart config input frames
   pub printed_is : printed ≡ frames ++ line (codes "12 no memory")
 
+-- The words ask for a replay, which ran out of memory.
 pub record ReplayRunsOut (words : List (List ℕ)) (input : List ℕ) (status : ℕ) (printed : List ℕ) : Type 0 where
   pub config : Config
   pub asked : AsksFor words (Replay config)
   pub stops : StopsShort config input status printed
 
--- For want of memory a message isn't read, and the disk is left alone.
+-- Out of memory, a message isn't read, and the disk is unchanged.
 pub record DeliverRunsOut (words : List (List ℕ)) (i j : Edges) (status : ℕ) (printed : List ℕ) : Type 0 where
   pub asked : AsksFor words Deliver
   pub status_is : status ≡ 7
   pub printed_is : printed ≡ line (codes "12 no memory")
   pub kept : j.content ≡ i.content
 
+-- A replay or a delivery ran out of memory.
 abbrev pub RunsOut : List (List ℕ) → List ℕ → Edges → Edges → ℕ → List ℕ → Type 0
 RunsOut words input i j status printed = ReplayRunsOut words input status printed ⊎ DeliverRunsOut words i j status printed
 
--- what a run is to print, and the status where all of it is taken
+-- What a run is to print, and its status if all of that is taken.
 abbrev pub IsDue : List (List ℕ) → List ℕ → Edges → Edges → ℕ → List ℕ → Type 0
 IsDue words input i j status printed = Does words input i j status printed ⊎ RunsOut words input i j status printed
 
--- bytes are the input, where the source tells it
+-- The bytes are the input, if the source is told.
 abbrev pub IsInput : Option (List ℕ) → List ℕ → Type 0
 IsInput left input = MatchOption left (Unit {0}) (λ bytes. bytes ≡ input)
 
--- all was printed, and no write failed
+-- All was printed, and no write failed.
 pub record IsPrinted (words : List (List ℕ)) (status : ℕ) (i j : Edges) : Type 0 where
   pub input : List ℕ
   pub told : IsInput i.left input
@@ -177,34 +181,34 @@ pub record IsPrinted (words : List (List ℕ)) (status : ℕ) (i j : Edges) : Ty
   pub taken_is : j.taken ≡ plus i.taken printed
   pub lost_kept : j.lost ≡ i.lost
 
--- words ask for a job that reads the input
+-- The words ask for a job that reads the input.
 abbrev pub AsksForInput : List (List ℕ) → Type 0
 AsksForInput words = ((config : Config) × AsksFor words (Replay config)) ⊎ AsksFor words Deliver
 
--- words ask for a job that reads the clock
+-- The words ask for a job that reads the clock.
 abbrev pub AsksForMoment : List (List ℕ) → Type 0
 AsksForMoment words = ((config : Config) × AsksFor words (Init config)) ⊎ AsksFor words Deliver
 
--- nothing was printed, and the disk was left alone
+-- Nothing was printed, and the disk is unchanged. The status is 6.
 pub record IsSilent (status : ℕ) (i j : Edges) : Type 0 where
   pub status_is : status ≡ 6
   pub taken_is : j.taken ≡ i.taken
   pub lost_kept : j.lost ≡ i.lost
   pub kept : j.content ≡ i.content
 
--- the input failed: its count rose, and nothing was done
+-- The input failed: its count of faults rose, and nothing was done.
 pub record InputFailed (words : List (List ℕ)) (status : ℕ) (i j : Edges) : Type 0 where
   pub asked : AsksForInput words
   pub rose : Rose i.unread j.unread
   pub silent : IsSilent status i j
 
--- the clock failed: its count rose, and nothing was done
+-- The clock failed: its count of faults rose, and nothing was done.
 pub record ClockFailed (words : List (List ℕ)) (status : ℕ) (i j : Edges) : Type 0 where
   pub asked : AsksForMoment words
   pub rose : Rose i.missed j.missed
   pub silent : IsSilent status i j
 
--- the output failed: its count rose, and a prefix of what was due was printed
+-- The output failed: its count of faults rose, and a prefix of what was due was printed.
 pub record OutputFailed (words : List (List ℕ)) (status : ℕ) (i j : Edges) : Type 0 where
   pub status_is : status ≡ 6
   pub rose : Rose i.lost j.lost
@@ -216,17 +220,18 @@ pub record OutputFailed (words : List (List ℕ)) (status : ℕ) (i j : Edges) :
   pub count : ℕ
   pub taken_is : j.taken ≡ plus i.taken (take count printed)
 
--- how a run of words ends, from the outside as it was to the outside as it is
+-- How a run of words ends, by the edges before and after it.
 abbrev pub Ran : List (List ℕ) → ℕ → Edges → Edges → Type 0
 Ran words status i j = IsPrinted words status i j ⊎ (InputFailed words status i j ⊎ (ClockFailed words status i j ⊎ OutputFailed words status i j))
 
--- at most so many bytes were taken off the front of what was left, where that is told
+-- At most `most` bytes were removed from the front of what remained, if that is told.
 pub record TookAtMost (most : ℕ) (old new : Option (List ℕ)) : Type 0 where
   pub bytes : List ℕ
   pub taken : old ≡ before bytes new
   pub few : length bytes ≤ most
 
--- Only a script is read, up to one byte more than the greatest length, or a message; for any other words the input is left alone.
+-- A replay reads at most one byte more than the greatest length of a script, and a delivery reads
+-- at most a message. Any other words leave the input unchanged.
 abbrev pub TakesInput : List (List ℕ) → Option (List ℕ) → ℕ → Option (List ℕ) → ℕ → Type 0
 TakesInput words left unread left' unread' =
     ((left' ≡ left) × (unread' ≡ unread))
@@ -237,19 +242,19 @@ TakesInput words left unread left' unread' =
 abbrev pub InitLeaves : Config → Option Moments → Option Content → Files → Type 0
 InitLeaves config coming old image = (moment : ℕ) × IsFirst moment coming × MakingLeaves (empty_archive (made_at config moment)) old image
 
--- words ask for an archive to be made
+-- The words ask to make an archive.
 abbrev pub AsksForInit : List (List ℕ) → Type 0
 AsksForInit words = (config : Config) × AsksFor words (Init config)
 
--- what a crash leaves while the archive is made that words ask for
+-- What a crash leaves while the archive that the words ask for is made.
 abbrev pub WordsLeave : List (List ℕ) → Option Moments → Option Content → Files → Type 0
 WordsLeave words coming old image = (config : Config) × AsksFor words (Init config) × InitLeaves config coming old image
 
--- What a crash leaves while the message on the input is delivered at the first moment to come: one of the archives that the disk may
--- have stood for, or the one that the delivery leaves.
+-- What a crash leaves while the message on the input is delivered at the first moment to come: one
+-- of the archives that the disk may have stood for, or the one that the delivery leaves.
 abbrev pub DeliverLeaves : List (Option Archive) → Option (List ℕ) → Option Moments → Files → Type 0
 DeliverLeaves may left coming image = (input : List ℕ) × IsInput left input × ((moment : ℕ) × IsFirst moment coming × RecoversBehind may (message_of input) moment image)
 
--- words ask for a job that has no disk
+-- The words ask for a job without a disk.
 abbrev pub LeavesDisk : List (List ℕ) → Type 0
 LeavesDisk words = ((config : Config) → AsksFor words (Init config) → ⊥) × (AsksFor words Deliver → ⊥) × (AsksFor words Check → ⊥)

@@ -9,96 +9,97 @@ use Rattle.archive_cli.specs.declared.words.Job.TheVariants.{Help, Version, Repl
 use Rattle.archive_cli.specs.declared.words.Setting.{Setting}
 use Rattle.archive_cli.specs.declared.words.Setting.TheVariants.{Limit, Slice, Max, Mirror}
 
--- the words as their bytes
+-- The words as their bytes.
 abbrev pub spelled : List (Bor (List ℕ)) → List (List ℕ)
 spelled words = map (λ (word : Bor (List ℕ)). word.now) words
 
--- the word of a setting: its kind, `=`, and its number in decimal; or `mirror` alone
+-- The word of a setting: its kind, `=`, and its number in decimal; or `mirror` alone.
 abbrev pub setting_word : Setting → List ℕ
 setting_word (Limit n) = codes "limit=" ++ decimal n
 setting_word (Slice n) = codes "slice=" ++ decimal n
 setting_word (Max n) = codes "max=" ++ decimal n
 setting_word Mirror = codes "mirror"
 
--- a number from 1 up to a greatest one
+-- A number from 1 to `most`.
 abbrev pub IsUpTo : ℕ → ℕ → Type 0
 IsUpTo most n = (1 ≤ n) × (n ≤ most)
 
--- the range of a setting, where it has a number
+-- The range of a setting, if it has a number.
 abbrev pub IsSetting : Setting → Type 0
 IsSetting (Limit n) = IsUpTo 1099511627776 n
 IsSetting (Slice n) = IsUpTo 1000000 n
 IsSetting (Max n) = IsUpTo 2147483647 n
 IsSetting Mirror = Unit {0}
 
--- the limit that a setting gives, if it is one of that kind
+-- The limit that a setting gives, if it is of that kind.
 abbrev pub limit_of : Setting → List ℕ
 limit_of (Limit n) = n ∷ []
 limit_of (Slice n) = []
 limit_of (Max n) = []
 limit_of Mirror = []
 
--- the slice that a setting gives, if it is one of that kind
+-- The slice that a setting gives, if it is of that kind.
 abbrev pub slice_of : Setting → List ℕ
 slice_of (Limit n) = []
 slice_of (Slice n) = n ∷ []
 slice_of (Max n) = []
 slice_of Mirror = []
 
--- the greatest number that a setting gives, if it is one of that kind
+-- The greatest number that a setting gives, if it is of that kind.
 abbrev pub max_of : Setting → List ℕ
 max_of (Limit n) = []
 max_of (Slice n) = []
 max_of (Max n) = n ∷ []
 max_of Mirror = []
 
--- that the archive is a mirror, if a setting says so
+-- A mark that the archive is a mirror, if the setting says so.
 abbrev pub mirror_of : Setting → List Bool
 mirror_of (Limit n) = []
 mirror_of (Slice n) = []
 mirror_of (Max n) = []
 mirror_of Mirror = true ∷ []
 
--- all limits that settings give
+-- All limits that settings give.
 abbrev pub limits : List Setting → List ℕ
 limits settings = flat_map limit_of settings
 
--- all slices that settings give
+-- All slices that settings give.
 abbrev pub slices : List Setting → List ℕ
 slices settings = flat_map slice_of settings
 
--- all greatest numbers that settings give
+-- All greatest numbers that settings give.
 abbrev pub maxes : List Setting → List ℕ
 maxes settings = flat_map max_of settings
 
--- each time that settings say that the archive is a mirror
+-- A mark for each setting that says that the archive is a mirror.
 abbrev pub mirrors : List Setting → List Bool
 mirrors settings = flat_map mirror_of settings
 
--- no two settings are of one kind
+-- No two settings are of one kind.
 pub record EachOnce (settings : List Setting) : Type 0 where
   pub one_limit : length (limits settings) ≤ 1
   pub one_slice : length (slices settings) ≤ 1
   pub one_max : length (maxes settings) ≤ 1
   pub one_mirror : length (mirrors settings) ≤ 1
 
--- the limit that settings give, or the default: an epoch that has so many bytes takes no further entry
+-- The limit that settings give, or the default: the length in bytes from which an epoch takes no
+-- further entry.
 abbrev pub limit_in : List Setting → ℕ
 limit_in settings = get_or (limits settings) 0 1073741824
 
--- the slice that settings give, or the default: how many numbers a mailbox has
+-- The slice that settings give, or the default: the count of numbers in a mailbox.
 abbrev pub slice_in : List Setting → ℕ
 slice_in settings = get_or (slices settings) 0 50000
 
--- the greatest number of a message that settings give, or the default
+-- The greatest number of a message that settings give, or the default.
 abbrev pub max_in : List Setting → ℕ
 max_in settings = get_or (maxes settings) 0 2147483647
 
--- whether settings say that the archive is a mirror
+-- The settings say that the archive is a mirror.
 abbrev pub mirror_in : List Setting → Bool
 mirror_in settings = get_or (mirrors settings) 0 false
 
--- the settings of an archive of this name, where these are given: each other one has its default, and the moment when it is made is 1
+-- The settings of an archive with this name. Those not given have their defaults, and `born` is 1.
 abbrev pub config_of : List ℕ → List Setting → Config
 config_of name settings = record {
   name = name;
@@ -109,7 +110,7 @@ config_of name settings = record {
   born = 1;
 }
 
--- the name of an archive, and words of settings behind it, in any order, each at most once
+-- The name of an archive, and then words of settings, in any order, each kind at most once.
 pub record IsMade (words : List (List ℕ)) (settings : List Setting) (config : Config) : Type 0 where
   pub name : List ℕ
   pub is : words ≡ name ∷ map setting_word settings
@@ -118,14 +119,14 @@ pub record IsMade (words : List (List ℕ)) (settings : List Setting) (config : 
   pub once : EachOnce settings
   pub config_is : config ≡ config_of name settings
 
--- the word `init`, and behind it a name with settings
+-- The word `init`, and then a name with settings.
 pub record IsInit (words : List (List ℕ)) (config : Config) : Type 0 where
   pub settings : List Setting
   pub behind : List (List ℕ)
   pub is : words ≡ codes "init" ∷ behind
   pub made : IsMade behind settings config
 
--- the word `replay`, and behind it a name with settings, of which none is `mirror`
+-- The word `replay`, and then a name with settings, none of which is `mirror`.
 pub record IsReplay (words : List (List ℕ)) (config : Config) : Type 0 where
   pub settings : List Setting
   pub behind : List (List ℕ)
@@ -133,7 +134,7 @@ pub record IsReplay (words : List (List ℕ)) (config : Config) : Type 0 where
   pub made : IsMade behind settings config
   pub no_mirror : mirrors settings ≡ []
 
--- words that ask for a job
+-- The words ask for this job.
 abbrev pub AsksFor : List (List ℕ) → Job → Type 0
 AsksFor words Help = words ≡ codes "--help" ∷ []
 AsksFor words Version = words ≡ codes "--version" ∷ []
@@ -142,7 +143,7 @@ AsksFor words (Init config) = IsInit words config
 AsksFor words Deliver = words ≡ codes "deliver" ∷ []
 AsksFor words Check = words ≡ codes "check" ∷ []
 
--- the job that words ask for, or none where they aren't in the grammar
+-- The job that words ask for, or none if they aren't in the grammar.
 abbrev pub IsJob : List (List ℕ) → Option Job → Type 0
 IsJob words (Some job) = AsksFor words job
 IsJob words None = (job : Job) → AsksFor words job → ⊥

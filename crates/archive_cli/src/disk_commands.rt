@@ -1,4 +1,4 @@
-//! What `init`, `deliver` and `check` do to the archive on a disk.
+//! The work of `init`, `deliver` and `check` on the archive on a disk.
 ghost use Rattle.std.specs.Prelude.{◌≡◌, ◌≤◌, List, Option};
 ghost use Rattle.arch_base.specs.Configs.{IsConfig};
 ghost use Rattle.arch_base.specs.Counts.{Rose};
@@ -18,7 +18,7 @@ use disk_model::Disk;
 use epoch_store::InitRefusal;
 use std::alloc::Global;
 
-/// Makes an archive of these settings on a disk that has none.
+/// Makes an archive with these settings on a disk that has none.
 pub(crate) fn make<D: Disk>(alloc: Global, disk: &mut D, config: &Config) -> Outcome
     requires config { IsConfig config.now }
     ensures any_moment { LeavesOnly D.moment D.left_since disk.old disk.new (MakingLeaves (empty_archive config.now) (D.content disk.old)) }
@@ -34,7 +34,7 @@ pub(crate) fn make<D: Disk>(alloc: Global, disk: &mut D, config: &Config) -> Out
     }
 }
 
-/// Delivers a message to the archive on a disk at a moment, in seconds since 1970.
+/// Delivers a message to the archive on a disk, at a moment in seconds since 1970 UTC.
 pub(crate) fn deliver<D: Disk>(alloc: Global, disk: &mut D, bytes: &[u8], moment: u64) -> Outcome
     requires moment { moment ≤ last_moment }
     ensures any_moment { (may : List (Option Archive)) → AllRecoverOf may (D.content disk.old) → HasRoom (D.content disk.old)
@@ -54,7 +54,7 @@ pub(crate) fn deliver<D: Disk>(alloc: Global, disk: &mut D, bytes: &[u8], moment
     }
 }
 
-/// Reads all of the archive on a disk, and counts its entries and messages.
+/// Reads the whole archive on a disk, and counts its entries and messages.
 pub(crate) fn check<D: Disk>(alloc: Global, disk: &mut D) -> Outcome
     ensures any_moment { (may : List (Option Archive)) → AllRecoverOf may (D.content disk.old) → LeavesOnly D.moment D.left_since disk.old disk.new (RecoversOf may) }
     ensures done { (a : Archive) → ReadsAs a (D.content disk.old) → ChecksTo a result (D.content disk.new) }

@@ -1,4 +1,4 @@
-//! What the events of a script wrote, as it is printed.
+//! The frames in which a replay prints what the events of a script wrote.
 ghost use Rattle.std.specs.Prelude.{◌≡◌, ◌++◌, ◌∷◌, [], ℕ, decimal, length, take, true, OnOk, OnErr, IfOk, is_ok, if◌then◌else◌};
 ghost use Rattle.archive_cli.specs.Frames.{frame, written, closing, head as head_of};
 
@@ -6,8 +6,10 @@ use arch_base::{Bytes, NoMemory};
 use itoa::Buffer;
 use std::alloc::Global;
 
-/// Puts the frame of an event behind others: the bytes that it wrote to a connection, if any, and whether it closed it. Where there
-/// is no memory, nothing is changed.
+/// Appends the frame of an event: the bytes that it wrote to a connection, if any, and whether it
+/// closed the connection.
+///
+/// `NoMemory` leaves the frames unchanged.
 pub(crate) fn push_frame(
     alloc: Global,
     frames: &mut Bytes,
@@ -27,7 +29,7 @@ pub(crate) fn push_frame(
     }
 }
 
-/// Puts the frame of an event behind others, or a part of it.
+/// Appends the frame of an event. `NoMemory` may leave a part of it appended.
 fn push_parts(
     alloc: Global,
     frames: &mut Bytes,
@@ -42,7 +44,10 @@ fn push_parts(
     push_closing(alloc, frames, conn, closed)
 }
 
-/// Puts the bytes that were written to a connection behind others, under a line with its number and their length, or a part of that.
+/// Appends the bytes that were written to a connection, after a line with its number and their
+/// length.
+///
+/// `NoMemory` may leave a part of them appended.
 fn push_written(alloc: Global, frames: &mut Bytes, conn: u32, bytes: &[u8]) -> Result<(), NoMemory>
     ensures ok { OnOk result (frames.new ≡ frames.old ++ written conn bytes.now) }
     ensures err { OnErr result (take (length frames.old) frames.new ≡ frames.old) }
@@ -56,7 +61,7 @@ fn push_written(alloc: Global, frames: &mut Bytes, conn: u32, bytes: &[u8]) -> R
     frames.push(b'\n')
 }
 
-/// The line above the bytes that were written to a connection.
+/// Returns the line before the bytes that were written to a connection.
 fn head(alloc: Global, conn: u32, len: usize) -> Result<Bytes, NoMemory>
     ensures { IfOk result (λ line. line ≡ head_of conn len) }
 {
@@ -69,7 +74,9 @@ fn head(alloc: Global, conn: u32, len: usize) -> Result<Bytes, NoMemory>
     Ok(line)
 }
 
-/// Puts the line of a connection that was closed behind others, or a part of it.
+/// Appends the line of a connection that was closed.
+///
+/// `NoMemory` leaves the frames unchanged.
 fn push_closing(alloc: Global, frames: &mut Bytes, conn: u32, closed: bool) -> Result<(), NoMemory>
     ensures { frames.new ≡ (if is_ok result then frames.old ++ closing conn closed else frames.old) }
 {
@@ -80,7 +87,7 @@ fn push_closing(alloc: Global, frames: &mut Bytes, conn: u32, closed: bool) -> R
     frames.push_slice(line.as_slice())
 }
 
-/// The line of a connection that was closed.
+/// Returns the line of a connection that was closed.
 fn closed_line(alloc: Global, conn: u32) -> Result<Bytes, NoMemory>
     ensures { IfOk result (λ line. line ≡ closing conn true) }
 {

@@ -12,16 +12,18 @@ mod reading;
 mod texts;
 mod words;
 
+use arch_base::NoMemory;
 use arguments::run_arguments;
 use program::print_no_memory;
 use real_edges::{FolderDisk, StdSink, StdSource, SystemClock};
-use std::env;
 use std::process::ExitCode;
+use std::{env, io};
 
 /// The folder that keeps the archive, in the current one.
 const FOLDER: &str = "piv2-store";
 
-/// Does what the command line's words say over this folder, the standard input and output and the system's clock, and ends with the status of that.
+/// Does what the command line's words say over this folder, the standard input and output and the system's clock, and ends
+/// with the status of that. Where the disk, the input, the clock or the output failed, a line on standard error says why.
 fn main(rt: HostRuntime) -> ExitCode {
     let alloc = rt.alloc();
     let Ok(mut output) = StdSink::new(&rt, alloc) else {
@@ -37,7 +39,28 @@ fn main(rt: HostRuntime) -> ExitCode {
         return ExitCode::from(print_no_memory(&mut output));
     };
     let arguments = env::args(&rt);
-    ExitCode::from(run_arguments(alloc, arguments, disk, &mut input, &mut output, &mut clock))
+    let (status, disk) = run_arguments(alloc, arguments, disk, &mut input, &mut output, &mut clock);
+    let _ = match status {
+        4 => explain(&rt, "", disk.cause()),
+        6 => explain(&rt, "standard input: ", input.cause(alloc))
+            .and(explain(&rt, "clock: ", clock.cause(alloc)))
+            .and(explain(&rt, "standard output: ", output.cause(alloc))),
+        _ => Ok(()),
+    };
+    ExitCode::from(status)
+}
+
+/// Prints on standard error why an edge failed, if it did.
+fn explain(
+    rt: &HostRuntime,
+    edge: &str,
+    cause: Result<Option<String>, NoMemory>,
+) -> io::Result<()> {
+    match cause {
+        Ok(None) => Ok(()),
+        Ok(Some(words)) => eprintln!(rt; "piv2: {edge}{words}"),
+        Err(NoMemory) => eprintln!(rt; "piv2: {edge}there is no memory to say why it failed"),
+    }
 }
 
 #[cfg(test)]

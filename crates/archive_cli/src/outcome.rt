@@ -14,20 +14,21 @@ use line_door::{say, say_line};
 /// How a command over the archive on a disk ends.
 #[derive(Debug, Drop)]
 pub(crate) enum Outcome {
-    /// An archive of this name was made.
+    /// An archive with this name was made.
     Made(Name),
     /// There is an archive already.
     Exists,
-    /// All of it was read: so many entries and messages it has, and this is the number of the next one.
+    /// The whole archive was read. It has these counts of entries and messages, and this next
+    /// number.
     Checked { entries: u64, live: u32, next: u32 },
     /// A command was answered.
     Answered(Answer),
-    /// The archive was not opened.
+    /// The archive could not be opened.
     Unopened(OpenRefusal),
 }
 
 impl Outcome {
-    /// The status that the program ends with, where all is printed.
+    /// Returns the status that the program ends with, if all is printed.
     pub(crate) fn status(&self) -> u8
         ensures { result ≡ status_of self.now }
     {
@@ -39,7 +40,7 @@ impl Outcome {
         }
     }
 
-    /// Says the line of it, with its line feed. It answers whether all was taken.
+    /// Writes the line of the outcome, and returns whether all of it was taken.
     pub(crate) fn say<O: Sink>(&self, out: &mut O) -> bool
         ensures said { Says (line (outcome_line self.now)) (O.taken out.old) (O.faults out.old) (O.taken out.new) (O.faults out.new) result }
         ensures sink { O.alike out.old out.new }
@@ -58,7 +59,7 @@ impl Outcome {
     }
 }
 
-/// The status behind an answer.
+/// Returns the status for an answer.
 fn status_of_answer(answer: &Answer) -> u8
     ensures { result ≡ answer_status answer.now }
 {
@@ -71,7 +72,7 @@ fn status_of_answer(answer: &Answer) -> u8
     }
 }
 
-/// The status behind an archive that was not opened.
+/// Returns the status for an archive that could not be opened.
 fn status_of_refusal(refusal: &OpenRefusal) -> u8
     ensures { result ≡ refusal_status refusal.now }
 {
@@ -82,7 +83,7 @@ fn status_of_refusal(refusal: &OpenRefusal) -> u8
     }
 }
 
-/// Says that an archive of a name was made.
+/// Writes that an archive with this name was made.
 fn say_made<O: Sink>(name: &Name, out: &mut O) -> bool
     ensures said { Says (line (codes "made " ++ name.now)) (O.taken out.old) (O.faults out.old) (O.taken out.new) (O.faults out.new) result }
     ensures sink { O.alike out.old out.new }
@@ -93,7 +94,7 @@ fn say_made<O: Sink>(name: &Name, out: &mut O) -> bool
     say_line(name.as_slice(), out)
 }
 
-/// Says how many entries and messages an archive has, and the number of the next one.
+/// Writes the counts of an archive's entries and messages, and its next number.
 fn say_checked<O: Sink>(entries: u64, live: u32, next: u32, out: &mut O) -> bool
     ensures said { Says (line (checked_line entries live next)) (O.taken out.old) (O.faults out.old) (O.taken out.new) (O.faults out.new) result }
     ensures sink { O.alike out.old out.new }
@@ -108,7 +109,7 @@ fn say_checked<O: Sink>(entries: u64, live: u32, next: u32, out: &mut O) -> bool
     say_numbers(live, next, out)
 }
 
-/// Says how many messages an archive has, and the number of the next one.
+/// Writes the count of an archive's messages, and its next number.
 fn say_numbers<O: Sink>(live: u32, next: u32, out: &mut O) -> bool
     ensures said { Says (line (codes " live " ++ (decimal live ++ (codes " next " ++ decimal next)))) (O.taken out.old) (O.faults out.old) (O.taken out.new) (O.faults out.new) result }
     ensures sink { O.alike out.old out.new }
@@ -123,7 +124,7 @@ fn say_numbers<O: Sink>(live: u32, next: u32, out: &mut O) -> bool
     say_number(b" next ", u64::from(next), out)
 }
 
-/// Says why an archive was not opened.
+/// Writes why an archive could not be opened.
 fn say_refusal<O: Sink>(refusal: &OpenRefusal, out: &mut O) -> bool
     ensures said { Says (line (refusal_line refusal.now)) (O.taken out.old) (O.faults out.old) (O.taken out.new) (O.faults out.new) result }
     ensures sink { O.alike out.old out.new }

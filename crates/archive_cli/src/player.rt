@@ -1,4 +1,4 @@
-//! The events of a script, turned one by one over what keeps an archive and its one connection.
+//! Plays the events of a script, in order, over a keeper and its one connection.
 ghost use Rattle.std.specs.Prelude.{◌≡◌, ◌≤◌, ◌++◌, [], ℕ, List, All, OnOk, OnErr, None};
 ghost use Rattle.edge_io.specs.Scripts.{IsArrival};
 ghost use Rattle.arch_model.specs.Validity.{last_moment};
@@ -16,9 +16,9 @@ use edge_io::{Event, MemSink, Script, What};
 use std::alloc::Global;
 use std::marker::Model;
 
-/// What keeps an archive and tells how often its disk has failed.
+/// A keeper that tells its disk's count of faults.
 pub(crate) trait CountedKeep: Keep {
-    /// How often its disk has failed.
+    /// Returns the disk's count of faults.
     fn failed(&self) -> u64
         ensures { result ≡ Self.faults self.now };
 }
@@ -29,7 +29,7 @@ impl CountedKeep for Engine<MemDisk> {
     }
 }
 
-/// What keeps an archive, and the session of its one connection, if that is open.
+/// A keeper, and the session of its one connection, if that is open.
 #[derive(Drop)]
 pub(crate) struct Player<K> {
     alloc: Global,
@@ -46,7 +46,7 @@ impl<K> Model for Player<K> {
 }
 
 impl<K: CountedKeep> Player<K> {
-    /// What keeps an archive, without a session.
+    /// Returns a player without a session.
     pub(crate) fn new(alloc: Global, keep: K) -> Player<K>
         ensures { result ≡ record { session = None; keep = keep } }
     {
@@ -57,8 +57,11 @@ impl<K: CountedKeep> Player<K> {
         }
     }
 
-    /// Turns the events of a script up to the first stop, and puts what they write into frames. Where there is no memory, or the disk
-    /// fails, the frames are those of the events before.
+    /// Plays the events of a script up to the first stop, and appends the frames of what they
+    /// write.
+    ///
+    /// `NoMemory` if an allocation or the disk fails, and the frames are those of the events
+    /// before.
     pub(crate) fn play(&mut self, script: &Script, frames: &mut Bytes) -> Result<(), NoMemory>
         requires none { frames.old ≡ [] }
         requires script { All IsArrival script.now }
@@ -76,7 +79,9 @@ impl<K: CountedKeep> Player<K> {
         Ok(())
     }
 
-    /// Turns one event, and puts what it wrote behind the frames. Where there is no memory, or the disk fails, the frames stay.
+    /// Plays one event, and appends the frame of what it writes.
+    ///
+    /// `NoMemory` if an allocation or the disk fails, and the frames are unchanged.
     fn turn(&mut self, event: &Event, piece: &[u8], frames: &mut Bytes) -> Result<(), NoMemory>
         requires moment { event.now.moment ≤ last_moment }
         ensures ok { (w : World) → Shows K.holds K.stale K.clock K.leaves K.faults self.old w → OnOk result (Prints K.holds K.stale K.clock K.leaves K.faults (event.now, piece.now) w frames.old self.new frames.new) }
@@ -97,7 +102,9 @@ impl<K: CountedKeep> Player<K> {
         }
     }
 
-    /// Gives a piece to the session, if there is one, and puts what that wrote behind the frames.
+    /// Feeds a piece to the session, if there is one, and appends the frame of what that writes.
+    ///
+    /// `NoMemory` if an allocation or the disk fails, and the frames are unchanged.
     fn piece(
         &mut self,
         conn: u32,
@@ -123,8 +130,10 @@ impl<K: CountedKeep> Player<K> {
         self.push_taken(&sink, conn, true, frames)
     }
 
-    /// Puts the frame of what a sink took behind the frames. Where the sink or the frame finds no memory, or the disk failed, the
-    /// frames stay.
+    /// Appends the frame of what a sink took.
+    ///
+    /// `NoMemory` if the sink or the frame ran out of memory, or if the disk failed, and the frames
+    /// are unchanged.
     fn push_taken(
         &self,
         sink: &MemSink,
@@ -148,7 +157,7 @@ impl<K: CountedKeep> Player<K> {
     }
 }
 
-/// Whether an event stops the script.
+/// Returns whether an event stops the script.
 fn is_stop(what: What) -> bool
     ensures { result ≡ stops what }
 {

@@ -1,4 +1,4 @@
-//! What the program does: all of it, over a handed-in input and output.
+//! All that the program does, over the disk, input, output and clock that it is given.
 ghost use Rattle.std.specs.Prelude.{◌≡◌, ◌≤◌, ◌+◌, ◌++◌, ◌∷◌, [], ℕ, List, All, Option, None, false, length, codes, decimal};
 ghost use Rattle.disk_model.specs.Disk.{LeavesOnly};
 ghost use Rattle.arch_model.specs.Archives.{Archive, empty_archive};
@@ -28,10 +28,20 @@ use itoa::Buffer;
 use line_door::say;
 use std::alloc::Global;
 
-/// Does what the words say over the disk, and gives the status to end with and the disk: 0 where it is done, 1 where a message is
-/// refused, 2 where the words aren't in the grammar, 3 where there is no archive, or one already, or a damaged one, 4 where the
-/// disk failed, 6 where the input, the clock or the output failed, 7 where there was no memory, and 9 where the input is too long or
-/// no script. What is printed is the definition's, whole, or after a failure of the output a prefix of it.
+/// Does what the words ask for, and returns the status to end with, and the disk.
+///
+/// The status is
+///
+/// * 0 if it is done, or if the message is there already;
+/// * 1 if a message is refused;
+/// * 2 if the words aren't in the grammar;
+/// * 3 if there is no archive, or already one, or a damaged one;
+/// * 4 if the disk failed;
+/// * 6 if the input, the clock or the output failed;
+/// * 7 if out of memory;
+/// * 9 if the input is too long or not a script.
+///
+/// What is printed is that of the definition, or a prefix of it if the output failed.
 pub fn run<D: Disk, S: Source, O: Sink, C: Clock>(
     alloc: Global,
     words: &[&str],
@@ -46,12 +56,14 @@ pub fn run<D: Disk, S: Source, O: Sink, C: Clock>(
     ensures input { TakesInput (spelled words.now) (S.left input.old) (S.faults input.old) (S.left input.new) (S.faults input.new) }
     ensures sink { O.alike out.old out.new }
     ensures disk { LeavesDisk (spelled words.now) → result.1 ≡ disk }
-    // Whatever crash comes while an archive is made: what might have been left before, no archive, or that one.
+    // A crash while an archive is made leaves what it might have left before, no archive, or that
+    // one.
     ensures init { AsksForInit (spelled words.now) → LeavesOnly D.moment D.left_since disk result.1 (WordsLeave (spelled words.now) (C.coming clock.old) (D.content disk)) }
-    // Whatever crash comes while a message is delivered: an archive that the disk may have stood for, or the one with the message.
+    // A crash while a message is delivered leaves an archive that the disk may have stood for, or
+    // the one with the message.
     ensures deliver { (may : List (Option Archive)) → AsksFor (spelled words.now) Deliver → AllRecoverOf may (D.content disk) → HasRoom (D.content disk)
         → LeavesOnly D.moment D.left_since disk result.1 (DeliverLeaves may (S.left input.old) (C.coming clock.old)) }
-    // Whatever crash comes while an archive is checked: one that the disk may have stood for.
+    // A crash while an archive is checked leaves one that the disk may have stood for.
     ensures check { (may : List (Option Archive)) → AsksFor (spelled words.now) Check → AllRecoverOf may (D.content disk) → LeavesOnly D.moment D.left_since disk result.1 (RecoversOf may) }
 {
     let mut disk = disk;
@@ -59,7 +71,7 @@ pub fn run<D: Disk, S: Source, O: Sink, C: Clock>(
     (status, disk)
 }
 
-/// Does what the words say over the disk, and gives the status to end with.
+/// Does what the words ask for, and returns the status to end with.
 fn act<D: Disk, S: Source, O: Sink, C: Clock>(
     alloc: Global,
     words: &[&str],
@@ -74,12 +86,14 @@ fn act<D: Disk, S: Source, O: Sink, C: Clock>(
     ensures input { TakesInput (spelled words.now) (S.left input.old) (S.faults input.old) (S.left input.new) (S.faults input.new) }
     ensures sink { O.alike out.old out.new }
     ensures disk { LeavesDisk (spelled words.now) → disk.new ≡ disk.old }
-    // Whatever crash comes while an archive is made: what might have been left before, no archive, or that one.
+    // A crash while an archive is made leaves what it might have left before, no archive, or that
+    // one.
     ensures init { AsksForInit (spelled words.now) → LeavesOnly D.moment D.left_since disk.old disk.new (WordsLeave (spelled words.now) (C.coming clock.old) (D.content disk.old)) }
-    // Whatever crash comes while a message is delivered: an archive that the disk may have stood for, or the one with the message.
+    // A crash while a message is delivered leaves an archive that the disk may have stood for, or
+    // the one with the message.
     ensures deliver { (may : List (Option Archive)) → AsksFor (spelled words.now) Deliver → AllRecoverOf may (D.content disk.old) → HasRoom (D.content disk.old)
         → LeavesOnly D.moment D.left_since disk.old disk.new (DeliverLeaves may (S.left input.old) (C.coming clock.old)) }
-    // Whatever crash comes while an archive is checked: one that the disk may have stood for.
+    // A crash while an archive is checked leaves one that the disk may have stood for.
     ensures check { (may : List (Option Archive)) → AsksFor (spelled words.now) Check → AllRecoverOf may (D.content disk.old) → LeavesOnly D.moment D.left_since disk.old disk.new (RecoversOf may) }
 {
     match read_words(words) {
@@ -93,7 +107,7 @@ fn act<D: Disk, S: Source, O: Sink, C: Clock>(
     }
 }
 
-/// Makes an archive of these settings on the disk, since the clock's moment.
+/// Makes an archive with these settings on the disk, `born` at the clock's moment.
 fn init<D: Disk, O: Sink, C: Clock>(
     alloc: Global,
     config: Config,
@@ -116,7 +130,7 @@ fn init<D: Disk, O: Sink, C: Clock>(
     print_outcome(&make(alloc, disk, &config), out)
 }
 
-/// The settings of an archive that is made at a moment.
+/// Returns the settings of an archive that is made at a moment.
 fn config_at(config: Config, moment: u64) -> Config
     ensures at { result ≡ made_at config moment }
     ensures valid { IsConfig config → IsConfig result }
@@ -172,7 +186,7 @@ fn deliver_bytes<D: Disk, O: Sink, C: Clock>(
     print_outcome(&deliver(alloc, disk, bytes, moment), out)
 }
 
-/// Prints how a command over the disk ended, and gives the status of that.
+/// Prints how a command over the disk ended, and returns its status.
 fn print_outcome<O: Sink>(outcome: &Outcome, out: &mut O) -> u8
     ensures printed { Printed (Exactly (line (outcome_line outcome.now)) (status_of outcome.now)) result (O.taken out.old) (O.faults out.old) (O.taken out.new) (O.faults out.new) }
     ensures sink { O.alike out.old out.new }
@@ -184,7 +198,7 @@ fn print_outcome<O: Sink>(outcome: &Outcome, out: &mut O) -> u8
     }
 }
 
-/// Runs the script on the input over an empty archive of these settings.
+/// Runs the script on the input over an empty archive with these settings.
 fn replay<S: Source, O: Sink>(alloc: Global, config: Config, input: &mut S, out: &mut O) -> u8
     requires { IsConfig config }
     ensures ends { Replayed config result
@@ -202,7 +216,7 @@ fn replay<S: Source, O: Sink>(alloc: Global, config: Config, input: &mut S, out:
     }
 }
 
-/// Runs a text, which is a script or is refused.
+/// Runs a text as a script, or prints why it isn't one.
 fn replay_text<O: Sink>(alloc: Global, config: Config, text: &[u8], out: &mut O) -> u8
     requires valid { IsConfig config }
     requires short { length text.now ≤ input_limit }
@@ -216,7 +230,8 @@ fn replay_text<O: Sink>(alloc: Global, config: Config, text: &[u8], out: &mut O)
     }
 }
 
-/// Plays a script over an empty archive of these settings, on a disk in memory, and prints what its events wrote.
+/// Plays a script over an empty archive with these settings, on a disk in memory, and prints what
+/// its events write.
 fn replay_script<O: Sink>(alloc: Global, config: Config, events: &Script, out: &mut O) -> u8
     requires valid { IsConfig config }
     requires script { All IsArrival events.now }
@@ -231,7 +246,7 @@ fn replay_script<O: Sink>(alloc: Global, config: Config, events: &Script, out: &
     }
 }
 
-/// Plays a script over what keeps an archive, and prints what its events wrote.
+/// Plays a script over a keeper, and prints what its events write.
 pub(crate) fn play_script<K: CountedKeep + Drop, O: Sink>(
     alloc: Global,
     keep: K,
@@ -267,7 +282,7 @@ fn print_bad<O: Sink>(event: u64, out: &mut O) -> u8
     print_two(buffer.format(event).as_bytes(), b"\n", 9, out)
 }
 
-/// Prints two pieces, and gives a status where both were taken whole.
+/// Prints two slices, and returns the status if both were taken whole, or 6.
 fn print_two<O: Sink>(first: &[u8], second: &[u8], status: u8, out: &mut O) -> u8
     ensures printed { Printed (Exactly (first.now ++ second.now) status) result (O.taken out.old) (O.faults out.old) (O.taken out.new) (O.faults out.new) }
     ensures sink { O.alike out.old out.new }
@@ -278,7 +293,7 @@ fn print_two<O: Sink>(first: &[u8], second: &[u8], status: u8, out: &mut O) -> u
     print(second, status, out)
 }
 
-/// Prints that there is no memory.
+/// Prints that memory ran out.
 pub(crate) fn print_no_memory<O: Sink>(out: &mut O) -> u8
     ensures printed { Printed (Exactly (line (codes "12 no memory")) 7) result (O.taken out.old) (O.faults out.old) (O.taken out.new) (O.faults out.new) }
     ensures sink { O.alike out.old out.new }
@@ -286,7 +301,7 @@ pub(crate) fn print_no_memory<O: Sink>(out: &mut O) -> u8
     print(b"12 no memory\n", 7, out)
 }
 
-/// Prints bytes, and gives a status where all were taken.
+/// Prints bytes, and returns the status if all were taken, or 6.
 fn print<O: Sink>(bytes: &[u8], status: u8, out: &mut O) -> u8
     ensures printed { Printed (Exactly bytes.now status) result (O.taken out.old) (O.faults out.old) (O.taken out.new) (O.faults out.new) }
     ensures sink { O.alike out.old out.new }

@@ -1,4 +1,4 @@
-//! The input, read to its end.
+//! Reads the input up to its end, or up to a limit.
 ghost use Rattle.std.specs.Prelude.{◌≡◌, ◌≤◌, ◌<◌, ◌+◌, ℕ, IfOk, length};
 ghost use Rattle.archive_cli.specs.Program.{TookAtMost, input_limit, message_limit};
 ghost use Rattle.archive_cli.specs.Printing.{IsRead, IsFrontRead, IsPieceRead};
@@ -8,30 +8,34 @@ use edge_io::{Source, SourceFault};
 use std::alloc::{AllocError, Global};
 use thiserror::Error;
 
-/// Why an input isn't read.
+/// The reason why an input could not be read.
 #[derive(Debug, Drop, Error)]
 pub enum InputRefusal {
     /// The source failed.
     #[error("the input failed")]
     Fault,
-    /// It has more bytes than are read.
+    /// The input has more bytes than the limit.
     #[error("the input is too long")]
     TooLong,
-    /// Memory was wanted, and there was none.
+    /// An allocation failed.
     #[error("out of memory")]
     NoMemory,
 }
 
-/// The greatest length of an input.
+/// The greatest length of an input, in bytes.
 const INPUT_LIMIT: usize = 268_435_456;
 
-/// The greatest length of a message that is read: one byte more than a message may have.
+/// The greatest length of a message that is read, in bytes.
+///
+/// This is one byte more than `deliver SIZE` may announce at the control door.
 const MESSAGE_LIMIT: usize = 9_000_001;
 
-/// How many bytes are asked for at once.
+/// The number of bytes that one read asks for.
 const BUFFER_LEN: usize = 65_536;
 
-/// The whole input, of which at most 268,435,457 bytes are taken: one that has so many is too long.
+/// Reads the whole input.
+///
+/// Takes at most 268,435,457 bytes: an input with that many is too long.
 pub(crate) fn read_input<S: Source>(alloc: Global, input: &mut S) -> Result<Bytes, InputRefusal>
     ensures read { IsRead (S.left input.old) (S.faults input.old) result (S.faults input.new) }
     ensures later { S.faults input.old ≤ S.faults input.new }
@@ -44,7 +48,7 @@ pub(crate) fn read_input<S: Source>(alloc: Global, input: &mut S) -> Result<Byte
     }
 }
 
-/// A message on the input: its first 9,000,001 bytes. What follows is left unread.
+/// Reads the message on the input: its first 9,000,001 bytes. Leaves the rest unread.
 pub(crate) fn read_message<S: Source>(alloc: Global, input: &mut S) -> Result<Bytes, InputRefusal>
     ensures read { IsFrontRead message_limit (S.left input.old) (S.faults input.old) result (S.faults input.new) }
     ensures later { S.faults input.old ≤ S.faults input.new }
@@ -53,7 +57,7 @@ pub(crate) fn read_message<S: Source>(alloc: Global, input: &mut S) -> Result<By
     read_front(alloc, input, MESSAGE_LIMIT)
 }
 
-/// The first bytes of the input, at most so many: all of it where it has no more.
+/// Reads the first `most` bytes of the input, or all of it if it has fewer.
 fn read_front<S: Source>(alloc: Global, input: &mut S, most: usize) -> Result<Bytes, InputRefusal>
     ensures read { IsFrontRead most (S.left input.old) (S.faults input.old) result (S.faults input.new) }
     ensures later { S.faults input.old ≤ S.faults input.new }
@@ -73,16 +77,17 @@ fn read_front<S: Source>(alloc: Global, input: &mut S, most: usize) -> Result<By
     Ok(bytes)
 }
 
-/// What one read of the input came to.
+/// The result of one read of the input.
 enum Piece {
-    /// None is left.
+    /// No bytes remain.
     End,
     /// Some bytes were taken.
     More,
 }
 
-/// Puts one piece more of the input behind the bytes, so that they are at most so many in all. Where there is no memory for it,
-/// the bytes stay.
+/// Appends one more piece of the input to the bytes, which then are at most `most` in all.
+///
+/// `NoMemory` leaves the bytes unchanged, and the piece is taken all the same.
 fn read_piece<S: Source>(
     input: &mut S,
     buffer: &mut [u8],
@@ -106,7 +111,7 @@ fn read_piece<S: Source>(
     }
 }
 
-/// A buffer for reads.
+/// Returns a buffer for reads.
 fn new_buffer(alloc: Global) -> Result<Vec<u8>, AllocError>
     ensures { IfOk result (λ buffer. length buffer.items ≡ BUFFER_LEN) }
 {

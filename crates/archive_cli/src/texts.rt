@@ -1,6 +1,6 @@
-//! What the program says of itself.
+//! The texts that the program prints about itself.
 
-/// What `--help` prints: each command with what it does.
+/// What `--help` prints: each command, and what it does.
 pub const HELP: &str = "\
 piv2: a mailing list archive
 

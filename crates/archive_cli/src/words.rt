@@ -15,33 +15,35 @@ const MAX_SLICE: u64 = 1_000_000;
 /// The greatest number that a message can have.
 const MAX_NUMBER: u64 = 2_147_483_647;
 
-/// What the program is asked to do.
+/// What a command line asks for.
 #[derive(Debug, Drop)]
 pub enum Job {
-    /// `--help`: to say what the program does.
+    /// `--help`: prints what the program does.
     Help,
-    /// `--version`: to say which it is.
+    /// `--version`: prints the version of the program.
     Version,
-    /// `replay NAME` with options: to run the script on the input over an archive in memory that has these settings.
+    /// `replay NAME` with options: runs the script on the input over an archive in memory with
+    /// these settings.
     Replay { config: Config },
-    /// `init NAME` with options: to make an archive with these settings. When it was made stands here as 1: the words don't tell.
+    /// `init NAME` with options: makes an archive with these settings. `born` is 1 here, since the
+    /// words don't say when the archive is made.
     Init { config: Config },
-    /// `deliver`: to put the message on the input into the archive.
+    /// `deliver`: delivers the message on the input to the archive.
     Deliver,
-    /// `check`: to read all of the archive.
+    /// `check`: reads the whole archive.
     Check,
 }
 
 /// A setting of an archive, as an option gives it.
 #[derive(Debug, Drop)]
 pub enum Setting {
-    /// `limit=N`: an epoch that has so many bytes takes no further entry.
+    /// `limit=N`: the length in bytes from which an epoch takes no further entry.
     Limit(u64),
-    /// `slice=N`: how many numbers a mailbox has.
+    /// `slice=N`: the count of numbers in a mailbox.
     Slice(u32),
     /// `max=N`: the greatest number of a message.
     Max(u32),
-    /// `mirror`: the archive follows another one and takes no commands.
+    /// `mirror`: the archive mirrors another one, and takes no commands.
     Mirror,
 }
 
@@ -55,7 +57,7 @@ struct Settings {
 }
 
 impl Settings {
-    /// One setting more, or None where there is one of its kind.
+    /// Adds a setting, or returns `None` if one of its kind is there.
     fn with(self, setting: Setting) -> Option<Settings>
         ensures { IsWith self setting result }
     {
@@ -86,7 +88,7 @@ impl Settings {
         }
     }
 
-    /// The settings of a new archive of this name, with the default for each that isn't given.
+    /// Returns the settings of a new archive with this name, and with defaults for those not given.
     fn config(&self, name: Name) -> Config
         ensures { result ≡ config_by name self.now }
     {
@@ -101,10 +103,17 @@ impl Settings {
     }
 }
 
-/// What these words ask for, or None where they aren't in the grammar: `--help`, `--version`, `deliver`, `check`, or `init NAME` or
-/// `replay NAME` with the name of an archive and behind it, in any order and each at most once, `limit=N` (1 to 1,099,511,627,776;
-/// else 1,073,741,824), `slice=N` (1 to 1,000,000; else 50,000) and `max=N` (1 to 2,147,483,647; else that), N in decimal without a
-/// leading zero, and behind `init` alone `mirror`. It takes no memory.
+/// Returns what these words ask for, or `None` if they aren't in the grammar.
+///
+/// The grammar is `--help`, `--version`, `deliver`, `check`, or `init` or `replay` with the name of
+/// an archive and options. Each option comes at most once, in any order:
+///
+/// * `limit=N`: 1 to 1,099,511,627,776, by default 1,073,741,824;
+/// * `slice=N`: 1 to 1,000,000, by default 50,000;
+/// * `max=N`: 1 to 2,147,483,647, which is the default;
+/// * `mirror`: after `init` only.
+///
+/// N is a decimal without leading zeros. Allocates nothing.
 pub fn read_words(words: &[&str]) -> Option<Job>
     ensures { IsJob (spelled words.now) result }
 {
@@ -115,7 +124,7 @@ pub fn read_words(words: &[&str]) -> Option<Job>
     }
 }
 
-/// What one word asks for.
+/// Returns what one word asks for.
 fn read_one(word: &str) -> Option<Job>
     ensures { IsJob (word.now ∷ []) result }
 {
@@ -128,7 +137,7 @@ fn read_one(word: &str) -> Option<Job>
     }
 }
 
-/// What two words and options behind them ask for.
+/// Returns what two words and the options after them ask for.
 #[tactic(auto, using(crate::proofs::Grammar::not_made, crate::proofs::Grammar::other_word, crate::proofs::Grammar::replayed, crate::proofs::Grammar::not_replayed))]
 fn read_named(word: &str, name: &str, options: &[&str]) -> Option<Job>
     ensures { IsJob (word.now ∷ name.now ∷ spelled options.now) result }
@@ -141,7 +150,7 @@ fn read_named(word: &str, name: &str, options: &[&str]) -> Option<Job>
     }
 }
 
-/// The settings of the archive that a name and options behind it make.
+/// Returns the settings that a name and the options after it give.
 fn read_config(name: &str, options: &[&str]) -> Option<Config>
     ensures { IsConfigured (name.now ∷ spelled options.now) result }
 {
@@ -150,7 +159,7 @@ fn read_config(name: &str, options: &[&str]) -> Option<Config>
     Some(settings.config(name))
 }
 
-/// The settings that options spell, or None where one spells none or two are of one kind.
+/// Returns the settings that options spell, or `None` if one spells none or two are of one kind.
 fn read_settings(options: &[&str]) -> Option<Settings>
     ensures { IsCollected (spelled options.now) result }
 {
@@ -167,7 +176,7 @@ fn read_settings(options: &[&str]) -> Option<Settings>
     Some(settings)
 }
 
-/// The setting that a word spells.
+/// Returns the setting that a word spells, or `None` if it spells none.
 fn read_setting(word: &str) -> Option<Setting>
     ensures { Spells IsSetting setting_word word.now result }
 {
@@ -188,7 +197,7 @@ fn read_setting(word: &str) -> Option<Setting>
     Some(Setting::Max(max as u32))
 }
 
-/// The number that a text spells, from 1 up to a greatest one.
+/// Returns the number that a text spells, or `None` if it spells none from 1 to `most`.
 fn read_up_to(most: u64, text: &[u8]) -> Option<u64>
     ensures { Spells (IsUpTo most) decimal text.now result }
 {

@@ -1,4 +1,4 @@
--- The messages of a store by their numbers: which place a number has, and which text.
+-- The messages of a store by their numbers: the index of a number, and its text.
 use Rattle.std.specs.Prelude.{◌≡◌, ◌≢◌, ◌⊎◌, ◌+◌, ◌<◌, ◌≤◌, ◌==◌, ◌||◌, ℕ, zero, suc, Bool, true, false, List, [], ◌∷◌, ◌++◌, length, get_or, slice_get, Option, Some, None, Result, Ok, Err, is_some, unwrap_or, refl}
 use Rattle.std.specs.List.{AllAdjacentBelow}
 use Rattle.std.specs.List.Sorted.{IsPartitionPoint}
@@ -18,25 +18,25 @@ use Rattle.epoch_store.specs.Stores.{View, Keeps, IsStoreOf, stored_at, stored_b
 use Rattle.archive_core.specs.Numbers.{has_number, NumbersRise, IsNumberAt, IsCountBelow, GivesTextKept}
 use Rattle.archive_core.proofs.Standing.{store_keeps}
 
--- what is there is one
+-- An option has one value.
 only : {X : Type 0} (x y : X) → Some x ≡ Some y → x ≡ y
 only {X = X} x y is = ap (λ (o : Option X). unwrap_or o x) is
 
--- what is there isn't missing
+-- An option with a value doesn't lack one.
 there_is : {X : Type 0} (o : Option X) (x : X) → o ≡ Some x → o ≡ None → ⊥
 there_is {X} o x is none = subst (λ (o : Option X). elim o as (λ x. Type 0) [ None ↦ ⊥ | Some y ↦ Unit {0} ]) (sym is ∙ none) tt
 
--- what stands at a place
+-- The item at an index.
 got : (xs : List StoredEntry) (i : ℕ) (d e : StoredEntry) → slice_get xs i ≡ Some e → get_or xs i d ≡ e
 got xs i d e is = only (get_or xs i d) e (sym (slice_get-get_or xs i d (slice_get_within xs i e is)) ∙ is)
 
--- a place is before another or not
+-- An index is before another or not.
 before_or_not : (j i : ℕ) → (j < i) ⊎ (i ≤ j)
 before_or_not j zero = inr (omega arith)
 before_or_not zero (suc i) = inl (omega arith)
 before_or_not (suc j) (suc i) = elim (before_or_not j i) [ inl less ↦ inl (omega (arith, less)) | inr most ↦ inr (omega (arith, most)) ]
 
--- numbers rise in what is kept of entries whose numbers rise
+-- Numbers rise in what is kept of entries whose numbers rise.
 rises : (before es : List Entry) (number epoch : ℕ) → Rise number epoch es → AllAdjacentBelow (λ (x y : StoredEntry). x.number ≤ y.number) (stored_behind before es) (length (stored_behind before es))
 rises before [] number epoch rise k d inside = absurd (omega (arith, inside))
 rises before (e ∷ []) number epoch rise k d inside = absurd (omega (arith, inside))
@@ -45,12 +45,12 @@ rises before (e ∷ (f ∷ es)) number epoch rise (suc k) d inside =
     let on : suc k + 1 ≡ suc (k + 1) = omega arith in
     rw on (rises (before ++ e ∷ []) (f ∷ es) (e.number + 1) e.epoch rise.2 k d (omega (arith, inside)))
 
--- they do in a store that keeps an archive
+-- Numbers rise in a store that keeps an archive.
 pub keeps_rise : (v : View) (a : Archive) → Keeps v a → NumbersRise v.entries
 keeps_rise v a keeps =
     subst NumbersRise (sym keeps.kept) (IsNonDecreasingBy-from_all_adjacent (λ (e : StoredEntry). e.number) (stored_behind [] a.entries) (rises [] a.entries 1 0 keeps.valid.order))
 
--- a later entry has no lesser number
+-- A later entry has no lesser number.
 rise_at : (xs : List StoredEntry) (i j : ℕ) (s t : StoredEntry) → NumbersRise xs → i ≤ j → slice_get xs i ≡ Some s → slice_get xs j ≡ Some t → s.number ≤ t.number
 rise_at xs i j s t rise most here there =
     let up = rise i j s most (slice_get_within xs j t there) in
@@ -58,7 +58,7 @@ rise_at xs i j s t rise most here there =
     let second = ap (λ (e : StoredEntry). e.number) (got xs j s t there) in
     omega (arith, up, first, second)
 
--- where the numbers below one end, as it is found by halves
+-- The index where the numbers below n end, as a binary search finds it.
 pub count_is : (xs : List StoredEntry) (n i : ℕ) → IsPartitionPoint (λ (e : StoredEntry). ltb e.number n ≡ true) (λ (e : StoredEntry). ltb e.number n ≡ false) xs i → IsCountBelow xs n i
 count_is xs n i point place e is =
     let at = ap (λ (f : StoredEntry). f.number) (got xs place e e is) in
@@ -67,7 +67,7 @@ count_is xs n i point place e is =
       λ most. (let high = ltb-false (get_or xs place e).number n (point.1 place e most inside) in omega (arith, high, at)),
     )
 
--- a number stands at a place
+-- A number has an index.
 has_step : (t : Bool) (e : StoredEntry) (es : List StoredEntry) (n : ℕ) → (e.number == n) ≡ t → (t || has_number es n) ≡ true → (has_number es n ≡ true → (i : ℕ) × IsNumberAt es n i) → (i : ℕ) × IsNumberAt (e ∷ es) n i
 has_step true e es n is has rest = let same : e.number ≡ n = grind (arith, nat_tests) in (zero, (e, refl, same))
 has_step false e es n is has rest = let r = rest has in (suc r.0, r.1)
@@ -76,7 +76,7 @@ has_place : (xs : List StoredEntry) (n : ℕ) → has_number xs n ≡ true → (
 has_place [] n has = absurd (cc)
 has_place (e ∷ es) n has = has_step (e.number == n) e es n refl has (λ (h : has_number es n ≡ true). has_place es n h)
 
--- a number that is there stands where the numbers below it end
+-- A number that is there is at the index where the numbers below it end.
 found : (xs : List StoredEntry) (n i : ℕ) → NumbersRise xs → IsCountBelow xs n i → has_number xs n ≡ true → IsNumberAt xs n i
 found xs n i rise count has =
     let r = has_place xs n has in
@@ -95,7 +95,7 @@ found xs n i rise count has =
           (s, here, omega (arith, high, low, same))
     ]
 
--- so that there an entry is found, and no other
+-- So an entry is found there.
 pub never_missing : (xs : List StoredEntry) (n i : ℕ) → NumbersRise xs → IsCountBelow xs n i → has_number xs n ≡ true → slice_get xs i ≡ None → ⊥
 never_missing xs n i rise count has none = let at = found xs n i rise count has in there_is (slice_get xs i) at.0 at.1 none
 
@@ -104,7 +104,7 @@ never_other xs n i e rise count has here other =
     let at = found xs n i rise count has in
     other (ap (λ (f : StoredEntry). f.number) (only e at.0 (sym here ∙ at.1)) ∙ at.2)
 
--- no entry has a number that none has of those that are kept
+-- No entry has a number that none of the kept ones has.
 none_of : (before es : List Entry) (m : ℕ) → ((j : ℕ) (s : StoredEntry) → slice_get (stored_behind before es) j ≡ Some s → s.number ≢ m) → text_of es m ≡ None
 none_of before [] m apart = refl
 none_of before (e ∷ es) m apart =
@@ -112,7 +112,7 @@ none_of before (e ∷ es) m apart =
     let other : (e.number == m) ≡ false = grind (arith, nat_tests) in
     rw other (none_of (before ++ e ∷ []) es m (λ j s is. apart (suc j) s is))
 
--- the text of the number that stands at a place
+-- The text of the number at an index.
 text_at : (before es : List Entry) (number epoch i n : ℕ) (s : StoredEntry) → Rise number epoch es → slice_get (stored_behind before es) i ≡ Some s → s.number ≡ n
     → (number ≤ n) × (text_of es n ≡ text_if (slice_get es i)) × (is_some (text_of es n) ≡ true)
 text_at before [] number epoch i n s rise is same = absurd (there_is (slice_get {X = StoredEntry} [] i) s is refl)
@@ -128,17 +128,17 @@ text_at before (e ∷ es) number epoch (suc i) n s rise is same =
     let other : (e.number == n) ≡ false = grind (arith, nat_tests) in
     (omega (arith, first, above), rw other rest.1, rw other rest.2)
 
--- the same in the archive that a store keeps
+-- The same in the archive that a store keeps.
 text_in : (v : View) (a : Archive) (i n : ℕ) (s : StoredEntry) → Keeps v a → slice_get v.entries i ≡ Some s → s.number ≡ n → (text_of a.entries n ≡ text_if (slice_get a.entries i)) × (is_some (text_of a.entries n) ≡ true)
 text_in v a i n s keeps is same =
     let r = text_at [] a.entries 1 0 i n s keeps.valid.order (subst (λ (l : List StoredEntry). slice_get l i ≡ Some s) keeps.kept is) same in
     (r.1, r.2)
 
--- a number that no kept entry has, no entry of the archive has
+-- A number that no kept entry has, no entry of the archive has.
 none_in : (v : View) (a : Archive) (m : ℕ) → Keeps v a → ((j : ℕ) (s : StoredEntry) → slice_get v.entries j ≡ Some s → s.number ≢ m) → text_of a.entries m ≡ None
 none_in v a m keeps apart = none_of [] a.entries m (λ j s is. apart j s (subst (λ (l : List StoredEntry). slice_get l j ≡ Some s) (sym keeps.kept) is))
 
--- the number where those below one end is the least that is at least that one
+-- The number at the index where those below n end is the least that is at least n.
 least_some : (v : View) (a : Archive) (n i : ℕ) (s : StoredEntry) → Keeps v a → IsCountBelow v.entries n i → slice_get v.entries i ≡ Some s → IsLeastLive a.entries n (Some s.number)
 least_some v a n i s keeps count here = ((count i s here).1 (omega arith), (text_in v a i s.number s keeps here refl).1, λ m at_least below. none_in v a m keeps (λ j t there. apart m at_least below j t there))
   where
@@ -148,7 +148,7 @@ least_some v a n i s keeps count here = ((count i s here).1 (omega arith), (text
       | inr most ↦ (let up = rise_at v.entries i j s t (keeps_rise v a keeps) most here there in absurd (omega (arith, up, below, same)))
     ]
 
--- where all are below one, there is none
+-- If all numbers are below n, there is none.
 least_none : (v : View) (a : Archive) (n i : ℕ) → Keeps v a → IsCountBelow v.entries n i → slice_get v.entries i ≡ None → IsLeastLive a.entries n None
 least_none v a n i keeps count none = λ m at_least. none_in v a m keeps (λ j t there. apart m at_least j t there)
   where
@@ -159,7 +159,7 @@ least_none v a n i keeps count none = λ m at_least. none_in v a m keeps (λ j t
           there_is (slice_get v.entries i) (get_or v.entries i t) (slice_get-get_or v.entries i t (omega (arith, most, inside))) none)
     ]
 
--- the same by what a search finds in the entries of a store
+-- The same by the result of a search in the entries of a store.
 pub search_some : (v : View) (a : Archive) (xs : List StoredEntry) (n i : ℕ) (s : StoredEntry) → xs ≡ v.entries → Keeps v a → (NumbersRise xs → IsCountBelow xs n i) → slice_get xs i ≡ Some s → IsLeastLive a.entries n (Some s.number)
 search_some v a xs n i s same keeps count here =
     let counted : NumbersRise v.entries → IsCountBelow v.entries n i = subst (λ (l : List StoredEntry). NumbersRise l → IsCountBelow l n i) same count in
@@ -170,17 +170,17 @@ search_none v a xs n i same keeps count none =
     let counted : NumbersRise v.entries → IsCountBelow v.entries n i = subst (λ (l : List StoredEntry). NumbersRise l → IsCountBelow l n i) same count in
     least_none v a n i keeps (counted (keeps_rise v a keeps)) (subst (λ (l : List StoredEntry). slice_get l i ≡ None) same none)
 
--- the text of the entry where a number stands is the text of that number
+-- The text of the entry with a number is the text of that number.
 pub text_gives : (v : View) (a : Archive) (k : Option Content) (n i : ℕ) (old new : List ℕ) (r : Result Unit TextRefusal) → IsStoreOf v a k → IsNumberAt v.entries n i → GivesTextOf a i old new r → GivesTextIn a.entries n old new r
 text_gives v a k n i old new (Ok done) own at given = (given.0, (text_in v a i n at.0 (store_keeps v a k own) at.1 at.2).0 ∙ given.1, given.2)
 text_gives v a k n i old new (Err (Damaged named found)) own at given = given
 text_gives v a k n i old new (Err DiskFault) own at given = tt
 text_gives v a k n i old new (Err NoMemory) own at given = tt
 
--- what is given by what is kept of its entry
+-- The result by what is kept of the number's entry.
 pub text_kept : (xs : List StoredEntry) (n i : ℕ) (old new : List ℕ) (r : Result Unit TextRefusal) → IsNumberAt xs n i → ((s : StoredEntry) → slice_get xs i ≡ Some s → GivesText s old new r) → GivesTextKept xs n old new r
 text_kept xs n i old new r at given = (i, at.0, at.1, at.2, given at.0 at.1)
 
--- want of memory leaves the bytes
+-- Running out of memory leaves the bytes.
 pub wanting_kept : (xs : List StoredEntry) (n : ℕ) (old : List ℕ) → has_number xs n ≡ true → GivesTextKept xs n old old (Err NoMemory)
 wanting_kept xs n old has = let r = has_place xs n has in (r.0, r.1.0, r.1.1, r.1.2, refl)

@@ -6,7 +6,7 @@ use Rattle.arch_model.specs.Archives.{Entry, Archive}
 use Rattle.epoch_store.specs.Stores.{View, Keeps, stored_behind}
 use Rattle.arch_model.specs.Validity.{Rise}
 
--- entries whose numbers rise from one on and stay below another aren't more than are between
+-- Entries whose numbers rise from one on and stay below another are at most as many as are between.
 few : (number epoch next : ℕ) (es : List Entry) → number ≤ next → Rise number epoch es → AllByRecursion (λ (e : Entry). e.number < next) es → number + length es ≤ next
 few number epoch next [] low rise below = omega (arith, low)
 few number epoch next (e ∷ es) low rise below =
@@ -15,12 +15,12 @@ few number epoch next (e ∷ es) low rise below =
     let rest = few (e.number + 1) e.epoch next es (omega (arith, less)) rise.2 below.1 in
     omega (arith, first, rest)
 
--- as many are kept as there are
+-- As many are kept as there are.
 pub stored_length : (before es : List Entry) → length (stored_behind before es) ≡ length es
 stored_length before [] = refl
 stored_length before (e ∷ es) = let rest = stored_length (before ++ e ∷ []) es in omega (arith, rest)
 
--- a store's entries are those of the archive that it keeps, and can be counted with 32 bits
+-- A store's entries are those of the archive that it keeps, and are counted with 32 bits.
 pub counted : (v : View) (a : Archive) → Keeps v a → min (length v.entries) 4294967295 ≡ length a.entries
 counted v a keeps =
     let same : length v.entries ≡ length a.entries = ap length keeps.kept ∙ stored_length [] a.entries in

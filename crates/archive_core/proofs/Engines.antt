@@ -1,4 +1,4 @@
--- What an archive on a disk that it owns comes to by the calls below it.
+-- The results of an archive that owns its disk, by the calls below it.
 use Rattle.std.specs.Prelude.{◌≡◌, ◌⊎◌, ◌≤◌, ◌<◌, ℕ, zero, suc, Bool, true, false, List, length, get_or, Option, Some, None, Result, Ok, Err, refl}
 use Rattle.std.proofs.Common.{◌∙◌, sym, ap, subst, inl, inr, arith}
 use Rattle.disk_model.specs.declared.name.FileName.{FileName}
@@ -17,14 +17,14 @@ use Rattle.epoch_store.specs.Stores.{View, IsStoreOf, RecoversEither}
 use Rattle.archive_core.specs.Commands.{DoneBy}
 use Rattle.archive_core.specs.Engines.{Owning, needs_opening, store_left}
 
--- a disk that changed no file holds the same
+-- A disk that changed no file holds the same.
 pub unchanged_is : (old new : Option Content) → Told Unchanged old new → new ≡ old
 unchanged_is None None told = refl
 unchanged_is None (Some m) told = absurd told
 unchanged_is (Some k) None told = absurd told
 unchanged_is (Some k) (Some m) told = λ i. Some (λ (name : FileName). told name i)
 
--- one of the archives that may be there is the archive, or the one in doubt
+-- One of the archives that may be there is the archive, or the one in doubt.
 is_either : (x : Archive) (d : Option Archive) (may : Option Archive) (i : ℕ) → i < length (with_doubt x d) → get_or (with_doubt x d) i may ≡ may → (b : Archive) × (may ≡ Some b) × ((b ≡ x) ⊎ (d ≡ Some b))
 is_either x None may zero below is = (x, sym is, inl refl)
 is_either x None may (suc i) below is = absurd (omega (arith, below))
@@ -32,45 +32,46 @@ is_either x (Some y) may zero below is = (x, sym is, inl refl)
 is_either x (Some y) may (suc zero) below is = (y, sym is, inr refl)
 is_either x (Some y) may (suc (suc i)) below is = absurd (omega (arith, below))
 
--- files that stand for one of them stand for the archive or for the one in doubt
+-- Files that stand for one of them stand for the archive or for the one in doubt.
 recovers_either : (s : Standing) (image : Files) → RecoversOf (one_of s) image → (b : Archive) × IsFound s b × RecoversSome image (Some b)
 recovers_either s image recovers =
     let found = is_either s.archive s.doubt recovers.0 recovers.1.0 recovers.1.1 recovers.1.2 in
     (found.0, found.2, subst (λ (o : Option Archive). RecoversSome image o) found.1 recovers.2)
 
--- Where each image stands for one of these archives the disk tells its content, since there may be no file at all else.
+-- If each image stands for one of these archives, the disk tells its content; otherwise any files
+-- could be there, none included.
 all_recover : (s : Standing) (k : Option Content) → ((image : Files) → Image k image → RecoversOf (one_of s) image) → AllRecoverOf (one_of s) k
 all_recover s None each = let none : Files = λ name. None in absurd ((recovers_either s none (each none tt)).2.1.stands.current)
 all_recover s (Some k) each = each
 
--- so it reads as the archive or as the one in doubt
+-- So the disk reads as the archive or as the one in doubt.
 reads_one : (s : Standing) (k : Option Content) → ReadsFit k → AllRecoverOf (one_of s) k → (b : Archive) × IsFound s b × ReadsAs b k
 reads_one s None fit all = absurd all
 reads_one s (Some k) fit all = recovers_either s (as_read k) (all (as_read k) (λ name. fit k refl name))
 
--- the one archive or the other is one of the two
+-- Files that stand for either archive stand for one of the two.
 pub either_one : (a b : Archive) (image : Files) → RecoversEither a b image → RecoversOf (one_of (standing a (Some b))) image
 either_one a b image (inl before) = (Some a, (0, omega arith, refl), before)
 either_one a b image (inr after) = (Some b, (1, omega arith, refl), after)
 
--- and a store's own disk leaves the one
+-- A store's own disk leaves the first of the two.
 stands_for : (v : View) (a b : Archive) (k : Option Content) (image : Files) → IsStoreOf v a k → Image k image → RecoversEither a b image
 stands_for v a b None image store left = absurd store
 stands_for v a b (Some k) image store left = inl (v.root, record { valid = store.keeps.valid; names = store.keeps.names; stands = store.on.images image left })
 
--- the archive that it holds
+-- The archive that it holds.
 abbrev pub Holds : {D : Type 0} → (D → Option Content) → Owning D → Archive → Type 0
 Holds content e a = IsStoreOf e.view a (content e.disk)
 
--- whether it has to be opened again
+-- Whether it has to be reopened.
 abbrev pub stale_of : {D : Type 0} → Owning D → Bool
 stale_of e = e.stale
 
--- the moment of its disk
+-- The moment of its disk.
 abbrev pub clock_of : {D : Type 0} → (D → ℕ) → Owning D → ℕ
 clock_of moment e = moment e.disk
 
--- each crash since a moment has left one of these archives
+-- Each crash since a moment has left one of these archives.
 abbrev pub Leaves : {D : Type 0} → (D → ℕ → Files → Type 0) → Owning D → ℕ → List (Option Archive) → Type 0
 Leaves left_since e t may = (image : Files) → left_since e.disk t image → RecoversOf may image
 
@@ -78,32 +79,32 @@ module _ {D : Type 0} (content : D → Option Content) (moment : D → ℕ) (lef
     (counts_now : (disk : D) (t : ℕ) (image : Files) → t ≤ moment disk → Image (content disk) image → left_since disk t image)
     (only_now : (disk : D) (image : Files) → left_since disk (moment disk) image → Image (content disk) image)
     (reads_fit : (disk : D) → ReadsFit (content disk)) where
-  -- it stands so
+  -- It stands so.
   abbrev pub Stands : Owning D → Standing → Type 0
   Stands = Fits (Holds content) stale_of (clock_of moment) (Leaves left_since)
 
-  -- what an opening again comes to
+  -- The results of reopening.
   abbrev pub Opening : Standing → Result Unit OpenRefusal → Owning D → Type 0
   Opening = Reopens (Holds content) stale_of (clock_of moment) (Leaves left_since)
 
-  -- what a crash leaves behind a run it leaves now
+  -- What a crash leaves after a run it leaves now.
   now_left : (old new : D) (P : Files → Type 0) → LeavesOnly moment left_since old new P → (image : Files) → left_since new (moment new) image → P image
   now_left old new P run image left = run.each image (counts_now new (moment old) image run.later (only_now new image left))
 
-  -- what stands so has, of each crash, one of the archives that are there
+  -- Each crash of an archive that stands so leaves one of the archives that are there.
   fits_all : (e : Owning D) (s : Standing) → Stands e s → AllRecoverOf (one_of s) (content e.disk)
   fits_all e s fits = all_recover s (content e.disk) (λ image left. fits.left image (counts_now e.disk (moment e.disk) image (omega arith) left))
 
-  -- what an opening again leaves at each moment
+  -- What reopening leaves at each moment.
   reopening : (old : Owning D) (new : D) (s : Standing) → ((may : List (Option Archive)) → AllRecoverOf may (content old.disk) → LeavesOnly moment left_since old.disk new (RecoversOf may)) → Stands old s
       → LeavesOnly moment left_since old.disk new (RecoversOf (one_of s))
   reopening old new s run fits = run (one_of s) (fits_all old s fits)
 
-  -- while nothing is done a crash leaves the archive
+  -- While nothing is done a crash leaves the archive.
   pub still_left : (e : Owning D) (a b : Archive) → Holds content e a → (image : Files) → left_since e.disk (clock_of moment e) image → RecoversOf (one_of (standing a (Some b))) image
   still_left e a b store image left = either_one a b image (stands_for e.view a b (content e.disk) image store (only_now e.disk image left))
 
-  -- Here `inside` is what it is by its parts.
+  -- Here `inside` is the value by its parts.
   module _ (inside old : Owning D) (is : inside ≡ old) where
     held_inside : (a : Archive) → Holds content old a → Holds content inside a
     held_inside a = subst (λ (o : Owning D). Holds content o a) (sym is)
@@ -114,32 +115,32 @@ module _ {D : Type 0} (content : D → Option Content) (moment : D → ℕ) (lef
     left_inside : (new : D) (may : List (Option Archive)) → ((image : Files) → left_since new (clock_of moment inside) image → RecoversOf may image) → (image : Files) → left_since new (clock_of moment old) image → RecoversOf may image
     left_inside new may = subst (λ (o : Owning D). (image : Files) → left_since new (clock_of moment o) image → RecoversOf may image) is
 
-    -- behind a call that only reads it holds the archive still
+    -- After a call that only reads it still holds the archive.
     pub read_holds : (new : D) → Told Unchanged (content inside.disk) (content new) → (a : Archive) → Holds content old a → IsStoreOf inside.view a (content new)
     read_holds new told a store = subst (λ (k : Option Content). IsStoreOf inside.view a k) (sym (unchanged_is (content inside.disk) (content new) told)) (held_inside a store)
 
-    -- and a crash leaves the archive
+    -- After a call that only reads a crash leaves the archive.
     pub read_left : (new : D) → LeavesOnly moment left_since inside.disk new (Image (content inside.disk)) → (a : Archive) → Holds content old a → (image : Files) → left_since new (clock_of moment old) image → RecoversOf (one_of (standing a None)) image
     read_left new run a store = left_inside new (one_of (standing a None)) (λ image left. store_left inside.view a (content inside.disk) image (held_inside a store) (run.each image left))
 
-    -- while it needn't be opened again it is as it was
+    -- While it needn't be reopened it is as it was.
     pub still_ready : inside.stale ≡ false → (s : Standing) → Stands old s → Opening s (Ok tt) old
     still_ready ready s fits =
         let now : old.stale ≡ false = sym (ap (λ (o : Owning D). o.stale) is) ∙ ready in
         (s.archive, inl refl, record { holding = (fits.ready now).0; ready = now })
 
-    -- what is opened again is the archive or the one in doubt
+    -- What is reopened is the archive or the one in doubt.
     pub reopened : (new : Owning D) → ((a : Archive) → ReadsAs a (content inside.disk) → IsStoreOf new.view a (content new.disk)) → new.stale ≡ false → (s : Standing) → Stands old s → Opening s (Ok tt) new
     reopened new opened ready s fits =
         let found = reads_one s (content inside.disk) (reads_fit inside.disk) (fits_all inside s (stands_inside s fits)) in
         (found.0, found.1, record { holding = opened found.0 found.2; ready = ready })
 
-    -- a crash meanwhile leaves no other
+    -- A crash while it is reopened leaves no other.
     pub reopening_left : (new : D) → ((may : List (Option Archive)) → AllRecoverOf may (content inside.disk) → LeavesOnly moment left_since inside.disk new (RecoversOf may)) → (s : Standing) → Stands old s
         → (image : Files) → left_since new (clock_of moment old) image → RecoversOf (one_of s) image
     reopening_left new run s fits = left_inside new (one_of s) (reopening inside new s run (stands_inside s fits)).each
 
-    -- what is not opened again stands as before
+    -- What isn't reopened stands as before.
     pub unopened : (new : Owning D) (why : OpenRefusal) → ((may : List (Option Archive)) → AllRecoverOf may (content inside.disk) → LeavesOnly moment left_since inside.disk new.disk (RecoversOf may))
         → ((a : Archive) → ReadsAs a (content inside.disk) → IsWant why) → new.stale ≡ true → (s : Standing) → Stands old s → Opening s (Err why) new
     unopened new why run well unready s fits = of_why why (well found.0 found.2) where
@@ -161,12 +162,12 @@ module _ {D : Type 0} (content : D → Option Content) (moment : D → ℕ) (lef
       of_why refusal.DiskFault want = still
       of_why refusal.NoMemory want = still
 
-    -- a crash in a command leaves the archive before it, or the one behind it
+    -- A crash in a command leaves the archive before it, or the one after it.
     pub command_left : (new : D) (wanted : Archive → Archive) → ((a : Archive) → Holds content inside a → LeavesOnly moment left_since inside.disk new (RecoversEither a (wanted a))) → (a : Archive) → Holds content old a
         → (image : Files) → left_since new (clock_of moment old) image → RecoversOf (one_of (standing a (Some (wanted a)))) image
     command_left new wanted run a store = left_inside new (one_of (standing a (Some (wanted a)))) (λ image left. either_one a (wanted a) image ((run a (held_inside a store)).each image left))
 
-    -- what a command is answered on the archive is answered by what keeps it
+    -- The answer to a command on the archive is the answer of its keeper.
     pub command_done : (new : Owning D) (wanted : Archive → Done) (reply : Answer) → new.stale ≡ needs_opening reply → ((a : Archive) → Holds content inside a → LeavesOnly moment left_since inside.disk new.disk (RecoversEither a (wanted a).archive))
         → ((a : Archive) → Holds content inside a → DoneBy new.view a (wanted a) reply (content new.disk)) → (a : Archive) → Holds content old a → DoesBy (Holds content) stale_of (clock_of moment) (Leaves left_since) a (wanted a) reply new
     command_done new wanted reply stale run done a store = of_reply reply stale (done a (held_inside a store)) where

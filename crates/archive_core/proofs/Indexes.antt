@@ -1,4 +1,5 @@
--- The messages of a store by their ids and blob ids: what of them is an archive's, and what is free.
+-- The messages of a store by their ids and blob ids: which are an archive's, and which ids are
+-- free.
 use Rattle.std.specs.Prelude.{◌≡◌, ◌≢◌, ℕ, Bool, true, false, cond, List, [], ◌∷◌, ◌++◌, Option, Some, None, IsSome, option_map, unwrap_or, if◌then◌else◌, refl}
 use Rattle.std.specs.List.{AllByRecursion, find}
 use Rattle.std.specs.Str.{bytes_eq}
@@ -17,15 +18,15 @@ use Rattle.epoch_store.specs.Stores.{View, Accepts, AddsEntry, Keeps, stored_at,
 use Rattle.arch_model.specs.Validity.{IsEntry}
 use Rattle.archive_core.specs.Kept.{IndexesStored, PutsText, TakesBackText, owner_kept, stored_owner, stored_number}
 
--- bytes that are the same are found to be
+-- Equal bytes compare as equal.
 same_bytes : (a b : List ℕ) → a ≡ b → bytes_eq a b ≡ true
 same_bytes a b is = (bytes_eq-Decides a b).1 is
 
--- a value that is there is the one that is there
+-- An option has one value.
 inside : {X : Type 0} (x y : X) → Some x ≡ Some y → x ≡ y
 inside {X = X} x y is = ap (λ (o : Option X). unwrap_or o x) is
 
--- nothing is found exactly where each fails the test
+-- Nothing is found exactly if each item fails the test.
 module _ {X Y : Type 0} (test : X → Bool) (give : X → Y) where
   none_step : (t : Bool) (x : X) (rest : Option X) → option_map give (cond t (Some x) rest) ≡ None → (t ≡ false) × (option_map give rest ≡ None)
   none_step true x rest none = absurd (cc)
@@ -50,7 +51,7 @@ module _ {X Y : Type 0} (test : X → Bool) (give : X → Y) where
   free_step true u x rest free is = absurd (let none : Some (give x) ≡ None = free is in cc)
   free_step false u x rest free is = free is
 
-  -- behind others the last one is found where it passes the test and none of the others does
+  -- An appended item is found if it passes the test and none of the others does.
   found_more : (xs : List X) (y : X) → (test y ≡ true → option_map give (find test xs) ≡ None) → option_map give (find test (xs ++ y ∷ [])) ≡ (if test y then Some (give y) else option_map give (find test xs))
   found_more [] y free = by (test y) where
     by : (t : Bool) → option_map give (cond t (Some y) None) ≡ (if t then Some (give y) else None)
@@ -58,12 +59,12 @@ module _ {X Y : Type 0} (test : X → Bool) (give : X → Y) where
     by false = refl
   found_more (x ∷ xs) y free = more_step (test x) (test y) x y (find test xs) (find test (xs ++ y ∷ [])) (found_more xs y (free_step (test x) (test y) x (find test xs) free)) free
 
--- what holds of each says something else too
+-- A consequence of what holds of each item.
 each : {X : Type 0} (P Q : X → Type 0) (xs : List X) → ((x : X) → P x → Q x) → AllByRecursion P xs → AllByRecursion Q xs
 each P Q [] less all = tt
 each P Q (x ∷ xs) less all = (less x all.0, each P Q xs less all.1)
 
--- bytes that are apart
+-- Bytes that differ.
 apart_bytes : (a b : List ℕ) → bytes_eq a b ≡ false → a ≡ b → ⊥
 apart_bytes a b other is = let no : true ≡ false = sym (same_bytes a b is) ∙ other in cc
 
@@ -73,7 +74,8 @@ other_bytes a b apart = by (bytes_eq a b) refl where
   by true is = absurd (apart ((bytes_eq-Decides a b).0 is))
   by false is = is
 
--- no entry has an id that none is found for, nor a blob id; and none is found for one that no entry has
+-- No entry has an id or a blob id for which none is found, and none is found for one that no entry
+-- has.
 pub ids_free : (es : List StoredEntry) (text id : List ℕ) → own_id text ≡ Some id → stored_owner es id ≡ None → AllByRecursion (λ (e : StoredEntry). own_id text ≢ Some e.seen.id) es
 ids_free es text id own none =
     each (λ (e : StoredEntry). bytes_eq id e.seen.id ≡ false) (λ (e : StoredEntry). own_id text ≢ Some e.seen.id) es
@@ -97,7 +99,7 @@ blob_free es blob free =
     (each (λ (e : StoredEntry). blob ≢ e.seen.blob) (λ (e : StoredEntry). bytes_eq blob.0 e.seen.blob.0 ≡ false) es
     (λ e apart. other_bytes blob.0 e.seen.blob.0 (λ is. absurd (apart (ap (λ (b : List ℕ). let i : Id20 = record { 0 = b } in i) is)))) free)
 
--- the message of an archive's entry that has an id
+-- The message of an archive's entry that has an id.
 owner_step : (o : Option (List ℕ)) (id : List ℕ) (e : Entry) (kept : StoredEntry) (found : Option Entry) (rest : Option StoredEntry) → IsSome o → owner_kept kept ≡ owner_of e → kept.seen.id ≡ unwrap_or o [] → option_map owner_kept rest ≡ option_map owner_of found
     → option_map owner_kept (cond (bytes_eq id kept.seen.id) (Some kept) rest) ≡ option_map owner_of (if is_id id o then Some e else found)
 owner_step None id e kept found rest some same id_is ih = absurd (let no : false ≡ true = some in cc)
@@ -111,7 +113,7 @@ owners_same before [] valid id = refl
 owners_same before (e ∷ es) valid id =
     owner_step (own_id e.text) id e (stored_at before e) (owner es id) (find (λ (s : StoredEntry). bytes_eq id s.seen.id) (stored_behind (before ++ e ∷ []) es)) valid.0.text.id refl refl (owners_same (before ++ e ∷ []) es valid.1 id)
 
--- and its number by its blob id
+-- The number of an entry by its blob id.
 number_step : (t : Bool) (n : ℕ) (kept : StoredEntry) (found : Option ℕ) (rest : Option StoredEntry) → kept.number ≡ n → option_map (λ (s : StoredEntry). s.number) rest ≡ found → option_map (λ (s : StoredEntry). s.number) (cond t (Some kept) rest) ≡ (if t then Some n else found)
 number_step true n kept found rest same ih = ap Some same
 number_step false n kept found rest same ih = ih
@@ -121,7 +123,7 @@ numbers_same before [] blob = refl
 numbers_same before (e ∷ es) blob =
     number_step (bytes_eq blob (blob_id_of e.text).0) e.number (stored_at before e) (blob_number es blob) (find (λ (s : StoredEntry). bytes_eq blob s.seen.blob.0) (stored_behind (before ++ e ∷ []) es)) refl (numbers_same (before ++ e ∷ []) es blob)
 
--- the index of a store's entries is that of the entries of the archive that it keeps
+-- The index of a store's entries is that of the entries of the archive that it keeps.
 pub index_of_kept : (v : View) (a : Archive) (index : Index) → Keeps v a → IndexesStored v.entries index → IsIndex a.entries index
 index_of_kept v a index keeps indexed =
     let of_kept : IndexesStored (stored_behind [] a.entries) index = subst (λ (es : List StoredEntry). IndexesStored es index) keeps.kept indexed in
@@ -130,11 +132,11 @@ index_of_kept v a index keeps indexed =
       blobs = λ blob. of_kept.blobs blob ∙ numbers_same [] a.entries blob;
     }
 
--- an index that has the same is that of the same entries
+-- An index that has the same is that of the same entries.
 pub indexes_same : (es : List StoredEntry) (old new : Index) → IndexesStored es old → HasSame old new → IndexesStored es new
 indexes_same es old new indexed same = record { owners = λ q. same.owners q ∙ indexed.owners q; blobs = λ q. same.blobs q ∙ indexed.blobs q }
 
--- an index with a new text is that of the entries with it
+-- An index with a new text is that of the entries with it.
 pub indexes_more : (old new : View) (before behind : Index) (text : List ℕ) (blob : Id20) → IndexesStored old.entries before → Accepts old text → blob ≡ blob_id_of text → PutsText before behind text blob old.root.next → AddsEntry old new text → IndexesStored new.entries behind
 indexes_more old new before behind text blob indexed accepts blob_is puts adds =
     let e = adds.entry in
@@ -159,11 +161,11 @@ indexes_more old new before behind text blob indexed accepts blob_is puts adds =
           ∙ sym (found_more (λ (s : StoredEntry). bytes_eq q s.seen.blob.0) (λ (s : StoredEntry). s.number) old.entries e (λ is. subst (λ (b : List ℕ). stored_number old.entries b ≡ None) (sym ((bytes_eq-Decides q e.seen.blob.0).0 is)) blob_none));
     })
 
--- the blob id of a text that would be accepted is new to the index
+-- The blob id of a text that would be accepted is new to the index.
 pub unseen : (v : View) (index : Index) (text : List ℕ) (blob : Id20) → IndexesStored v.entries index → Accepts v text → blob ≡ blob_id_of text → number_in index.blobs blob.0 ≡ None
 unseen v index text blob indexed accepts blob_is = indexed.blobs blob.0 ∙ blob_free v.entries blob (subst (λ (i : Id20). AllByRecursion (λ (e : StoredEntry). i ≢ e.seen.blob) v.entries) (sym blob_is) accepts.blob)
 
--- a new text that is put in and taken out again leaves an index of the same entries
+-- A new text that is put in and removed leaves an index of the same entries.
 pub indexes_again : (v : View) (before put behind : Index) (text : List ℕ) (blob : Id20) → IndexesStored v.entries before → Accepts v text → blob ≡ blob_id_of text → PutsText before put text blob v.root.next → TakesBackText put behind text blob → IndexesStored v.entries behind
 indexes_again v before put behind text blob indexed accepts blob_is puts back = by (own_id text) refl accepts.storage.id where
   by : (o : Option (List ℕ)) → own_id text ≡ o → IsSome o → IndexesStored v.entries behind

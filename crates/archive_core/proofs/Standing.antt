@@ -6,12 +6,12 @@ use Rattle.arch_model.specs.Archives.{Archive}
 use Rattle.epoch_store.specs.Laws.{StoreRecovers}
 use Rattle.epoch_store.specs.Stores.{View, Keeps, IsStoreOf, RecoversEither}
 
--- a store whose own disk it is keeps the archive
+-- A store keeps the archive of its own disk.
 pub store_keeps : (v : View) (a : Archive) (k : Option Content) → IsStoreOf v a k → Keeps v a
 store_keeps v a None store = absurd store
 store_keeps v a (Some k) store = store.keeps
 
--- what a crash leaves of a store's own disk stands for the archive
+-- What a crash leaves of a store's own disk stands for the archive.
 pub stands : StoreRecovers → (v : View) (a b : Archive) (k : Option Content) (image : Files) → IsStoreOf v a k → Image k image → RecoversEither a b image
 stands law v a b None image store now = absurd store
 stands law v a b (Some k) image store now = inl ((law v a k store).0 image now)

@@ -1,4 +1,4 @@
--- What the delivery of a message to an archive on a disk comes to.
+-- The verdict on the delivery of a message to an archive on a disk.
 use Rattle.std.specs.Prelude.{◌≡◌, ◌≢◌, ◌≤◌, ℕ, true, false, List, [], length, Option, Some, None, IsSome, refl}
 use Rattle.std.specs.List.{AllByRecursion}
 use Rattle.std.proofs.Common.{◌∙◌, sym, ap, subst}
@@ -18,7 +18,8 @@ use Rattle.archive_core.proofs.Counting.{stored_length}
 use Rattle.archive_core.proofs.Indexes.{index_of_kept, ids_free, blobs_free}
 
 module _ (v : View) (config : Config) (index : Index) (next : ℕ) (indexed : IndexesStored v.entries index) (config_is : config ≡ v.root.config) (next_is : next ≡ v.root.next) where
-  -- an archive that the store keeps has these settings, this next number, so many messages, and this index
+  -- An archive that the store keeps has these settings, this next number, so many messages, and
+  -- this index.
   pub known : (a : Archive) (count : ℕ) → Keeps v a → count ≡ length v.entries → IsKnownBy config index count next a
   known a count keeps count_is = record {
     config_is = sym (config_is ∙ keeps.names.config);
@@ -31,7 +32,7 @@ module _ (v : View) (config : Config) (index : Index) (next : ℕ) (indexed : In
   ids text None own some free = absurd (let no : false ≡ true = some in cc)
   ids text (Some id) own some free = ids_free v.entries text id own (sym (indexed.owners id) ∙ free id own)
 
-  -- what may be kept would be accepted
+  -- A text that may be kept would be accepted.
   accepted : (text : List ℕ) (blob : Id20) (number : ℕ) → MayBeKept config index next text blob number → Accepts v text
   accepted text blob number may = record {
     writable = subst (λ (c : Config). c.mirror ≡ false) config_is may.writable;

@@ -1,4 +1,4 @@
--- What a command on an archive on a disk is answered, and what stands on the disk then.
+-- The answers to a command on an archive on a disk, and what the disk then holds.
 use Rattle.std.specs.Prelude.{◌≡◌, Option}
 use Rattle.disk_model.specs.Disk.{Content}
 use Rattle.arch_model.specs.Archives.{Archive}
@@ -9,13 +9,15 @@ use Rattle.epoch_file.specs.declared.refusal.StoreRefusal.{StoreRefusal}
 use Rattle.epoch_file.specs.declared.refusal.StoreRefusal.TheVariants as refusal
 use Rattle.epoch_store.specs.Stores.{View, IsStoreOf}
 
--- the definition's answer was given, and the disk is the own one of a store that keeps the definition's archive
+-- The definition's answer was given, and the disk is the own one of a store that keeps the
+-- definition's archive.
 pub record IsDone (v : View) (wanted : Done) (reply : Answer) (content : Option Content) : Type 0 where
   pub answer_is : wanted.answer ≡ reply
   pub store : IsStoreOf v wanted.archive content
 
--- What a call answered, and the archive behind it, are what is wanted of this archive. For want of memory all is as before; behind
--- a fault of the disk the archive has to be opened again. No file is ever damaged.
+-- The answer of a call and the archive after it are the wanted ones of this archive. After
+-- `NoMemory` all is as before. After `DiskFault` the archive has to be reopened. No file is ever
+-- damaged.
 abbrev pub DoneBy : View → Archive → Done → Answer → Option Content → Type 0
 DoneBy v a wanted answer.NoMemory content = IsStoreOf v a content
 DoneBy v a wanted answer.DiskFault content = Unit {0}
@@ -30,7 +32,7 @@ DoneBy v a wanted (answer.NotLive number) content = ⊥
 DoneBy v a wanted (answer.NoText number) content = ⊥
 DoneBy v a wanted (answer.Damaged file place) content = ⊥
 
--- what holds where a command was answered Ok
+-- What holds after the answer `Ok`.
 abbrev pub OnDone : Answer → Type 0 → Type 0
 OnDone (answer.Ok number id) P = P
 OnDone (answer.Duplicate number) P = Unit {0}
@@ -45,7 +47,7 @@ OnDone answer.DiskFault P = Unit {0}
 OnDone (answer.Damaged file place) P = Unit {0}
 OnDone answer.NoMemory P = Unit {0}
 
--- what holds where a command wasn't answered Ok
+-- What holds after any answer but `Ok`.
 abbrev pub OnRefusal : Answer → Type 0 → Type 0
 OnRefusal (answer.Ok number id) P = Unit {0}
 OnRefusal (answer.Duplicate number) P = P
@@ -60,7 +62,7 @@ OnRefusal answer.DiskFault P = P
 OnRefusal (answer.Damaged file place) P = P
 OnRefusal answer.NoMemory P = P
 
--- what holds where no call of the disk failed
+-- What holds if no call of the disk failed.
 abbrev pub UnlessFault : Answer → Type 0 → Type 0
 UnlessFault answer.DiskFault P = Unit {0}
 UnlessFault (answer.Ok number id) P = P
@@ -75,8 +77,8 @@ UnlessFault answer.IsMirror P = P
 UnlessFault (answer.Damaged file place) P = P
 UnlessFault answer.NoMemory P = P
 
--- The answers that a command gets: as long as none removes, purges or edits, no number is refused, and no text is read that could
--- be damaged.
+-- The answers to a command. As long as no command removes, purges or edits, no number is refused,
+-- and no text is read that could be damaged.
 abbrev pub IsForCommand : Answer → Type 0
 IsForCommand (answer.Ok number id) = Unit {0}
 IsForCommand (answer.Duplicate number) = Unit {0}
@@ -91,7 +93,7 @@ IsForCommand (answer.NotLive number) = ⊥
 IsForCommand (answer.NoText number) = ⊥
 IsForCommand (answer.Damaged file place) = ⊥
 
--- the answer for a refusal of the store
+-- The answer for an error of the store.
 abbrev pub refusal_answer : StoreRefusal → Answer
 refusal_answer refusal.DiskFault = answer.DiskFault
 refusal_answer refusal.NoMemory = answer.NoMemory

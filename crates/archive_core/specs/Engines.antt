@@ -1,4 +1,4 @@
--- An archive on a disk that it owns.
+-- An archive that owns its disk.
 use Rattle.std.specs.Prelude.{◌≡◌, Bool, true, false, Option, Some, None, refl}
 use native.Mathlib.Omega.{arith}
 use Rattle.disk_model.specs.Disk.{Files, Content, Image, WhereTold}
@@ -9,17 +9,17 @@ use Rattle.arch_model.specs.declared.answer.Answer.TheVariants as answer
 use Rattle.epoch_store.specs.Opens.{RecoversOf}
 use Rattle.epoch_store.specs.Stores.{View, HasSizes, IsStoreOf}
 
--- a disk, what is kept in memory of its archive, and whether it has to be opened again
+-- A disk, what is kept in memory of its archive, and whether it has to be reopened.
 pub record Owning (D : Type 0) : Type 0 where
   pub disk : D
   pub view : View
   pub stale : Bool
 
--- while it needn't be opened again, the files that the archive names have their sizes
+-- While it needn't be reopened, the files that the archive names have their sizes.
 abbrev pub SizesUnless : Bool → View → Option Content → Type 0
 SizesUnless stale view content = stale ≡ false → WhereTold (HasSizes view) content
 
--- whether an archive has to be opened again behind this answer: the disk failed, or a file is damaged
+-- Whether an archive has to be reopened after this answer: the disk failed, or a file is damaged.
 abbrev pub needs_opening : Answer → Bool
 needs_opening answer.DiskFault = true
 needs_opening (answer.Ok number id) = false
@@ -34,7 +34,7 @@ needs_opening answer.IsMirror = false
 needs_opening (answer.Damaged file at) = true
 needs_opening answer.NoMemory = false
 
--- a crash of a store's own disk leaves the archive
+-- A crash of a store's own disk leaves the archive.
 pub store_left : (v : View) (a : Archive) (k : Option Content) (image : Files) → IsStoreOf v a k → Image k image → RecoversOf (one_of (standing a None)) image
 store_left v a None image store left = absurd store
 store_left v a (Some k) image store left =

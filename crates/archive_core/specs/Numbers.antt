@@ -6,22 +6,23 @@ use Rattle.arch_model.specs.declared.text_refusal.TextRefusal.{TextRefusal}
 use Rattle.epoch_store.specs.Reads.{GivesText}
 use Rattle.epoch_store.specs.declared.entries.StoredEntry.{StoredEntry}
 
--- whether an entry has this number
+-- Whether an entry has this number.
 abbrev pub has_number : List StoredEntry → ℕ → Bool
 has_number entries n = list_any (λ (e : StoredEntry). e.number == n) entries
 
--- numbers never fall from one entry to a later one
+-- Numbers never fall from one entry to a later one.
 abbrev pub NumbersRise : List StoredEntry → Type 0
 NumbersRise = IsNonDecreasingBy (λ (e : StoredEntry). e.number)
 
--- the entry at this place has this number
+-- The entry at this index has this number.
 abbrev pub IsNumberAt : List StoredEntry → ℕ → ℕ → Type 0
 IsNumberAt entries n place = (e : StoredEntry) × (slice_get entries place ≡ Some e) × (e.number ≡ n)
 
--- before this place numbers are below one, and from there on they are not
+-- Before this index the numbers are below n, and from it on they are not.
 abbrev pub IsCountBelow : List StoredEntry → ℕ → ℕ → Type 0
 IsCountBelow entries n count = (place : ℕ) (e : StoredEntry) → slice_get entries place ≡ Some e → (place < count → e.number < n) × (count ≤ place → n ≤ e.number)
 
--- what reading the text of a number gives by what is kept of its entry: a text of its size and blob id, or which other id was found
+-- The results of reading the text of a number by what is kept of its entry: a text of its size and
+-- blob id, or the other id that was found.
 abbrev pub GivesTextKept : List StoredEntry → ℕ → List ℕ → List ℕ → Result Unit TextRefusal → Type 0
 GivesTextKept entries n old new result = (place : ℕ) × (e : StoredEntry) × (slice_get entries place ≡ Some e) × (e.number ≡ n) × GivesText e old new result

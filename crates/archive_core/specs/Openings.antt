@@ -1,4 +1,4 @@
--- What an archive leaves that wasn't opened.
+-- What an archive that wasn't opened leaves.
 use Rattle.std.specs.Prelude.{Option, Result, Ok, Err}
 use Rattle.disk_model.specs.Disk.{Content, Told}
 use Rattle.arch_model.specs.Archives.{Archive}
@@ -6,19 +6,19 @@ use Rattle.arch_model.specs.declared.opening.OpenRefusal.{OpenRefusal}
 use Rattle.arch_model.specs.declared.opening.OpenRefusal.TheVariants.{NoArchive, Damaged, DiskFault, NoMemory}
 use Rattle.epoch_store.specs.Opens.{ReadsAs, IsOnlySynced}
 
--- files that read as those of an archive still do
+-- Files that read as those of an archive still do.
 abbrev pub StillReads : Option Content → Option Content → Type 0
 StillReads old new = (a : Archive) → ReadsAs a old → ReadsAs a new
 
--- Where there is no archive, or a file is damaged, nothing is changed. For want of memory the disk may be brought to rest before, and
--- reads as the archive that it did.
+-- If there is no archive, or a file is damaged, nothing is changed. Before `NoMemory` the disk may
+-- be settled, and reads as the archive that it did.
 abbrev pub LeavesKindly : OpenRefusal → Option Content → Option Content → Type 0
 LeavesKindly NoArchive old new = Told IsOnlySynced old new
 LeavesKindly (Damaged file at) old new = Told IsOnlySynced old new
 LeavesKindly DiskFault old new = Unit {0}
 LeavesKindly NoMemory old new = StillReads old new
 
--- the same of an answer
+-- The same for a result.
 abbrev pub RefusesKindly : {T : Type 0} → Result T OpenRefusal → Option Content → Option Content → Type 0
 RefusesKindly (Ok made) old new = Unit {0}
 RefusesKindly (Err refusal) old new = LeavesKindly refusal old new

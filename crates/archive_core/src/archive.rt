@@ -1,4 +1,4 @@
-//! An archive on a disk, whose every command is the definition's.
+//! An archive on a disk that is handed in. Each of its commands has the result of the definition.
 ghost use Rattle.std.specs.Prelude.{◌≡◌, ◌≤◌, ◌<◌, ◌+◌, ◌^◌, [], length, Err, IfOk, OnOk, OnErr, List, Option};
 ghost use Rattle.arch_base.specs.Configs.{IsConfig};
 ghost use Rattle.arch_base.specs.Counts.{Rose};
@@ -29,7 +29,9 @@ use epoch_store::{InitRefusal, Store, law_of_stores};
 use std::alloc::Global;
 use std::marker::Model;
 
-/// An archive on a disk: its store, and its messages by their ids and blob ids. A contract sees it as what the store keeps.
+/// An archive on a disk: its store, and an index of its messages by their ids and blob ids.
+///
+/// Its contract view is what the store keeps.
 #[derive(Drop)]
 pub struct DiskArchive {
     alloc: Global,
@@ -49,12 +51,15 @@ impl Model for DiskArchive {
 }
 
 impl DiskArchive {
-    /// Makes an archive without entries, in the place of a disk without an open slot: it takes all files away and makes a root file
-    /// with the first root, of sequence 1.
+    /// Creates an archive without entries on a disk without an open slot.
     ///
-    /// At each moment a crash leaves what it might have left before; and where no slot was open, no open slot, or the archive.
-    /// Exists comes exactly where a slot is open, and then nothing is written. DiskFault comes only where the disk's count of faults
-    /// rose, and NoMemory only for want of memory, before anything is written.
+    /// Removes all files and creates a root file with the first root, of sequence 1. At each moment
+    /// a crash leaves what it might have left before; if no slot was open, it may also leave no
+    /// open slot, or the archive.
+    ///
+    /// `Exists` comes exactly if a slot is open, and then nothing is written. `DiskFault` comes
+    /// only if the disk's count of faults rose, and `NoMemory` only if memory runs out, before
+    /// anything is written.
     pub fn init<D: Disk>(
         alloc: Global,
         disk: &mut D,
@@ -63,7 +68,7 @@ impl DiskArchive {
         requires config { IsConfig config.now }
         ensures any_moment { LeavesOnly D.moment D.left_since disk.old disk.new (MakingLeaves (empty_archive config.now) (D.content disk.old)) }
         ensures answer { WhereTold (MakingAnswers result) (D.content disk.old) }
-        // Behind Exists and NoMemory the disk is synced, and no more.
+        // After `Exists` and `NoMemory` the disk is synced, and otherwise unchanged.
         ensures refused { RefusesToMake result (D.content disk.old) (D.content disk.new) }
         ensures done { IfOk result (λ made. WhereTold (IsDiskOf made (empty_archive config.now)) (D.content disk.new)) }
         ensures sizes { IfOk result (λ made. WhereTold (HasSizes made) (D.content disk.new)) }
@@ -80,15 +85,18 @@ impl DiskArchive {
         })
     }
 
-    /// Opens the archive on a disk. It syncs first and reads all that the current root names, and only then changes the disk: where the
-    /// other slot is shut it is filled with the current root and left shut, tails are cut, and files that the root doesn't name are
-    /// taken away.
+    /// Opens the archive on a disk.
     ///
-    /// At each moment a crash leaves files that stand for an archive that they might have stood for before. NoArchive comes only where
-    /// no slot is open, and Damaged only where the files that the root names leave their form, with the first place where they do:
-    /// of the root, then of the map, then of the epochs in order; neither comes where the files stand for an archive, and behind
-    /// either all files read as before. DiskFault comes only where the disk's count of faults rose. NoMemory comes only for want of
-    /// memory, and the files still stand for the archive that they stood for.
+    /// Syncs first, reads all that the current root names, and only then changes the disk: writes
+    /// the current root to the other slot if that is shut, and leaves it shut; cuts tails; and
+    /// removes the files that the root doesn't name. At each moment a crash leaves files that stand
+    /// for an archive that they might have stood for before.
+    ///
+    /// `NoArchive` comes only if no slot is open. `Damaged` comes only if a file that the root
+    /// names isn't in its form; it has the first such offset, in the root, then the map, then the
+    /// epochs in order. Neither comes if the files stand for an archive, and after either all files
+    /// read as before. `DiskFault` comes only if the disk's count of faults rose. `NoMemory` comes
+    /// only if memory runs out, and the files still stand for the archive that they stood for.
     pub fn open<D: Disk>(alloc: Global, disk: &mut D) -> Result<DiskArchive, OpenRefusal>
         ensures any_moment { (may : List (Option Archive)) → AllRecoverOf may (D.content disk.old) → LeavesOnly D.moment D.left_since disk.old disk.new (RecoversOf may) }
         ensures answer { WhereTold (λ k. Opens (as_read k) result) (D.content disk.old) }
@@ -116,18 +124,22 @@ impl DiskArchive {
 
     /// Takes a command at a moment, in seconds since 1970.
     ///
-    /// `Deliver`: the message takes the next number, or is refused by the first cause of a mirror, no field, too many bytes, a
-    /// message that is the same, another text with its blob id, and no number left. A refusal leaves all as it was. At each moment
-    /// a crash leaves the archive before the command or the one after it, and after Ok the latter. DiskFault comes only where the
-    /// disk's count of faults rose: then one of the two is there, and the archive has to be opened again. NoMemory comes only for
-    /// want of memory, or of room in a file of more than 2^62 bytes, and nothing was done.
+    /// `Deliver`: the message takes the next number, or is refused by the first cause of these: a
+    /// mirror, no field, too many bytes, the same message, another text with its blob id, and no
+    /// number left. A refusal leaves all as it was.
+    ///
+    /// At each moment a crash leaves the archive before the command or the one after it, and after
+    /// `Ok` the latter. `DiskFault` comes only if the disk's count of faults rose: one of the two
+    /// archives is then there, and the archive has to be reopened. `NoMemory` comes only if memory
+    /// runs out, or if the epoch's file has 2^62 bytes or more; then nothing was done.
     pub fn command<D: Disk>(&mut self, disk: &mut D, command: &Command<'_>, moment: u64) -> Answer
         requires moment { moment ≤ last_moment }
         requires sizes { WhereTold (HasSizes self.old) (D.content disk.old) }
         // At each moment a crash leaves the archive before the command, or the one after it.
         ensures any_moment { (a : Archive) → IsStoreOf self.old a (D.content disk.old) → self.old.root.sequence + 1 < 2 ^ 64
             → LeavesOnly D.moment D.left_since disk.old disk.new (RecoversEither a (applied a command.now moment).archive) }
-        // What is answered is the definition's, and then the disk is the definition's archive's own.
+        // The answer is the definition's, and the disk is then the own one of the definition's
+        // archive.
         ensures done { (a : Archive) → IsStoreOf self.old a (D.content disk.old) → self.old.root.sequence + 1 < 2 ^ 64
             → DoneBy self.new a (applied a command.now moment) result (D.content disk.new) }
         ensures sequence { OnDone result (self.new.root.sequence ≡ next_sequence self.old.root.sequence) }
@@ -173,7 +185,7 @@ impl DiskArchive {
         }
     }
 
-    /// What the delivery of a message comes to.
+    /// Returns the verdict on the delivery of a message.
     fn verdict(&self, bytes: &[u8]) -> Verdict
         ensures judged { (a : Archive) → Keeps self.now a → Judges a bytes.now result }
         ensures taken { TakesWhatMay self.now result }
@@ -188,8 +200,9 @@ impl DiskArchive {
         )
     }
 
-    /// Puts a message behind the others: its text takes the next number at a moment, in seconds since 1970. A refusal changes
-    /// nothing that is kept in memory.
+    /// Appends a message: its text takes the next number, at a moment in seconds since 1970.
+    ///
+    /// An error changes nothing that is kept in memory.
     fn keep<D: Disk>(
         &mut self,
         disk: &mut D,
@@ -217,21 +230,21 @@ impl DiskArchive {
         let number = self.store.next_number();
         put_text(self.alloc, &mut self.index, text, blob, number)?;
         if let Err(refusal) = self.store.deliver_entry(self.alloc, disk, text, moment) {
-            // The index is again as it was before.
+            // The index is as it was before.
             take_text(&mut self.index, text, &blob);
             return Err(refusal);
         }
         Ok(())
     }
 
-    /// How many messages there are, by their entries.
+    /// Returns the number of messages, by their entries.
     pub fn entry_count(&self) -> u64
         ensures { result ≡ length self.now.entries }
     {
         self.store.stored().len() as u64
     }
 
-    /// How many numbers have a message. Until messages are removed each entry has one.
+    /// Returns how many numbers have a message. Until messages are removed each entry has one.
     pub fn live_count(&self) -> u32
         ensures { (a : Archive) → Keeps self.now a → result ≡ length a.entries }
     {
@@ -239,14 +252,14 @@ impl DiskArchive {
         self.store.stored().len().min(u32::MAX as usize) as u32
     }
 
-    /// The number of the next message.
+    /// Returns the number of the next message.
     pub fn next_number(&self) -> u32
         ensures { result ≡ self.now.root.next }
     {
         self.store.next_number()
     }
 
-    /// The settings of the archive.
+    /// Returns the settings of the archive.
     pub fn config(&self) -> &Config
         ensures { result.now ≡ self.now.root.config }
     {
@@ -254,7 +267,7 @@ impl DiskArchive {
     }
 }
 
-/// The answer for a refusal of the store.
+/// Returns the answer for an error of the store.
 fn answer_of(refusal: &StoreRefusal) -> Answer
     ensures { result ≡ refusal_answer refusal.now }
 {

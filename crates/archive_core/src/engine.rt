@@ -1,4 +1,4 @@
-//! An archive on a disk that it owns, as what keeps one.
+//! An archive that owns its disk.
 ghost use Rattle.std.specs.Prelude.{◌≡◌, ◌≤◌, [], false, Err, IfOk, Option, List};
 ghost use Rattle.arch_base.specs.Configs.{IsConfig};
 ghost use Rattle.arch_base.specs.Counts.{Rose};
@@ -23,11 +23,11 @@ use disk_model::Disk;
 use std::alloc::Global;
 use std::marker::Model;
 
-/// An archive on a disk that it owns.
+/// An archive that owns its disk; implements `Keep`.
 ///
-/// Behind a command that the disk failed it is stale: it isn't known whether the command was done, and nothing is answered until
-/// the archive is opened again. So it is behind the answer that a file is damaged, which a command on an archive's own disk never
-/// gives.
+/// The archive is stale after a command whose answer is `DiskFault`: it isn't known whether the
+/// command was done, and nothing else is answered until the archive is reopened. It is stale after
+/// the answer `Damaged` too, which a command on an archive's own disk never gives.
 #[derive(Drop)]
 pub struct Engine<D: Disk> {
     alloc: Global,
@@ -47,17 +47,22 @@ impl<D: Disk> Model for Engine<D> {
 }
 
 impl<D: Disk> Engine<D> {
-    /// Makes an archive without entries, in the place of a disk without an open slot: it takes all files away and makes a root file
-    /// with the first root, of sequence 1. A refusal hands the disk back.
+    /// Creates an archive without entries on a disk without an open slot.
     ///
-    /// At each moment a crash leaves what it might have left before; and where no slot was open, no open slot, or the archive.
-    /// Exists comes exactly where a slot is open, and then nothing is written. DiskFault comes only where the disk's count of faults
-    /// rose, and NoMemory only for want of memory, before anything is written.
+    /// An error hands the disk back.
+    ///
+    /// Removes all files and creates a root file with the first root, of sequence 1. At each moment
+    /// a crash leaves what it might have left before; if no slot was open, it may also leave no
+    /// open slot, or the archive.
+    ///
+    /// `Exists` comes exactly if a slot is open, and then nothing is written. `DiskFault` comes
+    /// only if the disk's count of faults rose, and `NoMemory` only if memory runs out, before
+    /// anything is written.
     pub fn make(alloc: Global, disk: D, config: &Config) -> Result<Engine<D>, NotMade<D>>
         requires config { IsConfig config.now }
         ensures any_moment { LeavesOnly D.moment D.left_since disk (disk_made result) (MakingLeaves (empty_archive config.now) (D.content disk)) }
         ensures answer { WhereTold (MakingAnswers (made_or_why result)) (D.content disk) }
-        // Behind Exists and NoMemory the disk is synced, and no more.
+        // After `Exists` and `NoMemory` the disk is synced, and otherwise unchanged.
         ensures refused { RefusesToMake (made_or_why result) (D.content disk) (D.content (disk_made result)) }
         ensures done { IfOk result (λ made. WhereTold (IsDiskOf made.view (empty_archive config.now)) (D.content made.disk)) }
         ensures sizes { IfOk result (λ made. WhereTold (HasSizes made.view) (D.content made.disk)) }
@@ -79,15 +84,18 @@ impl<D: Disk> Engine<D> {
         }
     }
 
-    /// Opens the archive on a disk. It syncs first and reads all that the current root names, and only then changes the disk: where the
-    /// other slot is shut it is filled with the current root and left shut, tails are cut, and files that the root doesn't name are
-    /// taken away. A refusal hands the disk back.
+    /// Opens the archive on a disk. An error hands the disk back.
     ///
-    /// At each moment a crash leaves files that stand for an archive that they might have stood for before. NoArchive comes only where
-    /// no slot is open, and Damaged only where the files that the root names leave their form, with the first place where they do:
-    /// of the root, then of the map, then of the epochs in order; neither comes where the files stand for an archive, and behind
-    /// either all files read as before. DiskFault comes only where the disk's count of faults rose. NoMemory comes only for want of
-    /// memory, and the files still stand for the archive that they stood for.
+    /// Syncs first, reads all that the current root names, and only then changes the disk: writes
+    /// the current root to the other slot if that is shut, and leaves it shut; cuts tails; and
+    /// removes the files that the root doesn't name. At each moment a crash leaves files that stand
+    /// for an archive that they might have stood for before.
+    ///
+    /// `NoArchive` comes only if no slot is open. `Damaged` comes only if a file that the root
+    /// names isn't in its form; it has the first such offset, in the root, then the map, then the
+    /// epochs in order. Neither comes if the files stand for an archive, and after either all files
+    /// read as before. `DiskFault` comes only if the disk's count of faults rose. `NoMemory` comes
+    /// only if memory runs out, and the files still stand for the archive that they stood for.
     pub fn open(alloc: Global, disk: D) -> Result<Engine<D>, NotOpened<D>>
         ensures any_moment { (may : List (Option Archive)) → AllRecoverOf may (D.content disk) → LeavesOnly D.moment D.left_since disk (disk_opened result) (RecoversOf may) }
         ensures answer { WhereTold (λ k. Opens (as_read k) (opened_or_why result)) (D.content disk) }
@@ -111,7 +119,7 @@ impl<D: Disk> Engine<D> {
         }
     }
 
-    /// The disk, as the archive left it.
+    /// Returns the disk, as the archive left it.
     pub fn into_disk(self) -> D
         ensures { result ≡ self.disk }
     {
@@ -124,7 +132,7 @@ impl<D: Disk> Engine<D> {
         disk
     }
 
-    /// The disk.
+    /// Returns the disk.
     pub fn disk(&self) -> &D
         ensures { result.now ≡ self.now.disk }
     {
@@ -162,7 +170,7 @@ impl<D: Disk> Keep for Engine<D> {
     }
 
     fn command(&mut self, command: &Command<'_>, moment: u64) -> Answer {
-        // Behind the last root of 64 bits nothing is done. No archive takes so many commands.
+        // After the last sequence of 64 bits nothing is done. No archive takes so many commands.
         if !self.archive.has_next_root() {
             return Answer::NoMemory;
         }
@@ -188,7 +196,9 @@ impl<D: Disk> Keep for Engine<D> {
     ghost holds_left = { λ e a store image left. store_left e.view a (D.content e.disk) image store (D.only_now e.disk image left) };
 }
 
-/// Whether an archive has to be opened again behind this answer: the disk failed, or a file is damaged.
+/// Returns whether an archive has to be reopened after this answer.
+///
+/// It has to be if the disk failed, or a file is damaged.
 fn needs_opening(answer: &Answer) -> bool
     ensures { result ≡ needs_opening_behind answer.now }
 {

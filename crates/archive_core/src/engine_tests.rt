@@ -1,5 +1,6 @@
-//! An archive that owns its disk, by the trait of what keeps one: what it gives, and what it does behind a fault.
-use crate::tests::{FIRST, MOMENT, SECOND, accepted, settings};
+//! An archive that owns its disk, by the trait of what keeps one: what it gives, and what it does
+//! after a fault.
+use crate::tests::{FIRST, FIRST_ID, MOMENT, SECOND, SECOND_ID, accepted, settings};
 use crate::{Engine, NotMade, NotOpened};
 use arch_base::{Bytes, NoMemory, Numbers};
 use arch_model::{Answer, Command, Keep, MemArchive, OpenRefusal};
@@ -9,7 +10,7 @@ use std::alloc::Global;
 use std::process::Abort;
 use std::test::Fail;
 
-/// An archive that was made on a disk.
+/// Makes an archive on a disk.
 fn made(alloc: Global, disk: MemDisk) -> Result<Engine<MemDisk>, InitRefusal> {
     match settings(10, false) {
         None => Err(InitRefusal::NoMemory),
@@ -20,7 +21,7 @@ fn made(alloc: Global, disk: MemDisk) -> Result<Engine<MemDisk>, InitRefusal> {
     }
 }
 
-/// An archive that was opened on a disk.
+/// Opens the archive on a disk.
 fn opened(alloc: Global, disk: MemDisk) -> Result<Engine<MemDisk>, OpenRefusal> {
     match Engine::open(alloc, disk) {
         Ok(engine) => Ok(engine),
@@ -28,19 +29,19 @@ fn opened(alloc: Global, disk: MemDisk) -> Result<Engine<MemDisk>, OpenRefusal> 
     }
 }
 
-/// The answer to the delivery of a message.
+/// Returns the answer to the delivery of a message.
 fn deliver<K: Keep>(keep: &mut K, bytes: &[u8]) -> Result<Answer, OpenRefusal> {
     keep.fresh()?;
     Ok(keep.command(&Command::Deliver(bytes), MOMENT))
 }
 
-/// The least number with a message that is at least this one.
+/// Returns the least number with a message that is at least this one.
 fn live_from<K: Keep>(keep: &mut K, n: u32) -> Result<Option<u32>, OpenRefusal> {
     keep.fresh()?;
     Ok(keep.live_from(n))
 }
 
-/// Puts the text of that number behind other bytes.
+/// Appends the text of that number.
 fn put_text<K: Keep>(keep: &mut K, n: u32, into: &mut Bytes) -> Result<bool, Fail> {
     keep.fresh()?;
     match keep.live_from(n) {
@@ -52,73 +53,168 @@ fn put_text<K: Keep>(keep: &mut K, n: u32, into: &mut Bytes) -> Result<bool, Fai
     }
 }
 
-/// Puts the bytes of an epoch behind others.
+/// Appends the bytes of an epoch.
 fn put_epoch<K: Keep>(keep: &mut K, epoch: u32, into: &mut Bytes) -> Result<bool, Fail> {
     keep.fresh()?;
     Ok(keep.epoch_bytes(epoch, into)?)
 }
 
-/// Puts all texts of two messages and the bytes of their epochs behind one another.
-fn put_all<K: Keep>(keep: &mut K, into: &mut Bytes) -> Result<bool, Fail> {
+/// Appends both texts of two messages, and returns whether there are just these.
+fn put_texts<K: Keep>(keep: &mut K, into: &mut Bytes) -> Result<bool, Fail> {
     let first = put_text(keep, 1, into)?;
     let second = put_text(keep, 2, into)?;
     let left = put_text(keep, 3, into)?;
+    Ok(first && second && !left)
+}
+
+/// Appends the bytes of both epochs of two messages, and returns whether there are just these.
+fn put_epochs<K: Keep>(keep: &mut K, into: &mut Bytes) -> Result<bool, Fail> {
     let zero = put_epoch(keep, 0, into)?;
     let one = put_epoch(keep, 1, into)?;
-    let behind = put_epoch(keep, 2, into)?;
-    Ok(first && second && zero && one && !left && !behind)
+    let after = put_epoch(keep, 2, into)?;
+    Ok(zero && one && !after)
+}
+
+/// Appends the texts of two messages and the bytes of their epochs, and returns whether there are
+/// just these.
+fn put_all<K: Keep>(keep: &mut K, into: &mut Bytes) -> Result<bool, Fail> {
+    let texts = put_texts(keep, into)?;
+    let epochs = put_epochs(keep, into)?;
+    Ok(texts && epochs)
+}
+
+/// Returns the archive without messages in memory.
+fn in_memory(alloc: Global) -> Result<MemArchive, InitRefusal> {
+    match settings(10, false) {
+        None => Err(InitRefusal::NoMemory),
+        Some(config) => Ok(MemArchive::new(alloc, config)),
+    }
+}
+
+/// Delivers two messages to an archive without any, and returns whether each is answered as it
+/// should be.
+fn takes_two<K: Keep>(keep: &mut K) -> Result<bool, OpenRefusal> {
+    let none = live_from(keep, 0)?;
+    let first = deliver(keep, FIRST)?;
+    let second = deliver(keep, SECOND)?;
+    let answered = Some(first) == accepted(1, FIRST_ID) && Some(second) == accepted(2, SECOND_ID);
+    Ok(answered && none == None)
+}
+
+/// Returns whether the text of a message is this one.
+fn text_is<K: Keep>(alloc: Global, keep: &mut K, n: u32, wanted: &[u8]) -> Result<bool, Fail> {
+    let mut text = Bytes::new(alloc);
+    let found = put_text(keep, n, &mut text)?;
+    Ok(found && text.as_slice() == wanted)
+}
+
+/// Returns whether two messages are found by their numbers, and the first one by its text.
+fn finds_two<K: Keep>(alloc: Global, keep: &mut K) -> Result<bool, Fail> {
+    let one = live_from(keep, 0)?;
+    let two = live_from(keep, 2)?;
+    let text = text_is(alloc, keep, 1, FIRST)?;
+    Ok(text && one == Some(1) && two == Some(2))
+}
+
+/// Returns whether both archives of two messages give the same texts and epochs.
+fn both_give_the_same<K: Keep>(
+    alloc: Global,
+    keep: &mut K,
+    memory: &mut MemArchive,
+) -> Result<bool, Fail> {
+    let mut given = Bytes::new(alloc);
+    let mut wanted = Bytes::new(alloc);
+    let kept = put_all(keep, &mut given)?;
+    let in_memory = put_all(memory, &mut wanted)?;
+    Ok(kept && in_memory && given.as_slice() == wanted.as_slice())
+}
+
+/// Returns whether an archive of two messages gives the same as one in memory to which they were
+/// delivered, and which answered as it should.
+fn gives_as_memory<K: Keep>(alloc: Global, keep: &mut K) -> Result<bool, Fail> {
+    let mut memory = in_memory(alloc)?;
+    let taken = takes_two(&mut memory)?;
+    let same = both_give_the_same(alloc, keep, &mut memory)?;
+    Ok(taken && same)
+}
+
+/// Delivers two messages to an archive without any, and returns whether it takes, finds and gives
+/// them as one in memory does.
+fn takes_and_gives<K: Keep>(alloc: Global, keep: &mut K) -> Result<bool, Fail> {
+    let taken = takes_two(keep)?;
+    let found = finds_two(alloc, keep)?;
+    let given = gives_as_memory(alloc, keep)?;
+    Ok(taken && found && given)
+}
+
+/// Opens the archive on a disk, and returns whether it gives the same as one in memory.
+fn opened_gives_as_memory(alloc: Global, disk: MemDisk) -> Result<bool, Fail> {
+    let mut engine = opened(alloc, disk)?;
+    gives_as_memory(alloc, &mut engine)
 }
 
 #[test]
 fn an_engine_gives_what_the_archive_in_memory_does(rt: HostRuntime) -> Result<(), Fail> {
     let alloc = rt.alloc();
     let mut engine = made(alloc, MemDisk::new(alloc, Numbers::new(alloc)))?;
-    let Some(config) = settings(10, false) else {
+    let given = takes_and_gives(alloc, &mut engine)?;
+    let again = opened_gives_as_memory(alloc, engine.into_disk())?;
+    assert!(rt; given && again);
+    Ok(())
+}
+
+/// Returns a disk on which no archive is opened, and why.
+fn unopened(alloc: Global, disk: MemDisk) -> Option<(MemDisk, OpenRefusal)> {
+    match Engine::open(alloc, disk) {
+        Ok(_engine) => None,
+        Err(NotOpened { disk, why }) => Some((disk, why)),
+    }
+}
+
+/// Returns a disk on which no archive is made, and why.
+fn unmade(alloc: Global, disk: MemDisk) -> Option<(MemDisk, InitRefusal)> {
+    let config = settings(10, false)?;
+    match Engine::make(alloc, disk, &config) {
+        Ok(_engine) => None,
+        Err(NotMade { disk, why }) => Some((disk, why)),
+    }
+}
+
+/// Makes an archive on a disk and delivers a message to it, and returns the disk.
+fn with_message(alloc: Global, disk: MemDisk) -> Result<MemDisk, Fail> {
+    let mut engine = made(alloc, disk)?;
+    let _ = deliver(&mut engine, FIRST)?;
+    Ok(engine.into_disk())
+}
+
+/// Returns whether the archive on a disk has that message, and no call of the disk failed.
+fn has_message(alloc: Global, disk: MemDisk) -> Result<bool, Fail> {
+    let mut engine = opened(alloc, disk)?;
+    let answer = deliver(&mut engine, FIRST)?;
+    Ok(answer == Answer::Duplicate(1) && engine.disk().failed() == 0)
+}
+
+#[test]
+fn a_disk_on_which_nothing_is_opened_is_handed_back(rt: HostRuntime) -> Result<(), Fail> {
+    let alloc = rt.alloc();
+    let Some((disk, why)) = unopened(alloc, MemDisk::new(alloc, Numbers::new(alloc))) else {
         return Ok(assert!(rt; false));
     };
-    let mut memory = MemArchive::new(alloc, config);
-    assert!(rt; live_from(&mut engine, 0)? == None);
-    let first = deliver(&mut engine, FIRST)?;
-    assert!(rt; Some(first) == accepted(1, b"1d023c572ccd6f3cc82ae855343346b043adaba5"));
-    assert!(rt; deliver(&mut memory, FIRST)? == first);
-    assert!(rt; deliver(&mut engine, SECOND)? == deliver(&mut memory, SECOND)?);
-    assert!(rt; live_from(&mut engine, 0)? == Some(1) && live_from(&mut engine, 2)? == Some(2));
-    let mut text = Bytes::new(alloc);
-    assert!(rt; put_text(&mut engine, 1, &mut text)? && text.as_slice() == FIRST);
-    let mut given = Bytes::new(alloc);
-    let mut wanted = Bytes::new(alloc);
-    assert!(rt; put_all(&mut engine, &mut given)? && put_all(&mut memory, &mut wanted)?);
-    assert!(rt; given.as_slice() == wanted.as_slice());
-    let mut again = opened(alloc, engine.into_disk())?;
-    let mut found = Bytes::new(alloc);
-    assert!(rt; put_all(&mut again, &mut found)? && found.as_slice() == wanted.as_slice());
+    assert!(rt; why == OpenRefusal::NoArchive);
+    let disk = with_message(alloc, disk)?;
+    assert!(rt; has_message(alloc, disk)?);
     Ok(())
 }
 
 #[test]
-fn a_disk_on_which_nothing_is_made_or_opened_is_handed_back(rt: HostRuntime) -> Result<(), Fail> {
+fn a_disk_on_which_nothing_is_made_is_handed_back(rt: HostRuntime) -> Result<(), Fail> {
     let alloc = rt.alloc();
-    let Some(config) = settings(10, false) else {
+    let disk = with_message(alloc, MemDisk::new(alloc, Numbers::new(alloc)))?;
+    let Some((disk, why)) = unmade(alloc, disk) else {
         return Ok(assert!(rt; false));
     };
-    let empty = match Engine::open(alloc, MemDisk::new(alloc, Numbers::new(alloc))) {
-        Ok(_engine) => return Ok(assert!(rt; false)),
-        Err(NotOpened { disk, why }) => {
-            assert!(rt; why == OpenRefusal::NoArchive);
-            disk
-        }
-    };
-    let mut engine = made(alloc, empty)?;
-    let _ = deliver(&mut engine, FIRST)?;
-    match Engine::make(alloc, engine.into_disk(), &config) {
-        Ok(_engine) => assert!(rt; false),
-        Err(NotMade { disk, why }) => {
-            assert!(rt; why == InitRefusal::Exists);
-            let mut again = opened(alloc, disk)?;
-            assert!(rt; deliver(&mut again, FIRST)? == Answer::Duplicate(1));
-            assert!(rt; again.disk().failed() == 0);
-        }
-    }
+    assert!(rt; why == InitRefusal::Exists);
+    assert!(rt; has_message(alloc, disk)?);
     Ok(())
 }
 
@@ -130,51 +226,84 @@ fn failing(alloc: Global, ordinal: u64) -> Result<MemDisk, NoMemory> {
     Ok(MemDisk::new(alloc, faults))
 }
 
-/// Makes an archive on such a disk and delivers a message to it. Where just the delivery fails, it says what is found behind it,
+/// Delivers a message, and returns whether the disk failed: exactly then the archive is stale.
+fn is_in_doubt(rt: &impl Abort, engine: &mut Engine<MemDisk>) -> Result<bool, OpenRefusal> {
+    let failed = deliver(engine, FIRST)? == Answer::DiskFault;
+    assert!(rt; engine.is_stale() == failed);
+    Ok(failed)
+}
+
+/// Opens an archive in doubt again, where the first try fails. Returns what is found then, and what
+/// the message is answered.
+fn found_after(
+    rt: &impl Abort,
+    engine: &mut Engine<MemDisk>,
+) -> Result<(Option<u32>, Answer), OpenRefusal> {
+    let refused = engine.fresh() == Err(OpenRefusal::DiskFault);
+    assert!(rt; refused && engine.is_stale());
+    let found = live_from(engine, 1)?;
+    assert!(rt; !engine.is_stale());
+    let answer = deliver(engine, FIRST)?;
+    Ok((found, answer))
+}
+
+/// Delivers a message to an archive. Where its disk fails then, returns what is found after that,
 /// and what the message is answered then.
-fn found_behind(
+fn found_if_in_doubt(
+    rt: &impl Abort,
+    engine: &mut Engine<MemDisk>,
+) -> Result<Option<(Option<u32>, Answer)>, OpenRefusal> {
+    if !is_in_doubt(rt, engine)? {
+        return Ok(None);
+    }
+    let found = found_after(rt, engine)?;
+    Ok(Some(found))
+}
+
+/// Makes an archive on a disk that fails, and delivers a message to it so. Returns None where the
+/// making already fails.
+fn found_over(
+    rt: &impl Abort,
+    alloc: Global,
+    disk: MemDisk,
+) -> Result<Option<(Option<u32>, Answer)>, OpenRefusal> {
+    match made(alloc, disk) {
+        Ok(mut engine) => found_if_in_doubt(rt, &mut engine),
+        Err(refusal) => {
+            assert!(rt; refusal == InitRefusal::DiskFault);
+            Ok(None)
+        }
+    }
+}
+
+/// Does so over a disk of which two calls in a row fail, by the first one's ordinal from 1.
+fn found_over_failing(
     rt: &impl Abort,
     alloc: Global,
     ordinal: u64,
 ) -> Result<Option<(Option<u32>, Answer)>, Fail> {
-    let mut engine = match made(alloc, failing(alloc, ordinal)?) {
-        Ok(engine) => engine,
-        Err(refusal) => {
-            assert!(rt; refusal == InitRefusal::DiskFault);
-            return Ok(None);
-        }
-    };
-    if deliver(&mut engine, FIRST)? != Answer::DiskFault {
-        assert!(rt; !engine.is_stale());
-        return Ok(None);
-    }
-    assert!(rt; engine.is_stale());
-    assert!(rt; engine.fresh() == Err(OpenRefusal::DiskFault) && engine.is_stale());
-    let found = live_from(&mut engine, 1)?;
-    assert!(rt; !engine.is_stale());
-    Ok(Some((found, deliver(&mut engine, FIRST)?)))
+    let disk = failing(alloc, ordinal)?;
+    Ok(found_over(rt, alloc, disk)?)
 }
 
 #[test]
 fn a_delivery_in_doubt_is_found_or_not(rt: HostRuntime) -> Result<(), Fail> {
     let alloc = rt.alloc();
     let mut before = false;
-    let mut behind = false;
+    let mut after = false;
     for ordinal in 1..60 {
-        match found_behind(&rt, alloc, ordinal)? {
+        match found_over_failing(&rt, alloc, ordinal)? {
             None => {}
             Some((None, answer)) => {
-                assert!(rt;
-                    Some(answer) == accepted(1, b"1d023c572ccd6f3cc82ae855343346b043adaba5")
-                );
+                assert!(rt; Some(answer) == accepted(1, FIRST_ID));
                 before = true;
             }
             Some((Some(number), answer)) => {
                 assert!(rt; number == 1 && answer == Answer::Duplicate(1));
-                behind = true;
+                after = true;
             }
         }
     }
-    assert!(rt; before && behind);
+    assert!(rt; before && after);
     Ok(())
 }

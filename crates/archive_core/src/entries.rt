@@ -8,7 +8,7 @@ use arch_model::{Index, Owner};
 use epoch_store::StoredEntry;
 use std::alloc::Global;
 
-/// The index of entries.
+/// Returns the index of entries.
 pub(crate) fn index_of(alloc: Global, entries: &[StoredEntry]) -> Result<Index, NoMemory>
     ensures { IfOk result (λ index. IndexesStored entries.now index) }
 {
@@ -20,7 +20,7 @@ pub(crate) fn index_of(alloc: Global, entries: &[StoredEntry]) -> Result<Index, 
     Ok(index)
 }
 
-/// Puts an entry into an index, in the place of those with its ids.
+/// Adds an entry to an index. It replaces those with its ids.
 fn put_entry(index: &mut Index, entry: &StoredEntry) -> Result<(), NoMemory>
     ensures { OnOk result (Puts index.old index.new entry.now.seen.id entry.now.seen.blob (owner_kept entry.now)) }
 {

@@ -1,4 +1,4 @@
-//! An archive on a disk that takes commands: its store, and its messages by their ids.
+//! An archive on a disk that takes commands: its store, and an index of its messages by their ids.
 #![tactic(auto)]
 
 mod archive;

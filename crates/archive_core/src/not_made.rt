@@ -1,13 +1,13 @@
-//! A disk that is handed back, since no archive was made or opened on it.
+//! A disk that is handed back because no archive was created or opened on it.
 use arch_model::OpenRefusal;
 use epoch_store::InitRefusal;
 
-/// A disk on which no archive was made, and why.
+/// A disk on which no archive was created, and why.
 #[derive(Drop)]
 pub struct NotMade<D> {
     /// The disk.
     pub disk: D,
-    /// Why no archive was made.
+    /// Why no archive was created.
     pub why: InitRefusal,
 }
 

@@ -1,4 +1,4 @@
-//! What is read of an archive on a disk: its messages by their numbers, and its epochs.
+//! Reads an archive on a disk: its messages by their numbers, and its epochs.
 ghost use Rattle.std.specs.Prelude.{◌≡◌, ◌≤◌, ◌<◌, ◌+◌, ◌^◌, ◌↔◌, true, length, Err, IsTrue, IsSome, IfSome, OnErr};
 ghost use Rattle.arch_base.specs.Counts.{Rose};
 ghost use Rattle.disk_model.specs.Disk.{Image, Told, Unchanged, LeavesOnly};
@@ -16,14 +16,14 @@ use disk_model::Disk;
 use epoch_store::StoredEntry;
 
 impl DiskArchive {
-    /// Whether there is a root behind the current one: its sequence isn't the last.
+    /// Returns whether there can be another root: the current one's sequence isn't the last.
     pub fn has_next_root(&self) -> bool
         ensures { IsTrue result ↔ self.now.root.sequence + 1 < 2 ^ 64 }
     {
         self.store.sequence() < u64::MAX
     }
 
-    /// The least number of a message that is at least this one, or None where there is none.
+    /// Returns the least number of a message that is at least `n`, or `None` if there is none.
     pub fn live_from(&self, n: u32) -> Option<u32>
         ensures known { IsKnownLive (has_number self.now.entries) result }
         ensures number { (a : Archive) → Keeps self.now a → IsLeastLive a.entries n result }
@@ -35,11 +35,12 @@ impl DiskArchive {
         }
     }
 
-    /// Puts the text of a message behind other bytes, read by one call of the disk.
+    /// Appends the text of a message to `into`.
     ///
-    /// Where what stands there has another blob id than the message, that is Damaged, which never comes on the disk of an archive.
-    /// DiskFault comes only where the disk's count of faults rose, and NoMemory only for want of memory. A refusal leaves the
-    /// bytes as they were, and nothing changes on the disk.
+    /// Reads the disk at most once, and changes nothing on it. `Damaged` comes if the bytes there
+    /// have another blob id than the message, which never happens on the disk of an archive.
+    /// `DiskFault` comes only if the disk's count of faults rose, and `NoMemory` only if memory
+    /// runs out. An error leaves the bytes unchanged.
     pub fn text<D: Disk>(&self, disk: &mut D, n: u32, into: &mut Bytes) -> Result<(), TextRefusal>
         requires live { has_number self.now.entries n ≡ true }
         ensures text { (a : Archive) → IsStoreOf self.now a (D.content disk.old) → GivesTextIn a.entries n into.old into.new result }
@@ -53,17 +54,17 @@ impl DiskArchive {
         ensures count { D.reads disk.new ≤ D.reads disk.old + 1 }
     {
         match place_of(self.store.stored(), n) {
-            // Numbers rise, so that the place of one that is there is found.
+            // Numbers rise, so the index of a number that is there is found.
             None => Err(TextRefusal::NoMemory),
             Some(place) => self.store.text(disk, place, into),
         }
     }
 
-    /// Puts the bytes of an epoch behind others, read by one call of the disk, and says whether it has an entry.
+    /// Appends the bytes of an epoch to `into`, and returns whether the epoch has an entry.
     ///
-    /// DiskFault comes only where the disk's count of faults rose, and NoMemory only for want of memory; that a file is damaged
-    /// is never answered. A refusal leaves the bytes as they were, and so does an epoch without an entry. Nothing changes on the
-    /// disk.
+    /// Reads the disk at most once, and changes nothing on it. An epoch without an entry leaves the
+    /// bytes unchanged. `DiskFault` comes only if the disk's count of faults rose, and `NoMemory`
+    /// only if memory runs out; `Damaged` never comes. An error leaves the bytes unchanged.
     pub fn epoch_bytes<D: Disk>(
         &self,
         disk: &mut D,
@@ -84,7 +85,7 @@ impl DiskArchive {
     }
 }
 
-/// How many entries at the front have a number below this one.
+/// Returns how many entries at the front have a number below `n`.
 fn count_below(entries: &[StoredEntry], n: u32) -> usize
     ensures bound { result ≤ length entries.now }
     ensures count { NumbersRise entries.now → IsCountBelow entries.now n result }
@@ -92,7 +93,7 @@ fn count_below(entries: &[StoredEntry], n: u32) -> usize
     entries.partition_point(|entry| entry.number < n)
 }
 
-/// The place of the entry with a number, from 0.
+/// Returns the index, from 0, of the entry with a number.
 fn place_of(entries: &[StoredEntry], n: u32) -> Option<u64>
     ensures place { IfSome result (IsNumberAt entries.now n) }
     ensures found { NumbersRise entries.now → has_number entries.now n ≡ true → IsSome result }

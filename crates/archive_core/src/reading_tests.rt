@@ -3,7 +3,7 @@ ghost use Rattle.std.specs.Prelude.{OnOk};
 
 use crate::DiskArchive;
 use crate::tests::{FIRST, MOMENT, SECOND, made, put, settings};
-use arch_base::{Bytes, Numbers};
+use arch_base::{Bytes, NoMemory, Numbers};
 use arch_model::{Command, MemArchive, TextRefusal};
 use disk_model::{Disk, MemDisk};
 use epoch_store::InitRefusal;
@@ -18,7 +18,7 @@ fn filled<D: Disk>(alloc: Global, disk: &mut D) -> Result<DiskArchive, InitRefus
     Ok(archive)
 }
 
-/// The text of the first message from a number on, behind a byte.
+/// Returns a byte and after it the text of the first message from a number on.
 fn text_from<D: Disk>(
     alloc: Global,
     archive: &DiskArchive,
@@ -33,43 +33,153 @@ fn text_from<D: Disk>(
     Ok(bytes)
 }
 
+/// Returns whether the text of the first message from a number on is this one, and is appended.
+fn text_is<D: Disk>(
+    alloc: Global,
+    archive: &DiskArchive,
+    disk: &mut D,
+    n: u32,
+    wanted: &[u8],
+) -> Result<bool, TextRefusal> {
+    let bytes = text_from(alloc, archive, disk, n)?;
+    Ok(bytes.as_slice().strip_prefix(b">".as_slice()) == Some(wanted))
+}
+
+/// Returns whether just two messages are found by their numbers, and there may be a third.
+fn has_two(archive: &DiskArchive) -> bool {
+    let zero = archive.live_from(0) == Some(1);
+    let one = archive.live_from(1) == Some(1);
+    let two = archive.live_from(2) == Some(2);
+    let three = archive.live_from(3).is_none();
+    archive.has_next_root() && zero && one && two && three
+}
+
+/// Returns whether the texts of an archive of two messages are found by their numbers.
+fn reads_two<D: Disk>(
+    alloc: Global,
+    archive: &DiskArchive,
+    disk: &mut D,
+) -> Result<bool, TextRefusal> {
+    let first = text_is(alloc, archive, disk, 1, FIRST)?;
+    let second = text_is(alloc, archive, disk, 2, SECOND)?;
+    let none = text_is(alloc, archive, disk, 3, b"")?;
+    Ok(first && second && none)
+}
+
+/// Makes an archive of two messages, and returns whether they are found and read by their numbers.
+fn new_has_and_reads_two<D: Disk>(alloc: Global, disk: &mut D) -> Result<bool, Fail> {
+    let archive = filled(alloc, disk)?;
+    let read = reads_two(alloc, &archive, disk)?;
+    Ok(has_two(&archive) && read)
+}
+
 #[test]
 fn messages_are_found_by_their_numbers(rt: HostRuntime) -> Result<(), Fail> {
     let alloc = rt.alloc();
     let mut disk = MemDisk::new(alloc, Numbers::new(alloc));
-    let archive = filled(alloc, &mut disk)?;
-    assert!(rt; archive.has_next_root());
-    assert!(rt; archive.live_from(0) == Some(1) && archive.live_from(1) == Some(1));
-    assert!(rt; archive.live_from(2) == Some(2) && archive.live_from(3).is_none());
-    let first = text_from(alloc, &archive, &mut disk, 1)?;
-    assert!(rt; first.as_slice().len() == 104 && first.as_slice().ends_with(FIRST));
-    let second = text_from(alloc, &archive, &mut disk, 2)?;
-    assert!(rt; second.as_slice().len() == 104 && second.as_slice().ends_with(SECOND));
-    let none = text_from(alloc, &archive, &mut disk, 3)?;
-    assert!(rt; none.as_slice() == b">".as_slice());
+    assert!(rt; new_has_and_reads_two(alloc, &mut disk)?);
     Ok(())
+}
+
+/// Returns the archive in memory with both messages.
+fn two_in_memory(alloc: Global) -> Result<MemArchive, InitRefusal> {
+    match settings(10, false) {
+        None => Err(InitRefusal::NoMemory),
+        Some(config) => {
+            let mut memory = MemArchive::new(alloc, config);
+            let _ = memory.command(&Command::Deliver(FIRST), MOMENT);
+            let _ = memory.command(&Command::Deliver(SECOND), MOMENT);
+            Ok(memory)
+        }
+    }
+}
+
+/// Returns a byte and after it the bytes of an epoch, and whether the epoch is there.
+fn epoch_from<D: Disk>(
+    alloc: Global,
+    archive: &DiskArchive,
+    disk: &mut D,
+    epoch: u32,
+) -> Result<(Bytes, bool), TextRefusal> {
+    let mut bytes = Bytes::new(alloc);
+    bytes.push(b'>')?;
+    let found = archive.epoch_bytes(disk, epoch, &mut bytes)?;
+    Ok((bytes, found))
+}
+
+/// Returns the same as memory has it.
+fn epoch_in_memory(
+    alloc: Global,
+    memory: &MemArchive,
+    epoch: u32,
+) -> Result<(Bytes, bool), TextRefusal> {
+    let mut bytes = Bytes::new(alloc);
+    bytes.push(b'>')?;
+    let found = memory.push_epoch(epoch, &mut bytes)?;
+    Ok((bytes, found))
+}
+
+/// Returns whether an epoch is read as memory has it, and is there exactly if it is one of two.
+fn epoch_is_same<D: Disk>(
+    alloc: Global,
+    archive: &DiskArchive,
+    disk: &mut D,
+    memory: &MemArchive,
+    epoch: u32,
+) -> Result<bool, TextRefusal> {
+    let (bytes, found) = epoch_from(alloc, archive, disk, epoch)?;
+    let (wanted, there) = epoch_in_memory(alloc, memory, epoch)?;
+    Ok(bytes.as_slice() == wanted.as_slice() && found == there && found == (epoch < 2))
+}
+
+/// Returns whether each epoch is read as memory has it.
+fn epochs_are_same<D: Disk>(
+    alloc: Global,
+    archive: &DiskArchive,
+    disk: &mut D,
+    memory: &MemArchive,
+) -> Result<bool, TextRefusal> {
+    let mut same = true;
+    for epoch in 0..65 {
+        match epoch_is_same(alloc, archive, disk, memory, epoch) {
+            Ok(one) => same &= one,
+            Err(refusal) => return Err(refusal),
+        }
+    }
+    Ok(same)
+}
+
+/// Makes an archive of two messages, and returns whether its epochs are read as memory has them.
+fn new_gives_the_same<D: Disk>(alloc: Global, disk: &mut D) -> Result<bool, Fail> {
+    let archive = filled(alloc, disk)?;
+    let memory = two_in_memory(alloc)?;
+    let same = epochs_are_same(alloc, &archive, disk, &memory)?;
+    Ok(same)
 }
 
 #[test]
 fn epochs_are_read_as_memory_has_them(rt: HostRuntime) -> Result<(), Fail> {
     let alloc = rt.alloc();
     let mut disk = MemDisk::new(alloc, Numbers::new(alloc));
-    let archive = filled(alloc, &mut disk)?;
-    let Some(config) = settings(10, false) else {
-        return Ok(assert!(rt; false));
-    };
-    let mut memory = MemArchive::new(alloc, config);
-    let _ = memory.command(&Command::Deliver(FIRST), MOMENT);
-    let _ = memory.command(&Command::Deliver(SECOND), MOMENT);
-    for epoch in 0..65 {
-        let mut bytes = Bytes::new(alloc);
-        bytes.push(b'>')?;
-        let mut wanted = bytes.copy()?;
-        let found = archive.epoch_bytes(&mut disk, epoch, &mut bytes)?;
-        assert!(rt; memory.push_epoch(epoch, &mut wanted)? == found && found == (epoch < 2));
-        assert!(rt; bytes.as_slice() == wanted.as_slice());
-    }
+    assert!(rt; new_gives_the_same(alloc, &mut disk)?);
     Ok(())
+}
+
+/// A disk of which one call fails, by its ordinal from 1.
+fn failing(alloc: Global, ordinal: u64) -> Result<MemDisk, NoMemory> {
+    let mut faults = Numbers::new(alloc);
+    faults.push(ordinal)?;
+    Ok(MemDisk::new(alloc, faults))
+}
+
+/// Makes an archive of two messages on a disk, and returns whether the second one is read right.
+/// Returns None where the disk fails before the reading.
+fn second_is_read(alloc: Global, disk: MemDisk) -> Option<Result<bool, TextRefusal>> {
+    let mut disk = disk;
+    match filled(alloc, &mut disk) {
+        Ok(archive) => Some(text_is(alloc, &archive, &mut disk, 2, SECOND)),
+        Err(_refusal) => None,
+    }
 }
 
 #[test]
@@ -77,15 +187,10 @@ fn a_fault_at_the_read_of_a_text_is_answered(rt: HostRuntime) -> Result<(), Fail
     let alloc = rt.alloc();
     let mut failed = false;
     for ordinal in 1..40 {
-        let mut faults = Numbers::new(alloc);
-        faults.push(ordinal)?;
-        let mut disk = MemDisk::new(alloc, faults);
-        let Ok(archive) = filled(alloc, &mut disk) else {
-            continue;
-        };
-        match text_from(alloc, &archive, &mut disk, 2) {
-            Ok(bytes) => assert!(rt; bytes.as_slice().ends_with(SECOND)),
-            Err(refusal) => {
+        match second_is_read(alloc, failing(alloc, ordinal)?) {
+            None => {}
+            Some(Ok(right)) => assert!(rt; right),
+            Some(Err(refusal)) => {
                 assert!(rt; !failed && refusal == TextRefusal::DiskFault);
                 failed = true;
             }

@@ -1,8 +1,9 @@
-//! Archives on disks in memory: what commands are answered, what a fault leaves, and what is opened again. The ids were worked out
-//! by git.
-ghost use Rattle.std.specs.Prelude.{◌≤◌, IfSome, IfOk, OnOk};
+//! Archives on disks in memory: what commands are answered, what a fault leaves, and what is opened
+//! again. The ids were worked out by git.
+ghost use Rattle.std.specs.Prelude.{◌≤◌, length, IfSome, IfOk, OnOk};
 ghost use Rattle.arch_base.specs.Configs.{IsConfig};
 ghost use Rattle.disk_model.specs.Disk.{WhereTold};
+ghost use Rattle.disk_model.specs.Memory.{changes_of};
 ghost use Rattle.epoch_store.specs.Stores.{HasSizes};
 
 use crate::DiskArchive;
@@ -16,12 +17,20 @@ use std::test::Fail;
 pub(crate) const FIRST: &[u8] =
     b"From: Ann <ann@example.org>\nDate: Thu, 1 Feb 2024 10:00:00 +0000\nSubject: first\nMessage-ID: <a@x>\n\none\n";
 
-/// The same mail with another id, and with another body.
+/// The same mail with another id.
 pub(crate) const SECOND: &[u8] =
     b"From: Ann <ann@example.org>\nDate: Thu, 1 Feb 2024 10:00:00 +0000\nSubject: first\nMessage-ID: <b@x>\n\none\n";
 
+/// The first mail with another body.
 const OTHER: &[u8] =
     b"From: Ann <ann@example.org>\nDate: Thu, 1 Feb 2024 10:00:00 +0000\nSubject: first\nMessage-ID: <a@x>\n\ntwo\n";
+
+/// The blob ids of the three messages; the last one is stored with an id that is made for it.
+pub(crate) const FIRST_ID: &[u8] = b"1d023c572ccd6f3cc82ae855343346b043adaba5";
+
+pub(crate) const SECOND_ID: &[u8] = b"71bad95e975640281da17cb561681235ca4c1f42";
+
+const OTHER_ID: &[u8] = b"39f92e6e43521b9650c2c71e47523846b2ecc47a";
 
 pub(crate) const MOMENT: u64 = 1_706_781_700;
 
@@ -42,7 +51,7 @@ pub(crate) fn settings(max: u32, mirror: bool) -> Option<Config>
     })
 }
 
-/// An archive that was made on a disk.
+/// Makes an archive on a disk.
 pub(crate) fn made<D: Disk>(
     alloc: Global,
     disk: &mut D,
@@ -59,7 +68,7 @@ pub(crate) fn made<D: Disk>(
     }
 }
 
-/// The answer to the delivery of a message, or that the disk failed.
+/// Returns the answer to the delivery of a message, or that the disk failed.
 fn deliver<D: Disk>(
     archive: &mut DiskArchive,
     disk: &mut D,
@@ -74,49 +83,106 @@ fn deliver<D: Disk>(
     }
 }
 
-/// The answer that a delivery of this blob id under this number gets.
+/// Returns whether the delivery of a message is answered so.
+fn answers<D: Disk>(
+    archive: &mut DiskArchive,
+    disk: &mut D,
+    bytes: &[u8],
+    wanted: Option<Answer>,
+) -> Result<bool, DiskFault>
+    requires sizes { WhereTold (HasSizes archive.old) (D.content disk.old) }
+    ensures sizes { OnOk result (WhereTold (HasSizes archive.new) (D.content disk.new)) }
+{
+    let answer = deliver(archive, disk, bytes)?;
+    Ok(Some(answer) == wanted)
+}
+
+/// Returns the answer that a delivery of this blob id under this number gets.
 pub(crate) fn accepted(number: u32, hex: &[u8]) -> Option<Answer> {
     let id = id_of_hex(hex)?;
     Some(Answer::Ok { number, id })
+}
+
+/// Returns whether an archive has this many messages by each of its counts.
+fn has_count(archive: &DiskArchive, count: u32) -> bool {
+    let entries = archive.entry_count() == count as u64;
+    let live = archive.live_count() == count;
+    let next = archive.next_number() == count.saturating_add(1);
+    entries && live && next
+}
+
+/// Delivers three messages to an empty archive, the first one twice, and returns whether each is
+/// answered as it should be.
+fn takes_each_once<D: Disk>(archive: &mut DiskArchive, disk: &mut D) -> Result<bool, DiskFault>
+    requires sizes { WhereTold (HasSizes archive.old) (D.content disk.old) }
+{
+    let first = answers(archive, disk, FIRST, accepted(1, FIRST_ID))?;
+    let again = answers(archive, disk, FIRST, Some(Answer::Duplicate(1)))?;
+    let second = answers(archive, disk, SECOND, accepted(2, SECOND_ID))?;
+    let other = answers(archive, disk, OTHER, accepted(3, OTHER_ID))?;
+    Ok(first && again && second && other)
+}
+
+/// Makes an archive, and returns whether it takes three messages so, and counts them.
+fn new_takes_each_once<D: Disk>(alloc: Global, disk: &mut D) -> Result<bool, InitRefusal> {
+    let mut archive = made(alloc, disk, 10, false)?;
+    let none = has_count(&archive, 0);
+    let taken = takes_each_once(&mut archive, disk)?;
+    let three = has_count(&archive, 3);
+    Ok(none && taken && three && archive.config().max == 10)
 }
 
 #[test]
 fn a_message_is_taken_once(rt: HostRuntime) -> Result<(), Fail> {
     let alloc = rt.alloc();
     let mut disk = MemDisk::new(alloc, Numbers::new(alloc));
-    let mut archive = made(alloc, &mut disk, 10, false)?;
-    assert!(rt; archive.entry_count() == 0 && archive.live_count() == 0);
-    let first = deliver(&mut archive, &mut disk, FIRST)?;
-    assert!(rt; Some(first) == accepted(1, b"1d023c572ccd6f3cc82ae855343346b043adaba5"));
-    let again = deliver(&mut archive, &mut disk, FIRST)?;
-    assert!(rt; again == Answer::Duplicate(1));
-    let second = deliver(&mut archive, &mut disk, SECOND)?;
-    assert!(rt; Some(second) == accepted(2, b"71bad95e975640281da17cb561681235ca4c1f42"));
-    let other = deliver(&mut archive, &mut disk, OTHER)?;
-    assert!(rt; Some(other) == accepted(3, b"39f92e6e43521b9650c2c71e47523846b2ecc47a"));
-    assert!(rt; archive.entry_count() == 3 && archive.live_count() == 3);
-    assert!(rt; archive.next_number() == 4 && archive.config().max == 10);
+    assert!(rt; new_takes_each_once(alloc, &mut disk)?);
     Ok(())
+}
+
+/// Makes a mirror, and returns whether it takes no message.
+fn mirror_takes_nothing<D: Disk>(alloc: Global, disk: &mut D) -> Result<bool, InitRefusal> {
+    let mut mirror = made(alloc, disk, 10, true)?;
+    let refused = answers(&mut mirror, disk, FIRST, Some(Answer::IsMirror))?;
+    Ok(refused && mirror.entry_count() == 0)
 }
 
 #[test]
-fn a_mirror_and_a_full_archive_take_nothing(rt: HostRuntime) -> Result<(), Fail> {
+fn a_mirror_takes_nothing(rt: HostRuntime) -> Result<(), Fail> {
     let alloc = rt.alloc();
     let mut disk = MemDisk::new(alloc, Numbers::new(alloc));
-    let mut mirror = made(alloc, &mut disk, 10, true)?;
-    let answer = deliver(&mut mirror, &mut disk, FIRST)?;
-    assert!(rt; answer == Answer::IsMirror && mirror.entry_count() == 0);
-    let mut disk = MemDisk::new(alloc, Numbers::new(alloc));
-    let mut full = made(alloc, &mut disk, 1, false)?;
-    let _ = deliver(&mut full, &mut disk, FIRST)?;
-    let answer = deliver(&mut full, &mut disk, SECOND)?;
-    assert!(rt; answer == Answer::Full(1) && full.entry_count() == 1);
-    let answer = deliver(&mut full, &mut disk, b"")?;
-    assert!(rt; answer == Answer::NoFields);
+    assert!(rt; mirror_takes_nothing(alloc, &mut disk)?);
     Ok(())
 }
 
-/// Whether messages are answered on a disk as in memory.
+/// Delivers three messages to an empty archive for one message, and returns whether the second and
+/// the third are refused for their causes.
+fn takes_one_only<D: Disk>(archive: &mut DiskArchive, disk: &mut D) -> Result<bool, DiskFault>
+    requires sizes { WhereTold (HasSizes archive.old) (D.content disk.old) }
+{
+    let first = answers(archive, disk, FIRST, accepted(1, FIRST_ID))?;
+    let second = answers(archive, disk, SECOND, Some(Answer::Full(1)))?;
+    let one = archive.entry_count() == 1;
+    let empty = answers(archive, disk, b"", Some(Answer::NoFields))?;
+    Ok(first && second && one && empty)
+}
+
+/// Makes an archive for one message, and returns whether it takes just one.
+fn new_takes_one_only<D: Disk>(alloc: Global, disk: &mut D) -> Result<bool, InitRefusal> {
+    let mut archive = made(alloc, disk, 1, false)?;
+    let one = takes_one_only(&mut archive, disk)?;
+    Ok(one)
+}
+
+#[test]
+fn a_full_archive_takes_nothing(rt: HostRuntime) -> Result<(), Fail> {
+    let alloc = rt.alloc();
+    let mut disk = MemDisk::new(alloc, Numbers::new(alloc));
+    assert!(rt; new_takes_one_only(alloc, &mut disk)?);
+    Ok(())
+}
+
+/// Returns whether messages are answered on a disk as in memory.
 fn answers_alike<D: Disk>(
     archive: &mut DiskArchive,
     disk: &mut D,
@@ -135,24 +201,44 @@ fn answers_alike<D: Disk>(
     Ok(alike)
 }
 
+/// Returns whether messages are answered on a disk as by an empty archive in memory for four.
+fn answers_as_memory<D: Disk>(
+    alloc: Global,
+    archive: &mut DiskArchive,
+    disk: &mut D,
+    messages: &[&[u8]],
+) -> Result<bool, DiskFault>
+    requires sizes { WhereTold (HasSizes archive.old) (D.content disk.old) }
+{
+    match settings(4, false) {
+        None => Ok(false),
+        Some(config) => {
+            let mut memory = MemArchive::new(alloc, config);
+            answers_alike(archive, disk, &mut memory, messages)
+        }
+    }
+}
+
+/// Makes an archive for four messages, and returns whether it answers messages as memory does, and
+/// takes four of them.
+fn new_answers_as_memory<D: Disk>(alloc: Global, disk: &mut D) -> Result<bool, InitRefusal> {
+    let plain: &[u8] = b"Subject: u\n\nx\n";
+    let last: &[u8] = b"Subject: w\n\nx\n";
+    let messages = [OTHER, b"", FIRST, SECOND, plain, OTHER, plain, last];
+    let mut archive = made(alloc, disk, 4, false)?;
+    let alike = answers_as_memory(alloc, &mut archive, disk, &messages)?;
+    Ok(alike && archive.entry_count() == 4)
+}
+
 #[test]
 fn a_disk_answers_as_memory_does(rt: HostRuntime) -> Result<(), Fail> {
     let alloc = rt.alloc();
     let mut disk = MemDisk::new(alloc, Numbers::new(alloc));
-    let mut archive = made(alloc, &mut disk, 4, false)?;
-    let Some(config) = settings(4, false) else {
-        return Ok(assert!(rt; false));
-    };
-    let mut memory = MemArchive::new(alloc, config);
-    let plain: &[u8] = b"Subject: u\n\nx\n";
-    let last: &[u8] = b"Subject: w\n\nx\n";
-    let messages = [OTHER, b"", FIRST, SECOND, plain, OTHER, plain, last];
-    assert!(rt; answers_alike(&mut archive, &mut disk, &mut memory, &messages)?);
-    assert!(rt; archive.entry_count() == 4);
+    assert!(rt; new_answers_as_memory(alloc, &mut disk)?);
     Ok(())
 }
 
-/// Makes an archive of two messages, and says how many it has.
+/// Makes an archive of two messages, and returns how many it has.
 fn filled<D: Disk>(alloc: Global, disk: &mut D) -> Result<u64, InitRefusal> {
     let mut archive = made(alloc, disk, 10, false)?;
     put(&mut archive, disk, FIRST)?;
@@ -176,27 +262,63 @@ pub(crate) fn put<D: Disk>(
     }
 }
 
+/// Opens the archive on a disk, and returns how many messages it has.
+fn opened_count<D: Disk>(alloc: Global, disk: &mut D) -> Result<u64, OpenRefusal> {
+    match DiskArchive::open(alloc, disk) {
+        Ok(archive) => Ok(archive.entry_count()),
+        Err(refusal) => Err(refusal),
+    }
+}
+
+/// Makes an archive of two messages over a disk that stops after so many calls, and opens what is
+/// left there. Returns how many messages each of the two finds.
+fn filled_and_left(
+    alloc: Global,
+    passes: u64,
+) -> (Result<u64, InitRefusal>, Result<u64, OpenRefusal>) {
+    let mut fuse = FuseDisk::new(MemDisk::new(alloc, Numbers::new(alloc)), passes);
+    let count = filled(alloc, &mut fuse);
+    let mut disk = fuse.into_inner();
+    (count, opened_count(alloc, &mut disk))
+}
+
+/// Returns whether an archive was opened with two messages at most, or none is there where its
+/// messages were not all answered.
+fn is_whole_or_none(left: Result<u64, OpenRefusal>, done: bool) -> bool {
+    match left {
+        Ok(count) => count <= 2,
+        Err(refusal) => !done && refusal == OpenRefusal::NoArchive,
+    }
+}
+
 #[test]
-fn a_disk_that_fails_at_any_call_is_answered_by_its_fault(rt: HostRuntime) -> Result<(), Fail> {
-    let alloc = rt.alloc();
+fn a_disk_that_fails_at_any_call_is_answered_by_its_fault(rt: HostRuntime) {
     let mut done = false;
     for passes in 0..40 {
-        let mut fuse = FuseDisk::new(MemDisk::new(alloc, Numbers::new(alloc)), passes);
-        match filled(alloc, &mut fuse) {
-            Ok(count) => {
-                assert!(rt; count == 2);
-                done = true;
-            }
-            Err(refusal) => assert!(rt; !done && refusal == InitRefusal::DiskFault),
-        }
-        let mut disk = fuse.into_inner();
-        match DiskArchive::open(alloc, &mut disk) {
-            Ok(archive) => assert!(rt; archive.entry_count() <= 2),
-            Err(refusal) => assert!(rt; !done && refusal == OpenRefusal::NoArchive),
-        }
+        let (made, left) = filled_and_left(rt.alloc(), passes);
+        let whole = made == Ok(2);
+        assert!(rt; whole || (!done && made == Err(InitRefusal::DiskFault)));
+        assert!(rt; is_whole_or_none(left, whole));
+        done = whole;
     }
     assert!(rt; done);
-    Ok(())
+}
+
+/// Returns whether an archive of two messages that was opened knows them, and takes a third.
+fn knows_two<D: Disk>(archive: &mut DiskArchive, disk: &mut D) -> Result<bool, DiskFault>
+    requires sizes { WhereTold (HasSizes archive.old) (D.content disk.old) }
+{
+    let two = has_count(archive, 2);
+    let again = answers(archive, disk, SECOND, Some(Answer::Duplicate(2)))?;
+    let other = answers(archive, disk, OTHER, accepted(3, OTHER_ID))?;
+    Ok(two && again && other)
+}
+
+/// Opens the archive of two messages on a disk, and returns whether it knows them.
+fn opened_knows_two<D: Disk>(alloc: Global, disk: &mut D) -> Result<bool, Fail> {
+    let mut archive = DiskArchive::open(alloc, disk)?;
+    let two = knows_two(&mut archive, disk)?;
+    Ok(two)
 }
 
 #[test]
@@ -204,13 +326,29 @@ fn an_archive_that_is_opened_knows_its_messages(rt: HostRuntime) -> Result<(), F
     let alloc = rt.alloc();
     let mut disk = MemDisk::new(alloc, Numbers::new(alloc));
     assert!(rt; filled(alloc, &mut disk)? == 2);
-    let mut archive = DiskArchive::open(alloc, &mut disk)?;
-    assert!(rt; archive.entry_count() == 2 && archive.next_number() == 3);
-    let answer = deliver(&mut archive, &mut disk, SECOND)?;
-    assert!(rt; answer == Answer::Duplicate(2));
-    let other = deliver(&mut archive, &mut disk, OTHER)?;
-    assert!(rt; Some(other) == accepted(3, b"39f92e6e43521b9650c2c71e47523846b2ecc47a"));
+    assert!(rt; opened_knows_two(alloc, &mut disk)?);
     Ok(())
+}
+
+/// Opens what a crash may have left, and returns how many messages it has. No archive has none.
+fn image_count(alloc: Global, image: MemDisk) -> Result<u64, OpenRefusal> {
+    let mut image = image;
+    match opened_count(alloc, &mut image) {
+        Err(OpenRefusal::NoArchive) => Ok(0),
+        found => found,
+    }
+}
+
+/// Opens each image that a crash at a moment may leave, and returns the greatest count of messages.
+fn most_left(alloc: Global, disk: &MemDisk, at: u64) -> Result<u64, Fail>
+    requires { at ≤ length (changes_of disk.now) }
+{
+    let mut most = 0;
+    for pick in 0..4 {
+        let count = image_count(alloc, disk.image(at, pick)?)?;
+        most = most.max(count);
+    }
+    Ok(most)
 }
 
 #[test]
@@ -220,13 +358,7 @@ fn a_crash_leaves_whole_messages(rt: HostRuntime) -> Result<(), Fail> {
     assert!(rt; filled(alloc, &mut disk)? == 2);
     let mut most = 0;
     for at in 0..disk.moments() {
-        for pick in 0..4 {
-            let mut image = disk.image(at, pick)?;
-            match DiskArchive::open(alloc, &mut image) {
-                Ok(archive) => most = most.max(archive.entry_count()),
-                Err(refusal) => assert!(rt; refusal == OpenRefusal::NoArchive),
-            }
-        }
+        most = most.max(most_left(alloc, &disk, at)?);
     }
     assert!(rt; most == 2);
     Ok(())

@@ -1,4 +1,4 @@
-//! The own id and the blob id of a text, put into an index and taken out again.
+//! Puts the own id and the blob id of a text into an index, and removes them.
 ghost use Rattle.std.specs.Prelude.{◌≡◌, IsSome, Some, None, IfOk, OnOk, OnErr};
 ghost use Rattle.mail_reader.specs.Ids.{own_id as own_id_in};
 ghost use Rattle.arch_model.specs.Memory.{HasSame, number_in};
@@ -9,7 +9,7 @@ use arch_model::{Index, Owner};
 use mail_reader::{content_id, own_id};
 use std::alloc::Global;
 
-/// Puts a text with a new blob id into an index, or changes nothing.
+/// Puts a text with a new blob id into an index. An error leaves the index unchanged.
 pub(crate) fn put_text(
     alloc: Global,
     index: &mut Index,
@@ -30,7 +30,7 @@ pub(crate) fn put_text(
     index.insert(id, blob, owner)
 }
 
-/// Takes a text out of an index.
+/// Removes a text from an index.
 pub(crate) fn take_text(index: &mut Index, text: &[u8], blob: &ObjectId)
     ensures { TakesBackText index.old index.new text.now blob.now }
 {
@@ -39,7 +39,7 @@ pub(crate) fn take_text(index: &mut Index, text: &[u8], blob: &ObjectId)
     }
 }
 
-/// The own id of a text that has one.
+/// Returns a copy of the own id of a text that has one.
 fn own_id_of(alloc: Global, text: &[u8]) -> Result<Vec<u8>, NoMemory>
     requires { IsSome (own_id_in text.now) }
     ensures { IfOk result (λ id. own_id_in text.now ≡ Some id.items) }

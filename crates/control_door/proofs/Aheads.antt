@@ -1,4 +1,4 @@
--- What stands at the front where more bytes come behind it.
+-- How more bytes change the front of a session.
 use Rattle.std.proofs.Common.{◌≡◌, ◌<◌, ◌≤◌, ℕ, Bool, true, false, nat_le, List, [], ◌++◌, length, take, drop, refl, sym, ◌∙◌, ap, arith, inl, inr, ◌⊎◌, length-append, length-drop}
 use Rattle.std.proofs.lemmas.List.{take-append-le, drop-append-le}
 use Rattle.std.proofs.lemmas.Bool.Decides.{nat_tests}
@@ -9,15 +9,15 @@ use Rattle.control_door.specs.declared.order.Order.TheVariants.{Deliver, TooMuch
 use Rattle.control_door.specs.Orders.{order_of}
 use Rattle.control_door.specs.Requests.{Request, Delivers, Shows, Lists, Quits, Mistakes, Exceeds, Ahead, Asked, Unfinished, asked_by, asked_at, ahead, is_asked, line_limit}
 
--- a message that is whole
+-- A message that is whole.
 pub asked_by-whole : (size : ℕ) (rest : List ℕ) → size ≤ length rest → asked_by (Deliver size) rest ≡ Asked (Delivers (take size rest)) (drop size rest)
 asked_by-whole size rest h = let t : nat_le size (length rest) ≡ true = grind (arith, nat_tests) in rw t refl
 
--- and one that isn't
+-- A message that isn't.
 pub asked_by-part : (size : ℕ) (rest : List ℕ) → length rest < size → asked_by (Deliver size) rest ≡ Unfinished
 asked_by-part size rest h = let t : nat_le size (length rest) ≡ false = grind (arith, nat_tests) in rw t refl
 
--- what more bytes make of what stands at the front: a request stays, with more behind it
+-- A request at the front stays there, and more bytes follow it.
 pub data Goes (q : List ℕ) : Ahead → Ahead → Type 0 where
   Same : (request : Request) (rest : List ℕ) → Goes q (Asked request rest) (Asked request (rest ++ q))
   Over : Goes q (Asked Exceeds []) (Asked Exceeds [])
@@ -43,11 +43,11 @@ asked_at-goes bytes q (line.Whole text rest) h = rw (front-goes_on line_limit by
 asked_at-goes bytes q line.Long h = rw (front-stays_long line_limit bytes q h) Over
 asked_at-goes bytes q line.Partial h = Open (ahead (bytes ++ q))
 
--- more bytes behind those of a session
+-- More bytes follow those of a session.
 pub ahead-goes : (bytes q : List ℕ) → Goes q (ahead bytes) (ahead (bytes ++ q))
 ahead-goes bytes q = asked_at-goes bytes q (line.front line_limit bytes) refl
 
--- what follows a request is shorter
+-- The rest after a request is shorter than the bytes.
 shorter_by : (size n : ℕ) (rest bytes : List ℕ) (request : Request) (behind : List ℕ) (t : Bool) → nat_le size (length rest) ≡ t → length rest < n → asked_by (Deliver size) rest ≡ Asked request behind → length behind < n
 shorter_by size n rest bytes request behind true h short is =
     let fits : size ≤ length rest = grind (arith, nat_tests) in
@@ -72,7 +72,7 @@ asked_at-shorter bytes line.Partial request behind h is = absurd (cc is)
 pub ahead-shorter : (bytes : List ℕ) (request : Request) (behind : List ℕ) → ahead bytes ≡ Asked request behind → (request ≡ Exceeds) ⊎ (length behind < length bytes)
 ahead-shorter bytes request behind is = asked_at-shorter bytes (line.front line_limit bytes) request behind refl is
 
--- no request stands there: it is the beginning of one
+-- A front that is no whole request is the beginning of one.
 pub unfinished : (a : Ahead) → is_asked a ≡ false → a ≡ Unfinished
 unfinished (Asked request rest) h = absurd (cc h)
 unfinished Unfinished h = refl

@@ -1,4 +1,4 @@
--- What the calls of a keeper of archives come to at the control door.
+-- What the calls of a keeper mean at the control door.
 use Rattle.std.proofs.Common.{◌≡◌, ◌≤◌, ℕ, Bool, true, false, List, [], ◌++◌, drop, Option, Some, None, is_some, Err, refl, sym, ◌∙◌, ap, subst, arith, inl, inr, if◌then◌else◌}
 use Rattle.std.proofs.lemmas.Bool.{false≢true}
 use Rattle.arch_base.specs.Counts.{Rose}
@@ -24,13 +24,13 @@ use Rattle.control_door.proofs.Holding.{turn-went, turn-opened}
 
 -- Acts at requests that change no archive.
 
--- a text is said
+-- A text is said.
 pub acts-shown : (moment : ℕ) (s : Standing) (number : ℕ) (text rest : List ℕ) (i j : Outside) (ok : Bool) → text_of s.archive.entries number ≡ Some text → i.disk ≤ j.disk → Says (shown 0 (Some text)) i.out i.lost j.out j.lost ok
     → Acts (said_to moment s (Shows number) rest) i (held_if ok (waiting rest false)) s j
 acts-shown moment s number text rest i j ok is later words =
     acts-by_held (said_to moment s (Shows number) rest) Plain (goes_on rest (shown number (Some text)) s) i j (waiting rest false) s ok (rw is refl) refl (λ d. absurd (cc d)) later words refl
 
--- or that there is none
+-- A number without a text.
 pub acts-hidden : (moment : ℕ) (s : Standing) (number : ℕ) (rest : List ℕ) (i j : Outside) (ok : Bool) → is_some (text_of s.archive.entries number) ≡ false → i.disk ≤ j.disk → Says (shown number None) i.out i.lost j.out j.lost ok
     → Acts (said_to moment s (Shows number) rest) i (held_if ok (waiting rest false)) s j
 acts-hidden moment s number rest i j ok none later words =
@@ -40,13 +40,13 @@ acts-hidden moment s number rest i j ok none later words =
     none_of None h = refl
     none_of (Some text) h = absurd (cc h)
 
--- the epochs are listed
+-- The epochs are listed.
 pub acts-listed : (moment : ℕ) (s : Standing) (rest : List ℕ) (i j : Outside) (ok : Bool) → i.disk ≤ j.disk → Says (epochs_words s.archive.entries) i.out i.lost j.out j.lost ok
     → Acts (said_to moment s Lists rest) i (held_if ok (waiting rest false)) s j
 acts-listed moment s rest i j ok later words =
     acts-by_held (said_to moment s Lists rest) Plain (goes_on rest (epochs_words s.archive.entries) s) i j (waiting rest false) s ok refl refl (λ d. absurd (cc d)) later words refl
 
--- what was asked for was not read
+-- What was asked for was not read.
 pub acts-unread : (moment : ℕ) (s : Standing) (request : Request) (rest : List ℕ) (i j : Outside) (ok : Bool) (refusal : TextRefusal)
     → refused_memory moment s request rest ≡ goes_on rest memory_word s → refused_disk moment s request rest ≡ goes_on rest disk_word s
     → IsUndamaged refusal → (refusal ≡ reading.DiskFault → Rose i.disk j.disk) → i.disk ≤ j.disk → Says (unread_words refusal) i.out i.lost j.out j.lost ok
@@ -57,45 +57,45 @@ acts-unread moment s request rest i j ok (reading.Damaged named found) memory di
 acts-unread moment s request rest i j ok reading.NoMemory memory disk whole cause later words =
     acts-by_held (said_to moment s request rest) Memory (goes_on rest memory_word s) i j (waiting rest false) s ok memory refl (λ d. absurd (cc d)) later words refl
 
--- no text was damaged where an archive is held
+-- No text is damaged while an archive is held.
 pub undamaged-text : (entries : List Entry) (n : ℕ) (old new : List ℕ) (refusal : TextRefusal) → GivesTextIn entries n old new (Err refusal) → IsUndamaged refusal
 undamaged-text entries n old new reading.DiskFault given = tt
 undamaged-text entries n old new (reading.Damaged named found) given = given
 undamaged-text entries n old new reading.NoMemory given = tt
 
--- a line is no order
+-- A line that is not an order.
 pub acts-mistaken : (moment : ℕ) (s : Standing) (rest : List ℕ) (i j : Outside) (ok : Bool) → i.disk ≤ j.disk → Says bad_word i.out i.lost j.out j.lost ok
     → Acts (said_to moment s Mistakes rest) i (held_if ok (waiting rest false)) s j
 acts-mistaken moment s rest i j ok later words =
     acts-by_held (said_to moment s Mistakes rest) Plain (goes_on rest bad_word s) i j (waiting rest false) s ok refl refl (λ d. absurd (cc d)) later words refl
 
--- too much is announced, or a line is too long
+-- Too much is announced, or a line is too long.
 pub acts-exceeding : (moment : ℕ) (s : Standing) (rest : List ℕ) (i j : Outside) (ok : Bool) → i.disk ≤ j.disk → Says bad_word i.out i.lost j.out j.lost ok → Acts (said_to moment s Exceeds rest) i None s j
 acts-exceeding moment s rest i j ok later words = acts-closing (said_to moment s Exceeds rest) Plain (closes bad_word s) i j s ok refl refl (λ d. absurd (cc d)) later words refl
 
--- the connection ends
+-- The connection ends.
 pub acts-quitting : (moment : ℕ) (s : Standing) (rest : List ℕ) (i : Outside) → Acts (said_to moment s Quits rest) i None s i
 acts-quitting moment s rest i = acts-silent (said_to moment s Quits rest) (closes [] s) i i None s refl refl refl refl (omega arith) refl refl
 
--- there is no memory for a message
+-- Out of memory for a message.
 pub acts-refusing : (moment : ℕ) (s : Standing) (message rest : List ℕ) (i j : Outside) (ok : Bool) → i.disk ≤ j.disk → Says memory_word i.out i.lost j.out j.lost ok
     → Acts (said_to moment s (requests.Delivers message) rest) i (held_if ok (waiting rest false)) s j
 acts-refusing moment s message rest i j ok later words =
     acts-by_held (said_to moment s (requests.Delivers message) rest) Memory (goes_on rest memory_word s) i j (waiting rest false) s ok refl refl (λ d. absurd (cc d)) later words refl
 
 module _ {K : Type 0} (holds : K → Archive → Type 0) (stale : K → Bool) (clock : K → ℕ) (leaves : K → ℕ → List (Option Archive) → Type 0) where
-  -- one that holds an archive stands for it
+  -- A keeper that holds an archive fits it.
   pub fits-ready : (k : K) (a : Archive) → holds k a → leaves k (clock k) (one_of (standing a None)) → Fits holds stale clock leaves k (standing a None)
   fits-ready k a h l = record { ready = λ _. (h, refl); left = l }
 
   fits-doubt : (k : K) (a b : Archive) → IsInDoubt holds stale clock leaves a b k → Fits holds stale clock leaves k (standing a (Some b))
   fits-doubt k a b doubt = record { ready = λ ready. absurd (false≢true (sym ready ∙ doubt.unready)); left = doubt.left }
 
-  -- one that needn't be opened again stands for the archive that it holds, and nothing is in doubt
+  -- A keeper that needn't be reopened holds the archive that it fits, and nothing is in doubt.
   settled : (k : K) (s : Standing) → Fits holds stale clock leaves k s → stale k ≡ false → (s ≡ standing s.archive None) × holds k s.archive
   settled k s fits ready = let both = fits.ready ready in (ap (λ (doubt : Option Archive). standing s.archive doubt) both.1, both.0)
 
-  -- a message was delivered, and the line of the answer said
+  -- A message was delivered, and the line of the answer was said.
   module _ (left_by : (k : K) (a : Archive) → holds k a → leaves k (clock k) (one_of (standing a None))) where
     pub delivering : (moment : ℕ) (a : Archive) (message rest : List ℕ) (k : K) (reply : Answer) (i j : Outside) (ok : Bool) → DoesBy holds stale clock leaves a (delivered a message moment) reply k
         → (reply ≡ answer.DiskFault → Rose i.disk j.disk) → i.disk ≤ j.disk → Says (reply_line (answer_line reply)) i.out i.lost j.out j.lost ok
@@ -138,7 +138,7 @@ module _ {K : Type 0} (holds : K → Archive → Type 0) (stale : K → Bool) (c
         by (answer.NoText number) is cause words = done (answer.NoText number) is words
         by answer.IsMirror is cause words = done answer.IsMirror is words
 
-    -- opening again found an archive
+    -- Reopening found an archive.
     pub opening-found : (s : Standing) (bytes : List ℕ) (k : K) (b : Archive) (i j : Outside) → IsFound s b → IsReady holds stale clock leaves k b → i.disk ≤ j.disk → j.out ≡ i.out → j.lost ≡ i.lost
         → (t : Standing) × Fits holds stale clock leaves k t × Acts (said_opening s bytes) i (Some (waiting bytes true)) t j
     opening-found s bytes k b i j found ready later out lost = (
@@ -157,7 +157,7 @@ module _ {K : Type 0} (holds : K → Archive → Type 0) (stale : K → Bool) (c
             let is : b ≡ newer s = sym (ap (newer_of s.archive) doubt) in
             acts-by_held (said_opening s bytes) Newer (opens (newer s) bytes) i j (waiting bytes true) (standing b None) true refl refl (λ d. absurd (cc d)) later nothing (ap (λ (a : Archive). standing a None) is)
 
-  -- opening again was refused, which is said
+  -- Reopening was refused, which is said.
   pub opening-refused : (s : Standing) (bytes : List ℕ) (k : K) (refusal : OpenRefusal) (i j : Outside) (ok : Bool) → Reopens holds stale clock leaves s (Err refusal) k → (refusal ≡ opening.DiskFault → Rose i.disk j.disk) → i.disk ≤ j.disk
       → Says (unopened_words refusal) i.out i.lost j.out j.lost ok → (t : Standing) × Fits holds stale clock leaves k t × Acts (said_opening s bytes) i None t j
   opening-refused s bytes k opening.DiskFault i j ok fits cause later words =
@@ -167,7 +167,7 @@ module _ {K : Type 0} (holds : K → Archive → Type 0) (stale : K → Bool) (c
   opening-refused s bytes k opening.NoArchive i j ok never cause later words = absurd never
   opening-refused s bytes k (opening.Damaged file at) i j ok never cause later words = absurd never
 
-  -- a request was answered
+  -- A request was answered.
   pub turns-answered : (moment : ℕ) (old piece : List ℕ) (request : Request) (n : ℕ) (k k' : K) (i j : Outside) (new : List ℕ) (goes : Bool) → stale k ≡ false → ahead (old ++ piece) ≡ Asked request (drop n piece) → new ≡ []
       → Answers holds stale clock leaves moment request k i goes k' j → Turns holds stale clock leaves moment true old piece k i (if goes then Went n else Closed) new k' j
   turns-answered moment old piece request n k k' i j new goes ready stands none acts = λ s fits.
@@ -179,7 +179,7 @@ module _ {K : Type 0} (holds : K → Archive → Type 0) (stale : K → Bool) (c
             (turn-went moment (standing s.archive None) old piece request n i done.0 new j goes stands none done.2),
       )
 
-  -- the archive was opened again before a request, or not
+  -- The archive was reopened before a request, or not.
   pub turns-opened : (moment : ℕ) (old piece : List ℕ) (request : Request) (n : ℕ) (k k' : K) (i j : Outside) (done : Bool) → ahead (old ++ piece) ≡ Asked request (drop n piece)
       → Opens holds stale clock leaves k i done k' j → Turns holds stale clock leaves moment false old piece k i (if done then Opened else Closed) old k' j
   turns-opened moment old piece request n k k' i j done stands opens = λ s fits.

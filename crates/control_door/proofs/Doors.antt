@@ -43,7 +43,7 @@ request_behind moment s q rest Exceeds Memory = refl
 request_behind moment s q rest Exceeds Disk = refl
 request_behind moment s q rest Exceeds Newer = refl
 
--- an opening again leaves the bytes
+-- A reopening leaves the bytes.
 opening_behind : (s : Standing) (bytes q : List ℕ) (way : Way) → said_opening s (bytes ++ q) way ≡ said_with (with_piece q) (said_opening s bytes way)
 opening_behind s bytes q Plain = refl
 opening_behind s bytes q Memory = refl
@@ -74,7 +74,8 @@ kept moment s w Memory x h = rw h (unkept-either s w w.bytes)
 kept moment s w Disk x h = rw h (inr refl)
 kept moment s w Newer x h = rw h (inr refl)
 
--- what is left open by an answer is what follows its request, or its door closes
+-- The session that an answer leaves open has the bytes after the request, which doesn't close the
+-- door.
 left_open : (moment : ℕ) (s : Standing) (request : Request) (rest : List ℕ) (k : Waiting) → (answered moment s request rest).next ≡ Some k → (waiting rest false ≡ k) × (request ≡ Exceeds → ⊥)
 left_open moment s (Delivers message) rest k h = (cc, λ e. cc)
 left_open moment s (Shows number) rest k h = (cc, λ e. cc)
@@ -104,18 +105,18 @@ control_cuts moment = record {
   shorter = λ s h k asked next. shorter_at moment s h.bytes h.opened k (ahead h.bytes) refl asked next;
 }
 
--- at a request an opening changes nothing where nothing is in doubt
+-- At a request, reopening changes nothing if nothing is in doubt.
 opening_first : (moment : ℕ) (a : Archive) (bytes : List ℕ) (n : ℕ) (request : Request) (rest : List ℕ) → ahead bytes ≡ Asked request rest
     → plain_from (said moment) has_request (suc n) (standing a None) (waiting bytes false) ≡ plain_from (said moment) has_request n (standing a None) (waiting bytes true)
 opening_first moment a bytes n request rest is =
     ap (λ (b : Bool). if_request b (said moment) (plain_from (said moment) has_request n) (standing a None) (waiting bytes false)) (ap is_asked is)
     ∙ ap (λ (x : Ahead). then_say (said_at moment (standing a None) (waiting bytes false) x Plain) (plain_from (said moment) has_request n)) is
 
--- where no request stands, nothing is said
+-- Without a whole request, nothing is said.
 silent_first : (moment : ℕ) (s : Standing) (w : Waiting) (n : ℕ) → ahead w.bytes ≡ Unfinished → plain_from (said moment) has_request (suc n) s w ≡ silent s w
 silent_first moment s w n is = ap (λ (b : Bool). if_request b (said moment) (plain_from (said moment) has_request n) s w) (ap is_asked is)
 
--- the sessions that begin a piece with an opening and without one, where so many requests are asked for at most
+-- Sessions that still have to reopen and those that don't say the same, up to a limit of requests.
 opening_at : (moment : ℕ) (a : Archive) (bytes : List ℕ) (n : ℕ) (x : Ahead) → ahead bytes ≡ x
     → SaysTheSame (plain_from (said moment) has_request (suc (suc n)) (standing a None) (waiting bytes false)) (plain_from (said moment) has_request (suc n) (standing a None) (waiting bytes true))
 opening_at moment a bytes n (Asked request rest) is =
@@ -139,7 +140,7 @@ opening_silent moment a bytes =
     size
     (opening_at moment a bytes (left (waiting bytes true)) (ahead bytes) refl)
 
--- at a request a session that isn't opened says what an opening says
+-- At a request, a session that still has to reopen says what reopening says.
 opening_says : (moment : ℕ) (s : Standing) (bytes : List ℕ) (x : Ahead) (way : Way) → is_asked x ≡ true → said_opening s bytes way ≡ said_at moment s (waiting bytes false) x way
 opening_says moment s bytes (Asked request rest) way h = refl
 opening_says moment s bytes Unfinished way h = absurd (cc h)
@@ -168,6 +169,6 @@ opening_joins moment bytes s t i j v asked opens fed = (
   fed.3,
 )
 
--- the laws
+-- The laws of the control door.
 pub control_laws : ControlLaws
 control_laws = record { door = λ moment. door_laws (said moment) has_request with_piece left (control_cuts moment); opening = opening_silent; joins = opening_joins }

@@ -1,4 +1,5 @@
--- What a session holds is the beginning of a request; what acts on it are.
+-- What a session holds is the beginning of a request, and the acts of the code are acts of a
+-- session.
 use Rattle.std.proofs.Common.{◌≡◌, ◌+◌, ◌-◌, ◌<◌, ◌≤◌, ℕ, Bool, true, false, List, [], ◌∷◌, ◌++◌, length, take, drop, Option, Some, None, refl, sym, ◌∙◌, ap, subst, arith, if◌then◌else◌, length-append, append_assoc}
 use Rattle.std.proofs.lemmas.List.{append-nil}
 use Rattle.std.proofs.Math.Seq.{take-append-add, drop-append-add}
@@ -20,46 +21,46 @@ use Rattle.control_door.specs.Door.{Waiting, waiting, said, said_to, said_at, sa
 use Rattle.control_door.specs.Sessions.{IsHeld, IsPayload, IsTurn}
 use Rattle.control_door.proofs.Aheads.{asked_by-whole, asked_by-part}
 
--- what stands at the front of a line and what follows it
+-- The front of a line and the bytes after it.
 pub ahead-line : (bytes text rest : List ℕ) (order : Order) → line.front line_limit bytes ≡ line.Whole text rest → order_of (line.content text) ≡ order → ahead bytes ≡ asked_by order rest
 ahead-line bytes text rest order f o = rw f (ap (λ (x : Order). asked_by x rest) o)
 
--- the lengths of a line and what follows it
+-- The lengths of a line and of the bytes after it.
 line-length : (bytes text rest : List ℕ) → line.front line_limit bytes ≡ line.Whole text rest → length bytes ≡ length text + 1 + length rest
 line-length bytes text rest f = let e = ap length (front-joined line_limit bytes text rest f) in omega (arith, e, length-append text (10 ∷ rest))
 
--- the beginning of a delivery is no whole request
+-- The beginning of a delivery is no whole request.
 payload-unfinished : (bytes : List ℕ) (start end : ℕ) → IsPayload bytes start end → ahead bytes ≡ Unfinished
 payload-unfinished bytes start end h =
     ahead-line bytes h.text h.rest (Deliver h.size) h.front h.order
     ∙ asked_by-part h.size h.rest (omega (arith, line-length bytes h.text h.rest h.front, h.starts, h.ends, h.missing))
 
--- nor is anything that is held
+-- Nothing that is held is a whole request.
 pub held-unfinished : (bytes : List ℕ) (payload : Option Payload) → IsHeld bytes payload → ahead bytes ≡ Unfinished
 held-unfinished bytes None h = rw h refl
 held-unfinished bytes (Some payload) h = payload-unfinished bytes payload.start payload.end h
 
--- a session's beginning is kept
+-- The beginning of a request is kept.
 pub keeps : (moment : ℕ) (opened : Bool) (s : Standing) (bytes : List ℕ) (payload : Option Payload) (i : Outside) → IsHeld bytes payload → (is_request bytes ≡ false) × Acts (said moment s (waiting bytes opened)) i (Some (waiting bytes opened)) s i
 keeps moment opened s bytes payload i h =
     let part = held-unfinished bytes payload h in
     let w : Waiting = waiting bytes opened in
     (ap is_asked part, acts-silent (said moment s w) (silent s w) i i (Some w) s (rw part refl) refl refl refl (omega arith) refl refl)
 
--- an empty piece leaves what was held
+-- An empty piece leaves what was held.
 pub keeps-nothing : (moment : ℕ) (opened : Bool) (s : Standing) (old piece : List ℕ) (payload : Option Payload) (i : Outside) → piece ≡ [] → IsHeld (old ++ piece) payload
     → (is_request (old ++ piece) ≡ false) × Acts (said moment s (waiting (old ++ piece) opened)) i (Some (waiting old opened)) s i
 keeps-nothing moment opened s old piece payload i none h =
     let same : old ++ piece ≡ old = ap (λ (p : List ℕ). old ++ p) none ∙ append-nil old in
     subst (λ (kept : List ℕ). (is_request (old ++ piece) ≡ false) × Acts (said moment s (waiting (old ++ piece) opened)) i (Some (waiting kept opened)) s i) same (keeps moment opened s (old ++ piece) payload i h)
 
--- what is kept isn't empty where the piece isn't
+-- Out of memory for a piece that isn't empty closes the session.
 unkept-closes : (s : Standing) (w : Waiting) (old piece : List ℕ) → 0 < length piece → unkept s w (old ++ piece) ≡ closes memory_word s
 unkept-closes s w (byte ∷ old) piece some = refl
 unkept-closes s w [] (byte ∷ piece) some = refl
 unkept-closes s w [] [] some = absurd (omega (arith, some))
 
--- or the word for want of memory closes
+-- The word for out of memory closes the session.
 pub closes-keeping : (moment : ℕ) (opened : Bool) (s : Standing) (old piece : List ℕ) (payload : Option Payload) (i j : Outside) (ok : Bool) → 0 < length piece → IsHeld (old ++ piece) payload → i.disk ≤ j.disk → Says memory_word i.out i.lost j.out j.lost ok
     → Acts (said moment s (waiting (old ++ piece) opened)) i None s j
 closes-keeping moment opened s old piece payload i j ok some h later words =
@@ -67,32 +68,32 @@ closes-keeping moment opened s old piece payload i j ok some h later words =
     let w : Waiting = waiting (old ++ piece) opened in
     acts-closing (said moment s w) Memory (closes memory_word s) i j s ok (rw part (unkept-closes s w old piece some)) refl (λ d. absurd (cc d)) later words refl
 
--- what is said to a request is what is said to the bytes that begin with it
+-- The answer to a request is the answer to the bytes that start with it.
 acts-asked : (moment : ℕ) (s : Standing) (bytes : List ℕ) (request : Request) (rest : List ℕ) (i : Outside) (held : Option Waiting) (t : Standing) (j : Outside) → ahead bytes ≡ Asked request rest → Acts (said_to moment s request rest) i held t j
     → Acts (said moment s (waiting bytes true)) i held t j
 acts-asked moment s bytes request rest i held t j is acts =
     acts-words (said moment s (waiting bytes true)) (said_to moment s request rest) i held t j (λ way. ap (λ (x : Ahead). said_at moment s (waiting bytes true) x way) is) acts
 
--- and the archive is opened again before it
+-- The archive is reopened before a request.
 acts-opening : (moment : ℕ) (s : Standing) (bytes : List ℕ) (request : Request) (rest : List ℕ) (i : Outside) (held : Option Waiting) (t : Standing) (j : Outside) → ahead bytes ≡ Asked request rest → Acts (said_opening s bytes) i held t j
     → Acts (said moment s (waiting bytes false)) i held t j
 acts-opening moment s bytes request rest i held t j is acts =
     acts-words (said moment s (waiting bytes false)) (said_opening s bytes) i held t j (λ way. ap (λ (x : Ahead). said_at moment s (waiting bytes false) x way) is) acts
 
--- a request that took so many bytes of a piece was answered, and the session goes on or not
+-- A request that took `n` bytes of a piece was answered, and the session continues or not.
 pub turn-went : (moment : ℕ) (s : Standing) (old piece : List ℕ) (request : Request) (n : ℕ) (i : Outside) (t : Standing) (new : List ℕ) (j : Outside) (goes : Bool) → ahead (old ++ piece) ≡ Asked request (drop n piece) → new ≡ []
     → Acts (said_to moment s request (drop n piece)) i (held_if goes (waiting (drop n piece) false)) t j → IsTurn moment true s old piece i (if goes then Went n else Closed) t new j
 turn-went moment s old piece request n i t new j true is none acts =
     (ap is_asked is, acts-asked moment s (old ++ piece) request (drop n piece) i (Some (waiting (new ++ drop n piece) false)) t j is (rw none acts))
 turn-went moment s old piece request n i t new j false is none acts = acts-asked moment s (old ++ piece) request (drop n piece) i None t j is acts
 
--- the archive was opened again before a request, or not
+-- The archive was reopened before a request, or not.
 pub turn-opened : (moment : ℕ) (s : Standing) (old piece : List ℕ) (request : Request) (n : ℕ) (i : Outside) (t : Standing) (j : Outside) (done : Bool) → ahead (old ++ piece) ≡ Asked request (drop n piece)
     → Acts (said_opening s (old ++ piece)) i (held_if done (waiting (old ++ piece) true)) t j → IsTurn moment false s old piece i (if done then Opened else Closed) t old j
 turn-opened moment s old piece request n i t j true is acts = (ap is_asked is, acts-opening moment s (old ++ piece) request (drop n piece) i (Some (waiting (old ++ piece) true)) t j is acts)
 turn-opened moment s old piece request n i t j false is acts = acts-opening moment s (old ++ piece) request (drop n piece) i None t j is acts
 
--- the beginning of a delivery goes on by a piece that doesn't end it
+-- A piece that doesn't complete a delivery continues its beginning.
 pub payload-more : (old piece : List ℕ) (start end : ℕ) → IsPayload old start end → length piece < end - length old → IsPayload (old ++ piece) start end
 payload-more old piece start end h short = record {
   text = h.text;
@@ -105,11 +106,11 @@ payload-more old piece start end h short = record {
   missing = omega (arith, length-append old piece, short, h.missing);
 }
 
--- what stands behind a line
+-- The bytes after a line.
 behind-line : (text rest more : List ℕ) → drop (length text + 1) ((text ++ 10 ∷ rest) ++ more) ≡ rest ++ more
 behind-line text rest more = ap (drop (length text + 1)) (append_assoc text (10 ∷ rest) more) ∙ drop-append-add text (10 ∷ rest ++ more) 1
 
--- and by a piece that does
+-- A piece that completes a delivery makes it a whole request.
 pub payload-whole : (old piece : List ℕ) (start end : ℕ) → IsPayload old start end → end - length old ≤ length piece
     → ahead (old ++ piece) ≡ Asked (requests.Delivers (drop start (old ++ take (end - length old) piece))) (drop (end - length old) piece)
 payload-whole old piece start end h long =
@@ -124,6 +125,6 @@ payload-whole old piece start end h long =
     let behind : drop h.size (h.rest ++ piece) ≡ drop n piece = ap (λ s. drop s (h.rest ++ piece)) size_is ∙ drop-append-add h.rest piece n in
     at ∙ asked_by-whole h.size (h.rest ++ piece) fits ∙ ap (λ m. Asked (requests.Delivers m) (drop h.size (h.rest ++ piece))) message ∙ ap (Asked (requests.Delivers (drop start (old ++ take n piece)))) behind
 
--- the message of a delivery begins within what is held
+-- The message of a delivery starts within what is held.
 pub payload-start : (old : List ℕ) (start end : ℕ) → IsPayload old start end → start ≤ length old
 payload-start old start end h = omega (arith, line-length old h.text h.rest h.front, h.starts)

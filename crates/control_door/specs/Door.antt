@@ -1,4 +1,5 @@
--- What the control door answers: its session is the bytes that are not answered yet, and its requests read and change an archive.
+-- What the control door answers. Its session is the bytes that are not answered yet, and its
+-- requests read and change an archive.
 use Rattle.std.specs.Prelude.{◌+◌, ◌*◌, ℕ, zero, suc, Bool, true, false, List, [], ◌∷◌, ◌++◌, length, codes, decimal, Option, Some, None, if◌then◌else◌}
 use Rattle.line_door.specs.Acts.{Said, Way, Plain, Memory, Disk, Newer}
 use Rattle.line_door.specs.Plain.{silent}
@@ -8,68 +9,72 @@ use Rattle.arch_model.specs.Delivery.{Done, delivered, answer_line}
 use Rattle.arch_model.specs.Standing.{Standing, standing}
 use Rattle.control_door.specs.Requests.{Request, Delivers, Shows, Lists, Quits, Mistakes, Exceeds, Ahead, Asked, Unfinished, ahead, is_request}
 
--- a line of a reply ends with a line feed
+-- A line of a reply ends with a line feed.
 abbrev pub reply_line : List ℕ → List ℕ
 reply_line words = words ++ 10 ∷ []
 
+-- The word for out of memory.
 abbrev pub memory_word : List ℕ
 memory_word = reply_line (codes "12 no memory")
 
+-- The word for a fault of the disk.
 abbrev pub disk_word : List ℕ
 disk_word = reply_line (codes "10 disk fault")
 
+-- The word for a line that is not an order, or that is too long.
 abbrev pub bad_word : List ℕ
 bad_word = reply_line (codes "13 bad line")
 
--- the text of a number, behind a line with its length; or that it has none
+-- A line with the length of the text, and then the text; or a line that the number has none.
 abbrev pub shown : ℕ → Option (List ℕ) → List ℕ
 shown number None = reply_line (codes "7 not live " ++ decimal number)
 shown number (Some text) = reply_line (codes "text " ++ decimal (length text)) ++ text
 
--- an epoch: a line with its number and the length of its bytes, and then the bytes and a line feed
+-- An epoch: a line with its number and the length of its bytes, and then the bytes and a line feed.
 abbrev pub epoch_words : ℕ → List ℕ → List ℕ
 epoch_words epoch bytes = reply_line (codes "epoch " ++ (decimal epoch ++ 32 ∷ decimal (length bytes))) ++ reply_line bytes
 
--- nothing is said of an epoch without an entry
+-- The words of an epoch. One without an entry has none.
 abbrev pub listed : ℕ → List Entry → List ℕ
 listed epoch [] = []
 listed epoch (e ∷ es) = epoch_words epoch (epoch_bytes (e ∷ es))
 
--- so many epochs from 0 on
+-- The words of the epochs with numbers below the given one, in order.
 abbrev pub listed_below : ℕ → List Entry → List ℕ
 listed_below zero entries = []
 listed_below (suc epoch) entries = listed_below epoch entries ++ listed epoch (in_epoch entries epoch)
 
--- the epochs, by their numbers, of which the greatest is 63
+-- The words of all epochs, 0 to 63, in order, and a last line.
 abbrev pub epochs_words : List Entry → List ℕ
 epochs_words entries = listed_below 64 entries ++ reply_line (codes "end")
 
--- A session: its bytes that are not answered yet, and whether the archive was opened again since the last request. Before a request
--- it is opened again, which does nothing while no command is in doubt.
+-- A session: its bytes that are not answered yet, and whether the archive was reopened since the
+-- last request. It is reopened before a request, which does nothing while no command is in doubt.
 pub record Waiting : Type 0 where
   pub bytes : List ℕ
   pub opened : Bool
 
+-- The session of these two parts.
 abbrev pub waiting : List ℕ → Bool → Waiting
 waiting bytes opened = record { bytes = bytes; opened = opened }
 
--- what an act of a session says, and the session and the archive behind it
+-- What an act of a session says, and the session and the archive after it.
 abbrev pub Says : Type 0
 Says = Said Waiting Standing
 
--- the session goes on, with these bytes
+-- The session continues with these bytes.
 abbrev pub goes_on : List ℕ → List ℕ → Standing → Says
 goes_on rest words s = record { next = Some (waiting rest false); words = words; streamed = false; after = s }
 
--- the session is closed
+-- The session is closed.
 abbrev pub closes : List ℕ → Standing → Says
 closes words s = record { next = None; words = words; streamed = false; after = s }
 
--- the archive and the line of an answer
+-- The line of a delivery's answer, and its archive.
 abbrev pub delivers : Done → List ℕ → Says
 delivers done rest = goes_on rest (reply_line (answer_line done.answer)) (standing done.archive None)
 
--- a request at a moment, answered by the rules
+-- The answer to a request at a moment, by the rules.
 abbrev pub answered : ℕ → Standing → Request → List ℕ → Says
 answered moment s (Delivers message) rest = delivers (delivered s.archive message moment) rest
 answered moment s (Shows number) rest = goes_on rest (shown number (text_of s.archive.entries number)) s
@@ -78,8 +83,8 @@ answered moment s Quits rest = closes [] s
 answered moment s Mistakes rest = goes_on rest bad_word s
 answered moment s Exceeds rest = closes bad_word s
 
--- A delivery for which there is no memory leaves the archive as it was; a text and the list of the epochs are said whole or not at
--- all. Nothing else wants memory.
+-- The answer to a request that runs out of memory. A delivery leaves the archive unchanged, and a
+-- text or a list of epochs is said whole or not at all. Other requests need no memory.
 abbrev pub refused_memory : ℕ → Standing → Request → List ℕ → Says
 refused_memory moment s (Delivers message) rest = goes_on rest memory_word s
 refused_memory moment s (Shows number) rest = goes_on rest memory_word s
@@ -88,8 +93,9 @@ refused_memory moment s Quits rest = answered moment s Quits rest
 refused_memory moment s Mistakes rest = answered moment s Mistakes rest
 refused_memory moment s Exceeds rest = answered moment s Exceeds rest
 
--- Behind a delivery that the disk failed it isn't known whether it was done. A text and the list of the epochs are said whole or not
--- at all. Nothing else asks the disk.
+-- The answer to a request at which the disk fails. It is then in doubt whether a delivery was
+-- carried out. A text or a list of epochs is said whole or not at all. Other requests don't use the
+-- disk.
 abbrev pub refused_disk : ℕ → Standing → Request → List ℕ → Says
 refused_disk moment s (Delivers message) rest = goes_on rest disk_word (standing s.archive (Some (delivered s.archive message moment).archive))
 refused_disk moment s (Shows number) rest = goes_on rest disk_word s
@@ -98,64 +104,69 @@ refused_disk moment s Quits rest = answered moment s Quits rest
 refused_disk moment s Mistakes rest = answered moment s Mistakes rest
 refused_disk moment s Exceeds rest = answered moment s Exceeds rest
 
+-- The answer to a request in each way.
 abbrev pub said_to : ℕ → Standing → Request → List ℕ → Way → Says
 said_to moment s request rest Plain = answered moment s request rest
 said_to moment s request rest Memory = refused_memory moment s request rest
 said_to moment s request rest Disk = refused_disk moment s request rest
 said_to moment s request rest Newer = answered moment s request rest
 
+-- The archive in doubt, or the other one if none is.
 abbrev pub newer_of : Archive → Option Archive → Archive
 newer_of a None = a
 newer_of a (Some b) = b
 
--- the archive that is in doubt, where there is one
+-- The archive in doubt, if there is one.
 abbrev pub newer : Standing → Archive
 newer s = newer_of s.archive s.doubt
 
--- an opening again found this archive, and nothing is in doubt
+-- Reopening found this archive, and nothing is in doubt.
 abbrev pub opens : Archive → List ℕ → Says
 opens a bytes = record { next = Some (waiting bytes true); words = []; streamed = false; after = standing a None }
 
--- An opening again finds the older archive or the one in doubt; or there is no memory for it, or the disk fails, which closes.
+-- Reopening finds the older archive or the one in doubt, or it closes the session because memory
+-- ran out or the disk failed.
 abbrev pub said_opening : Standing → List ℕ → Way → Says
 said_opening s bytes Plain = opens s.archive bytes
 said_opening s bytes Newer = opens (newer s) bytes
 said_opening s bytes Memory = closes memory_word s
 said_opening s bytes Disk = closes disk_word s
 
--- where there is no memory for the beginning of a request, the word for that closes; an empty rest wants no memory
+-- Out of memory for the beginning of a request, the session is closed with a word. An empty rest
+-- needs no memory.
 abbrev pub unkept : Standing → Waiting → List ℕ → Says
 unkept s w [] = silent s w
 unkept s w (byte ∷ bytes) = closes memory_word s
 
--- the beginning of a request is kept without a word, or there is no memory for it
+-- The beginning of a request is kept without a word, or memory runs out.
 abbrev pub said_keeping : Standing → Waiting → Way → Says
 said_keeping s w Plain = silent s w
 said_keeping s w Memory = unkept s w w.bytes
 said_keeping s w Disk = silent s w
 said_keeping s w Newer = silent s w
 
--- at a whole request the archive is opened again, and then the request is answered
+-- At a whole request the archive is reopened, and then the request is answered.
 abbrev pub said_asked : Bool → ℕ → Standing → List ℕ → Request → List ℕ → Way → Says
 said_asked true moment s bytes request rest way = said_to moment s request rest way
 said_asked false moment s bytes request rest way = said_opening s bytes way
 
+-- What is said to what is at the front of a session.
 abbrev pub said_at : ℕ → Standing → Waiting → Ahead → Way → Says
 said_at moment s w (Asked request rest) way = said_asked w.opened moment s w.bytes request rest way
 said_at moment s w Unfinished way = said_keeping s w way
 
--- what the door says at a moment to a session
+-- What the door says to a session at a moment.
 abbrev pub said : ℕ → Standing → Waiting → Way → Says
 said moment s w way = said_at moment s w (ahead w.bytes) way
 
--- whether a whole request stands at the front of a session
+-- The session starts with a whole request.
 abbrev pub has_request : Waiting → Bool
 has_request w = is_request w.bytes
 
--- a piece stands behind the bytes of a session
+-- The session with a piece after its bytes.
 abbrev pub with_piece : List ℕ → Waiting → Waiting
 with_piece piece w = waiting (w.bytes ++ piece) w.opened
 
--- how much of a session is left: each request makes it smaller, and so does the opening before one
+-- The size of a session. Each request makes it smaller, and so does the reopening before one.
 abbrev pub left : Waiting → ℕ
 left w = 2 * length w.bytes + (if w.opened then 0 else 1)

@@ -5,21 +5,21 @@ use Rattle.arch_base.specs.Decimals.{decimal_of}
 use Rattle.control_door.specs.declared.order.Order.{Order}
 use Rattle.control_door.specs.declared.order.Order.TheVariants.{Deliver, TooMuch, Show, Epochs, Quit, Bad}
 
--- a line begins with this word
+-- The line starts with this word, in any case.
 abbrev pub begins_with : List ℕ → List ℕ → Bool
 begins_with word line = str_eq_ignore_ascii_case (take (length word) line) word
 
--- `deliver SIZE`: at most 9,000,000 bytes follow; a greater decimal is too much
+-- `deliver SIZE`: at most 9,000,000 bytes follow. A greater decimal is too much.
 abbrev pub deliver_order : Option ℕ → Order
 deliver_order None = Bad
 deliver_order (Some size) = if nat_le size 9000000 then Deliver size else TooMuch
 
--- `show N`: the number is from 1 to 2,147,483,647
+-- `show N`: the number is in 1 to 2,147,483,647.
 abbrev pub show_order : Option ℕ → Order
 show_order None = Bad
 show_order (Some number) = if nat_le 1 number && nat_le number 2147483647 then Show number else Bad
 
--- what a line orders, without its line end: `deliver SIZE`, `show N`, `epochs`, `quit`, or nothing that is known
+-- The order of a line without its line end: `deliver SIZE`, `show N`, `epochs`, `quit`, or unknown.
 abbrev pub order_of : List ℕ → Order
 order_of line =
     if begins_with (codes "deliver ") line then deliver_order (decimal_of (drop 8 line))

@@ -1,4 +1,4 @@
--- What a session holds between pieces, what stands ahead of it, and what one act of it is.
+-- What a session holds between pieces, the front of its bytes, and its acts.
 use Rattle.std.specs.Prelude.{◌≡◌, ◌+◌, ◌<◌, ◌≤◌, ℕ, Bool, true, false, List, ◌++◌, length, drop, Option, Some, None}
 use Rattle.line_door.specs.Lines as line
 use Rattle.line_door.specs.Acts.{Outside, Acts, held_if}
@@ -16,7 +16,7 @@ use Rattle.control_door.specs.declared.next.Next.TheVariants as next
 use Rattle.control_door.specs.declared.session.Turn.{Turn}
 use Rattle.control_door.specs.declared.session.Turn.TheVariants.{Opened, Went, Kept, Closed}
 
--- what is held is the beginning of a delivery, whose message stands from `start` on and ends at `end`
+-- The bytes are the beginning of a delivery whose message starts at `start` and ends at `end`.
 pub record IsPayload (bytes : List ℕ) (start end : ℕ) : Type 0 where
   pub text : List ℕ
   pub rest : List ℕ
@@ -27,12 +27,12 @@ pub record IsPayload (bytes : List ℕ) (start end : ℕ) : Type 0 where
   pub ends : end ≡ start + size
   pub missing : length bytes < end
 
--- what is held: a part of a line, or the beginning of a delivery
+-- What is held is a part of a line, or the beginning of a delivery.
 abbrev pub IsHeld : List ℕ → Option Payload → Type 0
 IsHeld bytes None = line.front line_limit bytes ≡ line.Partial
 IsHeld bytes (Some payload) = IsPayload bytes payload.start payload.end
 
--- the request that was found, where so much is held
+-- The request that was found, given what is held.
 abbrev pub request_of : List ℕ → Requested → Request
 request_of held (requested.Message message) = Delivers message.now
 request_of held (requested.Joined start last) = Delivers (drop start (held ++ last.now))
@@ -42,7 +42,7 @@ request_of held requested.Quit = Quits
 request_of held requested.Mistake = Mistakes
 request_of held requested.Excess = Exceeds
 
--- a message that was begun begins within what is held
+-- A message of which a part is held starts within what is held.
 abbrev pub StartsWithin : List ℕ → Requested → Type 0
 StartsWithin held (requested.Message message) = Unit {0}
 StartsWithin held (requested.Joined start last) = start ≤ length held
@@ -52,20 +52,21 @@ StartsWithin held requested.Quit = Unit {0}
 StartsWithin held requested.Mistake = Unit {0}
 StartsWithin held requested.Excess = Unit {0}
 
--- a whole request stands ahead, which takes so many bytes of the piece
+-- A whole request is at the front, and takes `taken` bytes of the piece.
 pub record IsRequested (held piece : List ℕ) (request : Requested) (taken : ℕ) : Type 0 where
   pub some : 0 < taken
   pub within : taken ≤ length piece
   pub starts : StartsWithin held request
   pub stands : ahead (held ++ piece) ≡ Asked (request_of held request) (drop taken piece)
 
--- what stands ahead: the beginning of a request, or a whole one
+-- The front is the beginning of a request, or a whole one.
 abbrev pub IsNext : List ℕ → List ℕ → Next → Type 0
 IsNext held piece (next.Rest payload) = IsHeld (held ++ piece) payload
 IsNext held piece (next.Whole request taken) = IsRequested held piece request taken
 
--- one act on the bytes ahead, before which the archive was opened again or not: that opening, a request that took so many bytes of
--- the piece and left the session open, the keeping of the piece, or the close
+-- One act on the bytes at the front, given whether the archive was already reopened. It is the
+-- reopening, or a request that took `n` bytes of the piece and left the session open, or the
+-- keeping of the piece, or the close.
 abbrev pub IsTurn : ℕ → Bool → Standing → List ℕ → List ℕ → Outside → Turn → Standing → List ℕ → Outside → Type 0
 IsTurn moment opened s old piece i Opened t new j =
     (is_request (old ++ piece) ≡ true) × Acts (said moment s (waiting (old ++ piece) opened)) i (Some (waiting (new ++ piece) true)) t j
@@ -75,27 +76,28 @@ IsTurn moment opened s old piece i Kept t new j =
     (is_request (old ++ piece) ≡ false) × Acts (said moment s (waiting (old ++ piece) opened)) i (Some (waiting new opened)) t j
 IsTurn moment opened s old piece i Closed t new j = Acts (said moment s (waiting (old ++ piece) opened)) i None t j
 
--- an opening comes only where there was none, and a request takes bytes of the piece
+-- A reopening comes only if there was none yet, and a request takes bytes of the piece.
 abbrev pub Takes : Bool → List ℕ → Turn → Type 0
 Takes opened piece Opened = opened ≡ false
 Takes opened piece (Went n) = (0 < n) × (n ≤ length piece)
 Takes opened piece Kept = Unit {0}
 Takes opened piece Closed = Unit {0}
 
--- A keeper of archives: which archives it holds, whether it has to be opened again, its moment, and what each crash since a moment
--- has left.
+-- A keeper: the archives that it holds, whether it has to be reopened, its moment, and what each
+-- crash since a moment may have left.
 module _ {K : Type 0} (holds : K → Archive → Type 0) (stale : K → Bool) (clock : K → ℕ) (leaves : K → ℕ → List (Option Archive) → Type 0) where
-  -- whichever archive is held, a request to it is answered, and the keeper stands as that leaves it
+  -- Whichever archive is held, a request to it is answered, and the keeper fits the archive after
+  -- it.
   abbrev pub Answers : ℕ → Request → K → Outside → Bool → K → Outside → Type 0
   Answers moment request old i goes_on new j =
       (a : Archive) (rest : List ℕ) → holds old a → (t : Standing) × Fits holds stale clock leaves new t × Acts (said_to moment (standing a None) request rest) i (held_if goes_on (waiting rest false)) t j
 
-  -- however the keeper stands, it is opened again, or that is refused
+  -- Whatever the keeper fits, it is reopened, or reopening is refused.
   abbrev pub Opens : K → Outside → Bool → K → Outside → Type 0
   Opens old i opened new j =
       (s : Standing) (bytes : List ℕ) → Fits holds stale clock leaves old s → (t : Standing) × Fits holds stale clock leaves new t × Acts (said_opening s bytes) i (held_if opened (waiting bytes true)) t j
 
-  -- however the keeper stands, one act is done, and it stands as that leaves it
+  -- Whatever the keeper fits, one act is done, and the keeper fits what the act leaves.
   abbrev pub Turns : ℕ → Bool → List ℕ → List ℕ → K → Outside → Turn → List ℕ → K → Outside → Type 0
   Turns moment opened held piece old i turn left new j =
       (s : Standing) → Fits holds stale clock leaves old s → (t : Standing) × Fits holds stale clock leaves new t × IsTurn moment opened s held piece i turn t left j

@@ -1,4 +1,4 @@
-//! Answers to the requests of a control connection, by what keeps the archive.
+//! Answers the requests of a control connection from a keeper.
 ghost use Rattle.std.specs.Prelude.{◌≡◌, ◌≤◌, ◌++◌, ℕ, List, length, drop, true, false, Option, Some, None, is_some};
 ghost use Rattle.line_door.specs.Acts.{outside};
 ghost use Rattle.arch_model.specs.Archives.{Archive, text_of};
@@ -17,7 +17,9 @@ use edge_io::Sink;
 use line_door::say;
 use std::alloc::Global;
 
-/// Opens the archive again, which does nothing while no command is in doubt. A refusal is said. It answers whether it is open.
+/// Reopens the archive, and returns whether it is open.
+///
+/// Does nothing if no command is in doubt. Writes the reason if reopening fails.
 pub(crate) fn open_again<K: Keep, O: Sink>(keep: &mut K, out: &mut O) -> bool
     ensures acts { Opens K.holds K.stale K.clock K.leaves keep.old
         (outside (O.taken out.old) (K.faults keep.old) (O.faults out.old))
@@ -36,7 +38,9 @@ pub(crate) fn open_again<K: Keep, O: Sink>(keep: &mut K, out: &mut O) -> bool
     }
 }
 
-/// Answers a whole request. It answers whether the session goes on. What is held may be changed.
+/// Answers a whole request, and returns whether the session continues.
+///
+/// May change what is held.
 pub(crate) fn say_requested<K: Keep, O: Sink>(
     request: Requested<'_>,
     alloc: Global,
@@ -69,7 +73,7 @@ pub(crate) fn say_requested<K: Keep, O: Sink>(
     }
 }
 
-/// Delivers a message and says the answer. It answers whether all was taken.
+/// Delivers a message and writes the answer. Returns whether all of it was taken.
 fn say_delivered<K: Keep, O: Sink>(message: &[u8], moment: u64, keep: &mut K, out: &mut O) -> bool
     requires ready { K.stale keep.old ≡ false }
     requires moment { moment ≤ last_moment }
@@ -84,7 +88,10 @@ fn say_delivered<K: Keep, O: Sink>(message: &[u8], moment: u64, keep: &mut K, ou
     say_answer(answer, out)
 }
 
-/// Delivers the message whose beginning is held from `start` on, and says the answer.
+/// Delivers a message that starts at an offset of what is held and ends with `last`, and writes the
+/// answer.
+///
+/// Returns whether all of it was taken. Out of memory, writes `12 no memory` and delivers nothing.
 fn say_joined<K: Keep, O: Sink>(
     held: &mut Bytes,
     start: usize,
@@ -109,7 +116,7 @@ fn say_joined<K: Keep, O: Sink>(
     say_delivered(held.as_slice().split_at(start).1, moment, keep, out)
 }
 
-/// Says the text of a number, or why it isn't said. It answers whether all was taken.
+/// Writes the text of a number, or why there is none to write. Returns whether all of it was taken.
 fn say_message<K: Keep, O: Sink>(alloc: Global, number: u32, keep: &mut K, out: &mut O) -> bool
     requires { K.stale keep.old ≡ false }
     ensures acts { (moment : ℕ) → Answers K.holds K.stale K.clock K.leaves moment (Shows number) keep.old
@@ -129,7 +136,7 @@ fn say_message<K: Keep, O: Sink>(alloc: Global, number: u32, keep: &mut K, out: 
     }
 }
 
-/// Whether a number has a text.
+/// Returns whether a number has a text.
 fn is_live<K: Keep>(number: u32, keep: &K) -> bool
     requires { K.stale keep.now ≡ false }
     ensures known { result ≡ true → K.live keep.now number ≡ true }
@@ -141,7 +148,7 @@ fn is_live<K: Keep>(number: u32, keep: &K) -> bool
     }
 }
 
-/// Says the list of the epochs, or why it isn't said. It answers whether all was taken.
+/// Writes the list of epochs, or why it can't be read. Returns whether all of it was taken.
 fn say_epochs<K: Keep, O: Sink>(alloc: Global, keep: &mut K, out: &mut O) -> bool
     requires { K.stale keep.old ≡ false }
     ensures acts { (moment : ℕ) → Answers K.holds K.stale K.clock K.leaves moment Lists keep.old

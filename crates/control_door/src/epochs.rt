@@ -11,10 +11,12 @@ use arch_model::{Keep, TextRefusal};
 use itoa::Buffer;
 use std::alloc::Global;
 
-/// So many epochs there may be.
+/// The count of epochs that an archive may have. Their numbers are 0 to 63.
 const EPOCHS: u32 = 64;
 
-/// The words that list the epochs of an archive. They are made whole before any is said.
+/// Returns the list of the epochs of an archive.
+///
+/// The list is made whole before any of it is written.
 pub(crate) fn epochs_of<K: Keep>(alloc: Global, keep: &mut K) -> Result<Bytes, TextRefusal>
     requires { K.stale keep.old ≡ false }
     ensures words { (a : Archive) → K.holds keep.old a → Makes (epochs_words a.entries) result }
@@ -34,7 +36,9 @@ pub(crate) fn epochs_of<K: Keep>(alloc: Global, keep: &mut K) -> Result<Bytes, T
     }
 }
 
-/// Puts the words of each epoch that has an entry behind each other. A refusal may leave a part of them there.
+/// Appends the words of each epoch that has an entry, by number.
+///
+/// A refusal may leave a part of them appended.
 fn push_epochs<K: Keep>(alloc: Global, keep: &mut K, into: &mut Bytes) -> Result<(), TextRefusal>
     requires ready { K.stale keep.old ≡ false }
     requires empty { into.old ≡ [] }
@@ -53,7 +57,9 @@ fn push_epochs<K: Keep>(alloc: Global, keep: &mut K, into: &mut Bytes) -> Result
     Ok(())
 }
 
-/// Puts the words of an epoch behind others, where it has an entry. A refusal may leave a part of them there.
+/// Appends the words of an epoch, if it has an entry.
+///
+/// A refusal may leave a part of them appended.
 fn push_listed<K: Keep>(
     alloc: Global,
     epoch: u32,
@@ -78,7 +84,9 @@ fn push_listed<K: Keep>(
     }
 }
 
-/// Puts the words of an epoch with these bytes behind others. For want of memory a part of them may be put there.
+/// Appends the words of an epoch with these bytes.
+///
+/// `NoMemory` may leave a part of them appended.
 fn push_epoch(epoch: u32, bytes: &[u8], into: &mut Bytes) -> Result<(), NoMemory>
     ensures { OnOk result (into.new ≡ into.old ++ epoch_words epoch bytes.now) }
 {

@@ -1,4 +1,4 @@
-//! The control door: a connection over which messages are delivered and shown, and the epochs listed.
+//! The control door: a connection that delivers messages, shows messages and lists epochs.
 #![tactic(auto)]
 
 mod answers;

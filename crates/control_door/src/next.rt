@@ -1,6 +1,6 @@
-//! What stands ahead of a session.
+//! The front of a session's bytes: a whole request, or the beginning of one.
 
-/// Where the message stands in what a session holds of a delivery: from `start` on, before `end`.
+/// The offsets in what a session holds at which the message of a delivery starts and ends.
 #[derive(Clone, Copy, Debug, Drop)]
 pub(crate) struct Payload {
     pub(crate) start: usize,
@@ -10,27 +10,27 @@ pub(crate) struct Payload {
 /// A whole request.
 #[derive(Clone, Copy, Debug, Drop)]
 pub(crate) enum Requested<'a> {
-    /// This message is to be delivered.
+    /// Delivers this message.
     Message(&'a [u8]),
-    /// The message is to be delivered that is held from a byte on, and ends with these.
+    /// Delivers the message that starts at this offset of what is held, and ends with these bytes.
     Joined(usize, &'a [u8]),
-    /// The text of a number is wanted.
+    /// Shows the text of this number.
     Text(u32),
-    /// The bytes of the epochs are wanted.
+    /// Lists the epochs.
     Epochs,
-    /// The connection ends.
+    /// Ends the connection.
     Quit,
-    /// A line is no order.
+    /// A line that is not an order.
     Mistake,
-    /// A line is too long, or announces too much.
+    /// A line that is too long, or that announces too many bytes.
     Excess,
 }
 
-/// What stands ahead where a piece is behind what is held.
+/// The front of what is held and a piece.
 #[derive(Clone, Copy, Debug, Drop)]
 pub(crate) enum Next<'a> {
-    /// The beginning of a request, and where the message of a delivery stands.
+    /// The beginning of a request, and where the message of a delivery is.
     Rest(Option<Payload>),
-    /// A whole request, which takes so many bytes of the piece.
+    /// A whole request, and the number of bytes that it takes from the piece.
     Whole(Requested<'a>, usize),
 }

@@ -1,34 +1,36 @@
-//! Lines at the control door.
+//! Reads the lines of the control door.
 ghost use Rattle.std.specs.Prelude.{◌≡◌, ◌≤◌, true, length};
 ghost use Rattle.control_door.specs.Orders.{order_of, begins_with as begins, deliver_order as deliver_order_of, show_order as show_order_of};
 
 use arch_base::read_decimal;
 
-/// What a line orders.
+/// The order that a line gives.
 #[derive(Clone, Copy, Debug, PartialEq, Eq, Drop)]
 pub enum Order {
-    /// A message of so many bytes follows: at most 9,000,000.
+    /// A message of this many bytes follows: at most 9,000,000.
     Deliver(u32),
-    /// More bytes than are taken would follow.
+    /// A message of more bytes would follow.
     TooMuch,
-    /// The text of a number is wanted: 1 to 2,147,483,647.
+    /// Shows the text of this number: 1 to 2,147,483,647.
     Show(u32),
-    /// The bytes of the epochs are wanted.
+    /// Lists the epochs.
     Epochs,
-    /// The connection ends.
+    /// Ends the connection.
     Quit,
-    /// Nothing that is known.
+    /// An unknown order.
     Bad,
 }
 
-/// The greatest SIZE of `deliver SIZE`.
+/// The greatest SIZE of `deliver SIZE`, in bytes.
 const SIZE_LIMIT: u64 = 9_000_000;
 
 /// The greatest number of a message.
 const NUMBER_LIMIT: u64 = 2_147_483_647;
 
-/// What a line orders, without its line end: `deliver SIZE`, `show N`, `epochs` or `quit`, the words in any case, with single
-/// spaces and decimals.
+/// Reads the order of a line, which has no line end.
+///
+/// The orders are `deliver SIZE`, `show N`, `epochs` and `quit`. Words are read in any case. A
+/// single space comes before SIZE and N, which are decimals without leading zeros.
 pub fn read_order(line: &[u8]) -> Order
     ensures { result ≡ order_of line.now }
 {
@@ -45,7 +47,7 @@ pub fn read_order(line: &[u8]) -> Order
     }
 }
 
-/// Whether a line begins with a word, in any case.
+/// Returns whether a line starts with a word, in any case.
 fn begins_with(word: &[u8], line: &[u8]) -> bool
     ensures value { result ≡ begins word.now line.now }
     ensures room { result ≡ true → length word.now ≤ length line.now }
@@ -53,7 +55,7 @@ fn begins_with(word: &[u8], line: &[u8]) -> bool
     line.len() >= word.len() && line[..word.len()].eq_ignore_ascii_case(word)
 }
 
-/// What `deliver` and a decimal order.
+/// Returns the order of `deliver` with this decimal, or `Bad` without one.
 fn deliver_order(size: Option<u64>) -> Order
     ensures { result ≡ deliver_order_of size }
 {
@@ -69,7 +71,7 @@ fn deliver_order(size: Option<u64>) -> Order
     }
 }
 
-/// What `show` and a decimal order.
+/// Returns the order of `show` with this decimal, or `Bad` without one.
 fn show_order(number: Option<u64>) -> Order
     ensures { result ≡ show_order_of number }
 {

@@ -1,4 +1,4 @@
-//! Replies of the control door. Each of their lines ends with a line feed.
+//! Writes the replies of the control door. Each line of a reply ends with a line feed.
 ghost use Rattle.std.specs.Prelude.{◌≡◌, ◌++◌, ◌∷◌, [], codes, decimal, Some, None};
 ghost use Rattle.hex.specs.Hex.{encode_lower};
 ghost use Rattle.line_door.specs.Phrases.{Says};
@@ -13,7 +13,7 @@ use edge_io::Sink;
 use itoa::Buffer;
 use line_door::{say, say_line};
 
-/// Says that a line is no order. It answers whether all was taken.
+/// Writes that a line is not an order. Returns whether all of it was taken.
 pub(crate) fn say_bad<O: Sink>(out: &mut O) -> bool
     ensures said { Says bad_word (O.taken out.old) (O.faults out.old) (O.taken out.new) (O.faults out.new) result }
     ensures sink { O.alike out.old out.new }
@@ -21,7 +21,7 @@ pub(crate) fn say_bad<O: Sink>(out: &mut O) -> bool
     say_line(b"13 bad line", out)
 }
 
-/// Says that there is no memory.
+/// Writes that memory ran out. Returns whether all of it was taken.
 pub(crate) fn say_memory<O: Sink>(out: &mut O) -> bool
     ensures said { Says memory_word (O.taken out.old) (O.faults out.old) (O.taken out.new) (O.faults out.new) result }
     ensures sink { O.alike out.old out.new }
@@ -29,7 +29,7 @@ pub(crate) fn say_memory<O: Sink>(out: &mut O) -> bool
     say_line(b"12 no memory", out)
 }
 
-/// Says that the disk failed.
+/// Writes that the disk failed. Returns whether all of it was taken.
 pub(crate) fn say_disk<O: Sink>(out: &mut O) -> bool
     ensures said { Says disk_word (O.taken out.old) (O.faults out.old) (O.taken out.new) (O.faults out.new) result }
     ensures sink { O.alike out.old out.new }
@@ -37,7 +37,7 @@ pub(crate) fn say_disk<O: Sink>(out: &mut O) -> bool
     say_line(b"10 disk fault", out)
 }
 
-/// Says why a text, or an epoch, was not read.
+/// Writes why a text, or an epoch, was not read. Returns whether all of it was taken.
 pub(crate) fn say_unread<O: Sink>(refusal: TextRefusal, out: &mut O) -> bool
     ensures said { Says (unread_words refusal) (O.taken out.old) (O.faults out.old) (O.taken out.new) (O.faults out.new) result }
     ensures sink { O.alike out.old out.new }
@@ -49,7 +49,7 @@ pub(crate) fn say_unread<O: Sink>(refusal: TextRefusal, out: &mut O) -> bool
     }
 }
 
-/// Says that a text is damaged: its id, and the id of what stands there.
+/// Writes that a text is damaged: its id, and the id of the bytes found in its place.
 fn say_other_text<O: Sink>(named: &ObjectId, found: &ObjectId, out: &mut O) -> bool
     ensures said { Says (reply_line (codes "11 damaged " ++ (encode_lower named.now.0 ++ 32 ∷ encode_lower found.now.0))) (O.taken out.old) (O.faults out.old) (O.taken out.new) (O.faults out.new) result }
     ensures sink { O.alike out.old out.new }
@@ -63,7 +63,7 @@ fn say_other_text<O: Sink>(named: &ObjectId, found: &ObjectId, out: &mut O) -> b
     say_id(found, out)
 }
 
-/// Says why an archive was not opened again.
+/// Writes why an archive was not reopened. Returns whether all of it was taken.
 pub(crate) fn say_unopened<O: Sink>(refusal: OpenRefusal, out: &mut O) -> bool
     ensures said { Says (unopened_words refusal) (O.taken out.old) (O.faults out.old) (O.taken out.new) (O.faults out.new) result }
     ensures sink { O.alike out.old out.new }
@@ -76,7 +76,7 @@ pub(crate) fn say_unopened<O: Sink>(refusal: OpenRefusal, out: &mut O) -> bool
     }
 }
 
-/// Says the line of an answer, with its line feed. It answers whether all was taken.
+/// Writes the line of an answer, and returns whether all of it was taken.
 pub fn say_answer<O: Sink>(answer: Answer, out: &mut O) -> bool
     ensures said { Says (reply_line (answer_line answer)) (O.taken out.old) (O.faults out.old) (O.taken out.new) (O.faults out.new) result }
     ensures sink { O.alike out.old out.new }
@@ -97,7 +97,7 @@ pub fn say_answer<O: Sink>(answer: Answer, out: &mut O) -> bool
     }
 }
 
-/// Says the line of the answer that a file is damaged.
+/// Writes the line of the answer that a file is damaged.
 fn say_damaged<O: Sink>(file: FileName, at: u64, out: &mut O) -> bool
     ensures said { Says (reply_line (codes "11 damaged " ++ (file_words file ++ 32 ∷ decimal at))) (O.taken out.old) (O.faults out.old) (O.taken out.new) (O.faults out.new) result }
     ensures sink { O.alike out.old out.new }
@@ -108,7 +108,8 @@ fn say_damaged<O: Sink>(file: FileName, at: u64, out: &mut O) -> bool
     say_damage(file, at, out)
 }
 
-/// Says that a file of an archive is damaged, and at which byte, with a line feed. It answers whether all was taken.
+/// Writes a line that names a damaged file of an archive and the offset of the damage. Returns
+/// whether all of it was taken.
 pub fn say_damage<O: Sink>(file: FileName, at: u64, out: &mut O) -> bool
     ensures said { Says (reply_line (codes "damaged " ++ (file_words file ++ 32 ∷ decimal at))) (O.taken out.old) (O.faults out.old) (O.taken out.new) (O.faults out.new) result }
     ensures sink { O.alike out.old out.new }
@@ -122,7 +123,7 @@ pub fn say_damage<O: Sink>(file: FileName, at: u64, out: &mut O) -> bool
     say_number(b" ", at, out)
 }
 
-/// Says which file of an archive this is.
+/// Writes the words for a file of an archive.
 fn say_file<O: Sink>(file: FileName, out: &mut O) -> bool
     ensures said { Says (file_words file) (O.taken out.old) (O.faults out.old) (O.taken out.new) (O.faults out.new) result }
     ensures sink { O.alike out.old out.new }
@@ -135,7 +136,7 @@ fn say_file<O: Sink>(file: FileName, out: &mut O) -> bool
     }
 }
 
-/// Says the word for an epoch, and its number.
+/// Writes the word for an epoch, and its number.
 fn say_epoch<O: Sink>(number: u32, out: &mut O) -> bool
     ensures said { Says (codes "epoch " ++ decimal number) (O.taken out.old) (O.faults out.old) (O.taken out.new) (O.faults out.new) result }
     ensures sink { O.alike out.old out.new }
@@ -147,7 +148,7 @@ fn say_epoch<O: Sink>(number: u32, out: &mut O) -> bool
     say(buffer.format(number).as_bytes(), out)
 }
 
-/// Says that a number has no text.
+/// Writes that a number has no text. Returns whether all of it was taken.
 pub(crate) fn say_not_live<O: Sink>(number: u32, out: &mut O) -> bool
     ensures said { Says (shown number None) (O.taken out.old) (O.faults out.old) (O.taken out.new) (O.faults out.new) result }
     ensures sink { O.alike out.old out.new }
@@ -155,7 +156,7 @@ pub(crate) fn say_not_live<O: Sink>(number: u32, out: &mut O) -> bool
     say_number(b"7 not live ", u64::from(number), out)
 }
 
-/// Says a text, behind a line with its length.
+/// Writes a line with the length of a text, and then the text. Returns whether all of it was taken.
 pub(crate) fn say_text<O: Sink>(text: &[u8], out: &mut O) -> bool
     ensures said { Says (shown 0 (Some text.now)) (O.taken out.old) (O.faults out.old) (O.taken out.new) (O.faults out.new) result }
     ensures sink { O.alike out.old out.new }
@@ -166,7 +167,7 @@ pub(crate) fn say_text<O: Sink>(text: &[u8], out: &mut O) -> bool
     say(text, out)
 }
 
-/// Says that a message was taken: its number, and the id of its text in hexadecimal.
+/// Writes that a message was accepted: its number, and the id of its text in hexadecimal.
 fn say_accepted<O: Sink>(number: u32, id: &ObjectId, out: &mut O) -> bool
     ensures said { Says (reply_line (codes "1 ok " ++ (decimal number ++ 32 ∷ encode_lower id.now.0))) (O.taken out.old) (O.faults out.old) (O.taken out.new) (O.faults out.new) result }
     ensures sink { O.alike out.old out.new }
@@ -181,7 +182,7 @@ fn say_accepted<O: Sink>(number: u32, id: &ObjectId, out: &mut O) -> bool
     say_id(id, out)
 }
 
-/// Says a space, an id in hexadecimal and a line feed.
+/// Writes a space, an id in hexadecimal and a line feed.
 fn say_id<O: Sink>(id: &ObjectId, out: &mut O) -> bool
     ensures said { Says (32 ∷ (encode_lower id.now.0 ++ 10 ∷ [])) (O.taken out.old) (O.faults out.old) (O.taken out.new) (O.faults out.new) result }
     ensures sink { O.alike out.old out.new }
@@ -192,7 +193,7 @@ fn say_id<O: Sink>(id: &ObjectId, out: &mut O) -> bool
     say_line(&hex_of(id), out)
 }
 
-/// Says words, a number in digits and a line feed. It answers whether all was taken.
+/// Writes words, a number in decimal and a line feed. Returns whether all of it was taken.
 pub fn say_number<O: Sink>(words: &[u8], number: u64, out: &mut O) -> bool
     ensures said { Says (words.now ++ decimal number ++ 10 ∷ []) (O.taken out.old) (O.faults out.old) (O.taken out.new) (O.faults out.new) result }
     ensures sink { O.alike out.old out.new }

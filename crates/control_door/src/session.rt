@@ -1,4 +1,4 @@
-//! One control connection: the bytes that it has not answered yet, and the answer to a piece.
+//! A control connection: the bytes that are not answered yet, and the answer to a piece.
 ghost use Rattle.std.specs.Prelude.{◌≡◌, ◌⊎◌, ◌+◌, ◌<◌, ◌≤◌, ℕ, List, [], ◌++◌, ◌∷◌, length, take, drop, Bool, true, false, Option, Some, None, if◌then◌else◌};
 ghost use Rattle.line_door.specs.Lines.{front, Whole, content};
 ghost use Rattle.line_door.specs.Acts.{outside, held_if};
@@ -20,23 +20,25 @@ use line_door::{Ahead, line_content, next_in};
 use std::alloc::Global;
 use std::marker::Model;
 
-/// The most octets of a line with its line end.
+/// The greatest length of a line with its line end, in octets.
 const LINE_LIMIT: usize = 512;
 
-/// What an act on the bytes ahead came to.
+/// The result of one act on the bytes at the front.
 #[derive(Clone, Copy, Debug, Drop)]
 pub(crate) enum Turn {
-    /// The archive was opened again, or nothing was in doubt.
+    /// The archive was reopened, or nothing was in doubt.
     Opened,
-    /// A request that took so many bytes of the piece was answered, and the session goes on.
+    /// A request that took this many bytes of the piece was answered, and the session continues.
     Went(usize),
-    /// The piece is kept behind what was held.
+    /// The piece was appended to what is held.
     Kept,
     /// The session is closed.
     Closed,
 }
 
-/// A session of a control connection. A contract sees it as the bytes that are not answered yet.
+/// A session of a control connection.
+///
+/// A contract sees it as the bytes that are not answered yet.
 #[derive(Drop)]
 pub struct Session {
     alloc: Global,
@@ -58,7 +60,7 @@ impl Model for Session {
 impl Session {
     ghost use Rattle.control_door.specs.Sessions.{IsTurn, IsHeld, IsPayload, IsNext, Turns, Takes};
 
-    /// A session without a byte. The control door has no greeting.
+    /// Returns a session without bytes. The control door has no greeting.
     pub fn open(alloc: Global) -> Session
         ensures { result ≡ [] }
     {
@@ -69,19 +71,29 @@ impl Session {
         }
     }
 
-    /// Answers the whole requests of a piece at a moment, in seconds since 1970, one by one, and keeps the rest. It answers
-    /// whether the session goes on. What keeps the archive has been opened; before each request but the first it is opened
-    /// again, which does nothing while no command is in doubt.
+    /// Answers the whole requests of a piece in order, and keeps the rest. Returns whether the
+    /// session continues.
     ///
-    /// It ends, and what stands behind is dropped, at `quit`, which writes nothing; at a line of more than 512 octets with
-    /// its line end, and at `deliver` with a SIZE above 9,000,000, which write `13 bad line`; where there is no memory for a
-    /// rest that isn't empty, which writes `12 no memory`; where the archive can't be opened again, which writes `12 no memory`
-    /// or `10 disk fault`, and `11 damaged` with a file only where no archive is kept; and where words weren't taken whole: a prefix of them was, the sink's count of faults rose, and
-    /// what the request changed stays. Nothing is then said of what the session holds.
+    /// `moment` is in seconds since 1970 UTC. The keeper is open at first. It is reopened before
+    /// each further request, which does nothing while no command is in doubt.
     ///
-    /// A delivery, a text or a list of the epochs for which there is no memory writes `12 no memory` and leaves the archive as
-    /// it was; one at which the disk failed writes `10 disk fault`, and the count of faults of what keeps the archive rose. The
-    /// session goes on. Only opening the archive again shows whether such a delivery was done.
+    /// The session ends, and the remaining bytes are dropped:
+    ///
+    /// * at `quit`, which writes nothing;
+    /// * at a line of more than 512 octets with its line end, and at `deliver` with a SIZE above
+    ///   9,000,000, which write `13 bad line`;
+    /// * if out of memory for a rest that isn't empty, which writes `12 no memory`;
+    /// * if reopening fails, which writes `12 no memory` or `10 disk fault`. It writes `11 damaged`
+    ///   and a file only if the keeper keeps no archive;
+    /// * if a send is lost. A prefix of the words was taken, the sink's count of faults rose, and
+    ///   what the request changed stays.
+    ///
+    /// The contract then says nothing of what the session holds.
+    ///
+    /// A delivery, a text or a list of epochs that runs out of memory writes `12 no memory`, and
+    /// the archive is unchanged. If the disk fails at one, it writes `10 disk fault`, and the
+    /// keeper's count of faults rose. The session continues in both cases. After a fault, only
+    /// reopening the archive shows whether a delivery was carried out.
     pub fn feed<K: Keep, O: Sink>(
         &mut self,
         piece: &[u8],
@@ -114,7 +126,9 @@ impl Session {
         }
     }
 
-    /// One act on the bytes ahead: a whole request is answered only where the archive was opened again right before.
+    /// Does one act on the bytes at the front.
+    ///
+    /// A whole request is answered only if the archive was reopened right before.
     fn act<K: Keep, O: Sink>(
         &mut self,
         piece: &[u8],
@@ -148,7 +162,7 @@ impl Session {
         }
     }
 
-    /// Keeps a piece of a request whose end isn't there. An empty piece wants no memory.
+    /// Keeps a piece that doesn't end a request. An empty piece needs no memory.
     fn hold<O: Sink>(&mut self, piece: &[u8], payload: Option<Payload>, out: &mut O) -> Turn
         requires { IsHeld (self.old ++ piece.now) payload }
         ensures turn { (moment disk : ℕ) (opened : Bool) (s : Standing) → IsTurn moment opened s self.old piece.now
@@ -170,7 +184,7 @@ impl Session {
         Turn::Kept
     }
 
-    /// What stands ahead where a piece is behind what is held.
+    /// Returns the front of what is held and a piece.
     fn next<'a>(&self, piece: &'a [u8]) -> Next<'a>
         ensures { IsNext self.now piece.now result }
     {
@@ -184,7 +198,7 @@ impl Session {
         }
     }
 
-    /// What stands ahead where the beginning of a delivery is held.
+    /// Returns the front, if the beginning of a delivery is held.
     fn joined<'a>(&self, payload: Payload, piece: &'a [u8]) -> Next<'a>
         requires { IsPayload self.now payload.start payload.end }
         ensures { IsNext self.now piece.now result }
@@ -197,7 +211,7 @@ impl Session {
         Next::Whole(Requested::Joined(payload.start, last), missing)
     }
 
-    /// What stands ahead where a line ends at a byte of the piece.
+    /// Returns the front, if a line ends at this offset of the piece.
     fn line<'a>(&self, len: usize, piece: &'a [u8]) -> Next<'a>
         requires within { len < length piece.now }
         requires short { length self.now + len < line_limit }
@@ -214,7 +228,7 @@ impl Session {
         }
     }
 
-    /// What stands ahead where a line that ends at a byte of the piece announces a message.
+    /// Returns the front, if the line that ends at this offset of the piece announces a message.
     fn message<'a>(&self, size: u32, len: usize, piece: &'a [u8]) -> Next<'a>
         requires within { len < length piece.now }
         requires short { length self.now + len < line_limit }
@@ -234,14 +248,14 @@ impl Session {
     }
 }
 
-/// What it comes to that the archive was opened again or not.
+/// Continues if reopening succeeded, otherwise closes.
 fn reopened(done: bool) -> Turn
     ensures { result ≡ (if done then Turn.Opened else Turn.Closed) }
 {
     if done { Turn::Opened } else { Turn::Closed }
 }
 
-/// What it comes to that a request took so many bytes, and the session goes on or not.
+/// Continues after a request that took `taken` bytes of the piece, or closes.
 fn went(taken: usize, goes_on: bool) -> Turn
     ensures { result ≡ (if goes_on then Turn.Went taken else Turn.Closed) }
 {
@@ -252,7 +266,7 @@ fn went(taken: usize, goes_on: bool) -> Turn
     }
 }
 
-/// What a line orders whose beginning was held.
+/// Reads the order of a line, the first part of which is held.
 fn line_order(held: &[u8], line: &[u8]) -> Order
     requires { length held.now + length line.now < line_limit }
     ensures { result ≡ order_of (content (held.now ++ line.now)) }
@@ -265,7 +279,7 @@ fn line_order(held: &[u8], line: &[u8]) -> Order
     read_order(line_content(&whole[..held.len() + line.len()]))
 }
 
-/// Puts two pieces, one behind the other, at the front of a buffer.
+/// Copies two slices, one after the other, to the front of a buffer.
 fn join(buffer: &mut [u8], first: &[u8], second: &[u8])
     requires { length first.now + length second.now ≤ length buffer.old }
     ensures { take (length first.now + length second.now) buffer.new ≡ first.now ++ second.now }

@@ -124,13 +124,15 @@ struct Connection {
 }
 
 impl Connection {
-    fn new(alloc: Global, name: Name) -> Self {
-        Connection {
+    /// An open connection, to an archive without messages.
+    fn new(alloc: Global) -> Option<Self> {
+        let archive = archive(alloc)?;
+        Some(Connection {
             session: Session::open(alloc),
-            archive: MemArchive::new(alloc, config(name)),
+            archive,
             out: MemSink::new(alloc, Numbers::new(alloc)),
             open: true,
-        }
+        })
     }
 
     /// Feeds a piece where the connection is still open.
@@ -269,21 +271,30 @@ fn config(name: Name) -> Config
     }
 }
 
+/// An archive without messages, of the name `list`.
+fn archive(alloc: Global) -> Option<MemArchive> {
+    let name = Name::read(b"list")?;
+    Some(MemArchive::new(alloc, config(name)))
+}
+
 /// Whether a stream that is cut in two after so many bytes is answered so.
-fn is_answered_cut(alloc: Global, name: &Name, row: Row, place: usize) -> bool {
+fn is_answered_cut(alloc: Global, row: Row, place: usize) -> bool {
     let (stream, words, open) = row;
-    let place = place.min(stream.len());
-    let (front, back) = stream.split_at(place);
-    let mut connection = Connection::new(alloc, name.copy());
+    let (front, back) = stream.split_at(place.min(stream.len()));
+    let Some(mut connection) = Connection::new(alloc) else {
+        return false;
+    };
     connection.hear(front);
     connection.hear(back);
     connection.was_answered(words, open)
 }
 
 /// Whether a stream that comes byte by byte is answered so.
-fn is_answered_by_bytes(alloc: Global, name: &Name, row: Row) -> bool {
+fn is_answered_by_bytes(alloc: Global, row: Row) -> bool {
     let (stream, words, open) = row;
-    let mut connection = Connection::new(alloc, name.copy());
+    let Some(mut connection) = Connection::new(alloc) else {
+        return false;
+    };
     for piece in stream.chunks(1) {
         connection.hear(piece);
     }
@@ -291,33 +302,57 @@ fn is_answered_by_bytes(alloc: Global, name: &Name, row: Row) -> bool {
 }
 
 /// Whether a stream is answered so, whole, byte by byte and cut at every place in two.
-fn is_answered(alloc: Global, name: &Name, row: Row) -> bool {
+fn is_answered(alloc: Global, row: Row) -> bool {
     for place in 0..row.0.len() + 1 {
-        if !is_answered_cut(alloc, name, row, place) {
+        if !is_answered_cut(alloc, row, place) {
             return false;
         }
     }
-    is_answered_by_bytes(alloc, name, row)
+    is_answered_by_bytes(alloc, row)
 }
 
 #[test]
-fn streams_are_answered_however_cut(rt: HostRuntime) {
+fn lines_are_answered_however_cut(rt: HostRuntime) {
     cut_laws();
-    let Some(name) = Name::read(b"list") else {
-        return assert!(rt; false);
-    };
-    for row in LINES {
-        assert!(rt; is_answered(rt.alloc(), &name, row), "{:?}", row.0);
-    }
-    for row in DELIVERIES {
-        assert!(rt; is_answered(rt.alloc(), &name, row), "{:?}", row.0);
+    for row in &LINES {
+        assert!(rt; is_answered(rt.alloc(), *row), "{:?}", row.0);
     }
 }
 
-/// A line of so many bytes with its line feed, cut in two, and what follows it.
+#[test]
+fn deliveries_are_answered_however_cut(rt: HostRuntime) {
+    for row in &DELIVERIES {
+        assert!(rt; is_answered(rt.alloc(), *row), "{:?}", row.0);
+    }
+}
+
+/// Lines without their line end, and what they order.
+const ORDERS: [(&[u8], Order); 10] = [
+    (b"deliver 0", Order::Deliver(0)),
+    (b"dELIVER 9000000", Order::Deliver(9_000_000)),
+    (b"deliver 9000001", Order::TooMuch),
+    (b"deliver 18446744073709551616", Order::Bad),
+    (b"show 1", Order::Show(1)),
+    (b"sHOW 2147483647", Order::Show(2_147_483_647)),
+    (b"show 0", Order::Bad),
+    (b"Epochs", Order::Epochs),
+    (b"Quit", Order::Quit),
+    (b"quit\r", Order::Bad),
+];
+
+#[test]
+fn orders_are_read(rt: HostRuntime) {
+    for (line, order) in &ORDERS {
+        assert!(rt; read_order(line) == *order);
+    }
+}
+
+/// The answer to two lines that are no order.
+const TWO_BAD_LINES: &[u8] = b"13 bad line\n13 bad line\n";
+
+/// Whether a line of so many bytes with its line feed, cut in two at a place, and a line feed after it are answered so.
 fn long_line_is_answered(
     alloc: Global,
-    name: &Name,
     len: usize,
     place: usize,
     words: &[u8],
@@ -329,76 +364,51 @@ fn long_line_is_answered(
     }
     stream[len - 1] = b'\n';
     stream[len] = b'\n';
-    let mut connection = Connection::new(alloc, name.copy());
+    let Some(mut connection) = Connection::new(alloc) else {
+        return false;
+    };
     let (front, back) = stream.split_at(place);
     connection.hear(front);
     connection.hear(back);
     connection.was_answered(words, open)
 }
 
-#[test]
-fn orders_are_read(rt: HostRuntime) {
-    let orders: [(&[u8], Order); 10] = [
-        (b"deliver 0", Order::Deliver(0)),
-        (b"dELIVER 9000000", Order::Deliver(9_000_000)),
-        (b"deliver 9000001", Order::TooMuch),
-        (b"deliver 18446744073709551616", Order::Bad),
-        (b"show 1", Order::Show(1)),
-        (b"sHOW 2147483647", Order::Show(2_147_483_647)),
-        (b"show 0", Order::Bad),
-        (b"Epochs", Order::Epochs),
-        (b"Quit", Order::Quit),
-        (b"quit\r", Order::Bad),
-    ];
-    for (line, order) in orders {
-        assert!(rt; read_order(line) == order);
-    }
+/// Whether lines of 511 and of 512 bytes are read, and one of 513 closes, each cut in two at a place.
+fn long_lines_are_answered(alloc: Global, place: usize) -> bool {
+    let shorter = long_line_is_answered(alloc, 511, place, TWO_BAD_LINES, true);
+    let longest = long_line_is_answered(alloc, 512, place, TWO_BAD_LINES, true);
+    let longer = long_line_is_answered(alloc, 513, place, b"13 bad line\n", false);
+    shorter && longest && longer
 }
 
 #[test]
 fn lines_have_at_most_512_bytes(rt: HostRuntime) {
-    let Some(name) = Name::read(b"list") else {
-        return assert!(rt; false);
-    };
     for place in [0, 1, 300, 510, 511, 512, 513, 514, 520] {
         assert!(rt;
-            long_line_is_answered(
-                rt.alloc(),
-                &name,
-                511,
-                place,
-                b"13 bad line\n13 bad line\n",
-                true
-            )
+            long_lines_are_answered(rt.alloc(), place),
+            "cut at {place}"
         );
-        assert!(rt;
-            long_line_is_answered(
-                rt.alloc(),
-                &name,
-                512,
-                place,
-                b"13 bad line\n13 bad line\n",
-                true
-            )
-        );
-        assert!(rt; long_line_is_answered(rt.alloc(), &name, 513, place, b"13 bad line\n", false));
     }
+}
+
+/// Whether 511 bytes without a line feed, cut in two at a place, get no answer, and one byte more closes.
+fn closes_at_512_bytes(alloc: Global, place: usize) -> bool {
+    let stream = [b'a'; 511];
+    let (front, back) = stream.split_at(place.min(stream.len()));
+    let Some(mut connection) = Connection::new(alloc) else {
+        return false;
+    };
+    connection.hear(front);
+    connection.hear(back);
+    let waits = connection.was_answered(b"", true);
+    connection.hear(b"a");
+    waits && connection.was_answered(b"13 bad line\n", false)
 }
 
 #[test]
 fn a_line_is_too_long_at_512_bytes(rt: HostRuntime) {
-    let Some(name) = Name::read(b"list") else {
-        return assert!(rt; false);
-    };
-    let stream = [b'a'; 512];
     for place in [0, 1, 511] {
-        let mut connection = Connection::new(rt.alloc(), name.copy());
-        let (front, back) = stream.split_at(place);
-        connection.hear(front);
-        connection.hear(&back[..back.len() - 1]);
-        assert!(rt; connection.was_answered(b"", true));
-        connection.hear(b"a");
-        assert!(rt; connection.was_answered(b"13 bad line\n", false));
+        assert!(rt; closes_at_512_bytes(rt.alloc(), place), "cut at {place}");
     }
 }
 
@@ -482,10 +492,13 @@ const FAILURES: [FailingRow; 12] = [
 ];
 
 /// Whether a stream that comes in one piece is answered so where the disk fails.
-fn is_answered_failing(alloc: Global, name: &Name, row: FailingRow) -> bool {
+fn is_answered_failing(alloc: Global, row: FailingRow) -> bool {
     let (stream, failing, words, open) = row;
+    let Some(archive) = archive(alloc) else {
+        return false;
+    };
     let mut keep = FailingKeep {
-        archive: MemArchive::new(alloc, config(name.copy())),
+        archive,
         failing,
         stale: false,
         faults: 0,
@@ -498,10 +511,7 @@ fn is_answered_failing(alloc: Global, name: &Name, row: FailingRow) -> bool {
 
 #[test]
 fn a_disk_that_fails_is_said_and_opened_again(rt: HostRuntime) {
-    let Some(name) = Name::read(b"list") else {
-        return assert!(rt; false);
-    };
-    for row in FAILURES {
-        assert!(rt; is_answered_failing(rt.alloc(), &name, row), "{:?}", row.0);
+    for row in &FAILURES {
+        assert!(rt; is_answered_failing(rt.alloc(), *row), "{:?}", row.0);
     }
 }

@@ -1,4 +1,4 @@
--- What a crash leaves while a text takes the place of another one.
+-- What a crash leaves while a text replaces another one.
 use Rattle.std.specs.Prelude.{◌≡◌, ◌≢◌, ◌⊎◌, ℕ, ◌+◌, ◌<◌, ◌≤◌, ◌==◌, Bool, true, false, if◌then◌else◌, Option, Some, None, List, [], ◌∷◌, length, get_or, take, drop, refl}
 use Rattle.std.proofs.Common.{◌∙◌, sym, ap, subst, inl, inr, arith, length-take, length-drop}
 use Rattle.std.proofs.lemmas.Grind.{same_number_lists}
@@ -10,12 +10,12 @@ use Rattle.disk_model.specs.Laws.{SameOutside, TornFile, Fits-exact, Fits-Within
 use Rattle.disk_model.specs.Synced.{Writing, IsWriting, IsWritten, writing_inside}
 use Rattle.disk_client.specs.Texts.{StandsFor, IsReady, HasSize, IfThere, EachFile, StandsForEither}
 
--- the gate is shut, and both texts are there
+-- The gate is shut, and both texts are there.
 pub record IsFilled (old new file : List ℕ) : Type 0 where
   pub ready : IsReady old file
   pub second : take 8 (drop 9 file) ≡ new
 
--- a part that a write leaves alone
+-- A part that a write doesn't reach is unchanged.
 pub part_stays : (at n : ℕ) (old new : List ℕ) (from count : ℕ) → SameOutside at n old new → (from + count ≤ at) ⊎ (at + n ≤ from) → take count (drop from new) ≡ take count (drop from old)
 part_stays at n old new from count same apart =
     same_number_lists (take count (drop from new)) (take count (drop from old)) (let s = same.size in omega (arith, length-take {A = ℕ}, length-drop {A = ℕ}))
@@ -24,22 +24,22 @@ part_stays at n old new from count same apart =
     let outside : (from + i < at) ⊎ (at + n ≤ from + i) = elim apart [ inl low ↦ inl (omega (arith, low, front)) | inr high ↦ inr (omega (arith, high)) ] in
     get_or-take count (drop from new) i 0 front ∙ (get_or-drop from new i 0 ∙ (same.bytes (from + i) outside ∙ sym (get_or-take count (drop from old) i 0 front ∙ get_or-drop from old i 0))))
 
--- a file whose gate is shut stands for its first text
+-- A file whose gate is shut stands for its first text.
 shut_stands : (gate : ℕ) (second first : List ℕ) → gate ≢ 1 → (if gate == 1 then second else first) ≡ first
 shut_stands gate second first shut = grind (arith, nat_tests)
 
--- and one whose gate is open for its second
+-- A file whose gate is open stands for its second text.
 open_stands : (gate : ℕ) (second first : List ℕ) → gate ≡ 1 → (if gate == 1 then second else first) ≡ second
 open_stands gate second first is = grind (arith, nat_tests)
 
--- whatever the gate is, it is one of them
+-- Whatever the gate is, the file stands for one of its texts.
 either_stands : (gate : ℕ) (second first : List ℕ) → ((if gate == 1 then second else first) ≡ first) ⊎ ((if gate == 1 then second else first) ≡ second)
 either_stands gate second first = chosen (gate == 1) where
   chosen : (b : Bool) → ((if b then second else first) ≡ first) ⊎ ((if b then second else first) ≡ second)
   chosen true = inr refl
   chosen false = inl refl
 
--- any bytes in the second text
+-- A crash may leave any bytes in the second text.
 pub first_torn : (old new : List ℕ) (file image : File) → IfThere (IsReady old) file → TornFile 9 8 file image → IfThere (λ bytes. StandsFor old bytes ⊎ StandsFor new bytes) image
 first_torn old new None image ready torn = absurd ready
 first_torn old new (Some a) None ready torn = absurd torn
@@ -48,7 +48,7 @@ first_torn old new (Some a) (Some b) ready torn =
     let shut : get_or b 0 0 ≢ 1 = λ is. ready.shut (sym gate ∙ is) in
     inl (shut_stands (get_or b 0 0) (take 8 (drop 9 b)) (take 8 (drop 1 b)) shut ∙ (part_stays 9 8 a b 1 8 torn (inl (omega arith)) ∙ ready.first))
 
--- any byte in the gate
+-- A crash may leave any byte in the gate.
 pub gate_torn : (old new : List ℕ) (file image : File) → IfThere (IsFilled old new) file → TornFile 0 1 file image → IfThere (λ bytes. StandsFor old bytes ⊎ StandsFor new bytes) image
 gate_torn old new None image filled torn = absurd filled
 gate_torn old new (Some a) None filled torn = absurd torn
@@ -57,14 +57,14 @@ gate_torn old new (Some a) (Some b) filled torn =
     let second = part_stays 0 1 a b 9 8 torn (inr (omega arith)) ∙ filled.second in
     elim (either_stands (get_or b 0 0) (take 8 (drop 9 b)) (take 8 (drop 1 b))) [ inl one ↦ inl (one ∙ first) | inr two ↦ inr (two ∙ second) ]
 
--- during the first write
+-- The images during the first write.
 pub during_text : (name : FileName) (old new : List ℕ) (k0 : Option Content) (image : Files) → length new ≡ 8 → ReadsFit k0 → WhereTold (HasSize name) k0 → EachFile name (IsReady old) k0 → Writing name 9 (length new) k0 image → StandsForEither name old new image
 during_text name old new None image eight fit size each writing = absurd each
 during_text name old new (Some k) image eight fit size each writing =
     let origin = writing_inside name 9 8 k image fit (omega (arith, size)) (omega arith) (subst (λ (n : ℕ). IsWriting name 9 n k image) eight writing) in
     first_torn old new origin.file (image name) (each origin.file origin.fits) origin.torn
 
--- what stands after it
+-- The file after the first write.
 pub text_filled : (name : FileName) (old new : List ℕ) (k0 k1 : Option Content) → length new ≡ 8 → ReadsFit k0 → EachFile name (IsReady old) k0 → Told (IsWritten name 9 new) k0 k1 → EachFile name (IsFilled old new) k1
 text_filled name old new None k1 eight fit each written = absurd each
 text_filled name old new (Some k) None eight fit each written = absurd written
@@ -86,7 +86,7 @@ text_filled name old new (Some k) (Some m) eight fit each written = λ file fits
             second = ap (λ (n : ℕ). take n (drop 9 (overlay 9 new bytes))) (sym eight) ∙ overlay-inside 9 new bytes (omega arith);
           }
 
--- the size after it
+-- The size after the first write.
 pub size_stays : (name : FileName) (new : List ℕ) (k0 k1 : Option Content) → length new ≡ 8 → WhereTold (HasSize name) k0 → Told (IsWritten name 9 new) k0 k1 → WhereTold (HasSize name) k1
 size_stays name new None None eight size written = tt
 size_stays name new None (Some m) eight size written = absurd written
@@ -94,14 +94,14 @@ size_stays name new (Some k) None eight size written = absurd written
 size_stays name new (Some k) (Some m) eight size written =
     omega (arith, ap (λ (f : File). length (bytes_of f)) written.here, overlay-size 9 new (bytes_of (k name).seen) (omega (arith, eight, size)), size)
 
--- during the second write
+-- The images during the second write.
 pub during_gate : (name : FileName) (old new : List ℕ) (k1 : Option Content) (image : Files) → ReadsFit k1 → WhereTold (HasSize name) k1 → EachFile name (IsFilled old new) k1 → Writing name 0 1 k1 image → StandsForEither name old new image
 during_gate name old new None image fit size each writing = absurd each
 during_gate name old new (Some k) image fit size each writing =
     let origin = writing_inside name 0 1 k image fit (omega (arith, size)) (omega arith) writing in
     gate_torn old new origin.file (image name) (each origin.file origin.fits) origin.torn
 
--- what stands after it
+-- The file after the second write.
 pub gate_opened : (name : FileName) (old new : List ℕ) (k1 k2 : Option Content) → ReadsFit k1 → EachFile name (IsFilled old new) k1 → Told (IsWritten name 0 (1 ∷ [])) k1 k2 → EachFile name (StandsFor new) k2
 gate_opened name old new None k2 fit each written = absurd each
 gate_opened name old new (Some k) None fit each written = absurd written

@@ -3,34 +3,34 @@ use Rattle.std.specs.Prelude.{◌≡◌, ◌≢◌, ◌⊎◌, ℕ, ◌==◌, if
 use Rattle.disk_model.specs.declared.name.FileName.{FileName}
 use Rattle.disk_model.specs.Disk.{File, Files, Content, Fits, IsLength}
 
--- the text that a file stands for: the second one where the gate is 1, else the first
+-- The text that a file stands for: the second one if the gate is 1, otherwise the first.
 abbrev pub text_of : List ℕ → List ℕ
 text_of file = if get_or file 0 0 == 1 then take 8 (drop 9 file) else take 8 (drop 1 file)
 
--- the file stands for this text
+-- The file stands for this text.
 abbrev pub StandsFor : List ℕ → List ℕ → Type 0
 StandsFor text file = text_of file ≡ text
 
--- the file is whole, its gate is shut, and it stands for this text
+-- The file is whole, its gate is shut, and it stands for this text.
 pub record IsReady (text file : List ℕ) : Type 0 where
   pub size : length file ≡ 17
   pub shut : get_or file 0 0 ≢ 1
   pub first : take 8 (drop 1 file) ≡ text
 
--- the file reads as seventeen bytes
+-- The file reads as seventeen bytes.
 abbrev pub HasSize : FileName → Content → Type 0
 HasSize name = IsLength name 17
 
--- the file is there, and this holds of it
+-- The file exists, and this holds of it.
 abbrev pub IfThere : (List ℕ → Type 0) → File → Type 0
 IfThere P None = ⊥
 IfThere P (Some bytes) = P bytes
 
--- the disk tells its content, and whatever a crash leaves of the file, this holds of it
+-- The disk tells its content, and this holds of the file, whatever a crash leaves of it.
 abbrev pub EachFile : FileName → (List ℕ → Type 0) → Option Content → Type 0
 EachFile name P None = ⊥
 EachFile name P (Some k) = (file : File) → Fits (k name).sure file → IfThere P file
 
--- the file stands for the one text or the other
+-- The file stands for one text or the other.
 abbrev pub StandsForEither : FileName → List ℕ → List ℕ → Files → Type 0
 StandsForEither name old new image = IfThere (λ file. StandsFor old file ⊎ StandsFor new file) (image name)

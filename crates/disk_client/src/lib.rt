@@ -1,4 +1,5 @@
-//! A file with a gate and two texts: how a text takes the place of another one so that a crash can't halve it.
+//! A file with a gate and two texts, in which a new text replaces the old one so that a crash
+//! leaves one of them whole.
 #![tactic(auto)]
 
 mod texts;

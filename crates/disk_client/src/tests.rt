@@ -1,8 +1,9 @@
 //! A fixed list of calls on a disk in memory, and the files that a crash leaves at each moment.
 use crate::change_text;
-use arch_base::{Bytes, Numbers};
+use arch_base::{Bytes, NoMemory, Numbers};
 use disk_model::{Disk, DiskFault, FileKind, FileName, FuseDisk, MemDisk, WalkRefusal};
 use std::alloc::Global;
+use std::process::Abort;
 use std::test::Fail;
 
 const M: FileName = FileName {
@@ -262,26 +263,54 @@ fn shown(alloc: Global, disk: &mut MemDisk) -> Result<Bytes, WalkRefusal> {
     Ok(text)
 }
 
-#[test]
-fn every_image_is_that_of_the_rules(rt: HostRuntime) -> Result<(), Fail> {
-    let alloc = rt.alloc();
+/// A disk whose listed calls fail.
+fn failing(alloc: Global) -> Result<MemDisk, NoMemory> {
     let mut faults = Numbers::new(alloc);
     for ordinal in FAULTS {
         faults.push(ordinal)?;
     }
-    let mut disk = MemDisk::new(alloc, faults);
+    Ok(MemDisk::new(alloc, faults))
+}
+
+/// Makes all calls, and says whether each answers as it should.
+fn make_all(disk: &mut MemDisk) -> bool {
     for (step, works) in &CALLS {
-        assert_eq!(rt; make(&mut disk, step).is_ok(), *works);
+        if make(disk, step).is_ok() != *works {
+            return false;
+        }
     }
-    assert_eq!(rt; disk.starved(), 0);
-    assert_eq!(rt; disk.moments(), 21);
+    true
+}
+
+/// Whether the files that a crash leaves at a moment are shown as this text.
+fn is_image(
+    alloc: Global,
+    disk: &MemDisk,
+    at: u64,
+    pick: u64,
+    want: &[u8],
+) -> Result<bool, WalkRefusal> {
+    if at > disk.moments() || pick > 3 {
+        return Ok(false);
+    }
+    let mut image = disk.image(at, pick)?;
+    let text = shown(alloc, &mut image)?;
+    Ok(text.as_slice() == want)
+}
+
+#[test]
+fn every_image_is_that_of_the_rules(rt: HostRuntime) -> Result<(), Fail> {
+    let alloc = rt.alloc();
+    let mut disk = failing(alloc)?;
+    assert!(rt; make_all(&mut disk));
+    assert_eq!(rt; (disk.starved(), disk.moments()), (0, 21));
     for (index, want) in IMAGES.iter().enumerate() {
         let at = index as u64 / 4;
         let pick = index as u64 % 4;
-        assert!(rt; at <= disk.moments() && pick <= 3);
-        let mut image = disk.image(at, pick)?;
-        let text = shown(alloc, &mut image)?;
-        assert_eq!(rt; text.as_slice(), *want, "moment {at}, pick {pick}");
+        assert!(rt;
+            is_image(alloc, &disk, at, pick, want)?,
+            "moment {at}, pick {pick}"
+        );
     }
     Ok(())
 }
@@ -303,30 +332,49 @@ fn stands_for(file: &[u8; 17], text: &[u8]) -> bool {
     }
 }
 
+/// A disk on which the change of a text was stopped after so many calls, and whether the change is done.
+fn changed(alloc: Global, passes: u64) -> Result<(MemDisk, bool), DiskFault> {
+    let mut disk = MemDisk::new(alloc, Numbers::new(alloc));
+    disk.write_at(A, 0, b"\x00old textqqqqqqqq")?;
+    disk.sync()?;
+    let mut fuse = FuseDisk::new(disk, passes);
+    let done = try_change(&mut fuse, b"new text").is_ok();
+    Ok((fuse.into_inner(), done))
+}
+
+/// Whether a crash at a moment leaves the new text, or the old one where the change isn't done.
+fn is_whole(disk: &MemDisk, at: u64, pick: u64, done: bool) -> Result<bool, WalkRefusal> {
+    if at > disk.moments() || pick > 3 {
+        return Ok(false);
+    }
+    let mut image = disk.image(at, pick)?;
+    let mut file = [0; 17];
+    let count = image.read(A, 0, &mut file)?;
+    let old = !done && stands_for(&file, b"old text");
+    Ok(count == 17 && (old || stands_for(&file, b"new text")))
+}
+
+/// Looks at each image since the old text was there. At the last moment the change may be done.
+fn look_at_images(rt: &impl Abort, disk: &MemDisk, done: bool) -> Result<(), WalkRefusal> {
+    let end = disk.moments();
+    for at in 2..=end {
+        for pick in 0..4 {
+            assert!(rt;
+                is_whole(disk, at, pick, done && at == end)?,
+                "moment {at}, pick {pick}"
+            );
+        }
+    }
+    Ok(())
+}
+
 #[test]
 fn a_stop_leaves_one_text_or_the_other(rt: HostRuntime) -> Result<(), Fail> {
-    let alloc = rt.alloc();
     for passes in 0..7 {
-        let mut disk = MemDisk::new(alloc, Numbers::new(alloc));
-        disk.write_at(A, 0, b"\x00old textqqqqqqqq")?;
-        disk.sync()?;
-        let mut fuse = FuseDisk::new(disk, passes);
+        let (disk, done) = changed(rt.alloc(), passes)?;
         // A look at the length, two writes and two syncs.
-        let done = try_change(&mut fuse, b"new text").is_ok();
         assert_eq!(rt; done, passes >= 5);
-        let disk = fuse.into_inner();
-        let end = disk.moments();
-        for at in 2..=end {
-            for pick in 0..4 {
-                assert!(rt; at <= disk.moments() && pick <= 3);
-                let mut image = disk.image(at, pick)?;
-                let mut file = [0; 17];
-                assert_eq!(rt; image.read(A, 0, &mut file)?, 17);
-                let new = stands_for(&file, b"new text");
-                assert!(rt; new || stands_for(&file, b"old text"));
-                assert!(rt; new || !done || at < end);
-            }
-        }
+        look_at_images(&rt, &disk, done)?;
     }
     Ok(())
 }

@@ -1,4 +1,4 @@
-//! A text that takes the place of another one.
+//! Replaces a text in a file safely against crashes.
 ghost use Rattle.std.specs.Prelude.{◌≡◌, ◌≤◌, ℕ, List, OnOk};
 ghost use Rattle.arch_base.specs.Counts.{IsCaused};
 ghost use Rattle.disk_model.specs.Disk.{WhereTold, LeavesOnly};
@@ -7,8 +7,10 @@ ghost use Rattle.disk_client.specs.Texts.{HasSize, EachFile, IsReady, StandsFor,
 
 use disk_model::{Disk, DiskFault, FileName, write_and_sync};
 
-/// Puts a text of eight bytes in the place of the first one of a file of seventeen bytes: a gate and two texts, of
-/// which the second stands where the gate is 1. It writes the second text, syncs, opens the gate, and syncs.
+/// Replaces the text of eight bytes that a file of seventeen bytes stands for.
+///
+/// The file is a gate of one byte and two texts. It stands for the second text if the gate is 1,
+/// otherwise for the first. The call writes the second text, syncs, sets the gate to 1, and syncs.
 pub fn change_text<D: Disk>(disk: &mut D, name: FileName, text: &[u8; 8]) -> Result<(), DiskFault>
     requires size { WhereTold (HasSize name) (D.content disk.old) }
     // A crash at any moment leaves the old text or the new one.

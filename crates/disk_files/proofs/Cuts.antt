@@ -1,4 +1,4 @@
--- What cuts leave, one after the other.
+-- What several cuts leave, one after the other.
 use Rattle.std.specs.Prelude.{◌≡◌, ◌≢◌, ℕ, ◌+◌, ◌<◌, ◌≤◌, min, Option, Some, None, List, ◌++◌, length, get_or, take, drop, slice_get, Result, Ok, Err, OnOk, OnErr, refl}
 use Rattle.std.specs.List.{Contains}
 use Rattle.std.proofs.Common.{◌∙◌, ap, sym, subst, inl, inr, arith, length-take, length-drop, length-append}
@@ -13,49 +13,49 @@ use Rattle.disk_model.specs.Images.{same_or_other}
 use Rattle.disk_files.specs.declared.cutting.FilePart.{FilePart}
 use Rattle.disk_files.specs.Cutting.{AreCut, Cutting, HasFronts, IsCutting, KeepsFronts, TrimmedTo}
 
--- each part of this file among the first i has so many bytes or more
+-- Each part of this file among the first i has at least this length.
 abbrev pub IsUpTo : List FilePart → ℕ → FileName → ℕ → Type 0
 IsUpTo parts i name n = (j : ℕ) (part : FilePart) → j < i → slice_get parts j ≡ Some part → part.file ≡ name → n ≤ part.length
 
--- the files of the first i parts are cut
+-- The files of the first i parts are cut.
 pub record TrimmedUpTo (parts : List FilePart) (i : ℕ) (old new : Content) : Type 0 where
   pub alone : (name : FileName) → IsUpTo parts i name (length (bytes_of (old name).seen)) → new name ≡ old name
   pub sure : (name : FileName) (n : ℕ) → IsUpTo parts i name n → Within (new name).sure (cut_sure n (old name).sure)
   pub front : (name : FileName) (n : ℕ) → IsUpTo parts i name n → cut_file n (new name).seen ≡ cut_file n (old name).seen
   pub short : (j : ℕ) (part : FilePart) → j < i → slice_get parts j ≡ Some part → length (bytes_of (new part.file).seen) ≤ part.length
 
--- a file cut twice, first to more
+-- A file cut twice, first to the greater length.
 cut_again : (n len : ℕ) (file : File) → n ≤ len → cut_file n (cut_file len file) ≡ cut_file n file
 cut_again n len None less = refl
 cut_again n len (Some bytes) less = ap (λ (b : List ℕ). Some b) (grind (arith, common_steps))
 
--- a file that isn't longer
+-- A file that isn't longer stays as it is.
 cut_whole : (n : ℕ) (file : File) → length (bytes_of file) ≤ n → cut_file n file ≡ file
 cut_whole n None short = refl
 cut_whole n (Some bytes) short = ap (λ (b : List ℕ). Some b) (take_all n bytes short)
 
--- how long a file is that was cut
+-- The length of a file that was cut.
 cut_length : (n : ℕ) (file : File) → length (bytes_of (cut_file n file)) ≡ min n (length (bytes_of file))
 cut_length n None = omega arith
 cut_length n (Some bytes) = omega (arith, length-take {A = ℕ} n bytes)
 
--- what is sure after two cuts, first to less
+-- What a crash may leave after two cuts, first to the lesser length.
 cut_narrower : (n len : ℕ) (s : Sure) → n ≤ len → Within (cut_sure len (cut_sure n s)) (cut_sure n s)
 cut_narrower n len s less = record { there = λ e. e; gone = λ e. e; least = omega (arith, less); greatest = omega arith; outside = λ i below out. (out, refl) }
 
--- a cut behind cuts to no less
+-- A later cut to no less allows no more.
 sure_again : (n len : ℕ) (s t : Sure) → n ≤ len → Within t (cut_sure n s) → Within (cut_sure len t) (cut_sure n s)
 sure_again n len s t less w = Within-trans (cut_sure len t) (cut_sure len (cut_sure n s)) (cut_sure n s) (cut_within len t (cut_sure n s) w) (cut_narrower n len s less)
 
--- a part at a place is in the list
+-- A part at an index is in the list.
 part_in : (parts : List FilePart) (i : ℕ) (part : FilePart) → slice_get parts i ≡ Some part → Contains parts part
 part_in parts i part is = (i, slice_get_within parts i part is, get_or_from_slice_get parts i part part is)
 
--- what holds of one part more holds of those before it
+-- What holds of the first i + 1 parts holds of the first i.
 up_to_less : (parts : List FilePart) (i : ℕ) (name : FileName) (n : ℕ) → IsUpTo parts (i + 1) name n → IsUpTo parts i name n
 up_to_less parts i name n up j part below = up j part (omega (arith, below))
 
--- one part more, of its own file
+-- One more part.
 module _ (parts : List FilePart) (i : ℕ) (part : FilePart) (is : slice_get parts i ≡ Some part) (k m o : Content) (before : TrimmedUpTo parts i k m) (trimmed : OneFile part.file (TrimmedTo part.length) m o) where
   here_alone : IsUpTo parts (i + 1) part.file (length (bytes_of (k part.file).seen)) → o part.file ≡ k part.file
   here_alone up =
@@ -76,7 +76,7 @@ module _ (parts : List FilePart) (i : ℕ) (part : FilePart) (is : slice_get par
   here_short : length (bytes_of (o part.file).seen) ≡ min part.length (length (bytes_of (m part.file).seen))
   here_short = ap (λ (file : File). length (bytes_of file)) trimmed.here.cut.seen ∙ cut_length part.length (m part.file).seen
 
-  -- the bounds on the lengths
+  -- The bounds on the lengths.
   all_short : (j : ℕ) (other : FilePart) → j < i + 1 → slice_get parts j ≡ Some other → length (bytes_of (o other.file).seen) ≤ other.length
   all_short j other below found =
       elim (cases_lt j i) [
@@ -96,7 +96,7 @@ module _ (parts : List FilePart) (i : ℕ) (part : FilePart) (is : slice_get par
             subst (λ (p : FilePart). length (bytes_of (o p.file).seen) ≤ p.length) one here
       ]
 
-  -- one part more
+  -- The files of the first i + 1 parts are cut.
   more_trimmed : TrimmedUpTo parts (i + 1) k o
   more_trimmed = record {
     alone = λ name up.
@@ -118,27 +118,27 @@ module _ (parts : List FilePart) (i : ℕ) (part : FilePart) (is : slice_get par
     short = all_short;
   }
 
--- bytes of a file that a crash left behind a cut, with the old ones behind them
+-- The bytes of a file that a crash left after a cut, followed by the old ones.
 abbrev pub spliced : ℕ → List ℕ → List ℕ → List ℕ
 spliced n bytes seen = take n bytes ++ drop n seen
 
--- in front are those of the image
+-- The first bytes are those of the image.
 spliced_front : (n : ℕ) (bytes seen : List ℕ) (i : ℕ) → n ≤ length bytes → i < n → get_or (spliced n bytes seen) i 0 ≡ get_or bytes i 0
 spliced_front n bytes seen i long below = grind (arith, common_steps)
 
--- behind are the old ones
+-- The rest are the old bytes.
 spliced_behind : (n : ℕ) (bytes seen : List ℕ) (i : ℕ) → n ≤ length bytes → n ≤ i → get_or (spliced n bytes seen) i 0 ≡ get_or seen i 0
 spliced_behind n bytes seen i long above = grind (arith, common_steps)
 
--- so many in all
+-- Their number.
 spliced_length : (n : ℕ) (bytes seen : List ℕ) → n ≤ length bytes → n ≤ length seen → length (spliced n bytes seen) ≡ length seen
 spliced_length n bytes seen long inside = omega (arith, length-append {A = ℕ} (take n bytes) (drop n seen), length-take {A = ℕ} n bytes, length-drop {A = ℕ} n seen)
 
--- the front of these is that of the image
+-- Their prefix is that of the image.
 spliced_take : (n : ℕ) (bytes seen : List ℕ) → n ≤ length bytes → take n (spliced n bytes seen) ≡ take n bytes
 spliced_take n bytes seen long = grind (arith, common_steps)
 
--- a file that a crash leaves behind a cut below the least length has the front of one from before
+-- A file that a crash leaves after a cut below the least length has the prefix of one from before.
 front_below : (n : ℕ) (s : Sure) (seen bytes : List ℕ) → n ≤ s.least → Holds s seen → Holds (cut_sure n s) bytes → FrontOrigin n s (Some bytes)
 front_below n s seen bytes below h left =
     let least = left.no_shorter in
@@ -163,7 +163,8 @@ front_below n s seen bytes below h left =
       long = λ l. long;
     }
 
--- each file that a crash leaves behind a cut has the front of one from before; one that was missing is not cut
+-- Each file that a crash leaves after a cut has the prefix of one from before; a missing file is
+-- not cut.
 cut_front : (n : ℕ) (s : Sure) (seen image : File) → Fits s seen → (length (bytes_of seen) ≤ n → Fits s image) → Fits (cut_sure n s) image → FrontOrigin n s image
 cut_front n s seen None h alone left = record { file = None; fits = left; same = refl; long = λ l. l }
 cut_front n s None (Some bytes) h alone left = record { file = Some bytes; fits = alone (omega arith); same = refl; long = λ l. l }
@@ -180,7 +181,7 @@ cut_front n s (Some seen) (Some bytes) h alone left =
       | inr below ↦ front_below n s seen bytes below h left
     ]
 
--- what a crash leaves while one more file is cut
+-- What a crash leaves while one more file is cut.
 module _ (parts : List FilePart) (i : ℕ) (part : FilePart) (is : slice_get parts i ≡ Some part) (k m : Content) (image : Files) (before : TrimmedUpTo parts i k m) (cutting : IsCutting part m image) where
   left_cut : (name : FileName) (n : ℕ) → IsUpTo parts (i + 1) name n → Fits (cut_sure n (k name).sure) (image name)
   left_cut name n up =
@@ -221,7 +222,7 @@ module _ (parts : List FilePart) (i : ℕ) (part : FilePart) (is : slice_get par
     others = λ name alone. left_alone name (λ j other below found same. alone other (part_in parts j other found) same);
   }
 
--- all parts
+-- The files of all parts are cut.
 all_trimmed : (parts : List FilePart) (k m : Content) → TrimmedUpTo parts (length parts) k m → AreCut parts k m
 all_trimmed parts k m so_far = record {
   listed = λ part shortest.
@@ -234,7 +235,7 @@ all_trimmed parts k m so_far = record {
   others = λ name alone. so_far.alone name (λ j other below found same. alone other (part_in parts j other found) same);
 }
 
--- before the first cut
+-- The state before the first cut.
 pub none_trimmed : (parts : List FilePart) (k : Option Content) → Told (TrimmedUpTo parts 0) k k
 none_trimmed parts None = tt
 none_trimmed parts (Some k) = record {
@@ -244,7 +245,7 @@ none_trimmed parts (Some k) = record {
   short = λ j part below found. absurd (omega (arith, below));
 }
 
--- and what a crash then leaves
+-- What a crash leaves before the first cut.
 pub fronts_at_start : (parts : List FilePart) (k : Option Content) (image : Files) → Image k image → HasFronts parts k image
 fronts_at_start parts None image left = tt
 fronts_at_start parts (Some k) image left = record {
@@ -253,7 +254,7 @@ fronts_at_start parts (Some k) image left = record {
   others = λ name alone. left name;
 }
 
--- one part more, where the disk tells its content
+-- One more part, if the disk tells its content.
 pub trimmed_more : (parts : List FilePart) (i : ℕ) (part : FilePart) (k m o : Option Content) → slice_get parts i ≡ Some part → Told (TrimmedUpTo parts i) k m → Told (OneFile part.file (TrimmedTo part.length)) m o → Told (TrimmedUpTo parts (i + 1)) k o
 trimmed_more parts i part None None None is so_far trimmed = tt
 trimmed_more parts i part None None (Some o) is so_far trimmed = absurd trimmed
@@ -262,21 +263,21 @@ trimmed_more parts i part (Some k) None o is so_far trimmed = absurd so_far
 trimmed_more parts i part (Some k) (Some m) None is so_far trimmed = absurd trimmed
 trimmed_more parts i part (Some k) (Some m) (Some o) is so_far trimmed = more_trimmed parts i part is k m o so_far trimmed
 
--- what a crash leaves while one more file is cut
+-- What a crash leaves while one more file is cut, if the disk tells its content.
 pub fronts_cutting : (parts : List FilePart) (i : ℕ) (part : FilePart) (k m : Option Content) (image : Files) → slice_get parts i ≡ Some part → ReadsFit k → Told (TrimmedUpTo parts i) k m → Cutting part m image → HasFronts parts k image
 fronts_cutting parts i part None None image is fit so_far cutting = tt
 fronts_cutting parts i part None (Some m) image is fit so_far cutting = tt
 fronts_cutting parts i part (Some k) None image is fit so_far cutting = absurd so_far
 fronts_cutting parts i part (Some k) (Some m) image is fit so_far cutting = keeps parts i part is k m image so_far cutting (fit k refl)
 
--- at the end
+-- The state after the last cut.
 pub trimmed_all : (parts : List FilePart) (k m : Option Content) → Told (TrimmedUpTo parts (length parts)) k m → Told (AreCut parts) k m
 trimmed_all parts None None so_far = tt
 trimmed_all parts None (Some m) so_far = absurd so_far
 trimmed_all parts (Some k) None so_far = absurd so_far
 trimmed_all parts (Some k) (Some m) so_far = all_trimmed parts k m so_far
 
--- before one cut
+-- What a crash leaves before one cut.
 pub cutting_yet : (part : FilePart) (k : Option Content) (image : Files) → Image k image → Cutting part k image
 cutting_yet part None image left = tt
 cutting_yet part (Some k) image left = record {
@@ -285,7 +286,7 @@ cutting_yet part (Some k) image left = record {
   elsewhere = λ other apart. left other;
 }
 
--- after it, where the file was longer
+-- What a crash leaves after one cut, if the file was longer.
 cutting_crash : (part : FilePart) (k m o : Content) (image : Files) → Unchanged k m → part.length < length (bytes_of (k part.file).seen) → Within (o part.file).sure (cut_sure part.length (m part.file).sure)
     → ((other : FileName) → other ≢ part.file → o other ≡ m other) → Image (Some o) image → IsCutting part k image
 cutting_crash part k m o image same longer crash elsewhere left = record {
@@ -294,7 +295,7 @@ cutting_crash part k m o image same longer crash elsewhere left = record {
   elsewhere = λ other apart. subst (λ (kept : Kept). Fits kept.sure (image other)) (elsewhere other apart ∙ same other) (left other);
 }
 
--- after it, done or torn, where the disk tells its content
+-- What a crash leaves after one cut, done or torn, if the disk tells its content.
 pub cutting_after : {T E : Type 0} (result : Result T E) (part : FilePart) (n : ℕ) (k m o : Option Content) (image : Files) → part.length < n → WhereTold (IsLength part.file n) k → Told Unchanged k m
     → OnOk result (Told (OneFile part.file (CutTo part.length)) m o) → OnErr result (Told (OneFile part.file (TornCut part.length)) m o) → Image o image → Cutting part k image
 cutting_after result part n None m o image longer is same ok err left = tt

@@ -1,4 +1,4 @@
--- The list of all names is one: what each call tells of a place is what it is of.
+-- There is one list of all names, and each call tells the name at an index of it.
 use Rattle.std.specs.Prelude.{◌≡◌, ◌⊎◌, ◌↔◌, ℕ, ◌+◌, ◌<◌, ◌≤◌, Option, Some, None, IsSome, List, [], ◌∷◌, ◌++◌, length, get_or, take, slice_get, refl}
 use Rattle.std.specs.List.{Contains}
 use Rattle.std.specs.List.Sorted.{IsStrictlySortedBy}
@@ -17,13 +17,13 @@ use Rattle.disk_model.specs.Images.{names_total, same_or_other}
 use Rattle.disk_model.specs.Disk.{Content, Files, Fits, Image, IsNameAt, Kept, Told, Unchanged, WhereTold}
 use Rattle.disk_files.specs.Listing.{AreAllNames}
 
--- of two names only one is below the other
+-- Of two names only one is below the other.
 below_once : (a b : FileName) → name_cmp a b ≡ Less → name_cmp b a ≡ Less → ⊥
 below_once a b first second =
     let both : Less ≡ Greater = sym first ∙ (names_total.antisymm a b ∙ ap ordering_reverse second) in
     cc
 
--- the first of a list, or one of the others
+-- An item of a list is the first or one of the others.
 pub one_of : (x : FileName) (xs : List FileName) (q : FileName) → Contains (x ∷ xs) q → (x ≡ q) ⊎ Contains xs q
 one_of x xs q among =
     elim (Contains-append_cases (x ∷ []) xs q among) [
@@ -33,15 +33,15 @@ one_of x xs q among =
       | inr later ↦ inr later
     ]
 
--- the first is in the list
+-- The first item is in the list.
 pub first_in : (x : FileName) (xs : List FileName) → Contains (x ∷ xs) x
 first_in x xs = (0, omega arith, refl)
 
--- nothing is in the empty list
+-- The empty list has no item.
 pub none_in : (q : FileName) → Contains [] q → ⊥
 none_in q among = absurd (omega (arith, among.1))
 
--- a name is in a list or not
+-- A name is in a list or not.
 pub contains_or_not : (xs : List FileName) (q : FileName) → Contains xs q ⊎ (Contains xs q → ⊥)
 contains_or_not [] q = inr (none_in q)
 contains_or_not (x ∷ xs) q = elim (same_or_other q x) [
@@ -52,11 +52,11 @@ contains_or_not (x ∷ xs) q = elim (same_or_other q x) [
   ]
 ]
 
--- what is behind the first is above it
+-- Every item after the first is above it.
 above_first : (x : FileName) (xs : List FileName) (q : FileName) → IsStrictlySortedBy name_cmp (x ∷ xs) → Contains xs q → name_cmp x q ≡ Less
 above_first x xs q sorted among = All-contains (λ (y : FileName). name_cmp x y ≡ Less) xs q (All-after_first name_cmp x xs sorted) among
 
--- the same names in order have the same first one
+-- Two lists of the same names in order have the same first one.
 same_first : (x y : FileName) (xs ys : List FileName) → IsStrictlySortedBy name_cmp (x ∷ xs) → IsStrictlySortedBy name_cmp (y ∷ ys) → Contains (y ∷ ys) x → Contains (x ∷ xs) y → x ≡ y
 same_first x y xs ys first second has_x has_y =
     elim (one_of y ys x has_x) [
@@ -68,7 +68,7 @@ same_first x y xs ys first second has_x has_y =
           ]
     ]
 
--- and behind it the names of the one are those of the other
+-- The rests of two such lists have the same names.
 same_rest : (x y : FileName) (xs ys : List FileName) (q : FileName) → IsStrictlySortedBy name_cmp (x ∷ xs) → x ≡ y → Contains (y ∷ ys) q → Contains xs q → Contains ys q
 same_rest x y xs ys q sorted same has among =
     elim (one_of y ys q has) [
@@ -80,7 +80,7 @@ same_rest x y xs ys q sorted same has among =
       | inr later ↦ later
     ]
 
--- two lists of the same names in order are one
+-- Two lists of the same names in order are equal.
 pub same_names : (xs ys : List FileName) → IsStrictlySortedBy name_cmp xs → IsStrictlySortedBy name_cmp ys → ((q : FileName) → Contains xs q → Contains ys q) → ((q : FileName) → Contains ys q → Contains xs q) → xs ≡ ys
 same_names [] [] first second left right = refl
 same_names [] (y ∷ ys) first second left right = absurd (none_in y (right y (first_in y ys)))
@@ -92,15 +92,15 @@ same_names (x ∷ xs) (y ∷ ys) first second left right =
     (λ q among. same_rest y x ys xs q second (sym same) (right q (Contains-append_right (y ∷ []) ys q among)) among) in
     ap (λ (n : FileName). n ∷ xs) same ∙ ap (λ (l : List FileName). y ∷ l) rest
 
--- the list of all names is one
+-- There is only one list of all names.
 pub all_names_one : (xs ys : List FileName) (k : Content) → AreAllNames xs k → AreAllNames ys k → xs ≡ ys
 all_names_one xs ys k first second = same_names xs ys first.in_order second.in_order (λ q among. (second.all q).0 ((first.all q).1 among)) (λ q among. (first.all q).0 ((second.all q).1 among))
 
--- the first i of all names
+-- The first i of all names.
 abbrev pub AreFirstNames : List FileName → ℕ → Content → Type 0
 AreFirstNames names i k = (all : List FileName) → AreAllNames all k → names ≡ take i all
 
--- the names that a call told of stand in the list of all
+-- The list of names from which a call told one is the list of all names.
 told_all : (i : ℕ) (name : Option FileName) (k m : Content) → Unchanged k m → (at_place : IsNameAt i name m) → AreAllNames at_place.names k
 told_all i name k m same at_place = record {
   in_order = at_place.in_order;
@@ -109,7 +109,7 @@ told_all i name k m same at_place = record {
       subst P (same other) (at_place.all other);
 }
 
--- one name more
+-- One more name.
 one_more : (names : List FileName) (i : ℕ) (name : FileName) (k m : Content) → Unchanged k m → AreFirstNames names i k → IsNameAt i (Some name) m → AreFirstNames (names ++ name ∷ []) (i + 1) k
 one_more names i name k m same are at_place all listed =
     let one : at_place.names ≡ all = all_names_one at_place.names all k (told_all i (Some name) k m same at_place) listed in
@@ -119,7 +119,7 @@ one_more names i name k m same are at_place all listed =
     let is : get_or all i name ≡ name = get_or_from_slice_get all i name name here in
     ap (λ (l : List FileName). l ++ name ∷ []) (are all listed) ∙ sym (next ∙ ap (λ (n : FileName). take i all ++ n ∷ []) is)
 
--- no name more: they are all
+-- No more name: the list is complete.
 no_more : (names : List FileName) (i : ℕ) (k m : Content) → Unchanged k m → AreFirstNames names i k → IsNameAt i None m → AreAllNames names k
 no_more names i k m same are at_place =
     let all = at_place.names in
@@ -140,26 +140,26 @@ no_more names i k m same are at_place =
       some_there [] i inside found = omega arith
       some_there (x ∷ xs) i inside found = absurd (none-some (get_or (x ∷ xs) i x) (sym found ∙ slice_get-get_or (x ∷ xs) i x inside))
 
--- before the first call
+-- No names before the first call.
 pub first_none : (k : Option Content) → WhereTold (AreFirstNames [] 0) k
 first_none None = tt
 first_none (Some k) = λ all listed. refl
 
--- the same, where the disk tells its content
+-- One more name, if the disk tells its content.
 pub first_more : (names : List FileName) (i : ℕ) (name : FileName) (k m : Option Content) → Told Unchanged k m → WhereTold (AreFirstNames names i) k → WhereTold (IsNameAt i (Some name)) m → WhereTold (AreFirstNames (names ++ name ∷ []) (i + 1)) k
 first_more names i name None None same are at_place = tt
 first_more names i name None (Some m) same are at_place = absurd same
 first_more names i name (Some k) None same are at_place = absurd same
 first_more names i name (Some k) (Some m) same are at_place = one_more names i name k m same are at_place
 
--- at the end
+-- The complete list, if the disk tells its content.
 pub first_all : (names : List FileName) (i : ℕ) (k m : Option Content) → Told Unchanged k m → WhereTold (AreFirstNames names i) k → WhereTold (IsNameAt i None) m → WhereTold (AreAllNames names) k
 first_all names i None None same are at_place = tt
 first_all names i None (Some m) same are at_place = absurd same
 first_all names i (Some k) None same are at_place = absurd same
 first_all names i (Some k) (Some m) same are at_place = no_more names i k m same are at_place
 
--- what stands still for two calls
+-- What two calls leave unchanged is unchanged after both.
 pub unchanged_more : (k m o : Option Content) → Told Unchanged k m → Told Unchanged m o → Told Unchanged k o
 unchanged_more None None None first second = tt
 unchanged_more None None (Some o) first second = absurd second
@@ -168,12 +168,12 @@ unchanged_more (Some k) None o first second = absurd first
 unchanged_more (Some k) (Some m) None first second = absurd second
 unchanged_more (Some k) (Some m) (Some o) first second = λ name. second name ∙ first name
 
--- nothing changes before the first call
+-- Nothing changes before the first call.
 pub unchanged_yet : (k : Option Content) → Told Unchanged k k
 unchanged_yet None = tt
 unchanged_yet (Some k) = λ name. refl
 
--- where nothing changes, a crash leaves what it left before
+-- If nothing changes, a crash leaves what it left before.
 pub unchanged_image : (k m : Option Content) (image : Files) → Told Unchanged k m → Image m image → Image k image
 unchanged_image None None image same left = tt
 unchanged_image None (Some m) image same left = tt

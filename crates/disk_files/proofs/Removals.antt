@@ -1,4 +1,4 @@
--- What removals leave, one after the other.
+-- What several removals leave, one after the other.
 use Rattle.std.specs.Prelude.{◌≡◌, ◌≢◌, ◌⊎◌, ℕ, ◌+◌, ◌<◌, Option, Some, None, List, length, slice_get, refl}
 use Rattle.std.specs.List.{Contains}
 use Rattle.std.proofs.Common.{◌∙◌, ap, sym, subst, inl, inr, arith}
@@ -10,29 +10,29 @@ use Rattle.disk_model.specs.Laws.{Fits-Within, Within-trans, remove_within, remo
 use Rattle.disk_model.specs.Images.{same_or_other}
 use Rattle.disk_files.specs.Removing.{AreRemoved, Fewer, IsFewer}
 
--- some of these files may be gone, and the others are as they were
+-- Some of these files may be gone, and the others are as they were.
 pub record Thinned (names : List FileName) (old new : Content) : Type 0 where
   pub others : (name : FileName) → (Contains names name → ⊥) → new name ≡ old name
   pub sure : (name : FileName) → Within (new name).sure (remove_sure (old name).sure)
 
--- the first n of them are gone
+-- The first n of them are gone.
 pub record GoneUpTo (names : List FileName) (n : ℕ) (old new : Content) : Type 0 where
   pub thinned : Thinned names old new
   pub gone : (i : ℕ) (name : FileName) → i < n → slice_get names i ≡ Some name → (new name).seen ≡ None
 
--- as before or not at all
+-- A crash leaves a removed file as before or not at all.
 one_fewer : (s : Sure) (image : File) → Fits (remove_sure s) image → (image ≡ None) ⊎ Fits s image
 one_fewer s None fits = inl refl
 one_fewer s (Some bytes) fits = inr (record { there = fits.there; no_shorter = fits.no_shorter; no_longer = fits.no_longer; outside = fits.outside })
 
--- what a crash leaves of them
+-- What a crash leaves of these files.
 fewer : (names : List FileName) (k m : Content) (image : Files) → Thinned names k m → Image (Some m) image → IsFewer names k image
 fewer names k m image thin left = record {
   listed = λ name among. one_fewer (k name).sure (image name) (Fits-Within (m name).sure (remove_sure (k name).sure) (image name) (thin.sure name) (left name));
   others = λ name none. let P : Kept → Type 0 = λ kept. Fits kept.sure (image name) in subst P (thin.others name none) (left name);
 }
 
--- a removal of one of them, done or torn
+-- A removal of one of them, done or torn.
 thinner : (names : List FileName) (taken : FileName) (k m o : Content) → Contains names taken → Thinned names k m → Within (o taken).sure (remove_sure (m taken).sure) → ((other : FileName) → other ≢ taken → o other ≡ m other) → Thinned names k o
 thinner names taken k m o among thin crash elsewhere = record {
   others = λ name none. elsewhere name (λ same. none (subst (λ (n : FileName). Contains names n) (sym same) among)) ∙ thin.others name none;
@@ -45,7 +45,7 @@ thinner names taken k m o among thin crash elsewhere = record {
       ];
 }
 
--- one file more
+-- One more file.
 more_gone : (names : List FileName) (n : ℕ) (taken : FileName) (k m o : Content) → slice_get names n ≡ Some taken → Contains names taken → GoneUpTo names n k m → OneFile taken Removed m o → GoneUpTo names (n + 1) k o
 more_gone names n taken k m o is among so_far removed = record {
   thinned = thinner names taken k m o among so_far.thinned removed.here.crash removed.elsewhere;
@@ -62,7 +62,7 @@ more_gone names n taken k m o is among so_far removed = record {
       ];
 }
 
--- all of them
+-- All of them are gone.
 all_gone : (names : List FileName) (k m : Content) → GoneUpTo names (length names) k m → AreRemoved names k m
 all_gone names k m so_far = record {
   listed = λ name among. record {
@@ -72,11 +72,11 @@ all_gone names k m so_far = record {
   others = so_far.thinned.others;
 }
 
--- a name at a place is in the list
+-- A name at an index is in the list.
 pub at_place_in : (names : List FileName) (n : ℕ) (name : FileName) → slice_get names n ≡ Some name → Contains names name
 at_place_in names n name is = (n, slice_get_within names n name is, get_or_from_slice_get names n name name is)
 
--- before the first removal
+-- The state before the first removal.
 pub none_gone : (names : List FileName) (k : Option Content) → Told (GoneUpTo names 0) k k
 none_gone names None = tt
 none_gone names (Some k) = record {
@@ -84,12 +84,12 @@ none_gone names (Some k) = record {
   gone = λ i name below found. absurd (omega (arith, below));
 }
 
--- and what a crash then leaves
+-- What a crash leaves before the first removal.
 pub fewer_at_start : (names : List FileName) (k : Option Content) (image : Files) → Image k image → Fewer names k image
 fewer_at_start names None image left = tt
 fewer_at_start names (Some k) image left = record { listed = λ name among. inr (left name); others = λ name none. left name }
 
--- one file more, where the disk tells its content
+-- One more file, if the disk tells its content.
 pub gone_more : (names : List FileName) (n : ℕ) (taken : FileName) (k m o : Option Content) → slice_get names n ≡ Some taken → Told (GoneUpTo names n) k m → Told (OneFile taken Removed) m o → Told (GoneUpTo names (n + 1)) k o
 gone_more names n taken None None None is so_far removed = tt
 gone_more names n taken None None (Some o) is so_far removed = absurd removed
@@ -98,7 +98,7 @@ gone_more names n taken (Some k) None o is so_far removed = absurd so_far
 gone_more names n taken (Some k) (Some m) None is so_far removed = absurd removed
 gone_more names n taken (Some k) (Some m) (Some o) is so_far removed = more_gone names n taken k m o is (at_place_in names n taken is) so_far removed
 
--- what a crash leaves after a removal
+-- What a crash leaves after a removal.
 pub fewer_removed : (names : List FileName) (n : ℕ) (taken : FileName) (k m o : Option Content) (image : Files) → slice_get names n ≡ Some taken → Told (GoneUpTo names n) k m → Told (OneFile taken Removed) m o → Image o image → Fewer names k image
 fewer_removed names n taken None None None image is so_far removed left = tt
 fewer_removed names n taken None None (Some o) image is so_far removed left = absurd removed
@@ -108,7 +108,7 @@ fewer_removed names n taken (Some k) (Some m) None image is so_far removed left 
 fewer_removed names n taken (Some k) (Some m) (Some o) image is so_far removed left =
     fewer names k o image (thinner names taken k m o (at_place_in names n taken is) so_far.thinned removed.here.crash removed.elsewhere) left
 
--- and after one that failed
+-- What a crash leaves after a removal that failed.
 pub fewer_torn : (names : List FileName) (n : ℕ) (taken : FileName) (k m o : Option Content) (image : Files) → slice_get names n ≡ Some taken → Told (GoneUpTo names n) k m → Told (OneFile taken TornRemoval) m o → Image o image → Fewer names k image
 fewer_torn names n taken None None None image is so_far torn left = tt
 fewer_torn names n taken None None (Some o) image is so_far torn left = absurd torn
@@ -118,7 +118,7 @@ fewer_torn names n taken (Some k) (Some m) None image is so_far torn left = absu
 fewer_torn names n taken (Some k) (Some m) (Some o) image is so_far torn left =
     fewer names k o image (thinner names taken k m o (at_place_in names n taken is) so_far.thinned torn.here.crash torn.elsewhere) left
 
--- at the end
+-- The state after the last removal.
 pub gone_all : (names : List FileName) (k m : Option Content) → Told (GoneUpTo names (length names)) k m → Told (AreRemoved names) k m
 gone_all names None None so_far = tt
 gone_all names None (Some m) so_far = absurd so_far

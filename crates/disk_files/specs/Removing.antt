@@ -1,20 +1,20 @@
--- Files that are taken away.
+-- What a removal of files leaves.
 use Rattle.std.specs.Prelude.{◌≡◌, ◌⊎◌, Option, Some, None, List}
 use Rattle.std.specs.List.{Contains}
 use Rattle.disk_model.specs.Disk.{Content, Files, Fits, Removed}
 use Rattle.disk_model.specs.declared.name.FileName.{FileName}
 
--- some of these files are missing, and else all is as before
+-- Some of these files are missing, and all others are as before.
 pub record IsFewer (names : List FileName) (k : Content) (image : Files) : Type 0 where
   pub listed : (name : FileName) → Contains names name → (image name ≡ None) ⊎ Fits (k name).sure (image name)
   pub others : (name : FileName) → (Contains names name → ⊥) → Fits (k name).sure (image name)
 
--- the same, where the disk tells its content
+-- The same, if the disk tells its content.
 abbrev pub Fewer : List FileName → Option Content → Files → Type 0
 Fewer names None image = Unit {0}
 Fewer names (Some k) image = IsFewer names k image
 
--- these files are gone, and the others are as they were
+-- These files are gone, and the others are as they were.
 pub record AreRemoved (names : List FileName) (old new : Content) : Type 0 where
   pub listed : (name : FileName) → Contains names name → Removed (old name) (new name)
   pub others : (name : FileName) → (Contains names name → ⊥) → new name ≡ old name

@@ -1,4 +1,4 @@
-//! Files that are cut.
+//! Cuts files to their first bytes.
 ghost use Rattle.std.specs.Prelude.{◌≡◌, OnOk};
 ghost use Rattle.arch_base.specs.Counts.{IsCaused};
 ghost use Rattle.disk_model.specs.Disk.{LeavesOnly, OneFile, Told};
@@ -11,11 +11,11 @@ use disk_model::{Disk, DiskFault, FileName};
 pub struct FilePart {
     /// The file.
     pub file: FileName,
-    /// How many bytes of it.
+    /// The number of bytes.
     pub length: u64,
 }
 
-/// Cuts a file to its part where it is longer, and else leaves it alone.
+/// Cuts a file to its part if it is longer, and otherwise leaves it alone.
 fn trim<D: Disk>(disk: &mut D, part: FilePart) -> Result<(), DiskFault>
     ensures any_moment { LeavesOnly D.moment D.left_since disk.old disk.new (Cutting part (D.content disk.old)) }
     ensures done { OnOk result (Told (OneFile part.file (TrimmedTo part.length)) (D.content disk.old) (D.content disk.new)) }
@@ -29,12 +29,14 @@ fn trim<D: Disk>(disk: &mut D, part: FilePart) -> Result<(), DiskFault>
     disk.cut(part.file, part.length)
 }
 
-/// Cuts each of these files that is longer than its part to that, in order. A file that isn't longer is left alone, so
-/// a missing one stays missing.
+/// Cuts each file that is longer than its part to that part, in order.
+///
+/// A file that isn't longer stays as it is, and a missing one stays missing.
 pub fn cut_files<D: Disk>(disk: &mut D, parts: &[FilePart]) -> Result<(), DiskFault>
-    // At each moment a crash leaves the part of each as it might have left it before, and all other files as before.
+    // At each moment a crash leaves the part of each file as it might have left it before, and all
+    // other files as before.
     ensures any_moment { LeavesOnly D.moment D.left_since disk.old disk.new (HasFronts parts.now (D.content disk.old)) }
-    // After Ok each of them reads as its part, and the others are as they were.
+    // After `Ok` each file reads as its part, and the others are as they were.
     ensures done { OnOk result (Told (AreCut parts.now) (D.content disk.old) (D.content disk.new)) }
     ensures cause { IsCaused (D.faults disk.old) (D.faults disk.new) result }
     ensures count { D.reads disk.new ≡ D.reads disk.old }

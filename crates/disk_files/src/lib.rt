@@ -1,4 +1,4 @@
-//! Calls over many files of a disk: their names, the removal of some, and cuts of their tails.
+//! Calls over many files of a disk: listing their names, removing some, and cutting their tails.
 #![tactic(auto)]
 
 mod cutting;

@@ -1,4 +1,4 @@
-//! The names of all files.
+//! Lists the names of all files.
 ghost use Rattle.std.specs.Prelude.{◌≡◌, ◌≢◌, ◌≤◌, ℕ, Err, IfOk};
 ghost use Rattle.arch_base.specs.Counts.{Rose};
 ghost use Rattle.disk_model.specs.Disk.{Image, LeavesOnly, Told, Unchanged, WhereTold};
@@ -9,12 +9,13 @@ use arch_base::Sequence;
 use disk_model::{Disk, FileName, WalkRefusal};
 use std::alloc::Global;
 
-/// Names of files.
+/// A list of names of files.
 pub type FileNames = Sequence<FileName>;
 
-/// The names of all files that are there, in order. Nothing changes. No file is read, so none is damaged.
+/// Returns the names of all files, in order.
 ///
-/// Memory is wanting too where there are 2^64 - 1 names.
+/// Nothing changes. Reads no file, so the result is never `Damaged`. `NoMemory` is also the result
+/// for 2^64 - 1 names or more.
 pub fn file_names<D: Disk>(alloc: Global, disk: &mut D) -> Result<FileNames, WalkRefusal>
     ensures names { IfOk result (λ names. WhereTold (AreAllNames names) (D.content disk.old)) }
     ensures same { Told Unchanged (D.content disk.old) (D.content disk.new) }

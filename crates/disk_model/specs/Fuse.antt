@@ -1,21 +1,21 @@
--- A disk that passes some calls to another one, and then fails every one.
+-- A disk that passes a number of calls to another disk and then fails every call.
 use Rattle.std.specs.Prelude.{◌≡◌, ◌<◌, ◌+◌, ℕ, Bool, false}
 use Rattle.disk_model.specs.declared.fuse.FuseDisk.{FuseDisk}
 
--- the disk to which calls are passed
+-- The disk to which calls are passed.
 abbrev pub inner_of : {D : Type 0} → FuseDisk D → D
 inner_of disk = disk.inner
 
--- how many calls are still passed
+-- The number of calls that are still passed.
 abbrev pub passes_of : {D : Type 0} → FuseDisk D → ℕ
 passes_of disk = disk.passes
 
--- how many calls were not passed
+-- The number of calls that were not passed.
 abbrev pub refused_by : {D : Type 0} → FuseDisk D → ℕ
 refused_by disk = disk.failed
 
--- While calls are passed, one is used up and the answer is the other disk's, by that disk's own plan; from then on
--- every call fails and the other disk stays as it is.
+-- While calls are passed, each uses one up and returns what the other disk returns, by that disk's
+-- own plan. From then on every call fails, and the other disk stays as it is.
 pub record FailsWhenSpent {D : Type 0} (fails_by : D → Bool → D → Type 0) (old : FuseDisk D) (ok : Bool) (new : FuseDisk D) : Type 0 where
   pub passed : 0 < passes_of old → (passes_of new + 1 ≡ passes_of old) × (refused_by new ≡ refused_by old) × fails_by (inner_of old) ok (inner_of new)
   pub spent : passes_of old ≡ 0 → (ok ≡ false) × (passes_of new ≡ 0) × (inner_of new ≡ inner_of old)

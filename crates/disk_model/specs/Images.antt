@@ -1,4 +1,4 @@
--- The order of names tells names apart, and the files of an image don't depend on each other.
+-- Names that compare as equal are equal, and the files of an image are independent of each other.
 use Rattle.std.specs.Prelude.{◌≡◌, ◌≢◌, ◌⊎◌, ℕ, Bool, true, false, cond, Some, refl}
 use Rattle.std.specs.Ordering.{nat_cmp, ordering_then}
 use Rattle.std.specs.Cmp.{IsTotalOrder, Equal-is}
@@ -14,11 +14,11 @@ use Rattle.disk_model.specs.declared.name.FileName.{FileName}
 use Rattle.disk_model.specs.Name.{kind_place, name_cmp}
 use Rattle.disk_model.specs.Disk.{File, Files, Content, Image, Fits}
 
--- the order of names is total
+-- The order of names is total.
 pub names_total : IsTotalOrder name_cmp
 names_total = then_total (on_total (λ (n : FileName). kind_place n.kind) nat_cmp_total) (then_total (on_total (λ (n : FileName). n.number) nat_cmp_total) (on_total (λ (n : FileName). n.gen_) nat_cmp_total))
 
--- two kinds have two places
+-- Kinds with equal indices are equal.
 pub exact_kinds : (a b : FileKind) → nat_cmp (kind_place a) (kind_place b) ≡ Equal → a ≡ b
 exact_kinds Root Root e = refl
 exact_kinds Map Map e = refl
@@ -26,7 +26,7 @@ exact_kinds Epoch Epoch e = refl
 exact_kinds Cache Cache e = refl
 exact_kinds a b e = cc
 
--- names that compare as equal are one
+-- Names that compare as equal are equal.
 pub exact_names : CmpEqualImpliesEq name_cmp
 exact_names a b e =
     let kinds : FileKind → FileKind → Ordering = λ x y. nat_cmp (kind_place x) (kind_place y) in
@@ -35,39 +35,39 @@ exact_names a b e =
     let make : FileKind × (ℕ × ℕ) → FileName = λ p. record { kind = p.0; number = p.1.0; gen_ = p.1.1 } in
     ap make (all (a.kind, (a.number, a.gen_)) (b.kind, (b.number, b.gen_)) e)
 
--- a name found at a name is that name
+-- A name found at a name is that name.
 pub same_name : (a b : FileName) → is_at (name_cmp a) b ≡ true → b ≡ a
 same_name a b e = sym (exact_names a b ((Equal-is (name_cmp a b)).0 e))
 
--- a name is found at itself
+-- A name is found at itself.
 pub at_itself : (name : FileName) → is_at (name_cmp name) name ≡ true
 at_itself name = (Equal-is (name_cmp name name)).1 (tied_itself names_total name)
 
--- a test that is not true is false
+-- A boolean that isn't true is false.
 pub false_from_not : (b : Bool) → (b ≡ true → ⊥) → b ≡ false
 false_from_not true isnt = absurd (isnt refl)
 false_from_not false isnt = refl
 
--- a name is not found at another one
+-- A name is not found at another one.
 pub at_other : (name other : FileName) → other ≢ name → is_at (name_cmp name) other ≡ false
 at_other name other apart = false_from_not (is_at (name_cmp name) other) (λ e. apart (same_name name other e))
 
--- a name is this one or another
+-- A name is this one or another.
 pub same_or_other : (name other : FileName) → (other ≡ name) ⊎ (other ≢ name)
 same_or_other name other = same_or_not (is_at (name_cmp name) other) refl where
   same_or_not : (b : Bool) → is_at (name_cmp name) other ≡ b → (other ≡ name) ⊎ (other ≢ name)
   same_or_not true e = inl (same_name name other e)
   same_or_not false e = inr (λ same. let back : is_at (name_cmp name) other ≡ true = rw same (at_itself name) in cc)
 
--- one file of an image in place of another
+-- An image with one file replaced.
 abbrev pub with_file : Files → FileName → File → Files
 with_file image name file other = cond (is_at (name_cmp name) other) file (image other)
 
--- an image with one file replaced has it
+-- An image with one file replaced has that file.
 pub with_file-here : (image : Files) (name : FileName) (file : File) → with_file image name file name ≡ file
 with_file-here image name file = rw (at_itself name) refl
 
--- the files of an image don't depend on each other
+-- The files of an image are independent: one can be replaced by any other that a crash may leave.
 pub Image-with_file : (k : Content) (image : Files) (name : FileName) (file : File) → Image (Some k) image → Fits (k name).sure file → Image (Some k) (with_file image name file)
 Image-with_file k image name file left fits other = cases (is_at (name_cmp name) other) refl where
   cases : (b : Bool) → is_at (name_cmp name) other ≡ b → Fits (k other).sure (cond b file (image other))

@@ -1,4 +1,4 @@
--- Laws for programs that write a disk: what a write, a sync and a failure leave.
+-- Laws for programs that write a disk: what a write, a sync and a fault leave.
 use Rattle.std.specs.Prelude.{◌≡◌, ◌⊎◌, ℕ, ◌+◌, ◌-◌, ◌<◌, ◌≤◌, min, Bool, true, false, cond, ◌&&◌, Option, Some, None, List, length, get_or, take, drop, map, Result, Ok, Err, OnOk, OnErr, refl}
 use Rattle.std.specs.List.{range_with_len}
 use Rattle.std.proofs.Common.{◌∙◌, sym, ap, subst, inl, inr, arith, ltb, leb, length-take, length-drop, length-append}
@@ -10,38 +10,39 @@ use Rattle.std.proofs.lemmas.List.{get_or-take, get_or_past}
 use Rattle.disk_model.specs.declared.name.FileName.{FileName}
 use Rattle.disk_model.specs.Disk.{File, Files, Sure, Holds, Fits, exact, write_sure, cut_sure, remove_sure, Within, Kept, Content, Image, Told, WhereTold, Unchanged, bytes_of, overlay, Synced, NotSynced, ReadsFit, IsLength, IsAtMostLength}
 
--- what a disk that tells its content tells after a call
+-- The content that a disk tells after a call, if it told one before.
 pub record After (P : Content → Content → Type 0) (old : Content) (new : Option Content) : Type 0 where
   pub content : Content
   pub told : new ≡ Some content
   pub holds : P old content
 
--- other bytes in a range, and else the same
+-- Bytes that differ in a range at most, with equal lengths.
 pub record SameOutside (at n : ℕ) (old new : List ℕ) : Type 0 where
   pub size : length new ≡ length old
   pub bytes : (i : ℕ) → (i < at) ⊎ (at + n ≤ i) → get_or new i 0 ≡ get_or old i 0
 
--- the same of two files
+-- Files that differ in a range at most: both missing, or both there with equal lengths.
 abbrev pub TornFile : ℕ → ℕ → File → File → Type 0
 TornFile at n None None = Unit {0}
 TornFile at n (Some old) (Some new) = SameOutside at n old new
 TornFile at n None (Some new) = ⊥
 TornFile at n (Some old) None = ⊥
 
--- This file after a write inside it is a file from before the write, with other bytes in the range.
+-- A file after a write inside it is a file from before the write, with other bytes in the range.
 pub record Origin (at n : ℕ) (s : Sure) (image : File) : Type 0 where
   pub file : File
   pub fits : Fits s file
   pub torn : TornFile at n file image
 
--- This file after a write has the front of a file from before the write.
+-- A file after a write starts with the same bytes, up to the offset, as a file from before the
+-- write.
 pub record FrontOrigin (at : ℕ) (s : Sure) (image : File) : Type 0 where
   pub file : File
   pub fits : Fits s file
   pub same : take at (bytes_of image) ≡ take at (bytes_of file)
   pub long : at ≤ length (bytes_of file) → at ≤ length (bytes_of image)
 
--- what is surer allows no more
+-- A file that the first allows, the second allows too.
 pub Fits-Within : (s t : Sure) (file : File) → Within s t → Fits s file → Fits t file
 Fits-Within s t None w fits = w.gone fits
 Fits-Within s t (Some bytes) w fits = record {
@@ -54,11 +55,11 @@ Fits-Within s t (Some bytes) w fits = record {
       fits.outside i shorter o.0 ∙ o.1;
 }
 
--- a thing is as sure as itself
+-- `Within` is reflexive.
 pub Within-refl : (s : Sure) → Within s s
 Within-refl s = record { there = λ e. e; gone = λ e. e; least = omega arith; greatest = omega arith; outside = λ i below out. (out, refl) }
 
--- and the order is transitive
+-- `Within` is transitive.
 pub Within-trans : (s t u : Sure) → Within s t → Within t u → Within s u
 Within-trans s t u p q = record {
   there = λ e. q.there (p.there e);
@@ -72,7 +73,7 @@ Within-trans s t u p q = record {
       (second.0, second.1 ∙ first.1);
 }
 
--- it stays so after a write
+-- A write preserves `Within`.
 pub write_within : (at n : ℕ) (seen : File) (s t : Sure) → Within s t → Within (write_sure at n seen s) (write_sure at n seen t)
 write_within at n None s t w = record {
   there = λ e. refl;
@@ -89,7 +90,7 @@ write_within at n (Some bytes) s t w = record {
   outside = λ i below out. let o = w.outside i below out.1 in ((out.0, o.0), o.1);
 }
 
--- and after a cut
+-- A cut preserves `Within`.
 pub cut_within : (n : ℕ) (s t : Sure) → Within s t → Within (cut_sure n s) (cut_sure n t)
 cut_within n s t w = record {
   there = w.there;
@@ -99,34 +100,34 @@ cut_within n s t w = record {
   outside = λ i below out. let shorter : i < t.least = omega (arith, below) in w.outside i shorter out;
 }
 
--- and after a removal
+-- A removal preserves `Within`.
 pub remove_within : (s t : Sure) → Within s t → Within (remove_sure s) (remove_sure t)
 remove_within s t w = record { there = w.there; gone = λ e. refl; least = w.least; greatest = w.greatest; outside = w.outside }
 
--- a write that failed may have done nothing
+-- A write that failed may have done nothing.
 pub write_wider : (at n : ℕ) (seen : File) (s : Sure) → Within s (write_sure at n seen s)
 write_wider at n None s = record { there = λ e. refl; gone = λ e. e; least = omega arith; greatest = omega arith; outside = λ i below out. absurd (omega (arith, below)) }
 write_wider at n (Some bytes) s = record { there = λ e. refl; gone = λ e. e; least = omega arith; greatest = omega arith; outside = λ i below out. (out.1, refl) }
 
--- nor need a cut
+-- A cut that failed may have done nothing.
 pub cut_wider : (n : ℕ) (s : Sure) → Within s (cut_sure n s)
 cut_wider n s = record { there = λ e. e; gone = λ e. e; least = omega arith; greatest = omega arith; outside = λ i below out. (out, refl) }
 
--- nor a removal
+-- A removal that failed may have done nothing.
 pub remove_wider : (s : Sure) → Within s (remove_sure s)
 remove_wider s = record { there = λ e. e; gone = λ e. refl; least = omega arith; greatest = omega arith; outside = λ i below out. (out, refl) }
 
--- a failed sync may change nothing
+-- A failed sync may change nothing.
 pub NotSynced-same : (content : Option Content) → ReadsFit content → Told NotSynced content content
 NotSynced-same None fit = tt
 NotSynced-same (Some k) fit = record { seen = fit k refl; crash = λ name. Within-refl (k name).sure }
 
--- where a disk told its content before a call, it tells one after it
+-- A disk that told its content before a call tells one after it.
 pub told_after : (P : Content → Content → Type 0) (old new : Option Content) (k : Content) → old ≡ Some k → Told P old new → After P k new
 told_after P old None k is told = let bad : Told P (Some k) None = subst (λ (o : Option Content). Told P o None) is told in absurd bad
 told_after P old (Some m) k is told = record { content = m; told = refl; holds = subst (λ (o : Option Content). Told P o (Some m)) is told }
 
--- a file that is on the disk as it reads has one image
+-- A file that is on the disk as it reads has one image, itself.
 pub Fits-exact : (seen image : File) → Fits (exact seen) image → image ≡ seen
 Fits-exact None None fits = refl
 Fits-exact None (Some bytes) fits = let wrong : false ≡ true = fits.there in cc
@@ -137,41 +138,42 @@ Fits-exact (Some seen) (Some bytes) fits =
     let size : length bytes ≡ length seen = omega arith in
     ap (λ (b : List ℕ). Some b) (same_number_lists bytes seen size (λ i below. fits.outside i (omega (arith, size, below)) tt))
 
--- and that image is one
+-- A file that is on the disk as it reads is an image of itself.
 pub exact-fits : (seen : File) → Fits (exact seen) seen
 exact-fits None = refl
 exact-fits (Some seen) = record { there = refl; no_shorter = omega arith; no_longer = omega arith; outside = λ i below out. refl }
 
--- a place is in a range
+-- Whether an offset is in a range.
 abbrev pub is_in : ℕ → ℕ → ℕ → Bool
 is_in at n i = leb at i && ltb i (at + n)
 
--- what is chosen in the range
+-- In the range the first value is chosen.
 pub chosen_in : (at n i a b : ℕ) → at ≤ i → i < at + n → cond (is_in at n i) a b ≡ a
 chosen_in at n i a b low high = grind (arith, nat_tests)
 
--- and outside it
+-- Outside the range the second value is chosen.
 pub chosen_out : (at n i a b : ℕ) → (i < at) ⊎ (at + n ≤ i) → cond (is_in at n i) a b ≡ b
 chosen_out at n i a b (inl low) = grind (arith, nat_tests)
 chosen_out at n i a b (inr high) = grind (arith, nat_tests)
 
--- a place is in a range or outside it
+-- An offset is in a range or outside it.
 pub in_or_out : (at n i : ℕ) → ((at ≤ i) × (i < at + n)) ⊎ ((i < at) ⊎ (at + n ≤ i))
 in_or_out at n i = elim (cases_lt i at) [ inl low ↦ inr (inl low) | inr above ↦ elim (cases_lt i (at + n)) [ inl below ↦ inl (above, below) | inr high ↦ inr (inr high) ] ]
 
--- bytes from before a write: those of the last sync in its range, and else those from after it
+-- Bytes from before a write: those of the last sync in its range, and elsewhere those from after
+-- it.
 abbrev pub unwritten : ℕ → ℕ → Sure → List ℕ → List ℕ
 unwritten at n s bytes = map (λ i. cond (is_in at n i) (get_or s.bytes i 0) (get_or bytes i 0)) (range_with_len 0 (min (length bytes) s.greatest))
 
--- their length
+-- The length of these bytes.
 pub unwritten_length : (at n : ℕ) (s : Sure) (bytes : List ℕ) → length (unwritten at n s bytes) ≡ min (length bytes) s.greatest
 unwritten_length at n s bytes = length-map-range_with_len (λ i. cond (is_in at n i) (get_or s.bytes i 0) (get_or bytes i 0)) 0 (min (length bytes) s.greatest)
 
--- the byte at a place
+-- The byte at an offset.
 pub unwritten_at : (at n : ℕ) (s : Sure) (bytes : List ℕ) (i : ℕ) → i < min (length bytes) s.greatest → get_or (unwritten at n s bytes) i 0 ≡ cond (is_in at n i) (get_or s.bytes i 0) (get_or bytes i 0)
 unwritten_at at n s bytes i below = get_or-map-range_with_len (λ i. cond (is_in at n i) (get_or s.bytes i 0) (get_or bytes i 0)) 0 (min (length bytes) s.greatest) i i 0 below (omega arith)
 
--- they are bytes that a crash before the write might have left
+-- A crash before the write might have left these bytes.
 pub unwritten_fits : (at n : ℕ) (s : Sure) (seen bytes : List ℕ) → Holds s seen → Holds (write_sure at n (Some seen) s) bytes → Holds s (unwritten at n s bytes)
 unwritten_fits at n s seen bytes h w =
     let size = unwritten_length at n s bytes in
@@ -191,7 +193,7 @@ unwritten_fits at n s seen bytes h w =
           ];
     }
 
--- each file after a write inside it is a file from before, with other bytes in the range
+-- Each file after a write inside it is a file from before, with other bytes in the range.
 pub write_origin : (at n : ℕ) (s : Sure) (seen : List ℕ) (image : File) → Holds s seen → at + n ≤ length seen → Fits (write_sure at n (Some seen) s) image → Origin at n s image
 write_origin at n s seen None h inside fits = record { file = None; fits = fits; torn = tt }
 write_origin at n s seen (Some bytes) h inside fits =
@@ -212,7 +214,8 @@ write_origin at n s seen (Some bytes) h inside fits =
       };
     }
 
--- each file after a write at a place or behind it has the front of a file from before
+-- Each file after a write at an offset or after it starts with the same bytes as a file from
+-- before.
 pub write_front : (at n : ℕ) (s : Sure) (seen image : File) → Fits s seen → at ≤ length (bytes_of seen) → Fits (write_sure at n seen s) image → FrontOrigin at s image
 write_front at n s seen None h behind fits = record { file = None; fits = fits; same = refl; long = λ l. l }
 write_front at n s None (Some bytes) h behind fits =
@@ -233,37 +236,37 @@ write_front at n s (Some seen) (Some bytes) h behind fits =
       long = λ l. omega (arith, size, l);
     }
 
--- the length after a write
+-- The length after a write.
 pub overlay_length : (at : ℕ) (bytes old : List ℕ) → length (overlay at bytes old) ≡ min at (length old) + length bytes + (length old - (at + length bytes))
 overlay_length at bytes old = omega (arith, length-append {A = ℕ}, length-take {A = ℕ}, length-drop {A = ℕ})
 
--- a place that a write leaves alone keeps its byte
+-- A write keeps each byte outside its range.
 pub overlay_kept : (at : ℕ) (bytes old : List ℕ) (i : ℕ) → at ≤ length old → (i < at) ⊎ (at + length bytes ≤ i) → get_or (overlay at bytes old) i 0 ≡ get_or old i 0
 overlay_kept at bytes old i inside (inl low) = grind (arith, common_steps)
 overlay_kept at bytes old i inside (inr high) = grind (arith, common_steps)
 
--- a write inside a file keeps its length
+-- A write inside a file keeps the file's length.
 pub overlay-size : (at : ℕ) (bytes old : List ℕ) → at + length bytes ≤ length old → length (overlay at bytes old) ≡ length old
 overlay-size at bytes old inside = omega (arith, overlay_length at bytes old)
 
--- it puts the bytes into the range
+-- A write puts the bytes into its range.
 pub overlay-inside : (at : ℕ) (bytes old : List ℕ) → at ≤ length old → take (length bytes) (drop at (overlay at bytes old)) ≡ bytes
 overlay-inside at bytes old inside = grind (arith, common_steps)
 
--- and the front stays
+-- A write keeps the bytes before its offset.
 pub overlay-front : (at : ℕ) (bytes old : List ℕ) → at ≤ length old → take at (overlay at bytes old) ≡ take at old
 overlay-front at bytes old inside = grind (arith, common_steps)
 
--- a write inside a file is a torn one too
+-- A write inside a file changes at most its range.
 pub overlay-torn : (at : ℕ) (bytes old : List ℕ) → at + length bytes ≤ length old → SameOutside at (length bytes) old (overlay at bytes old)
 overlay-torn at bytes old inside = record { size = overlay-size at bytes old inside; bytes = λ i apart. overlay_kept at bytes old i (omega arith) apart }
 
--- after a sync that answers Ok a crash leaves what reads give
+-- After a sync that returns `Ok` a crash leaves what reads give.
 pub synced_image : (old new : Content) (image : Files) → Synced old new → Image (Some new) image → (name : FileName) → image name ≡ (new name).seen
 synced_image old new image synced left name =
     Fits-exact (old name).seen (image name) (Fits-Within (new name).sure (exact (old name).seen) (image name) (synced.crash name) (left name)) ∙ sym (synced.seen name)
 
--- whatever it answers, a sync adds no image
+-- A sync adds no image, whatever it returns.
 pub sync_image : {T E : Type 0} (result : Result T E) (old new : Option Content) (image : Files) → ReadsFit old → OnOk result (Told Synced old new) → OnErr result (Told NotSynced old new) → Image new image → Image old image
 sync_image (Ok v) None None image fit ok err left = tt
 sync_image (Ok v) None (Some k) image fit ok err left = absurd ok
@@ -277,11 +280,11 @@ sync_image (Err e) None (Some k) image fit ok err left = absurd err
 sync_image (Err e) (Some k) None image fit ok err left = absurd err
 sync_image (Err e) (Some old) (Some new) image fit ok err left = λ name. Fits-Within (new name).sure (old name).sure (image name) (err.crash name) (left name)
 
--- a disk that tells nothing
+-- A disk that doesn't tell its content reads as one of its images.
 pub untold_fits : ReadsFit None
 untold_fits k is name = let wrong : None ≡ Some k = is in cc
 
--- a length that was asked for stays until the disk changes
+-- A length that was read stays until the disk changes.
 pub IsLength-unchanged : (name : FileName) (n : ℕ) (old new : Option Content) → WhereTold (IsLength name n) old → Told Unchanged old new → WhereTold (IsLength name n) new
 IsLength-unchanged name n None None is same = tt
 IsLength-unchanged name n None (Some m) is same = absurd same
@@ -290,7 +293,7 @@ IsLength-unchanged name n (Some k) (Some m) is same =
     let P : Kept → Type 0 = λ kept. n ≡ length (bytes_of kept.seen) in
     subst P (sym (same name)) is
 
--- and so does each place up to it
+-- So does each offset up to it.
 pub IsAtMostLength-unchanged : (name : FileName) (n place : ℕ) (old new : Option Content) → WhereTold (IsLength name n) old → Told Unchanged old new → place ≤ n → WhereTold (IsAtMostLength name place) new
 IsAtMostLength-unchanged name n place None None is same below = tt
 IsAtMostLength-unchanged name n place None (Some m) is same below = absurd same

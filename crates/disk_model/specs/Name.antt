@@ -6,13 +6,13 @@ use Rattle.disk_model.specs.declared.name.FileKind.{FileKind}
 use Rattle.disk_model.specs.declared.name.FileKind.TheVariants.{Root, Map, Epoch, Cache}
 use Rattle.disk_model.specs.declared.name.FileName.{FileName}
 
--- the place of a kind among the kinds, as they are declared
+-- The index of a kind among the kinds, in the order of their declaration.
 abbrev pub kind_place : FileKind → ℕ
 kind_place Root = 0
 kind_place Map = 1
 kind_place Epoch = 2
 kind_place Cache = 3
 
--- how two names compare
+-- How two names compare.
 abbrev pub name_cmp : FileName → FileName → Ordering
 name_cmp a b = ordering_then (nat_cmp (kind_place a.kind) (kind_place b.kind)) (ordering_then (nat_cmp a.number b.number) (nat_cmp a.gen_ b.gen_))

@@ -12,61 +12,61 @@ use Rattle.disk_model.specs.declared.change.Change.TheVariants.{Write, Cut, Remo
 use Rattle.disk_model.specs.Disk.{File, Files, Image, Kept, Content, Elapses, exact, bytes_of, overlay, write_sure, cut_sure, remove_sure, cut_file}
 use Rattle.disk_model.specs.Name.{name_cmp}
 
--- the file of a name among files that are kept in a map
+-- The file of a name in a map of files.
 abbrev pub file_at : BTreeMap FileName (Vec ℕ Global) → Files
 file_at files name = option_map (λ v. v.items) (get name_cmp files name)
 
--- one file becomes this, and the others stay
+-- One file is replaced, and the others stay.
 abbrev pub SetsFile : BTreeMap FileName (Vec ℕ Global) → BTreeMap FileName (Vec ℕ Global) → FileName → File → Type 0
 SetsFile old new name file = (other : FileName) → file_at new other ≡ cond (is_at (name_cmp name) other) file (file_at old other)
 
--- no file changes
+-- No file changes.
 abbrev pub SameFiles : BTreeMap FileName (Vec ℕ Global) → BTreeMap FileName (Vec ℕ Global) → Type 0
 SameFiles old new = (other : FileName) → file_at new other ≡ file_at old other
 
--- what a change makes of a file, as it reads and as it is sure
+-- A file as it reads, and what a crash may leave of it, after a change.
 abbrev pub step : FileName → Kept → Change → Kept
 step name k (Write other place bytes) = cond (is_at (name_cmp other) name) (record { seen = Some (overlay place bytes.items (bytes_of k.seen)); sure = write_sure place (length bytes.items) k.seen k.sure }) k
 step name k (Cut other n) = cond (is_at (name_cmp other) name) (record { seen = cut_file n k.seen; sure = cut_sure n k.sure }) k
 step name k (Remove other) = cond (is_at (name_cmp other) name) (record { seen = None; sure = remove_sure k.sure }) k
 step name k Sync = record { seen = k.seen; sure = exact k.seen }
 
--- what all changes make of it
+-- The same after all changes.
 abbrev pub replay : FileName → Kept → List Change → Kept
 replay name k [] = k
 replay name k (change ∷ changes) = replay name (step name k change) changes
 
--- a file that is on the disk as it reads
+-- A file that is on the disk as it reads.
 abbrev pub at_rest : File → Kept
 at_rest file = record { seen = file; sure = exact file }
 
--- what a disk holds that began with these files and has made these changes
+-- What a disk holds that began with these files and made these changes.
 unfoldable pub content_of : Files → List Change → Content
 content_of base changes name = replay name (at_rest (base name)) changes
 
--- a crash at some moment from t on, a moment being a number of changes, may have left these files
+-- A crash at some moment from t on may have left these files; a moment is a number of changes.
 pub record LeftSince (base : Files) (changes : List Change) (t : ℕ) (image : Files) : Type 0 where
   pub at : ℕ
   pub from : t ≤ at
   pub to : at ≤ length changes
   pub left : Image (Some (content_of base (take at changes))) image
 
--- one change more at the end of the record
+-- One more change at the end of the record is one more step.
 pub replay_push : (name : FileName) (k : Kept) (changes : List Change) (change : Change) → replay name k (changes ++ change ∷ []) ≡ step name (replay name k changes) change
 replay_push name k [] change = refl
 replay_push name k (first ∷ changes) change = replay_push name (step name k first) changes change
 
--- the same of all files
+-- The same for all files.
 pub content_of-push : (base : Files) (changes : List Change) (change : Change) (name : FileName) → content_of base (changes ++ change ∷ []) name ≡ step name (content_of base changes name) change
 unfolding content_of
 content_of-push base changes change name = replay_push name (at_rest (base name)) changes change
 
--- without changes
+-- Without changes each file is at rest.
 pub content_of-none : (base : Files) (name : FileName) → content_of base [] name ≡ at_rest (base name)
 unfolding content_of
 content_of-none base name = refl
 
--- this moment counts
+-- What a crash may leave now is one of the images since each earlier moment.
 pub record_counts_now : (base : Files) (changes : List Change) (t : ℕ) (image : Files) → t ≤ length changes → Image (Some (content_of base changes)) image → LeftSince base changes t image
 record_counts_now base changes t image le now = record {
   at = length changes;
@@ -75,18 +75,18 @@ record_counts_now base changes t image le now = record {
   left = let P : List Change → Type 0 = λ cs. Image (Some (content_of base cs)) image in subst P (sym (take_all (length changes) changes (omega arith))) now;
 }
 
--- since this moment there is no other
+-- An image since this moment is one that a crash may leave now.
 pub record_only_now : (base : Files) (changes : List Change) (image : Files) → LeftSince base changes (length changes) image → Image (Some (content_of base changes)) image
 record_only_now base changes image since =
     let from = since.from in
     let P : List Change → Type 0 = λ cs. Image (Some (content_of base cs)) image in
     subst P (take_all since.at changes from) since.left
 
--- time that stands still
+-- Without a change time stands still.
 pub elapses_same : (base : Files) (changes : List Change) → Elapses (length changes) (length changes) (LeftSince base changes) (LeftSince base changes) (Some (content_of base changes))
 elapses_same base changes = record { later = omega arith; nothing_else = λ t image le since. inl since; keeps = λ t image le past. past }
 
--- time that goes on by one change
+-- One change advances time by one.
 pub elapses_push : (base : Files) (changes : List Change) (change : Change) → Elapses (length changes) (length (changes ++ change ∷ [])) (LeftSince base changes) (LeftSince base (changes ++ change ∷ [])) (Some (content_of base (changes ++ change ∷ [])))
 elapses_push base changes change =
     let more = changes ++ change ∷ [] in

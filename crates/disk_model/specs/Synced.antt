@@ -5,27 +5,29 @@ use Rattle.disk_model.specs.declared.name.FileName.{FileName}
 use Rattle.disk_model.specs.Disk.{File, Files, Kept, Content, Image, Told, OneFile, Fits, Within, exact, write_sure, bytes_of, overlay, Wrote, Tore, Synced, ReadsFit}
 use Rattle.disk_model.specs.Laws.{Origin, FrontOrigin, Fits-Within, Fits-exact, write_wider, write_origin, write_front}
 
--- during the write and the sync: this file as a crash in the write may leave it, and each other file as before
+-- During the write and the sync a crash leaves this file as a crash in the write may, and each
+-- other file as before.
 pub record IsWriting (name : FileName) (at n : ℕ) (k : Content) (image : Files) : Type 0 where
   pub here : Fits (write_sure at n (k name).seen (k name).sure) (image name)
   pub elsewhere : (other : FileName) → other ≢ name → Fits (k other).sure (image other)
 
--- the same, where the disk tells its content
+-- The same, if the disk tells its content.
 abbrev pub Writing : FileName → ℕ → ℕ → Option Content → Files → Type 0
 Writing name at n None image = Unit {0}
 Writing name at n (Some k) image = IsWriting name at n k image
 
--- what reads give is on the disk, and a crash leaves nothing else
+-- What reads give is on the disk, and a crash leaves nothing else.
 abbrev pub IsSettled : Content → Type 0
 IsSettled k = (name : FileName) → Within (k name).sure (exact (k name).seen)
 
--- after them: the bytes stand in this file, no other file reads otherwise, and all of it is on the disk
+-- After the write and the sync this file has the bytes, every other file reads as before, and all
+-- of it is on the disk.
 pub record IsWritten (name : FileName) (at : ℕ) (bytes : List ℕ) (old new : Content) : Type 0 where
   pub here : (new name).seen ≡ Some (overlay at bytes (bytes_of (old name).seen))
   pub elsewhere : (other : FileName) → other ≢ name → (new other).seen ≡ (old other).seen
   pub settled : IsSettled new
 
--- before the write
+-- An image from before the write is one during the write.
 pub writing_at_start : (name : FileName) (at n : ℕ) (content : Option Content) (image : Files) → Image content image → Writing name at n content image
 writing_at_start name at n None image left = tt
 writing_at_start name at n (Some k) image left = record {
@@ -33,7 +35,7 @@ writing_at_start name at n (Some k) image left = record {
   elsewhere = λ other apart. left other;
 }
 
--- after a write that answers Ok
+-- An image after a write that returns `Ok` is one during the write.
 pub writing_wrote : (name : FileName) (at : ℕ) (bytes : List ℕ) (old new : Option Content) (image : Files) → Told (OneFile name (Wrote at bytes)) old new → Image new image → Writing name at (length bytes) old image
 writing_wrote name at bytes None None image told left = tt
 writing_wrote name at bytes None (Some m) image told left = absurd told
@@ -43,7 +45,7 @@ writing_wrote name at bytes (Some k) (Some m) image told left = record {
   elsewhere = λ other apart. let P : Kept → Type 0 = λ kept. Fits kept.sure (image other) in subst P (told.elsewhere other apart) (left other);
 }
 
--- after one that fails
+-- An image after a write that fails is one during the write.
 pub writing_tore : (name : FileName) (at n : ℕ) (old new : Option Content) (image : Files) → Told (OneFile name (Tore at n)) old new → Image new image → Writing name at n old image
 writing_tore name at n None None image told left = tt
 writing_tore name at n None (Some m) image told left = absurd told
@@ -53,7 +55,7 @@ writing_tore name at n (Some k) (Some m) image told left = record {
   elsewhere = λ other apart. let P : Kept → Type 0 = λ kept. Fits kept.sure (image other) in subst P (told.elsewhere other apart) (left other);
 }
 
--- after a sync behind it that answers Ok
+-- A write and a sync after it that both return `Ok` leave the range written and synced.
 pub written_synced : (name : FileName) (at : ℕ) (bytes : List ℕ) (old mid new : Option Content) → Told (OneFile name (Wrote at bytes)) old mid → Told Synced mid new → Told (IsWritten name at bytes) old new
 written_synced name at bytes None None None wrote synced = tt
 written_synced name at bytes None None (Some n) wrote synced = absurd synced
@@ -66,17 +68,18 @@ written_synced name at bytes (Some k) (Some m) (Some n) wrote synced = record {
   settled = λ other. let P : File → Type 0 = λ file. Within (n other).sure (exact file) in subst P (sym (synced.seen other)) (synced.crash other);
 }
 
--- a write inside a file leaves a file from before it, with other bytes in the range
+-- A write inside a file leaves a file from before it, with other bytes in the range.
 pub writing_inside : (name : FileName) (at n : ℕ) (k : Content) (image : Files) → ReadsFit (Some k) → at + n ≤ length (bytes_of (k name).seen) → 0 < n → IsWriting name at n k image → Origin at n (k name).sure (image name)
 writing_inside name at n k image fit inside some w = of_seen (k name).seen (fit k refl name) inside w.here where
   of_seen : (seen : File) → Fits (k name).sure seen → at + n ≤ length (bytes_of seen) → Fits (write_sure at n seen (k name).sure) (image name) → Origin at n (k name).sure (image name)
   of_seen None fits within here = absurd (omega (arith, within, some))
   of_seen (Some seen) fits within here = write_origin at n (k name).sure seen (image name) fits within here
 
--- a write at a place or behind it leaves the front of a file from before it
+-- A write at an offset or after it leaves a file that starts with the same bytes as one from before
+-- it.
 pub writing_behind : (name : FileName) (at n : ℕ) (k : Content) (image : Files) → ReadsFit (Some k) → at ≤ length (bytes_of (k name).seen) → IsWriting name at n k image → FrontOrigin at (k name).sure (image name)
 writing_behind name at n k image fit behind w = write_front at n (k name).sure (k name).seen (image name) (fit k refl name) behind w.here
 
--- what is settled is left as it reads
+-- A crash leaves settled files as they read.
 pub settled_image : (k : Content) (image : Files) → IsSettled k → Image (Some k) image → (name : FileName) → image name ≡ (k name).seen
 settled_image k image settled left name = Fits-exact (k name).seen (image name) (Fits-Within (k name).sure (exact (k name).seen) (image name) (settled name) (left name))

@@ -1,4 +1,4 @@
-//! Changes done again to a copy of files.
+//! Replays recorded changes on a copy of files.
 ghost use Rattle.std.specs.Prelude.{◌≡◌, Some, OnOk};
 ghost use Rattle.disk_model.specs.declared.name.FileName.{FileName};
 ghost use Rattle.disk_model.specs.Disk.{bytes_of, overlay};
@@ -10,7 +10,7 @@ use crate::change::Change;
 use crate::files::{Contents, drop_file, put, trim};
 use std::alloc::{AllocError, Global};
 
-/// How many changes there are up to the last sync, 0 where there is none.
+/// Returns the number of changes up to and including the last sync, or 0 if there is none.
 pub fn last_sync(changes: &[Change]) -> usize
     ensures { IsLastSync changes.now result }
 {
@@ -24,7 +24,9 @@ pub fn last_sync(changes: &[Change]) -> usize
     0
 }
 
-/// How many of so many changes since the last sync a pick does.
+/// Returns how many of `count` changes since the last sync a pick applies.
+///
+/// Pick 0 applies none, pick 3 the first half, rounded down, and any other pick all.
 pub fn kept(pick: u64, count: usize) -> usize
     ensures { result ≡ picked_count pick count }
 {
@@ -35,7 +37,7 @@ pub fn kept(pick: u64, count: usize) -> usize
     }
 }
 
-/// Writes bytes to a file, or as many of the value 255.
+/// Writes bytes to a file, or as many bytes of the value 255 if `fill` is set.
 fn put_filled(
     alloc: Global,
     files: &mut Contents,
@@ -53,7 +55,9 @@ fn put_filled(
     put(alloc, files, name, place, bytes)
 }
 
-/// Does a change to files, with its bytes or with as many of the value 255.
+/// Applies one change to files.
+///
+/// With `fill` a write puts bytes of the value 255 in place of its own.
 fn apply(alloc: Global, files: &mut Contents, change: &Change, fill: bool) -> Result<(), AllocError>
     ensures { OnOk result ((name : FileName) → file_at files.new name ≡ apply_file fill name (file_at files.old name) change.now) }
 {
@@ -73,7 +77,9 @@ fn apply(alloc: Global, files: &mut Contents, change: &Change, fill: bool) -> Re
     }
 }
 
-/// Does changes to files, one after the other.
+/// Applies changes to files, in order.
+///
+/// With `fill` each write puts bytes of the value 255 in place of its own.
 pub fn apply_all(
     alloc: Global,
     files: &mut Contents,

@@ -1,14 +1,14 @@
-//! The changes that a disk in memory keeps a record of.
+//! The changes that a disk in memory records.
 use crate::FileName;
 
-/// A call that changed a disk, or brought what was changed to the disk.
+/// A call that changed a disk, or a sync.
 #[derive(Drop)]
 pub enum Change {
     /// Bytes were written to a file.
     Write {
         /// The file.
         name: FileName,
-        /// Where the bytes stand in it.
+        /// The offset of the bytes in the file.
         place: u64,
         /// The bytes.
         bytes: Vec<u8>,
@@ -17,14 +17,14 @@ pub enum Change {
     Cut {
         /// The file.
         name: FileName,
-        /// Its length since.
+        /// Its new length in bytes.
         length: u64,
     },
-    /// A file was taken away.
+    /// A file was removed.
     Remove {
         /// The file.
         name: FileName,
     },
-    /// All that was done was brought to the disk.
+    /// Every change so far was synced.
     Sync,
 }

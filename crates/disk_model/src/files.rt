@@ -1,4 +1,4 @@
-//! Files kept in memory, by their names.
+//! Files in memory, by their names.
 ghost use Rattle.std.specs.Prelude.{◌≡◌, ◌+◌, ◌-◌, ℕ, Some, None, min, take, drop, length, ◌++◌, slice_get, IfOk, OnOk, OnErr};
 ghost use Rattle.std.specs.BTreeMap.{keys, IsOrdered};
 ghost use Rattle.disk_model.specs.declared.name.FileName.{FileName};
@@ -9,10 +9,12 @@ use crate::FileName;
 use std::alloc::{AllocError, Global};
 use std::collections::BTreeMap;
 
-/// The bytes of each file that is there.
+/// The bytes of each file.
 pub type Contents = BTreeMap<FileName, Vec<u8>>;
 
-/// Writes bytes over those of a file, and past its end.
+/// Writes bytes at an offset of a file, over the old ones and past its end.
+///
+/// The offset counts as the file's end if it is greater. An error leaves the file unchanged.
 fn patch(file: &mut Vec<u8>, place: u64, bytes: &[u8]) -> Result<(), AllocError>
     ensures ok { OnOk result (file.new.items ≡ overlay place bytes.now file.old.items) }
     ensures err { OnErr result (file.new.items ≡ file.old.items) }
@@ -30,7 +32,9 @@ fn patch(file: &mut Vec<u8>, place: u64, bytes: &[u8]) -> Result<(), AllocError>
     Ok(())
 }
 
-/// Writes to a file by its name, or makes it.
+/// Writes bytes at an offset of the file with a name, and creates a missing file.
+///
+/// An error leaves every file unchanged.
 pub fn put(
     alloc: Global,
     files: &mut Contents,
@@ -51,7 +55,7 @@ pub fn put(
     }
 }
 
-/// Cuts a file to a length, where it is there and longer.
+/// Cuts a file to a length. A missing file and one that isn't longer stay as they are.
 pub fn trim(files: &mut Contents, name: FileName, length: u64)
     ensures { SetsFile files.old files.new name (cut_file length (file_at files.old name)) }
 {
@@ -60,14 +64,14 @@ pub fn trim(files: &mut Contents, name: FileName, length: u64)
     }
 }
 
-/// Takes a file away, where it is there.
+/// Removes a file. A missing file stays missing.
 pub fn drop_file(files: &mut Contents, name: FileName)
     ensures { SetsFile files.old files.new name None }
 {
     files.remove(&name);
 }
 
-/// The name at a place, in the order of names.
+/// Returns the name at an index, from 0, in the order of names.
 pub fn name_in_order(files: &Contents, index: u64) -> Option<FileName>
     ensures name { result ≡ slice_get (keys files.now) index }
     ensures ordered { IsOrdered ⟦<FileName as Ord>⟧.cmp files.now }
@@ -75,7 +79,9 @@ pub fn name_in_order(files: &Contents, index: u64) -> Option<FileName>
     files.keys().nth(index as usize).copied()
 }
 
-/// Copies the bytes from a place on to the front of a buffer, and answers how many.
+/// Copies the bytes from an offset on to the front of a buffer, and returns their number.
+///
+/// Copies as many bytes as the buffer takes, fewer if the file ends before, and none past its end.
 pub fn copy_out(file: &[u8], place: u64, into: &mut [u8]) -> usize
     ensures count { result ≡ min (length into.old) (length file.now - place) }
     ensures bytes { into.new ≡ take result (drop place file.now) ++ drop result into.old }
@@ -89,7 +95,7 @@ pub fn copy_out(file: &[u8], place: u64, into: &mut [u8]) -> usize
     count
 }
 
-/// The same files once more.
+/// Returns a copy of the files.
 pub fn copy(files: &Contents) -> Result<Contents, AllocError>
     ensures { IfOk result (SameFiles files.now) }
 {

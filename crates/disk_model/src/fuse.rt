@@ -1,9 +1,11 @@
-//! A disk that passes some calls to another one, and then fails every one.
+//! A disk that passes a number of calls to another disk and then fails every call.
 ghost use Rattle.std.specs.Prelude.{◌+◌, ◌≡◌};
 
 use crate::{Disk, DiskFault, FileName};
 
-/// A disk that passes a number of calls to another one, and then fails every one without passing it.
+/// A disk that passes a number of calls to another disk and then fails every call.
+///
+/// A call that fails here isn't passed.
 #[derive(Drop)]
 pub struct FuseDisk<D: Disk> {
     inner: D,
@@ -16,7 +18,7 @@ impl<D: Disk> FuseDisk<D> {
     ghost use Rattle.arch_base.specs.Counts.{Rose};
     ghost use Rattle.disk_model.specs.Fuse.{inner_of, passes_of, refused_by};
 
-    /// A disk that passes so many calls to the other one.
+    /// Creates a disk that passes `passes` calls to `inner`.
     pub fn new(inner: D, passes: u64) -> Self
         ensures inner { inner_of result ≡ inner }
         ensures passes { passes_of result ≡ passes }
@@ -28,7 +30,7 @@ impl<D: Disk> FuseDisk<D> {
         }
     }
 
-    /// The other disk, as the calls that were passed left it.
+    /// Returns the other disk, as the passed calls left it.
     pub fn into_inner(self) -> D
         ensures { result ≡ inner_of self }
     {
@@ -40,7 +42,7 @@ impl<D: Disk> FuseDisk<D> {
         inner
     }
 
-    /// Counts a call, and answers whether it is to fail unpassed.
+    /// Counts a call, and returns whether it fails without being passed.
     fn is_spent(&mut self) -> bool
         ensures inner { inner_of self.new ≡ inner_of self.old }
         ensures passed { result ≡ false → (passes_of self.new + 1 ≡ passes_of self.old) × (refused_by self.new ≡ refused_by self.old) }

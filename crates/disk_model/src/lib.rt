@@ -1,4 +1,4 @@
-//! A disk of named files that says what a crash may leave, and two disks to try programs on.
+//! A disk of named files that says what a crash may leave, and two disks for tests.
 #![tactic(auto)]
 
 mod again;

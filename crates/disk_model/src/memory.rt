@@ -1,4 +1,4 @@
-//! A disk in memory, which keeps a record of its changes.
+//! A disk in memory that records its changes.
 ghost use Rattle.std.specs.Prelude.{◌≡◌, ℕ, Some, length};
 ghost use Rattle.disk_model.specs.declared.name.FileName.{FileName};
 ghost use Rattle.disk_model.specs.Record.{file_at, content_of, LeftSince, record_counts_now, record_only_now};
@@ -12,7 +12,7 @@ use crate::{Disk, DiskFault, FileName};
 use arch_base::{NoMemory, Numbers};
 use std::alloc::{AllocError, Global};
 
-/// A disk in memory. It keeps a record of its changes, and fails the calls that it was made to fail.
+/// A disk in memory that records its changes and fails the calls that it was told to fail.
 #[derive(Drop)]
 pub struct MemDisk {
     alloc: Global,
@@ -30,7 +30,9 @@ impl MemDisk {
     ghost use Rattle.disk_model.specs.Applied.{IsPicked};
     ghost use Rattle.disk_model.specs.Memory.{base_of, files_of, changes_of, content_then, plan_of, starved_of, failed_of, reads_of, no_files, IsFresh};
 
-    /// A disk without files, of which those calls fail whose ordinal, from 1, is listed. All seven calls of a disk count.
+    /// Creates a disk without files. It fails each call whose ordinal, from 1, is in `faults`.
+    ///
+    /// All seven calls of `Disk` count.
     pub fn new(alloc: Global, faults: Numbers) -> MemDisk
         ensures { IsFresh no_files faults result }
     {
@@ -44,30 +46,36 @@ impl MemDisk {
         }
     }
 
-    /// How many calls found no memory.
+    /// Returns the number of calls that failed because they ran out of memory.
     pub fn starved(&self) -> u64
         ensures { result ≡ starved_of self.now }
     {
         self.plan.starved
     }
 
-    /// How many calls failed, up to 2^64 - 1: those listed, and those that found no memory.
+    /// Returns the number of failed calls, up to 2^64 - 1: those listed and those out of memory.
     pub fn failed(&self) -> u64
         ensures { result ≡ failed_of self.now }
     {
         self.plan.faults
     }
 
-    /// How many moments there have been: one for each write, cut, removal and sync that answered Ok.
+    /// Returns the number of moments so far.
+    ///
+    /// There is one for each write, cut, removal and sync that returned `Ok`.
     pub fn moments(&self) -> u64
         ensures { result ≡ length (changes_of self.now) }
     {
         self.changes.len() as u64
     }
 
-    /// One of the images that a crash at a moment may leave, as a disk before its first call and without listed faults.
-    /// Of the changes since the last sync before the moment pick 0 keeps none, pick 1 all, pick 2 all with 255 in the
-    /// place of each byte written, and pick 3 the first half, rounded down.
+    /// Returns one of the images that a crash at a moment may leave.
+    ///
+    /// The result is a disk before its first call and without listed faults.
+    ///
+    /// Of the changes between the last sync before the moment and the moment, pick 0 keeps none,
+    /// pick 1 all, pick 2 all with 255 in place of each byte written, and pick 3 the first half,
+    /// rounded down.
     pub fn image(&self, at: u64, pick: u64) -> Result<MemDisk, NoMemory>
         requires at { at ≤ length (changes_of self.now) }
         requires pick { pick ≤ 3 }
@@ -84,7 +92,7 @@ impl MemDisk {
         MemDisk::of_files(self.alloc, files)
     }
 
-    /// A disk with these files, before its first call and without listed faults.
+    /// Creates a disk with these files, before its first call and without listed faults.
     fn of_files(alloc: Global, files: Contents) -> Result<MemDisk, NoMemory>
         ensures { IfOk result (IsFresh (file_at files) []) }
     {
@@ -99,7 +107,7 @@ impl MemDisk {
         })
     }
 
-    /// Writes, and puts it on record.
+    /// Writes bytes to a file, and records the change.
     fn write(&mut self, name: FileName, place: u64, bytes: &[u8]) -> Result<(), AllocError>
         ensures base { self.new.base ≡ self.old.base }
         ensures plan { self.new.plan ≡ self.old.plan }
@@ -118,7 +126,7 @@ impl MemDisk {
         Ok(())
     }
 
-    /// Cuts a file, and puts it on record.
+    /// Cuts a file, and records the change.
     fn cut_file(&mut self, name: FileName, length: u64) -> Result<(), AllocError>
         ensures base { self.new.base ≡ self.old.base }
         ensures plan { self.new.plan ≡ self.old.plan }
@@ -132,7 +140,7 @@ impl MemDisk {
         Ok(())
     }
 
-    /// Takes a file away, and puts it on record.
+    /// Removes a file, and records the change.
     fn remove_file(&mut self, name: FileName) -> Result<(), AllocError>
         ensures base { self.new.base ≡ self.old.base }
         ensures plan { self.new.plan ≡ self.old.plan }
@@ -146,7 +154,7 @@ impl MemDisk {
         Ok(())
     }
 
-    /// Puts on record that all is on the disk.
+    /// Records a sync.
     fn settle(&mut self) -> Result<(), AllocError>
         ensures base { self.new.base ≡ self.old.base }
         ensures plan { self.new.plan ≡ self.old.plan }

@@ -1,11 +1,11 @@
 //! The names of files.
 
-/// What a file is for. The kinds stand in the order of names.
+/// What a file is for. Kinds are ordered as declared here, and file names by kind first.
 #[derive(Clone, Copy, Debug, PartialEq, Eq, PartialOrd, Ord)]
 pub enum FileKind {
     /// The file with the archive's root.
     Root,
-    /// The file with the records of the numbers.
+    /// The file with one record for each number of the archive.
     Map,
     /// A file with the objects of an epoch.
     Epoch,
@@ -13,13 +13,13 @@ pub enum FileKind {
     Cache,
 }
 
-/// The name of a file. Names are ordered by kind, then by number, then by generation.
+/// The name of a file, ordered by kind, then number, then generation.
 #[derive(Clone, Copy, Debug, PartialEq, Eq, PartialOrd, Ord)]
 pub struct FileName {
     /// What the file is for.
     pub kind: FileKind,
-    /// Which one of its kind it is, as the number of an epoch.
+    /// The number among the files of its kind, such as the number of an epoch.
     pub number: u32,
-    /// The generation: a file that is written anew has another one.
+    /// The generation: a file that is rewritten gets another one.
     pub gen_: u64,
 }

@@ -1,26 +1,26 @@
-//! Which calls of a disk in memory are to fail.
+//! The plan of a disk in memory: which of its calls fail.
 ghost use Rattle.std.specs.Prelude.{◌≡◌, ◌≤◌, true};
 ghost use Rattle.arch_base.specs.Counts.{Rose};
 
 use arch_base::Numbers;
 
-/// The calls that are to fail, and how many there were.
+/// The calls that are to fail, and counts of the calls so far.
 #[derive(Drop)]
 pub struct Plan {
     /// The ordinals of the calls that are to fail, from 1.
     pub listed: Numbers,
-    /// How many calls there were.
+    /// The number of calls.
     pub calls: u64,
-    /// How many of them failed.
+    /// The number of failed calls.
     pub faults: u64,
-    /// How many of them failed for want of memory.
+    /// The number of calls that failed because they ran out of memory.
     pub starved: u64,
 }
 
 impl Plan {
     ghost use Rattle.disk_model.specs.Plan.{Starts, Counts, Starves};
 
-    /// A plan by which these calls are to fail.
+    /// Creates a plan by which the calls with the listed ordinals fail.
     pub fn new(listed: Numbers) -> Plan
         ensures { Starts listed result }
     {
@@ -32,7 +32,9 @@ impl Plan {
         }
     }
 
-    /// Counts a call, and answers whether it is to fail. If so it counts a fault too.
+    /// Counts a call, and returns whether it is to fail.
+    ///
+    /// A call that is to fail counts as a fault too.
     pub fn fails(&mut self) -> bool
         ensures counts { Counts self.old result self.new }
         ensures later { self.old.faults ≤ self.new.faults }
@@ -46,7 +48,7 @@ impl Plan {
         false
     }
 
-    /// Counts a fault for want of memory.
+    /// Counts a fault of a call that ran out of memory.
     pub fn starve(&mut self)
         ensures starves { Starves self.old self.new }
         ensures later { self.old.faults ≤ self.new.faults }

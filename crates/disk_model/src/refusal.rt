@@ -1,4 +1,4 @@
-//! What reading a file through may answer.
+//! The errors of reading a file through.
 use crate::DiskFault;
 use arch_base::NoMemory;
 use thiserror::Error;
@@ -9,13 +9,13 @@ pub enum WalkRefusal {
     /// A call of the disk failed.
     #[error("the disk failed")]
     DiskFault,
-    /// The file does not have the form that it should have.
+    /// The file isn't in its form.
     #[error("damaged at {at}")]
     Damaged {
-        /// The place of the first part that does not have it, in bytes.
+        /// The offset of the first part that isn't in form, in bytes.
         at: u64,
     },
-    /// Memory was wanted, and there was none.
+    /// A call ran out of memory.
     #[error("out of memory")]
     NoMemory,
 }

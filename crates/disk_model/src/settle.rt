@@ -1,4 +1,4 @@
-//! One range of a file, written and brought to the disk.
+//! One range of a file, written and synced.
 ghost use Rattle.std.specs.Prelude.{◌≡◌, ◌≤◌, ◌<◌, ◌+◌, ◌^◌, length, OnOk};
 ghost use Rattle.arch_base.specs.Counts.{IsCaused};
 ghost use Rattle.disk_model.specs.Disk.{Told, WhereTold, IsAtMostLength, LeavesOnly};
@@ -6,10 +6,10 @@ ghost use Rattle.disk_model.specs.Synced.{Writing, IsWritten};
 
 use crate::{Disk, DiskFault, FileName};
 
-/// Writes a range of a file and syncs. A missing file is made.
+/// Writes a range of a file and syncs. Creates a missing file.
 ///
-/// At each moment a crash leaves the file as a crash inside this write may, and every other file as before. After an
-/// Ok the bytes stand in the file, and all that reads give is on the disk.
+/// At each moment a crash leaves the file as a crash inside this write may, and every other file as
+/// before. After `Ok` the file has the bytes, and all that reads give is on the disk.
 pub fn write_and_sync<D: Disk>(
     disk: &mut D,
     name: FileName,

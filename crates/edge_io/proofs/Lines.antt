@@ -12,15 +12,15 @@ use Rattle.edge_io.specs.declared.events.Door.TheVariants.{Control, Http, Nntp, 
 use Rattle.edge_io.proofs.Dividing.{Lacks-append}
 use Rattle.edge_io.proofs.Numerals.{decimal-lacks}
 
--- texts with other first bytes differ
+-- Texts with different first bytes differ.
 apart : (c d : ℕ) (x y : List ℕ) → (c == d) ≡ false → c ∷ x ≢ d ∷ y
 apart c d x y h e = let same : c ≡ d = ap (λ l. get_or l 0 0) e in grind (arith, nat_tests)
 
--- texts with one front have one rest
+-- Equal texts that share their first two bytes have equal rests.
 pub rest-same : (a b : ℕ) (x y : List ℕ) → a ∷ b ∷ x ≡ a ∷ b ∷ y → x ≡ y
 rest-same a b x y e = ap (drop 2) e
 
--- words that begin as an opening's, and spell none
+-- Words that start like an opening, and spell none, spell nothing.
 pub no_opening : (words rest : List ℕ) → words ≡ codes "o " ++ rest → ((x : ℕ × Door) → IsOpening x → rest ≢ opening_words x) → (what : What) → IsWhat what → words ≢ words_of what
 no_opening words rest is none (Opened conn door) h e = none (conn, door) h (rest-same 111 32 rest (decimal conn ++ 32 ∷ door_word door) (sym is ∙ e))
 no_opening words rest is none (Bytes conn len) h e = apart 111 98 (32 ∷ rest) (32 ∷ (decimal conn ++ 32 ∷ decimal len)) refl (sym is ∙ e)
@@ -28,7 +28,7 @@ no_opening words rest is none (Ended conn) h e = apart 111 101 (32 ∷ rest) (32
 no_opening words rest is none Quiet h e = apart 111 113 (32 ∷ rest) [] refl (sym is ∙ e)
 no_opening words rest is none Stop h e = apart 111 115 (32 ∷ rest) [] refl (sym is ∙ e)
 
--- words that begin as a piece's, and spell none
+-- Words that start like a sending, and spell none, spell nothing.
 pub no_sending : (words rest : List ℕ) → words ≡ codes "b " ++ rest → ((x : ℕ × ℕ) → IsSending x → rest ≢ sending_words x) → (what : What) → IsWhat what → words ≢ words_of what
 no_sending words rest is none (Opened conn door) h e = apart 98 111 (32 ∷ rest) (32 ∷ (decimal conn ++ 32 ∷ door_word door)) refl (sym is ∙ e)
 no_sending words rest is none (Bytes conn len) h e = none (conn, len) h (rest-same 98 32 rest (decimal conn ++ 32 ∷ decimal len) (sym is ∙ e))
@@ -36,7 +36,7 @@ no_sending words rest is none (Ended conn) h e = apart 98 101 (32 ∷ rest) (32 
 no_sending words rest is none Quiet h e = apart 98 113 (32 ∷ rest) [] refl (sym is ∙ e)
 no_sending words rest is none Stop h e = apart 98 115 (32 ∷ rest) [] refl (sym is ∙ e)
 
--- a line has no line feed
+-- The name of a door contains no line feed.
 door-lacks : (door : Door) → Lacks 10 (door_word door)
 door-lacks Control = (refl, (refl, (refl, (refl, (refl, (refl, (refl, tt)))))))
 door-lacks Http = (refl, (refl, (refl, (refl, tt))))

@@ -3,7 +3,7 @@ use Rattle.std.proofs.Common.{suc, ◌≡◌, ◌<◌, ◌+◌, ℕ, false, List
 use Rattle.std.proofs.lemmas.Bool.Decides.{nat_tests}
 use Rattle.edge_io.specs.Listed.{is_listed}
 
--- an ordinal that no number of a list's type reaches is not listed
+-- An ordinal above every number of a list is not listed.
 pub is_listed-past : (listed : List ℕ) (calls : ℕ) → ((k : ℕ) → get_or listed k 0 < calls + 1) → is_listed listed calls ≡ false
 is_listed-past [] calls below = refl
 is_listed-past (x ∷ xs) calls below =

@@ -1,4 +1,4 @@
--- Pieces that stand one behind another.
+-- Pieces that follow one another in one list of bytes.
 use Rattle.std.proofs.Common.{◌≡◌, ◌≤◌, ◌+◌, ℕ, List, [], ◌∷◌, ◌++◌, length, take, drop, refl, sym, ◌∙◌, ap, arith, Result, Ok, Err, OnOk, is_ok, if◌then◌else◌}
 use Rattle.std.proofs.Math.Seq.{drop-append_seam, take-length}
 use Rattle.std.proofs.lemmas.Grind.{common_steps}
@@ -10,11 +10,11 @@ use Rattle.edge_io.specs.Spans.{arrival_of, arrivals_of, IsWithin, AllWithin}
 use Rattle.edge_io.specs.declared.events.Event.{Event}
 use Rattle.edge_io.specs.declared.scripts.Placed.{Placed}
 
--- a part of a list stays where more follows
+-- Appending to a list leaves a part within it unchanged.
 part-kept : (pieces more : List ℕ) (start len : ℕ) → start + len ≤ length pieces → take len (drop start (pieces ++ more)) ≡ take len (drop start pieces)
 part-kept pieces more start len within = grind (arith, common_steps)
 
--- pieces stay where more follow
+-- Appending to the bytes leaves the pieces unchanged.
 pub arrivals-kept : (pieces more : List ℕ) (all : List Placed) → AllWithin pieces all → arrivals_of (pieces ++ more) all ≡ arrivals_of pieces all
 arrivals-kept pieces more [] within = refl
 arrivals-kept pieces more (placed ∷ all) within =
@@ -23,7 +23,7 @@ arrivals-kept pieces more (placed ∷ all) within =
     let tail : arrivals_of (pieces ++ more) all ≡ arrivals_of pieces all = arrivals-kept pieces more all (All-tail (IsWithin pieces) placed all within) in
     cc
 
--- one more event, with its piece behind the others
+-- Appends one event, whose piece follows the others.
 arrivals-more : (pieces piece : List ℕ) (all : List Placed) (event : Event) → AllWithin pieces all → length piece ≡ piece_len event.what
     → arrivals_of (pieces ++ piece) (all ++ record { event = event; start = length pieces } ∷ []) ≡ arrivals_of pieces all ++ (event, piece) ∷ []
 arrivals-more pieces piece all event within whole =
@@ -34,7 +34,7 @@ arrivals-more pieces piece all event within whole =
     ∙ ap (λ (l : List Arrival). l ++ arrival_of (pieces ++ piece) (record { event = event; start = length pieces }) ∷ []) (arrivals-kept pieces piece all within)
     ∙ ap (λ (l : List ℕ). let a : Arrival = (event, l) in arrivals_of pieces all ++ a ∷ []) last
 
--- what a script has after a push
+-- The arrivals of a script after a push.
 pub arrivals-pushed : {E : Type 0} (r : Result (Unit {0}) E) (pieces piece pieces' : List ℕ) (all all' : List Placed) (event : Event) (start : ℕ) (old : List Arrival) → AllWithin pieces all
     → length piece ≡ piece_len event.what → pieces' ≡ pieces ++ piece → start ≡ length pieces → all' ≡ (if is_ok r then all ++ record { event = event; start = start } ∷ [] else all)
     → arrivals_of pieces all ≡ old → OnOk r (arrivals_of pieces' all' ≡ old ++ (event, piece) ∷ [])

@@ -15,7 +15,7 @@ use Rattle.edge_io.proofs.Numerals.{decimal-lacks}
 use Rattle.edge_io.proofs.Lines.{line-lacks, rest-same}
 use Rattle.edge_io.proofs.Fronts.{nil_from_length}
 
--- words tell what happened
+-- The words tell what happened.
 words-once : (a b : What) → IsWhat a → IsWhat b → words_of a ≡ words_of b → a ≡ b
 words-once (Opened conn door) (Opened conn' door') p q e = let same : conn ≡ conn' = p.0 ∙ sym q.0 in let also : door ≡ door' = p.1 ∙ sym q.1 in cc
 words-once (Bytes conn len) (Bytes conn' len') p q e =
@@ -29,7 +29,7 @@ words-once Quiet Quiet p q e = refl
 words-once Stop Stop p q e = refl
 words-once a b p q e = let first : get_or (words_of a) 0 0 ≡ get_or (words_of b) 0 0 = ap (λ l. get_or l 0 0) e in absurd (omega arith)
 
--- and a line tells the event
+-- A line tells its event.
 pub line-once : (a b : Event) → IsLine a → IsLine b → line_of a ≡ line_of b → a ≡ b
 line-once a b p q e =
     let parts = divided-once 32 (decimal a.moment) (decimal b.moment) (words_of a.what) (words_of b.what) (decimal-lacks 32 a.moment (omega arith) (omega (arith, p.moment)))
@@ -38,26 +38,26 @@ line-once a b p q e =
     let what : a.what ≡ b.what = words-once a.what b.what p.what q.what parts.1 in
     ap (λ (m : ℕ). let event : Event = record { moment = m; what = a.what } in event) moment ∙ ap (λ (w : What). let event : Event = record { moment = b.moment; what = w } in event) what
 
--- the line of an event at the front of bytes
+-- The form of an event at the front of bytes starts with its line and a line feed.
 pub spelled-line : (event : Event) (piece behind : List ℕ) → spelled event piece ++ behind ≡ line_of event ++ 10 ∷ (behind_line event.what piece ++ behind)
 spelled-line event piece behind = append_assoc (line_of event) (10 ∷ behind_line event.what piece) behind
 
--- bytes without a line feed begin with no event
+-- Bytes without a line feed start with no event.
 pub no_line : (bytes : List ℕ) → Lacks 10 bytes → HasNoFirst bytes
 no_line bytes none event piece behind h e =
     Lacks-divided 10 bytes (line_of event) (behind_line event.what piece ++ behind) none (e ∙ spelled-line event piece behind)
 
--- the line of the event at the front of bytes, and what is behind it
+-- The first line of bytes is the line of their first event, and the rest comes after it.
 pub line-and-behind : (bytes line rest : List ℕ) (event : Event) (piece behind : List ℕ) → Lacks 10 line → bytes ≡ line ++ 10 ∷ rest → IsLine event → bytes ≡ spelled event piece ++ behind
     → (line ≡ line_of event) × (rest ≡ behind_line event.what piece ++ behind)
 line-and-behind bytes line rest event piece behind no_feed is h e =
     same_parts 10 bytes line rest (line_of event) (behind_line event.what piece ++ behind) no_feed is (line-lacks event h) (e ∙ spelled-line event piece behind)
 
--- bytes whose first line is of no event begin with none
+-- Bytes whose first line is of no event start with no event.
 pub no_event : (bytes line rest : List ℕ) → Lacks 10 line → bytes ≡ line ++ 10 ∷ rest → ((event : Event) → IsLine event → line ≢ line_of event) → HasNoFirst bytes
 no_event bytes line rest no_feed is none event piece behind h e = none event h.in_range (line-and-behind bytes line rest event piece behind no_feed is h.in_range e).0
 
--- bytes whose first line is that of a piece that isn't whole begin with no event
+-- Bytes start with no event if their first line announces a piece that is incomplete.
 pub no_piece : (bytes line rest : List ℕ) (first : Event) (conn len : ℕ) → Lacks 10 line → bytes ≡ line ++ 10 ∷ rest → IsLine first → line ≡ line_of first → first.what ≡ Bytes conn len
     → ((piece behind : List ℕ) → length piece ≡ len → rest ≢ piece ++ 10 ∷ behind) → HasNoFirst bytes
 no_piece bytes line rest first conn len no_feed is in_range named what none event piece behind h e =
@@ -67,7 +67,7 @@ no_piece bytes line rest first conn len no_feed is in_range named what none even
     let size : length piece ≡ len = h.whole ∙ ap piece_len here in
     none piece behind size (parts.1 ∙ ap (λ (w : What). behind_line w piece ++ behind) here ∙ append_assoc piece (10 ∷ []) behind)
 
--- fronts of one length
+-- Two prefixes of one list that have one length are equal.
 fronts-once : (a b x y : List ℕ) → length a ≡ length b → a ++ x ≡ b ++ y → (a ≡ b) × (x ≡ y)
 fronts-once [] [] x y h e = (refl, e)
 fronts-once [] (c ∷ b) x y h e = absurd (omega arith)
@@ -78,7 +78,7 @@ fronts-once (d ∷ a) (c ∷ b) x y h e =
     let tail = fronts-once a b x y (omega arith) rest in
     (let l : a ≡ b = tail.0 in cc, tail.1)
 
--- what stands behind a line is read in one way
+-- The bytes after a line are read in one way.
 behind-once : (what : What) (a b r s : List ℕ) → length a ≡ piece_len what → length b ≡ piece_len what → behind_line what a ++ r ≡ behind_line what b ++ s → (a ≡ b) × (r ≡ s)
 behind-once (Opened conn door) a b r s p q e = (nil_from_length a p ∙ sym (nil_from_length b q), e)
 behind-once (Bytes conn len) a b r s p q e =
@@ -88,7 +88,7 @@ behind-once (Ended conn) a b r s p q e = (nil_from_length a p ∙ sym (nil_from_
 behind-once Quiet a b r s p q e = (nil_from_length a p ∙ sym (nil_from_length b q), e)
 behind-once Stop a b r s p q e = (nil_from_length a p ∙ sym (nil_from_length b q), e)
 
--- the first event of bytes is read in one way
+-- The first event of bytes is read in one way.
 first-once : (a b : Event) (x y r s : List ℕ) → IsEvent a x → IsEvent b y → spelled a x ++ r ≡ spelled b y ++ s → (a ≡ b) × (x ≡ y) × (r ≡ s)
 first-once a b x y r s p q e =
     let parts = divided-once 10 (line_of a) (line_of b) (behind_line a.what x ++ r) (behind_line b.what y ++ s) (line-lacks a p.in_range) (line-lacks b q.in_range)
@@ -98,7 +98,7 @@ first-once a b x y r s p q e =
     let rest = behind-once a.what x y r s p.whole (q.whole ∙ ap piece_len what) (parts.1 ∙ ap (λ (w : What). behind_line w y ++ s) what) in
     (same, rest.0, rest.1)
 
--- and so is a whole run of events
+-- A list of events is read in one way.
 runs-once : (a b : List Arrival) (r s : List ℕ) → All IsArrival a → All IsArrival b → HasNoFirst r → HasNoFirst s → spelled_all a ++ r ≡ spelled_all b ++ s → (a ≡ b) × (r ≡ s)
 runs-once [] [] r s p q m n e = (refl, e)
 runs-once [] (y ∷ b) r s p q m n e = absurd (m y.0 y.1 (spelled_all b ++ s) (All-head IsArrival y b q) (e ∙ append_assoc (spelled y.0 y.1) (spelled_all b) s))
@@ -110,14 +110,14 @@ runs-once (x ∷ a) (y ∷ b) r s p q m n e =
     let head : x ≡ y = ap (λ (v : Event). let arrival : Arrival = (v, x.1) in arrival) first.0 ∙ ap (λ (l : List ℕ). let arrival : Arrival = (y.0, l) in arrival) first.1 in
     (let tail : a ≡ b = rest.0 in cc, rest.1)
 
--- one more event is read off the front of what is left
+-- One more event is read from the front of the remaining bytes.
 pub one-more : (made : List Arrival) (event : Event) (piece bytes rest behind : List ℕ) → bytes ≡ spelled_all made ++ rest → rest ≡ spelled event piece ++ behind
     → bytes ≡ spelled_all (made ++ (event, piece) ∷ []) ++ behind
 one-more made event piece bytes rest behind is here =
     let more : spelled_all made ++ spelled event piece ≡ spelled_all (made ++ (event, piece) ∷ []) = flat_map_more (λ (arrival : Arrival). spelled arrival.0 arrival.1) [] made (event, piece) in
     is ∙ ap (λ t. spelled_all made ++ t) here ∙ sym (append_assoc (spelled_all made) (spelled event piece) behind) ∙ ap (λ t. t ++ behind) more
 
--- no bytes begin with no event
+-- Empty bytes start with no event.
 none-first : HasNoFirst []
 none-first = no_line [] tt
 

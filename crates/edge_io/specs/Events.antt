@@ -1,4 +1,4 @@
--- Events of a server, and how a script spells them.
+-- Events of a server, and their form in a script.
 use Rattle.std.specs.Prelude.{◌≡◌, ◌≤◌, ℕ, List, [], ◌∷◌, ◌++◌, codes, length}
 use Rattle.std.specs.Fmt.{decimal}
 use Rattle.edge_io.specs.declared.events.Event.{Event}
@@ -7,23 +7,23 @@ use Rattle.edge_io.specs.declared.events.What.TheVariants.{Opened, Bytes, Ended,
 use Rattle.edge_io.specs.declared.events.Door.{Door}
 use Rattle.edge_io.specs.declared.events.Door.TheVariants.{Control, Http, Nntp, Imap}
 
--- a moment: seconds since 1970 UTC, up to the end of the year 9999
+-- A moment in seconds since 1970 UTC, up to the end of the year 9999.
 abbrev pub IsMoment : ℕ → Type 0
 IsMoment moment = moment ≤ 253402300799
 
--- the connections that a script has
+-- The connections of a script: number 1 alone.
 abbrev pub IsConnection : ℕ → Type 0
 IsConnection conn = conn ≡ 1
 
--- the doors that a script has
+-- The doors of a script: the control door alone.
 abbrev pub IsDoor : Door → Type 0
 IsDoor door = door ≡ Control
 
--- the length of a piece
+-- The length of a piece in bytes.
 abbrev pub IsPieceLen : ℕ → Type 0
 IsPieceLen len = (1 ≤ len) × (len ≤ 1048576)
 
--- what a script has happen
+-- What may happen in a script.
 abbrev pub IsWhat : What → Type 0
 IsWhat (Opened conn door) = IsConnection conn × IsDoor door
 IsWhat (Bytes conn len) = IsConnection conn × IsPieceLen len
@@ -31,7 +31,7 @@ IsWhat (Ended conn) = IsConnection conn
 IsWhat Quiet = Unit {0}
 IsWhat Stop = Unit {0}
 
--- the length of the piece that comes with what happened
+-- The length in bytes of the piece that comes with an event.
 abbrev pub piece_len : What → ℕ
 piece_len (Opened conn door) = 0
 piece_len (Bytes conn len) = len
@@ -39,24 +39,24 @@ piece_len (Ended conn) = 0
 piece_len Quiet = 0
 piece_len Stop = 0
 
--- the ranges of an event
+-- The ranges of an event in a script.
 pub record IsLine (event : Event) : Type 0 where
   pub moment : IsMoment event.moment
   pub what : IsWhat event.what
 
--- an event of a script with its piece, which is empty where the event has none
+-- An event of a script with its piece, which is empty if the event has none.
 pub record IsEvent (event : Event) (piece : List ℕ) : Type 0 where
   pub in_range : IsLine event
   pub whole : length piece ≡ piece_len event.what
 
--- the word of a door
+-- The name of a door.
 abbrev pub door_word : Door → List ℕ
 door_word Control = codes "control"
 door_word Http = codes "http"
 door_word Nntp = codes "nntp"
 door_word Imap = codes "imap"
 
--- the words of what happened
+-- The words of a line after its moment.
 abbrev pub words_of : What → List ℕ
 words_of (Opened conn door) = codes "o " ++ (decimal conn ++ 32 ∷ door_word door)
 words_of (Bytes conn len) = codes "b " ++ (decimal conn ++ 32 ∷ decimal len)
@@ -64,11 +64,11 @@ words_of (Ended conn) = codes "e " ++ decimal conn
 words_of Quiet = codes "q"
 words_of Stop = codes "s"
 
--- the line of an event, without its line feed: the moment, a space, and what happened
+-- The line of an event, without its line feed: the moment, a space, and the words.
 abbrev pub line_of : Event → List ℕ
 line_of event = decimal event.moment ++ 32 ∷ words_of event.what
 
--- what stands behind the line: a piece and a line feed, or nothing
+-- The bytes after the line of an event: its piece and a line feed, or nothing.
 abbrev pub behind_line : What → List ℕ → List ℕ
 behind_line (Opened conn door) piece = []
 behind_line (Bytes conn len) piece = piece ++ 10 ∷ []
@@ -76,6 +76,6 @@ behind_line (Ended conn) piece = []
 behind_line Quiet piece = []
 behind_line Stop piece = []
 
--- an event with its piece, as a script spells it
+-- The form of an event and its piece in a script.
 abbrev pub spelled : Event → List ℕ → List ℕ
 spelled event piece = line_of event ++ 10 ∷ behind_line event.what piece

@@ -1,17 +1,18 @@
--- The bytes that a source has left, where it tells them.
+-- The remaining bytes of a source, if it is told.
 use Rattle.std.specs.Prelude.{◌≡◌, ℕ, List, [], ◌++◌, take, Option, Some, None}
 
--- these bytes, and then what is left; untold stays untold
+-- The bytes, followed by the remaining ones. None stays None.
 abbrev pub before : List ℕ → Option (List ℕ) → Option (List ℕ)
 before bytes None = None
 before bytes (Some left) = Some (bytes ++ left)
 
--- none is left, where it is told
+-- No bytes remain, if they are told.
 abbrev pub IsUsedUp : Option (List ℕ) → Type 0
 IsUsedUp None = Unit {0}
 IsUsedUp (Some left) = left ≡ []
 
--- So many bytes at the front of a buffer were taken off the front of what was left, and none only where none was left.
+-- The first `count` bytes of the buffer were removed from the front of the remaining bytes. The
+-- count is 0 only if no bytes remained.
 pub record Gave (count : ℕ) (into : List ℕ) (old new : Option (List ℕ)) : Type 0 where
   pub taken : old ≡ before (take count into) new
   pub end : count ≡ 0 → IsUsedUp old

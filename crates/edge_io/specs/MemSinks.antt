@@ -1,9 +1,9 @@
--- A sink in memory.
+-- The sink in memory.
 use Rattle.std.specs.Prelude.{◌≡◌, ℕ, false, List, ◌++◌, Result, MatchResult, if◌then◌else◌}
 use Rattle.edge_io.specs.Listed.{raised, is_listed}
 
--- what was taken, the ordinals of the calls that fail, how many calls there were, how many of them failed, and how many
--- of those for want of memory
+-- The state of a sink: the bytes taken, the ordinals of the calls that fail, and the counts of
+-- calls, of failed calls, and of calls that failed because an allocation did.
 pub record Writing : Type 0 where
   pub taken : List ℕ
   pub listed : List ℕ
@@ -11,19 +11,19 @@ pub record Writing : Type 0 where
   pub faults : ℕ
   pub starved : ℕ
 
--- a call that took bytes
+-- The state after a call that took bytes.
 abbrev pub put : List ℕ → Writing → Writing
 put bytes s = record s { taken = s.taken ++ bytes; calls = raised s.calls }
 
--- a call that failed took nothing
+-- The state after a listed call, which takes nothing.
 abbrev pub failed_write : Writing → Writing
 failed_write s = record s { calls = raised s.calls; faults = raised s.faults }
 
--- and one that found no memory
+-- The state after a call that ran out of memory, which takes nothing.
 abbrev pub starved_write : Writing → Writing
 starved_write s = record s { calls = raised s.calls; faults = raised s.faults; starved = raised s.starved }
 
--- A listed call fails. Any other takes the whole piece, or finds no memory.
+-- A listed call fails. Any other takes all bytes, or runs out of memory.
 abbrev pub Writes : {T E : Type 0} → Result T E → List ℕ → Writing → Writing → Type 0
 Writes result bytes s s' =
     MatchResult result (λ _. (is_listed s.listed s.calls ≡ false) × (s' ≡ put bytes s))

@@ -1,24 +1,25 @@
--- A source in memory.
+-- The source in memory.
 use Rattle.std.specs.Prelude.{◌≡◌, ℕ, true, false, List, ◌++◌, length, take, drop, min, Result, MatchResult}
 use Rattle.edge_io.specs.Listed.{raised, is_listed}
 
--- what is left, the ordinals of the calls that fail, how many calls there were, and how many of them failed
+-- The state of a source: the remaining bytes, the ordinals of the calls that fail, and the counts
+-- of calls and of failed calls.
 pub record Reading : Type 0 where
   pub left : List ℕ
   pub listed : List ℕ
   pub calls : ℕ
   pub faults : ℕ
 
--- a call that failed took nothing
+-- The state after a failed call, which takes nothing.
 abbrev pub failed_read : Reading → Reading
 failed_read s = record s { calls = raised s.calls; faults = raised s.faults }
 
--- a call that took so many bytes
+-- The state after a call that removed `count` bytes.
 abbrev pub taken_off : ℕ → Reading → Reading
 taken_off count s = record s { left = drop count s.left; calls = raised s.calls }
 
--- A call fails exactly where it is listed. Any other takes as many bytes as there are, up to the buffer's length, and
--- leaves the rest of the buffer as it was.
+-- A call fails if and only if it is listed. Any other reads as many bytes as remain, up to the
+-- length of the buffer, and leaves the rest of the buffer unchanged.
 abbrev pub Reads : {E : Type 0} → Result ℕ E → List ℕ → List ℕ → Reading → Reading → Type 0
 Reads result into into' s s' =
     MatchResult result

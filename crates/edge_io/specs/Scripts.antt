@@ -6,28 +6,28 @@ use Rattle.edge_io.specs.declared.events.Event.{Event}
 use Rattle.edge_io.specs.declared.scripts.ScriptRefusal.{ScriptRefusal}
 use Rattle.edge_io.specs.declared.scripts.ScriptRefusal.TheVariants.{Bad, NoMemory}
 
--- an event and the piece that came with it
+-- An event and the piece that came with it.
 abbrev pub Arrival : Type 0
 Arrival = Event × List ℕ
 
--- an arrival that a script may have
+-- An arrival that a script may have.
 abbrev pub IsArrival : Arrival → Type 0
 IsArrival arrival = IsEvent arrival.0 arrival.1
 
--- arrivals as they are spelled, one behind another
+-- The forms of arrivals in a row.
 abbrev pub spelled_all : List Arrival → List ℕ
 spelled_all arrivals = flat_map (λ (arrival : Arrival). spelled arrival.0 arrival.1) arrivals
 
--- bytes are the script of these arrivals
+-- The bytes are the script of these arrivals.
 pub record IsScript (arrivals : List Arrival) (bytes : List ℕ) : Type 0 where
   pub each : All IsArrival arrivals
   pub spells : bytes ≡ spelled_all arrivals
 
--- no event that a script may have is spelled at the front of bytes
+-- The bytes start with no event that a script may have.
 abbrev pub HasNoFirst : List ℕ → Type 0
 HasNoFirst bytes = (event : Event) (piece behind : List ℕ) → IsEvent event piece → bytes ≢ spelled event piece ++ behind
 
--- the event of this number, from 1, is the first of the bytes that isn't of the form or isn't whole
+-- The event with this number, from 1, is the first of the bytes that is malformed or incomplete.
 pub record IsBad (number : ℕ) (bytes : List ℕ) : Type 0 where
   pub arrivals : List Arrival
   pub rest : List ℕ
@@ -37,30 +37,32 @@ pub record IsBad (number : ℕ) (bytes : List ℕ) : Type 0 where
   pub more : 0 < length rest
   pub none : HasNoFirst rest
 
--- what is read in bytes
+-- The result of reading bytes: their script, their first bad event, or out of memory.
 abbrev pub IsReading : List ℕ → Result (List Arrival) ScriptRefusal → Type 0
 IsReading bytes (Ok arrivals) = IsScript arrivals bytes
 IsReading bytes (Err (Bad number)) = IsBad number bytes
 IsReading bytes (Err NoMemory) = Unit {0}
 
--- the event of an arrival, and its piece
+-- The event of an arrival, if there is one.
 abbrev pub event_in : Option Arrival → Option Event
 event_in None = None
 event_in (Some arrival) = Some arrival.0
 
+-- The piece of an arrival, or no bytes if there is none.
 abbrev pub piece_in : Option Arrival → List ℕ
 piece_in None = []
 piece_in (Some arrival) = arrival.1
 
--- the event at a place, from 0, and its piece
+-- The event at an index, from 0, if there is one.
 abbrev pub event_at : List Arrival → ℕ → Option Event
 event_at arrivals i = event_in (slice_get arrivals i)
 
+-- The piece at an index, from 0, or no bytes if there is none.
 abbrev pub piece_at : List Arrival → ℕ → List ℕ
 piece_at arrivals i = piece_in (slice_get arrivals i)
 
--- Bytes are read in one way: they are the script of one list of arrivals at most, they are bad at one event at most, and
--- they aren't both.
+-- Bytes are read in one way: they are the script of at most one list of arrivals, they are bad at
+-- no more than one event, and never both.
 pub record ReadInOneWay : Type 0 where
   pub script : (bytes : List ℕ) (a b : List Arrival) → IsScript a bytes → IsScript b bytes → a ≡ b
   pub bad : (bytes : List ℕ) (m n : ℕ) → IsBad m bytes → IsBad n bytes → m ≡ n

@@ -1,4 +1,4 @@
-//! What gives the time.
+//! The clock trait.
 ghost use Rattle.std.specs.Prelude.{◌≡◌, ◌≤◌, ℕ, Option, IfOk, OnOk, OnErr};
 ghost use Rattle.arch_base.specs.Counts.{IsCaused};
 ghost use Rattle.edge_io.specs.Events.{IsMoment};
@@ -6,21 +6,23 @@ ghost use Rattle.edge_io.specs.Coming.{Moments, IsFirst, behind_first};
 
 use thiserror::Error;
 
-/// The clock couldn't be read: its count of faults rose.
+/// A failed read of the clock. The clock's count of faults rose.
 #[derive(Clone, Copy, Debug, PartialEq, Eq, Error)]
 #[error("the clock failed")]
 pub struct ClockFault;
 
-/// What gives the time.
+/// A clock that gives moments in seconds since 1970 UTC.
 pub trait Clock {
-    /// The moments to come, of which there is one at least, where the clock tells them.
+    /// The moments that the clock will still give, at least one, if the clock is told.
     ghost coming: { Self → Option Moments };
 
-    /// How often the clock couldn't be read.
+    /// The count of failed reads.
     ghost faults: { Self → ℕ };
 
-    /// Gives the first of the moments to come, in seconds since 1970 UTC, and takes it away, unless it is the last. A call
-    /// that fails takes none, and the count of faults rose.
+    /// Returns the next moment, in seconds since 1970 UTC, up to the end of the year 9999.
+    ///
+    /// The moment is removed from those to come, unless it is the last. `ClockFault` leaves the
+    /// moments to come unchanged, and the count of faults rose.
     fn now(&mut self) -> Result<u64, ClockFault>
         ensures moment { IfOk result IsMoment }
         ensures first { IfOk result (λ moment. IsFirst moment (coming self.old)) }

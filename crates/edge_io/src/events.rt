@@ -1,6 +1,6 @@
-//! What happens to a server.
+//! The events of a server.
 
-/// A door of the server, one for each protocol.
+/// A door of the server. Each protocol has one.
 #[derive(Clone, Copy, Debug, PartialEq, Eq, Drop)]
 pub enum Door {
     Control,
@@ -9,22 +9,22 @@ pub enum Door {
     Imap,
 }
 
-/// What happened.
+/// What happened at an event.
 #[derive(Clone, Copy, Debug, PartialEq, Eq, Drop)]
 pub enum What {
-    /// A connection was opened at a door.
+    /// A connection opened at a door.
     Opened { conn: u32, door: Door },
-    /// A connection sent a piece of so many bytes, 1 to 1,048,576.
+    /// A connection sent a piece of `len` bytes, 1 to 1,048,576 in a script.
     Bytes { conn: u32, len: usize },
     /// A connection ended.
     Ended { conn: u32 },
     /// Nothing happened.
     Quiet,
-    /// The server is to stop.
+    /// The server has to stop.
     Stop,
 }
 
-/// What happened, and when, in seconds since 1970 UTC.
+/// An event: what happened, and the moment in seconds since 1970 UTC.
 #[derive(Clone, Copy, Debug, PartialEq, Eq, Drop)]
 pub struct Event {
     pub moment: u64,

@@ -1,5 +1,5 @@
-//! The outside as the archive sees it: where bytes come from, where they go and what the time is, with counts of faults,
-//! and the scripts of events that a server is run on.
+//! The outside of the archive: sources of bytes, sinks of bytes and clocks, each with a count of
+//! faults, their versions in memory, and scripts of the events that a server runs on.
 #![tactic(auto)]
 
 mod clock;

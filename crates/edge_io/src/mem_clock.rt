@@ -12,7 +12,7 @@ use arch_base::Numbers;
 use std::alloc::Global;
 use std::marker::Model;
 
-/// A clock in memory, of which listed calls fail. It takes no memory.
+/// A clock in memory that fails the listed calls. It allocates nothing.
 #[derive(Drop)]
 pub struct MemClock {
     moments: Numbers,
@@ -22,7 +22,7 @@ pub struct MemClock {
     faults: u64,
 }
 
-// A clause sees the moments to come, the listed ordinals and the two counts.
+// A contract sees the moments to come, the listed ordinals, and the counts of calls and faults.
 impl Model for MemClock {
     ghost use Rattle.std.specs.Prelude.{◌<◌, length, drop, All};
     ghost use Rattle.edge_io.specs.Events.{IsMoment};
@@ -37,8 +37,10 @@ impl Model for MemClock {
 }
 
 impl MemClock {
-    /// A clock of these moments, which fails the calls whose ordinals, from 1, are among `faults`. Past its list it gives
-    /// the last moment again.
+    /// Returns a clock of these moments.
+    ///
+    /// Calls whose ordinals, from 1, are among `faults` fail. After its last moment, the clock
+    /// repeats that moment.
     pub fn new(_alloc: Global, moments: Numbers, faults: Numbers) -> Self
         requires some { 0 < length moments }
         requires each { All IsMoment moments }
@@ -53,7 +55,7 @@ impl MemClock {
         }
     }
 
-    /// How often a call found no memory: never, since none is taken.
+    /// Returns the count of calls that ran out of memory, which is 0: the clock allocates nothing.
     pub fn starved(&self) -> u64
         ensures { result ≡ 0 }
     {

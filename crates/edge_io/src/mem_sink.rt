@@ -10,7 +10,9 @@ use arch_base::{Bytes, Numbers};
 use std::alloc::Global;
 use std::marker::Model;
 
-/// A sink in memory, of which listed writes fail. A write that finds no memory fails too, and is counted apart.
+/// A sink in memory that fails the listed writes.
+///
+/// A write that runs out of memory fails too, and is counted separately.
 #[derive(Drop)]
 pub struct MemSink {
     bytes: Bytes,
@@ -20,8 +22,8 @@ pub struct MemSink {
     starved: u64,
 }
 
-// A clause sees the bytes, the listed ordinals and the three counts. Where no call is listed, want of memory is the only
-// fault.
+// A contract sees the bytes, the listed ordinals, and the counts of calls, faults and failed
+// allocations. If no ordinal is listed, every fault is a failed allocation.
 impl Model for MemSink {
     ghost use Rattle.std.specs.Prelude.{◌≡◌, []};
     ghost use Rattle.edge_io.specs.MemSinks.{Writing};
@@ -34,7 +36,7 @@ impl Model for MemSink {
 }
 
 impl MemSink {
-    /// An empty sink, which fails the writes whose ordinals, from 1, are among `faults`.
+    /// Returns an empty sink that fails the writes whose ordinals, from 1, are among `faults`.
     pub fn new(alloc: Global, faults: Numbers) -> Self
         ensures { result ≡ record { taken = []; listed = faults; calls = 0; faults = 0; starved = 0 } }
     {
@@ -47,14 +49,16 @@ impl MemSink {
         }
     }
 
-    /// The bytes that were taken.
+    /// Returns the bytes that were taken.
     pub fn taken(&self) -> &[u8]
         ensures { result.now ≡ self.now.taken }
     {
         self.bytes.as_slice()
     }
 
-    /// How often a write found no memory. Where no call is listed, no write failed otherwise.
+    /// Returns the count of writes that ran out of memory.
+    ///
+    /// If no ordinal is listed, this is the count of all failed writes.
     pub fn starved(&self) -> u64
         ensures value { result ≡ self.now.starved }
         ensures only { self.now.listed ≡ [] → result ≡ self.now.faults }
@@ -62,7 +66,7 @@ impl MemSink {
         self.starved
     }
 
-    /// Empties what was taken, and keeps the counts.
+    /// Removes the bytes that were taken, and keeps the counts.
     pub fn clear(&mut self)
         ensures { self.new ≡ record self.old { taken = [] } }
     {

@@ -10,7 +10,7 @@ use arch_base::{Bytes, Numbers};
 use std::alloc::Global;
 use std::marker::Model;
 
-/// A source in memory, of which listed reads fail. It takes no memory.
+/// A source in memory that fails the listed reads. It allocates nothing.
 #[derive(Drop)]
 pub struct MemSource {
     bytes: Bytes,
@@ -20,7 +20,7 @@ pub struct MemSource {
     faults: u64,
 }
 
-// A clause sees the bytes that are left, the listed ordinals and the two counts.
+// A contract sees the remaining bytes, the listed ordinals, and the counts of calls and faults.
 impl Model for MemSource {
     ghost use Rattle.std.specs.Prelude.{◌≤◌, length, drop};
     ghost use Rattle.edge_io.specs.MemSources.{Reading};
@@ -33,7 +33,8 @@ impl Model for MemSource {
 }
 
 impl MemSource {
-    /// A source of these bytes, which fails the reads whose ordinals, from 1, are among `faults`.
+    /// Returns a source of these bytes that fails the reads whose ordinals, from 1, are among
+    /// `faults`.
     pub fn new(_alloc: Global, bytes: Bytes, faults: Numbers) -> Self
         ensures { result ≡ record { left = bytes; listed = faults; calls = 0; faults = 0 } }
     {
@@ -46,7 +47,7 @@ impl MemSource {
         }
     }
 
-    /// How often a call found no memory: never, since none is taken.
+    /// Returns the count of calls that ran out of memory, which is 0: the source allocates nothing.
     pub fn starved(&self) -> u64
         ensures { result ≡ 0 }
     {
@@ -81,7 +82,7 @@ impl Source for MemSource {
     }
 }
 
-/// Whether the call behind so many calls is listed.
+/// Returns whether the call after `calls` earlier calls is listed, by its ordinal from 1.
 pub(crate) fn is_listed(listed: &Numbers, calls: u64) -> bool
     ensures { result ≡ is_listed listed.now calls }
 {

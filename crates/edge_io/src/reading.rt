@@ -1,5 +1,8 @@
-//! Scripts as bytes. An event is a line `T o C DOOR`, `T b C LEN`, `T e C`, `T q` or `T s`, and behind the line of a `b`
-//! its LEN bytes and a line feed. T is a moment, C a connection, and numbers are decimals without leading zeros.
+//! Reads a script from bytes.
+//!
+//! An event is a line `T o C DOOR`, `T b C LEN`, `T e C`, `T q` or `T s`. The line of a `b` is
+//! followed by LEN bytes and a line feed. T is a moment and C a connection. Numbers are decimals
+//! without leading zeros.
 ghost use Rattle.std.specs.Prelude.{◌≡◌, ◌≤◌, ◌<◌, ℕ, List, length};
 ghost use Rattle.std.specs.Fmt.{decimal};
 ghost use Rattle.edge_io.specs.Events.{IsMoment, IsConnection, IsDoor, IsPieceLen, IsWhat, IsLine, door_word, words_of, line_of, behind_line};
@@ -12,13 +15,16 @@ use arch_base::read_decimal;
 use memchr::memchr;
 use std::alloc::Global;
 
-/// The last moment: the end of the year 9999.
+/// The last moment: the end of the year 9999, in seconds since 1970 UTC.
 const MAX_MOMENT: u64 = 253402300799;
 
-/// The greatest length of a piece.
+/// The greatest length of a piece, in bytes.
 const MAX_PIECE_LEN: u64 = 1048576;
 
-/// Reads a script. The refusal names the first event, from 1, that isn't of the form or isn't whole.
+/// Reads a script.
+///
+/// `Bad` gives the number, from 1, of the first event that is malformed or incomplete. `NoMemory`
+/// if an allocation fails.
 pub fn script(alloc: Global, bytes: &[u8]) -> Result<Script, ScriptRefusal>
     ensures { IsReading bytes.now result }
 {
@@ -35,12 +41,15 @@ pub fn script(alloc: Global, bytes: &[u8]) -> Result<Script, ScriptRefusal>
     Ok(made)
 }
 
-/// Bytes are the script of one list of events at most, are bad at one event at most, and aren't both.
+/// Shows that bytes are read in one way.
+///
+/// They are the script of at most one list of events, they are bad at no more than one event, and
+/// never both.
 pub fn read_in_one_way()
     ensures { ReadInOneWay }
 {}
 
-/// The event at the front of bytes, its piece, and what is behind them.
+/// The first event of some bytes, its piece, and the remaining bytes.
 #[derive(Clone, Copy, Debug, Drop)]
 pub struct First<'a> {
     pub event: Event,
@@ -48,14 +57,14 @@ pub struct First<'a> {
     pub rest: &'a [u8],
 }
 
-/// The parts of a text before and behind a byte.
+/// The parts of a text before and after a separator.
 #[derive(Clone, Copy, Debug, Drop)]
 pub struct Parts<'a> {
     pub before: &'a [u8],
     pub behind: &'a [u8],
 }
 
-/// The event at the front of bytes.
+/// Reads the first event of some bytes, or returns `None` if they start with none.
 fn first_event(bytes: &[u8]) -> Option<First<'_>>
     ensures { IsFirst bytes.now result }
 {
@@ -76,7 +85,7 @@ fn first_event(bytes: &[u8]) -> Option<First<'_>>
     })
 }
 
-/// The parts of a text before and behind the first such byte.
+/// Splits a text at the first such byte, or returns `None` if it has none.
 fn divide(byte: u8, text: &[u8]) -> Option<Parts<'_>>
     ensures { Divides byte text.now result }
 {
@@ -87,7 +96,9 @@ fn divide(byte: u8, text: &[u8]) -> Option<Parts<'_>>
     })
 }
 
-/// A piece of so many bytes at the front of a text, and what is behind it and its line feed.
+/// Splits off a piece of `len` bytes and the line feed after it.
+///
+/// `None` if the text does not start with such a piece and a line feed.
 fn split_piece(len: usize, text: &[u8]) -> Option<Parts<'_>>
     ensures { HasPiece len text.now result }
 {
@@ -100,7 +111,7 @@ fn split_piece(len: usize, text: &[u8]) -> Option<Parts<'_>>
     })
 }
 
-/// The event that a line spells.
+/// Reads the event that a line spells, or returns `None` if it spells none.
 fn read_line(line: &[u8]) -> Option<Event>
     ensures { Spells IsLine line_of line.now result }
 {
@@ -110,7 +121,7 @@ fn read_line(line: &[u8]) -> Option<Event>
     Some(Event { moment, what })
 }
 
-/// What the words behind the moment spell.
+/// Reads what happened from the words after the moment, or returns `None` if they spell nothing.
 fn read_what(words: &[u8]) -> Option<What>
     ensures { Spells IsWhat words_of words.now result }
 {
@@ -133,7 +144,7 @@ fn read_what(words: &[u8]) -> Option<What>
     Some(What::Ended { conn })
 }
 
-/// The connection and the door that words spell.
+/// Reads a connection and a door, or returns `None` if the words don't spell them.
 fn read_opening(words: &[u8]) -> Option<(u32, Door)>
     ensures { Spells IsOpening opening_words words.now result }
 {
@@ -143,7 +154,7 @@ fn read_opening(words: &[u8]) -> Option<(u32, Door)>
     Some((conn, door))
 }
 
-/// The connection and the length of a piece that words spell.
+/// Reads a connection and the length of its piece, or returns `None` if the words don't spell them.
 fn read_sending(words: &[u8]) -> Option<(u32, usize)>
     ensures { Spells IsSending sending_words words.now result }
 {
@@ -153,7 +164,7 @@ fn read_sending(words: &[u8]) -> Option<(u32, usize)>
     Some((conn, len))
 }
 
-/// The moment that a text spells.
+/// Reads a moment, or returns `None` if the text spells none.
 fn read_moment(text: &[u8]) -> Option<u64>
     ensures { Spells IsMoment decimal text.now result }
 {
@@ -165,7 +176,7 @@ fn read_moment(text: &[u8]) -> Option<u64>
     }
 }
 
-/// The connection that a text spells.
+/// Reads a connection, or returns `None` if the text spells none. A script has connection 1 only.
 fn read_connection(text: &[u8]) -> Option<u32>
     ensures { Spells IsConnection decimal text.now result }
 {
@@ -173,7 +184,8 @@ fn read_connection(text: &[u8]) -> Option<u32>
     if conn == 1 { Some(conn as u32) } else { None }
 }
 
-/// The door that a word names.
+/// Reads the name of a door, or returns `None` for any other word. A script has the door `control`
+/// only.
 fn read_door(word: &[u8]) -> Option<Door>
     ensures { Spells IsDoor door_word word.now result }
 {
@@ -184,7 +196,7 @@ fn read_door(word: &[u8]) -> Option<Door>
     }
 }
 
-/// The length of a piece that a text spells.
+/// Reads the length of a piece, or returns `None` if the text spells none in 1 to 1,048,576.
 fn read_piece_len(text: &[u8]) -> Option<usize>
     ensures { Spells IsPieceLen decimal text.now result }
 {

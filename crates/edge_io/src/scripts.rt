@@ -1,4 +1,4 @@
-//! Lists of events, each with its piece of bytes.
+//! A script: a list of events, each with its piece of bytes.
 ghost use Rattle.std.specs.Prelude.{◌≡◌, ◌<◌, ◌^◌, ◌++◌, ◌∷◌, [], List, ℕ, length, IfOk, OnOk, IsSome};
 ghost use Rattle.std.specs.Option.{option_copied};
 ghost use Rattle.edge_io.specs.Events.{piece_len};
@@ -10,13 +10,13 @@ use std::alloc::{AllocError, Global};
 use std::marker::Model;
 use thiserror::Error;
 
-/// Why bytes are no script.
+/// The reason why bytes are not a script.
 #[derive(Debug, Drop, PartialEq, Eq, Error)]
 pub enum ScriptRefusal {
-    /// The event of this number, from 1, is the first that isn't of the form or isn't whole.
+    /// The event with this number, from 1, is the first that is malformed or incomplete.
     #[error("event {event} is bad")]
     Bad { event: u64 },
-    /// Memory was wanted, and there was none.
+    /// An allocation failed.
     #[error("out of memory")]
     NoMemory,
 }
@@ -32,21 +32,21 @@ impl From<NoMemory> for ScriptRefusal {
     }
 }
 
-/// An event, and where its piece begins.
+/// An event, and the offset of its piece among all pieces.
 #[derive(Clone, Copy, Debug, Drop)]
 pub struct Placed {
     pub event: Event,
     pub start: usize,
 }
 
-/// The events of a script, each with its piece. It is made by `script` alone.
+/// The events of a script, each with its piece. Only `script` makes one.
 #[derive(Debug, Drop)]
 pub struct Script {
     pieces: Bytes,
     placed: Sequence<Placed>,
 }
 
-// A clause sees the list of the events, each with its piece.
+// A contract sees the list of events, each with its piece.
 impl Model for Script {
     ghost use Rattle.std.specs.Prelude.{List};
     ghost use Rattle.edge_io.specs.Scripts.{Arrival};
@@ -60,7 +60,7 @@ impl Model for Script {
 }
 
 impl Script {
-    /// The script without events, with room for so many bytes of pieces.
+    /// Returns an empty script with room for `room` bytes of pieces.
     pub(crate) fn new(alloc: Global, room: usize) -> Result<Script, NoMemory>
         ensures { IfOk result (λ made. made ≡ []) }
     {
@@ -71,7 +71,9 @@ impl Script {
         })
     }
 
-    /// Puts an event with its piece behind the others.
+    /// Appends an event and its piece.
+    ///
+    /// After `NoMemory` the contract says nothing of the script.
     pub(crate) fn push(&mut self, event: Event, piece: &[u8]) -> Result<(), NoMemory>
         requires { length piece.now ≡ piece_len event.what }
         ensures { OnOk result (self.new ≡ self.old ++ (event, piece.now) ∷ []) }
@@ -81,7 +83,7 @@ impl Script {
         self.placed.push(Placed { event, start })
     }
 
-    /// How many events there are.
+    /// Returns the count of events.
     pub(crate) fn count(&self) -> u64
         ensures value { result ≡ length self.now }
         ensures small { result < 2 ^ 63 }
@@ -89,7 +91,9 @@ impl Script {
         self.placed.as_slice().len() as u64
     }
 
-    /// The event at a place, from 0, or None where there are at most so many. It takes no memory.
+    /// Returns the event at an index, from 0, or `None` if the script has no such event.
+    ///
+    /// Allocates nothing.
     pub fn event(&self, i: u64) -> Option<&Event>
         ensures value { option_copied result ≡ event_at self.now i }
         ensures small { IsSome result → i < 2 ^ 63 }
@@ -98,8 +102,9 @@ impl Script {
         Some(&placed.event)
     }
 
-    /// The piece of the event at a place, from 0. It is empty where the event has none, and where there is no event. It
-    /// takes no memory.
+    /// Returns the piece of the event at an index, from 0.
+    ///
+    /// The piece is empty if the event has none, or if there is no such event. Allocates nothing.
     pub fn piece(&self, i: u64) -> &[u8]
         ensures { result.now ≡ piece_at self.now i }
     {
@@ -113,7 +118,7 @@ impl Script {
     }
 }
 
-/// The length of the piece that comes with what happened.
+/// Returns the length in bytes of the piece that comes with an event.
 pub(crate) fn piece_len(what: What) -> usize
     ensures { result ≡ piece_len what }
 {

@@ -1,26 +1,28 @@
-//! What gives bytes in order.
+//! The source trait.
 ghost use Rattle.std.specs.Prelude.{◌≡◌, ◌≤◌, ◌<◌, ℕ, List, Option, length, IfOk, OnErr};
 ghost use Rattle.arch_base.specs.Counts.{IsCaused};
 ghost use Rattle.edge_io.specs.Left.{Gave};
 
 use thiserror::Error;
 
-/// A read failed: the source's count of faults rose.
+/// A failed read. The source's count of faults rose.
 #[derive(Clone, Copy, Debug, PartialEq, Eq, Error)]
 #[error("the source failed")]
 pub struct SourceFault;
 
-/// What gives bytes in order.
+/// A source that gives bytes in order.
 pub trait Source {
-    /// The bytes that are left, where the source tells them.
+    /// The remaining bytes, if the source is told.
     ghost left: { Self → Option (List ℕ) };
 
-    /// How often a read has failed.
+    /// The count of failed reads.
     ghost faults: { Self → ℕ };
 
-    /// Takes at least one byte off the front of what is left and puts it at the front of `into`, or answers 0, only
-    /// where none is left. The bytes of `into` behind those are free. A read that fails has taken nothing where the
-    /// source tells its bytes, and the count of faults rose.
+    /// Reads into the front of a buffer, and returns the number of bytes read.
+    ///
+    /// Reads at least one byte, and returns 0 only if no bytes remain. The rest of `into` may have
+    /// any content. `SourceFault` leaves the remaining bytes unchanged, if the source is told, and
+    /// the count of faults rose.
     fn read(&mut self, into: &mut [u8]) -> Result<usize, SourceFault>
         requires { 0 < length into.old }
         ensures within { IfOk result (λ count. count ≤ length into.new) }

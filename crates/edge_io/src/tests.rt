@@ -2,10 +2,10 @@
 ghost use Rattle.std.specs.Prelude.{◌<◌, length};
 
 use crate::{
-    Clock, ClockFault, Door, Event, MemClock, MemSink, MemSource, ScriptRefusal, Sink, SinkFault,
-    Source, SourceFault, What, read_in_one_way, script,
+    Clock, ClockFault, Door, Event, MemClock, MemSink, MemSource, Script, ScriptRefusal, Sink,
+    SinkFault, Source, SourceFault, What, read_in_one_way, script,
 };
-use arch_base::{Bytes, Numbers};
+use arch_base::{Bytes, NoMemory, Numbers};
 use std::alloc::{AllocError, Global};
 use std::test::Fail;
 
@@ -31,139 +31,218 @@ fn script_of_piece(alloc: Global, line: &str, len: usize) -> Result<Vec<u8>, All
     Ok(text)
 }
 
+/// Whether bytes are a script of so many events.
+fn has_events(alloc: Global, text: &str, count: u64) -> Result<bool, ScriptRefusal> {
+    let made = script(alloc, text.as_bytes())?;
+    let ends = made.event(count).is_none();
+    let reaches = count == 0 || made.event(count - 1).is_some();
+    Ok(ends && reaches)
+}
+
+/// The length of the piece of the script of one piece.
+fn piece_len(alloc: Global, line: &str, len: usize) -> Result<usize, Fail> {
+    let text = script_of_piece(alloc, line, len)?;
+    let made = script(alloc, &text)?;
+    Ok(made.piece(0).len())
+}
+
+/// Whether bytes are no script, and this event, from 1, is the first that is bad.
+fn is_bad_at(alloc: Global, bytes: &[u8], event: u64) -> bool {
+    script(alloc, bytes).err() == Some(ScriptRefusal::Bad { event })
+}
+
+/// Whether the script of one piece is bad at that piece.
+fn is_bad_piece(alloc: Global, line: &str, len: usize) -> Result<bool, AllocError> {
+    let text = script_of_piece(alloc, line, len)?;
+    Ok(is_bad_at(alloc, &text, 1))
+}
+
+/// Scripts, and how many events each has.
+const WHOLE: [(&str, u64); 9] = [
+    ("", 0),
+    ("0 q\n", 1),
+    ("253402300799 s\n", 1),
+    ("5 q\n4 q\n", 2),
+    ("5 o 1 control\n", 1),
+    ("5 e 1\n", 1),
+    ("5 b 1 1\n\n\n", 1),
+    ("5 b 1 5\n5 q\n\n\n", 1),
+    ("5 s\n5 q\n", 2),
+];
+
 #[test]
 fn whole_scripts_are_read(rt: HostRuntime) -> Result<(), Fail> {
     read_in_one_way();
-    for (text, count) in [
-        ("", 0),
-        ("0 q\n", 1),
-        ("253402300799 s\n", 1),
-        ("5 q\n4 q\n", 2),
-        ("5 o 1 control\n", 1),
-        ("5 e 1\n", 1),
-        ("5 b 1 1\n\n\n", 1),
-        ("5 b 1 5\n5 q\n\n\n", 1),
-        ("5 s\n5 q\n", 2),
-    ] {
-        let made = script(rt.alloc(), text.as_bytes())?;
-        assert!(rt; made.event(count).is_none(), "{text}");
-        assert!(rt; count == 0 || made.event(count - 1).is_some(), "{text}");
+    for (text, count) in &WHOLE {
+        assert!(rt; has_events(rt.alloc(), text, *count)?, "{text}");
     }
-    let longest = script_of_piece(rt.alloc(), "5 b 1 1048576\n", 1048576)?;
-    let made = script(rt.alloc(), &longest)?;
-    assert_eq!(rt; made.piece(0).len(), 1048576);
+    assert_eq!(rt; piece_len(rt.alloc(), "5 b 1 1048576\n", 1048576)?, 1048576);
     Ok(())
 }
+
+/// Texts that are no scripts, and the first bad event of each, from 1.
+const BAD: [(&str, u64); 23] = [
+    ("5 x 1\n", 1),
+    ("5 q", 1),
+    ("\n", 1),
+    ("5 b 1 3\nabc", 1),
+    ("5 b 1 3\nabcd\n", 1),
+    ("5 b 1 3\nab\n", 1),
+    ("5 b 1 0\n\n", 1),
+    ("5 b 1 01\na\n", 1),
+    ("5 b 2 1\na\n", 1),
+    ("253402300800 q\n", 1),
+    ("05 q\n", 1),
+    ("5  q\n", 1),
+    ("5 q\r\n", 1),
+    ("5 q \n", 1),
+    ("5 Q\n", 1),
+    ("5 o 2 control\n", 1),
+    ("5 o 1 Control\n", 1),
+    ("5 o 1 http\n", 1),
+    ("5 e 2\n", 1),
+    ("5 q\nx", 2),
+    ("5 q\n\n", 2),
+    ("5 s\n5 x\n", 2),
+    ("5 b 1 2\nab\n5 q\n5 b 1 9\nabc\n", 3),
+];
 
 #[test]
 fn the_first_bad_event_is_named(rt: HostRuntime) -> Result<(), Fail> {
-    for (text, event) in [
-        ("5 x 1\n", 1),
-        ("5 q", 1),
-        ("\n", 1),
-        ("5 b 1 3\nabc", 1),
-        ("5 b 1 3\nabcd\n", 1),
-        ("5 b 1 3\nab\n", 1),
-        ("5 b 1 0\n\n", 1),
-        ("5 b 1 01\na\n", 1),
-        ("5 b 2 1\na\n", 1),
-        ("253402300800 q\n", 1),
-        ("05 q\n", 1),
-        ("5  q\n", 1),
-        ("5 q\r\n", 1),
-        ("5 q \n", 1),
-        ("5 Q\n", 1),
-        ("5 o 2 control\n", 1),
-        ("5 o 1 Control\n", 1),
-        ("5 o 1 http\n", 1),
-        ("5 e 2\n", 1),
-        ("5 q\nx", 2),
-        ("5 q\n\n", 2),
-        ("5 s\n5 x\n", 2),
-        ("5 b 1 2\nab\n5 q\n5 b 1 9\nabc\n", 3),
-    ] {
-        let refused = script(rt.alloc(), text.as_bytes()).err();
-        assert!(rt; refused == Some(ScriptRefusal::Bad { event }), "{text}");
+    for (text, event) in &BAD {
+        assert!(rt; is_bad_at(rt.alloc(), text.as_bytes(), *event), "{text}");
     }
-    let longer = script_of_piece(rt.alloc(), "5 b 1 1048577\n", 1048577)?;
-    let refused = script(rt.alloc(), &longer).err();
-    assert!(rt; refused == Some(ScriptRefusal::Bad { event: 1 }));
+    assert!(rt; is_bad_piece(rt.alloc(), "5 b 1 1048577\n", 1048577)?);
     Ok(())
 }
 
+/// An event.
+fn event(moment: u64, what: What) -> Event {
+    Event { moment, what }
+}
+
+/// Whether a script's event of this number, from 0, is this one, with this piece.
+fn has_arrival(made: &Script, i: u64, event: &Event, piece: &str) -> bool {
+    let same = made.event(i) == Some(event);
+    let carries = made.piece(i) == piece.as_bytes();
+    same && carries
+}
+
+/// The opening of a connection.
+const OPENED: What = What::Opened {
+    conn: 1,
+    door: Door::Control,
+};
+
+/// The numbers, from 0, the moments and the pieces of six events.
+const ARRIVALS: [(u64, u64, What, &str); 6] = [
+    (0, 0, OPENED, ""),
+    (1, 5, What::Bytes { conn: 1, len: 3 }, "a\nb"),
+    (2, 7, What::Quiet, ""),
+    (3, 6, What::Bytes { conn: 1, len: 1 }, "c"),
+    (4, 8, What::Ended { conn: 1 }, ""),
+    (5, 9, What::Stop, ""),
+];
+
 #[test]
 fn events_have_their_pieces(rt: HostRuntime) -> Result<(), Fail> {
-    let text = "0 o 1 control\n5 b 1 3\na\nb\n7 q\n6 b 1 1\nc\n8 e 1\n9 s\n";
-    let made = script(rt.alloc(), text.as_bytes())?;
-    let opened = What::Opened {
-        conn: 1,
-        door: Door::Control,
-    };
-    for (i, moment, what, piece) in [
-        (0, 0, opened, ""),
-        (1, 5, What::Bytes { conn: 1, len: 3 }, "a\nb"),
-        (2, 7, What::Quiet, ""),
-        (3, 6, What::Bytes { conn: 1, len: 1 }, "c"),
-        (4, 8, What::Ended { conn: 1 }, ""),
-        (5, 9, What::Stop, ""),
-    ] {
-        assert!(rt; made.event(i) == Some(&Event { moment, what }), "event {i}");
-        assert!(rt; made.piece(i) == piece.as_bytes(), "piece {i}");
+    let text = b"0 o 1 control\n5 b 1 3\na\nb\n7 q\n6 b 1 1\nc\n8 e 1\n9 s\n";
+    let made = script(rt.alloc(), text)?;
+    for (i, moment, what, piece) in &ARRIVALS {
+        assert!(rt;
+            has_arrival(&made, *i, &event(*moment, *what), piece),
+            "event {i}"
+        );
     }
-    assert!(rt; made.event(6).is_none());
-    assert!(rt; made.piece(6).is_empty());
+    assert!(rt; made.event(6).is_none() && made.piece(6).is_empty());
     Ok(())
+}
+
+/// The list of the second call.
+fn second_call(alloc: Global) -> Result<Numbers, NoMemory> {
+    let mut listed = Numbers::new(alloc);
+    listed.push(2)?;
+    Ok(listed)
+}
+
+/// A source of five bytes, whose second read fails.
+fn failing_source(alloc: Global) -> Result<MemSource, NoMemory> {
+    let mut bytes = Bytes::new(alloc);
+    bytes.push_slice(b"abcde")?;
+    Ok(MemSource::new(alloc, bytes, second_call(alloc)?))
+}
+
+/// Whether its bytes come at the first and the third of four reads of three bytes.
+fn gives_its_bytes(source: &mut MemSource) -> bool {
+    let mut into = *b"...";
+    let first = read_through(source, &mut into);
+    let front = into;
+    let second = read_through(source, &mut into);
+    let third = read_through(source, &mut into);
+    let back = into;
+    let last = read_through(source, &mut into);
+    let counts = first == Ok(3) && second == Err(SourceFault) && third == Ok(2) && last == Ok(0);
+    counts && front == *b"abc" && back == *b"dec"
 }
 
 #[test]
 fn listed_reads_fail(rt: HostRuntime) -> Result<(), Fail> {
-    let mut bytes = Bytes::new(rt.alloc());
-    bytes.push_slice(b"abcde")?;
-    let mut faults = Numbers::new(rt.alloc());
-    faults.push(2)?;
-    let mut source = MemSource::new(rt.alloc(), bytes, faults);
-    let mut into = *b"...";
-    assert_eq!(rt; read_through(&mut source, &mut into), Ok(3));
-    assert_eq!(rt; into, *b"abc");
-    assert_eq!(rt; read_through(&mut source, &mut into), Err(SourceFault));
-    assert_eq!(rt; read_through(&mut source, &mut into), Ok(2));
-    assert_eq!(rt; into, *b"dec");
-    assert_eq!(rt; read_through(&mut source, &mut into), Ok(0));
+    let mut source = failing_source(rt.alloc())?;
+    assert!(rt; gives_its_bytes(&mut source));
     assert_eq!(rt; source.starved(), 0);
     Ok(())
 }
 
+/// Whether the first and the third of three writes are taken, where the second fails.
+fn takes_two_of_three(sink: &mut MemSink) -> bool {
+    let first = write_through(sink, b"ab");
+    let second = write_through(sink, b"cd");
+    let third = write_through(sink, b"ef");
+    let answers = first.is_ok() && second == Err(SinkFault) && third.is_ok();
+    answers && sink.taken() == b"abef".as_slice()
+}
+
+/// Whether a sink that was emptied takes what comes then.
+fn takes_after_clear(sink: &mut MemSink) -> bool {
+    sink.clear();
+    let emptied = sink.taken().is_empty();
+    let written = write_through(sink, b"g");
+    emptied && written.is_ok() && sink.taken() == b"g".as_slice()
+}
+
 #[test]
 fn listed_writes_fail(rt: HostRuntime) -> Result<(), Fail> {
-    let mut faults = Numbers::new(rt.alloc());
-    faults.push(2)?;
-    let mut sink = MemSink::new(rt.alloc(), faults);
-    assert_eq!(rt; write_through(&mut sink, b"ab"), Ok(()));
-    assert_eq!(rt; write_through(&mut sink, b"cd"), Err(SinkFault));
-    assert_eq!(rt; write_through(&mut sink, b"ef"), Ok(()));
-    assert!(rt; sink.taken() == b"abef".as_slice());
-    sink.clear();
-    assert!(rt; sink.taken().is_empty());
-    assert_eq!(rt; write_through(&mut sink, b"g"), Ok(()));
-    assert!(rt; sink.taken() == b"g".as_slice());
+    let mut sink = MemSink::new(rt.alloc(), second_call(rt.alloc())?);
+    assert!(rt; takes_two_of_three(&mut sink));
+    assert!(rt; takes_after_clear(&mut sink));
     assert_eq!(rt; sink.starved(), 0);
     Ok(())
 }
 
-#[test]
-fn moments_pass_up_to_the_last(rt: HostRuntime) -> Result<(), Fail> {
-    let mut moments = Numbers::new(rt.alloc());
+/// A clock of three moments, whose second call fails.
+fn failing_clock(alloc: Global) -> Result<MemClock, NoMemory> {
+    let mut moments = Numbers::new(alloc);
     moments.push(7)?;
     moments.push(253402300799)?;
     moments.push(5)?;
-    let mut faults = Numbers::new(rt.alloc());
-    faults.push(2)?;
-    let mut clock = MemClock::new(rt.alloc(), moments, faults);
-    assert_eq!(rt; now_through(&mut clock), Ok(7));
-    assert_eq!(rt; now_through(&mut clock), Err(ClockFault));
-    assert_eq!(rt; now_through(&mut clock), Ok(253402300799));
-    assert_eq!(rt; now_through(&mut clock), Ok(5));
-    assert_eq!(rt; now_through(&mut clock), Ok(5));
+    Ok(MemClock::new(alloc, moments, second_call(alloc)?))
+}
+
+/// Whether its moments come one by one, and the last again.
+fn gives_its_moments(clock: &mut MemClock) -> bool {
+    let first = now_through(clock);
+    let second = now_through(clock);
+    let third = now_through(clock);
+    let fourth = now_through(clock);
+    let again = now_through(clock);
+    let early = first == Ok(7) && second == Err(ClockFault) && third == Ok(253402300799);
+    early && fourth == Ok(5) && again == Ok(5)
+}
+
+#[test]
+fn moments_pass_up_to_the_last(rt: HostRuntime) -> Result<(), Fail> {
+    let mut clock = failing_clock(rt.alloc())?;
+    assert!(rt; gives_its_moments(&mut clock));
     assert_eq!(rt; clock.starved(), 0);
     Ok(())
 }

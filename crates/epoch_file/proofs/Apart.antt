@@ -1,4 +1,4 @@
--- Epochs of the same bytes have the same entries.
+-- Epochs with the same bytes have the same entries.
 use Rattle.std.proofs.Common.{◌≡◌, ℕ, ◌<◌, ◌≤◌, ◌^◌, List, [], ◌∷◌, ◌++◌, codes, length, length-append, Option, Some, None, refl, sym, ap, ◌∙◌, arith}
 use Rattle.std.proofs.lemmas.List.{append_cancel_left}
 use Rattle.std.proofs.lemmas.Fmt.{decimal_injective}
@@ -21,31 +21,31 @@ use Rattle.epoch_file.specs.Entries.{EpochEntry, IsEpochEntry, AreEpochEntries, 
 use Rattle.arch_model.specs.Validity.{last_moment}
 use Rattle.epoch_file.proofs.Sizes.{content_behind, objects, headed, length-entry}
 
--- a number and a space tell the number
+-- A number and a space determine the number.
 number_once : (m n : ℕ) (x y : List ℕ) → m < 2 ^ 64 → n < 2 ^ 64 → decimal m ++ 32 ∷ x ≡ decimal n ++ 32 ∷ y → m ≡ n
 number_once m n x y small fits e =
     decimal_injective m n small fits (parted-once 32 (decimal m) (decimal n) x y (NoByte-decimal 32 m (omega arith) small) (NoByte-decimal 32 n (omega arith) fits) e).0
 
--- lists of the same head
+-- Lists with the same head.
 tail_once : (c : ℕ) (x y : List ℕ) → c ∷ x ≡ c ∷ y → x ≡ y
 tail_once c x y e = cc
 
--- what stands behind digits and a line feed
+-- The bytes after digits and a line feed.
 behind_digits : (digits x y : List ℕ) (end : ℕ) → digits ++ end ∷ x ≡ digits ++ end ∷ y → x ≡ y
 behind_digits digits x y end e = tail_once end x y (append_cancel_left digits (end ∷ x) (end ∷ y) e)
 
--- what stands behind a parent's line
+-- The bytes after a parent's line.
 behind_parent : (parent : Option Id20) (x y : List ℕ) → parent_line parent x ≡ parent_line parent y → x ≡ y
 behind_parent None x y e = e
 behind_parent (Some id) x y e = behind_digits (encode_lower id.0) x y 10 (append_cancel_left (codes "parent ") (encode_lower id.0 ++ 10 ∷ x) (encode_lower id.0 ++ 10 ∷ y) e)
 
--- what stands behind the lines of tree and parent
+-- The bytes after the lines of tree and parent.
 behind_ids : (tree : Id20) (parent : Option Id20) (x y : List ℕ) → tree_line tree (parent_line parent x) ≡ tree_line tree (parent_line parent y) → x ≡ y
 behind_ids tree parent x y e =
     behind_parent parent x y (behind_digits (encode_lower tree.0) (parent_line parent x) (parent_line parent y) 10
     (append_cancel_left (codes "tree ") (encode_lower tree.0 ++ 10 ∷ parent_line parent x) (encode_lower tree.0 ++ 10 ∷ parent_line parent y) e))
 
--- what stands behind the author's name and address
+-- The bytes after the author's name and address.
 behind_author : (name email : List ℕ) (m n : ℕ) (z w : ℤ) (x y : List ℕ) → author_line name email m z x ≡ author_line name email n w y → decimal m ++ 32 ∷ zone_text z x ≡ decimal n ++ 32 ∷ zone_text w y
 behind_author name email m n z w x y e =
     let a = number_part 32 m (zone_text z x) in
@@ -54,11 +54,11 @@ behind_author name email m n z w x y e =
     let emails = tail_once 60 (email_part email a) (email_part email b) (behind_digits name (60 ∷ email_part email a) (60 ∷ email_part email b) 32 names) in
     tail_once 32 a b (behind_digits email (32 ∷ a) (32 ∷ b) 62 emails)
 
--- and behind a time zone
+-- The bytes after a time zone.
 behind_zone : (zone : ℤ) (x y : List ℕ) → zone_text zone x ≡ zone_text zone y → x ≡ y
 behind_zone zone x y e = cc
 
--- two commits of one text, tree and parent that have the same content are of one moment
+-- Two commits with the same text, tree, parent and content have the same moment.
 moment_once : (text : List ℕ) (tree : Id20) (parent : Option Id20) (m n : ℕ) → m ≤ last_moment → n ≤ last_moment
     → commit_content (commit_of text tree parent m) ≡ commit_content (commit_of text tree parent n) → m ≡ n
 unfolding commit_of
@@ -77,15 +77,15 @@ moment_once text tree parent m n small fits e = go (date_fact text) (behind_ids 
       number_once m n (codes "+0000\n\n" ++ end) (codes "+0000\n\n" ++ end) (omega (arith, small)) (omega (arith, fits))
       (append_cancel_left (codes "\ncommitter piv2 <piv2@localhost> ") (number_part 32 m (codes "+0000\n\n" ++ end)) (number_part 32 n (codes "+0000\n\n" ++ end)) parts)
 
--- the content of a tree is small
+-- The content of a tree is small.
 tree_small : (name : ℕ) (text : List ℕ) → length (tree_content name (blob_id_of text)) < 2 ^ 64
 tree_small name text = omega (arith, length-tree_content name (blob_id_of text) (IsId-id_of (blob_spelling text)).len)
 
--- an entry of these parts
+-- Entries with equal parts are equal.
 same_entry : (e f : EpochEntry) → e.name ≡ f.name → e.text ≡ f.text → e.moment ≡ f.moment → e ≡ f
 same_entry e f n t m = λ i. record { name = n i; text = t i; moment = m i }
 
--- the first of entries is told by their bytes, and so is what follows it
+-- Bytes determine the first entry that they start with, and the rest after it.
 pub entry_once : (parent : Option Id20) (e f : EpochEntry) (x y : List ℕ) → IsEpochEntry e → IsEpochEntry f → length (bytes_behind parent e ++ x) < 2 ^ 64
     → bytes_behind parent e ++ x ≡ bytes_behind parent f ++ y → (e ≡ f) × (x ≡ y)
 entry_once parent e f x y h k small is =
@@ -112,11 +112,11 @@ entry_once parent e f x y h k small is =
     let moments = moment_once f.text (id_of (tree_of f.name f.text)) parent e.moment f.moment h.moment k.moment (moved ∙ contents.0) in
     (same_entry e f names texts.0 moments, contents.1)
 
--- an entry is not nothing
+-- An entry isn't empty.
 entry_not_none : (parent : Option Id20) (e : EpochEntry) (x : List ℕ) → [] ≡ bytes_behind parent e ++ x → ⊥
 entry_not_none parent e x is = omega (arith, ap length is, length-append (bytes_behind parent e) x, length-entry parent e)
 
--- entries behind a parent are told by their bytes
+-- The bytes of entries after a parent determine them.
 chain_once : (parent : Option Id20) (es fs : List EpochEntry) → AreEpochEntries es → AreEpochEntries fs → length (chain parent es) < 2 ^ 64 → chain parent es ≡ chain parent fs → es ≡ fs
 chain_once parent [] [] h k small is = refl
 chain_once parent [] (f ∷ fs) h k small is = absurd (entry_not_none parent f (chain (Some (commit_behind parent f)) fs) is)
@@ -129,6 +129,6 @@ chain_once parent (e ∷ es) (f ∷ fs) h k small is =
     let one = first.0 in
     λ i. one i ∷ others i
 
--- and so are those of an epoch
+-- The bytes of an epoch determine its entries.
 pub epochs_differ : EpochsDiffer
 epochs_differ es fs h k small is = chain_once None es fs h k (omega (arith, small, length-append magic (chain None es))) (append_cancel_left magic (chain None es) (chain None fs) is)

@@ -1,4 +1,4 @@
--- How a window comes to have all of an entry.
+-- How a window gets all of an entry.
 use Rattle.std.proofs.Common.{◌≡◌, ◌≢◌, ℕ, ◌+◌, ◌-◌, ◌≤◌, min, Bool, true, false, List, [], ◌++◌, length, take, drop, Option, Some, None, Result, Ok, Err, refl, sym, ap, subst, ◌∙◌, arith, length-append, length-take, length-drop}
 use Rattle.std.proofs.lemmas.List.{append_assoc, append-nil, take_at, take-append-drop, take-append-le, drop_at}
 use Rattle.disk_model.specs.declared.refusal.WalkRefusal.{WalkRefusal}
@@ -12,47 +12,47 @@ use Rattle.epoch_file.specs.Steps.{Brings, KeepsShown, Walked, BeginsAt, BeginsI
 use Rattle.epoch_file.specs.Windows.{Shows, Comes, IsInside}
 use Rattle.epoch_file.proofs.Showing.{left-length, shows-more}
 
--- where the held bytes can't be an entry's, none stands there
+-- If the held bytes can't be an entry's, there is no entry.
 pub brings-none : (content : Option Content) (part : Part) (old now : List ℕ) → WhereTold (KeepsShown part old now) content → Sees now (part.end - part.place) Lacks → WhereTold (Brings part old now (Ok false)) content
 brings-none None part old now keeps sees = tt
 brings-none (Some k) part old now keeps sees = λ shows parent e rest valid is.
     let s = keeps shows in
     sees parent e s.rest rest tt (record { valid = valid; is = sym s.is ∙ is; all = ap length (sym s.is) ∙ left-length (bytes_of (k part.file).seen) part s.whole })
 
--- where they are all of one that stands there, the window has it
+-- If the held bytes have all of an entry, so does the window.
 pub brings-whole : (content : Option Content) (part : Part) (old now : List ℕ) → WhereTold (KeepsShown part old now) content → Sees now (part.end - part.place) Whole → WhereTold (Brings part old now (Ok true)) content
 brings-whole None part old now keeps sees = tt
 brings-whole (Some k) part old now keeps sees = λ shows.
     let s = keeps shows in
     (s, λ parent e rest valid is. sees parent e s.rest rest tt (record { valid = valid; is = sym s.is ∙ is; all = ap length (sym s.is) ∙ left-length (bytes_of (k part.file).seen) part s.whole }))
 
--- a window that shows a file shows it while that is unchanged
+-- A window that shows a file shows it while the file is unchanged.
 shows_after : (k m : Content) (part : Part) (now : List ℕ) → Unchanged k m → Shows (bytes_of (k part.file).seen) part now → Shows (bytes_of (m part.file).seen) part now
 shows_after k m part now same shows = let P : Kept → Type 0 = λ kept. Shows (bytes_of kept.seen) part now in subst P (sym (same part.file)) shows
 
 shows_before : (k m : Content) (part : Part) (now : List ℕ) → Unchanged k m → Shows (bytes_of (m part.file).seen) part now → Shows (bytes_of (k part.file).seen) part now
 shows_before k m part now same shows = let P : Kept → Type 0 = λ kept. Shows (bytes_of kept.seen) part now in subst P (same part.file) shows
 
--- where no more come though more are wanted, the window shows nothing
+-- A window shows nothing if no bytes come although some are left.
 pub brings-stop : (first mid : Option Content) (part : Part) (room : ℕ) (old now new : List ℕ) → WhereTold (KeepsShown part old now) first → Told Unchanged first mid
     → WhereTold (Comes part room now new (Ok false)) mid → WhereTold (Brings part old new (Ok false)) first
 brings-stop None mid part room old now new keeps same comes = tt
 brings-stop (Some k) None part room old now new keeps same comes = absurd same
 brings-stop (Some k) (Some m) part room old now new keeps same comes = λ shows. absurd (comes (shows_after k m part now same (keeps shows)))
 
--- and where more come it shows them
+-- If bytes come, the window shows them.
 pub keeps-more : (first mid : Option Content) (part : Part) (room : ℕ) (old now new : List ℕ) → WhereTold (KeepsShown part old now) first → Told Unchanged first mid
     → WhereTold (Comes part room now new (Ok true)) mid → WhereTold (KeepsShown part old new) first
 keeps-more None mid part room old now new keeps same comes = tt
 keeps-more (Some k) None part room old now new keeps same comes = absurd same
 keeps-more (Some k) (Some m) part room old now new keeps same comes = λ shows. shows_before k m part new same (comes (shows_after k m part now same (keeps shows))).0
 
--- at first it does
+-- At first the window shows what it showed.
 pub keeps-first : (content : Option Content) (part : Part) (old : List ℕ) → WhereTold (KeepsShown part old old) content
 keeps-first None part old = tt
 keeps-first (Some k) part old = λ shows. shows
 
--- what a read puts into a window
+-- The bytes that a read puts into a window.
 pub comes-some : (content : Option Content) (part : Part) (place n : ℕ) (before after old chunk new : List ℕ) → WhereTold (HasRead part.file place n before after) content → chunk ≡ take n after
     → new ≡ old ++ chunk → place ≡ part.place + length old → part.place + length old + length before ≤ part.end → WhereTold (Comes part (length before) old new (Ok true)) content
 comes-some None part place n before after old chunk new read is grown at fits = tt
@@ -68,7 +68,7 @@ comes-some (Some k) part place n before after old chunk new read is grown at fit
     let long : length chunk ≡ n = ap length next ∙ (ap (λ (p : ℕ). length (take n (drop p bytes))) (sym at) ∙ there) in
     (subst (λ (l : List ℕ). Shows bytes part l) (sym grown) s, omega (arith, all, long, ap length grown, length-append old chunk))
 
--- with more room as many would have come, where no more are left
+-- More room brings equally many bytes if no more are left.
 pub comes-wider : (content : Option Content) (part : Part) (cut room : ℕ) (old new : List ℕ) (result : Result Bool WalkRefusal) → min (length old + room) (part.end - part.place) ≤ min (length old + cut) (part.end - part.place)
     → WhereTold (Comes part cut old new result) content → WhereTold (Comes part room old new result) content
 comes-wider None part cut room old new result less comes = tt
@@ -76,11 +76,11 @@ comes-wider (Some k) part cut room old new (Ok true) less comes = λ shows. let 
 comes-wider (Some k) part cut room old new (Ok false) less comes = comes
 comes-wider (Some k) part cut room old new (Err e) less comes = tt
 
--- an empty window shows a file from its front on
+-- An empty window shows a file from its front on.
 shows_first : (bytes : List ℕ) (part : Part) → part.place ≡ 0 → part.end ≤ length bytes → Shows bytes part []
 shows_first bytes part front whole = record { rest = take part.end bytes; is = ap (λ (n : ℕ). drop n (take part.end bytes)) front; whole = whole; inside = omega (arith, front) }
 
--- where the magic isn't at the front of what was read, it isn't at the file's
+-- If what was read doesn't start with the magic, the file doesn't either.
 begins_none : (content : Option Content) (part : Part) (room : ℕ) (window : List ℕ) (came : Bool) → part.place ≡ 0 → 8 ≤ part.end → 8 ≤ room → WhereTold (Comes part room [] window (Ok came)) content
     → ((rest : List ℕ) → window ≢ magic ++ rest) → WhereTold (λ k. BeginsAt part.end (bytes_of (k part.file).seen) (Ok None)) content
 begins_none None part room window came front some big comes none = tt
@@ -93,7 +93,7 @@ begins_none (Some k) part room window true front some big comes none = λ whole 
     let same : take 8 (take part.end bytes) ≡ take 8 window = ap (take 8) shown ∙ take-append-le 8 window got.0.rest long in
     none (drop 8 window) (sym (take-append-drop 8 window) ∙ ap (λ (l : List ℕ). l ++ drop 8 window) (sym same ∙ is))
 
--- a walk begins behind the magic
+-- A walk starts after the magic.
 begins_some : (content : Option Content) (part : Part) (room : ℕ) (window : List ℕ) (came : Bool) (s : State) → part.place ≡ 0 → WhereTold (Comes part room [] window (Ok came)) content
     → BeginsWith part window (Some s) → WhereTold (λ k. BeginsAt part.end (bytes_of (k part.file).seen) (Ok (Some s))) content
 begins_some None part room window came s front comes b = tt
@@ -117,7 +117,7 @@ begins_some (Some k) part room window true s front comes b = λ whole.
     let Holds : State → Type 0 = λ t. Walked bytes t × (t.part.end ≡ part.end) in
     subst Holds (sym b.2) (walked, refl)
 
--- either way
+-- A walk starts after the magic, or the magic isn't there.
 pub begins-either : (content : Option Content) (part : Part) (room : ℕ) (old window : List ℕ) (came : Bool) (found : Option State) → old ≡ [] → part.place ≡ 0 → 8 ≤ part.end → 8 ≤ room
     → WhereTold (Comes part room old window (Ok came)) content → BeginsWith part window found → WhereTold (λ k. BeginsAt part.end (bytes_of (k part.file).seen) (Ok found)) content
 begins-either content part room old window came None empty front some big comes b =
@@ -125,7 +125,7 @@ begins-either content part room old window came None empty front some big comes 
 begins-either content part room old window came (Some s) empty front some big comes b =
     begins_some content part room window came s front (subst (λ (l : List ℕ). WhereTold (Comes part room l window (Ok came)) content) empty comes) b
 
--- and it begins inside the part
+-- A walk starts inside the part.
 pub begins-inside : (part : Part) (window : List ℕ) (found : Option State) → part.place ≡ 0 → IsInside part window → BeginsWith part window found → BeginsIn part.file part.end (Ok found)
 begins-inside part window None front inside b = tt
 begins-inside part window (Some s) front inside b =

@@ -1,4 +1,4 @@
--- Calls that only read, one behind the other.
+-- Calls that only read, one after the other.
 use Rattle.std.proofs.Common.{◌≡◌, ℕ, ◌≤◌, Option, Some, None, Result, Ok, Err, refl, subst, ◌∙◌, arith}
 use Rattle.arch_base.specs.Counts.{Rose}
 use Rattle.disk_model.specs.declared.name.FileName.{FileName}
@@ -8,7 +8,7 @@ use Rattle.disk_model.specs.Disk.{Files, Kept, Content, Image, Fits, Told, Where
 use Rattle.disk_model.specs.Moments.{started, goes_on, joined}
 use Rattle.epoch_file.specs.Runs.{OnlyReads, FaultRose}
 
--- what is unchanged stays
+-- Unchanged content is unchanged.
 pub unchanged-refl : (content : Option Content) → Told Unchanged content content
 unchanged-refl None = tt
 unchanged-refl (Some k) = λ name. refl
@@ -21,24 +21,24 @@ unchanged-trans (Some x) None c p q = absurd p
 unchanged-trans (Some x) (Some y) None p q = absurd q
 unchanged-trans (Some x) (Some y) (Some z) p q = λ name. q name ∙ p name
 
--- and has the same images
+-- Unchanged content has the same images.
 pub image_before : (a b : Option Content) (image : Files) → Told Unchanged a b → Image b image → Image a image
 image_before None b image same left = tt
 image_before (Some x) None image same left = absurd same
 image_before (Some x) (Some y) image same left = λ name. let P : Kept → Type 0 = λ kept. Fits kept.sure (image name) in subst P (same name) (left name)
 
--- what holds of the content holds of it where nothing changed
+-- What holds of the content holds of it before, if nothing changed.
 pub told_back : (P : Content → Type 0) (a b : Option Content) → ((x y : Content) → ((name : FileName) → y name ≡ x name) → P y → P x) → Told Unchanged a b → WhereTold P b → WhereTold P a
 told_back P None b back same h = tt
 told_back P (Some x) None back same h = absurd same
 told_back P (Some x) (Some y) back same h = back x y same h
 
 module _ {D : Type 0} (content : D → Option Content) (moment : D → ℕ) (left_since : D → ℕ → Files → Type 0) (faults : D → ℕ) where
-  -- no call
+  -- No call.
   pub reads-none : (old : D) → ((image : Files) → left_since old (moment old) image → Image (content old) image) → OnlyReads content moment left_since faults old old
   reads-none old now = record { same = unchanged-refl (content old); any_moment = started moment left_since old (Image (content old)) now; later = omega arith }
 
-  -- one call
+  -- One call.
   pub reads-one : (old new : D) → ((image : Files) → left_since old (moment old) image → Image (content old) image) → Told Unchanged (content old) (content new)
       → Elapses (moment old) (moment new) (left_since old) (left_since new) (content new) → faults old ≤ faults new → OnlyReads content moment left_since faults old new
   reads-one old new now same time later = record {
@@ -47,7 +47,7 @@ module _ {D : Type 0} (content : D → Option Content) (moment : D → ℕ) (lef
     later = later;
   }
 
-  -- two runs
+  -- Two runs.
   pub reads-both : (old mid new : D) → OnlyReads content moment left_since faults old mid → OnlyReads content moment left_since faults mid new → OnlyReads content moment left_since faults old new
   reads-both old mid new p q = record {
     same = unchanged-trans (content old) (content mid) (content new) p.same q.same;
@@ -55,11 +55,11 @@ module _ {D : Type 0} (content : D → Option Content) (moment : D → ℕ) (lef
     later = omega (arith, p.later, q.later);
   }
 
--- a count that rose later rose
+-- A count that rose later rose.
 pub rose-before : (a b c : ℕ) → a ≤ b → Rose b c → Rose a c
 rose-before a b c le rose = omega arith
 
--- a fault that came later came
+-- A fault that came later came.
 pub fault-later : {T : Type 0} (a b c : ℕ) (result : Result T WalkRefusal) → a ≤ b → FaultRose b c result → FaultRose a c result
 fault-later a b c (Ok value) le rose = tt
 fault-later a b c (Err DiskFault) le rose = rose-before a b c le rose

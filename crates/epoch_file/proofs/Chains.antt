@@ -1,4 +1,4 @@
--- Entries one behind the other.
+-- Entries one after the other.
 use Rattle.std.proofs.Common.{◌≡◌, ℕ, ◌+◌, List, [], ◌∷◌, ◌++◌, length, Option, Some, None, refl, sym, ap, ◌∙◌, arith, length-append}
 use Rattle.std.proofs.lemmas.List.{append_assoc, append-nil}
 use Rattle.arch_base.specs.declared.ids.Id20.{Id20}
@@ -7,24 +7,24 @@ use Rattle.epoch_file.specs.declared.entry.Seen.{Seen}
 use Rattle.epoch_file.specs.Entries.{EpochEntry, IsEpochEntry, AreEpochEntries, bytes_behind, commit_behind, chain, last_of, epoch_of}
 use Rattle.epoch_file.specs.Walking.{seen_at, seen_from}
 
--- one entry more behind others
+-- One more entry after others.
 pub chain-push : (parent : Option Id20) (es : List EpochEntry) (e : EpochEntry) → chain parent (es ++ e ∷ []) ≡ chain parent es ++ bytes_behind (last_of parent es) e
 chain-push parent [] e = append-nil (bytes_behind parent e)
 chain-push parent (first ∷ es) e =
     ap (λ (bytes : List ℕ). bytes_behind parent first ++ bytes) (chain-push (Some (commit_behind parent first)) es e)
     ∙ sym (append_assoc (bytes_behind parent first) (chain (Some (commit_behind parent first)) es) (bytes_behind (last_of (Some (commit_behind parent first)) es) e))
 
--- is the last of them
+-- The appended entry is the last of them.
 pub last-push : (parent : Option Id20) (es : List EpochEntry) (e : EpochEntry) → last_of parent (es ++ e ∷ []) ≡ Some (commit_behind (last_of parent es) e)
 last-push parent [] e = refl
 last-push parent (first ∷ es) e = last-push (Some (commit_behind parent first)) es e
 
--- and is one that may stand in a file, too
+-- Entries that a file may have, with one more.
 pub valid-push : (es : List EpochEntry) (e : EpochEntry) → AreEpochEntries es → IsEpochEntry e → AreEpochEntries (es ++ e ∷ [])
 valid-push [] e h k = (k, tt)
 valid-push (first ∷ es) e h k = (h.0, valid-push es e h.1 k)
 
--- it is seen behind them
+-- The appended entry is recorded after them.
 pub seen-push : (place : ℕ) (parent : Option Id20) (es : List EpochEntry) (e : EpochEntry)
     → seen_from place parent (es ++ e ∷ []) ≡ seen_from place parent es ++ seen_at (place + length (chain parent es)) (last_of parent es) e ∷ []
 seen-push place parent [] e = ap (λ (at : ℕ). seen_at at parent e ∷ []) (omega arith)
@@ -35,11 +35,11 @@ seen-push place parent (first ∷ es) e =
     let rest = seen-push (place + size) next es e in
     ap (λ (seen : List Seen). seen_at place parent first ∷ seen) (rest ∙ ap (λ (n : ℕ). seen_from (place + size) next es ++ seen_at n (last_of next es) e ∷ []) at)
 
--- the epoch has its bytes at its end
+-- The epoch ends with the appended entry's bytes.
 pub epoch-push : (es : List EpochEntry) (e : EpochEntry) → epoch_of (es ++ e ∷ []) ≡ epoch_of es ++ bytes_behind (last_of None es) e
 epoch-push es e = ap (λ (bytes : List ℕ). magic ++ bytes) (chain-push None es e) ∙ sym (append_assoc magic (chain None es) (bytes_behind (last_of None es) e))
 
--- as many are seen as there are
+-- There are as many records as entries.
 pub length-seen : (place : ℕ) (parent : Option Id20) (es : List EpochEntry) → length (seen_from place parent es) ≡ length es
 length-seen place parent [] = refl
 length-seen place parent (e ∷ es) = omega (arith, length-seen (place + length (bytes_behind parent e)) (Some (commit_behind parent e)) es)

@@ -20,18 +20,18 @@ use Rattle.epoch_file.specs.Reading.{IsParted, HasParts, PartsAgain, AreIds, IsR
 use Rattle.epoch_file.specs.Walking.{seen_at}
 use Rattle.epoch_file.proofs.Kept.{commit_valid, committed-is}
 
--- by parts that are found
+-- By parts that are found.
 pub reads-parted : (place : ℕ) (parent : Option Id20) (bytes : List ℕ) (parts : Parts) (result : Result (Option (Seen × ℕ)) NoMemory) → PartsAgain bytes (Some parts)
     → ReadsWhere (λ e. HasParts parent e parts) place parent bytes result → Reads place parent bytes result
 reads-parted place parent bytes parts (Ok None) again reads = λ p e rest valid is. reads p e rest valid is (again parent e rest valid is)
 reads-parted place parent bytes parts (Ok (Some found)) again reads = reads
 reads-parted place parent bytes parts (Err e) again reads = tt
 
--- where they are none
+-- If the bytes have no parts.
 pub reads-unparted : (place : ℕ) (parent : Option Id20) (bytes : List ℕ) → PartsAgain bytes None → Reads place parent bytes (Ok None)
 reads-unparted place parent bytes again = λ p e rest valid is. again parent e rest valid is
 
--- a moment is found in the content of an entry's commit
+-- A moment is found in the content of an entry's commit.
 abbrev pub MomentAgain : List ℕ → Option ℕ → Type 0
 MomentAgain content found = (c : Commit) → IsCommit c → content ≡ commit_content c → c.committed ≤ last_moment → found ≡ Some c.committed
 
@@ -42,7 +42,7 @@ moment_is parent e parts found p valid has again =
     let at = committed-is e.text tree parent e.moment in
     again commit (commit_valid e.text tree parent e.moment (IsId-id_of (tree_of e.name e.text)) p valid.moment) has.commit (omega (arith, at, valid.moment)) ∙ ap Some at
 
--- by the moment that is found
+-- By the moment that is found.
 pub reads-moment : (place : ℕ) (parent : Option Id20) (bytes : List ℕ) (parts : Parts) (moment : ℕ) (result : Result (Option (Seen × ℕ)) NoMemory) → MomentAgain parts.commit.now (Some moment)
     → ReadsWhere (λ e. HasParts parent e parts × (moment ≡ e.moment)) place parent bytes result → ReadsWhere (λ e. HasParts parent e parts) place parent bytes result
 reads-moment place parent bytes parts moment (Ok None) again reads = λ p e rest valid is has.
@@ -50,16 +50,16 @@ reads-moment place parent bytes parts moment (Ok None) again reads = λ p e rest
 reads-moment place parent bytes parts moment (Ok (Some found)) again reads = reads
 reads-moment place parent bytes parts moment (Err e) again reads = tt
 
--- where there is none
+-- If there is no moment.
 pub reads-no_moment : (place : ℕ) (parent : Option Id20) (bytes : List ℕ) (parts : Parts) → MomentAgain parts.commit.now None → ReadsWhere (λ e. HasParts parent e parts) place parent bytes (Ok None)
 reads-no_moment place parent bytes parts again = λ p e rest valid is has. none-some e.moment (moment_is parent e parts None p valid has again)
 
--- where the text is no storage text
+-- If the text is no storage text.
 pub reads-unstored : (place : ℕ) (parent : Option Id20) (bytes : List ℕ) (parts : Parts) (moment : ℕ) → (IsStorageText parts.text.now → ⊥)
     → ReadsWhere (λ e. HasParts parent e parts × (moment ≡ e.moment)) place parent bytes (Ok None)
 reads-unstored place parent bytes parts moment none = λ p e rest valid is has. none (subst IsStorageText (sym has.0.text) valid.text)
 
--- where the bytes are others than those of the entry
+-- If the bytes differ from those of the entry.
 pub reads-other : (place : ℕ) (parent : Option Id20) (bytes : List ℕ) (parts : Parts) (moment : ℕ) (front : List ℕ) → front ≡ take parts.size bytes → front ≢ entry_bytes parts.name parts.text.now moment parent
     → ReadsWhere (λ e. HasParts parent e parts × (moment ≡ e.moment)) place parent bytes (Ok None)
 reads-other place parent bytes parts moment front cut other = λ p e rest valid is has.
@@ -70,7 +70,7 @@ reads-other place parent bytes parts moment front cut other = λ p e rest valid 
     let same : entry_bytes parts.name parts.text.now moment parent ≡ entry_bytes e.name e.text e.moment parent = λ i. entry_bytes (n i) (t i) (m i) parent in
     other (cut ∙ (here ∙ sym same))
 
--- and where they are those
+-- If the bytes are those of the entry.
 pub reads-entry : (place : ℕ) (parent : Option Id20) (bytes : List ℕ) (parts : Parts) (moment : ℕ) (front : List ℕ) (ids : EntryIds) (seen : Seen) → IsParted bytes parts → PartsAgain bytes (Some parts)
     → moment ≤ last_moment → IsStorageText parts.text.now → front ≡ take parts.size bytes → front ≡ entry_bytes parts.name parts.text.now moment parent → AreIds parts.name parts.text.now moment parent ids
     → seen ≡ seen_by place parts moment ids → IsRead place parent bytes (seen, parts.size)

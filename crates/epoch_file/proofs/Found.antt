@@ -1,4 +1,4 @@
--- What is found at the front of bytes is what is spelled there.
+-- The object found at the front of bytes is the one spelled there.
 use Rattle.std.proofs.Common.{◌≡◌, ℕ, List, sym, ap, ◌∙◌, Bor}
 use Rattle.arch_base.specs.declared.ids.Id20.{Id20}
 use Rattle.git_objects.specs.declared.objects.Object.{Object}
@@ -6,14 +6,14 @@ use Rattle.git_objects.specs.declared.objects.Object.TheVariants.{Blob, Tree, Co
 use Rattle.git_objects.specs.Objects.{BlobOf, TreeOf, CommitOf}
 use Rattle.git_objects.specs.Reading.{shown}
 
--- a blob
+-- A blob.
 pub blob_is : (found : Object) (held : Bor (List ℕ)) (content : List ℕ) → found ≡ Blob held → shown found ≡ BlobOf content → held.now ≡ content
 blob_is found held content is e = let same : BlobOf held.now ≡ BlobOf content = ap shown (sym is) ∙ e in cc
 
--- a tree
+-- A tree.
 pub tree_is : (found : Object) (m : ℕ) (i : Id20) (name : ℕ) (id : Id20) → found ≡ Tree m i → shown found ≡ TreeOf name id → m ≡ name
 tree_is found m i name id is e = let same : TreeOf m i ≡ TreeOf name id = ap shown (sym is) ∙ e in cc
 
--- a commit
+-- A commit.
 pub commit_is : (found : Object) (held : Bor (List ℕ)) (content : List ℕ) → found ≡ Commit held → shown found ≡ CommitOf content → held.now ≡ content
 commit_is found held content is e = let same : CommitOf held.now ≡ CommitOf content = ap shown (sym is) ∙ e in cc

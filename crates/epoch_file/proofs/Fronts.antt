@@ -1,8 +1,8 @@
--- Lists at the front of lists.
+-- Prefixes of lists.
 use Rattle.std.proofs.Common.{◌≡◌, ℕ, ◌≤◌, ◌⊎◌, List, [], ◌∷◌, ◌++◌, length, drop, length-append, refl, sym, ap, ◌∙◌, inl, inr, arith}
 use Rattle.std.proofs.lemmas.List.{drop_at}
 
--- a front that is no longer than what is held lies in it
+-- A prefix that is no longer than the held bytes is a prefix of them.
 pub within : (held more x y : List ℕ) → held ++ more ≡ x ++ y → length x ≤ length held → held ≡ x ++ drop (length x) held
 within held more [] y e le = refl
 within [] more (b ∷ x) y e le = absurd (omega arith)
@@ -12,11 +12,11 @@ within (h ∷ held) more (b ∷ x) y e le =
     let rest : held ≡ x ++ drop (length x) held = within held more x y tails (omega arith) in
     λ i. heads i ∷ rest i
 
--- it does where so much is held that it must, or where nothing is left
+-- It is one if enough bytes are held, or if nothing is left.
 pub fits : (held more x y : List ℕ) (count left : ℕ) → held ++ more ≡ x ++ y → length (held ++ more) ≡ left → length x ≤ count → (count ≤ length held) ⊎ (left ≤ length held) → length x ≤ length held
 fits held more x y count left e all le (inl many) = omega (arith, le, many)
 fits held more x y count left e all le (inr whole) = omega (arith, whole, all, ap length e, length-append x y)
 
--- what stands behind the front
+-- The bytes after the prefix.
 pub behind : (held x y : List ℕ) (at : ℕ) → at ≡ length x → held ≡ x ++ y → drop at held ≡ y
 behind held x y at size e = ap (drop at) e ∙ drop_at x y at (sym size)

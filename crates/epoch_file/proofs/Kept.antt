@@ -41,7 +41,7 @@ written_near : (written : Option Moment) (moment : ℕ) → moment ≤ last_mome
 written_near None moment small h = record { secs = small; zone = record { low = omega (arith, ints); high = omega (arith, ints) } }
 written_near (Some written) moment small h = h
 
--- the commit of a text
+-- The commit of a text is valid.
 pub commit_valid : (text : List ℕ) (tree : Id20) (parent : Option Id20) (moment : ℕ) → IsId tree → IsParent parent → moment ≤ last_moment → IsCommit (commit_of text tree parent moment)
 unfolding commit_of
 commit_valid text tree parent moment t p small =
@@ -57,17 +57,17 @@ commit_valid text tree parent moment t p small =
       subject = IsClean-clean (subject_fact text);
     }
 
--- and its moment
+-- The moment of the commit of a text.
 pub committed-is : (text : List ℕ) (tree : Id20) (parent : Option Id20) (moment : ℕ) → (commit_of text tree parent moment).committed ≡ moment
 unfolding commit_of
 committed-is text tree parent moment = refl
 
--- the id of an entry's commit is one
+-- The id of an entry's commit is valid.
 pub IsId-commit : (parent : Option Id20) (e : EpochEntry) → IsId (commit_behind parent e)
 unfolding commit_id
 IsId-commit parent e = IsId-id_of (commit_text e.name e.text e.moment parent)
 
--- so the last commit of entries may be a parent
+-- The last commit of entries may be a parent.
 pub IsParent-last : (parent : Option Id20) (es : List EpochEntry) → IsParent parent → IsParent (last_of parent es)
 IsParent-last parent [] h = h
 IsParent-last parent (e ∷ es) h = IsParent-last (Some (commit_behind parent e)) es (IsId-commit parent e)

@@ -1,4 +1,4 @@
--- What stands at the front of held bytes where an entry begins there.
+-- The front of held bytes that start with an entry.
 use Rattle.std.proofs.Common.{◌≡◌, ℕ, ◌+◌, ◌<◌, ◌≤◌, ◌^◌, ◌⊎◌, List, ◌∷◌, ◌++◌, codes, length, drop, length-append, Option, Some, None, sym, ap, ◌∙◌, arith}
 use Rattle.std.specs.Fmt.{decimal}
 use Rattle.std.proofs.lemmas.List.{append_assoc}
@@ -14,7 +14,7 @@ use Rattle.epoch_file.specs.Sights.{Starts, Sees, SeesBehind, SeesAll, commit_pl
 use Rattle.epoch_file.proofs.Fronts.{within, fits, behind}
 use Rattle.epoch_file.proofs.Sizes.{content_behind, head_of, objects, headed, head_first, length-head, digits-le, length-blob, length-tree, length-entry}
 
--- the type and the size of the blob are held
+-- The type and the size of the blob are held.
 pub blob_head : (parent : Option Id20) (e : EpochEntry) (held more rest : List ℕ) (left : ℕ) → Starts parent e held more rest left → (28 ≤ length held) ⊎ (left ≤ length held)
     → (tail : List ℕ) × (held ≡ codes "blob " ++ (decimal (length e.text) ++ 0 ∷ tail))
 blob_head parent e held more rest left s enough =
@@ -27,11 +27,11 @@ blob_head parent e held more rest left s enough =
     let here = within held more head (e.text ++ behind_text) whole (fits held more head (e.text ++ behind_text) 28 left whole s.all size enough) in
     (drop (length head) held, here ∙ sym (head_first (codes "blob ") (drop (length head) held) (length e.text)))
 
--- an entry has no more bytes than are left
+-- An entry has no more bytes than are left.
 pub entry-le : (parent : Option Id20) (e : EpochEntry) (held more rest : List ℕ) (left : ℕ) → Starts parent e held more rest left → length (bytes_behind parent e) ≤ left
 entry-le parent e held more rest left s = omega (arith, s.all, ap length s.is, length-append (bytes_behind parent e) rest)
 
--- and the type and the size of the commit
+-- The type and the size of the commit are held.
 pub record CommitHead (parent : Option Id20) (e : EpochEntry) (held : List ℕ) : Type 0 where
   pub tail : List ℕ
   pub place : commit_place e.text ≤ length held
@@ -63,7 +63,7 @@ commit_head parent e held more rest left small s enough =
       is = behind held front (head ++ tail) (commit_place e.text) (sym front_len) split ∙ sym (head_first (codes "commit ") tail (length content));
     }
 
--- the end of a commit is that of its entry
+-- The end of a commit is that of its entry.
 pub commit_end : (parent : Option Id20) (e : EpochEntry) (held more rest : List ℕ) (left at : ℕ) (found : Option ℕ) → left < 2 ^ 64 → Starts parent e held more rest left → at ≡ commit_place e.text
     → (at + 28 ≤ length held) ⊎ (left ≤ length held) → EndsCommit at held found → found ≡ Some (length (bytes_behind parent e))
 commit_end parent e held more rest left at found small s place enough ends =
@@ -75,7 +75,7 @@ commit_end parent e held more rest left at found small s place enough ends =
     let end = ends (length content) head.tail (omega (arith, place, head.place)) (omega (arith, place, size, long, small)) (ap (λ (n : ℕ). drop n held) place ∙ head.is) in
     end ∙ ap Some (ap (λ (n : ℕ). n + length (codes "commit " ++ decimal (length content)) + 1 + length content) place ∙ sym size)
 
--- by an entry's length
+-- By an entry's length.
 pub sees-by_length : (at : ℕ) (held : List ℕ) (left len : ℕ) (sight : Sight) → left < 2 ^ 64 → (at + 28 ≤ length held) ⊎ (left ≤ length held) → EndsCommit at held (Some len) → SeesAll len held left sight → SeesBehind at held left sight
 sees-by_length at held left len Lacks small enough ends all = λ parent e more rest place s.
     all parent e more rest (same_Some len (length (bytes_behind parent e)) (commit_end parent e held more rest left at (Some len) small s place enough ends)) s
@@ -83,11 +83,11 @@ sees-by_length at held left len Short small enough ends all = all
 sees-by_length at held left len Whole small enough ends all = λ parent e more rest place s.
     all parent e more rest (same_Some len (length (bytes_behind parent e)) (commit_end parent e held more rest left at (Some len) small s place enough ends)) s
 
--- without one there is no entry
+-- Without a length there is no entry.
 pub sees-no_length : (at : ℕ) (held : List ℕ) (left : ℕ) → left < 2 ^ 64 → (at + 28 ≤ length held) ⊎ (left ≤ length held) → EndsCommit at held None → SeesBehind at held left Lacks
 sees-no_length at held left small enough ends = λ parent e more rest place s. none-some (length (bytes_behind parent e)) (commit_end parent e held more rest left at None small s place enough ends)
 
--- the place of the commit is found by the size of the blob
+-- The offset of the commit is found by the size of the blob.
 abbrev pub FindsPlace : List ℕ → Option ℕ → Type 0
 FindsPlace held found = (text rest : List ℕ) → length text ≤ max_text_len → held ≡ codes "blob " ++ (decimal (length text) ++ 0 ∷ rest) → found ≡ Some (commit_place text)
 
@@ -95,7 +95,7 @@ place_found : (parent : Option Id20) (e : EpochEntry) (held more rest : List ℕ
     → found ≡ Some (commit_place e.text)
 place_found parent e held more rest left found s enough finds = let head = blob_head parent e held more rest left s enough in finds e.text head.0 s.valid.text.short head.1
 
--- by the place of its commit
+-- By the offset of the commit.
 pub sees-by_place : (held : List ℕ) (left at : ℕ) (sight : Sight) → (28 ≤ length held) ⊎ (left ≤ length held) → FindsPlace held (Some at) → SeesBehind at held left sight → Sees held left sight
 sees-by_place held left at Lacks enough finds all = λ parent e more rest any s.
     all parent e more rest (same_Some at (commit_place e.text) (place_found parent e held more rest left (Some at) s enough finds)) s
@@ -103,6 +103,6 @@ sees-by_place held left at Short enough finds all = all
 sees-by_place held left at Whole enough finds all = λ parent e more rest any s.
     all parent e more rest (same_Some at (commit_place e.text) (place_found parent e held more rest left (Some at) s enough finds)) s
 
--- without one there is no entry
+-- Without an offset of the commit there is no entry.
 pub sees-no_place : (held : List ℕ) (left : ℕ) → (28 ≤ length held) ⊎ (left ≤ length held) → FindsPlace held None → Sees held left Lacks
 sees-no_place held left enough finds = λ parent e more rest any s. none-some (commit_place e.text) (place_found parent e held more rest left None s enough finds)

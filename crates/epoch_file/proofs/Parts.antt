@@ -1,4 +1,4 @@
--- The three objects of an entry, read one behind the other.
+-- The three objects of an entry, read one after the other.
 use Rattle.std.proofs.Common.{◌≡◌, ℕ, ◌+◌, ◌-◌, ◌<◌, ◌^◌, List, ◌∷◌, ◌++◌, codes, length, drop, Option, sym, ap, ◌∙◌, arith, length-append}
 use Rattle.std.specs.Fmt.{decimal}
 use Rattle.std.proofs.lemmas.List.{append_assoc, drop_at}
@@ -11,25 +11,25 @@ use Rattle.epoch_file.specs.Entries.{EpochEntry, IsEpochEntry, bytes_behind}
 use Rattle.epoch_file.specs.Walking.{blob_front}
 use Rattle.epoch_file.proofs.Sizes.{content_behind, objects, length-blob, length-tree, length-entry}
 
--- the bytes behind the blob
+-- The bytes after the blob.
 abbrev pub behind_blob : Option Id20 → EpochEntry → List ℕ → List ℕ
 behind_blob parent e rest = tree_of e.name e.text ++ (spelling (CommitOf (content_behind parent e)) ++ rest)
 
--- the blob stands in front
+-- An entry starts with its blob.
 pub blob_first : (parent : Option Id20) (e : EpochEntry) (rest bytes : List ℕ) → bytes ≡ bytes_behind parent e ++ rest → bytes ≡ blob_spelling e.text ++ behind_blob parent e rest
 blob_first parent e rest bytes is = is ∙ objects parent e rest
 
--- its content has a size
+-- The blob's content has a size.
 pub text_size : (e : EpochEntry) → IsEpochEntry e → HasSize e.text
 text_size e valid = omega (arith, valid.text.short)
 
--- the tree stands behind it
+-- The tree follows the blob.
 pub tree_next : (parent : Option Id20) (e : EpochEntry) (rest bytes behind : List ℕ) (blob : ℕ) → bytes ≡ bytes_behind parent e ++ rest → blob ≡ length (blob_spelling e.text) → behind ≡ drop blob bytes
     → behind ≡ tree_spelling e.name (blob_id_of e.text) ++ (spelling (CommitOf (content_behind parent e)) ++ rest)
 tree_next parent e rest bytes behind blob is size cut =
     cut ∙ (ap (drop blob) (blob_first parent e rest bytes is) ∙ drop_at (blob_spelling e.text) (behind_blob parent e rest) blob (sym size))
 
--- and the commit behind the tree
+-- The commit follows the tree.
 pub commit_next : (parent : Option Id20) (e : EpochEntry) (rest bytes behind : List ℕ) (blob tree : ℕ) → bytes ≡ bytes_behind parent e ++ rest → blob ≡ length (blob_spelling e.text)
     → tree ≡ length (tree_spelling e.name (blob_id_of e.text)) → behind ≡ drop (blob + tree) bytes → behind ≡ spelling (CommitOf (content_behind parent e)) ++ rest
 commit_next parent e rest bytes behind blob tree is size tree_size cut =
@@ -38,15 +38,15 @@ commit_next parent e rest bytes behind blob tree is size tree_size cut =
     let both : length front ≡ blob + tree = omega (arith, size, tree_size, length-append (blob_spelling e.text) (tree_of e.name e.text)) in
     cut ∙ (ap (drop (blob + tree)) (blob_first parent e rest bytes is ∙ sym (append_assoc (blob_spelling e.text) (tree_of e.name e.text) commit)) ∙ drop_at front commit (blob + tree) both)
 
--- whose content has a size, too
+-- The commit's content has a size.
 pub content_size : (parent : Option Id20) (e : EpochEntry) (rest bytes : List ℕ) → length bytes < 2 ^ 64 → bytes ≡ bytes_behind parent e ++ rest → HasSize (content_behind parent e)
 content_size parent e rest bytes small is = omega (arith, small, ap length is, length-append (bytes_behind parent e) rest, length-entry parent e)
 
--- the id of the text's blob is one
+-- The id of the text's blob is valid.
 pub blob_id_valid : (text : List ℕ) → IsId (blob_id_of text)
 blob_id_valid text = IsId-id_of (blob_spelling text)
 
--- the three take as many bytes as the entry
+-- The three objects take as many bytes as the entry.
 pub whole_size : (parent : Option Id20) (e : EpochEntry) (blob tree commit : ℕ) → blob ≡ length (blob_spelling e.text) → tree ≡ length (tree_spelling e.name (blob_id_of e.text))
     → commit ≡ length (spelling (CommitOf (content_behind parent e))) → blob + tree + commit ≡ length (bytes_behind parent e)
 whole_size parent e blob tree commit b t m =
@@ -64,6 +64,6 @@ whole_size parent e blob tree commit b t m =
       length-append (codes "commit ") (decimal (length content)),
     )
 
--- and the text stands behind the front of its blob
+-- The text follows the front of its blob.
 pub front_size : (e : EpochEntry) (text : List ℕ) (blob : ℕ) → text ≡ e.text → blob ≡ length (blob_spelling e.text) → blob - length text ≡ blob_front e.text
 front_size e text blob t b = omega (arith, b, length-blob e.text, ap length t)

@@ -1,4 +1,4 @@
--- A window over a part of a file, as it grows and goes on.
+-- A window over a part of a file, as it grows and advances.
 use Rattle.std.proofs.Common.{◌≡◌, ℕ, ◌+◌, ◌-◌, ◌≤◌, List, ◌++◌, length, take, drop, refl, sym, ap, ◌∙◌, arith, length-append, length-take, length-drop}
 use Rattle.std.proofs.lemmas.List.{append_assoc, drop-take, drop-drop, drop_at}
 use Rattle.std.proofs.Math.Seq.{take-add}
@@ -6,15 +6,15 @@ use Rattle.epoch_file.specs.declared.window.Part.{Part}
 use Rattle.epoch_file.specs.Steps.{left_of}
 use Rattle.epoch_file.specs.Windows.{Shows}
 
--- how much is left of a part that its file has
+-- The number of bytes left of a part that its file has.
 pub left-length : (bytes : List ℕ) (part : Part) → part.end ≤ length bytes → length (left_of bytes part) ≡ part.end - part.place
 left-length bytes part whole = omega (arith, whole, length-drop part.place (take part.end bytes), length-take part.end bytes)
 
--- a window is no longer than what is left
+-- A window is no longer than what is left.
 pub window-le : (bytes : List ℕ) (part : Part) (window : List ℕ) → Shows bytes part window → part.place + length window ≤ part.end
 window-le bytes part window s = omega (arith, left-length bytes part s.whole, ap length s.is, length-append window s.rest, s.inside)
 
--- the bytes behind those of a window are the next of the part
+-- The bytes after those of a window are the next of the part.
 next_bytes : (bytes : List ℕ) (part : Part) (window : List ℕ) (s : Shows bytes part window) (n : ℕ) → part.place + length window + n ≤ part.end
     → s.rest ≡ take n (drop (part.place + length window) bytes) ++ take (part.end - (part.place + length window) - n) (drop n (drop (part.place + length window) bytes))
 next_bytes bytes part window s n room =
@@ -26,7 +26,7 @@ next_bytes bytes part window s n room =
     let cut : drop at (take part.end bytes) ≡ take left (drop at bytes) = ap (λ (e : ℕ). drop at (take e bytes)) (sym end) ∙ drop-take at left bytes in
     sym behind ∙ (drop-drop (length window) part.place (take part.end bytes) ∙ (cut ∙ (ap (λ (m : ℕ). take m (drop at bytes)) (sym split) ∙ take-add n (left - n) (drop at bytes))))
 
--- a window with the next bytes of the file
+-- A window with the next bytes of the file.
 pub shows-more : (bytes : List ℕ) (part : Part) (window chunk : List ℕ) (n : ℕ) → Shows bytes part window → part.place + length window + n ≤ part.end
     → chunk ≡ take n (drop (part.place + length window) bytes) → Shows bytes part (window ++ chunk)
 shows-more bytes part window chunk n s room is =
@@ -38,15 +38,15 @@ shows-more bytes part window chunk n s room is =
       inside = s.inside;
     }
 
--- a part without its first bytes
+-- A part without its first bytes.
 abbrev pub part_behind : Part → ℕ → Part
 part_behind part n = record { file = part.file; place = part.place + n; end = part.end }
 
--- what is left of it
+-- The bytes left of a part without its first bytes.
 pub left-behind : (bytes : List ℕ) (part : Part) (n : ℕ) → left_of bytes (part_behind part n) ≡ drop n (left_of bytes part)
 left-behind bytes part n = sym (drop-drop n part.place (take part.end bytes))
 
--- a window without its first bytes
+-- A window without its first bytes.
 pub shows-skip : (bytes : List ℕ) (part : Part) (window front behind : List ℕ) → Shows bytes part window → window ≡ front ++ behind → Shows bytes (part_behind part (length front)) behind
 shows-skip bytes part window front behind s is =
     let room = window-le bytes part window s in

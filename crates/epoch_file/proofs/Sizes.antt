@@ -14,15 +14,15 @@ use Rattle.epoch_file.specs.Entries.{EpochEntry, bytes_behind}
 use Rattle.epoch_file.specs.Walking.{blob_front}
 use Rattle.epoch_file.specs.Sights.{commit_place}
 
--- the content of an entry's commit
+-- The content of an entry's commit.
 abbrev pub content_behind : Option Id20 → EpochEntry → List ℕ
 content_behind parent e = commit_content (commit_of e.text (id_of (tree_of e.name e.text)) parent e.moment)
 
--- the type and the size of an object, and the byte behind them
+-- The type and the size of an object, and the byte after them.
 abbrev pub head_of : List ℕ → ℕ → List ℕ
 head_of word size = word ++ (decimal size ++ 0 ∷ [])
 
--- an entry's bytes before what follows, object by object
+-- An entry's bytes before what follows, object by object.
 pub objects : (parent : Option Id20) (e : EpochEntry) (rest : List ℕ)
     → bytes_behind parent e ++ rest ≡ blob_spelling e.text ++ (tree_of e.name e.text ++ ((codes "commit " ++ (decimal (length (content_behind parent e)) ++ 0 ∷ content_behind parent e)) ++ rest))
 unfolding entry_bytes commit_text
@@ -31,33 +31,33 @@ objects parent e rest =
     append_assoc (blob_spelling e.text) (tree_of e.name e.text ++ commit) rest
     ∙ ap (λ (l : List ℕ). blob_spelling e.text ++ l) (append_assoc (tree_of e.name e.text) commit rest)
 
--- a type and a size before what follows
+-- A type and a size before what follows.
 pub headed : (word content rest : List ℕ) → (word ++ (decimal (length content) ++ 0 ∷ content)) ++ rest ≡ word ++ (decimal (length content) ++ 0 ∷ (content ++ rest))
 headed word content rest =
     append_assoc word (decimal (length content) ++ 0 ∷ content) rest ∙ ap (λ (l : List ℕ). word ++ l) (append_assoc (decimal (length content)) (0 ∷ content) rest)
 
--- the same with the head as one piece
+-- The same with the type and the size as one piece.
 pub head_first : (word tail : List ℕ) (size : ℕ) → word ++ (decimal size ++ 0 ∷ tail) ≡ head_of word size ++ tail
 head_first word tail size =
     ap (λ (l : List ℕ). word ++ l) (sym (append_assoc (decimal size) (0 ∷ []) tail)) ∙ sym (append_assoc word (decimal size ++ 0 ∷ []) tail)
 
--- the length of a head
+-- The length of a type and a size.
 pub length-head : (word : List ℕ) (size : ℕ) → length (head_of word size) ≡ length word + length (decimal size) + 1
 length-head word size = omega (arith, length-append word (decimal size ++ 0 ∷ []), length-append (decimal size) (0 ∷ []))
 
--- a size of 64 bits has up to twenty digits
+-- A size of 64 bits has up to twenty digits.
 pub digits-le : (n : ℕ) → n < 2 ^ 64 → length (decimal n) ≤ 20
 digits-le n small = length-decimal-le 20 n (omega arith) (omega (arith, small)) small
 
--- the length of a blob
+-- The length of a blob.
 pub length-blob : (text : List ℕ) → length (blob_spelling text) ≡ blob_front text + length text
 length-blob text = omega (arith, length-append (codes "blob ") (decimal (length text) ++ 0 ∷ text), length-append (decimal (length text)) (0 ∷ text))
 
--- the length of a tree
+-- The length of a tree.
 pub length-tree : (name : ℕ) (text : List ℕ) → length (tree_of name text) ≡ 37
 length-tree name text = length-tree_spelling name (blob_id_of text) (IsId-id_of (blob_spelling text)).len
 
--- the length of an entry
+-- The length of an entry.
 pub length-entry : (parent : Option Id20) (e : EpochEntry)
     → length (bytes_behind parent e) ≡ commit_place e.text + length (codes "commit " ++ decimal (length (content_behind parent e))) + 1 + length (content_behind parent e)
 unfolding entry_bytes commit_text

@@ -1,4 +1,4 @@
--- A walk that takes one entry more, or finds none.
+-- A walk that takes one more entry, or finds none.
 use Rattle.std.proofs.Common.{◌≡◌, ℕ, ◌+◌, ◌<◌, ◌≤◌, min, List, [], ◌∷◌, ◌++◌, length, take, drop, Option, Some, None, Ok, Err, refl, sym, ap, subst, ◌∙◌, inl, inr, arith, length-append, length-take, length-drop}
 use Rattle.std.proofs.lemmas.List.{append_assoc, drop_at, append-nil, take_all, drop_all}
 use Rattle.std.proofs.Common.{Bool, true, false, leb}
@@ -26,7 +26,7 @@ use Rattle.epoch_file.proofs.Showing.{part_behind, left-behind, shows-skip}
 use Rattle.epoch_file.proofs.Sizes.{length-entry}
 use Rattle.epoch_file.proofs.Kept.{IsParent-last}
 
--- one entry more
+-- One more entry.
 pub walked-more : (bytes : List ℕ) (s : State) (found : Seen × ℕ) → Walked bytes s → IsRead s.part.place s.parent s.window found → Walked bytes (next_state s found)
 walked-more bytes s found w r =
     let e = r.entry in
@@ -55,14 +55,14 @@ walked-more bytes s found w r =
       shows = subst (λ (l : List ℕ). Shows bytes (part_behind s.part found.1) l) (sym cut) moved;
     }
 
--- no entry in a window that would have all of one
+-- No entry in a window that would have all of one.
 pub none-left : (bytes : List ℕ) (part : Part) (window : List ℕ) (parent : Option Id20) → Shows bytes part window
     → ((p : Option Id20) (e : EpochEntry) (rest : List ℕ) → IsEpochEntry e → left_of bytes part ≡ bytes_behind p e ++ rest → length (bytes_behind p e) ≤ length window)
     → LacksEntry parent window → LacksEntry parent (left_of bytes part)
 none-left bytes part window parent s all none = λ e rest valid is.
     none e (drop (length (bytes_behind parent e)) window) valid (within window s.rest (bytes_behind parent e) rest (sym s.is ∙ is) (all parent e rest valid is))
 
--- the first bytes of a file are no more than those of the part that is walked
+-- The first n bytes of a file are no more than those of the walked part.
 pub same_front : (bytes : List ℕ) (n end : ℕ) → end ≡ min n (length bytes) → take n bytes ≡ take end bytes
 same_front bytes n end is = rw is (cut (leb n (length bytes)) refl) where
   cut : (b : Bool) → leb n (length bytes) ≡ b → take n bytes ≡ take (min n (length bytes)) bytes
@@ -71,7 +71,7 @@ same_front bytes n end is = rw is (cut (leb n (length bytes)) refl) where
       let more : length bytes ≤ n = grind (arith, nat_tests) in
       take_all n bytes more ∙ sym (ap (λ (m : ℕ). take m bytes) (omega (arith, more)) ∙ take_all (length bytes) bytes (omega arith))
 
--- a walk that is at its end has found an epoch
+-- A walk that is at its end has found an epoch.
 pub whole-epoch : (bytes : List ℕ) (n : ℕ) (s : State) → Walked bytes s → s.part.end ≡ min n (length bytes) → s.part.place ≡ n → 0 < length s.seen → IsEpoch n bytes s.seen
 whole-epoch bytes n s w end at some =
     let room = w.shows.inside in
@@ -86,12 +86,12 @@ whole-epoch bytes n s w end at some =
       is = w.seen;
     }
 
--- entries of which none is seen are none
+-- A list of length 0 is empty.
 none_seen : (es : List EpochEntry) → length es ≡ 0 → es ≡ []
 none_seen [] e = refl
 none_seen (first ∷ es) e = absurd (omega (arith, e))
 
--- a walk that finds no entry where one is wanted ends there
+-- A walk that finds no entry although one is needed ends there.
 pub ends-early : (bytes : List ℕ) (n : ℕ) (s : State) → Walked bytes s → s.part.end ≡ min n (length bytes) → (s.part.place ≡ n → length s.seen ≡ 0) → LacksEntry s.parent (left_of bytes s.part)
     → EndsEarly n bytes s.part.place
 ends-early bytes n s w end wanted none =
@@ -110,7 +110,7 @@ ends-early bytes n s w end wanted none =
       lacks = subst (λ (p : Option Id20). LacksEntry p (left_of bytes s.part)) w.parent none;
     }
 
--- a window that was filled
+-- A walk whose window was filled.
 moved_walk : (bytes : List ℕ) (old mid : State) → mid.part ≡ old.part → mid.parent ≡ old.parent → mid.seen ≡ old.seen → Walked bytes old → Shows bytes old.part mid.window → Walked bytes mid
 moved_walk bytes old mid part parent seen w shows = record {
   entries = w.entries;
@@ -122,11 +122,11 @@ moved_walk bytes old mid part parent seen w shows = record {
   shows = subst (λ (p : Part). Shows bytes p mid.window) (sym part) shows;
 }
 
--- an entry has bytes
+-- An entry has bytes.
 entry_some : (parent : Option Id20) (e : EpochEntry) → 0 < length (bytes_behind parent e)
 entry_some parent e = omega (arith, length-entry parent e)
 
--- a turn takes an entry, or finds none
+-- A turn takes an entry, or finds none.
 pub turns-either : (content : Option Content) (old mid new : State) (came found : Bool) → came ≡ true → mid.part ≡ old.part → mid.parent ≡ old.parent → mid.seen ≡ old.seen
     → WhereTold (Brings old.part old.window mid.window (Ok came)) content → Takes mid new (Ok found) → WhereTold (Turns old new (Ok found)) content
 turns-either None old mid new came found yes_came part parent seen brings takes = tt
@@ -143,7 +143,7 @@ turns-either (Some k) old mid new true false yes_came part parent seen brings ta
     let none : LacksEntry old.parent mid.window = subst (λ (p : Option Id20). LacksEntry p mid.window) parent (takes.0 (subst IsParent (sym parent) valid)) in
     none-left bytes old.part mid.window old.parent brought.0 brought.1 none
 
--- and goes on in the part
+-- A turn advances in the part.
 pub moves-either : (old mid new : State) (found : Bool) → mid.part ≡ old.part → IsInside mid.part mid.window → Takes mid new (Ok found) → Moves old new (Ok found)
 moves-either old mid new true part inside takes =
     let r = takes.1 in
@@ -154,11 +154,11 @@ moves-either old mid new true part inside takes =
     subst Holds (sym takes.2) (omega (arith, some, place), omega (arith, size, inside, length-drop takes.0.1 mid.window))
 moves-either old mid new false part inside takes = ap (λ (s : State). s.part.place) takes.1 ∙ ap (λ (p : Part). p.place) part
 
--- the file's bytes before and after calls that change nothing
+-- The file's bytes are the same before and after calls that change nothing.
 same_bytes : (k m : Content) (start cur : Part) → Unchanged k m → SamePart start cur → bytes_of (m cur.file).seen ≡ bytes_of (k start.file).seen
 same_bytes k m start cur same part = ap (λ (kept : Kept). bytes_of kept.seen) (same cur.file) ∙ ap (λ (file : FileName). bytes_of (k file).seen) part.file
 
--- a walk that finds no entry where one is wanted answers the place
+-- A walk that finds no entry although one is needed returns its offset.
 pub goes-damaged : (first mid : Option Content) (n : ℕ) (start cur new : State) (place : ℕ) → WhereTold (KeepsWalked start cur) first → SamePart start.part cur.part → Told Unchanged first mid
     → WhereTold (Turns cur new (Ok false)) mid → IsWanted cur n true → place ≡ cur.part.place → WhereTold (λ k. GoesOn n (bytes_of (k start.part.file).seen) start (Err (Damaged place))) first
 goes-damaged None mid n start cur new place keeps part same turns wanted at = tt
@@ -170,13 +170,13 @@ goes-damaged (Some k) (Some m) n start cur new place keeps part same turns wante
     let early = ends-early (bytes_of (k start.part.file).seen) n cur w (part.end ∙ end) wanted lacks in
     inr (subst (λ (p : ℕ). EndsEarly n (bytes_of (k start.part.file).seen) p) (sym at) early)
 
--- one that wants none answers what it has seen
+-- A walk that needs no more entry returns what it has found.
 pub goes-whole : (first : Option Content) (n : ℕ) (start cur : State) → WhereTold (KeepsWalked start cur) first → SamePart start.part cur.part → IsWanted cur n false
     → WhereTold (λ k. GoesOn n (bytes_of (k start.part.file).seen) start (Ok cur.seen)) first
 goes-whole None n start cur keeps part done = tt
 goes-whole (Some k) n start cur keeps part done = λ walked end. whole-epoch (bytes_of (k start.part.file).seen) n cur (keeps walked) (part.end ∙ end) done.0 done.1
 
--- one that stops for another cause answers nothing of the file
+-- A walk that stops for another cause says nothing of the file.
 pub goes-stopped : (first : Option Content) (n before now : ℕ) (start : State) (refusal : WalkRefusal) → StopRose {T = Bool} before now (Err refusal)
     → WhereTold (λ k. GoesOn n (bytes_of (k start.part.file).seen) start (Err refusal)) first
 goes-stopped None n before now start refusal stop = tt
@@ -184,7 +184,7 @@ goes-stopped (Some k) n before now start DiskFault stop = λ walked end. tt
 goes-stopped (Some k) n before now start NoMemory stop = λ walked end. tt
 goes-stopped (Some k) n before now start (Damaged place) stop = absurd stop
 
--- one entry more
+-- One more entry.
 pub keeps-turn : (first mid : Option Content) (start cur new : State) → WhereTold (KeepsWalked start cur) first → SamePart start.part cur.part → Told Unchanged first mid
     → WhereTold (Turns cur new (Ok true)) mid → WhereTold (KeepsWalked start new) first
 keeps-turn None mid start cur new keeps part same turns = tt
@@ -193,7 +193,7 @@ keeps-turn (Some k) (Some m) start cur new keeps part same turns = λ walked.
     let e = same_bytes k m start.part cur.part same part in
     subst (λ (b : List ℕ). Walked b new) e (turns (subst (λ (b : List ℕ). Walked b cur) (sym e) (keeps walked)))
 
--- a walk that doesn't begin for another cause
+-- A walk that doesn't start for another cause says nothing of the file.
 pub walks-stopped : (content : Option Content) (n before now : ℕ) (file : FileName) (refusal : WalkRefusal) → StopRose {T = Option State} before now (Err refusal)
     → WhereTold (λ k. Walks n (bytes_of (k file).seen) (Err refusal)) content
 walks-stopped None n before now file refusal stop = tt
@@ -201,7 +201,7 @@ walks-stopped (Some k) n before now file DiskFault stop = tt
 walks-stopped (Some k) n before now file NoMemory stop = tt
 walks-stopped (Some k) n before now file (Damaged place) stop = absurd stop
 
--- the same by what a turn answers
+-- The same by the result of a turn.
 pub goes-unfound : (first mid : Option Content) (n : ℕ) (start cur new : State) (found : Bool) → found ≡ false → WhereTold (KeepsWalked start cur) first → SamePart start.part cur.part → Told Unchanged first mid
     → WhereTold (Turns cur new (Ok found)) mid → Moves cur new (Ok found) → IsWanted cur n true → WhereTold (λ k. GoesOn n (bytes_of (k start.part.file).seen) start (Err (Damaged new.part.place))) first
 goes-unfound first mid n start cur new true is keeps part same turns moves wanted = let wrong : true ≡ false = is in absurd cc

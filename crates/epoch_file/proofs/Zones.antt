@@ -1,4 +1,4 @@
--- The zone of a Date is less than a day away from UTC, and its moment lies before the year 10000.
+-- The zone of a Date is less than a day away from UTC, and its moment is before the year 10000.
 use Rattle.std.proofs.Common.{◌≡◌, ℕ, zero, suc, ◌+◌, ◌*◌, ◌≤◌, ◌==◌, ◌&&◌, nat_lt, nat_le, Bool, true, false, cond, List, [], ◌∷◌, Option, Some, None, IfSome, option_map, option_and_then, refl, arith, ℤ, pos, negsuc, neg_ℤ}
 use Rattle.std.proofs.lemmas.Int.{ints}
 use Rattle.std.proofs.lemmas.Bool.Decides.{nat_tests}
@@ -16,22 +16,22 @@ use Rattle.mail_reader.specs.Fields.{FieldText, fields_of, first_named}
 use Rattle.arch_model.specs.Facts.{date_fact}
 use Rattle.std.specs.Prelude.{codes}
 
--- minutes below a day, east of UTC
+-- Minutes below a day, east of UTC.
 east : (minutes : ℕ) → minutes ≤ 1439 → IsZone (pos minutes)
 east minutes small = record { low = omega (arith, ints); high = omega (arith, ints) }
 
--- and west of it
+-- Minutes below a day, west of UTC.
 west : (minutes : ℕ) → minutes ≤ 1439 → IsZone (neg_ℤ (pos minutes))
 west zero small = east 0 small
 west (suc minutes) small = record { low = omega (arith, ints); high = omega (arith, ints) }
 
--- by a sign
+-- By a sign.
 by_sign : (plus minus : Bool) (minutes : ℕ) → minutes ≤ 1439 → IfSome (cond plus (Some (pos minutes)) (cond minus (Some (neg_ℤ (pos minutes))) None)) IsZone
 by_sign true minus minutes small = east minutes small
 by_sign false true minutes small = west minutes small
 by_sign false false minutes small = tt
 
--- by hours and minutes
+-- By hours and minutes.
 by_clock : (b : Bool) (sign hour minute : ℕ) → (nat_lt hour 24 && nat_lt minute 60) ≡ b → IfSome (cond b (signed sign (hour * 60 + minute)) None) IsZone
 by_clock true sign hour minute e =
     let small : hour * 60 + minute ≤ 1439 = grind (arith, nat_tests) in
@@ -43,7 +43,7 @@ offset_zone sign (Some hour) (Some minute) = by_clock (nat_lt hour 24 && nat_lt 
 offset_zone sign (Some hour) None = tt
 offset_zone sign None minute = tt
 
--- by a name
+-- By a name.
 place_zone : (place : ℕ) → IsZone (zone_at place)
 place_zone zero = west 300 (omega arith)
 place_zone (suc zero) = west 240 (omega arith)
@@ -75,7 +75,7 @@ word_zone (a ∷ b ∷ c ∷ d ∷ []) = name_zone (a ∷ b ∷ c ∷ d ∷ [])
 word_zone (sign ∷ a ∷ b ∷ c ∷ d ∷ []) = offset_zone sign (number_of a b) (number_of c d)
 word_zone (a ∷ b ∷ c ∷ d ∷ e ∷ f ∷ word) = name_zone (a ∷ b ∷ c ∷ d ∷ e ∷ f ∷ word)
 
--- of a date
+-- The zone of a date.
 joined_zone : (day month year : Option ℕ) (clock : Option Clock) (zone : Option ℤ) → IfSome zone IsZone → IfSome (joined day month year clock zone) (λ (date : CivilDate). IsZone date.zone)
 joined_zone (Some day) (Some month) (Some year) (Some clock) (Some zone) h = h
 joined_zone _ _ _ _ _ h = tt
@@ -89,12 +89,12 @@ words_zone (day ∷ month ∷ year ∷ clock ∷ zone ∷ others) =
     if_comment (is_comment others) _ (joined_zone (day_of day) (month_of month) (year_of year) (clock_of clock) (zone_of zone) (word_zone zone))
 words_zone _ = tt
 
--- a moment is before the end, in a zone
+-- A moment before the end, in a zone.
 pub record IsNear (moment : Moment) : Type 0 where
   pub secs : moment.secs ≤ last_second
   pub zone : IsZone moment.zone
 
--- of a moment
+-- The moment that is in range.
 below : (b : Bool) (secs : ℕ) (zone : ℤ) → IsZone zone → nat_le secs last_second ≡ b → IfSome (cond b (Some (record { secs = secs; zone = zone })) None) IsNear
 below true secs zone h e = record { secs = grind (arith, nat_tests); zone = h }
 below false secs zone h e = tt
@@ -119,7 +119,7 @@ of_field : (field : Option FieldText) → IfSome (option_and_then (λ (found : F
 of_field None = tt
 of_field (Some found) = of_value found.value
 
--- of the first Date of a text
+-- The moment of the first Date of a text.
 pub date-near : (text : List ℕ) → IfSome (date_fact text) IsNear
 unfolding date_fact
 date-near text = of_field (first_named (codes "Date") (fields_of text))

@@ -1,4 +1,4 @@
--- What an entry's append writes, and what it leaves of the disk.
+-- What appending an entry writes, and what it leaves of the disk.
 use Rattle.std.specs.Prelude.{◌≡◌, ℕ, ◌+◌, ◌==◌, List, [], ◌++◌, length, Option, Result, Ok, Err, if◌then◌else◌}
 use Rattle.disk_model.specs.declared.name.FileName.{FileName}
 use Rattle.disk_model.specs.Disk.{Content, Told, OneFile, Wrote, Tore}
@@ -10,19 +10,20 @@ use Rattle.epoch_file.specs.declared.refusal.StoreRefusal.{StoreRefusal}
 use Rattle.epoch_file.specs.declared.refusal.StoreRefusal.TheVariants.{DiskFault, NoMemory, Damaged}
 use Rattle.epoch_file.specs.Entries.{EpochEntry, bytes_behind, commit_behind}
 
--- the entry that is new
+-- The new entry.
 abbrev pub entry_of : NewEntry → EpochEntry
 entry_of new = record { name = new.name; text = new.text.now; moment = new.moment }
 
--- what stands in front of an entry's bytes: the magic at the file's front, and else nothing
+-- The bytes before an entry at an offset: the magic at offset 0, and otherwise none.
 abbrev pub front_at : ℕ → List ℕ
 front_at place = if place == 0 then magic else []
 
--- what is written of a new entry at a place
+-- The bytes that are written for a new entry at an offset.
 abbrev pub appended : ℕ → NewEntry → List ℕ
 appended place new = front_at place ++ bytes_behind new.parent (entry_of new)
 
--- what an append answers: where the file's part ends now, and the ids of the entry's blob and commit
+-- The result of an append: the offset after the last byte, and the ids of the entry's blob and
+-- commit.
 abbrev pub written_of : ℕ → NewEntry → Written
 written_of place new = record {
   end = place + length (appended place new);
@@ -30,7 +31,8 @@ written_of place new = record {
   commit = commit_behind new.parent (entry_of new);
 }
 
--- what an append leaves of the disk: the bytes are written; or its write failed; or nothing was done
+-- What an append leaves of the disk: the bytes are written, or the write failed, or nothing was
+-- done.
 abbrev pub AppendLeaves : {D : Type 0} → FileName → ℕ → List ℕ → (D → Option Content) → D → D → Result Written StoreRefusal → Type 0
 AppendLeaves file place piece content old new (Ok written) = Told (OneFile file (Wrote place piece)) (content old) (content new)
 AppendLeaves file place piece content old new (Err DiskFault) = Told (OneFile file (Tore place (length piece))) (content old) (content new)

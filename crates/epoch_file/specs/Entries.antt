@@ -1,5 +1,5 @@
--- The entries of an epoch's file, and their bytes: the magic, and of each entry a blob, a tree of one file that names the
--- blob, and a commit that names the tree (git, "Git Objects").
+-- The entries of an epoch's file and their bytes: the magic, then for each entry a blob, a tree of
+-- one file that names the blob, and a commit that names the tree (git, "Git Objects").
 use Rattle.std.specs.Prelude.{◌≡◌, ◌<◌, ◌≤◌, ◌^◌, ℕ, true, List, [], ◌∷◌, ◌++◌, length, Option, Some, None}
 use Rattle.arch_base.specs.declared.ids.Id20.{Id20}
 use Rattle.git_objects.specs.Objects.{is_entry_name}
@@ -7,52 +7,54 @@ use Rattle.mail_reader.specs.StorageTexts.{IsStorageText}
 use Rattle.arch_model.specs.Epochs.{commit_id, entry_bytes, magic}
 use Rattle.arch_model.specs.Validity.{last_moment}
 
--- an entry: the name of its file, `m` or `d`, the text that the file has, and the second since 1970 of its commit
+-- An entry: the name of its file, `m` or `d`, the text of that file, and the time of its commit in
+-- seconds since 1970.
 pub record EpochEntry : Type 0 where
   pub name : ℕ
   pub text : List ℕ
   pub moment : ℕ
 
--- the entries that a file may have: a message `m` or a deletion `d` of a storage text, at a moment up to the last one
+-- The entries that a file may have: a message `m` or a deletion `d` of a storage text, at a moment
+-- up to the last one.
 pub record IsEpochEntry (e : EpochEntry) : Type 0 where
   pub name : is_entry_name e.name ≡ true
   pub text : IsStorageText e.text
   pub moment : e.moment ≤ last_moment
 
--- each of these may stand in a file
+-- A file may have each of these entries.
 abbrev pub AreEpochEntries : List EpochEntry → Type 0
 AreEpochEntries [] = Unit {0}
 AreEpochEntries (e ∷ es) = IsEpochEntry e × AreEpochEntries es
 
--- the bytes of an entry behind a parent
+-- The bytes of an entry after a parent.
 abbrev pub bytes_behind : Option Id20 → EpochEntry → List ℕ
 bytes_behind parent e = entry_bytes e.name e.text e.moment parent
 
--- the id of its commit
+-- The id of its commit.
 abbrev pub commit_behind : Option Id20 → EpochEntry → Id20
 commit_behind parent e = commit_id e.name e.text e.moment parent
 
--- the bytes of entries, each commit's parent being the commit before it
+-- The bytes of entries, where each commit's parent is the commit before it.
 abbrev pub chain : Option Id20 → List EpochEntry → List ℕ
 chain parent [] = []
 chain parent (e ∷ es) = bytes_behind parent e ++ chain (Some (commit_behind parent e)) es
 
--- the id of the last commit of entries, or the parent where there are none
+-- The id of the last commit of entries, or the parent if there are none.
 abbrev pub last_of : Option Id20 → List EpochEntry → Option Id20
 last_of parent [] = parent
 last_of parent (e ∷ es) = last_of (Some (commit_behind parent e)) es
 
--- the bytes of an epoch of these entries: the first commit has no parent
+-- The bytes of an epoch with these entries; the first commit has no parent.
 abbrev pub epoch_of : List EpochEntry → List ℕ
 epoch_of es = magic ++ chain None es
 
--- Two lists of entries whose epochs have the same bytes, as few as a file may have, are the same.
+-- Two lists of entries whose epochs have the same bytes, fewer than 2^64, are equal.
 abbrev pub EpochsDiffer : Type 0
 EpochsDiffer =
     (es fs : List EpochEntry) → AreEpochEntries es → AreEpochEntries fs → length (epoch_of es) < 2 ^ 64
     → epoch_of es ≡ epoch_of fs → es ≡ fs
 
--- The first entry of bytes is told by them, and so is what follows it.
+-- Bytes determine the first entry that they start with, and the rest after it.
 abbrev pub EntriesDiffer : Type 0
 EntriesDiffer =
     (parent : Option Id20) (e f : EpochEntry) (x y : List ℕ) → IsEpochEntry e → IsEpochEntry f → length (bytes_behind parent e ++ x) < 2 ^ 64

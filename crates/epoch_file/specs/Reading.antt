@@ -1,4 +1,4 @@
--- What is read of an entry at the front of bytes.
+-- The results of reading an entry at the front of bytes.
 use Rattle.std.specs.Prelude.{◌≡◌, ◌≢◌, ℕ, ◌+◌, ◌≤◌, true, List, ◌++◌, length, Option, Some, None, Result, Ok, Err, MatchOption, [], unwrap_or}
 use Rattle.arch_base.specs.declared.ids.Id20.{Id20}
 use Rattle.arch_base.specs.declared.sequence.NoMemory.{NoMemory}
@@ -14,13 +14,13 @@ use Rattle.epoch_file.specs.declared.reading.Parts.{Parts}
 use Rattle.epoch_file.specs.Entries.{EpochEntry, IsEpochEntry, bytes_behind}
 use Rattle.epoch_file.specs.Walking.{blob_front, seen_at, LacksEntry}
 
--- parts of bytes: a name that a tree's file may have, and lengths within the bytes
+-- Parts of bytes: a name that a tree's file may have, and lengths within the bytes.
 pub record IsParted (bytes : List ℕ) (parts : Parts) : Type 0 where
   pub name : is_entry_name parts.name ≡ true
   pub inside : parts.size ≤ length bytes
   pub front : parts.front ≤ parts.size
 
--- the parts of an entry
+-- The parts of an entry.
 pub record HasParts (parent : Option Id20) (e : EpochEntry) (parts : Parts) : Type 0 where
   pub name : parts.name ≡ e.name
   pub text : parts.text.now ≡ e.text
@@ -28,24 +28,24 @@ pub record HasParts (parent : Option Id20) (e : EpochEntry) (parts : Parts) : Ty
   pub commit : parts.commit.now ≡ commit_content (commit_of e.text (id_of (tree_of e.name e.text)) parent e.moment)
   pub size : parts.size ≡ length (bytes_behind parent e)
 
--- the parts of an entry are found whatever follows it
+-- The parts of an entry are found whatever follows it.
 abbrev pub PartsAgain : List ℕ → Option Parts → Type 0
 PartsAgain bytes found =
     (parent : Option Id20) (e : EpochEntry) (rest : List ℕ) → IsEpochEntry e → bytes ≡ bytes_behind parent e ++ rest
     → MatchOption found ⊥ (HasParts parent e)
 
--- the ids of an entry
+-- The ids of an entry.
 pub record AreIds (name : ℕ) (text : List ℕ) (moment : ℕ) (parent : Option Id20) (ids : EntryIds) : Type 0 where
   pub blob : ids.blob ≡ blob_id_of text
   pub commit : ids.commit ≡ commit_id name text moment parent
 
--- bytes are those of an entry with these ids, or they are others
+-- The bytes are those of an entry with these ids, or they are others.
 abbrev pub Respells : List ℕ → ℕ → List ℕ → ℕ → Option Id20 → Result (Option EntryIds) NoMemory → Type 0
 Respells bytes name text moment parent (Ok None) = bytes ≢ entry_bytes name text moment parent
 Respells bytes name text moment parent (Ok (Some ids)) = (bytes ≡ entry_bytes name text moment parent) × AreIds name text moment parent ids
 Respells bytes name text moment parent (Err e) = Unit {0}
 
--- an entry that bytes begin with: what is seen of it at its place, and its length
+-- An entry that bytes start with: what is recorded of it at its offset, and its length.
 pub record IsRead (place : ℕ) (parent : Option Id20) (bytes : List ℕ) (found : Seen × ℕ) : Type 0 where
   pub entry : EpochEntry
   pub valid : IsEpochEntry entry
@@ -54,20 +54,21 @@ pub record IsRead (place : ℕ) (parent : Option Id20) (bytes : List ℕ) (found
   pub seen : found.0 ≡ seen_at place parent entry
   pub size : found.1 ≡ length (bytes_behind parent entry)
 
--- the entry that bytes begin with is read, and none where none stands there behind a parent of twenty bytes
+-- The results of reading: the entry that bytes start with, or none if they start with none after a
+-- parent whose id has 20 bytes.
 abbrev pub Reads : ℕ → Option Id20 → List ℕ → Result (Option (Seen × ℕ)) NoMemory → Type 0
 Reads place parent bytes (Ok None) = IsParent parent → LacksEntry parent bytes
 Reads place parent bytes (Ok (Some found)) = IsRead place parent bytes found
 Reads place parent bytes (Err e) = Unit {0}
 
--- the same of entries of which something is known
+-- The same for entries with a property.
 abbrev pub ReadsWhere : (EpochEntry → Type 0) → ℕ → Option Id20 → List ℕ → Result (Option (Seen × ℕ)) NoMemory → Type 0
 ReadsWhere P place parent bytes (Ok None) =
     IsParent parent → (e : EpochEntry) (rest : List ℕ) → IsEpochEntry e → bytes ≡ bytes_behind parent e ++ rest → P e → ⊥
 ReadsWhere P place parent bytes (Ok (Some found)) = IsRead place parent bytes found
 ReadsWhere P place parent bytes (Err e) = Unit {0}
 
--- what is seen of parts at a place, with a moment and ids
+-- What is recorded of parts at an offset, with a moment and ids.
 abbrev pub seen_by : ℕ → Parts → ℕ → EntryIds → Seen
 seen_by place parts moment ids = record {
   name = parts.name;

@@ -5,20 +5,20 @@ use Rattle.disk_model.specs.declared.refusal.WalkRefusal.{WalkRefusal}
 use Rattle.disk_model.specs.declared.refusal.WalkRefusal.TheVariants.{DiskFault, NoMemory, Damaged}
 use Rattle.disk_model.specs.Disk.{Files, Content, Image, Told, Unchanged, LeavesOnly}
 
--- a call changes no file, leaves nothing else to a crash, and no count of faults falls
+-- A call changes no file, leaves nothing else to a crash, and no count of faults falls.
 pub record OnlyReads {D : Type 0} (content : D → Option Content) (moment : D → ℕ) (left_since : D → ℕ → Files → Type 0) (faults : D → ℕ) (old new : D) : Type 0 where
   pub same : Told Unchanged (content old) (content new)
   pub any_moment : LeavesOnly moment left_since old new (Image (content old))
   pub later : faults old ≤ faults new
 
--- an answer that the disk failed comes only where a count of faults rose
+-- A result of a failed disk comes only if the count of faults rose.
 abbrev pub FaultRose : {T : Type 0} → ℕ → ℕ → Result T WalkRefusal → Type 0
 FaultRose before now (Ok value) = Unit {0}
 FaultRose before now (Err DiskFault) = Rose before now
 FaultRose before now (Err NoMemory) = Unit {0}
 FaultRose before now (Err (Damaged place)) = Unit {0}
 
--- the same, where nothing else may be wrong than that, or want of memory
+-- The same if nothing else can go wrong than that and running out of memory.
 abbrev pub StopRose : {T : Type 0} → ℕ → ℕ → Result T WalkRefusal → Type 0
 StopRose before now (Ok value) = Unit {0}
 StopRose before now (Err DiskFault) = Rose before now

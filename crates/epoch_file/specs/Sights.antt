@@ -1,4 +1,4 @@
--- How much of an entry stands at the front of bytes that are held, where more follow.
+-- How much of an entry is at the front of held bytes that more bytes follow.
 use Rattle.std.specs.Prelude.{◌≡◌, ◌⊎◌, ℕ, ◌+◌, ◌<◌, ◌≤◌, ◌^◌, Bool, true, false, List, ◌∷◌, ◌++◌, length, drop, codes, Option, Some}
 use Rattle.std.specs.Fmt.{decimal}
 use Rattle.arch_base.specs.declared.ids.Id20.{Id20}
@@ -7,41 +7,41 @@ use Rattle.epoch_file.specs.declared.sight.Sight.TheVariants.{Lacks, Short, Whol
 use Rattle.epoch_file.specs.Entries.{EpochEntry, IsEpochEntry, bytes_behind}
 use Rattle.epoch_file.specs.Walking.{blob_front}
 
--- an entry begins where the held bytes do, and they are the front of so many bytes that are left
+-- The held bytes start with an entry, and they are the first of the bytes that are left.
 pub record Starts (parent : Option Id20) (e : EpochEntry) (held more rest : List ℕ) (left : ℕ) : Type 0 where
   pub valid : IsEpochEntry e
   pub is : held ++ more ≡ bytes_behind parent e ++ rest
   pub all : length (held ++ more) ≡ left
 
--- what an answer says of the entries of which something is known
+-- What a result says of the entries with a property.
 abbrev pub SeesWhere : (Option Id20 → EpochEntry → Type 0) → List ℕ → ℕ → Sight → Type 0
 SeesWhere P held left Lacks = (parent : Option Id20) (e : EpochEntry) (more rest : List ℕ) → P parent e → Starts parent e held more rest left → ⊥
 SeesWhere P held left Short = length held < left
 SeesWhere P held left Whole =
     (parent : Option Id20) (e : EpochEntry) (more rest : List ℕ) → P parent e → Starts parent e held more rest left → length (bytes_behind parent e) ≤ length held
 
--- of any entry
+-- What a result says of any entry.
 abbrev pub Sees : List ℕ → ℕ → Sight → Type 0
 Sees = SeesWhere (λ parent e. Unit {0})
 
--- the place of the commit in an entry of a text: behind the blob, and a tree of 37 bytes
+-- The offset of the commit in an entry of a text: after the blob and a tree of 37 bytes.
 abbrev pub commit_place : List ℕ → ℕ
 commit_place text = blob_front text + length text + 37
 
--- of an entry whose commit has this place
+-- What a result says of an entry whose commit has this offset.
 abbrev pub SeesBehind : ℕ → List ℕ → ℕ → Sight → Type 0
 SeesBehind at = SeesWhere (λ parent e. at ≡ commit_place e.text)
 
--- of an entry of this length
+-- What a result says of an entry of this length.
 abbrev pub SeesAll : ℕ → List ℕ → ℕ → Sight → Type 0
 SeesAll len = SeesWhere (λ parent e. len ≡ length (bytes_behind parent e))
 
--- there are fewer bytes than so many, and more are left; or there are so many, or none are left
+-- Fewer bytes are held than are left; or at least `count` are held, or all that are left.
 abbrev pub IsRoomFor : List ℕ → ℕ → ℕ → Bool → Type 0
 IsRoomFor held left count true = length held < left
 IsRoomFor held left count false = (count ≤ length held) ⊎ (left ≤ length held)
 
--- where a commit's type and size stand at a place, the answer is the place behind its content
+-- If there is a commit's type and size at an offset, the result is the offset after its content.
 abbrev pub EndsCommit : ℕ → List ℕ → Option ℕ → Type 0
 EndsCommit at held found =
     (size : ℕ) (rest : List ℕ) → at ≤ length held → at + length (codes "commit " ++ decimal size) + 1 + size < 2 ^ 64

@@ -15,11 +15,12 @@ use Rattle.epoch_file.specs.Reading.{IsRead}
 use Rattle.epoch_file.specs.Walking.{seen_from, LacksEntry, LacksMagic, Walks}
 use Rattle.epoch_file.specs.Windows.{Shows, IsInside}
 
--- what of a part is left behind its place
+-- The bytes of a part that are left after its offset.
 abbrev pub left_of : List ℕ → Part → List ℕ
 left_of bytes part = drop part.place (take part.end bytes)
 
--- all of an entry is in the window, where one stands at the part's place; or none stands there, behind any parent
+-- The window has all of the entry at the part's offset if there is one; or there is none, after any
+-- parent.
 abbrev pub Brings : Part → List ℕ → List ℕ → Result Bool WalkRefusal → Content → Type 0
 Brings part old new (Ok true) k =
     Shows (bytes_of (k part.file).seen) part old
@@ -28,7 +29,7 @@ Brings part old new (Ok true) k =
 Brings part old new (Ok false) k = Shows (bytes_of (k part.file).seen) part old → (parent : Option Id20) → LacksEntry parent (left_of (bytes_of (k part.file).seen) part)
 Brings part old new (Err e) k = Unit {0}
 
--- a window that showed a part of a file shows it still
+-- A window that showed a part of a file still shows it.
 abbrev pub KeepsShown : Part → List ℕ → List ℕ → Content → Type 0
 KeepsShown part old new k = Shows (bytes_of (k part.file).seen) part old → Shows (bytes_of (k part.file).seen) part new
 
@@ -42,7 +43,7 @@ pub record Walked (bytes : List ℕ) (s : State) : Type 0 where
   pub seen : s.seen ≡ seen_from 8 None entries
   pub shows : Shows bytes s.part s.window
 
--- a walk behind an entry that was found, with its length
+-- The state of a walk after an entry that was found, with its length.
 abbrev pub next_state : State → Seen × ℕ → State
 next_state s found = record {
   part = record { file = s.part.file; place = s.part.place + found.1; end = s.part.end };
@@ -51,67 +52,67 @@ next_state s found = record {
   seen = s.seen ++ found.0 ∷ [];
 }
 
--- the entry at the front of the window is taken, or none stands there
+-- The entry at the front of the window is taken, or there is none.
 abbrev pub Takes : State → State → Result Bool NoRoom → Type 0
 Takes old new (Ok true) = (found : Seen × ℕ) × IsRead old.part.place old.parent old.window found × (new ≡ next_state old found)
 Takes old new (Ok false) = (IsParent old.parent → LacksEntry old.parent old.window) × (new ≡ old)
 Takes old new (Err e) = Unit {0}
 
--- a turn of a walk finds one entry more, or that none stands there
+-- A turn of a walk finds one more entry, or that there is none.
 abbrev pub Turns : State → State → Result Bool WalkRefusal → Content → Type 0
 Turns old new (Ok true) k = Walked (bytes_of (k old.part.file).seen) old → Walked (bytes_of (k old.part.file).seen) new
 Turns old new (Ok false) k = Walked (bytes_of (k old.part.file).seen) old → LacksEntry old.parent (left_of (bytes_of (k old.part.file).seen) old.part)
 Turns old new (Err e) k = Unit {0}
 
--- the part that is walked stays, but for its place
+-- The part that is walked keeps its file and its end.
 pub record SamePart (old new : Part) : Type 0 where
   pub file : new.file ≡ old.file
   pub end : new.end ≡ old.end
 
--- a turn goes on in the part, where it finds an entry, and else stays
+-- A turn advances in the part if it finds an entry, and otherwise stays.
 abbrev pub Moves : State → State → Result Bool WalkRefusal → Type 0
 Moves old new (Ok true) = (old.part.place < new.part.place) × IsInside new.part new.window
 Moves old new (Ok false) = new.part.place ≡ old.part.place
 Moves old new (Err e) = Unit {0}
 
--- a walk over the first n bytes of a file begins behind the magic, or finds that it isn't there
+-- A walk over the first n bytes of a file starts after the magic, or finds that it isn't there.
 abbrev pub Begins : ℕ → List ℕ → Result (Option State) WalkRefusal → Type 0
 Begins n bytes (Ok None) = LacksMagic n bytes
 Begins n bytes (Ok (Some s)) = Walked bytes s × (s.part.end ≡ min n (length bytes))
 Begins n bytes (Err e) = Unit {0}
 
--- the same of n bytes that the file has
+-- The same for n bytes that the file has.
 abbrev pub BeginsAt : ℕ → List ℕ → Result (Option State) WalkRefusal → Type 0
 BeginsAt n bytes (Ok None) = n ≤ length bytes → LacksMagic n bytes
 BeginsAt n bytes (Ok (Some s)) = n ≤ length bytes → Walked bytes s × (s.part.end ≡ n)
 BeginsAt n bytes (Err e) = Unit {0}
 
--- the magic stands at the front of a window, or it doesn't
+-- A window starts with the magic, or it doesn't.
 abbrev pub HasMagic : List ℕ → Bool → Type 0
 HasMagic window true = (rest : List ℕ) × (window ≡ magic ++ rest)
 HasMagic window false = (rest : List ℕ) → window ≢ magic ++ rest
 
--- a walk begins behind the magic at the front of a window, or it isn't there
+-- A walk starts after the magic at the front of a window, or the magic isn't there.
 abbrev pub BeginsWith : Part → List ℕ → Option State → Type 0
 BeginsWith part window None = (rest : List ℕ) → window ≢ magic ++ rest
 BeginsWith part window (Some s) =
     (rest : List ℕ) × (window ≡ magic ++ rest) × (s ≡ record { part = record { file = part.file; place = 8; end = part.end }; window = rest; parent = None; seen = [] })
 
--- it begins in a part of this file, with no more than n bytes
+-- A walk starts in a part of this file, with at most n bytes.
 abbrev pub BeginsIn : FileName → ℕ → Result (Option State) WalkRefusal → Type 0
 BeginsIn file n (Ok None) = Unit {0}
 BeginsIn file n (Ok (Some s)) = (s.part.file ≡ file) × (s.part.end ≤ n) × IsInside s.part s.window
 BeginsIn file n (Err e) = Unit {0}
 
--- an entry is wanted at a walk's place, or none is, since all n bytes are walked and there is an entry
+-- Another entry is needed; or none is, since all n bytes are walked and there is an entry.
 abbrev pub IsWanted : State → ℕ → Bool → Type 0
 IsWanted s n true = s.part.place ≡ n → length s.seen ≡ 0
 IsWanted s n false = (s.part.place ≡ n) × (0 < length s.seen)
 
--- a walk that came from one state to another
+-- A walk that led from one state to another.
 abbrev pub KeepsWalked : State → State → Content → Type 0
 KeepsWalked old new k = Walked (bytes_of (k old.part.file).seen) old → Walked (bytes_of (k old.part.file).seen) new
 
--- what a walk over the first n bytes answers from where it has come to
+-- The result of a walk over the first n bytes, continued from a state.
 abbrev pub GoesOn : ℕ → List ℕ → State → Result (List Seen) WalkRefusal → Type 0
 GoesOn n bytes s result = Walked bytes s → s.part.end ≡ min n (length bytes) → Walks n bytes result

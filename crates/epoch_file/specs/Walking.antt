@@ -1,4 +1,4 @@
--- What a walk over an epoch's file finds.
+-- The results of a walk over an epoch's file.
 use Rattle.std.specs.Prelude.{◌≡◌, ◌≢◌, ◌⊎◌, ◌<◌, ◌+◌, ℕ, List, [], ◌∷◌, ◌++◌, length, take, Option, Some, None, Result, Ok, Err, unwrap_or}
 use Rattle.std.specs.Fmt.{decimal}
 use Rattle.arch_base.specs.declared.ids.Id20.{Id20}
@@ -11,11 +11,11 @@ use Rattle.arch_model.specs.Epochs.{magic}
 use Rattle.epoch_file.specs.declared.entry.Seen.{Seen}
 use Rattle.epoch_file.specs.Entries.{EpochEntry, IsEpochEntry, AreEpochEntries, bytes_behind, commit_behind, chain, last_of, epoch_of}
 
--- how many bytes stand before a text in its blob: `blob`, a space, the size in digits and NUL
+-- The number of bytes before a text in its blob: `blob`, a space, the size in digits and NUL.
 abbrev pub blob_front : List ℕ → ℕ
 blob_front text = 6 + length (decimal (length text))
 
--- what is seen of an entry at a place, behind a parent
+-- What is recorded of an entry at an offset, after a parent.
 abbrev pub seen_at : ℕ → Option Id20 → EpochEntry → Seen
 seen_at place parent e = record {
   name = e.name;
@@ -29,13 +29,14 @@ seen_at place parent e = record {
   content = content_id_of e.text;
 }
 
--- what is seen of entries from a place on, one behind the other
+-- What is recorded of entries from an offset on, one after the other.
 abbrev pub seen_from : ℕ → Option Id20 → List EpochEntry → List Seen
 seen_from place parent [] = []
 seen_from place parent (e ∷ es) =
     seen_at place parent e ∷ seen_from (place + length (bytes_behind parent e)) (Some (commit_behind parent e)) es
 
--- The first n bytes of a file are there, and are an epoch of at least one entry, of which this is seen.
+-- The first n bytes of a file are there, and are an epoch of at least one entry, with these
+-- records.
 pub record IsEpoch (n : ℕ) (bytes : List ℕ) (seen : List Seen) : Type 0 where
   pub entries : List EpochEntry
   pub some : 0 < length entries
@@ -44,12 +45,12 @@ pub record IsEpoch (n : ℕ) (bytes : List ℕ) (seen : List Seen) : Type 0 wher
   pub whole : n ≡ length (epoch_of entries)
   pub is : seen ≡ seen_from 8 None entries
 
--- no entry behind this parent stands at the front of the bytes
+-- The bytes start with no entry after this parent.
 abbrev pub LacksEntry : Option Id20 → List ℕ → Type 0
 LacksEntry parent bytes = (e : EpochEntry) (rest : List ℕ) → IsEpochEntry e → bytes ≢ bytes_behind parent e ++ rest
 
--- The first n bytes of a file begin with the magic and these entries, and at the place behind them no entry stands, though
--- there is none yet or the bytes go on.
+-- The first n bytes of a file start with the magic and these entries, and there is no entry at the
+-- offset after them, although there is none yet or the bytes go on.
 pub record EndsEarly (n : ℕ) (bytes : List ℕ) (place : ℕ) : Type 0 where
   pub entries : List EpochEntry
   pub rest : List ℕ
@@ -59,15 +60,16 @@ pub record EndsEarly (n : ℕ) (bytes : List ℕ) (place : ℕ) : Type 0 where
   pub wanted : (entries ≡ []) ⊎ (place < n)
   pub lacks : LacksEntry (last_of None entries) rest
 
--- the first n bytes of a file don't begin with the magic
+-- The first n bytes of a file don't start with the magic.
 abbrev pub LacksMagic : ℕ → List ℕ → Type 0
 LacksMagic n bytes = take 8 (take n bytes) ≢ magic
 
--- where the first n bytes of a file leave an epoch's form: at its front, or at the first entry that isn't there
+-- The offset at which the first n bytes of a file leave an epoch's form: 0, or that of the first
+-- entry that isn't there.
 abbrev pub IsDamagedAt : ℕ → List ℕ → ℕ → Type 0
 IsDamagedAt n bytes place = ((place ≡ 0) × LacksMagic n bytes) ⊎ EndsEarly n bytes place
 
--- what a walk over the first n bytes of a file answers
+-- The results of a walk over the first n bytes of a file.
 abbrev pub Walks : ℕ → List ℕ → Result (List Seen) WalkRefusal → Type 0
 Walks n bytes (Ok seen) = IsEpoch n bytes seen
 Walks n bytes (Err (Damaged place)) = IsDamagedAt n bytes place

@@ -4,26 +4,27 @@ use Rattle.disk_model.specs.declared.refusal.WalkRefusal.{WalkRefusal}
 use Rattle.disk_model.specs.Disk.{Content, bytes_of}
 use Rattle.epoch_file.specs.declared.window.Part.{Part}
 
--- the window shows the bytes of a file from the part's place on, and they end where the part does, or the file ends there
+-- The window shows the bytes of a file from the part's offset on; the file has all bytes of the
+-- part.
 pub record Shows (bytes : List ℕ) (part : Part) (window : List ℕ) : Type 0 where
   pub rest : List ℕ
   pub is : drop part.place (take part.end bytes) ≡ window ++ rest
   pub whole : part.end ≤ length bytes
   pub inside : part.place ≤ part.end
 
--- more bytes of a file came into a window, as many as there is room for or are left; or there were none
+-- More bytes of a file came into a window, as many as it has room for or as are left; or none came.
 abbrev pub Comes : Part → ℕ → List ℕ → List ℕ → Result Bool WalkRefusal → Content → Type 0
 Comes part room old new (Ok true) k =
     Shows (bytes_of (k part.file).seen) part old → Shows (bytes_of (k part.file).seen) part new × (min (length old + room) (part.end - part.place) ≤ length new)
 Comes part room old new (Ok false) k = Shows (bytes_of (k part.file).seen) part old → ⊥
 Comes part room old new (Err e) k = Unit {0}
 
--- the window has more bytes than before, where there were more
+-- The window has more bytes than before, if there were more.
 abbrev pub Grows : List ℕ → List ℕ → Result Bool WalkRefusal → Type 0
 Grows old new (Ok true) = length old < length new
 Grows old new (Ok false) = Unit {0}
 Grows old new (Err e) = Unit {0}
 
--- the window doesn't go past its part
+-- The window doesn't go past its part.
 abbrev pub IsInside : Part → List ℕ → Type 0
 IsInside part window = part.place + length window ≤ part.end

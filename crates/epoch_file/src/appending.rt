@@ -1,4 +1,4 @@
-//! An entry put behind those of an epoch's file.
+//! Appends an entry to an epoch's file.
 ghost use Rattle.std.specs.Prelude.{◌≡◌, ◌++◌, ◌<◌, ◌≤◌, ◌^◌, ℕ, List, length, Err, IsTrue, IfOk, OnOk, OnErr, is_ok, if◌then◌else◌};
 ghost use Rattle.arch_base.specs.Counts.{Rose};
 ghost use Rattle.disk_model.specs.Disk.{WhereTold, IsAtMostLength, Elapses};
@@ -14,17 +14,19 @@ use arch_model::{EntryIds, push_entry};
 use disk_model::{Disk, FileName};
 use std::alloc::Global;
 
-/// The bytes that an epoch's file begins with.
+/// The first bytes of an epoch's file.
 pub(crate) const MAGIC: [u8; 8] = *b"PIV2EP1\n";
 
-/// More bytes than this are never written at once: they find no room in memory.
+/// The greatest number of bytes that one write takes. More bytes find no room in memory.
 const MOST: usize = 1 << 62;
 
-/// Writes the bytes of an entry into an epoch's file from a place on, with one write: its blob, its tree and its commit. At
-/// place 0 the magic stands in front of them. The answer is where they end, and the ids of the blob and the commit.
+/// Writes the bytes of an entry to an epoch's file at an offset, in one write.
 ///
-/// DiskFault comes only where that write failed; the range of the bytes may then hold anything. NoMemory comes only for want
-/// of memory, and then nothing was done.
+/// The bytes are its blob, its tree and its commit. At offset 0 the magic comes before them.
+/// Returns the offset after the last byte, and the ids of the blob and the commit.
+///
+/// `DiskFault` comes only from that write; the range of the bytes may then hold anything.
+/// `NoMemory` comes only if memory runs out, and then nothing was done.
 pub fn append_entry<D: Disk>(
     alloc: Global,
     disk: &mut D,
@@ -56,7 +58,7 @@ pub fn append_entry<D: Disk>(
     })
 }
 
-/// What is written of an entry at a place, and the ids of its blob and its commit.
+/// Returns the bytes of an entry at an offset, and the ids of its blob and its commit.
 fn entry_piece(alloc: Global, at: u64, entry: &NewEntry<'_>) -> Result<(Bytes, EntryIds), NoMemory>
     requires { IsTrue (is_entry_name entry.now.name) }
     ensures piece { IfOk result (λ made. made.0 ≡ appended at entry.now) }
@@ -75,7 +77,7 @@ fn entry_piece(alloc: Global, at: u64, entry: &NewEntry<'_>) -> Result<(Bytes, E
     Ok((piece, ids))
 }
 
-/// What stands in front of an entry's bytes at a place: the magic at the file's front, and else nothing.
+/// Returns the bytes before an entry at an offset: the magic at offset 0, and otherwise none.
 fn front(alloc: Global, at: u64) -> Result<Bytes, NoMemory>
     ensures { IfOk result (λ made. made ≡ front_at at) }
 {

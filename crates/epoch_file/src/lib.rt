@@ -1,4 +1,6 @@
-//! The file of an epoch: the git objects of its entries, one behind the other, and how one is added and all are read.
+//! The file of an epoch: the git objects of its entries, one after the other.
+//!
+//! Appends an entry, and reads all of them.
 #![tactic(auto)]
 
 mod appending;

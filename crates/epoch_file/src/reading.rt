@@ -1,4 +1,4 @@
-//! An entry, read from the front of bytes.
+//! Reads an entry from the front of bytes.
 ghost use Rattle.std.specs.Prelude.{◌≡◌, ◌≢◌, ◌+◌, ◌-◌, ◌<◌, ◌≤◌, ◌^◌, ◌++◌, ◌↔◌, ℕ, List, [], Some, None, length, true, unwrap_or, IsTrue, IfSome, IfNone, IfOk, MatchOption};
 ghost use Rattle.arch_base.specs.Ids.{IsId};
 ghost use Rattle.arch_base.specs.declared.ids.Id20.{Id20};
@@ -28,15 +28,15 @@ pub(crate) struct Parts<'a> {
     name: u8,
     /// The blob's content.
     text: &'a [u8],
-    /// How many bytes stand before it.
+    /// The number of bytes before it.
     front: usize,
     /// The commit's content.
     commit: &'a [u8],
-    /// How many bytes the three objects take.
+    /// The number of bytes of the three objects.
     size: usize,
 }
 
-/// The blob, tree and commit that bytes begin with.
+/// Reads the blob, tree and commit that bytes start with.
 fn read_parts(bytes: &[u8]) -> Option<Parts<'_>>
     ensures found { IfSome result (IsParted bytes.now) }
     ensures again { PartsAgain bytes.now result }
@@ -54,7 +54,7 @@ fn read_parts(bytes: &[u8]) -> Option<Parts<'_>>
     })
 }
 
-/// The content of the blob that bytes begin with, and its length.
+/// Reads the content of the blob that bytes start with, and the blob's length.
 fn blob_ahead(bytes: &[u8]) -> Option<(&[u8], usize)>
     ensures inside { IfSome result (λ found. (length found.0.now ≤ found.1) × (found.1 ≤ length bytes.now)) }
     ensures again { (content rest : List ℕ) → HasSize content → bytes.now ≡ blob_spelling content ++ rest
@@ -66,7 +66,7 @@ fn blob_ahead(bytes: &[u8]) -> Option<(&[u8], usize)>
     }
 }
 
-/// The name in the tree that bytes begin with, and its length.
+/// Reads the name in the tree that bytes start with, and the tree's length.
 fn tree_ahead(bytes: &[u8]) -> Option<(u8, usize)>
     ensures inside { IfSome result (λ found. (is_entry_name found.0 ≡ true) × (found.1 ≤ length bytes.now)) }
     ensures again { (name : ℕ) (id : Id20) (rest : List ℕ) → is_entry_name name ≡ true → IsId id → bytes.now ≡ tree_spelling name id ++ rest
@@ -78,7 +78,7 @@ fn tree_ahead(bytes: &[u8]) -> Option<(u8, usize)>
     }
 }
 
-/// The content of the commit that bytes begin with, and its length.
+/// Reads the content of the commit that bytes start with, and the commit's length.
 fn commit_ahead(bytes: &[u8]) -> Option<(&[u8], usize)>
     ensures inside { IfSome result (λ found. found.1 ≤ length bytes.now) }
     ensures again { (content rest : List ℕ) → HasSize content → bytes.now ≡ spelling (CommitOf content) ++ rest
@@ -90,7 +90,9 @@ fn commit_ahead(bytes: &[u8]) -> Option<(&[u8], usize)>
     }
 }
 
-/// The moment of a commit's content, where it is one up to the last.
+/// Returns the moment in a commit's content.
+///
+/// The result is `None` if the content is no commit's, or the moment is after the last.
 fn moment_of(alloc: Global, content: &[u8]) -> Result<Option<u64>, NoMemory>
     ensures bound { IfOk result (λ found. IfSome found (λ moment. moment ≤ last_moment)) }
     ensures again { (c : CommitRecord) → IsCommit c → content.now ≡ commit_content c → c.committed ≤ last_moment → IfOk result (λ found. found ≡ Some c.committed) }
@@ -106,7 +108,7 @@ fn moment_of(alloc: Global, content: &[u8]) -> Result<Option<u64>, NoMemory>
     }
 }
 
-/// The ids of blob and commit, where bytes are those of an entry.
+/// Returns the ids of blob and commit if the bytes are those of an entry.
 fn respell(
     alloc: Global,
     bytes: &[u8],
@@ -126,7 +128,7 @@ fn respell(
     Ok(Some(ids))
 }
 
-/// The own id of a text once more, empty where it has none.
+/// Returns a copy of the own id of a text, empty if it has none.
 fn id_of(alloc: Global, text: &[u8]) -> Result<Bytes, NoMemory>
     ensures { IfOk result (λ id. id ≡ unwrap_or (own_id_of text.now) []) }
 {
@@ -137,8 +139,10 @@ fn id_of(alloc: Global, text: &[u8]) -> Result<Bytes, NoMemory>
     Ok(id)
 }
 
-/// The entry behind a parent that bytes begin with, and its length; the bytes stand at a place in their file. None where no
-/// such entry stands there.
+/// Reads the entry after a parent that bytes start with, and returns it and its length.
+///
+/// The bytes are at the offset `place` of their file. The result is `None` if they don't start with
+/// such an entry.
 pub(crate) fn read_entry(
     alloc: Global,
     place: u64,
@@ -154,7 +158,7 @@ pub(crate) fn read_entry(
     }
 }
 
-/// The same, where the bytes have these parts.
+/// Reads the entry, given the three objects at the front of the bytes.
 fn read_in_parts(
     alloc: Global,
     place: u64,
@@ -173,7 +177,7 @@ fn read_in_parts(
     }
 }
 
-/// The same, where the commit is of this moment.
+/// Reads the entry, given its objects and the moment of its commit.
 fn read_at_moment(
     alloc: Global,
     place: u64,
@@ -198,7 +202,7 @@ fn read_at_moment(
     }
 }
 
-/// What is seen of an entry.
+/// Returns what is recorded of an entry.
 fn seen_of(
     alloc: Global,
     place: u64,

@@ -1,23 +1,23 @@
-//! Why a call on stored files gives no answer.
+//! The errors of calls on stored files.
 use arch_base::NoMemory;
 use disk_model::{DiskFault, FileName};
 use thiserror::Error;
 
-/// Why a call on stored files gave no answer.
+/// Why a call on stored files failed.
 #[derive(Debug, Drop, PartialEq, Eq, Error)]
 pub enum StoreRefusal {
     /// A call of the disk failed.
     #[error("the disk failed")]
     DiskFault,
-    /// Memory was wanted, and there was none.
+    /// A call ran out of memory.
     #[error("out of memory")]
     NoMemory,
-    /// A file does not have the form that it should have.
+    /// A file isn't in its form.
     #[error("a file is damaged at {at}")]
     Damaged {
         /// The name of the file.
         file: FileName,
-        /// The place of the first part that does not have it, in bytes.
+        /// The offset of the first part that isn't in form, in bytes.
         at: u64,
     },
 }

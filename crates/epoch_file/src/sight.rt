@@ -1,4 +1,4 @@
-//! How much of an entry stands at the front of bytes, by the sizes that its objects begin with.
+//! How much of an entry is at the front of bytes, by the sizes that its objects start with.
 ghost use Rattle.std.specs.Prelude.{◌≡◌, ◌+◌, ◌<◌, ◌≤◌, ◌^◌, ◌++◌, ◌∷◌, ℕ, List, Some, length, codes, IsTrue, IfSome, MatchOption, ◌≢◌};
 ghost use Rattle.std.specs.Fmt.{decimal};
 ghost use Rattle.mail_reader.specs.StorageTexts.{max_text_len};
@@ -13,21 +13,21 @@ const MAX_TEXT_LEN: u64 = 8_388_800;
 /// The length of a tree of one file, in bytes.
 const TREE_LEN: usize = 37;
 
-/// Within so many bytes stand an object's type and size, and the byte behind them.
+/// The most bytes that an object's type, its size and the byte after them take.
 const HEAD_LEN: usize = 28;
 
-/// How much of an entry stands at the front of bytes.
+/// How much of an entry is at the front of bytes.
 #[derive(Debug, Clone, Copy, PartialEq, Eq, Drop)]
 pub(crate) enum Sight {
-    /// No entry stands there, whatever follows.
+    /// None: the bytes start with no entry, whatever follows.
     Lacks,
-    /// More bytes are wanted.
+    /// More bytes are needed to tell.
     Short,
-    /// All of it, where one stands there.
+    /// All of it, if the bytes start with one.
     Whole,
 }
 
-/// How much of an entry the bytes hold, where so many bytes are left of which they are the front.
+/// Returns how much of an entry the held bytes have, of `left` bytes that they start.
 pub(crate) fn look(held: &[u8], left: u64) -> Sight
     ensures { Sees held.now left result }
 {
@@ -40,14 +40,14 @@ pub(crate) fn look(held: &[u8], left: u64) -> Sight
     }
 }
 
-/// Whether the bytes are fewer than so many, and more are left.
+/// Returns whether fewer than `count` bytes are held, and more are left.
 fn is_short(held: &[u8], left: u64, count: usize) -> bool
     ensures { IsRoomFor held.now left count result }
 {
     held.len() < count && (held.len() as u64) < left
 }
 
-/// The place of an entry's commit, by the size of its blob.
+/// Returns the offset of an entry's commit, by the size of its blob.
 fn commit_at(held: &[u8]) -> Option<usize>
     ensures bound { IfSome result (λ at. at < 2 ^ 62) }
     ensures again { (text rest : List ℕ) → length text ≤ max_text_len → held.now ≡ codes "blob " ++ (decimal (length text) ++ 0 ∷ rest) → result ≡ Some (commit_place text) }
@@ -59,7 +59,7 @@ fn commit_at(held: &[u8]) -> Option<usize>
     Some(front + size as usize + TREE_LEN)
 }
 
-/// How much of an entry the bytes hold, by the place of its commit.
+/// Returns how much of an entry the bytes have, by the offset of its commit.
 fn look_behind(held: &[u8], left: u64, at: usize) -> Sight
     requires { at < 2 ^ 62 }
     ensures { SeesBehind at held.now left result }
@@ -73,7 +73,7 @@ fn look_behind(held: &[u8], left: u64, at: usize) -> Sight
     }
 }
 
-/// The length of an entry, by the place of its commit and the size of that.
+/// Returns the length of an entry, by the offset and the size of its commit.
 fn entry_len(held: &[u8], at: usize) -> Option<u64>
     requires { at < 2 ^ 62 }
     ensures { EndsCommit at held.now result }
@@ -85,7 +85,7 @@ fn entry_len(held: &[u8], at: usize) -> Option<u64>
     size.checked_add((at + front) as u64)
 }
 
-/// How much of an entry the bytes hold, by its length.
+/// Returns how much of an entry the bytes have, by its length.
 fn look_at_all(held: &[u8], left: u64, len: u64) -> Sight
     ensures { SeesAll len held.now left result }
 {
@@ -98,7 +98,7 @@ fn look_at_all(held: &[u8], left: u64, len: u64) -> Sight
     Sight::Whole
 }
 
-/// The length of the type and the size that bytes begin with, and the byte behind them, and that size.
+/// Reads a type and a size, and returns the length of both and the byte after them, and the size.
 fn head(word: &[u8], bytes: &[u8]) -> Option<(usize, u64)>
     requires { length word.now ≤ 16 }
     ensures bound { IfSome result (λ found. found.0 ≤ 37) }
@@ -110,14 +110,14 @@ fn head(word: &[u8], bytes: &[u8]) -> Option<(usize, u64)>
     Some((word.len() + len + 1, size))
 }
 
-/// The bytes behind a word that they begin with.
+/// Returns the bytes after a word that they start with.
 pub(crate) fn after<'a>(word: &[u8], bytes: &'a [u8]) -> Option<&'a [u8]>
     ensures { MatchOption result ((rest : List ℕ) → bytes.now ≢ word.now ++ rest) (λ rest. bytes.now ≡ word.now ++ rest.now) }
 {
     bytes.strip_prefix(word)
 }
 
-/// How many digits stand before the first NUL, and their number.
+/// Returns the number of digits before the first NUL, and the number that they spell.
 fn number(bytes: &[u8]) -> Option<(usize, u64)>
     ensures bound { IfSome result (λ found. found.0 ≤ 20) }
     ensures again { (size : ℕ) (rest : List ℕ) → size < 2 ^ 64 → bytes.now ≡ decimal size ++ 0 ∷ rest → result ≡ Some (length (decimal size), size) }

@@ -1,14 +1,14 @@
-//! How far a walk has come.
+//! The state of a walk.
 use crate::entry::SeenList;
 use crate::window::{Part, Window};
 use arch_base::ObjectId;
 
-/// How far a walk over an epoch's file has come.
+/// The state of a walk over an epoch's file.
 #[derive(Debug, Drop)]
 pub(crate) struct State {
     /// The part of the file that is left.
     pub(crate) part: Part,
-    /// Bytes that were read of it.
+    /// Bytes that were read of that part.
     pub(crate) window: Window,
     /// The commit of the entry before it.
     pub(crate) parent: Option<ObjectId>,

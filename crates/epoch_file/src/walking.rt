@@ -1,4 +1,4 @@
-//! An epoch's file read through.
+//! Walks over an epoch's file.
 ghost use Rattle.std.specs.Prelude.{◌≡◌, ◌+◌, ◌<◌, ◌≤◌, ◌^◌, ℕ, List, length, min, Err, IfOk};
 ghost use Rattle.arch_base.specs.Counts.{Rose};
 ghost use Rattle.disk_model.specs.Disk.{Image, Told, WhereTold, Unchanged, LeavesOnly, bytes_of};
@@ -17,12 +17,15 @@ use arch_base::NoMemory;
 use disk_model::{Disk, FileName, WalkRefusal};
 use std::alloc::Global;
 
-/// The entries of an epoch's file, of which so many bytes count: each has been read, and found to be just what its blob's
-/// text, its name, its moment and the commit before it make of it.
+/// Returns the entries in the first `length` bytes of an epoch's file.
 ///
-/// Damaged comes exactly where the first `length` bytes are no epoch of at least one entry, with the place of the first part
-/// that isn't there: 0 where the magic isn't, and else that of the first entry. What stands behind them doesn't count.
-/// DiskFault comes only where a call of the disk failed, and NoMemory only for want of memory.
+/// Each entry has been read, and its bytes are exactly those that its blob's text, its name, its
+/// moment and the commit before it make. The bytes after the first `length` don't count.
+///
+/// The result is `Damaged` exactly if the first `length` bytes are no epoch of at least one entry.
+/// Its offset is that of the first part that isn't there: 0 for the magic, and otherwise that of
+/// the first entry. `DiskFault` comes only if a call of the disk failed, and `NoMemory` only if
+/// memory runs out.
 pub fn walk<D: Disk>(
     alloc: Global,
     disk: &mut D,
@@ -43,7 +46,7 @@ pub fn walk<D: Disk>(
     }
 }
 
-/// Where a walk begins: behind the magic. None where the first `count` bytes don't begin with it.
+/// Starts a walk after the magic. Returns `None` if the first `count` bytes don't start with it.
 fn begin<D: Disk>(
     alloc: Global,
     disk: &mut D,
@@ -70,7 +73,7 @@ fn begin<D: Disk>(
     begin_in(alloc, disk, &part, piece)
 }
 
-/// Where a walk over a part from a file's front on begins.
+/// Starts a walk over a part at the front of a file.
 fn begin_in<D: Disk>(
     alloc: Global,
     disk: &mut D,
@@ -90,7 +93,9 @@ fn begin_in<D: Disk>(
     Ok(begin_with(alloc, part, window))
 }
 
-/// Where a walk begins with what was read from a file's front on. None where that doesn't begin with the magic.
+/// Starts a walk with the bytes read from the front of a file.
+///
+/// Returns `None` if they don't start with the magic.
 fn begin_with(alloc: Global, part: &Part, window: Window) -> Option<State>
     ensures { BeginsWith part.now window result }
 {
@@ -111,14 +116,14 @@ fn begin_with(alloc: Global, part: &Part, window: Window) -> Option<State>
     })
 }
 
-/// Whether the magic stands at the front of a window.
+/// Returns whether a window starts with the magic.
 fn has_magic(window: &Window) -> bool
     ensures { HasMagic window.now result }
 {
     after(&MAGIC, window.as_slice()).is_some()
 }
 
-/// Walks up to the place that so many bytes have.
+/// Continues a walk up to the offset `count`.
 fn go_on<D: Disk>(
     alloc: Global,
     disk: &mut D,
@@ -148,14 +153,14 @@ fn go_on<D: Disk>(
     Ok(state.seen)
 }
 
-/// Whether an entry is wanted at a walk's place: there is none yet, or more bytes count.
+/// Returns whether another entry is needed: there is none yet, or more bytes count.
 fn is_wanted(state: &State, count: u64) -> bool
     ensures { IsWanted state.now count result }
 {
     state.part.place != count || state.seen.as_slice().is_empty()
 }
 
-/// Takes the entry at the walk's place. False where none stands there.
+/// Takes the next entry of the walk. Returns `false` if there is none.
 fn turn<D: Disk>(
     alloc: Global,
     disk: &mut D,
@@ -177,7 +182,7 @@ fn turn<D: Disk>(
     Ok(take_one(alloc, state)?)
 }
 
-/// Takes the entry at the front of the window. False where none stands there.
+/// Takes the entry at the front of the window. Returns `false` if there is none.
 fn take_one(alloc: Global, state: &mut State) -> Result<bool, NoMemory>
     requires inside { IsInside state.old.part state.old.window }
     ensures takes { Takes state.old state.new result }
@@ -202,7 +207,7 @@ fn take_one(alloc: Global, state: &mut State) -> Result<bool, NoMemory>
     }
 }
 
-/// Brings all of the entry at a part's place into its window. False where none stands there.
+/// Reads all of the next entry into the window. Returns `false` if there is none.
 fn bring<D: Disk>(
     alloc: Global,
     disk: &mut D,

@@ -1,4 +1,4 @@
-//! A window over a part of a file: bytes that were read and are still looked at.
+//! A window over a part of a file: bytes that were read and are still in use.
 ghost use Rattle.std.specs.Prelude.{◌≡◌, ◌+◌, ◌-◌, ◌<◌, ◌≤◌, ◌++◌, ℕ, List, [], length, drop, vec_len, IfOk, OnOk, OnErr, Err};
 ghost use Rattle.disk_model.specs.Disk.{WhereTold};
 ghost use Rattle.epoch_file.specs.Windows.{Comes, Grows, IsInside};
@@ -9,10 +9,10 @@ use disk_model::{Disk, FileName, WalkRefusal};
 use std::alloc::Global;
 use std::marker::Model;
 
-/// So many bytes are read at once at most.
+/// The most bytes that are read at once.
 const PIECE: u64 = 1 << 20;
 
-/// Room for the bytes that are read at once of so many.
+/// Allocates room for the bytes that are read at once, for a file of `length` bytes.
 pub(crate) fn piece_room(alloc: Global, length: u64) -> Result<Vec<u8>, NoMemory>
     ensures { IfOk result (λ room. 8 ≤ vec_len room) }
 {
@@ -20,18 +20,18 @@ pub(crate) fn piece_room(alloc: Global, length: u64) -> Result<Vec<u8>, NoMemory
     Ok(vec![in alloc; 0; count]?)
 }
 
-/// A part of a file, from a place up to an end.
+/// A part of a file, from an offset up to an end.
 #[derive(Debug, Clone, Copy)]
 pub(crate) struct Part {
     /// The name of the file.
     pub(crate) file: FileName,
-    /// The place at which the window stands.
+    /// The offset at which the window starts.
     pub(crate) place: u64,
     /// The end of what counts of the file.
     pub(crate) end: u64,
 }
 
-/// Bytes of a file from a place on. A contract sees them as a list.
+/// Bytes of a file from an offset on. Its contract view is a list.
 #[derive(Debug, Drop)]
 pub(crate) struct Window {
     held: Bytes,
@@ -49,7 +49,7 @@ impl Model for Window {
 }
 
 impl Window {
-    /// No bytes yet.
+    /// Creates a window without bytes.
     pub(crate) fn new(alloc: Global) -> Window
         ensures { result ≡ [] }
     {
@@ -59,14 +59,14 @@ impl Window {
         }
     }
 
-    /// The bytes.
+    /// Returns the bytes.
     pub(crate) fn as_slice(&self) -> &[u8]
         ensures { result.now ≡ self.now }
     {
         self.held.as_slice().split_at(self.start).1
     }
 
-    /// Leaves the first bytes behind.
+    /// Skips the first bytes.
     pub(crate) fn skip(&mut self, count: usize)
         requires { count ≤ length self.old }
         ensures { self.new ≡ drop count self.old }
@@ -75,7 +75,7 @@ impl Window {
         self.start += count;
     }
 
-    /// Gives back the room of bytes that were left behind.
+    /// Frees the room of bytes that were skipped.
     fn settle(&mut self, alloc: Global) -> Result<(), NoMemory>
         ensures { self.new ≡ self.old }
     {
@@ -88,7 +88,7 @@ impl Window {
         Ok(())
     }
 
-    /// Takes bytes that follow.
+    /// Appends bytes to the window.
     fn push(&mut self, alloc: Global, bytes: &[u8]) -> Result<(), NoMemory>
         ensures ok { OnOk result (self.new ≡ self.old ++ bytes.now) }
         ensures err { OnErr result (self.new ≡ self.old) }
@@ -98,7 +98,9 @@ impl Window {
     }
 }
 
-/// Reads on: takes more bytes of a part into its window. False where none came, though more are wanted.
+/// Reads more bytes of a part into its window.
+///
+/// Returns `false` if none came, although some were left.
 pub(crate) fn read_on<D: Disk>(
     alloc: Global,
     disk: &mut D,
@@ -119,7 +121,7 @@ pub(crate) fn read_on<D: Disk>(
     read_into(alloc, disk, part, window, &mut piece[..wanted])
 }
 
-/// The same, with room for no more than is left.
+/// Reads more bytes of a part into its window, with room for at most the bytes that are left.
 fn read_into<D: Disk>(
     alloc: Global,
     disk: &mut D,

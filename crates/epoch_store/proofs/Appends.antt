@@ -1,4 +1,4 @@
--- What stands while bytes are put behind those of two files, and then another root is committed.
+-- What holds while bytes are appended to two files, and while another root is then committed.
 use Rattle.std.specs.Prelude.{◌≡◌, ◌≢◌, ◌⊎◌, ◌+◌, ◌-◌, ◌<◌, ◌≤◌, ℕ, List, [], ◌∷◌, ◌++◌, length, take, drop, get_or, Some, None, refl}
 use Rattle.std.proofs.Common.{◌∙◌, sym, ap, subst, inl, inr, arith, length-append, length-drop}
 use Rattle.std.proofs.lemmas.List.{append-nil, nil_from_length}
@@ -21,18 +21,18 @@ use Rattle.epoch_store.specs.Files.{map_name, epoch_name, cache_name, map_file_o
 use Rattle.epoch_store.specs.declared.putting.Part.{Part}
 use Rattle.epoch_store.specs.TwoFiles.{IsAppending, AreAppended}
 
--- bytes at the front of a file stay there where all up to their end stays
+-- A file still starts with bytes if all up to their end stays.
 pub fronts_stay : (bytes : List ℕ) (at : ℕ) (file image : File) → at ≡ length bytes → Fronts bytes file → take at (bytes_of image) ≡ take at (bytes_of file) → (at ≤ length (bytes_of file) → at ≤ length (bytes_of image)) → Fronts bytes image
 fronts_stay bytes at file image is f same long = record {
   long = (let l = f.long in omega (arith, is, long (omega (arith, is, l))));
   front = ap (λ (n : ℕ). take n (bytes_of image)) (sym is) ∙ (same ∙ (ap (λ (n : ℕ). take n (bytes_of file)) is ∙ f.front));
 }
 
--- what a file with these bytes at its front has after a write behind them
+-- A file that starts with these bytes, after a write that follows them.
 overlay_is : (bytes more old : List ℕ) → take (length bytes) old ≡ bytes → overlay (length bytes) more old ≡ (bytes ++ more) ++ drop (length bytes + length more) old
 overlay_is bytes more old front = ap (λ (b : List ℕ). (b ++ more) ++ drop (length bytes + length more) old) front
 
--- bytes put behind those of a file stand in it
+-- A file has the bytes that are appended to those at its front.
 pub fronts_grow : (bytes more : List ℕ) (old : File) → Fronts bytes old → Fronts (bytes ++ more) (Some (overlay (length bytes) more (bytes_of old)))
 fronts_grow bytes more old f =
     let long = f.long in
@@ -42,25 +42,25 @@ fronts_grow bytes more old f =
       front = ap (take (length (bytes ++ more))) is ∙ take-append_seam (bytes ++ more) (drop (length bytes + length more) (bytes_of old));
     }
 
--- where the file had these bytes alone, it has those and no others
+-- A file that had only these bytes has those and the appended ones, and no others.
 pub exact_grow : (bytes more : List ℕ) → overlay (length bytes) more bytes ≡ bytes ++ more
 exact_grow bytes more =
     overlay_is bytes more bytes (take-length bytes) ∙ (ap (λ (b : List ℕ). (bytes ++ more) ++ b) (nil_from_length (drop (length bytes + length more) bytes) (omega (arith, length-drop {A = ℕ}))) ∙ append-nil (bytes ++ more))
 
--- what holds of a file in each image holds of each file that a crash may leave under its name
+-- What holds of a file in each image holds of each file that a crash may leave under its name.
 pub each_file : (k : Content) (name : FileName) (P : File → Type 0) → ReadsFit (Some k) → ((image : Files) → Image (Some k) image → P (image name)) → (file : File) → Fits (k name).sure file → P file
 each_file k name P fit each file fits =
     let image = with_file (as_read k) name file in
     subst P (with_file-here (as_read k) name file) (each image (Image-with_file k (as_read k) name file (λ other. fit k refl other) fits))
 
--- a number is this one or another
+-- A number is this one or another.
 pub nat_eq_or_not : (m n : ℕ) → (m ≡ n) ⊎ (m ≢ n)
 nat_eq_or_not m n = elim (cases_lt m n) [
   | inl low ↦ inr (λ is. absurd (omega (arith, low, is)))
   | inr high ↦ elim (cases_lt n m) [ inl more ↦ inr (λ is. absurd (omega (arith, more, is))) | inr low ↦ inl (omega (arith, high, low)) ]
 ]
 
--- two names of different kinds or numbers are apart
+-- Two names of different kinds or numbers differ.
 pub map_isnt_root : (n : ℕ) → map_name n ≢ root_name
 map_isnt_root n is = let wrong : kind_place (map_name n).kind ≡ kind_place root_name.kind = ap (λ (f : FileName). kind_place f.kind) is in absurd (omega (arith, wrong))
 
@@ -73,29 +73,29 @@ epoch_isnt_map e n m is = let wrong : kind_place (epoch_name e n).kind ≡ kind_
 pub epoch_isnt_cache : (e n m : ℕ) → epoch_name e n ≢ cache_name m
 epoch_isnt_cache e n m is = let wrong : kind_place (epoch_name e n).kind ≡ kind_place (cache_name m).kind = ap (λ (f : FileName). kind_place f.kind) is in absurd (omega (arith, wrong))
 
--- a file of bytes has them
+-- A file of bytes has them.
 bytes_of_file : (bytes : List ℕ) → bytes_of (file_of bytes) ≡ bytes
 bytes_of_file [] = refl
 bytes_of_file (b ∷ bs) = refl
 
--- a file of some bytes is there
+-- A file of some bytes is there.
 file_of_some : (bytes : List ℕ) → 0 < length bytes → file_of bytes ≡ Some bytes
 file_of_some [] some = absurd (omega (arith, some))
 file_of_some (b ∷ bs) some = refl
 
--- a file of these bytes and more has them at its front
+-- A file of these bytes and more starts with them.
 front_of : (bytes more : List ℕ) (file : File) → bytes_of file ≡ bytes ++ more → Fronts bytes file
 front_of bytes more file is = record {
   long = omega (arith, ap length is, length-append bytes more);
   front = ap (take (length bytes)) is ∙ take-append_seam bytes more;
 }
 
--- a file of bytes has these at its front
+-- A file of bytes starts with them.
 front_whole : (bytes : List ℕ) (file : File) → bytes_of file ≡ bytes → Fronts bytes file
 front_whole bytes file is = front_of bytes [] file (is ∙ sym (append-nil bytes))
 
--- Where an entry is added to an epoch: behind the bytes of the epoch's file, or, where it has none, in a file that the root
--- doesn't name.
+-- Where an entry is added to an epoch: after the bytes of the epoch's file, or, if it has none, in
+-- a file that the root doesn't name.
 pub record Grows (root : Root) (epochs : ℕ → List ℕ) (epoch : ℕ) (first : Part) : Type 0 where
   pub small : epoch < 64
   pub gen_ : ℕ
@@ -103,7 +103,7 @@ pub record Grows (root : Root) (epochs : ℕ → List ℕ) (epoch : ℕ) (first 
   pub behind : first.place ≡ length (epochs epoch)
   pub from : (first.file ≡ epoch_file_of root epoch) ⊎ ((epochs epoch ≡ []) × ((e : ℕ) → e < 64 → epoch_file_of root e ≢ first.file))
 
--- the end of a map
+-- The end of a map.
 abbrev pub map_part : Root → List ℕ → Part
 map_part root map = record { file = map_file_of root; place = length map }
 
@@ -120,7 +120,7 @@ module _ (root : Root) (slot : ℕ) (map : List ℕ) (epochs : ℕ → List ℕ)
   first_number : (e n : ℕ) → epoch_name e n ≡ first.file → e ≡ epoch
   first_number e n is = ap (λ (f : FileName). f.number) (is ∙ grows.name)
 
-  -- while bytes are put behind those of the map and of the epoch, all that the root names stands
+  -- While bytes are appended to the map and the epoch, files stand for all that the root names.
   pub appending_stands : (k : Content) (image : Files) → ReadsFit (Some k) → IsOn root slot map epochs k → IsAppending first (map_part root map) k image → StandsFor root map epochs image
   appending_stands k image fit on a = record {
     current =
@@ -142,7 +142,7 @@ module _ (root : Root) (slot : ℕ) (map : List ℕ) (epochs : ℕ → List ℕ)
         let place : first.place ≡ length (epochs e) = grows.behind ∙ ap (λ (n : ℕ). length (epochs n)) (sym number) in
         subst (λ (n : FileName). Fronts (epochs e) (image n)) (sym is) (fronts_stay (epochs e) first.place o.file (image first.file) place old o.same o.long)
 
-  -- the epoch's file reads as its bytes before
+  -- The epoch's file reads as its bytes before.
   first_reads : (k : Content) → IsOn root slot map epochs k → bytes_of (k first.file).seen ≡ epochs epoch
   first_reads k on = elim grows.from [
     | inl is ↦ ap (λ (n : FileName). bytes_of (k n).seen) is ∙ (ap bytes_of (on.exact.epochs_end epoch grows.small) ∙ bytes_of_file (epochs epoch))
@@ -155,16 +155,16 @@ module _ (root : Root) (slot : ℕ) (map : List ℕ) (epochs : ℕ → List ℕ)
     unnamed new (inr (inr (inr c))) = first_isnt_cache root.cache.gen_ c.1
 
   module _ (bytes more : List ℕ) (k0 k2 : Content) (on : IsOn root slot map epochs k0) (did : AreAppended first bytes (map_part root map) more k0 k2) where
-    -- the map's file then
+    -- The map's file then.
     map_reads : bytes_of (k2 (map_file_of root)).seen ≡ map ++ more
     map_reads = ap bytes_of did.second_file ∙ (ap (overlay (length map) more) on.exact.map_ends ∙ exact_grow map more)
 
-    -- and the epoch's
+    -- The epoch's file then.
     epoch_reads : (k2 first.file).seen ≡ Some (epochs epoch ++ bytes)
     epoch_reads =
         did.first_file ∙ ap (λ (b : List ℕ). Some b) (ap (overlay first.place bytes) (first_reads k0 on) ∙ (ap (λ (n : ℕ). overlay n bytes (epochs epoch)) grows.behind ∙ exact_grow (epochs epoch) bytes))
 
-    -- files that read so stand for what they stood for before
+    -- Files that read so stand for what they stood for before.
     pub reads_old : (image : Files) → ((other : FileName) → other ≢ root_name → image other ≡ (k2 other).seen) → IfThere (HasRoot (spelling root)) (image root_name) → StandsFor root map epochs image
     reads_old image reads current = record {
       current = current;
@@ -180,7 +180,7 @@ module _ (root : Root) (slot : ℕ) (map : List ℕ) (epochs : ℕ → List ℕ)
           let old : Fronts (epochs epoch) (k2 first.file).seen = front_of (epochs epoch) bytes (k2 first.file).seen (ap bytes_of epoch_reads) in
           subst (λ (n : FileName). Fronts (epochs e) (k2 n).seen) (sym is) (subst (λ (n : ℕ). Fronts (epochs n) (k2 first.file).seen) (sym number) old)
 
-    -- The next root names what was put there.
+    -- The next root names what was appended.
     pub record Follows (next_root : Root) (next : ℕ → List ℕ) : Type 0 where
       pub map_same : map_file_of next_root ≡ map_file_of root
       pub here : epoch_file_of next_root epoch ≡ first.file
@@ -191,7 +191,7 @@ module _ (root : Root) (slot : ℕ) (map : List ℕ) (epochs : ℕ → List ℕ)
       pub cache_same : next_root.cache ≡ root.cache
 
     module _ (next_root : Root) (next : ℕ → List ℕ) (follows : Follows next_root next) where
-      -- the file of an epoch that the next root names
+      -- The file of an epoch that the next root names.
       epoch_next : (e : ℕ) → e < 64 → (k2 (epoch_file_of next_root e)).seen ≡ file_of (next e)
       epoch_next e below = elim (nat_eq_or_not e epoch) [ inl is ↦ subst (λ (n : ℕ). (k2 (epoch_file_of next_root n)).seen ≡ file_of (next n)) (sym is) at_epoch | inr apart ↦ at_other_epoch apart ] where
         at_epoch : (k2 (epoch_file_of next_root epoch)).seen ≡ file_of (next epoch)
@@ -206,7 +206,7 @@ module _ (root : Root) (slot : ℕ) (map : List ℕ) (epochs : ℕ → List ℕ)
             ap (λ (n : FileName). (k2 n).seen) (follows.others e below apart)
             ∙ (did.elsewhere (epoch_file_of root e) not_first (epoch_isnt_map e (get_or root.epochs e no_place).gen_ root.map.gen_) ∙ (on.exact.epochs_end e below ∙ ap file_of (sym (follows.bytes_others e below apart))))
 
-      -- files that read so stand for what the next root names
+      -- Files that read so stand for what the next root names.
       pub reads_new : (image : Files) → ((other : FileName) → other ≢ root_name → image other ≡ (k2 other).seen) → IfThere (HasRoot (spelling next_root)) (image root_name) → StandsFor next_root (map ++ more) next image
       reads_new image reads current = record {
         current = current;
@@ -218,7 +218,7 @@ module _ (root : Root) (slot : ℕ) (map : List ℕ) (epochs : ℕ → List ℕ)
             front_whole (next e) (image (epoch_file_of next_root e)) (ap bytes_of (reads (epoch_file_of next_root e) named) ∙ (ap bytes_of (epoch_next e below) ∙ bytes_of_file (next e)));
       }
 
-      -- every file that is there is named
+      -- Every file that is there is named.
       named_or_none : (name : FileName) → name ≢ root_name → IsNamed next_root name ⊎ ((k2 name).seen ≡ None)
       named_or_none name not_root = elim (same_or_other (map_file_of root) name) [
         | inl is ↦ inl (inr (inl (is ∙ sym follows.map_same)))
@@ -245,13 +245,14 @@ module _ (root : Root) (slot : ℕ) (map : List ℕ) (epochs : ℕ → List ℕ)
         of_old not_map not_first (inr (inr (inl e))) = of_epoch not_map not_first e.0 e.1 e.2
         of_old not_map not_first (inr (inr (inr c))) = inl (inr (inr (inr (subst (λ (p : Place). (0 < p.length) × (name ≡ cache_name p.gen_)) (sym follows.cache_same) c))))
 
-      -- while the next root is committed, files stand for what they stood for before, or for what it names
+      -- While the next root is committed, files stand for what they stood for before, or for what
+      -- it names.
       pub committing : (image : Files) → ReadsFit (Some k2) → IsOldOrNew (spelling root) (spelling next_root) (Some k2) image → StandsFor root map epochs image ⊎ StandsFor next_root (map ++ more) next image
       committing image fit either = elim either.root [ inl old ↦ inl (reads_old image reads old) | inr new ↦ inr (reads_new image reads new) ] where
         reads : (other : FileName) → other ≢ root_name → image other ≡ (k2 other).seen
         reads other apart = Fits-exact (k2 other).seen (image other) (Fits-Within (k2 other).sure (exact (k2 other).seen) (image other) (did.settled other) (either.elsewhere other apart))
 
-      -- and after it the disk is the next root's
+      -- After the commit the disk is the next root's.
       pub is_on : (at : ℕ) (k3 : Content) → ReadsFit (Some k3) → IsCommitted k2 k3 → EachRoot (Ready (1 - at) (spelling next_root)) (Some k3) → IsOn next_root at (map ++ more) next k3
       is_on at k3 fit committed ready = record {
         images = stands;

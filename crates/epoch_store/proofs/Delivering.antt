@@ -1,4 +1,4 @@
--- An entry put behind an archive, and the root that names it.
+-- An entry appended to an archive, and the root that names it.
 use Rattle.std.specs.Prelude.{◌≡◌, ◌≢◌, ◌⊎◌, ◌+◌, ◌-◌, ◌*◌, ◌^◌, ◌<◌, ◌≤◌, ◌==◌, ℕ, Bool, true, false, if◌then◌else◌, List, [], ◌∷◌, ◌++◌, length, get_or, set, Option, Some, None, IsSome, unwrap_or, refl}
 use Rattle.std.specs.List.{AllByRecursion}
 use Rattle.std.proofs.lemmas.List.Elements.{All-from_get_or}
@@ -39,50 +39,50 @@ use Rattle.epoch_store.proofs.Growing.{map_grows, bytes_here, bytes_other, store
 use Rattle.arch_model.proofs.Ends.{not_before}
 use Rattle.epoch_store.proofs.Mapped.{map_length}
 
--- some bytes are put there of each entry
+-- An entry has some bytes.
 some_bytes : (parent : Option Id20) (e : Entry) → 0 < length (bytes_behind parent (in_file e))
 unfolding entry_bytes
 some_bytes parent e = omega arith
 
--- the entry that is new
+-- The new entry.
 abbrev pub new_entry : Archive → NextPlace → List ℕ → ℕ → Entry
 new_entry a p text moment = record { number = a.next; epoch = p.epoch; text = text; moment = moment }
 
--- what is put into its epoch's file
+-- The bytes that are appended to its epoch's file.
 abbrev pub new_piece : Archive → NextPlace → List ℕ → ℕ → List ℕ
 new_piece a p text moment = front_at (length (bytes_in a p.epoch)) ++ bytes_behind (last_commit None (in_epoch a.entries p.epoch)) (in_file (new_entry a p text moment))
 
--- and into the map
+-- The bytes that are appended to the map.
 abbrev pub new_line : Archive → NextPlace → List ℕ → ℕ → List ℕ
 new_line a p text moment = record_bytes (record_for a.next (Some (new_entry a p text moment)))
 
--- the part of the epoch's file
+-- The part of the epoch's file.
 abbrev pub epoch_part : NextPlace → Part
 epoch_part p = record { file = epoch_name p.epoch p.gen_; place = p.length }
 
--- an own id that is there is what is kept of it
+-- The own id of a text that has one is what is kept of it.
 kept_id : (text : List ℕ) → IsStorageText text → own_id text ≡ Some (unwrap_or (own_id text) [])
 kept_id text storage = by (own_id text) refl storage.id where
   by : (id : Option (List ℕ)) → own_id text ≡ id → IsSome id → id ≡ Some (unwrap_or id [])
   by None is some = absurd (false≢true some)
   by (Some id) is some = refl
 
--- no entry has an own id that no kept one has
+-- No entry has an own id that no kept entry has.
 ids_of : (text : List ℕ) (before es : List Entry) → AllByRecursion (λ (e : StoredEntry). own_id text ≢ Some e.seen.id) (stored_behind before es) → AllByRecursion IsEntry es → AllByRecursion (λ (e : Entry). own_id text ≢ own_id e.text) es
 ids_of text before [] free valid = tt
 ids_of text before (e ∷ es) free valid = ((λ is. free.0 (is ∙ kept_id e.text valid.0.text)), ids_of text (before ++ e ∷ []) es free.1 valid.1)
 
--- nor a blob id
+-- No entry has a blob id that no kept entry has.
 blobs_of : (text : List ℕ) (before es : List Entry) → AllByRecursion (λ (e : StoredEntry). blob_id_of text ≢ e.seen.blob) (stored_behind before es) → AllByRecursion (λ (e : Entry). blob_id_of text ≢ blob_id_of e.text) es
 blobs_of text before [] free = tt
 blobs_of text before (e ∷ es) free = (free.0, blobs_of text (before ++ e ∷ []) es free.1)
 
--- a place of the next root
+-- A place of the next root.
 place_after : (root : Root) (p : NextPlace) (end_ e : ℕ) → length root.epochs ≡ 64 → e < 64 → (e ≡ p.epoch) ⊎ (e ≢ p.epoch) → (get_or (root_after root p end_).epochs e no_place ≡ record { gen_ = p.gen_; length = end_ }) ⊎ (get_or (root_after root p end_).epochs e no_place ≡ get_or root.epochs e no_place)
 place_after root p end_ e count below (inl is) = inl (ap (λ (n : ℕ). get_or (root_after root p end_).epochs n no_place) is ∙ get_or-set_same root.epochs p.epoch (record { gen_ = p.gen_; length = end_ }) no_place (omega (arith, count, is, below)))
 place_after root p end_ e count below (inr apart) = inr (get_or-set_other root.epochs p.epoch e (record { gen_ = p.gen_; length = end_ }) no_place apart)
 
--- the generation of a place is not above the next sequence
+-- The generation of a place is at most the next sequence.
 gen_after : (root : Root) (p : NextPlace) → IsRoot root → length root.epochs ≡ 64 → root.sequence < 2 ^ 64 → p.epoch ≤ 63 → p ≡ place_of root p.epoch p.parent → p.gen_ ≤ next_sequence root.sequence
 gen_after root p valid count fits small is =
     let old = (valid.epochs p.epoch no_place (omega (arith, count, small))).gen_ in
@@ -92,7 +92,7 @@ gen_after root p valid count fits small is =
       by true old = omega arith
       by false old = omega (arith, old, fits)
 
--- the next root is one
+-- The next root is valid.
 pub root_is_valid : (root : Root) (p : NextPlace) (end_ : ℕ) → IsRoot root → root.next ≤ root.config.max → length root.epochs ≡ 64 → root.sequence < 2 ^ 64 → p.epoch ≤ 63 → p ≡ place_of root p.epoch p.parent → 0 < end_ → IsRoot (root_after root p end_)
 root_is_valid root p end_ valid left count fits small is some =
     let high = valid.config.max_high in
@@ -114,7 +114,7 @@ root_is_valid root p end_ valid left count fits small is some =
         | inr old ↦ (let was = valid.epochs e no_place (omega (arith, count, below)) in let g = was.gen_ in subst (PlaceIsValid (next_sequence root.sequence)) (sym old) (record { gen_ = omega (arith, g, fits); empty = was.empty }))
       ]
 
--- and fits its fields
+-- The next root fits its fields.
 pub root_fits_after : (root : Root) (p : NextPlace) (end_ : ℕ) → IsRoot root → RootFits root → p.epoch ≤ 63 → p ≡ place_of root p.epoch p.parent → end_ < 2 ^ 64 → RootFits (root_after root p end_)
 root_fits_after root p end_ valid fits small is long =
     let sequence = fits.sequence in
@@ -139,13 +139,13 @@ module _ (v : View) (a : Archive) (p : NextPlace) (text : List ℕ) (moment : �
   sequence_is : next_sequence v.root.sequence ≡ v.root.sequence + 1
   sequence_is = omega (arith, room)
 
-  -- no file of the root is of the next generation
+  -- No file of the root is of the next generation.
   no_gen : (e : ℕ) → e < 64 → (get_or v.root.epochs e no_place).gen_ ≤ v.root.sequence
   no_gen e below =
       let count = keeps.names.fits.count in
       (keeps.names.is_root.epochs e no_place (omega (arith, count, below))).gen_
 
-  -- where the entry goes
+  -- Where the entry is written.
   pub where_it_goes : Grows v.root (bytes_in a) p.epoch (epoch_part p)
   where_it_goes = record {
     small = omega (arith, small);
@@ -163,12 +163,12 @@ module _ (v : View) (a : Archive) (p : NextPlace) (text : List ℕ) (moment : �
     )
     by (b ∷ bs) some = inl (ap (epoch_name p.epoch) (next.old (λ none. let wrong : length {A = ℕ} [] ≡ length (b ∷ bs) = ap length (sym none ∙ some) in absurd (omega (arith, wrong)))))
 
-  -- the archive with the entry
+  -- The archive with the entry.
   abbrev pub with_new : Archive
   with_new = with_entry a p.epoch text moment
 
   module _ (accepts : Accepts v text) (in_time : moment ≤ last_moment) where
-    -- it is one
+    -- The archive with the entry is valid.
     pub with_new_valid : IsArchive with_new
     with_new_valid =
         let left = accepts.number_left in
@@ -181,7 +181,7 @@ module _ (v : View) (a : Archive) (p : NextPlace) (text : List ℕ) (moment : �
         (ids_of text [] a.entries (subst (AllByRecursion (λ (e : StoredEntry). own_id text ≢ Some e.seen.id)) keeps.kept accepts.id) keeps.valid.entries)
         (blobs_of text [] a.entries (subst (AllByRecursion (λ (e : StoredEntry). blob_id_of text ≢ e.seen.blob)) keeps.kept accepts.blob))
 
-    -- and what its files have
+    -- The bytes of its files.
     pub with_new_map : map_bytes with_new ≡ map_bytes a ++ new_line a p text moment
     with_new_map = map_grows a (new_entry a p text moment) keeps.valid.next_least refl keeps.valid.below
 
@@ -191,7 +191,7 @@ module _ (v : View) (a : Archive) (p : NextPlace) (text : List ℕ) (moment : �
     pub with_new_other : (e : ℕ) → e ≢ p.epoch → bytes_in with_new e ≡ bytes_in a e
     with_new_other e apart = bytes_other a (new_entry a p text moment) e (λ is. apart (sym is))
 
-    -- the same of a disk that tells its content: while the entry is put
+    -- While the entry is appended, on a disk that tells its content.
     pub during_put : (k : Option Content) (image : Files) → ReadsFit k → IsStoreOf v a k → Appending (epoch_part p) (map_part v.root (map_bytes a)) k image → RecoversEither a with_new image
     during_put None image fit store appending = absurd store
     during_put (Some k) image fit store appending = inl (v.root, record { valid = keeps.valid; names = keeps.names; stands = appending_stands v.root v.slot (map_bytes a) (bytes_in a) p.epoch (epoch_part p) where_it_goes k image fit store.on appending })
@@ -202,11 +202,11 @@ module _ (v : View) (a : Archive) (p : NextPlace) (text : List ℕ) (moment : �
           let some = some_bytes (last_commit None (in_epoch a.entries p.epoch)) (new_entry a p text moment) in
           omega (arith, ends, some, length-append (front_at (length (bytes_in a p.epoch))) (bytes_behind (last_commit None (in_epoch a.entries p.epoch)) (in_file (new_entry a p text moment))))
 
-      -- the place of the entry's epoch in the next root
+      -- The place of the entry's epoch in the next root.
       new_here : get_or (root_after v.root p end_).epochs p.epoch no_place ≡ record { gen_ = p.gen_; length = end_ }
       new_here = let count = keeps.names.fits.count in get_or-set_same v.root.epochs p.epoch (record { gen_ = p.gen_; length = end_ }) no_place (omega (arith, count, small))
 
-      -- the next root names the archive with the entry
+      -- The next root names the archive with the entry.
       pub names_new : Names (root_after v.root p end_) with_new
       names_new = record {
         is_root = root_is_valid v.root p end_ keeps.names.is_root accepts.number_left keeps.names.fits.count keeps.names.fits.sequence small is some_end;
@@ -226,7 +226,7 @@ module _ (v : View) (a : Archive) (p : NextPlace) (text : List ℕ) (moment : �
             ap (λ (q : Place). q.length) (get_or-set_other v.root.epochs p.epoch e (record { gen_ = p.gen_; length = end_ }) no_place apart) ∙ (keeps.names.epochs e below ∙ ap length (sym (with_new_other e apart)))
 
       module _ (k0 k2 : Content) (on : IsOn v.root v.slot (map_bytes a) (bytes_in a) k0) (did : AreAppended (epoch_part p) (new_piece a p text moment) (map_part v.root (map_bytes a)) (new_line a p text moment) k0 k2) where
-        -- the next root names what was put there
+        -- The next root names what was appended.
         follows_new : Follows v.root v.slot (map_bytes a) (bytes_in a) p.epoch (epoch_part p) where_it_goes (new_piece a p text moment) (new_line a p text moment) k0 k2 on did (root_after v.root p end_) (bytes_in with_new)
         follows_new = record {
           map_same = refl;
@@ -238,27 +238,27 @@ module _ (v : View) (a : Archive) (p : NextPlace) (text : List ℕ) (moment : �
           cache_same = refl;
         }
 
-        -- while the next root is committed
+        -- While the next root is committed.
         committing_new : (image : Files) → ReadsFit (Some k2) → IsOldOrNew (spelling v.root) (spelling (root_after v.root p end_)) (Some k2) image → RecoversEither a with_new image
         committing_new image fit either = elim (committing v.root v.slot (map_bytes a) (bytes_in a) p.epoch (epoch_part p) where_it_goes (new_piece a p text moment) (new_line a p text moment) k0 k2 on did (root_after v.root p end_) (bytes_in with_new) follows_new image fit either) [
           | inl old ↦ inl (v.root, record { valid = keeps.valid; names = keeps.names; stands = old })
           | inr new ↦ inr (root_after v.root p end_, record { valid = with_new_valid; names = names_new; stands = subst (λ (m : List ℕ). StandsFor (root_after v.root p end_) m (bytes_in with_new) image) (sym with_new_map) new })
         ]
 
-        -- and after it
+        -- After the next root is committed.
         on_new : (slot : ℕ) (k3 : Content) → ReadsFit (Some k3) → IsCommitted k2 k3 → EachRoot (Ready (1 - slot) (spelling (root_after v.root p end_))) (Some k3) → IsOn (root_after v.root p end_) slot (map_bytes with_new) (bytes_in with_new) k3
         on_new slot k3 fit committed ready =
             subst (λ (m : List ℕ). IsOn (root_after v.root p end_) slot m (bytes_in with_new) k3) (sym with_new_map)
             (is_on v.root v.slot (map_bytes a) (bytes_in a) p.epoch (epoch_part p) where_it_goes (new_piece a p text moment) (new_line a p text moment) k0 k2 on did (root_after v.root p end_) (bytes_in with_new) follows_new slot k3 fit committed ready)
 
-      -- while the next root is committed
+      -- While the next root is committed, on a disk that tells its content.
       pub during_commit : (k0 k2 : Option Content) (image : Files) → ReadsFit k2 → IsStoreOf v a k0 → Told (AreAppended (epoch_part p) (new_piece a p text moment) (map_part v.root (map_bytes a)) (new_line a p text moment)) k0 k2
           → IsOldOrNew (spelling v.root) (spelling (root_after v.root p end_)) k2 image → RecoversEither a with_new image
       during_commit None k2 image fit store did either = absurd store
       during_commit (Some k) None image fit store did either = absurd did
       during_commit (Some k) (Some m) image fit store did either = committing_new k m store.on did image fit either
 
-      -- and what the store has after it
+      -- What the store has after the commit.
       pub store_after : (k0 k2 k3 : Option Content) → ReadsFit k3 → IsStoreOf v a k0 → Told (AreAppended (epoch_part p) (new_piece a p text moment) (map_part v.root (map_bytes a)) (new_line a p text moment)) k0 k2 → Told IsCommitted k2 k3
           → EachRoot (Ready (1 - (1 - v.slot)) (spelling (root_after v.root p end_))) k3
           → IsStoreOf (record { root = root_after v.root p end_; slot = 1 - v.slot; entries = v.entries ++ stored_at a.entries (new_entry a p text moment) ∷ [] }) with_new k3
@@ -274,12 +274,12 @@ module _ (v : View) (a : Archive) (p : NextPlace) (text : List ℕ) (moment : �
         on = on_new k m store.on did (1 - v.slot) n fit committed ready;
       }
 
--- a store keeps its archive
+-- A store keeps its archive.
 pub store_keeps : (v : View) (a : Archive) (k : Option Content) → IsStoreOf v a k → Keeps v a
 store_keeps v a None store = absurd store
 store_keeps v a (Some k) store = store.keeps
 
--- the root file stays while an entry is put
+-- The root file stays while an entry is appended.
 pub roots_stay : (v : View) (a : Archive) (first second : Part) (bytes more : List ℕ) → first.file ≢ root_name → second.file ≢ root_name → (k0 k2 : Option Content) → ReadsFit k0 → IsStoreOf v a k0 → Told (AreAppended first bytes second more) k0 k2 → EachRoot (Ready (1 - v.slot) (spelling v.root)) k2
 roots_stay v a first second bytes more one two None k2 fit store did = absurd store
 roots_stay v a first second bytes more one two (Some k) None fit store did = absurd did
@@ -288,7 +288,7 @@ roots_stay v a first second bytes more one two (Some k) (Some m) fit store did =
     let same : file ≡ (k root_name).seen = is ∙ did.elsewhere root_name (λ e. one (sym e)) (λ e. two (sym e)) in
     subst (IfThere (Ready (1 - v.slot) (spelling v.root))) (sym same) (store.on.roots (k root_name).seen (fit k refl root_name))
 
--- the parts of the two files, and what is put there
+-- The parts of the two files, and what is appended.
 pub map_part_is : (v : View) (a : Archive) (root : Root) (file : FileName) → Keeps v a → root ≡ v.root → file ≡ map_name root.map.gen_ → record { file = file; place = root.map.length } ≡ map_part v.root (map_bytes a)
 map_part_is v a root file keeps same is =
     let long : root.map.length ≡ length (map_bytes a) =
@@ -308,17 +308,17 @@ piece_is v a p e message next =
 pub line_is : (v : View) (a : Archive) (p : NextPlace) (e : NewEntry) (number : ℕ) → Keeps v a → number ≡ v.root.next → record_bytes (record { number = number; epoch = p.epoch; blob = blob_id_of e.text.now }) ≡ new_line a p e.text.now e.moment
 line_is v a p e number keeps is = ap (λ (n : ℕ). record_bytes (record { number = n; epoch = p.epoch; blob = blob_id_of e.text.now })) (is ∙ keeps.names.next)
 
--- a written file reaches to the end of what was written
+-- A written file extends to the end of what was written.
 reaches : (at : ℕ) (bytes old : List ℕ) → at ≤ length old → at + length bytes ≤ length (overlay at bytes old)
 reaches at bytes old inside = omega (arith, inside, overlay_length at bytes old)
 
--- the root file keeps its size
+-- The root file keeps its size.
 root_size : (slot : ℕ) (body file : List ℕ) → slot < 2 → length body ≡ 1536 → length file ≡ 4096 → length (with_root slot body file) ≡ 4096
 root_size slot body file low whole size =
     let inner : length (overlay (body_place slot) body file) ≡ 4096 = overlay-size (body_place slot) body file (omega (arith, low, whole, size)) ∙ size in
     overlay-size slot (1 ∷ []) (overlay (body_place slot) body file) (omega (arith, low, inner)) ∙ inner
 
--- the files that the next root names have their sizes
+-- The files that the next root names have their sizes.
 pub sizes_after : (v : View) (p : NextPlace) (end_ slot at : ℕ) (entries : List StoredEntry) (piece line body : List ℕ) → p ≡ place_of v.root p.epoch p.parent → p.epoch ≤ 63 → length v.root.epochs ≡ 64 → slot < 2 → length body ≡ 1536 → end_ ≡ p.length + length piece → length line ≡ 28
     → (k0 k2 k3 : Option Content) → WhereTold (HasSizes v) k0 → WhereTold (IsAtMostLength (epoch_name p.epoch p.gen_) p.length) k0 → Told (AreAppended (epoch_part p) piece (record { file = map_file_of v.root; place = v.root.map.length }) line) k0 k2 → Told IsCommitted k2 k3 → Told (HasNewRoot slot body) k2 k3
     → WhereTold (HasSizes (record { root = root_after v.root p end_; slot = at; entries = entries })) k3

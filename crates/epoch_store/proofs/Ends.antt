@@ -19,7 +19,7 @@ use Rattle.epoch_store.specs.Stores.{View, Keeps, IsEnd, IsNextPlace, next_seque
 use Rattle.arch_model.proofs.ValidArchives.{all_weaker}
 use Rattle.epoch_store.proofs.Growing.{in_epoch-here, stored_more}
 
--- a list is empty, or some and a last one
+-- A list is empty, or some items and a last one.
 pub record Last {X : Type 0} (xs : List X) : Type 0 where
   pub front : List X
   pub item : X
@@ -32,14 +32,14 @@ last_of (x ∷ xs) = inr (elim (last_of xs) [
   | inr last ↦ record { front = x ∷ last.front; item = last.item; is = ap (λ l. x ∷ l) last.is }
 ])
 
--- the greater of two numbers of which the second is
+-- The greater of two numbers, if it is the second.
 greater_second : (m n : ℕ) → m ≤ n → greater m n ≡ n
 greater_second m n less = grind (arith, nat_tests)
 
 greater_first : (m n : ℕ) → n ≤ m → greater m n ≡ m
 greater_first m n less = grind (arith, nat_tests)
 
--- where epochs never fall, the last entry's is the greatest, and not below the one that they began with
+-- If epochs never fall, the last entry's is the greatest, and at least the first.
 pub last_is_greatest : (number epoch : ℕ) (es : List Entry) (e : Entry) → Rise number epoch (es ++ e ∷ []) → (last_epoch (es ++ e ∷ []) ≡ e.epoch) × (epoch ≤ e.epoch)
 last_is_greatest number epoch [] e rise = (greater_first e.epoch 0 (omega arith), rise.1)
 last_is_greatest number epoch (f ∷ es) e rise =
@@ -47,7 +47,7 @@ last_is_greatest number epoch (f ∷ es) e rise =
     let low = rise.1 in
     (ap (greater f.epoch) rest.0 ∙ greater_second f.epoch e.epoch rest.1, omega (arith, low, rest.1))
 
--- where all are of lesser epochs, an epoch has none
+-- An epoch has no entry if all are of lesser epochs.
 pub none_in : (es : List Entry) (epoch : ℕ) → AllByRecursion (λ (e : Entry). e.epoch < epoch) es → in_epoch es epoch ≡ []
 none_in [] epoch below = refl
 none_in (e ∷ es) epoch below =
@@ -55,12 +55,12 @@ none_in (e ∷ es) epoch below =
     let test : (e.epoch == epoch) ≡ false = grind (arith, nat_tests) in
     rw test (none_in es epoch below.1)
 
--- the last commit of entries with one behind them
+-- The last commit of entries with one appended.
 pub last_commit_is : (parent : Option Id20) (es : List Entry) (e : Entry) → last_commit parent (es ++ e ∷ []) ≡ Some (commit_id message_name e.text e.moment (last_commit parent es))
 last_commit_is parent [] e = refl
 last_commit_is parent (f ∷ es) e = last_commit_is (Some (commit_id message_name f.text f.moment parent)) es e
 
--- the last item of a list
+-- The last item of a list.
 last_item : {X : Type 0} (xs : List X) (x : X) → slice_get (xs ++ x ∷ []) (length (xs ++ x ∷ []) - 1) ≡ Some x
 last_item {X} xs x =
     let place : length (xs ++ x ∷ []) - 1 ≡ length xs = omega (arith, length-append xs (x ∷ [])) in
@@ -69,11 +69,11 @@ last_item {X} xs x =
       behind [] = refl
       behind (y ∷ ys) = behind ys
 
--- two items that are the same
+-- Two items that are equal.
 of_some : {X : Type 0} {x y : X} → Some x ≡ Some y → x ≡ y
 of_some {X} {x} {y} is = ap (λ (o : Option X). unwrap_or o x) is
 
--- the tests of the epoch of a new entry
+-- The tests of the epoch of a new entry.
 same_number : (m n : ℕ) → m ≡ n → (m == n) ≡ true
 same_number m n is = grind (arith, nat_tests)
 
@@ -94,7 +94,7 @@ longer epoch len limit low more =
     let test : nat_lt len limit ≡ false = grind (arith, nat_tests) in
     rw (other_number epoch 63 (λ is. absurd (omega (arith, low, is)))) test
 
--- the generation of a file with bytes, and of a new one
+-- The generation of a file with bytes, and of a new one.
 gen_old : (v : View) (a : Archive) (epoch : ℕ) → Keeps v a → epoch ≤ 63 → bytes_in a epoch ≢ [] → (place_of v.root epoch None).gen_ ≡ (get_or v.root.epochs epoch no_place).gen_
 gen_old v a epoch keeps small some =
     let is = keeps.names.epochs epoch (omega (arith, small)) in
@@ -105,14 +105,14 @@ gen_new v a epoch keeps small none =
     let is = keeps.names.epochs epoch (omega (arith, small)) in
     rw (same_number (get_or v.root.epochs epoch no_place).length 0 (is ∙ ap length none)) refl
 
--- the end of an archive without entries
+-- The end of an archive without entries.
 pub end_of_none : (v : View) (a : Archive) → Keeps v a → v.entries ≡ [] → IsEnd a (record { epoch = 0; parent = None })
 end_of_none v a keeps none = let empty : a.entries ≡ [] = of_none a.entries (sym keeps.kept ∙ none) in record { epoch = sym (ap last_epoch empty); parent = sym (ap (λ (es : List Entry). last_commit None (in_epoch es (last_epoch es))) empty) } where
   of_none : (es : List Entry) → stored_behind [] es ≡ [] → es ≡ []
   of_none [] is = refl
   of_none (e ∷ es) is = let wrong : length (stored_behind [] (e ∷ es)) ≡ 0 = ap length is in absurd (omega (arith, wrong))
 
--- and of one with some
+-- The end of an archive with entries.
 pub end_of_last : (v : View) (a : Archive) → Keeps v a → (last : StoredEntry) → slice_get v.entries (length v.entries - 1) ≡ Some last → IsEnd a (record { epoch = last.epoch; parent = Some last.seen.commit })
 end_of_last v a keeps last is = elim (last_of a.entries) [
   | inl none ↦ absurd (nothing none)
@@ -139,7 +139,7 @@ end_of_last v a keeps last is = elim (last_of a.entries) [
         parent = ap (λ (s : StoredEntry). Some s.seen.commit) same ∙ sym (ap (last_commit None) here ∙ last_commit_is None (in_epoch es e.epoch) e);
       }
 
--- where the next entry goes that goes to the last epoch
+-- Where the next entry is written if it is in the last epoch.
 pub next_here : (v : View) (a : Archive) (end_ : End) → Keeps v a → IsEnd a end_ → end_.epoch ≤ 63 → (end_.epoch ≡ 63) ⊎ ((get_or v.root.epochs end_.epoch no_place).length < v.root.config.limit)
     → IsNextPlace v.root a (next_sequence v.root.sequence) (place_of v.root end_.epoch end_.parent)
 next_here v a end_ keeps is small takes = record {
@@ -156,7 +156,7 @@ next_here v a end_ keeps is small takes = record {
       let short : length (bytes_in a (last_epoch a.entries)) < a.config.limit = subst (λ (n : ℕ). n < a.config.limit) (keeps.names.epochs (last_epoch a.entries) low) (subst (λ (c : Config). (get_or v.root.epochs (last_epoch a.entries) no_place).length < c.limit) keeps.names.config less) in
       rw (shorter (last_epoch a.entries) (length (bytes_in a (last_epoch a.entries))) a.config.limit short) refl
 
--- where it goes that goes to the next one
+-- Where the next entry is written if it is in a new epoch.
 pub next_behind : (v : View) (a : Archive) (end_ : End) → Keeps v a → IsEnd a end_ → end_.epoch < 63 → v.root.config.limit ≤ (get_or v.root.epochs end_.epoch no_place).length
     → IsNextPlace v.root a (next_sequence v.root.sequence) (place_of v.root (end_.epoch + 1) None)
 next_behind v a end_ keeps is small full =

@@ -1,4 +1,4 @@
--- Calls that only read a disk, one behind the other, and what they tell together.
+-- Calls that only read a disk, one after the other, and what they tell together.
 use Rattle.std.specs.Prelude.{◌≡◌, ℕ, ◌≤◌, Option, Some, None, refl}
 use Rattle.std.proofs.Common.{subst, ◌∙◌, arith}
 use Rattle.arch_base.specs.Counts.{Rose}
@@ -8,7 +8,7 @@ use Rattle.disk_model.specs.Moments.{started, joined}
 use Rattle.epoch_file.specs.Runs.{OnlyReads}
 use Rattle.epoch_store.specs.Files.{as_read}
 
--- what is unchanged stays
+-- Unchanged content is unchanged.
 unchanged-refl : (content : Option Content) → Told Unchanged content content
 unchanged-refl None = tt
 unchanged-refl (Some k) = λ name. refl
@@ -21,18 +21,18 @@ unchanged-trans (Some x) None c p q = absurd p
 unchanged-trans (Some x) (Some y) None p q = absurd q
 unchanged-trans (Some x) (Some y) (Some z) p q = λ name. q name ∙ p name
 
--- and has the same images
+-- Unchanged content has the same images.
 image_before : (a b : Option Content) (image : Files) → Told Unchanged a b → Image b image → Image a image
 image_before None b image same left = tt
 image_before (Some x) None image same left = absurd same
 image_before (Some x) (Some y) image same left = λ name. let P : Kept → Type 0 = λ kept. Fits kept.sure (image name) in subst P (same name) (left name)
 
 module _ {D : Type 0} (content : D → Option Content) (moment : D → ℕ) (left_since : D → ℕ → Files → Type 0) (faults : D → ℕ) where
-  -- no call
+  -- No call.
   pub reads_none : (old : D) → ((image : Files) → left_since old (moment old) image → Image (content old) image) → OnlyReads content moment left_since faults old old
   reads_none old now = record { same = unchanged-refl (content old); any_moment = started moment left_since old (Image (content old)) now; later = omega arith }
 
-  -- two runs
+  -- Two runs.
   pub reads_both : (old mid new : D) → OnlyReads content moment left_since faults old mid → OnlyReads content moment left_since faults mid new → OnlyReads content moment left_since faults old new
   reads_both old mid new p q = record {
     same = unchanged-trans (content old) (content mid) (content new) p.same q.same;
@@ -40,26 +40,26 @@ module _ {D : Type 0} (content : D → Option Content) (moment : D → ℕ) (lef
     later = omega (arith, p.later, q.later);
   }
 
--- a count that rose later rose
+-- A count that rose later rose.
 pub rose_later : (a b c : ℕ) → a ≤ b → Rose b c → Rose a c
 rose_later a b c le rose = omega arith
 
--- where nothing changes, the files read the same
+-- If nothing changes, the files read the same.
 same_files : (k m : Content) → Unchanged k m → as_read m ≡ as_read k
 same_files k m same = λ i. λ (name : FileName). (same name i).seen
 
--- what is told of the files before a call that only reads, and of those behind it, is told of one time
+-- What is told of the files before and after a call that only reads is told of the same files.
 pub told_both : (P Q R : Files → Type 0) (old mid : Option Content) → Told Unchanged old mid → WhereTold (λ k. P (as_read k)) old → WhereTold (λ k. Q (as_read k)) mid → ((files : Files) → P files → Q files → R files) → WhereTold (λ k. R (as_read k)) old
 told_both P Q R None mid same p q step = tt
 told_both P Q R (Some k) None same p q step = absurd same
 told_both P Q R (Some k) (Some m) same p q step = step (as_read k) p (subst Q (same_files k m same) q)
 
--- what holds of any files
+-- What holds of any files.
 pub told_any : (R : Files → Type 0) (old : Option Content) → ((files : Files) → R files) → WhereTold (λ k. R (as_read k)) old
 told_any R None all = tt
 told_any R (Some k) all = all (as_read k)
 
--- what is told of the files says something else of them
+-- A consequence of what is told of the files.
 pub told_so : (P R : Files → Type 0) (old : Option Content) → WhereTold (λ k. P (as_read k)) old → ((files : Files) → P files → R files) → WhereTold (λ k. R (as_read k)) old
 told_so P R None p step = tt
 told_so P R (Some k) p step = step (as_read k) p

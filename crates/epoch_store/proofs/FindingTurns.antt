@@ -1,4 +1,4 @@
--- What the turns of a search through an archive's files find.
+-- The turns of reading an archive's files.
 use Rattle.std.specs.Prelude.{◌≡◌, ◌+◌, ◌<◌, ◌≤◌, ◌^◌, ℕ, List, [], Some, None, Result, Ok, Err, refl}
 use Rattle.std.specs.Global.{Vec}
 use Rattle.std.proofs.Common.{sym, subst, inl, inr, arith}
@@ -27,86 +27,86 @@ use Rattle.epoch_store.specs.Openings.{IsReadUpTo}
 use Rattle.epoch_store.specs.Finding.{IsCurrentRoot, HasRecords, Finds, FindsRoot, FindsRecords, FindsEntries, ReadsEpoch, ReadsSeen, StopsEpoch, StopsSeen, ReadsEach, EndsWith, KeepsBy}
 use Rattle.epoch_store.proofs.ReadUpTo.{read_empty, read_more, read_stopped, read_front, read_left, read_left_stopped, left_undamaged, read_all, read_missing}
 
--- the length of an epoch fits its field
+-- The length of an epoch fits its field.
 short : (root : Root) (epoch : ℕ) → RootFits root → epoch ≤ 63 → named_length root epoch < 2 ^ 64
 short root epoch fits less = (fits.epochs epoch (omega (arith, less))).length
 
--- a root file of the right size is there
+-- A root file of the right size is there.
 pub there : (slot : ℕ) (body : List ℕ) (file : File) → Current slot body (bytes_of file) → IfThere (Current slot body) file
 there slot body None current = absurd (let size : 0 ≡ 4096 = current.size in omega (arith, size))
 there slot body (Some bytes) current = current
 
--- the current root that was read
+-- The current root that was read.
 pub root_found : (files : Files) (slot : ℕ) (root : Root) → Current slot (spelling root) (bytes_of (files root_name)) → IsRoot root → RootFits root → IsCurrentRoot root slot files
 root_found files slot root current is_root fits = record { in_range = current.in_range; current = there slot (spelling root) (files root_name) current; is_root = is_root; fits = fits }
 
--- no slot is open
+-- No slot is open.
 pub shut_found : (file : File) → IsShut (bytes_of file) → IsShutFile file
 shut_found None shut = tt
 shut_found (Some bytes) shut = shut
 
--- an epoch whose entries all were joined is read
+-- An epoch whose entries were all joined is read.
 pub taken : (root : Root) (epoch : ℕ) (old new : Joined) (seen : List Seen) → TakesEpoch old epoch seen (Ok new) → (files : Files) → ReadsSeen root epoch old seen (Ok new) files
 taken root epoch old new seen takes files = λ rs fits up walked. read_more root files rs epoch old new seen up walked takes
 
--- and one of which one could not be joined is damaged
+-- An epoch with an entry that could not be joined is damaged.
 pub not_taken : EntriesDiffer → (root : Root) (epoch place : ℕ) (old : Joined) (seen : List Seen) (file : FileName) → epoch ≤ 63 → file ≡ epoch_file_of root epoch → TakesEpoch old epoch seen (Err (join.Damaged place)) → (files : Files)
     → ReadsSeen root epoch old seen (Err (Damaged file place)) files
 not_taken differ root epoch place old seen file less is takes files =
     λ rs fits up walked. (epoch, is, read_stopped differ root files rs epoch place old seen (short root epoch fits less) (omega (arith, less)) up walked takes)
 
--- the place that a walk left is that of the damage, where all entries before it were joined
+-- The offset at which a walk ended is that of the damage, if all entries before it were joined.
 pub left_taken : EpochsDiffer → (root : Root) (epoch place : ℕ) (old new : Joined) (seen : List Seen) (file : FileName) → epoch ≤ 63 → 8 < place → file ≡ epoch_file_of root epoch → TakesEpoch old epoch seen (Ok new) → (files : Files)
     → StopsSeen root epoch old place seen (Damaged file place) files
 left_taken differ root epoch place old new seen file less high is takes files =
     λ rs fits up damaged walked. (epoch, is, read_left differ root files rs epoch place old new seen (short root epoch fits less) (omega (arith, less)) high up damaged walked takes)
 
--- and else it is that of the first that could not be
+-- Otherwise it is that of the first entry that could not be joined.
 pub left_not_taken : EntriesDiffer → EpochsDiffer → (root : Root) (epoch left place : ℕ) (old : Joined) (seen : List Seen) (file : FileName) → epoch ≤ 63 → 8 < left → file ≡ epoch_file_of root epoch → TakesEpoch old epoch seen (Err (join.Damaged place))
     → (files : Files) → StopsSeen root epoch old left seen (Damaged file place) files
 left_not_taken entry differ root epoch left place old seen file less high is takes files =
     λ rs fits up damaged walked. (epoch, is, read_left_stopped entry differ root files rs epoch left place old seen (short root epoch fits less) (omega (arith, less)) high up damaged walked takes)
 
--- an epoch that a walk left at its front is damaged there
+-- An epoch in which a walk ended at the front is damaged there.
 pub front_left : (root : Root) (epoch place : ℕ) (old : Joined) (file : FileName) → epoch ≤ 63 → place ≤ 8 → file ≡ epoch_file_of root epoch → (files : Files) → StopsEpoch root epoch old place (Damaged file place) files
 front_left root epoch place old file less low is files = λ rs fits some up damaged. (epoch, is, read_front root files rs epoch place old (omega (arith, less)) some low up damaged)
 
--- the entries before the place that a walk left were looked at
+-- The entries before the offset at which a walk ended were joined.
 pub left_seen : (root : Root) (epoch place : ℕ) (old : Joined) (seen : List Seen) (refusal : OpenRefusal) (files : Files) → StopsSeen root epoch old place seen refusal files
     → IsEpoch place (bytes_of (files (epoch_file_of root epoch))) seen → StopsEpoch root epoch old place refusal files
 left_seen root epoch place old seen refusal files stops walked = λ rs fits some up damaged. stops rs fits up damaged walked
 
--- a second walk isn't left before the place that the first one left
+-- A second walk doesn't end before the offset at which the first one ended.
 pub left_twice : EntriesDiffer → (root : Root) (epoch place other : ℕ) (old : Joined) (refusal : OpenRefusal) (files : Files) → epoch ≤ 63 → 8 < place → IsDamagedAt place (bytes_of (files (epoch_file_of root epoch))) other
     → StopsEpoch root epoch old place refusal files
 left_twice differ root epoch place other old refusal files less high again =
     λ rs fits some up damaged. absurd (left_undamaged differ (named_length root epoch) place other (bytes_of (files (epoch_file_of root epoch))) (short root epoch fits less) high damaged again)
 
--- an epoch of no byte is read
+-- An epoch of length 0 is read.
 pub empty_read : (root : Root) (epoch : ℕ) (old : Joined) → named_length root epoch ≡ 0 → (files : Files) → ReadsEpoch root epoch old (Ok old) files
 empty_read root epoch old none files = λ rs fits up. read_empty root files rs epoch old up none
 
--- an epoch whose entries are known
+-- An epoch whose entries are known.
 pub seen_read : (root : Root) (epoch : ℕ) (old : Joined) (seen : List Seen) (result : Result Joined OpenRefusal) (files : Files) → ReadsSeen root epoch old seen result files
     → IsEpoch (named_length root epoch) (bytes_of (files (epoch_file_of root epoch))) seen → ReadsEpoch root epoch old result files
 seen_read root epoch old seen result files reads walked = λ rs fits up. reads rs fits up walked
 
--- an epoch that a walk left
+-- An epoch in which a walk ended early.
 pub left_read : (root : Root) (epoch place : ℕ) (old : Joined) (refusal : OpenRefusal) (files : Files) → 0 < named_length root epoch → StopsEpoch root epoch old place refusal files
     → IsDamagedAt (named_length root epoch) (bytes_of (files (epoch_file_of root epoch))) place → ReadsEpoch root epoch old (Err refusal) files
 left_read root epoch place old refusal files some stops damaged = λ rs fits up. stops rs fits some up damaged
 
--- so far the epochs are read
+-- The epochs so far are read.
 pub more_read : (root : Root) (epoch : ℕ) (old now new : Joined) (files : Files) → ((rs : List Record) → RootFits root → IsReadUpTo root files rs 0 old → IsReadUpTo root files rs epoch now) → ReadsEpoch root epoch now (Ok new) files
     → (rs : List Record) → RootFits root → IsReadUpTo root files rs 0 old → IsReadUpTo root files rs (epoch + 1) new
 more_read root epoch old now new files so_far reads = λ rs fits none. reads rs fits (so_far rs fits none)
 
--- or one isn't
+-- One of the epochs isn't read.
 pub read_stops : (root : Root) (epoch : ℕ) (old now : Joined) (refusal : OpenRefusal) (files : Files) → ((rs : List Record) → RootFits root → IsReadUpTo root files rs 0 old → IsReadUpTo root files rs epoch now) → ReadsEpoch root epoch now (Err refusal) files
     → ReadsEach root old (Err refusal) files
 read_stops root epoch old now refusal files so_far reads = λ rs fits none. reads rs fits (so_far rs fits none)
 
--- all are read
+-- All epochs are read.
 pub ended : (root : Root) (joined : Joined) (kept : Vec StoredEntry) → Finishes joined (Ok kept) → EndsWith root joined (Ok kept)
 ended root joined kept ends = λ rs files up. read_all root files rs joined kept up ends
 
@@ -114,7 +114,7 @@ pub missing : (root : Root) (joined : Joined) (refusal : Unmatched) (file : File
 missing root joined refusal file at is place ends =
     λ rs files up. (refusal.epoch, is, subst (λ (n : ℕ). IsFirstDamage root files rs refusal.epoch n) (sym place) (read_missing root files rs joined refusal up ends))
 
--- nothing is read yet
+-- Nothing is read yet.
 pub begun : (root : Root) (files : Files) (rs : List Record) (v : Joined) → HasRecords root files rs → v.records ≡ messages rs → v.entries ≡ [] → IsReadUpTo root files rs 0 v
 begun root files rs v has records entries = record {
   entries = [];
@@ -123,7 +123,7 @@ begun root files rs v has records entries = record {
   whole = record { below = tt; lengths = λ e less. absurd (omega (arith, less)); fronts = λ e less. absurd (omega (arith, less)) };
 }
 
--- what is kept in the end
+-- What is kept at the end.
 pub keeps : (root : Root) (rs : List Record) (old joined : Joined) (result : Result (Vec StoredEntry) OpenRefusal) (files : Files) → old.records ≡ messages rs → old.entries ≡ [] → ReadsEach root old (Ok joined) files → EndsWith root joined result
     → KeepsBy root rs result files
 keeps root rs old joined result files records entries reads ends = λ fits has. ends rs files (reads rs fits (begun root files rs old has records entries))
@@ -131,7 +131,7 @@ keeps root rs old joined result files records entries reads ends = λ fits has. 
 pub keeps_none : (root : Root) (rs : List Record) (old : Joined) (refusal : OpenRefusal) (files : Files) → old.records ≡ messages rs → old.entries ≡ [] → ReadsEach root old (Err refusal) files → KeepsBy root rs (Err refusal) files
 keeps_none root rs old refusal files records entries reads = λ fits has. reads rs fits (begun root files rs old has records entries)
 
--- what is found of map and epochs
+-- What is found of map and epochs.
 pub entries_found : (root : Root) (rs : List Record) (result : Result (Vec StoredEntry) OpenRefusal) (files : Files) → RootFits root → FindsRecords root files (Ok rs) → KeepsBy root rs result files → FindsEntries root files result
 entries_found root rs (Ok kept) files fits has keeps = record { records = rs; has = has; read = keeps fits has }
 entries_found root rs (Err NoArchive) files fits has keeps = keeps fits has
@@ -145,7 +145,7 @@ no_records root (Damaged file at) files lacks = inl lacks
 no_records root DiskFault files lacks = tt
 no_records root NoMemory files lacks = tt
 
--- what is found of all
+-- What is found of all files.
 pub all_found : (files : Files) (found : Found) → FindsRoot files (Ok (found.slot, found.root)) → FindsEntries found.root files (Ok found.entries) → Finds files (Ok found)
 all_found files found root has = record { records = has.records; root = root; has = has.has; read = has.read }
 

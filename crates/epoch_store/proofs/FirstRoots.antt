@@ -1,4 +1,4 @@
--- A root file of zeros, while the first root is put into it.
+-- A root file of zeros, while the first root is written to it.
 use Rattle.std.specs.Prelude.{◌≡◌, ◌⊎◌, ◌+◌, ◌<◌, ◌≤◌, ℕ, List, [], ◌∷◌, length, get_or, take, drop, replicate, Option, Some, None, refl}
 use Rattle.std.specs.Int.{from_be_bytes, w64}
 use Rattle.std.proofs.Common.{◌∙◌, sym, ap, subst, inl, inr, arith, length-take, length-drop}
@@ -22,12 +22,12 @@ pub record HasFirst (body file : List ℕ) : Type 0 where
   pub holds : body_at file 0 ≡ body
   pub oldest : sequence_of (body_at file 1) ≡ 0
 
--- each byte of zeros is one
+-- Each byte of a file is zero.
 pub record IsZero (file : List ℕ) : Type 0 where
   pub size : length file ≡ 4096
   pub bytes : (i : ℕ) → get_or file i 0 ≡ 0
 
--- so it is of a file of zeros
+-- Each byte of a file of zeros is zero.
 are_zero : (n : ℕ) (file : List ℕ) → file ≡ replicate n 0 → n ≡ 4096 → IsZero file
 are_zero n file is count = record {
   size = ap length is ∙ (length-replicate {A = ℕ} n 0 ∙ count);
@@ -36,21 +36,21 @@ are_zero n file is count = record {
   zero_at : (n i : ℕ) → ◌≡◌ {A = ℕ} (get_or (replicate n 0) i 0) 0
   zero_at n i = elim (cases_lt i n) [ inl below ↦ get_or-replicate n i 0 0 below | inr past ↦ get_or_past (replicate n 0) i 0 (omega (arith, past, length-replicate {A = ℕ} n 0)) ]
 
--- the gates of zeros are shut, and stay so while a body is written
+-- The gates of zeros are shut, and stay so while a body is written.
 zeros_torn : (file after : List ℕ) → IsZero file → SameOutside (body_place 0) 1536 file after → IsShut after
 zeros_torn file after zeros same =
     let first : gate after 0 ≡ 0 = same.bytes 0 (inl (omega arith)) ∙ zeros.bytes 0 in
     let second : gate after 1 ≡ 0 = same.bytes 1 (inl (omega arith)) ∙ zeros.bytes 1 in
     inr (λ one. absurd (omega (arith, first, one)), λ one. absurd (omega (arith, second, one)))
 
--- eight zeros are the number 0
+-- Eight zeros are the number 0.
 zero_sequence : (body : List ℕ) → 8 ≤ length body → ((i : ℕ) → get_or body i 0 ≡ 0) → sequence_of body ≡ 0
 unfolding sequence_of
 zero_sequence body long zeros =
     let front : take 8 body ≡ replicate 8 0 = same_number_lists (take 8 body) (replicate 8 0) (omega (arith, long, length-take {A = ℕ})) (λ i below. (let low : i < 8 = omega (arith, below, length-take {A = ℕ}) in get_or-take 8 body i 0 low ∙ (zeros i ∙ sym (get_or-replicate 8 i 0 0 low)))) in
     ap (from_be_bytes w64) front
 
--- a root that is written there
+-- A root that is written to a file of zeros.
 zeros_filled : (body file : List ℕ) → length body ≡ 1536 → IsZero file → HasFirst body (overlay (body_place 0) body file)
 unfolding body_at
 zeros_filled body file whole zeros =
@@ -72,16 +72,16 @@ zeros_filled body file whole zeros =
           ∙ (get_or-drop (body_place 1) (overlay (body_place 0) body file) i 0 ∙ (overlay_kept (body_place 0) body file (body_place 1 + i) (let size = zeros.size in omega (arith, size)) (inr (omega (arith, whole))) ∙ zeros.bytes (body_place 1 + i)))
       rest i (inr high) = get_or_past (take 1536 (drop (body_place 1) (overlay (body_place 0) body file))) i 0 (omega (arith, high, length-take {A = ℕ}))
 
--- the bodies stay
+-- The bodies stay.
 body_kept : (slot : ℕ) (a b : List ℕ) → SameOutside 0 1 a b → body_at b slot ≡ body_at a slot
 unfolding body_at
 body_kept slot a b same = part_stays 0 1 a b (body_place slot) 1536 same (inr (omega arith))
 
--- a byte that is written at the front
+-- A byte that is written at the front.
 overlay-byte : (value : ℕ) (old : List ℕ) → 0 < length old → get_or (overlay 0 (value ∷ []) old) 0 0 ≡ value
 overlay-byte value old some = grind (arith, common_steps)
 
--- a gate that is opened
+-- A gate that is opened.
 first_raised : (body a b : List ℕ) → HasFirst body a → SameOutside 0 1 a b → gate b 0 ≡ 1 → Current 0 body b
 first_raised body a b first same opened =
     let shut : gate b 1 ≡ 0 = same.bytes 1 (inr (omega arith)) ∙ first.other in
@@ -93,13 +93,13 @@ first_raised body a b first same opened =
       newest = λ one. absurd (omega (arith, shut, one));
     }
 
--- and any byte in the gate
+-- Any byte in the gate.
 first_torn : (body a b : List ℕ) → HasFirst body a → SameOutside 0 1 a b → IsShut b ⊎ HasRoot body b
 first_torn body a b first same =
     let shut : gate b 1 ≡ 0 = same.bytes 1 (inr (omega arith)) ∙ first.other in
     elim (nat_eq_or_not (gate b 0) 1) [ inl opened ↦ inr (0, first_raised body a b first same opened) | inr closed ↦ inl (inr (closed, λ one. absurd (omega (arith, shut, one)))) ]
 
--- the other slot is then ready for the next root
+-- The other slot is then ready for the next root.
 first_ready : (body file : List ℕ) → HasFirst body file → 0 < sequence_of body → Ready 1 body (overlay 0 (1 ∷ []) file)
 first_ready body file first newer =
     let size = first.size in
@@ -111,11 +111,11 @@ first_ready body file first newer =
       other = inr (inr (subst (λ (n : ℕ). n < sequence_of body) (sym (ap sequence_of (body_kept 1 file (overlay 0 (1 ∷ []) file) same) ∙ old)) newer));
     }
 
--- no slot is open, or the root is there
+-- No slot is open, or the root is there.
 abbrev pub EitherFirst : List ℕ → List ℕ → Type 0
 EitherFirst body file = IsShut file ⊎ HasRoot body file
 
--- which of the two it is
+-- A file that is there has no open slot, or the root.
 which : (body : List ℕ) (file : File) → IfThere (EitherFirst body) file → IsShutFile file ⊎ IfThere (HasRoot body) file
 which body None there = absurd there
 which body (Some file) there = there
@@ -125,7 +125,7 @@ shut_there None there = absurd there
 shut_there (Some file) there = there
 
 module _ (body : List ℕ) (whole : length body ≡ 1536) where
-  -- while the body is written
+  -- While the body is written.
   pub during_body : (k : Option Content) (image : Files) → ReadsFit k → WhereTold HasRootSize k → EachRoot AreZeros k → Writing root_name (body_place 0) 1536 k image → ShutOrFirst body k image
   during_body None image fit size each writing = absurd each
   during_body (Some k) image fit size each writing = record {
@@ -133,11 +133,11 @@ module _ (body : List ℕ) (whole : length body ≡ 1536) where
     elsewhere = writing.elsewhere;
   }
 
-  -- after it
+  -- After the body is written.
   pub body_filled : (k m : Option Content) → ReadsFit k → EachRoot AreZeros k → Told (IsWritten root_name (body_place 0) body) k m → EachRoot (HasFirst body) m
   body_filled k m fit each written = each_written AreZeros (HasFirst body) (body_place 0) body k m fit each (λ a zeros. zeros_filled body a whole (are_zero 4096 a zeros refl)) written
 
-  -- while the gate is opened
+  -- While the gate is opened.
   pub during_gate : (k m : Option Content) (image : Files) → ReadsFit k → ReadsFit m → WhereTold HasRootSize m → Told (IsWritten root_name (body_place 0) body) k m → EachRoot (HasFirst body) m → Writing root_name 0 1 m image → ShutOrFirst body k image
   during_gate None None image fit fit2 size written each writing = tt
   during_gate None (Some m) image fit fit2 size written each writing = absurd written
@@ -147,18 +147,18 @@ module _ (body : List ℕ) (whole : length body ≡ 1536) where
     elsewhere = λ other apart. elsewhere_before (body_place 0) body k m image fit written other apart (writing.elsewhere other apart);
   }
 
-  -- after it
+  -- After the gate is opened.
   pub gate_opened : (m n : Option Content) → ReadsFit m → 0 < sequence_of body → EachRoot (HasFirst body) m → Told (IsWritten root_name 0 (1 ∷ [])) m n → EachRoot (Ready 1 body) n
   gate_opened m n fit newer each written = each_written (HasFirst body) (Ready 1 body) 0 (1 ∷ []) m n fit each (λ a first. first_ready body a first newer) written
 
-  -- the root file keeps its size
+  -- The root file keeps its size.
   pub size_filled : (k m : Option Content) → WhereTold HasRootSize k → Told (IsWritten root_name (body_place 0) body) k m → WhereTold HasRootSize m
   size_filled None None size written = tt
   size_filled None (Some m) size written = absurd written
   size_filled (Some k) None size written = absurd written
   size_filled (Some k) (Some m) size written = ap (λ (f : File). length (bytes_of f)) written.here ∙ (overlay-size (body_place 0) body (bytes_of (k root_name).seen) (omega (arith, size, whole)) ∙ size)
 
--- the other files after both
+-- The other files after both writes.
 pub first_committed : (body : List ℕ) (k m n : Option Content) → Told (IsWritten root_name (body_place 0) body) k m → Told (IsWritten root_name 0 (1 ∷ [])) m n → Told IsCommitted k n
 first_committed body None None None a b = tt
 first_committed body None None (Some n) a b = absurd b

@@ -1,4 +1,4 @@
--- Entries whose records are the first of a map's, with one more behind them.
+-- Entries whose records are the first of a map's, with one more after them.
 use Rattle.std.specs.Prelude.{◌≡◌, ◌≢◌, ◌+◌, ◌<◌, ◌≤◌, ℕ, Bool, true, false, ◌||◌, cond, List, [], ◌∷◌, ◌++◌, length, map, slice_get, zero, suc, Option, Some, None, IsSome, unwrap_or, refl}
 use Rattle.std.specs.List.{AllByRecursion}
 use Rattle.std.specs.Str.{bytes_eq}
@@ -18,23 +18,23 @@ use Rattle.epoch_store.specs.Stores.{stored_behind}
 use Rattle.epoch_store.specs.Damage.{messages, has_message, record_of, AreFirst}
 use Rattle.epoch_store.specs.Joined.{has_id, has_blob, AreBefore}
 
--- what holds of each of some and of one more holds of the one
+-- What holds of all items with one appended holds of that one.
 pub all_last : {X : Type 0} (P : X → Type 0) (xs : List X) (x : X) → AllByRecursion P (xs ++ x ∷ []) → P x
 all_last P [] x all = all.0
 all_last P (y ∷ ys) x all = all_last P ys x all.1
 
--- where ids differ, the last one's does
+-- If own ids differ, the last one differs from the others.
 ids_apart : (es : List Entry) (new : Entry) → IdsDiffer (es ++ new ∷ []) → AllByRecursion (λ (e : Entry). own_id new.text ≢ own_id e.text) es
 ids_apart [] new differ = tt
 ids_apart (e ∷ es) new differ = (all_last (λ (f : Entry). own_id f.text ≢ own_id e.text) es new differ.0, ids_apart es new differ.1)
 
--- where texts of one blob id are the same and ids differ, the last one has a blob id of its own
+-- If texts with one blob id are equal and own ids differ, the last entry has a blob id of its own.
 blobs_apart : (es : List Entry) (new : Entry) → BlobsAgree (es ++ new ∷ []) → AllByRecursion (λ (e : Entry). own_id new.text ≢ own_id e.text) es → AllByRecursion (λ (e : Entry). blob_id_of new.text ≢ blob_id_of e.text) es
 blobs_apart [] new agree apart = tt
 blobs_apart (e ∷ es) new agree apart =
     (λ is. apart.0 (ap own_id (all_last (λ (f : Entry). blob_id_of f.text ≡ blob_id_of e.text → f.text ≡ e.text) es new agree.0 is)), blobs_apart es new agree.1 apart.1)
 
--- a test that fails, and one that doesn't hold
+-- An alternative is false only if both tests are.
 or_false : (a b : Bool) → (a || b) ≡ false → (a ≡ false) × (b ≡ false)
 or_false true b is = absurd (let wrong : true ≡ false = is in cc)
 or_false false b is = (refl, is)
@@ -47,16 +47,16 @@ not_true : (b : Bool) → (b ≡ true → ⊥) → b ≡ false
 not_true true no_way = absurd (no_way refl)
 not_true false no_way = refl
 
--- lists that are the same are told to be
+-- Equal lists compare as equal.
 equal_bytes : (a b : List ℕ) → a ≡ b → bytes_eq a b ≡ false → ⊥
 equal_bytes a b is apart = let yes_it : bytes_eq a b ≡ true = (bytes_eq-Decides a b).1 is in let wrong : true ≡ false = sym yes_it ∙ apart in cc
 
--- what is there
+-- An option with a value has it.
 there : {X : Type 0} (o : Option X) (d : X) → IsSome o → o ≡ Some (unwrap_or o d)
 there None d some = absurd (let wrong : false ≡ true = some in cc)
 there (Some x) d some = refl
 
--- the ids that are kept of entries are their own
+-- An own id that isn't kept is that of no entry.
 pub free_ids : (before es : List Entry) (text : List ℕ) → has_id (stored_behind before es) (unwrap_or (own_id text) []) ≡ false → AllByRecursion (λ (e : Entry). own_id text ≢ own_id e.text) es
 free_ids before [] text none = tt
 free_ids before (e ∷ es) text none =
@@ -77,7 +77,7 @@ apart_ids before (e ∷ es) text storage valid apart =
     (not_true (bytes_eq id other) (λ same. apart.0 (one ∙ (ap Some ((bytes_eq-Decides id other).0 same) ∙ sym two))))
     (apart_ids (before ++ e ∷ []) es text storage valid.1 apart.1)
 
--- and so are the blob ids
+-- A blob id that isn't kept is that of no entry.
 pub free_blobs : (before es : List Entry) (text : List ℕ) → has_blob (stored_behind before es) (blob_id_of text).0 ≡ false → AllByRecursion (λ (e : Entry). blob_id_of text ≢ blob_id_of e.text) es
 free_blobs before [] text none = tt
 free_blobs before (e ∷ es) text none =
@@ -94,7 +94,7 @@ apart_blobs before (e ∷ es) text apart =
     (not_true (bytes_eq blob other) (λ same. apart.0 (ap (λ (b : List ℕ). let id : Id20 = record { 0 = b } in id) ((bytes_eq-Decides blob other).0 same))))
     (apart_blobs (before ++ e ∷ []) es text apart.1)
 
--- as many are kept as there are, in their epochs
+-- As many entries are kept as there are, in their epochs.
 pub stored_count : (before es : List Entry) → length (stored_behind before es) ≡ length es
 stored_count before [] = refl
 stored_count before (e ∷ es) = let rest = stored_count (before ++ e ∷ []) es in omega (arith, rest)
@@ -103,7 +103,7 @@ pub stored_before : (epoch : ℕ) (before es : List Entry) → AreBefore epoch (
 stored_before epoch before [] all = tt
 stored_before epoch before (e ∷ es) all = (all.0, stored_before epoch (before ++ e ∷ []) es all.1)
 
--- the record behind those of some entries
+-- The record after those of some entries.
 pub record_behind : (es : List Entry) (behind : List Record) → slice_get (map record_of es ++ behind) (length es) ≡ slice_get behind 0
 record_behind [] behind = refl
 record_behind (e ∷ es) behind = record_behind es behind
@@ -112,7 +112,7 @@ pub map_behind : {X Y : Type 0} (f : X → Y) (xs : List X) (x : X) (ys : List Y
 map_behind f [] x ys = refl
 map_behind f (z ∷ zs) x ys = ap (λ (l : List _). f z ∷ l) (map_behind f zs x ys)
 
--- the first of records
+-- The first of some records.
 pub record FirstIs (behind : List Record) (next : Record) : Type 0 where
   pub rest : List Record
   pub is : behind ≡ next ∷ rest
@@ -125,7 +125,7 @@ pub first_none : (behind : List Record) → slice_get behind 0 ≡ None → behi
 first_none [] is = refl
 first_none (r ∷ rs) is = absurd (let wrong : Some r ≡ None = is in cc)
 
--- the numbers of a map's records rise
+-- The numbers of a map's records rise.
 abbrev Below : ℕ → List Entry → Record → Type 0
 Below n es r = AllByRecursion (λ (e : Entry). e.number < r.number) es × (n ≤ r.number)
 
@@ -148,7 +148,8 @@ numbers_rise n [] [] r more valid is = absurd (let wrong : [] ≡ r ∷ more = i
 numbers_rise n [] (e ∷ es) r more valid is = absurd (let wrong : [] ≡ record_of e ∷ (map record_of es ++ r ∷ more) = is in cc)
 numbers_rise n (line ∷ lines) es r more valid is = below_step (has_message line) n line (messages lines) es r more valid.0.number (λ fs. numbers_rise (n + 1) lines fs r more valid.1) is
 
--- an entry of the next record joins those of the first ones, where it has an own id and a blob id of its own
+-- An entry of the next record joins those of the first ones if it has an own id and a blob id of
+-- its own.
 pub first_more : (rs behind : List Record) (es : List Entry) (new : Entry) → AreRecordsFrom 1 rs → AreFirst rs (record_of new ∷ behind) es → IsEntry new
     → AllByRecursion (λ (e : Entry). e.epoch ≤ new.epoch) es → AllByRecursion (λ (e : Entry). own_id new.text ≢ own_id e.text) es → AllByRecursion (λ (e : Entry). blob_id_of new.text ≢ blob_id_of e.text) es
     → AreFirst rs behind (es ++ new ∷ [])
@@ -162,14 +163,14 @@ first_more rs behind es new numbered first entry older ids blobs =
       records = first.records ∙ sym (map_behind record_of es new behind);
     }
 
--- the own id and the blob id of the last entry are its own
+-- The last entry has an own id and a blob id of its own.
 pub ids_of_last : (rs left : List Record) (es : List Entry) (new : Entry) → AreFirst rs left (es ++ new ∷ []) → AllByRecursion (λ (e : Entry). own_id new.text ≢ own_id e.text) es
 ids_of_last rs left es new first = ids_apart es new first.ids
 
 pub blobs_of_last : (rs left : List Record) (es : List Entry) (new : Entry) → AreFirst rs left (es ++ new ∷ []) → AllByRecursion (λ (e : Entry). blob_id_of new.text ≢ blob_id_of e.text) es
 blobs_of_last rs left es new first = blobs_apart es new first.blobs (ids_apart es new first.ids)
 
--- each record with a message has an epoch
+-- Each record with a message has an epoch.
 small_step : (b : Bool) (line : Record) (rest : List Record) (i : ℕ) (r : Record) → has_message line ≡ b → ((k : ℕ) → slice_get rest k ≡ Some r → r.epoch < 64) → slice_get (cond b (line ∷ rest) rest) i ≡ Some r → r.epoch < 64
 small_step false line rest i r test later is = later i is
 small_step true line rest zero r test later is = let same : line ≡ r = ap (λ (o : Option Record). unwrap_or o line) is in let less : line.epoch < 64 = grind (arith, nat_tests) in subst (λ (s : Record). s.epoch < 64) same less

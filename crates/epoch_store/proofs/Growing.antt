@@ -17,47 +17,47 @@ use Rattle.epoch_store.specs.Recovery.{entry_of, record_for, records_from, recor
 use Rattle.epoch_store.specs.Stores.{in_file, stored_at, stored_behind}
 use Rattle.epoch_store.specs.declared.entries.StoredEntry.{StoredEntry}
 
--- a test on numbers that are the same, and on those that aren't
+-- A test on numbers that are equal, and on those that aren't.
 same_test : (m n : ℕ) → m ≡ n → (m == n) ≡ true
 same_test m n is = grind (arith, nat_tests)
 
 other_test : (m n : ℕ) → m ≢ n → (m == n) ≡ false
 other_test m n apart = grind (arith, nat_tests)
 
--- the entry of a number is none where all have lesser ones
+-- A number has no entry if all entries have lesser numbers.
 no_entry : (es : List Entry) (n : ℕ) → AllByRecursion (λ (e : Entry). e.number < n) es → entry_of es n ≡ None
 no_entry [] n below = refl
 no_entry (e ∷ es) n below =
     let less : e.number < n = below.0 in
     rw (other_test e.number n (λ is. absurd (omega (arith, less, is)))) (no_entry es n below.1)
 
--- one entry more leaves the entries of other numbers
+-- One more entry doesn't change the entries of other numbers.
 entry_kept : (es : List Entry) (new : Entry) (n : ℕ) → new.number ≢ n → entry_of (es ++ new ∷ []) n ≡ entry_of es n
 entry_kept [] new n apart = rw (other_test new.number n apart) refl
 entry_kept (e ∷ es) new n apart = ap (λ (rest : Option Entry). if e.number == n then Some e else rest) (entry_kept es new n apart)
 
--- and is that of its own
+-- One more entry is the entry of its number.
 entry_new : (es : List Entry) (new : Entry) → AllByRecursion (λ (e : Entry). e.number < new.number) es → entry_of (es ++ new ∷ []) new.number ≡ Some new
 entry_new [] new below = rw (same_test new.number new.number refl) refl
 entry_new (e ∷ es) new below =
     let less : e.number < new.number = below.0 in
     rw (other_test e.number new.number (λ is. absurd (omega (arith, less, is)))) (entry_new es new below.1)
 
--- so the records of lesser numbers stay
+-- The records of lesser numbers stay.
 records_kept : (es : List Entry) (new : Entry) (n count : ℕ) → n + count ≤ new.number → records_from (es ++ new ∷ []) n count ≡ records_from es n count
 records_kept es new n zero less = refl
 records_kept es new n (suc count) less =
     ap (λ (e : Option Entry). record_for n e ∷ records_from (es ++ new ∷ []) (n + 1) count) (entry_kept es new n (λ is. absurd (omega (arith, less, is))))
     ∙ ap (λ (rs : List Record). record_for n (entry_of es n) ∷ rs) (records_kept es new (n + 1) count (omega (arith, less)))
 
--- the records of so many numbers and of the one behind them
+-- The records of `count` numbers and of the next one.
 records_more : (es : List Entry) (n count : ℕ) → records_from es n (suc count) ≡ records_from es n count ++ record_for (n + count) (entry_of es (n + count)) ∷ []
 records_more es n zero = ap (λ (m : ℕ). record_for m (entry_of es m) ∷ []) (let is : n ≡ n + 0 = omega arith in is)
 records_more es n (suc count) =
     ap (λ (rs : List Record). record_for n (entry_of es n) ∷ rs)
     (records_more es (n + 1) count ∙ ap (λ (m : ℕ). records_from es (n + 1) count ++ record_for m (entry_of es m) ∷ []) (let is : n + 1 + count ≡ n + suc count = omega arith in is))
 
--- an entry of its number is one more record
+-- An entry of the next number is one more record.
 pub map_grows : (a : Archive) (new : Entry) → 1 ≤ a.next → new.number ≡ a.next → AllByRecursion (λ (e : Entry). e.number < a.next) a.entries
     → flat_map record_bytes (records_from (a.entries ++ new ∷ []) 1 (a.next + 1 - 1)) ≡ map_bytes a ++ record_bytes (record_for a.next (Some new))
 map_grows a new least number below =
@@ -72,14 +72,14 @@ map_grows a new least number below =
     ∙ (ap (λ (n : ℕ). records_of a ++ record_for n (entry_of all n) ∷ []) last ∙ ap (λ (e : Option Entry). records_of a ++ record_for a.next e ∷ []) found))) in
     ap (flat_map record_bytes) records ∙ (flat_map-append record_bytes (records_of a) (record_for a.next (Some new) ∷ []) ∙ ap (λ (b : List ℕ). map_bytes a ++ b) (append-nil (record_bytes (record_for a.next (Some new)))))
 
--- the entries of an epoch and one more of it, or of another one
+-- The entries of an epoch and one more of it, or of another one.
 pub in_epoch-here : (es : List Entry) (new : Entry) (epoch : ℕ) → new.epoch ≡ epoch → in_epoch (es ++ new ∷ []) epoch ≡ in_epoch es epoch ++ new ∷ []
 in_epoch-here es new epoch is = filter-append (λ (e : Entry). e.epoch == epoch) es (new ∷ []) ∙ rw (same_test new.epoch epoch is) refl
 
 in_epoch-other : (es : List Entry) (new : Entry) (epoch : ℕ) → new.epoch ≢ epoch → in_epoch (es ++ new ∷ []) epoch ≡ in_epoch es epoch
 in_epoch-other es new epoch apart = filter-append (λ (e : Entry). e.epoch == epoch) es (new ∷ []) ∙ (rw (other_test new.epoch epoch apart) refl ∙ append-nil (in_epoch es epoch))
 
--- the bytes of entries and of one more behind them
+-- The bytes of entries with one appended.
 entries_more : (parent : Option Id20) (es : List Entry) (new : Entry) → entries_bytes parent (es ++ new ∷ []) ≡ entries_bytes parent es ++ bytes_behind (last_commit parent es) (in_file new)
 entries_more parent [] new = append-nil (bytes_behind parent (in_file new))
 entries_more parent (e ∷ es) new =
@@ -87,7 +87,7 @@ entries_more parent (e ∷ es) new =
     ap (λ (b : List ℕ). entry_bytes message_name e.text e.moment parent ++ b) (entries_more next es new)
     ∙ sym (append_assoc (entry_bytes message_name e.text e.moment parent) (entries_bytes next es) (bytes_behind (last_commit next es) (in_file new)))
 
--- the bytes of an epoch and of one more entry of it
+-- The bytes of an epoch with one more entry.
 epoch_more : (es : List Entry) (new : Entry) → epoch_bytes (es ++ new ∷ []) ≡ epoch_bytes es ++ (front_at (length (epoch_bytes es)) ++ bytes_behind (last_commit None es) (in_file new))
 epoch_more [] new = ap (λ (b : List ℕ). magic ++ b) (append-nil (bytes_behind None (in_file new)))
 epoch_more (e ∷ es) new =
@@ -103,7 +103,7 @@ bytes_here a new = ap epoch_bytes (in_epoch-here a.entries new new.epoch refl) �
 pub bytes_other : (a : Archive) (new : Entry) (epoch : ℕ) → new.epoch ≢ epoch → epoch_bytes (in_epoch (a.entries ++ new ∷ []) epoch) ≡ bytes_in a epoch
 bytes_other a new epoch apart = ap epoch_bytes (in_epoch-other a.entries new epoch apart)
 
--- what is kept of entries and of one more
+-- What is kept of entries with one appended.
 pub stored_more : (before es : List Entry) (new : Entry) → stored_behind before (es ++ new ∷ []) ≡ stored_behind before es ++ stored_at (before ++ es) new ∷ []
 stored_more before [] new = ap (λ (b : List Entry). stored_at b new ∷ []) (sym (append-nil before))
 stored_more before (e ∷ es) new = ap (λ (s : List StoredEntry). stored_at before e ∷ s) (stored_more (before ++ e ∷ []) es new ∙ ap (λ (b : List Entry). stored_behind (before ++ e ∷ []) es ++ stored_at b new ∷ []) (append_assoc before (e ∷ []) es))

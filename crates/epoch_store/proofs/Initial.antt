@@ -8,11 +8,13 @@ use Rattle.arch_base.specs.declared.config.Config.{Config}
 use Rattle.arch_base.specs.Configs.{IsConfig}
 use Rattle.arch_base.specs.Names.{IsName}
 use Rattle.disk_model.specs.declared.name.FileName.{FileName}
-use Rattle.disk_model.specs.Disk.{File, Files, Kept, Content, Image, Told, WhereTold, Unchanged, Synced, Fits, exact, bytes_of, ReadsFit}
+use Rattle.disk_model.specs.Disk.{File, Files, Kept, Content, Image, Told, WhereTold, Unchanged, Synced, Fits, exact, bytes_of, ReadsFit, Elapses, LeavesOnly}
+use Rattle.disk_model.specs.Moments.{started, goes_on, joined}
 use Rattle.disk_model.specs.Laws.{Fits-Within, Fits-exact, sync_image}
 use Rattle.disk_model.specs.Images.{same_or_other}
 use Rattle.arch_model.specs.Archives.{empty_archive}
 use Rattle.root_slots.specs.declared.root.Place.{Place}
+use Rattle.root_slots.specs.declared.root.Root.{Root}
 use Rattle.root_slots.specs.RootName.{root_name}
 use Rattle.root_slots.specs.Each.{IfThere}
 use Rattle.root_slots.specs.Slots.{HasRoot, Ready, IsShutFile, EachShut}
@@ -26,15 +28,15 @@ use Rattle.epoch_store.specs.First.{MakesRoot, MakingLeaves, HasOnly, first_root
 use Rattle.epoch_store.proofs.Appends.{map_isnt_root, epoch_isnt_root}
 use Rattle.epoch_store.proofs.Making.{first_is_root}
 
--- it is one
+-- An archive without entries is valid.
 pub empty_valid : (config : Config) → IsName config.name → IsConfig config → IsArchive (empty_archive config)
 empty_valid config name valid = record { name = name; config = valid; next_least = omega arith; next_most = omega arith; entries = tt; below = tt; order = tt; ids = tt; blobs = tt }
 
--- all places of the first root are empty
+-- All places of the first root are empty.
 first_place : (config : Config) (e : ℕ) → e < 64 → get_or (first_root_of config).epochs e no_place ≡ no_place
 first_place config e below = get_or-replicate 64 e no_place no_place below
 
--- the first root names it
+-- The first root names the archive without entries.
 pub empty_names : (config : Config) → IsName config.name → IsConfig config → Names (first_root_of config) (empty_archive config)
 empty_names config name valid = record {
   is_root = first_is_root config valid;
@@ -52,11 +54,11 @@ empty_names config name valid = record {
   cache = refl;
 }
 
--- nothing is at the front of each file
+-- Each file starts with no bytes.
 no_front : (file : File) → Fronts [] file
 no_front file = record { long = omega arith; front = refl }
 
--- files with this root stand for it
+-- Files with the first root stand for the archive without entries.
 pub empty_stands : (config : Config) (image : Files) → IfThere (HasRoot (spelling (first_root_of config))) (image root_name) → StandsFor (first_root_of config) (map_bytes (empty_archive config)) (bytes_in (empty_archive config)) image
 empty_stands config image there = record {
   current = there;
@@ -64,18 +66,18 @@ empty_stands config image there = record {
   epochs_front = λ e below. no_front (image (epoch_file_of (first_root_of config) e));
 }
 
--- what a crash leaves while the root is made
+-- What a crash leaves while the root is created.
 pub makes_empty : (config : Config) (old k : Option Content) (image : Files) → IsName config.name → IsConfig config → (k ≡ None → old ≡ None) → WhereTold (λ c. IsShutFile (c root_name).seen) old → MakesRoot (spelling (first_root_of config)) k image → MakingLeaves (empty_archive config) old image
 makes_empty config old None image name valid same was makes = inl (subst (λ (o : Option Content). Image o image) (sym (same refl)) tt)
 makes_empty config old (Some k) image name valid same was (inl shut) = inr (was, inl shut)
 makes_empty config old (Some k) image name valid same was (inr there) = inr (was, inr (first_root_of config, record { valid = empty_valid config name valid; names = empty_names config name valid; stands = empty_stands config image there }))
 
--- a root that is ready is there
+-- A root that is ready is there.
 root_there : (body : List ℕ) (file : File) → IfThere (Ready 1 body) file → IfThere (HasRoot body) file
 root_there body None there = absurd there
 root_there body (Some file) there = (0, there.current)
 
--- what the store has in the end
+-- What the store has at the end.
 pub owns_empty : (config : Config) (k : Option Content) → IsName config.name → IsConfig config → ReadsFit k → WhereTold (HasOnly (spelling (first_root_of config))) k → WhereTold (IsDiskOf (record { root = first_root_of config; slot = 0; entries = [] }) (empty_archive config)) k
 owns_empty config None name valid fit only = tt
 owns_empty config (Some k) name valid fit only = record {
@@ -92,7 +94,7 @@ owns_empty config (Some k) name valid fit only = record {
   };
 }
 
--- and its files have their sizes
+-- Its files have their sizes.
 pub sized_empty : (config : Config) (k : Option Content) → ReadsFit k → WhereTold (HasOnly (spelling (first_root_of config))) k → WhereTold (HasSizes (record { root = first_root_of config; slot = 0; entries = [] })) k
 sized_empty config None fit only = tt
 sized_empty config (Some k) fit only = record {
@@ -104,7 +106,7 @@ sized_empty config (Some k) fit only = record {
   size_there None there = absurd there
   size_there (Some file) there = there.current.size
 
--- after a sync, what reads give of the root file is what a crash leaves of it
+-- After a sync a crash leaves the root file as it reads.
 pub shut_synced : (old new : Option Content) → Told Synced old new → WhereTold (λ k. IsShutFile (k root_name).seen) old → EachShut new
 shut_synced None None synced shut = tt
 shut_synced None (Some m) synced shut = absurd synced
@@ -113,14 +115,14 @@ shut_synced (Some k) (Some m) synced shut = λ file fits.
     let is : file ≡ (k root_name).seen = Fits-exact (k root_name).seen file (Fits-Within (m root_name).sure (exact (k root_name).seen) file (synced.crash root_name) fits) in
     subst IsShutFile (sym is) shut
 
--- a disk that doesn't change has no open slot still
+-- A disk that doesn't change still has no open slot.
 pub shut_unchanged : (old new : Option Content) → Told Unchanged old new → EachShut old → EachShut new
 shut_unchanged None None same shut = tt
 shut_unchanged None (Some m) same shut = absurd same
 shut_unchanged (Some k) None same shut = absurd same
 shut_unchanged (Some k) (Some m) same shut = λ file fits. shut file (subst (λ (kept : Kept). Fits kept.sure file) (same root_name) fits)
 
--- and the same names
+-- A disk that doesn't change still has the same names.
 pub names_unchanged : (names : List FileName) (old new : Option Content) → Told Unchanged old new → WhereTold (AreAllNames names) old → WhereTold (AreAllNames names) new
 names_unchanged names None None same all = tt
 names_unchanged names None (Some m) same all = absurd same
@@ -130,13 +132,40 @@ names_unchanged names (Some k) (Some m) same all = record {
   all = λ name. subst (λ (kept : Kept). IsSome kept.seen ↔ Contains names name) (sym (same name)) (all.all name);
 }
 
--- a sync adds no image
+-- A sync adds no image.
 pub synced_fewer : (old new : Option Content) (image : Files) → ReadsFit old → Told Synced old new → Image new image → Image old image
 synced_fewer old new image fit synced left = sync_image {T = Unit {0}} {E = Unit {0}} (Ok tt) old new image fit synced tt left
 
--- what isn't told in the end was not told before
+-- A disk that doesn't tell its content at the end didn't tell it before.
 pub none_before : (k m n : Option Content) → Told Synced k m → Told Unchanged m n → n ≡ None → k ≡ None
 none_before None m n synced same none = refl
 none_before (Some k) None n synced same none = absurd synced
 none_before (Some k) (Some m) None synced same none = absurd same
 none_before (Some k) (Some m) (Some n) synced same none = let wrong : Some n ≡ None = none in cc
+
+-- an archive is made on a disk on which there is none, by the clauses of the calls
+module _ (config : Config) (name : IsName config.name) (valid : IsConfig config) (root : Root) (root_is : root ≡ first_root_of config) (k0 k1 k2 : Option Content) (synced : Told Synced k0 k1) (same : Told Unchanged k1 k2) (shut : WhereTold (λ k. IsShutFile (k root_name).seen) k0) where
+  -- what a crash leaves at each moment of it
+  pub making_leaves : {D : Type 0} (moment : D → ℕ) (left_since : D → ℕ → Files → Type 0) (disk d1 d2 new : D) → ReadsFit k0 → LeavesOnly moment left_since disk d1 (Image k0) → LeavesOnly moment left_since d1 d2 (Image k1)
+      → (EachShut k2 → LeavesOnly moment left_since d2 new (MakesRoot (spelling root) k2)) → LeavesOnly moment left_since disk new (MakingLeaves (empty_archive config) k0)
+  making_leaves moment left_since disk d1 d2 new fit looks lists makes =
+      let P = MakingLeaves (empty_archive config) k0 in
+      let body = spelling (first_root_of config) in
+      let first = joined moment left_since disk d1 d2 (Image k0) (Image k1) P looks lists (λ image left. inl left) (λ image left. inl (synced_fewer k0 k1 image fit synced left)) in
+      let made : LeavesOnly moment left_since d2 new (MakesRoot body k2) =
+      subst (λ (r : Root). LeavesOnly moment left_since d2 new (MakesRoot (spelling r) k2)) root_is (makes (shut_unchanged k1 k2 same (shut_synced k0 k1 synced shut))) in
+      joined moment left_since disk d2 new P (MakesRoot body k2) P first made (λ image leaves. leaves) (λ image. makes_empty config k0 k2 image name valid (none_before k0 k1 k2 synced same) shut)
+
+-- and the root alone is there in the end
+pub makes_only : (config : Config) (root : Root) → root ≡ first_root_of config → (names listed : List FileName) → names ≡ listed → (k1 k2 k3 : Option Content) → Told Unchanged k1 k2 → WhereTold (AreAllNames listed) k1
+    → (WhereTold (AreAllNames names) k2 → 0 < root.sequence → WhereTold (HasOnly (spelling root)) k3) → WhereTold (HasOnly (spelling (first_root_of config))) k3
+makes_only config root root_is names listed names_are k1 k2 k3 same all done =
+    let named = names_unchanged names k1 k2 same (subst (λ (l : List FileName). WhereTold (AreAllNames l) k1) (sym names_are) all) in
+    subst (λ (r : Root). WhereTold (HasOnly (spelling r)) k3) root_is (done named (subst (λ (r : Root). 0 < r.sequence) (sym root_is) (omega arith)))
+
+-- a sync and a look behind it leave what a crash before might have left
+pub looking_leaves : {D : Type 0} (moment : D → ℕ) (left_since : D → ℕ → Files → Type 0) (disk mid new : D) (k0 k1 : Option Content) → ((image : Files) → left_since disk (moment disk) image → Image k0 image) → Elapses (moment disk) (moment mid) (left_since disk) (left_since mid) k1
+    → ((image : Files) → Image k1 image → Image k0 image) → LeavesOnly moment left_since mid new (Image k1) → LeavesOnly moment left_since disk new (Image k0)
+looking_leaves moment left_since disk mid new k0 k1 now time fewer looks =
+    let first = goes_on moment left_since disk disk mid (Image k0) k1 (started moment left_since disk (Image k0) now) time fewer in
+    joined moment left_since disk mid new (Image k0) (Image k1) (Image k0) first looks (λ image left. left) fewer

@@ -1,4 +1,4 @@
--- The entries of an epoch, joined one behind the other to those of the epochs before it.
+-- The entries of an epoch, joined one after the other to those of the epochs before it.
 use Rattle.std.specs.Prelude.{◌≡◌, ◌≢◌, ◌+◌, ◌<◌, ◌≤◌, ◌==◌, ℕ, Bool, true, false, not, List, [], ◌∷◌, ◌++◌, length, map, slice_get, get_or, zero, suc, Option, Some, None, Err, unwrap_or, refl}
 use Rattle.std.specs.List.{AllByRecursion}
 use Rattle.std.specs.Str.{bytes_eq}
@@ -27,7 +27,7 @@ use Rattle.epoch_store.proofs.Growing.{stored_more}
 use Rattle.epoch_store.proofs.Ends.{none_in, last_commit_is}
 use Rattle.epoch_store.proofs.Firsts.{first_is, first_none, first_more, record_behind, map_behind, stored_count, stored_before, free_ids, apart_ids, free_blobs, apart_blobs, ids_of_last, blobs_of_last}
 
--- the next record is that of an entry, or it isn't
+-- The next record is that of an entry, or it isn't.
 pub is_wanted : (v : Joined) (epoch : ℕ) (seen : Seen) (r : Record) → seen.name ≡ message_name → slice_get v.records (length v.entries) ≡ Some r → r.epoch ≡ epoch → r.blob ≡ seen.blob → IsWanted v epoch seen r.number
 is_wanted v epoch seen r name next same_epoch same_blob = record { message = name; next = next ∙ (λ i. Some (record { number = r.number; epoch = same_epoch i; blob = same_blob i })) }
 
@@ -44,7 +44,7 @@ other_blob v epoch seen r number next apart wanted =
     let want : Record = record { number = number; epoch = epoch; blob = seen.blob } in
     apart (ap (λ (s : Record). s.blob) (found_is (slice_get v.records (length v.entries)) r want next wanted.next))
 
--- what is at a place of a list
+-- The item at an index of a list.
 got : (xs : List Record) (i : ℕ) (r : Record) → i < length xs → r ≡ get_or xs i r → slice_get xs i ≡ Some r
 got [] i r less is = absurd (omega (arith, less))
 got (x ∷ xs) zero r less is = ap Some (sym is)
@@ -61,7 +61,7 @@ found_at v xs i r records entries less is = (λ j. slice_get (sym records j) (sy
 pub none_at : (v : Joined) (xs : List Record) (i : ℕ) → xs ≡ v.records → i ≡ length v.entries → length xs ≤ i → slice_get v.records (length v.entries) ≡ None
 none_at v xs i records entries less = (λ j. slice_get (sym records j) (sym entries j)) ∙ got_none xs i less
 
--- two ids are told apart by their bytes
+-- Two ids differ if their bytes do.
 pub blobs_differ : (a b : Id20) (t : Bool) → t ≡ not (bytes_eq a.0 b.0) → t ≡ true → a ≢ b
 blobs_differ a b t is yes_it same = let equal : bytes_eq a.0 b.0 ≡ true = (bytes_eq-Decides a.0 b.0).1 (ap (λ (i : Id20). i.0) same) in let wrong : false ≡ true = ap not (sym equal) ∙ (sym is ∙ yes_it) in cc
 
@@ -71,7 +71,7 @@ blobs_same a b t is no_way = ap (λ (l : List ℕ). let i : Id20 = record { 0 = 
   not_false true e = refl
   not_false false e = absurd (let wrong : true ≡ false = e in cc)
 
--- all records have an entry, or this is the first that has none
+-- All records have an entry, or this is the first that has none.
 pub none_left : (v : Joined) → slice_get v.records (length v.entries) ≡ None → (rs behind : List Record) (entries : List Entry) → Holds v rs behind entries → (v.entries ≡ stored_behind [] entries) × AreFirst rs [] entries
 none_left v none rs behind entries holds =
     let count : length v.entries ≡ length entries = ap length holds.entries_are ∙ stored_count [] entries in
@@ -86,7 +86,7 @@ one_left v r found rs behind entries holds =
     let first = first_is behind r (sym (record_behind entries behind) ∙ at_end) in
     (r, first.rest, subst (λ (b : List Record). AreFirst rs b entries) first.is holds.first, refl)
 
--- the entries of an epoch are all of a list, where all stand in it
+-- A list whose entries are all in an epoch is the list of the epoch's entries.
 all_in : (es : List Entry) (epoch : ℕ) → AllByRecursion (λ (e : Entry). e.epoch ≡ epoch) es → in_epoch es epoch ≡ es
 all_in [] epoch all = refl
 all_in (e ∷ es) epoch all = let test : (e.epoch == epoch) ≡ true = (let is : e.epoch ≡ epoch = all.0 in grind (arith, nat_tests)) in rw test (ap (λ (l : List Entry). e ∷ l) (all_in es epoch all.1))
@@ -94,12 +94,12 @@ all_in (e ∷ es) epoch all = let test : (e.epoch == epoch) ≡ true = (let is :
 pub only_here : (others more : List Entry) (epoch : ℕ) → AllByRecursion (λ (e : Entry). e.epoch < epoch) others → AllByRecursion (λ (e : Entry). e.epoch ≡ epoch) more → in_epoch (others ++ more) epoch ≡ more
 only_here others more epoch below stand = filter-append (λ (e : Entry). e.epoch == epoch) others more ∙ (ap (λ (l : List Entry). l ++ in_epoch more epoch) (none_in others epoch below) ∙ all_in more epoch stand)
 
--- what holds of two lists holds of both together
+-- What holds of two lists holds of both together.
 pub all_joined : {X : Type 0} (P : X → Type 0) (xs ys : List X) → AllByRecursion P xs → AllByRecursion P ys → AllByRecursion P (xs ++ ys)
 all_joined P [] ys one two = two
 all_joined P (x ∷ xs) ys one two = (one.0, all_joined P xs ys one.1 two)
 
--- the bytes of entries with one more
+-- The bytes of entries with one appended.
 pub size_more : (parent : Option Id20) (es : List Entry) (e : Entry) → length (entries_bytes parent (es ++ e ∷ [])) ≡ length (entries_bytes parent es) + length (bytes_behind (last_commit parent es) (in_file e))
 size_more parent [] e = omega (arith, length-append (entry_bytes message_name e.text e.moment parent) [])
 size_more parent (f ∷ es) e =
@@ -107,7 +107,7 @@ size_more parent (f ∷ es) e =
     let front = entry_bytes message_name f.text f.moment parent in
     omega (arith, size_more next es e, length-append front (entries_bytes next (es ++ e ∷ [])), length-append front (entries_bytes next es))
 
--- where one more entry of an epoch goes, and what is seen of it
+-- What is recorded of one more entry of an epoch.
 abbrev pub seen_next : List Entry → EpochEntry → Seen
 seen_next more x = seen_at (8 + length (entries_bytes None more)) (last_commit None more) x
 
@@ -150,7 +150,7 @@ one_more cur new rs behind all epoch number x s holds small older valid seen joi
       };
     }
 
--- an entry behind the map's first ones, that may stand there, joins them
+-- A next entry of the map that is valid joins the entries before it.
 pub next_joins : (cur : Joined) (rs behind left : List Record) (all : List Entry) (epoch : ℕ) (next : Entry) (s : Seen) → Holds cur rs behind all → next.epoch ≡ epoch → s ≡ seen_next (in_epoch all epoch) (in_file next)
     → AreFirst rs left (all ++ next ∷ []) → JoinsNext cur epoch s next.number
 next_joins cur rs behind left all epoch next s holds same seen first =
@@ -174,7 +174,8 @@ next_joins cur rs behind left all epoch next s holds same seen first =
       last_valid [] valid = valid.0
       last_valid (e ∷ es) valid = last_valid es valid.1
 
--- So far some first entries of an epoch have joined those of the epochs before it, and of the others so much is seen.
+-- Some first entries of an epoch have joined those of the epochs before it, and this is recorded of
+-- the others.
 pub record Comes (cur : Joined) (left : List Seen) (rs : List Record) (others : List Entry) (epoch : ℕ) (here : List EpochEntry) : Type 0 where
   pub more : List Entry
   pub rest : List EpochEntry
@@ -186,7 +187,7 @@ pub record Comes (cur : Joined) (left : List Seen) (rs : List Record) (others : 
   pub seen : left ≡ seen_from (8 + length (entries_bytes None more)) (last_commit None more) rest
   pub holds : Holds cur rs behind (others ++ more)
 
--- none has come yet
+-- No entry has joined yet.
 pub comes_first : (cur : Joined) (left : List Seen) (rs behind : List Record) (others : List Entry) (epoch : ℕ) (here : List EpochEntry) → AreBefore epoch cur.entries → Holds cur rs behind others → AreEpochEntries here → left ≡ seen_from 8 None here
     → Comes cur left rs others epoch here
 comes_first cur left rs behind others epoch here before holds valid seen = record {
@@ -201,7 +202,7 @@ comes_first cur left rs behind others epoch here before holds valid seen = recor
   holds = subst (Holds cur rs behind) (sym (append-nil others)) holds;
 }
 
--- what is left begins with an entry
+-- The remaining entries start with one.
 record Begins (left : List Seen) (s : Seen) (after : List Seen) (more : List Entry) (rest : List EpochEntry) : Type 0 where
   x : EpochEntry
   others : List EpochEntry
@@ -219,7 +220,7 @@ begins left s after more (x ∷ others) is seen =
 valid_parts : (rest : List EpochEntry) (x : EpochEntry) (others : List EpochEntry) → rest ≡ x ∷ others → AreEpochEntries rest → IsEpochEntry x × AreEpochEntries others
 valid_parts rest x others is valid = subst AreEpochEntries is valid
 
--- one more comes
+-- One more entry joins.
 pub comes_more : (cur new : Joined) (left : List Seen) (s : Seen) (after : List Seen) (rs : List Record) (others : List Entry) (epoch number : ℕ) (here : List EpochEntry) → epoch ≤ 63 → Comes cur left rs others epoch here → left ≡ s ∷ after
     → JoinsNext cur epoch s number → new ≡ with_seen cur number epoch s → Comes new after rs others epoch here
 comes_more cur new left s after rs others epoch number here small comes is joins new_is =
@@ -249,7 +250,7 @@ comes_more cur new left s after rs others epoch number here small comes is joins
       holds = subst (Holds new rs one.left) (append_assoc others comes.more (one.entry ∷ [])) one.holds;
     }
 
--- all have come
+-- All entries have joined.
 pub all_come : (cur : Joined) (left : List Seen) (rs : List Record) (others : List Entry) (epoch : ℕ) (here : List EpochEntry) → Comes cur left rs others epoch here → left ≡ [] → AreJoined cur rs others epoch here
 all_come cur left rs others epoch here comes none = record {
   more = comes.more;
@@ -262,7 +263,7 @@ all_come cur left rs others epoch here comes none = record {
   no_rest [] is = refl
   no_rest (x ∷ xs) is = absurd (cc)
 
--- the next one can't come
+-- The next entry can't join.
 pub stops : (cur : Joined) (left : List Seen) (s : Seen) (after : List Seen) (rs : List Record) (others : List Entry) (epoch place : ℕ) (here : List EpochEntry) → Comes cur left rs others epoch here → left ≡ s ∷ after
     → place ≡ s.at → ((number : ℕ) → JoinsNext cur epoch s number → ⊥) → StopsAt rs others epoch here place
 stops cur left s after rs others epoch place here comes is at none =
@@ -283,7 +284,7 @@ stops cur left s after rs others epoch place here comes is at none =
           (begin.first ∙ (ap (seen_next comes.more) (sym file) ∙ ap (λ (l : List Entry). seen_next l (in_file next)) (sym here_is))) first);
     }
 
--- what a refusal says then
+-- What an error then says.
 pub joins_or_stops : (cur : Joined) (left : List Seen) (s : Seen) (after : List Seen) (rs : List Record) (others : List Entry) (epoch : ℕ) (here : List EpochEntry) (refusal : JoinRefusal) → Comes cur left rs others epoch here → left ≡ s ∷ after
     → JoinsOne cur epoch s (Err refusal) → JoinsAll rs others epoch here (Err refusal)
 joins_or_stops cur left s after rs others epoch here NoMemory comes is joins = tt

@@ -11,31 +11,31 @@ use Rattle.epoch_store.specs.Files.{epoch_name}
 use Rattle.epoch_store.specs.declared.next.NextPlace.{NextPlace}
 use Rattle.epoch_store.specs.Stores.{HasSizes, next_sequence, place_of, View, IsStoreOf, RecoversEither, InEpochs}
 
--- a number that is tested as 0 is
+-- A number that is tested as 0 is 0.
 is_zero : (n : ℕ) → (n == 0) ≡ true → n ≡ 0
 is_zero n is = grind (arith, nat_tests)
 
--- before anything is done
+-- The state before anything is done.
 pub stands_now : (v : View) (a b : Archive) (k : Option Content) (image : Files) → IsStoreOf v a k → Image k image → RecoversEither a b image
 stands_now v a b None image store left = absurd store
 stands_now v a b (Some k) image store left = inl (v.root, record { valid = store.keeps.valid; names = store.keeps.names; stands = store.on.images image left })
 
--- what is kept is the same where its parts are
+-- Views with equal parts are equal.
 pub same_view : (root : Root) (slot : ℕ) (es fs : List StoredEntry) → fs ≡ es → ◌≡◌ {A = View} (record { root = root; slot = slot; entries = fs }) (record { root = root; slot = slot; entries = es })
 same_view root slot es fs is = let make : List StoredEntry → View = λ l. record { root = root; slot = slot; entries = l } in ap make is
 
--- one more entry in an epoch up to 63
+-- One more entry in an epoch up to 63.
 pub in_epochs_more : (es : List StoredEntry) (e : StoredEntry) → InEpochs es → e.epoch ≤ 63 → InEpochs (es ++ e ∷ [])
 in_epochs_more [] e all low zero f is = subst (λ (s : StoredEntry). s.epoch ≤ 63) (ap (λ (o : Option StoredEntry). unwrap_or o e) is) low
 in_epochs_more [] e all low (suc i) f is = let wrong : None ≡ Some f = is in cc
 in_epochs_more (x ∷ es) e all low zero f is = all 0 f is
 in_epochs_more (x ∷ es) e all low (suc i) f is = in_epochs_more es e (λ j g found. all (suc j) g found) low i f is
 
--- a push that has room puts its item behind the others
+-- A push that has room appends its item.
 pub pushed : {X : Type 0} (ok : Bool) (old new : List X) (x : X) → new ≡ (if ok then old ++ x ∷ [] else old) → ok ≡ true → new ≡ old ++ x ∷ []
 pushed ok old new x is yes_ = is ∙ ap (λ (b : Bool). if b then old ++ x ∷ [] else old) yes_
 
--- the file of the next place has its bytes at least
+-- The file of the next place has at least its bytes.
 pub place_inside : (v : View) (p : NextPlace) → p ≡ place_of v.root p.epoch p.parent → p.epoch ≤ 63 → (k : Option Content) → WhereTold (HasSizes v) k → WhereTold (IsAtMostLength (epoch_name p.epoch p.gen_) p.length) k
 place_inside v p is small None sizes = tt
 place_inside v p is small (Some k) sizes =

@@ -3,6 +3,7 @@ mod TwoWrites
 mod Growing
 mod Ends
 mod Delivering
+mod EntryWriting
 mod Mapped
 mod Sets
 mod Firsts

@@ -1,4 +1,4 @@
--- What is left of a disk while an archive is made on it.
+-- What is left of a disk while an archive is created on it.
 use Rattle.std.specs.Prelude.{◌≡◌, ◌⊎◌, ◌≤◌, ℕ, List, length, Option, Some, None, is_some, Result, Ok, Err, OnOk, refl}
 use Rattle.std.specs.List.{Contains}
 use Rattle.std.proofs.Common.{◌∙◌, sym, ap, subst, inl, inr, arith}
@@ -19,28 +19,28 @@ use Rattle.root_slots.specs.Each.{IfThere, EachRoot}
 use Rattle.root_slots.specs.Slots.{HasRootSize, Ready, IsShutFile, EachShut, LeavesShut, IsBegun, IsCommitted}
 use Rattle.epoch_store.specs.First.{first_root_of, AreZeros, ShutOrFirst, MakesRoot, HasOnly}
 
--- what a removal leaves is missing, or as before
+-- A removal leaves a file missing, or as before.
 removed_or_before : (s : Sure) (file : File) → Fits (remove_sure s) file → (file ≡ None) ⊎ Fits s file
 removed_or_before s None fits = inl refl
 removed_or_before s (Some bytes) fits = inr (record { there = fits.there; no_shorter = fits.no_shorter; no_longer = fits.no_longer; outside = fits.outside })
 
--- a missing root file has no open slot
+-- A missing root file has no open slot.
 none_is_shut : (file : File) → file ≡ None → IsShutFile file
 none_is_shut None is = tt
 none_is_shut (Some bytes) is = let wrong : Some bytes ≡ None = is in cc
 
--- a file that was taken away, or fits as before, has no open slot
+-- A file that was removed, or is as before, has no open slot.
 shut_still : (s : Sure) (file : File) → ((f : File) → Fits s f → IsShutFile f) → (file ≡ None) ⊎ Fits s file → IsShutFile file
 shut_still s file shut (inl none) = none_is_shut file none
 shut_still s file shut (inr fits) = shut file fits
 
 module _ (body : List ℕ) (names : List FileName) where
-  -- before the first call
+  -- Before the first call.
   pub shut_now : (k : Option Content) (image : Files) → EachShut k → Image k image → MakesRoot body k image
   shut_now None image shut left = tt
   shut_now (Some k) image shut left = inl (shut (image root_name) (left root_name))
 
-  -- while files are taken away
+  -- While files are removed.
   pub shut_fewer : (k : Option Content) (image : Files) → EachShut k → Fewer names k image → MakesRoot body k image
   shut_fewer None image shut fewer = tt
   shut_fewer (Some k) image shut fewer = inl (elim (contains_or_not names root_name) [
@@ -48,7 +48,7 @@ module _ (body : List ℕ) (names : List FileName) where
     | inr out ↦ shut (image root_name) (fewer.others root_name out)
   ])
 
-  -- after that
+  -- After files are removed.
   pub shut_removed : (k m : Option Content) → EachShut k → Told (AreRemoved names) k m → EachShut m
   shut_removed None None shut removed = tt
   shut_removed None (Some m) shut removed = absurd removed
@@ -58,13 +58,13 @@ module _ (body : List ℕ) (names : List FileName) where
     | inr out ↦ shut file (subst (λ (kept : Kept). Fits kept.sure file) (removed.others root_name out) fits)
   ]
 
-  -- while the root file is begun
+  -- While the root file is created.
   pub shut_begun : (k m : Option Content) (image : Files) → Told (AreRemoved names) k m → LeavesShut m image → MakesRoot body k image
   shut_begun None m image removed leaves = tt
   shut_begun (Some k) None image removed leaves = absurd removed
   shut_begun (Some k) (Some m) image removed leaves = inl leaves.root
 
-  -- all bytes of the root file are zeros then
+  -- All bytes of the root file are then zeros.
   pub zeros_each : (m n : Option Content) → WhereTold (λ c. Unit {0}) m → (m ≡ None → ⊥) → Told IsBegun m n → EachRoot AreZeros n
   zeros_each None n told some begun = absurd (some refl)
   zeros_each (Some m) None told some begun = absurd begun
@@ -72,21 +72,21 @@ module _ (body : List ℕ) (names : List FileName) where
       let is : file ≡ (n root_name).seen = Fits-exact (n root_name).seen file (Fits-Within (n root_name).sure (exact (n root_name).seen) file (begun.settled root_name) fits) in
       subst (IfThere AreZeros) (sym (is ∙ begun.root)) refl
 
-  -- and the file has its size
+  -- The file has its size.
   pub zeros_sized : (m n : Option Content) → Told IsBegun m n → WhereTold HasRootSize n
   zeros_sized None None begun = tt
   zeros_sized None (Some n) begun = absurd begun
   zeros_sized (Some m) None begun = absurd begun
   zeros_sized (Some m) (Some n) begun = ap (λ (f : File). length (bytes_of f)) begun.root ∙ length-replicate {A = ℕ} 4096 0
 
-  -- while the first root is put there
+  -- While the first root is written.
   pub first_made : (k m n : Option Content) (image : Files) → Told (AreRemoved names) k m → Told IsBegun m n → ShutOrFirst body n image → MakesRoot body k image
   first_made None m n image removed begun first = tt
   first_made (Some k) None n image removed begun first = absurd removed
   first_made (Some k) (Some m) None image removed begun first = absurd begun
   first_made (Some k) (Some m) (Some n) image removed begun first = first.root
 
-  -- what is there in the end
+  -- The state at the end.
   pub only_first : (k m n o : Option Content) → WhereTold (AreAllNames names) k → Told (AreRemoved names) k m → Told IsBegun m n → Told IsCommitted n o → ((n ≡ None → ⊥) → EachRoot (Ready 1 body) o) → WhereTold (HasOnly body) o
   only_first k m n None all removed begun committed ready = tt
   only_first k m None (Some o) all removed begun committed ready = absurd committed
@@ -106,7 +106,7 @@ module _ (body : List ℕ) (names : List FileName) where
       not_there name None is out = is
       not_there name (Some bytes) is out = absurd (out ((all.all name).0 (ap is_some is)))
 
-  -- the contents are told or not, all along
+  -- The contents are told at each step, or at none.
   pub told_through : (k m n o : Option Content) → Told (AreRemoved names) k m → Told IsBegun m n → Told IsCommitted n o → Told (λ old new. Unit {0}) k o
   told_through None None None None a b c = tt
   told_through None None None (Some o) a b c = absurd c
@@ -117,7 +117,7 @@ module _ (body : List ℕ) (names : List FileName) where
   told_through (Some k) (Some m) (Some n) None a b c = absurd c
   told_through (Some k) (Some m) (Some n) (Some o) a b c = tt
 
--- one step more, over which a disk that tells nothing promises nothing
+-- One more step; a disk that doesn't tell its content promises nothing for it.
 pub first_step : {D : Type 0} (moment : D → ℕ) (left_since : D → ℕ → Files → Type 0) (content : D → Option Content) (old mid begun new : D) (body : List ℕ) (names : List FileName) (k m n : Option Content) → Told (AreRemoved names) k m → Told IsBegun m n
     → LeavesOnly moment left_since old begun (MakesRoot body k) → (EachRoot AreZeros n → LeavesOnly moment left_since begun new (ShutOrFirst body n)) → moment begun ≤ moment new → LeavesOnly moment left_since old new (MakesRoot body k)
 first_step moment left_since content old mid begun new body names None m n removed is_begun first last later = weaker moment left_since old new (λ image. Unit {0}) (MakesRoot body None) (record { later = (let a = first.later in omega (arith, a, later)); each = λ image left. tt; before = λ t image low left. inr tt }) (λ image left. left)
@@ -128,7 +128,7 @@ first_step moment left_since content old mid begun new body names (Some k) (Some
     (λ image makes. makes)
     (λ image. first_made body names (Some k) (Some m) (Some n) image removed is_begun)
 
--- what is there in the end, where the last step answers Ok
+-- The state at the end if the last step returns `Ok`.
 pub only_on_ok : {T E : Type 0} (result : Result T E) (body : List ℕ) (names : List FileName) (k m n o : Option Content) → WhereTold (AreAllNames names) k → Told (AreRemoved names) k m → Told IsBegun m n → OnOk result (Told IsCommitted n o)
     → (EachRoot AreZeros n → OnOk result (EachRoot (Ready 1 body) o)) → OnOk result (WhereTold (HasOnly body) o)
 only_on_ok (Ok v) body names k m n o all removed begun committed ready = only_first body names k m n o all removed begun committed (λ some. ready (zeros body names m n some begun)) where
@@ -139,7 +139,7 @@ only_on_ok (Ok v) body names k m n o all removed begun committed ready = only_fi
   zeros body names (Some m) (Some n) some begun = zeros_each body names (Some m) (Some n) tt (λ none. (let wrong : Some m ≡ None = none in cc)) begun
 only_on_ok (Err e) body names k m n o all removed begun committed ready = tt
 
--- the first root is one
+-- The first root is valid.
 pub first_is_root : (config : Config) → IsConfig config → IsRoot (first_root_of config)
 first_is_root config valid = record {
   config = valid;

@@ -1,4 +1,4 @@
--- What was opened is what the files stand for, and the other way round.
+-- Files are opened as what they stand for, and stand for what they are opened as.
 use Rattle.std.specs.Prelude.{◌≡◌, ◌≢◌, ◌+◌, ◌-◌, ◌*◌, ◌<◌, ◌≤◌, ◌==◌, ℕ, zero, suc, nat_lt, Bool, true, false, cond, List, [], ◌∷◌, length, take, map, Option, Some, None, refl}
 use Rattle.std.specs.List.{AllByRecursion, flat_map}
 use Rattle.std.proofs.Common.{◌∙◌, sym, ap, subst, inl, inr, arith}
@@ -22,7 +22,7 @@ use Rattle.epoch_store.proofs.Mapped.{records_are_valid, map_length}
 use Rattle.epoch_store.proofs.Firsts.{numbers_rise}
 use Rattle.epoch_store.proofs.Opening.{fronts_by}
 
--- tests on numbers
+-- Tests on numbers.
 same_test : (m n : ℕ) → m ≡ n → (m == n) ≡ true
 same_test m n is = grind (arith, nat_tests)
 
@@ -32,32 +32,32 @@ other_test m n apart = grind (arith, nat_tests)
 less_test : (m n : ℕ) → m < n → nat_lt m n ≡ true
 less_test m n less = grind (arith, nat_tests)
 
--- the entry of a number is the first one's, or one of the others'
+-- The entry of a number is the first one, or one of the others.
 at_first : (e : Entry) (es : List Entry) (n : ℕ) → e.number ≡ n → entry_of (e ∷ es) n ≡ Some e
 at_first e es n is = rw (same_test e.number n is) refl
 
 not_first : (e : Entry) (es : List Entry) (n : ℕ) → e.number ≢ n → entry_of (e ∷ es) n ≡ entry_of es n
 not_first e es n apart = rw (other_test e.number n apart) refl
 
--- there is none below all
+-- No entry has a number below all.
 none_lower : (es : List Entry) (low epoch n : ℕ) → Rise low epoch es → n < low → entry_of es n ≡ None
 none_lower [] low epoch n rise less = refl
 none_lower (e ∷ es) low epoch n rise less =
     let high = rise.0 in
     not_first e es n (λ is. absurd (omega (arith, is, less, high))) ∙ none_lower es (e.number + 1) e.epoch n rise.2 (omega (arith, less, high))
 
--- an entry in front doesn't change the records of greater numbers
+-- An entry at the front doesn't change the records of greater numbers.
 records_behind : (e : Entry) (es : List Entry) (n count : ℕ) → e.number < n → records_from (e ∷ es) n count ≡ records_from es n count
 records_behind e es n zero less = refl
 records_behind e es n (suc count) less =
     ap (λ (o : Option Entry). record_for n o ∷ records_from (e ∷ es) (n + 1) count) (not_first e es n (λ is. absurd (omega (arith, is, less))))
     ∙ ap (λ (rs : List Record). record_for n (entry_of es n) ∷ rs) (records_behind e es (n + 1) count (omega (arith, less)))
 
--- a record with a message is kept, and one without isn't
+-- A record with a message is kept, and one without isn't.
 with_message : (r : Record) (rs : List Record) → has_message r ≡ true → messages (r ∷ rs) ≡ r ∷ messages rs
 with_message r rs is = rw is refl
 
--- the records of an archive that have a message are those of its entries
+-- The records of an archive that have a message are those of its entries.
 messages_of : (es : List Entry) (n count epoch : ℕ) → AllByRecursion IsEntry es → Rise n epoch es → AllByRecursion (λ (e : Entry). e.number < n + count) es → messages (records_from es n count) ≡ map record_of es
 messages_of [] n zero epoch valid rise below = refl
 messages_of (e ∷ es) n zero epoch valid rise below = absurd (let low = rise.0 in let high : e.number < n + 0 = below.0 in omega (arith, low, high))
@@ -81,14 +81,14 @@ messages_of (e ∷ es) n (suc count) epoch valid rise below = elim (cases_lt n e
       (all_weaker (λ (f : Entry). f.number < n + suc count) (λ (f : Entry). f.number < n + 1 + count) es (λ f few. omega (arith, few)) below.1))))))
 ]
 
--- the record of a number without a message
+-- The record of a number without a message.
 none_is : (n : ℕ) (line : Record) → IsRecord n line → has_message line ≡ false → line ≡ record_for n None
 none_is n line valid test = elim valid.message [
   | inl low ↦ absurd (let yes_it = less_test line.epoch 64 (omega (arith, low)) in let wrong : true ≡ false = sym yes_it ∙ test in cc)
   | inr none ↦ (λ i. record { number = valid.number i; epoch = none.0 i; blob = record { 0 = none.1 i } })
 ]
 
--- the records of a map are those of the entries that it has
+-- The records of a map are those of the entries that it has.
 records_back : (n epoch : ℕ) (rs : List Record) (es : List Entry) → AreRecordsFrom n rs → Rise n epoch es → messages rs ≡ map record_of es → rs ≡ records_from es n (length rs)
 records_back n epoch [] es valid rise is = refl
 records_back n epoch (line ∷ lines) es valid rise is = by (λ older fs. records_back (n + 1) older lines fs valid.1) (has_message line) refl es rise is where
@@ -116,7 +116,7 @@ records_back n epoch (line ∷ lines) es valid rise is = by (λ older fs. record
       others e.epoch fs (subst (λ (m : ℕ). Rise (m + 1) e.epoch fs) number up.2) tail ∙ sym (records_behind e fs (n + 1) (length lines) (omega (arith, number))) in
       λ i. one i ∷ rest i
 
--- and no entry has a number behind them
+-- No entry has a number after them.
 numbers_most : (n : ℕ) (rs : List Record) (es : List Entry) → AreRecordsFrom n rs → messages rs ≡ map record_of es → AllByRecursion (λ (e : Entry). e.number < n + length rs) es
 numbers_most n [] [] valid is = tt
 numbers_most n [] (e ∷ es) valid is = absurd (let wrong : [] ≡ record_of e ∷ map record_of es = is in cc)
@@ -133,7 +133,7 @@ numbers_most n (line ∷ lines) es valid is = by (λ fs. numbers_most (n + 1) li
       let number : e.number ≡ n = ap (λ (r : Record). r.number) (sym same) ∙ valid.0.number in
       (omega (arith, number), all_weaker (λ (f : Entry). f.number < n + 1 + length lines) (λ (f : Entry). f.number < n + suc (length lines)) fs more (others fs tail))
 
--- what was opened is what the files stand for
+-- Files that are opened stand for the archive of what was found.
 pub opened_recovers : OpenedRecovers
 opened_recovers root files rs entries has opened =
     let a = archive_of root entries in
@@ -162,7 +162,7 @@ opened_recovers root files rs entries has opened =
       };
     }
 
--- what files stand for is what is opened
+-- Files that stand for an archive are opened with its entries.
 pub recovers_opened : RecordsDiffer → RecoversOpened
 recovers_opened differ root files rs a has recovers =
     let valid = recovers.valid in

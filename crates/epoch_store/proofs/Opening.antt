@@ -1,4 +1,4 @@
--- The epochs of a root, read one behind the other: each is whole, or the first that is damaged.
+-- The epochs of a root, read one after the other: each is whole, or the first that is damaged.
 use Rattle.std.specs.Prelude.{◌≡◌, ◌≢◌, ◌⊎◌, ◌+◌, ◌<◌, ◌==◌, ◌^◌, ℕ, zero, suc, false, List, [], ◌∷◌, ◌++◌, length, take, map, Option, Some, None, refl}
 use Rattle.std.specs.List.{AllByRecursion}
 use Rattle.std.proofs.Common.{◌∙◌, sym, ap, subst, inl, inr, arith, append_assoc, length-append}
@@ -24,7 +24,7 @@ use Rattle.arch_model.proofs.ValidArchives.{all_weaker}
 use Rattle.epoch_store.proofs.Firsts.{all_last}
 use Rattle.epoch_store.proofs.Joins.{all_joined, only_here}
 
--- the bytes of entries are those of what their file says of them
+-- The bytes of entries are those of their records in the file.
 pub chain_of : (parent : Option Id20) (es : List Entry) → entries_bytes parent es ≡ chain parent (map in_file es)
 chain_of parent [] = refl
 chain_of parent (e ∷ es) = ap (λ (b : List ℕ). bytes_behind parent (in_file e) ++ b) (chain_of (Some (commit_behind parent (in_file e))) es)
@@ -33,14 +33,14 @@ pub last_is : (parent : Option Id20) (es : List Entry) → last_commit parent es
 last_is parent [] = refl
 last_is parent (e ∷ es) = last_is (Some (commit_behind parent (in_file e))) es
 
--- the bytes of two lists of entries, one behind the other
+-- The bytes of two lists of entries, one after the other.
 pub chain_joined : (parent : Option Id20) (xs ys : List EpochEntry) → chain parent (xs ++ ys) ≡ chain parent xs ++ chain (last_of parent xs) ys
 chain_joined parent [] ys = refl
 chain_joined parent (x ∷ xs) ys =
     let next : Option Id20 = Some (commit_behind parent x) in
     ap (λ (b : List ℕ). bytes_behind parent x ++ b) (chain_joined next xs ys) ∙ sym (append_assoc (bytes_behind parent x) (chain next xs) (chain (last_of next xs) ys))
 
--- the last of valid entries, and the one behind some
+-- The last of valid entries, and the one after some.
 pub valid_behind : (xs : List EpochEntry) (y : EpochEntry) (ys : List EpochEntry) → AreEpochEntries (xs ++ y ∷ ys) → IsEpochEntry y
 valid_behind [] y ys valid = valid.0
 valid_behind (x ∷ xs) y ys valid = valid_behind xs y ys valid.1
@@ -48,7 +48,7 @@ valid_behind (x ∷ xs) y ys valid = valid_behind xs y ys valid.1
 pub file_valid : (e : Entry) → IsEntry e → IsEpochEntry (in_file e)
 file_valid e valid = record { name = refl; text = valid.text; moment = valid.moment }
 
--- the entries of an epoch are not changed by those of another
+-- The entries of an epoch are not changed by those of another.
 all_out : (es : List Entry) (epoch other : ℕ) → epoch ≢ other → AllByRecursion (λ (e : Entry). e.epoch ≡ epoch) es → in_epoch es other ≡ []
 all_out [] epoch other apart all = refl
 all_out (e ∷ es) epoch other apart all =
@@ -59,7 +59,7 @@ pub not_here : (others more : List Entry) (epoch other : ℕ) → epoch ≢ othe
 not_here others more epoch other apart stand =
     filter-append (λ (e : Entry). e.epoch == other) others more ∙ (ap (λ (l : List Entry). in_epoch others other ++ l) (all_out more epoch other apart stand) ∙ append-nil (in_epoch others other))
 
--- an epoch's bytes, where it has an entry
+-- The bytes of an epoch that has an entry.
 some_bytes : (more : List Entry) → 0 < length more → epoch_bytes more ≡ magic ++ entries_bytes None more
 some_bytes [] some = absurd (omega (arith, some))
 some_bytes (e ∷ es) some = refl
@@ -68,7 +68,7 @@ count_files : (more : List Entry) → length (map in_file more) ≡ length more
 count_files [] = refl
 count_files (e ∷ es) = let rest = count_files es in omega (arith, rest)
 
--- One epoch more is whole.
+-- One more epoch is whole.
 pub whole_more : (root : Root) (files : Files) (epoch : ℕ) (others more : List Entry) → AreWhole root files epoch others → AllByRecursion (λ (e : Entry). e.epoch ≡ epoch) more
     → named_length root epoch ≡ length (epoch_bytes more) → Fronts (epoch_bytes more) (files (epoch_file_of root epoch)) → AreWhole root files (epoch + 1) (others ++ more)
 whole_more root files epoch others more whole stand long front =
@@ -86,18 +86,18 @@ whole_more root files epoch others more whole stand long front =
           (subst (λ (l : List Entry). Fronts (epoch_bytes l) (files (epoch_file_of root epoch))) (sym here) front);
     }
 
--- bytes that a file begins with
+-- Bytes that a file starts with.
 pub fronts_by : (n : ℕ) (bytes : List ℕ) (file : File) → take n (bytes_of file) ≡ bytes → n ≡ length bytes → Fronts bytes file
 fronts_by n bytes file is size =
     let long = length-take n (bytes_of file) in
     let same : length (take n (bytes_of file)) ≡ length bytes = ap (λ (b : List ℕ). length b) is in
     record { long = omega (arith, long, same, size); front = ap (λ (m : ℕ). take m (bytes_of file)) (sym size) ∙ is }
 
--- nothing is in front of each file
+-- Each file starts with no bytes.
 fronts_none : (file : File) → Fronts [] file
 fronts_none file = record { long = omega arith; front = nil_from_length (take 0 (bytes_of file)) (let size = length-take 0 (bytes_of file) in omega (arith, size)) }
 
--- An epoch that a walk read, and whose entries all were joined, is whole.
+-- An epoch that a walk read and whose entries were all joined is whole.
 pub walked_whole : (root : Root) (files : Files) (epoch : ℕ) (others : List Entry) (rs : List Record) (new : Joined) (seen : List Seen) → AreWhole root files epoch others
     → (walked : IsEpoch (named_length root epoch) (bytes_of (files (epoch_file_of root epoch))) seen) → (joined : AreJoined new rs others epoch walked.entries) → AreWhole root files (epoch + 1) (others ++ joined.more)
 walked_whole root files epoch others rs new seen whole walked joined =
@@ -109,17 +109,18 @@ walked_whole root files epoch others rs new seen whole walked joined =
     whole_more root files epoch others joined.more whole joined.stand long
     (fronts_by (named_length root epoch) (epoch_bytes joined.more) (files (epoch_file_of root epoch)) (walked.spelled ∙ bytes) long)
 
--- And so is one of which the root names no byte.
+-- An epoch of length 0 is whole.
 pub empty_whole : (root : Root) (files : Files) (epoch : ℕ) (others : List Entry) → AreWhole root files epoch others → named_length root epoch ≡ 0 → AreWhole root files (epoch + 1) others
 empty_whole root files epoch others whole none =
     subst (AreWhole root files (epoch + 1)) (append-nil others) (whole_more root files epoch others [] whole tt none (fronts_none (files (epoch_file_of root epoch))))
 
--- an entry has a byte
+-- An entry has a byte.
 pub entry_some : (parent : Option Id20) (e : EpochEntry) → bytes_behind parent e ≢ []
 unfolding Rattle.arch_model.specs.Epochs.entry_bytes
 entry_some parent e is = absurd (cc)
 
--- An epoch that a walk left early, and whose entries up to there all were joined, is damaged there.
+-- An epoch in which a walk ended early, and whose entries up to there were all joined, is damaged
+-- there.
 pub early_next : (root : Root) (files : Files) (epoch place : ℕ) (others more : List Entry) (rs behind : List Record) → AreWhole root files epoch others → AllByRecursion (λ (e : Entry). e.epoch ≡ epoch) more
     → AreFirst rs behind (others ++ more) → (ends : EndsEarly (named_length root epoch) (bytes_of (files (epoch_file_of root epoch))) place) → ends.entries ≡ map in_file more → LacksNext root files rs epoch place
 early_next root files epoch place others more rs behind whole stand first ends are =
@@ -140,7 +141,7 @@ early_next root files epoch place others more rs behind whole stand first ends a
           ends.lacks (in_file next) after (file_valid next (all_last IsEntry (others ++ more) next valid.valid)) (is ∙ ap (λ (p : Option Id20). bytes_behind p (in_file next) ++ after) (sym parents));
     }
 
--- An epoch of whose entries not all could be joined is damaged at the first other one.
+-- An epoch whose entries could not all be joined is damaged at the first that could not.
 pub stops_next : EntriesDiffer → (root : Root) (files : Files) (epoch place : ℕ) (others : List Entry) (rs : List Record) (here : List EpochEntry) (after : List ℕ) → named_length root epoch < 2 ^ 64
     → AreWhole root files epoch others → AreEpochEntries here → named_bytes root files epoch ≡ epoch_of here ++ after → StopsAt rs others epoch here place → LacksNext root files rs epoch place
 stops_next differ root files epoch place others rs here after short whole valid spelled stops =

@@ -1,4 +1,4 @@
--- The turns of an opening: an epoch more is read, or damaged; or all are read.
+-- The turns of an opening: one more epoch is read, or damaged; or all are read.
 use Rattle.std.specs.Prelude.{◌≡◌, ◌+◌, ◌<◌, ◌≤◌, ◌^◌, ℕ, List, [], ◌∷◌, ◌++◌, length, take, drop, Option, Some, None, Ok, Err, refl}
 use Rattle.std.proofs.Common.{◌∙◌, sym, ap, subst, inl, inr, arith, append_assoc, length-append}
 use Rattle.std.proofs.Math.Seq.{take-append_seam}
@@ -24,11 +24,11 @@ use Rattle.epoch_store.proofs.Opening.{walked_whole, empty_whole, early_next, st
 use Rattle.epoch_store.proofs.Opened.{opened_recovers}
 use Rattle.epoch_store.proofs.Undamaged.{prefix_of}
 
--- the bytes of an epoch's file
+-- The bytes of an epoch's file.
 abbrev bytes_at : Root → Files → ℕ → List ℕ
 bytes_at root files epoch = bytes_of (files (epoch_file_of root epoch))
 
--- nothing is read yet
+-- Nothing is read yet.
 pub read_none : (root : Root) (files : Files) (rs : List Record) (v : Joined) → HasMap root files rs → v.records ≡ messages rs → v.entries ≡ [] → IsReadUpTo root files rs 0 v
 read_none root files rs v has records entries = record {
   entries = [];
@@ -37,18 +37,18 @@ read_none root files rs v has records entries = record {
   whole = record { below = tt; lengths = λ e less. absurd (omega (arith, less)); fronts = λ e less. absurd (omega (arith, less)) };
 }
 
--- an epoch of no byte is read
+-- An epoch of length 0 is read.
 pub read_empty : (root : Root) (files : Files) (rs : List Record) (epoch : ℕ) (v : Joined) → IsReadUpTo root files rs epoch v → named_length root epoch ≡ 0 → IsReadUpTo root files rs (epoch + 1) v
 read_empty root files rs epoch v up none = record { entries = up.entries; behind = up.behind; holds = up.holds; whole = empty_whole root files epoch up.entries up.whole none }
 
--- an epoch that a walk read, and whose entries all were joined, is read
+-- An epoch that a walk read and whose entries were all joined is read.
 pub read_more : (root : Root) (files : Files) (rs : List Record) (epoch : ℕ) (old new : Joined) (seen : List Seen) → IsReadUpTo root files rs epoch old → IsEpoch (named_length root epoch) (bytes_at root files epoch) seen → TakesEpoch old epoch seen (Ok new)
     → IsReadUpTo root files rs (epoch + 1) new
 read_more root files rs epoch old new seen up walked takes =
     let joined : AreJoined new rs up.entries epoch walked.entries = takes rs up.behind up.entries walked.entries up.holds walked.valid walked.is in
     record { entries = up.entries ++ joined.more; behind = joined.behind; holds = joined.holds; whole = walked_whole root files epoch up.entries rs new seen up.whole walked joined }
 
--- one of whose entries not all could be joined is damaged
+-- An epoch whose entries could not all be joined is damaged.
 pub read_stopped : EntriesDiffer → (root : Root) (files : Files) (rs : List Record) (epoch place : ℕ) (old : Joined) (seen : List Seen) → named_length root epoch < 2 ^ 64 → epoch < 64 → IsReadUpTo root files rs epoch old
     → IsEpoch (named_length root epoch) (bytes_at root files epoch) seen → TakesEpoch old epoch seen (Err (Damaged place)) → IsFirstDamage root files rs epoch place
 read_stopped differ root files rs epoch place old seen short less up walked takes =
@@ -58,14 +58,14 @@ read_stopped differ root files rs epoch place old seen short less up walked take
           (takes rs up.behind up.entries walked.entries up.holds walked.valid walked.is),
     ))
 
--- entries of no byte are none
+-- Entries without bytes are none.
 no_bytes : (parent : Option Id20) (es : List EpochEntry) → length (chain parent es) ≡ 0 → es ≡ []
 no_bytes parent [] none = refl
 no_bytes parent (e ∷ es) none =
     let size = length-append (bytes_behind parent e) (chain (Some (commit_behind parent e)) es) in
     absurd (entry_some parent e (nil_from_length (bytes_behind parent e) (omega (arith, size, none))))
 
--- An epoch that a walk left at its front or behind the magic is damaged there.
+-- An epoch in which a walk ended at the front or after the magic is damaged there.
 pub read_front : (root : Root) (files : Files) (rs : List Record) (epoch place : ℕ) (old : Joined) → epoch < 64 → 0 < named_length root epoch → place ≤ 8 → IsReadUpTo root files rs epoch old
     → IsDamagedAt (named_length root epoch) (bytes_at root files epoch) place → IsFirstDamage root files rs epoch place
 read_front root files rs epoch place old less some low up (inl lacks) =
@@ -75,7 +75,7 @@ read_front root files rs epoch place old less some low up (inr ends) =
     let none : ends.entries ≡ [] = no_bytes None ends.entries (omega (arith, behind, low)) in
     inr (inl (less, early_next root files epoch place up.entries [] rs up.behind up.whole tt (subst (AreFirst rs up.behind) (sym (append-nil up.entries)) up.holds.first) ends none))
 
--- the bytes up to the place that a walk left are an epoch's
+-- The bytes up to the offset at which a walk ended are an epoch's.
 left_bytes : (n place : ℕ) (bytes : List ℕ) → (ends : EndsEarly n bytes place) → take place bytes ≡ epoch_of ends.entries
 left_bytes n place bytes ends =
     let whole = epoch_of ends.entries in
@@ -83,20 +83,20 @@ left_bytes n place bytes ends =
     let all : bytes ≡ whole ++ (ends.rest ++ drop n bytes) = sym (take-append-drop n bytes) ∙ (ap (λ (b : List ℕ). b ++ drop n bytes) ends.spelled ∙ append_assoc whole ends.rest (drop n bytes)) in
     ap (take place) all ∙ (ap (λ (m : ℕ). take m (whole ++ (ends.rest ++ drop n bytes))) (sym size) ∙ take-append_seam whole (ends.rest ++ drop n bytes))
 
--- the place that a walk left is within the bytes that count
+-- The offset at which a walk ended is within the bytes that count.
 left_within : (n place : ℕ) (bytes : List ℕ) → EndsEarly n bytes place → place ≤ n
 left_within n place bytes ends =
     let size : length (take n bytes) ≡ length (epoch_of ends.entries ++ ends.rest) = ap (λ (b : List ℕ). length b) ends.spelled in
     let is = ends.behind in
     omega (arith, size, is, length-take n bytes, length-append (epoch_of ends.entries) ends.rest, length-append magic (chain None ends.entries))
 
--- so a walk up to there reads the same entries
+-- So a walk up to there reads the same entries.
 again : EpochsDiffer → (n place : ℕ) (bytes : List ℕ) (seen : List Seen) → place < 2 ^ 64 → (ends : EndsEarly n bytes place) → (walked : IsEpoch place bytes seen) → ends.entries ≡ walked.entries
 again differ n place bytes seen short ends walked =
     let is = ends.behind in
     differ ends.entries walked.entries ends.valid walked.valid (omega (arith, short, is, length-append magic (chain None ends.entries))) (sym (left_bytes n place bytes ends) ∙ walked.spelled)
 
--- An epoch that a walk left further behind is damaged there, where all entries up to there were joined.
+-- An epoch in which a walk ended later is damaged there if all entries up to there were joined.
 pub read_left : EpochsDiffer → (root : Root) (files : Files) (rs : List Record) (epoch place : ℕ) (old new : Joined) (seen : List Seen) → named_length root epoch < 2 ^ 64 → epoch < 64 → 8 < place → IsReadUpTo root files rs epoch old
     → IsDamagedAt (named_length root epoch) (bytes_at root files epoch) place → IsEpoch place (bytes_at root files epoch) seen → TakesEpoch old epoch seen (Ok new) → IsFirstDamage root files rs epoch place
 read_left differ root files rs epoch place old new seen short less high up (inl lacks) walked takes = absurd (let zero_is = lacks.0 in omega (arith, zero_is, high))
@@ -106,7 +106,7 @@ read_left differ root files rs epoch place old new seen short less high up (inr 
     let same = again differ (named_length root epoch) place (bytes_at root files epoch) seen (omega (arith, within, short)) ends walked in
     inr (inl (less, early_next root files epoch place up.entries joined.more rs joined.behind up.whole joined.stand joined.holds.first ends (same ∙ joined.are)))
 
--- or before it, at the first that could not be joined
+-- Otherwise it is damaged before, at the first that could not be joined.
 pub read_left_stopped : EntriesDiffer → EpochsDiffer → (root : Root) (files : Files) (rs : List Record) (epoch left place : ℕ) (old : Joined) (seen : List Seen) → named_length root epoch < 2 ^ 64 → epoch < 64 → 8 < left → IsReadUpTo root files rs epoch old
     → IsDamagedAt (named_length root epoch) (bytes_at root files epoch) left → IsEpoch left (bytes_at root files epoch) seen → TakesEpoch old epoch seen (Err (Damaged place)) → IsFirstDamage root files rs epoch place
 read_left_stopped entry differ root files rs epoch left place old seen short less high up (inl lacks) walked takes = absurd (let zero_is = lacks.0 in omega (arith, zero_is, high))
@@ -119,7 +119,7 @@ read_left_stopped entry differ root files rs epoch left place old seen short les
           (takes rs up.behind up.entries walked.entries up.holds walked.valid walked.is),
     ))
 
--- A walk up to the place that a walk left isn't damaged.
+-- A walk up to the offset at which a walk ended isn't damaged.
 pub left_undamaged : EntriesDiffer → (n left place : ℕ) (bytes : List ℕ) → n < 2 ^ 64 → 8 < left → IsDamagedAt n bytes left → IsDamagedAt left bytes place → ⊥
 left_undamaged differ n left place bytes short high (inl lacks) other = absurd (let zero_is = lacks.0 in omega (arith, zero_is, high))
 left_undamaged differ n left place bytes short high (inr ends) (inl lacks) = lacks.1 (ap (take 8) (left_bytes n left bytes ends) ∙ take-append_seam magic (chain None ends.entries))
@@ -148,7 +148,7 @@ read_all root files rs v kept up ends =
     let all = ends rs up.behind up.entries up.holds in
     record { entries = up.entries; opened = record { first = all.1; whole = up.whole }; kept_are = all.0 }
 
--- Or one has none.
+-- All epochs are read, and a message of the map has no entry.
 pub read_missing : (root : Root) (files : Files) (rs : List Record) (v : Joined) (refusal : Unmatched) → IsReadUpTo root files rs 64 v → Finishes v (Err refusal) → IsFirstDamage root files rs refusal.epoch (named_length root refusal.epoch)
 read_missing root files rs v refusal up ends =
     let one = ends rs up.behind up.entries up.holds in

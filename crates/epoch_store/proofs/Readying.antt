@@ -9,22 +9,22 @@ use Rattle.root_slots.specs.Each.{IfThere, EachRoot, part_stays, each_writing, e
 use Rattle.root_slots.specs.Slots.{HasRootSize, IsGateOpen, gate, body_place, body_at, Current, Ready}
 use Rattle.epoch_store.specs.Settling.{Rests, StaysCurrent, IsReadied, TellsAs}
 
--- back from the other slot
+-- The other slot of the other slot.
 back : (slot : ℕ) → slot < 2 → slot ≡ 1 - (1 - slot)
 back slot below = omega (arith, below)
 
--- a slot's body stays where another range is written
+-- A slot's body stays if another range is written.
 body_kept : (at n slot : ℕ) (a b : List ℕ) → SameOutside at n a b → (body_place slot + 1536 ≤ at) ⊎ (at + n ≤ body_place slot) → body_at b slot ≡ body_at a slot
 unfolding body_at
 body_kept at n slot a b same apart = part_stays at n a b (body_place slot) 1536 same apart
 
--- the ranges of the two bodies are apart
+-- The ranges of the two bodies are apart.
 bodies_apart : (slot : ℕ) → slot < 2 → (body_place slot + 1536 ≤ body_place (1 - slot)) ⊎ (body_place (1 - slot) + 1536 ≤ body_place slot)
 bodies_apart zero below = inl (omega arith)
 bodies_apart (suc zero) below = inr (omega arith)
 bodies_apart (suc (suc n)) below = absurd (omega (arith, below))
 
--- the current root stays while the body of the other slot, which is shut, is written
+-- The current root stays while the body of the other slot, which is shut, is written.
 twin_torn : (slot : ℕ) (body a b : List ℕ) → Current slot body a → gate a (1 - slot) ≢ 1 → SameOutside (body_place (1 - slot)) 1536 a b → Current slot body b
 twin_torn slot body a b current shut same =
     let low = current.in_range in
@@ -38,11 +38,11 @@ twin_torn slot body a b current shut same =
       newest = λ opened. absurd (shut (sym other_is ∙ opened));
     }
 
--- a slot that is open beside the current one is ready
+-- An open slot that isn't the current one is ready.
 open_ready : (slot : ℕ) (body a : List ℕ) → Current slot body a → gate a (1 - slot) ≡ 1 → Ready (1 - slot) body a
 open_ready slot body a current opened = record { current = subst (λ (s : ℕ). Current s body a) (back slot current.in_range) current; other = inl opened }
 
--- and one that has the body of the current root
+-- A slot that has the body of the current root is ready.
 filled_ready : (slot : ℕ) (body a : List ℕ) → length body ≡ 1536 → Current slot body a → gate a (1 - slot) ≢ 1 → Ready (1 - slot) body (overlay (body_place (1 - slot)) body a)
 unfolding body_at
 filled_ready slot body a whole current shut =
@@ -55,16 +55,16 @@ filled_ready slot body a whole current shut =
       other = inr (inl (ap (λ (n : ℕ). take n (drop (body_place (1 - slot)) b)) (sym whole) ∙ overlay-inside (body_place (1 - slot)) body a (omega (arith, size, low))));
     }
 
--- a file that is there, with its gate
+-- A file that is there, with its gate.
 pub record HasShut (slot : ℕ) (body file : List ℕ) : Type 0 where
   pub current : Current slot body file
   pub shut : gate file (1 - slot) ≢ 1
 
--- what is settled is each root file that a crash may leave
+-- A crash leaves the root file of a settled disk as it reads.
 each_settled : (P : List ℕ → Type 0) (k : Content) → IsSettled k → IfThere P (k root_name).seen → EachRoot P (Some k)
 each_settled P k settled there = λ file fits. subst (IfThere P) (sym (Fits-exact (k root_name).seen file (Fits-Within (k root_name).sure (exact (k root_name).seen) file (settled root_name) fits))) there
 
--- the root file has its current root, and the other gate is shut
+-- The root file has its current root, and the other gate is shut.
 with_gate : (slot : ℕ) (body : List ℕ) (file : File) → IfThere (Current slot body) file → gate (bytes_of file) (1 - slot) ≢ 1 → IfThere (HasShut slot body) file
 with_gate slot body None there shut = absurd there
 with_gate slot body (Some file) there shut = record { current = there; shut = shut }
@@ -74,12 +74,12 @@ with_open slot body None there opened = absurd there
 with_open slot body (Some file) there opened = open_ready slot body file there opened
 
 module _ (slot : ℕ) (body : List ℕ) where
-  -- before anything is done
+  -- Before anything is done.
   pub current_now : (k : Option Content) (image : Files) → Rests slot body k → Image k image → StaysCurrent slot body k image
   current_now None image rests left = absurd rests
   current_now (Some k) image rests left = record { root = each_settled (Current slot body) k rests.settled rests.current (image root_name) (left root_name); elsewhere = λ other apart. left other }
 
-  -- where the gate is open, nothing has to be done
+  -- If the gate is open, nothing has to be done.
   pub readied_open : (k m : Option Content) → Rests slot body k → Told Unchanged k m → WhereTold (IsGateOpen (1 - slot) true) k → Told (IsReadied slot body) k m
   readied_open None m rests same opened = absurd rests
   readied_open (Some k) None rests same opened = absurd same
@@ -89,7 +89,7 @@ module _ (slot : ℕ) (body : List ℕ) where
     settled = λ other. subst (λ (kept : Kept). Within kept.sure (exact kept.seen)) (sym (same other)) (rests.settled other);
   }
 
-  -- while it is filled
+  -- While the slot is filled.
   pub filling : (k m : Option Content) (image : Files) → ReadsFit k → ReadsFit m → Rests slot body k → Told Unchanged k m → WhereTold (IsGateOpen (1 - slot) false) k → WhereTold HasRootSize k → Writing root_name (body_place (1 - slot)) 1536 m image → StaysCurrent slot body k image
   filling None m image fit fit2 rests same shut size writing = absurd rests
   filling (Some k) None image fit fit2 rests same shut size writing = absurd same
@@ -103,7 +103,7 @@ module _ (slot : ℕ) (body : List ℕ) where
         elsewhere = λ other apart. subst (λ (kept : Kept). Fits kept.sure (image other)) (same other) (writing.elsewhere other apart);
       }
 
-  -- after that
+  -- After the slot is filled.
   pub readied_filled : (k m n : Option Content) → length body ≡ 1536 → ReadsFit m → ReadsFit n → Rests slot body k → Told Unchanged k m → WhereTold (IsGateOpen (1 - slot) false) k → Told (IsWritten root_name (body_place (1 - slot)) body) m n → Told (IsReadied slot body) k n
   readied_filled None m n whole fit fit2 rests same shut written = absurd rests
   readied_filled (Some k) None n whole fit fit2 rests same shut written = absurd same
@@ -118,7 +118,7 @@ module _ (slot : ℕ) (body : List ℕ) where
         settled = written.settled;
       }
 
--- what is told before a call and behind it is told of two calls
+-- What is told before and after each of two calls is told before and after both.
 pub tells_both : (P Q : Content → Content → Type 0) (a b c : Option Content) → Told P a b → Told Q b c → TellsAs a c
 tells_both P Q None None None p q = tt
 tells_both P Q None None (Some z) p q = absurd q
@@ -127,7 +127,7 @@ tells_both P Q (Some x) None c p q = absurd p
 tells_both P Q (Some x) (Some y) None p q = absurd q
 tells_both P Q (Some x) (Some y) (Some z) p q = tt
 
--- the same of one call
+-- The same for one call.
 pub tells_one : (P : Content → Content → Type 0) (a b : Option Content) → Told P a b → TellsAs a b
 tells_one P None None p = tt
 tells_one P None (Some y) p = absurd p

@@ -11,7 +11,7 @@ use Rattle.epoch_store.proofs.Mapped.{records_are_valid, records_count, map_leng
 use Rattle.epoch_store.proofs.Opened.{recovers_opened}
 use Rattle.epoch_store.proofs.Undamaged.{opened_undamaged}
 
--- files that stand for an archive have its map
+-- Files that stand for an archive have its map.
 pub recovers_map : RecoversMap
 recovers_map root files a recovers =
     let valid = recovers.valid in
@@ -28,7 +28,7 @@ recovers_map root files a recovers =
       };
     }
 
--- and no damage
+-- Files that stand for an archive have no damage.
 pub recovers_undamaged : RecordsDiffer → ReadOrDamaged → EntriesDiffer → EpochsDiffer → RecoversUndamaged
 recovers_undamaged records either entries epochs root files a recovers =
     let has = recovers_map root files a recovers in (

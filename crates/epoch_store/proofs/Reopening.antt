@@ -1,9 +1,11 @@
--- An archive is opened: what its files stand for before the sync they stand for behind it, and the store keeps it.
+-- An archive is opened: its files stand for the same before the sync and after it, and the store
+-- keeps it.
 use Rattle.std.specs.Prelude.{◌≡◌, ◌-◌, ◌*◌, ◌<◌, ◌≤◌, ℕ, zero, suc, List, [], ◌∷◌, length, get_or, unwrap_or, Option, Some, None, Result, Ok, Err, refl}
 use Rattle.std.specs.List.{flat_map}
 use Rattle.std.proofs.Common.{◌∙◌, sym, ap, subst, inl, inr, arith}
 use Rattle.disk_model.specs.declared.name.FileName.{FileName}
-use Rattle.disk_model.specs.Disk.{File, Files, Content, Image, Told, WhereTold, Unchanged, Synced, Within, exact, bytes_of, ReadsFit}
+use Rattle.disk_model.specs.Disk.{File, Files, Content, Image, Told, WhereTold, Unchanged, Synced, Within, exact, bytes_of, ReadsFit, LeavesOnly}
+use Rattle.disk_model.specs.Moments.{joined}
 use Rattle.disk_model.specs.Synced.{settled_image}
 use Rattle.arch_model.specs.Archives.{Archive, in_epoch}
 use Rattle.arch_model.specs.Epochs.{epoch_bytes}
@@ -28,20 +30,21 @@ use Rattle.epoch_store.specs.Laws.{RecoversOne}
 use Rattle.epoch_store.specs.Openings.{archive_of, HasMap, OpenedRecovers, RecoversUndamaged}
 use Rattle.epoch_store.specs.Opens.{RecoversOf, AllRecoverOf, ReadsAs, Opens, IsWant, IsOnlySynced, SyncsBy, RefusesBefore}
 use Rattle.epoch_store.specs.Recovery.{map_bytes, bytes_in, Recovers, RecoversBy}
-use Rattle.epoch_store.specs.Settling.{IsFound, FoundOn, OnDisk, TellsAs}
+use Rattle.epoch_store.specs.Settling.{IsFound, FoundOn, OnDisk, TellsAs, AreOthers, ToSweep}
 use Rattle.epoch_store.specs.Stores.{View, IsStoreOf, HasSizes, InEpochs, stored_behind}
 use Rattle.epoch_store.proofs.Mapped.{map_length}
 use Rattle.epoch_store.proofs.Opening.{fronts_by}
 use Rattle.epoch_store.proofs.SweepSteps.{current_root}
 use Rattle.epoch_store.proofs.UniqueRoots.{root_is_one, not_shut}
+use Rattle.epoch_store.proofs.Unnamed.{to_sweep}
 
--- what is found behind a sync is found of the files as they read before it
+-- What is found after a sync is found of the files as they read before it.
 pub found_before : (result : Result Found OpenRefusal) (k m : Option Content) → Told Synced k m → WhereTold (λ c. Finds (as_read c) result) m → WhereTold (λ c. Finds (as_read c) result) k
 found_before result None m synced found = tt
 found_before result (Some k) None synced found = absurd synced
 found_before result (Some k) (Some m) synced found = subst (λ (files : Files). Finds files result) (λ i. λ (name : FileName). synced.seen name i) found
 
--- calls that change nothing behind a sync leave only it
+-- A sync and calls after it that change nothing leave only the sync.
 pub only_synced : (k m n : Option Content) → Told Synced k m → Told Unchanged m n → Told IsOnlySynced k n
 only_synced None None None synced same = tt
 only_synced None None (Some n) synced same = absurd same
@@ -56,7 +59,7 @@ only_synced (Some k) (Some m) (Some n) synced same =
     } in
     subst (λ (c : Content). IsOnlySynced k c) (sym one) first
 
--- so do calls that change nothing behind those
+-- Further calls that change nothing leave only the sync.
 pub still_synced : (k m n : Option Content) → Told IsOnlySynced k m → Told Unchanged m n → Told IsOnlySynced k n
 still_synced None None None synced same = tt
 still_synced None None (Some n) synced same = absurd same
@@ -65,7 +68,7 @@ still_synced (Some k) None n synced same = absurd synced
 still_synced (Some k) (Some m) None synced same = absurd same
 still_synced (Some k) (Some m) (Some n) synced same = let one : n ≡ m = (λ i. λ (name : FileName). same name i) in subst (λ (c : Content). IsOnlySynced k c) (sym one) synced
 
--- what a call behind the sync refuses leaves only it
+-- An error of a call after the sync leaves only the sync.
 pub refused_synced : {T : Type 0} (result : Result T OpenRefusal) (k n : Option Content) → Told IsOnlySynced k n → SyncsBy result k n
 refused_synced (Ok found) k n synced = synced
 refused_synced (Err NoArchive) k n synced = synced
@@ -73,14 +76,14 @@ refused_synced (Err (Damaged file at)) k n synced = synced
 refused_synced (Err DiskFault) k n synced = tt
 refused_synced (Err NoMemory) k n synced = synced
 
--- a crash of a disk at rest leaves what it stands for
+-- A crash of a settled disk leaves what it stands for.
 pub found_image : (root : Root) (slot : ℕ) (map : List ℕ) (epochs : ℕ → List ℕ) (k : Option Content) (image : Files) → FoundOn root slot map epochs k → Image k image → StandsFor root map epochs image
 found_image root slot map epochs None image found left = absurd found
 found_image root slot map epochs (Some k) image found left =
     let one : image ≡ as_read k = (λ i. λ (name : FileName). settled_image k image found.rests.settled left name i) in
     subst (StandsFor root map epochs) (sym one) found.stands
 
--- an epoch below 64 is one up to 63
+-- An epoch below 64 is one up to 63.
 pub in_epochs : (es : List StoredEntry) → AreBefore 64 es → InEpochs es
 in_epochs [] before i e is = let wrong : None ≡ Some e = is in cc
 in_epochs (x ∷ xs) before zero e is =
@@ -88,12 +91,12 @@ in_epochs (x ∷ xs) before zero e is =
     subst (λ (s : StoredEntry). s.epoch ≤ 63) (ap (λ (o : Option StoredEntry). unwrap_or o e) is) (omega (arith, low))
 in_epochs (x ∷ xs) before (suc i) e is = in_epochs xs before.1 i e is
 
--- a root file with a current root has its size
+-- A root file with a current root has its size.
 sized_root : (slot : ℕ) (body : List ℕ) (file : File) → IfThere (Current slot body) file → length (bytes_of file) ≡ 4096
 sized_root slot body None there = absurd there
 sized_root slot body (Some bytes) there = there.size
 
--- what stands for bytes of the named lengths is found so behind the sync
+-- Files that stand for bytes of the named lengths still do after the sync.
 found_so : (root : Root) (slot : ℕ) (map : List ℕ) (epochs : ℕ → List ℕ) (k m : Content) → IsOnlySynced k m → IsCurrentRoot root slot (as_read k) → StandsFor root map epochs (as_read k)
     → root.map.length ≡ length map → ((e : ℕ) → e < 64 → (get_or root.epochs e no_place).length ≡ length (epochs e)) → IsFound root slot map epochs m
 found_so root slot map epochs k m synced current stands map_long epochs_long =
@@ -109,7 +112,7 @@ found_so root slot map epochs k m synced current stands map_long epochs_long =
       epochs_long = epochs_long;
     }
 
--- the size of the root file behind the sync
+-- The size of the root file after the sync.
 pub found_size : (found : Found) (k m : Option Content) → WhereTold (λ c. IsFoundIn (as_read c) found) k → Told IsOnlySynced k m → WhereTold HasRootSize m
 found_size found None None is synced = tt
 found_size found None (Some m) is synced = absurd synced
@@ -120,18 +123,18 @@ module _ (found : Found) (files : Files) (is : IsFoundIn files found) where
   root : Root
   root = found.root
 
-  -- the files have this root
+  -- The files have this root.
   has_root : IfThere (HasRoot (spelling found.root)) (files root_name)
   has_root = current_root found.slot (spelling found.root) (files root_name) is.root.current
 
-  -- the archive that they stand for, they stand for by this root
+  -- The files stand for their archive by this root.
   by_root : SpellingsDiffer → (a : Archive) → Recovers files a → RecoversBy found.root files a
   by_root spellings a r =
       let one : r.0 ≡ found.root =
       spellings r.0 found.root r.1.names.fits is.root.fits r.1.names.is_root is.root.is_root (root_is_one (files root_name) (spelling r.0) (spelling found.root) r.1.stands.current has_root) in
       subst (λ (s : Root). RecoversBy s files a) one r.1
 
-  -- and its entries are those that were read
+  -- The archive's entries are those that were read.
   kept_is : RecoversOne → OpenedRecovers → (a : Archive) → RecoversBy found.root files a → found.entries.items ≡ stored_behind [] a.entries
   kept_is one opened a r =
       let map : HasMap found.root files is.records = record { is_root = is.root.is_root; fits = is.root.fits; cache = r.names.cache; current = has_root; count = is.has.count; begins = is.has.begins } in
@@ -139,14 +142,14 @@ module _ (found : Found) (files : Files) (is : IsFoundIn files found) where
       let same : archive_of found.root is.read.entries ≡ a = one files (archive_of found.root is.read.entries) a (found.root, read) (found.root, r) in
       is.read.kept_are ∙ ap (λ (b : Archive). stored_behind [] b.entries) same
 
--- what was found of an archive is found so behind the sync
+-- What was found of an archive is found so after the sync.
 found_archive : (found : Found) (a : Archive) (k m : Content) → IsFoundIn (as_read k) found → RecoversBy found.root (as_read k) a → IsOnlySynced k m → IsFound found.root found.slot (map_bytes a) (bytes_in a) m
 found_archive found a k m is r synced =
     let map_long : found.root.map.length ≡ length (map_bytes a) =
     r.names.is_root.map_length ∙ (ap (λ (n : ℕ). 28 * (n - 1)) r.names.next ∙ sym (map_length a r.valid)) in
     found_so found.root found.slot (map_bytes a) (bytes_in a) k m synced is.root r.stands map_long r.names.epochs
 
--- and so is whatever was found, a cache named or none
+-- Whatever was found is found so after the sync, with or without a cache.
 found_any : (found : Found) (k m : Content) (is : IsFoundIn (as_read k) found) → IsOnlySynced k m → IsFound found.root found.slot (flat_map record_bytes is.records) (λ (e : ℕ). epoch_bytes (in_epoch is.read.entries e)) m
 found_any found k m is synced =
     let size = records_length 1 is.records is.has.begins.valid in
@@ -160,16 +163,16 @@ found_any found k m is synced =
     })
     map_long is.read.opened.whole.lengths
 
--- the view of what was found
+-- The view of what was found.
 abbrev pub view_of : Found → View
 view_of found = record { root = found.root; slot = found.slot; entries = found.entries.items }
 
--- a file of bytes has them
+-- A file of bytes has them.
 bytes_filed : (bytes : List ℕ) (file : File) → file ≡ file_of bytes → bytes_of file ≡ bytes
 bytes_filed [] file is = ap bytes_of is
 bytes_filed (b ∷ bs) file is = ap bytes_of is
 
--- the files have their sizes in the end
+-- The files have their sizes at the end.
 sized_so : (v : View) (map : List ℕ) (epochs : ℕ → List ℕ) (m : Content) (n : Option Content) → IsFound v.root v.slot map epochs m → OnDisk v.root v.slot map epochs n → WhereTold (HasSizes v) n
 sized_so v map epochs m None found on = tt
 sized_so v map epochs m (Some n) found on =
@@ -199,13 +202,13 @@ opened_sizes found (Some k) (Some m) n is synced done tells =
     let epochs : ℕ → List ℕ = λ e. epoch_bytes (in_epoch is.read.entries e) in
     sized_so (view_of found) map epochs m n so (done map epochs so)
 
--- a crash before anything is done leaves files of those that may be
+-- A crash before anything is done leaves files of one of these archives.
 pub at_first : (may : List (Option Archive)) (k : Option Content) (image : Files) → AllRecoverOf may k → Image k image → RecoversOf may image
 at_first may None image all left = absurd all
 at_first may (Some k) image all left = all image left
 
 module _ (spellings : SpellingsDiffer) where
-  -- the store is the archive's, and the disk its own
+  -- The store is the archive's, and the disk its own.
   pub opened_store : RecoversOne → OpenedRecovers → (found : Found) (a : Archive) (k m n : Option Content) → WhereTold (λ c. IsFoundIn (as_read c) found) k → ReadsAs a k → Told IsOnlySynced k m
       → ((map : List ℕ) (epochs : ℕ → List ℕ) → FoundOn found.root found.slot map epochs m → OnDisk found.root found.slot map epochs n) → IsStoreOf (view_of found) a n
   opened_store one opened found a None m n is reads synced done = absurd reads
@@ -219,7 +222,7 @@ module _ (spellings : SpellingsDiffer) where
             let r = by_root found (as_read k) is spellings a reads in
             record { keeps = record { valid = r.valid; names = r.names; kept = kept_is found (as_read k) is one opened a r }; on = on }
 
-  -- while the disk is brought to rest, files stand for an archive that they might have stood for
+  -- While the disk is settled, files stand for an archive that they might have stood for.
   pub opening_stands : (may : List (Option Archive)) (found : Found) (k m : Option Content) → ReadsFit k → WhereTold (λ c. IsFoundIn (as_read c) found) k → AllRecoverOf may k → Told IsOnlySynced k m
       → (a : Archive) × FoundOn found.root found.slot (map_bytes a) (bytes_in a) m × ((image : Files) → StandsFor found.root (map_bytes a) (bytes_in a) image → RecoversOf may image)
   opening_stands may found None m fit is all synced = absurd all
@@ -231,16 +234,16 @@ module _ (spellings : SpellingsDiffer) where
         let r = by_root found (as_read k) is spellings a recovers in
         (a, found_archive found a k m is r synced, λ image stands. (Some a, in_may, (found.root, record { valid = r.valid; names = r.names; stands = stands })))
 
-  -- files that stand for an archive are not refused
+  -- Files that stand for an archive are opened.
   module _ (undamaged : RecoversUndamaged) (files : Files) (a : Archive) (recovers : Recovers files a) where
-    -- their current root is a root
+    -- Their current root is a root.
     root_undamaged : (at : ℕ) (file : File) → IfThere (HasRoot (spelling recovers.0)) file → slots.IsDamaged at (bytes_of file) → ⊥
     root_undamaged at None there damaged = absurd there
     root_undamaged at (Some bytes) there damaged =
         damaged.none recovers.0 recovers.1.names.fits recovers.1.names.is_root
         (root_is_one (Some bytes) (body_at bytes damaged.slot) (spelling recovers.0) (damaged.slot, damaged.current) there)
 
-    -- by which they stand for it
+    -- They stand for the archive by their current root.
     by_current : (root : Root) (slot : ℕ) → IsCurrentRoot root slot files → RecoversBy root files a
     by_current root slot current =
         let there = current_root slot (spelling root) (files root_name) current.current in
@@ -273,21 +276,21 @@ module _ (spellings : SpellingsDiffer) where
   opens_well undamaged a None refusal reads finds = absurd reads
   opens_well undamaged a (Some k) refusal reads finds = finds_well undamaged (as_read k) a reads refusal finds
 
--- what the search refuses is what opening is answered
+-- An error of the search is an error of opening.
 pub finds_opens : (refusal : OpenRefusal) (files : Files) → Finds files (Err refusal) → Opens files (Err refusal)
 finds_opens NoArchive files found = found
 finds_opens (Damaged file at) files found = found
 finds_opens DiskFault files found = tt
 finds_opens NoMemory files found = tt
 
--- and it leaves only the sync
+-- An error of the search leaves only the sync.
 pub refuses_before : (T U : Type 0) (refusal : OpenRefusal) (k n : Option Content) → SyncsBy {T = T} (Err refusal) k n → RefusesBefore {T = U} (Err refusal) k n
 refuses_before T U NoArchive k n synced = synced
 refuses_before T U (Damaged file at) k n synced = synced
 refuses_before T U DiskFault k n synced = tt
 refuses_before T U NoMemory k n synced = synced
 
--- bringing to rest refuses for the disk's fault or for memory alone
+-- Settling fails only because the disk failed or memory ran out.
 pub rest_opens : (refusal : OpenRefusal) (files : Files) → IsWant refusal → Opens files (Err refusal)
 rest_opens NoArchive files well = absurd well
 rest_opens (Damaged file at) files well = absurd well
@@ -299,3 +302,13 @@ rest_refuses U NoArchive k m n well synced same = absurd well
 rest_refuses U (Damaged file at) k m n well synced same = absurd well
 rest_refuses U DiskFault k m n well synced same = tt
 rest_refuses U NoMemory k m n well synced same = still_synced k m n synced (same refl)
+
+module _ (root : Root) (slot : ℕ) (map : List ℕ) (epochs : ℕ → List ℕ) (k0 k1 : Option Content) (found : FoundOn root slot map epochs k0) (same : Told Unchanged k0 k1) (names others : List FileName) (names_are : names ≡ others) (unnamed : WhereTold (AreOthers root others) k0) where
+  -- the files that are listed are to be swept
+  pub listed_to_sweep : ToSweep root slot map epochs names k1
+  listed_to_sweep = to_sweep root slot map epochs names k0 k1 found (subst (λ (l : List FileName). WhereTold (AreOthers root l) k0) (sym names_are) unnamed) same
+
+  -- what a crash leaves while files are listed and the disk is then swept
+  pub settling_leaves : {D : Type 0} (moment : D → ℕ) (left_since : D → ℕ → Files → Type 0) (disk mid new : D) → LeavesOnly moment left_since disk mid (Image k0) → LeavesOnly moment left_since mid new (StandsFor root map epochs) → LeavesOnly moment left_since disk new (StandsFor root map epochs)
+  settling_leaves moment left_since disk mid new lists sweeps =
+      joined moment left_since disk mid new (Image k0) (StandsFor root map epochs) (StandsFor root map epochs) lists sweeps (λ image. found_image root slot map epochs k0 image found) (λ image stands. stands)

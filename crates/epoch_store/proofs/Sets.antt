@@ -11,7 +11,7 @@ use Rattle.std.proofs.lemmas.Map.Text.{is_eq-slice_cmp}
 use Rattle.std.proofs.lemmas.Slice.Eq.{bytes_eq-Decides}
 use Rattle.epoch_store.specs.Joined.{AddsOne}
 
--- a key before one that it isn't after
+-- A key inserted before one that isn't less.
 insert_step : (t u rest later : Bool) (o : Ordering) → (o ≡ Equal → t ≡ u) → later ≡ (t || rest) → match_ordering o (t || (u || rest)) (u || rest) (u || later) ≡ (t || (u || rest))
 insert_step t u rest later Less same more = refl
 insert_step true true rest later Equal same more = refl
@@ -22,7 +22,7 @@ insert_step true false rest later Greater same more = more
 insert_step false true rest later Greater same more = refl
 insert_step false false rest later Greater same more = more
 
--- two tests that agree
+-- Two tests that agree.
 any_same : {K : Type 0} (p q : K → Bool) → ((k : K) → p k ≡ q k) → (ks : List K) → list_any p ks ≡ list_any q ks
 any_same p q same [] = refl
 any_same p q same (k ∷ ks) = ap (λ (b : Bool). b || list_any p ks) (same k) ∙ ap (λ (b : Bool). q k || b) (any_same p q same ks)
@@ -48,7 +48,7 @@ module _ {K : Type 0} (bytes : K → List ℕ) where
       has_by_order q (key_cmp k x) (k ∷ x ∷ xs) (x ∷ xs) (x ∷ insert_key key_cmp xs k)
       ∙ insert_step (bytes_eq q (bytes k)) (bytes_eq q (bytes x)) (has xs q) (has (insert_key key_cmp xs k) q) (key_cmp k x) (same_key q k x) (has_insert q k xs)
 
-  -- a key that was put in is there, and so is each that was there
+  -- A key that was inserted is there, and so is each that was there.
   pub adds_one : (key : K) (one : List ℕ) (old new : List K) (added : Bool) → bytes key ≡ one → added ≡ not (list_any (λ (k : K). is_eq (key_cmp key k)) old) → new ≡ insert_key key_cmp old key → AddsOne (has old) (has new) one added
   adds_one key one old new added is was put = record {
     was_new = was ∙ ap not (any_same (λ (k : K). is_eq (key_cmp key k)) (λ (k : K). bytes_eq (bytes key) (bytes k)) (λ k. is_eq-slice_cmp (bytes key) (bytes k)) old ∙ ap (has old) is);

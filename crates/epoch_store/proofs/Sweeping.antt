@@ -1,4 +1,4 @@
--- Tails are cut and other files are taken away, and all that the root names stands.
+-- While tails are cut and other files are removed, files stand for all that the root names.
 use Rattle.std.specs.Prelude.{◌≡◌, ◌≢◌, ◌⊎◌, ◌-◌, ◌<◌, ◌≤◌, ℕ, zero, suc, List, [], ◌∷◌, length, take, get_or, Some, None, is_some, refl}
 use Rattle.std.specs.List.{Contains}
 use Rattle.std.proofs.Common.{◌∙◌, sym, ap, subst, inl, inr, arith}
@@ -25,19 +25,20 @@ use Rattle.epoch_store.specs.Files.{map_file_of, epoch_file_of, cache_name, IsCa
 use Rattle.epoch_store.specs.Settling.{IsReadied, IsKept, IsToSweep, epoch_part_of, named_parts_of}
 use Rattle.epoch_store.proofs.Appends.{fronts_stay, map_isnt_root, epoch_isnt_root, epoch_isnt_map, epoch_isnt_cache, each_file}
 
--- What the root names stands at rest: its current root with the other slot ready, and the bytes of map and epochs.
+-- The files of a settled disk: the current root with the other slot ready, and the bytes of map and
+-- epochs.
 pub record StandsReady (root : Root) (slot : ℕ) (map : List ℕ) (epochs : ℕ → List ℕ) (k : Content) : Type 0 where
   pub ready : IfThere (Ready (1 - slot) (spelling root)) (k root_name).seen
   pub settled : IsSettled k
   pub map_front : Fronts map (k (map_file_of root)).seen
   pub epochs_front : (e : ℕ) → e < 64 → Fronts (epochs e) (k (epoch_file_of root e)).seen
 
--- the root is there
+-- The root is there.
 ready_root : (slot : ℕ) (body : List ℕ) (file : File) → IfThere (Ready (1 - slot) body) file → IfThere (HasRoot body) file
 ready_root slot body None there = absurd there
 ready_root slot body (Some file) there = (1 - (1 - slot), there.current)
 
--- so it is once the other slot is ready
+-- It is so once the other slot is ready.
 pub stands_ready : (root : Root) (slot : ℕ) (map : List ℕ) (epochs : ℕ → List ℕ) (others : List FileName) (k m : Content) → IsToSweep root slot map epochs others k → IsReadied slot (spelling root) k m → StandsReady root slot map epochs m
 stands_ready root slot map epochs others k m sweep readied = record {
   ready = readied.root;
@@ -46,14 +47,14 @@ stands_ready root slot map epochs others k m sweep readied = record {
   epochs_front = λ e below. subst (Fronts (epochs e)) (sym (readied.elsewhere (epoch_file_of root e) (epoch_isnt_root e (get_or root.epochs e no_place).gen_))) (sweep.found.stands.epochs_front e below);
 }
 
--- a name is an epoch's or not
+-- A name is an epoch's or not.
 epoch_or_not : (root : Root) (name : FileName) → ((e : ℕ) × (e < 64) × (name ≡ epoch_file_of root e)) ⊎ ((e : ℕ) → e < 64 → name ≢ epoch_file_of root e)
 epoch_or_not root name = elim (same_or_other (epoch_file_of root name.number) name) [
   | inl is ↦ elim (cases_lt name.number 64) [ inl below ↦ inl (name.number, below, is) | inr past ↦ inr (λ e below same. (let number : name.number ≡ e = ap (λ (n : FileName). n.number) same in absurd (omega (arith, number, below, past)))) ]
   | inr apart ↦ inr (λ e below same. apart (same ∙ ap (epoch_file_of root) (sym (ap (λ (n : FileName). n.number) same))))
 ]
 
--- a name is that of the root's cache or not
+-- A name is that of the root's cache or not.
 cache_or_not : (root : Root) (name : FileName) → IsCache root name ⊎ (IsCache root name → ⊥)
 cache_or_not root name = elim (same_or_other (cache_name root.cache.gen_) name) [
   | inl is ↦ elim (cases_lt 0 root.cache.length) [ inl some ↦ inl (some, is) | inr none ↦ inr (λ c. (let some = c.0 in absurd (omega (arith, some, none)))) ]
@@ -61,14 +62,14 @@ cache_or_not root name = elim (same_or_other (cache_name root.cache.gen_) name) 
 ]
 
 module _ (root : Root) (slot : ℕ) (map : List ℕ) (epochs : ℕ → List ℕ) (map_long : root.map.length ≡ length map) (epochs_long : (e : ℕ) → e < 64 → (get_or root.epochs e no_place).length ≡ length (epochs e)) where
-  -- each listed part is the map's, or an epoch's
+  -- Each listed part is the map's, or an epoch's.
   which_part : (part : FilePart) → Contains (named_parts_of root) part → (part ≡ record { file = map_file_of root; length = root.map.length }) ⊎ ((e : ℕ) × (e < 64) × (part ≡ epoch_part_of root e))
   which_part part among = by among.0 (omega (arith, among.1)) among.2 where
     by : (i : ℕ) → i < 65 → get_or (named_parts_of root) i part ≡ part → (part ≡ record { file = map_file_of root; length = root.map.length }) ⊎ ((e : ℕ) × (e < 64) × (part ≡ epoch_part_of root e))
     by zero below is = inl (sym is)
     by (suc i) below is = inr (i, omega (arith, below), sym is ∙ (get_or-map-range_with_len (epoch_part_of root) 0 64 i i part (omega (arith, below)) (omega arith)))
 
-  -- the part of the map is listed, and is the shortest of its file
+  -- The part of the map is listed, and is the shortest of its file.
   map_shortest : IsShortest (named_parts_of root) (record { file = map_file_of root; length = root.map.length })
   map_shortest = record {
     listed = (0, omega arith, refl);
@@ -78,7 +79,7 @@ module _ (root : Root) (slot : ℕ) (map : List ℕ) (epochs : ℕ → List ℕ)
     ];
   }
 
-  -- and that of each epoch
+  -- The part of each epoch is listed, and is the shortest of its file.
   epoch_shortest : (e : ℕ) → e < 64 → IsShortest (named_parts_of root) (epoch_part_of root e)
   epoch_shortest e below = record {
     listed = (suc e, (let n = length-map-range_with_len (epoch_part_of root) 0 64 in omega (arith, n, below)), get_or-map-range_with_len (epoch_part_of root) 0 64 e e (epoch_part_of root e) below (omega arith));
@@ -93,18 +94,18 @@ module _ (root : Root) (slot : ℕ) (map : List ℕ) (epochs : ℕ → List ℕ)
         let long : other.length ≡ (get_or root.epochs e no_place).length = ap (λ (p : FilePart). p.length) is ∙ ap (λ (n : ℕ). (get_or root.epochs n no_place).length) number in
         omega (arith, long)
 
-  -- the root file isn't listed
+  -- The root file isn't listed.
   root_alone : (k : Content) → IsLeftAlone (named_parts_of root) k root_name
   root_alone k part among is = elim (which_part part among) [
     | inl same ↦ absurd (map_isnt_root root.map.gen_ (sym (ap (λ (p : FilePart). p.file) same) ∙ is))
     | inr e ↦ absurd (epoch_isnt_root e.0 (get_or root.epochs e.0 no_place).gen_ (sym (ap (λ (p : FilePart). p.file) e.2) ∙ is))
   ]
 
-  -- a file that fits is the one that is read, at rest
+  -- A crash leaves a settled file as it reads.
   at_rest : (k : Content) (name : FileName) (file : File) → IsSettled k → Fits (k name).sure file → file ≡ (k name).seen
   at_rest k name file settled fits = Fits-exact (k name).seen file (Fits-Within (k name).sure (exact (k name).seen) file (settled name) fits)
 
-  -- while tails are cut, all stands
+  -- While tails are cut, files stand for all that the root names.
   pub cutting_stands : (k : Content) (image : Files) → StandsReady root slot map epochs k → KeepsFronts (named_parts_of root) k image → StandsFor root map epochs image
   cutting_stands k image stands keeps = record {
     current = subst (IfThere (HasRoot (spelling root))) (sym (at_rest k root_name (image root_name) stands.settled (keeps.others root_name (root_alone k)))) (ready_root slot (spelling root) (k root_name).seen stands.ready);
@@ -116,7 +117,7 @@ module _ (root : Root) (slot : ℕ) (map : List ℕ) (epochs : ℕ → List ℕ)
         fronts_stay (epochs e) (get_or root.epochs e no_place).length o.file (image (epoch_file_of root e)) (epochs_long e below) (subst (Fronts (epochs e)) (sym (at_rest k (epoch_file_of root e) o.file stands.settled o.fits)) (stands.epochs_front e below)) o.same o.long;
   }
 
-  -- what is cut reads as its bytes
+  -- A file that is cut reads as its bytes.
   cut_bytes : (bytes : List ℕ) (n : ℕ) (old new : File) → n ≡ length bytes → Fronts bytes old → new ≡ cut_file n old → bytes_of new ≡ bytes
   cut_bytes bytes n None new size f is = ap bytes_of is ∙ sym (nil_from_length bytes (let l = f.long in omega (arith, l)))
   cut_bytes bytes n (Some old) new size f is = ap bytes_of is ∙ (ap (λ (m : ℕ). take m old) size ∙ f.front)
@@ -131,7 +132,7 @@ module _ (root : Root) (slot : ℕ) (map : List ℕ) (epochs : ℕ → List ℕ)
   cut_none n (Some old) new is none = let wrong : Some old ≡ None = none in cc
 
   module _ (others : List FileName) (k0 k1 k2 : Content) (sweep : IsToSweep root slot map epochs others k0) (readied : IsReadied slot (spelling root) k0 k1) (cut : AreCut (named_parts_of root) k1 k2) where
-    -- other files are missing where they were
+    -- Other files that were missing are missing.
     cut_missing : (name : FileName) → name ≢ root_name → (k0 name).seen ≡ None → (k2 name).seen ≡ None
     cut_missing name apart none =
         let before : (k1 name).seen ≡ None = readied.elsewhere name apart ∙ none in
@@ -146,11 +147,11 @@ module _ (root : Root) (slot : ℕ) (map : List ℕ) (epochs : ℕ → List ℕ)
             | inr e ↦ absurd (no_epoch e.0 e.1 (sym is ∙ ap (λ (p : FilePart). p.file) e.2))
           ])) ∙ before
 
-    -- a file that the root names isn't one of the others
+    -- A file that the root names isn't one of the others.
     not_other : (name : FileName) → IsKept root epochs name → Contains others name → ⊥
     not_other name kept among = sweep.spared name among kept
 
-    -- while the others are taken away, all stands
+    -- While the others are removed, files stand for all that the root names.
     pub removing_stands : (image : Files) → ReadsFit (Some k2) → ((i : Files) → Image (Some k2) i → StandsFor root map epochs i) → IsFewer others k2 image → StandsFor root map epochs image
     removing_stands image fit each fewer = record {
       current = each_file k2 root_name (IfThere (HasRoot (spelling root))) fit (λ i left. (each i left).current) (image root_name) (fewer.others root_name (not_other root_name (inl refl)));
@@ -164,7 +165,7 @@ module _ (root : Root) (slot : ℕ) (map : List ℕ) (epochs : ℕ → List ℕ)
           (fewer.others (epoch_file_of root e) (not_other (epoch_file_of root e) (inr (inr (inl (e, below, refl, λ none. (let wrong : length {A = ℕ} [] ≡ length (b ∷ bs) = ap length (sym none ∙ some) in absurd (omega (arith, wrong)))))))))
 
     module _ (k3 k4 : Content) (stands : StandsReady root slot map epochs k1) (removed : AreRemoved others k2 k3) (synced : Synced k3 k4) where
-      -- how a named file reads in the end
+      -- How a named file reads at the end.
       reads_kept : (name : FileName) → IsKept root epochs name → (k4 name).seen ≡ (k2 name).seen
       reads_kept name kept = synced.seen name ∙ ap (λ (k : Kept). k.seen) (removed.others name (not_other name kept))
 
@@ -176,7 +177,7 @@ module _ (root : Root) (slot : ℕ) (map : List ℕ) (epochs : ℕ → List ℕ)
           ap bytes_of (reads_kept (map_file_of root) (inr (inl refl)))
           ∙ cut_bytes map root.map.length (k1 (map_file_of root)).seen (k2 (map_file_of root)).seen map_long stands.map_front (cut.listed (record { file = map_file_of root; length = root.map.length }) map_shortest).seen
 
-      -- a file that isn't named is missing
+      -- A file that isn't named is missing.
       missing : (name : FileName) → (IsKept root epochs name → ⊥) → (k4 name).seen ≡ None
       missing name unnamed = by (k0 name).seen refl where
         by : (seen : File) → (k0 name).seen ≡ seen → (k4 name).seen ≡ None
@@ -203,7 +204,7 @@ module _ (root : Root) (slot : ℕ) (map : List ℕ) (epochs : ℕ → List ℕ)
             reads_kept (epoch_file_of root e) (inr (inr (inl (e, below, refl, there))))
             ∙ cut_there (epochs e) (get_or root.epochs e no_place).length (k1 (epoch_file_of root e)).seen (k2 (epoch_file_of root e)).seen (epochs_long e below) (stands.epochs_front e below) (cut.listed (epoch_part_of root e) (epoch_shortest e below)).seen there
 
-      -- a file of bytes has them at its front
+      -- A file of bytes starts with them.
       whole_front : (bytes : List ℕ) (file : File) → bytes_of file ≡ bytes → Fronts bytes file
       whole_front bytes file is = record { long = (let n = ap length is in omega (arith, n)); front = ap (take (length bytes)) is ∙ take-length bytes }
 
@@ -211,7 +212,7 @@ module _ (root : Root) (slot : ℕ) (map : List ℕ) (epochs : ℕ → List ℕ)
       file_front [] file is = whole_front [] file (ap bytes_of is)
       file_front (b ∷ bs) file is = whole_front (b ∷ bs) file (ap bytes_of is)
 
-      -- the disk at rest is exactly what the root names
+      -- The settled disk is exactly what the root names.
       pub swept : ReadsFit (Some k4) → IsOn root slot map epochs k4
       swept fit = record {
         images = λ image left. stands_so image (λ name. synced_image k3 k4 image synced left name);

@@ -1,4 +1,4 @@
--- Where the text of an entry stands in the file of its epoch.
+-- Where the text of an entry is in the file of its epoch.
 use Rattle.std.specs.Prelude.{◌≡◌, ◌≢◌, ◌+◌, ◌-◌, ◌<◌, ◌≤◌, ◌==◌, ℕ, zero, suc, true, List, [], ◌∷◌, ◌++◌, codes, length, take, drop, slice_get, get_or, Option, Some, None, Ok, Err, min, unwrap_or, refl}
 use Rattle.std.specs.Fmt.{decimal}
 use Rattle.std.specs.List.{AllByRecursion}
@@ -28,11 +28,11 @@ use Rattle.disk_model.specs.declared.name.FileName.{FileName}
 use Rattle.disk_model.specs.Disk.{HasRead, WhereTold, Files, Kept, Image, Fits, Told, Unchanged}
 use Rattle.epoch_store.specs.Reads.{StandsAt, IsQuiet, GivesText, FindsText, GivesTextOf, text_if}
 
--- two items that are the same
+-- Two items that are equal.
 item_of : {X : Type 0} {x y : X} → Some x ≡ Some y → x ≡ y
 item_of {X} {x} {y} is = ap (λ (o : Option X). unwrap_or o x) is
 
--- an entry of an archive, and what is kept of it
+-- An entry of an archive, and what is kept of it.
 record IsKeptOf (before es : List Entry) (i : ℕ) (s : StoredEntry) : Type 0 where
   pub front : List Entry
   pub entry : Entry
@@ -62,12 +62,12 @@ kept_found before (e ∷ es) (suc i) s is =
       kept = r.kept ∙ ap (λ (b : List Entry). stored_at b r.entry) (append_assoc before (e ∷ []) r.front);
     }
 
--- what all have, one in their midst has
+-- What holds of all items holds of one among them.
 one_of_all : (P : Entry → Type 0) (xs : List Entry) (e : Entry) (ys : List Entry) → AllByRecursion P (xs ++ e ∷ ys) → P e
 one_of_all P [] e ys all = all.0
 one_of_all P (x ∷ xs) e ys all = one_of_all P xs e ys all.1
 
--- a text stands at a place of bytes
+-- Bytes have a text at an offset.
 record Divided (bytes : List ℕ) (place : ℕ) (text : List ℕ) : Type 0 where
   pub before : List ℕ
   pub behind : List ℕ
@@ -90,7 +90,7 @@ divided_before bytes more place text d = record {
   len = d.len;
 }
 
--- so many bytes from there on are the text
+-- The bytes from there on, as many as the text has, are the text.
 divided_reads : (bytes : List ℕ) (place : ℕ) (text : List ℕ) → Divided bytes place text → (place + length text ≤ length bytes) × (take (length text) (drop place bytes) ≡ text)
 divided_reads bytes place text d =
     let size : length bytes ≡ length (d.before ++ (text ++ d.behind)) = ap length d.is in
@@ -101,7 +101,7 @@ divided_reads bytes place text d =
     ap (λ (n : ℕ). drop n bytes) (sym len) ∙ (ap (drop (length d.before)) d.is ∙ drop-append_seam d.before (text ++ d.behind)) in
     (omega (arith, size, parts, rest, len), ap (take (length text)) dropped ∙ take-append_seam text d.behind)
 
--- the bytes of entries with one in their midst
+-- The bytes of entries with one among them.
 entries_split : (parent : Option Id20) (xs : List Entry) (e : Entry) (ys : List Entry)
     → entries_bytes parent (xs ++ e ∷ ys) ≡ entries_bytes parent xs ++ (bytes_behind (last_commit parent xs) (in_file e) ++ entries_bytes (Some (commit_id message_name e.text e.moment (last_commit parent xs))) ys)
 entries_split parent [] e ys = refl
@@ -119,7 +119,7 @@ in_epoch_split xs e ys =
     let same : (e.epoch == e.epoch) ≡ true = grind (arith, nat_tests) in
     filter-append (λ (f : Entry). f.epoch == e.epoch) xs (e ∷ ys) ∙ rw same refl
 
--- a text in the bytes of a blob: behind its type, its size and NUL
+-- A text in the bytes of a blob: after its type, its size and NUL.
 sized_text : (digits text more : List ℕ) → Divided ((codes "blob " ++ (digits ++ 0 ∷ text)) ++ more) (6 + length digits) text
 sized_text digits text more = record {
   before = codes "blob " ++ (digits ++ 0 ∷ []);
@@ -132,7 +132,7 @@ entry_text : (name : ℕ) (text : List ℕ) (moment : ℕ) (parent : Option Id20
 unfolding entry_bytes
 entry_text name text moment parent = sized_text (decimal (length text)) text (tree_of name text ++ commit_text name text moment parent)
 
--- a text in the bytes of its epoch
+-- A text in the bytes of its epoch.
 epoch_text : (xs : List Entry) (e : Entry) (ys : List Entry) → Divided (epoch_bytes (xs ++ e ∷ ys)) (8 + length (entries_bytes None xs) + blob_front e.text) e.text
 epoch_text xs e ys =
     let parent = last_commit None xs in
@@ -145,14 +145,15 @@ epoch_text xs e ys =
     subst (λ (n : ℕ). Divided (epoch_bytes (xs ++ e ∷ ys)) n e.text) place
     (subst (λ (b : List ℕ). Divided b (length magic + (length (entries_bytes None xs) + blob_front e.text)) e.text) (sym (epoch_split xs e ys ∙ ap (λ (b : List ℕ). magic ++ b) (entries_split None xs e ys))) whole)
 
--- what stands at the front of a file stands in the file
+-- A text in the bytes that a file starts with is in the file.
 in_fronts : (bytes : List ℕ) (file : File) (place : ℕ) (text : List ℕ) → Fronts bytes file → Divided bytes place text → Divided (bytes_of file) place text
 in_fronts bytes file place text fronts d =
     let whole : bytes ++ drop (length bytes) (bytes_of file) ≡ bytes_of file =
     ap (λ (b : List ℕ). b ++ drop (length bytes) (bytes_of file)) (sym fronts.front) ∙ take-append-drop (length bytes) (bytes_of file) in
     subst (λ (b : List ℕ). Divided b place text) whole (divided_before bytes (drop (length bytes) (bytes_of file)) place text d)
 
--- The text of an entry that a store keeps stands on its disk where the store says, and has the size and the blob id of the entry.
+-- The text of an entry that a store keeps is on its disk at the offset that the store has, and has
+-- the size and the blob id of the entry.
 pub record IsTextAt (v : View) (a : Archive) (k : Content) (i : ℕ) (s : StoredEntry) : Type 0 where
   pub entry : Entry
   pub here : slice_get a.entries i ≡ Some entry
@@ -180,7 +181,7 @@ text_stands v a k own i s is =
     let reads = divided_reads (bytes_of file.seen) place e.text inside in
     subst P (sym r.kept) (record { entry = e; here = r.here; size = refl; blob = refl; long = reads.0; stands = reads.1 })
 
--- a refusal without damage leaves the bytes, and says no more
+-- An error without damage leaves the bytes, and says no more.
 pub quiet_text : (s : StoredEntry) (old new : List ℕ) (e : TextRefusal) → IsQuiet e → new ≡ old → GivesText s old new (Err e)
 quiet_text s old new DiskFault quiet is = is
 quiet_text s old new NoMemory quiet is = is
@@ -196,20 +197,20 @@ quiet_archive a i old new DiskFault quiet = tt
 quiet_archive a i old new NoMemory quiet = tt
 quiet_archive a i old new (Damaged named found) quiet = absurd quiet
 
--- what stands at a place, on the disk of an archive, is the text of its entry
+-- The bytes at the offset, on the disk of an archive, are the text of its entry.
 stands_is_text : (v : View) (a : Archive) (k : Content) (i : ℕ) (s : StoredEntry) (text : List ℕ) → IsTextAt v a k i s
     → StandsAt (bytes_of (k (epoch_file_of v.root s.epoch)).seen) s.seen.text_at s.seen.size text → (text_if (slice_get a.entries i) ≡ Some text) × (blob_id_of text ≡ s.seen.blob)
 stands_is_text v a k i s text at stands =
     let same : text ≡ at.entry.text = stands at.long ∙ at.stands in
     (ap text_if at.here ∙ ap (λ (t : List ℕ). Some t) (sym same), ap blob_id_of same ∙ sym at.blob)
 
--- so it is read, and no damage is found
+-- So the text is read, and no damage is found.
 pub right_text : (v : View) (a : Archive) (k : Option Content) (i : ℕ) (s : StoredEntry) (text : List ℕ) → IsStoreOf v a k → slice_get v.entries i ≡ Some s
     → WhereTold (λ (c : Content). StandsAt (bytes_of (c (epoch_file_of v.root s.epoch)).seen) s.seen.text_at s.seen.size text) k → (text_if (slice_get a.entries i) ≡ Some text) × (blob_id_of text ≡ s.seen.blob)
 right_text v a None i s text own is stands = absurd own
 right_text v a (Some k) i s text own is stands = stands_is_text v a k i s text (text_stands v a k own i s is) stands
 
--- a read into room of a size gives what stands at a place
+-- A read into room of a size gives the bytes at the offset.
 stands_read : (file before after : List ℕ) (place size n : ℕ) → length before ≡ size → n ≡ min (length before) (length file - place) → after ≡ take n (drop place file) ++ drop n before → StandsAt file place size after
 stands_read file before after place size n len count bytes long =
     let all : n ≡ size = omega (arith, len, count, long) in
@@ -228,28 +229,28 @@ pub stands_told : (k : Option Content) (file : FileName) (before after : List �
 stands_told None file before after place size n len read = tt
 stands_told (Some k) file before after place size n len read = stands_read (bytes_of (k file).seen) before after place size n len read.count read.bytes
 
--- what is unchanged stays
+-- Unchanged content is unchanged.
 pub unchanged_itself : (k : Option Content) → Told Unchanged k k
 unchanged_itself None = tt
 unchanged_itself (Some k) = λ name. refl
 
--- and has the same images
+-- Unchanged content has the same images.
 pub same_images : (k m : Option Content) (image : Files) → Told Unchanged k m → Image m image → Image k image
 same_images None m image same left = tt
 same_images (Some k) None image same left = absurd same
 same_images (Some k) (Some m) image same left = λ name. let P : Kept → Type 0 = λ kept. Fits kept.sure (image name) in subst P (same name) (left name)
 
--- the entry that is looked up
+-- The entry that is looked up.
 pub here_is : (v : View) (root : Root) (slot : ℕ) (es : List StoredEntry) (i : ℕ) (e : StoredEntry) → ◌≡◌ {A = View} (record { root = root; slot = slot; entries = es }) v → e ≡ get_or es i e → i < length v.entries → slice_get v.entries i ≡ Some e
 here_is v root slot es i e view is within =
     let same : es ≡ v.entries = ap (λ (w : View). w.entries) view in
     slice_get-get_or v.entries i e within ∙ ap (λ (f : StoredEntry). Some f) (sym (is ∙ ap (λ (l : List StoredEntry). get_or l i e) same))
 
--- is the only one at its place
+-- There is only one entry at an index.
 pub one_here : (es : List StoredEntry) (i : ℕ) (s e : StoredEntry) → slice_get es i ≡ Some e → slice_get es i ≡ Some s → e ≡ s
 one_here es i s e here is = item_of (sym here ∙ is)
 
--- what is told of another text
+-- What is told of another text.
 pub tells_damage : (s e : StoredEntry) (old : List ℕ) (found : Id20) → e ≡ s → found ≢ e.seen.blob → GivesText s old old (Err (Damaged e.seen.blob found))
 tells_damage s e old found is apart = (refl, ap (λ (f : StoredEntry). f.seen.blob) is, apart)
 
@@ -260,7 +261,7 @@ finds_damage root s e old text file named found (Some k) is file_is found_is sta
     let there : StandsAt (bytes_of (k (epoch_file_of root e.epoch)).seen) e.seen.text_at e.seen.size text = subst (λ (f : FileName). StandsAt (bytes_of (k f).seen) e.seen.text_at e.seen.size text) file_is stands in
     (text, subst (λ (f : StoredEntry). StandsAt (bytes_of (k (epoch_file_of root f.epoch)).seen) f.seen.text_at f.seen.size text) is there, found_is)
 
--- what is said of the text that is read
+-- What is said of the text that is read.
 pub gives_text : (s e : StoredEntry) (old new text : List ℕ) → e ≡ s → length text ≡ e.seen.size → blob_id_of text ≡ e.seen.blob → new ≡ old ++ text → GivesText s old new (Ok (tt {0}))
 gives_text s e old new text is size blob added = (text, record { size = size ∙ ap (λ (f : StoredEntry). f.seen.size) is; blob = blob ∙ ap (λ (f : StoredEntry). f.seen.blob) is }, added)
 
@@ -271,7 +272,7 @@ finds_text root s e old new text file (Some k) is file_is added stands =
     let there : StandsAt (bytes_of (k (epoch_file_of root e.epoch)).seen) e.seen.text_at e.seen.size text = subst (λ (f : FileName). StandsAt (bytes_of (k f).seen) e.seen.text_at e.seen.size text) file_is stands in
     (text, subst (λ (f : StoredEntry). StandsAt (bytes_of (k (epoch_file_of root f.epoch)).seen) f.seen.text_at f.seen.size text) is there, added)
 
--- the same of a file by its name
+-- The same for a file by its name.
 pub right_text_in : (v : View) (a : Archive) (k : Option Content) (i : ℕ) (e : StoredEntry) (text : List ℕ) (file : FileName) → IsStoreOf v a k → slice_get v.entries i ≡ Some e → file ≡ epoch_file_of v.root e.epoch
     → WhereTold (λ (c : Content). StandsAt (bytes_of (c file).seen) e.seen.text_at e.seen.size text) k → (text_if (slice_get a.entries i) ≡ Some text) × (blob_id_of text ≡ e.seen.blob)
 right_text_in v a k i e text file own here file_is stands =

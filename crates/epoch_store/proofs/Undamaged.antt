@@ -28,7 +28,7 @@ use Rattle.epoch_store.proofs.UniqueEntries.{filed, filed_is_one}
 use Rattle.epoch_store.proofs.Joins.{all_joined, only_here}
 use Rattle.epoch_store.proofs.Opening.{chain_of, last_is, entry_some, file_valid, not_here}
 
--- what holds of all of two lists holds of each
+-- What holds of all items of two lists holds of each list.
 all_front : {X : Type 0} (P : X → Type 0) (xs ys : List X) → AllByRecursion P (xs ++ ys) → AllByRecursion P xs
 all_front P [] ys all = tt
 all_front P (x ∷ xs) ys all = (all.0, all_front P xs ys all.1)
@@ -59,7 +59,7 @@ count_files : (es : List Entry) → length (map in_file es) ≡ length es
 count_files [] = refl
 count_files (e ∷ es) = let rest = count_files es in omega (arith, rest)
 
--- entries of the same records are as many in each epoch
+-- Entries with the same records are equally many in each epoch.
 count_step : (b : Bool) (x : Entry) (xs : List Entry) → length (cond b (x ∷ xs) xs) ≡ cond b 1 0 + length xs
 count_step true x xs = omega arith
 count_step false x xs = omega arith
@@ -77,7 +77,7 @@ count_same (x ∷ xs) (y ∷ ys) d is =
 filed_count : (xs ys : List Entry) (d : ℕ) → map record_of xs ≡ map record_of ys → length (filed xs d) ≡ length (filed ys d)
 filed_count xs ys d is = count_files (in_epoch xs d) ∙ (count_same xs ys d is ∙ sym (count_files (in_epoch ys d)))
 
--- entries of the same records, of which the files of their epochs say the same, are the same
+-- Entries with the same records and the same bytes in the files of their epochs are equal.
 tail_step : (b : Bool) (x y : Entry) (xs ys : List Entry) → map in_file (cond b (x ∷ xs) xs) ≡ map in_file (cond b (y ∷ ys) ys) → map in_file xs ≡ map in_file ys
 tail_step true x y xs ys is = let both : in_file x ∷ map in_file xs ≡ in_file y ∷ map in_file ys = is in cc
 tail_step false x y xs ys is = is
@@ -103,7 +103,7 @@ same_entries (x ∷ xs) (y ∷ ys) is files valid =
     let rest = same_entries xs ys tail (λ d less. tail_step (x.epoch == d) x y (in_epoch xs d) (in_epoch ys d) (tests d less)) valid.1 in
     λ i. record { number = (head i).number; epoch = (head i).epoch; text = (file i).text; moment = (file i).moment } ∷ rest i
 
--- entries whose records begin with those of others
+-- Entries whose records start with those of others.
 record Split (all xs : List Entry) (behind : List Record) : Type 0 where
   front : List Entry
   back : List Entry
@@ -120,12 +120,12 @@ split (e ∷ es) (x ∷ xs) behind is =
     let rest = split es xs behind tail in
     record { front = e ∷ rest.front; back = rest.back; is = ap (λ (l : List Entry). e ∷ l) rest.is; front_is = (λ i. head i ∷ rest.front_is i); back_is = rest.back_is }
 
--- one list is the front of another
+-- One list is a prefix of another.
 record IsFront (xs ys : List EpochEntry) : Type 0 where
   rest : List EpochEntry
   is : ys ≡ xs ++ rest
 
--- fronts of one length
+-- Prefixes of equal length.
 cut : (a b c d : List EpochEntry) → a ++ b ≡ c ++ d → length a ≡ length c → (a ≡ c) × (b ≡ d)
 cut [] b [] d is same = (refl, is)
 cut [] b (y ∷ ys) d is same = absurd (omega (arith, same))
@@ -136,7 +136,7 @@ cut (x ∷ xs) b (y ∷ ys) d is same =
     let rest = cut xs b ys d tail (omega (arith, same)) in
     ((λ i. head i ∷ rest.0 i), rest.1)
 
--- Entries begin with others, and these are behind them.
+-- Entries start with others, and these follow.
 record Shares (all xs : List Entry) (behind : List Record) (fronts : (d : ℕ) → d < 64 → IsFront (filed xs d) (filed all d)) : Type 0 where
   back : List Entry
   is : all ≡ xs ++ back
@@ -157,7 +157,7 @@ shares all xs behind fronts is valid =
       files = λ d less. (cuts d less).1;
     }
 
--- what two lists of entries have, of which the root names the same bytes in an epoch
+-- What two lists of entries have in common if the root names the same bytes of an epoch for both.
 same_filed : EpochsDiffer → (root : Root) (files : Files) (epoch d : ℕ) (all xs : List Entry) → RootFits root → AllByRecursion IsEntry all → AllByRecursion IsEntry xs → AreWhole root files 64 all → AreWhole root files epoch xs → d < 64 → d < epoch
     → filed all d ≡ filed xs d
 same_filed differ root files epoch d all xs fits valid also whole part less under =
@@ -165,7 +165,7 @@ same_filed differ root files epoch d all xs fits valid also whole part less unde
     let short : length (epoch_bytes (in_epoch all d)) < 2 ^ 64 = subst (λ (n : ℕ). n < 2 ^ 64) (whole.lengths d less) (fits.epochs d less).length in
     filed_is_one differ all xs d valid also short (front_is_one (files (epoch_file_of root d)) (epoch_bytes (in_epoch all d)) (epoch_bytes (in_epoch xs d)) size (whole.fronts d less) (part.fronts d under))
 
--- an entry of an epoch is found in it
+-- An entry of an epoch is found in it.
 found_in : (c : Entry) (cs : List Entry) → filed (c ∷ cs) c.epoch ≡ in_file c ∷ filed cs c.epoch
 found_in c cs = rw (same_test c.epoch c.epoch refl) refl
 
@@ -173,14 +173,14 @@ found_in c cs = rw (same_test c.epoch c.epoch refl) refl
 named_whole : (root : Root) (files : Files) (epoch : ℕ) (all : List Entry) → AreWhole root files 64 all → epoch < 64 → named_bytes root files epoch ≡ epoch_bytes (in_epoch all epoch)
 named_whole root files epoch all whole less = ap (λ (n : ℕ). take n (bytes_of (files (epoch_file_of root epoch)))) (whole.lengths epoch less) ∙ (whole.fronts epoch less).front
 
--- no epoch lacks its front
+-- No epoch lacks its magic.
 no_front_lost : (root : Root) (files : Files) (rs : List Record) (entries : List Entry) (epoch place : ℕ) → AreWhole root files 64 entries → epoch < 64 → LacksFront root files rs epoch place → ⊥
 no_front_lost root files rs entries epoch place whole less lost = by (in_epoch entries epoch) (named_whole root files epoch entries whole less) (whole.lengths epoch less) where
   by : (here : List Entry) → named_bytes root files epoch ≡ epoch_bytes here → named_length root epoch ≡ length (epoch_bytes here) → ⊥
   by [] is long = let some = lost.some in absurd (omega (arith, some, long))
   by (e ∷ es) is long = lost.lacks (ap (take 8) is ∙ take-append_seam magic (entries_bytes None (e ∷ es)))
 
--- no message is missing
+-- No message is missing.
 none_missing : EpochsDiffer → (root : Root) (files : Files) (rs : List Record) (entries : List Entry) (epoch place : ℕ) → RootFits root → AreOpened root files rs entries → LacksLast root files rs epoch place → ⊥
 none_missing differ root files rs entries epoch place fits opened lost =
     let fronts : (d : ℕ) → d < 64 → IsFront (filed lost.before d) (filed entries d) =
@@ -198,7 +198,7 @@ none_missing differ root files rs entries epoch place fits opened lost =
         let small = valid.0.epoch in
         let wrong : in_file c ∷ filed cs c.epoch ≡ [] = sym (found_in c cs) ∙ none c.epoch (omega (arith, small)) in cc
 
--- entries that stand at the front of others' bytes are their first ones
+-- Entries whose bytes start others' bytes are the first of them.
 pub record Prefix (parent : Option Id20) (xs ys : List EpochEntry) (rest : List ℕ) : Type 0 where
   pub more : List EpochEntry
   pub is : ys ≡ xs ++ more
@@ -221,7 +221,7 @@ prefix_of differ parent (x ∷ xs) (y ∷ ys) rest valid also short is =
     let first = one.0 in
     record { more = later.more; is = (λ i. first i ∷ later.is i); rest_is = later.rest_is }
 
--- some first entries of a map are its first ones
+-- The first entries of a list whose numbers rise.
 rise_front : (number epoch : ℕ) (xs ys : List Entry) → Rise number epoch (xs ++ ys) → Rise number epoch xs
 rise_front number epoch [] ys rise = tt
 rise_front number epoch (x ∷ xs) ys rise = (rise.0, rise.1, rise_front (x.number + 1) x.epoch xs ys rise.2)
@@ -247,7 +247,7 @@ first_front rs xs ys first = record {
   records = first.records ∙ (append-nil (map record_of (xs ++ ys)) ∙ records_joined xs ys);
 }
 
--- where epochs never fall, the first is not behind one that has an entry
+-- If epochs never fall, the first is at most each epoch that has an entry.
 first_epoch : (number epoch d : ℕ) (cs : List Entry) (x : EpochEntry) (xs : List EpochEntry) → Rise number epoch cs → filed cs d ≡ x ∷ xs → epoch ≤ d
 first_epoch number epoch d [] x xs rise is = absurd (let wrong : [] ≡ x ∷ xs = is in cc)
 first_epoch number epoch d (c ∷ cs) x xs rise is = elim (nat_eq_or_not c.epoch d) [
@@ -271,7 +271,7 @@ head_epoch number epoch d c cs x xs rise is = elim (nat_eq_or_not c.epoch d) [
       first_epoch (c.number + 1) c.epoch d cs x xs rise.2 (ap (λ (b : Bool). map in_file (cond b (c ∷ in_epoch cs d) (in_epoch cs d))) (sym test) ∙ is))
 ]
 
--- the bytes of an epoch behind the magic
+-- The bytes of an epoch after the magic.
 begins_here : (es here : List Entry) (rest : List ℕ) → epoch_bytes es ≡ (magic ++ entries_bytes None here) ++ rest → (epoch_bytes es ≡ magic ++ chain None (map in_file es)) × (chain None (map in_file es) ≡ chain None (map in_file here) ++ rest)
 begins_here [] here rest is = absurd (let size : 0 ≡ length ((magic ++ entries_bytes None here) ++ rest) = ap (λ (b : List ℕ). length b) is in omega (arith, size, length-append (magic ++ entries_bytes None here) rest, length-append magic (entries_bytes None here)))
 begins_here (e ∷ es) here rest is =
@@ -279,7 +279,7 @@ begins_here (e ∷ es) here rest is =
     let behind : all ≡ entries_bytes None here ++ rest = append_cancel_left magic all (entries_bytes None here ++ rest) (is ∙ append_assoc magic (entries_bytes None here) rest) in
     (ap (λ (b : List ℕ). magic ++ b) (chain_of None (e ∷ es)), sym (chain_of None (e ∷ es)) ∙ (behind ∙ ap (λ (b : List ℕ). b ++ rest) (chain_of None here)))
 
--- What is known of an epoch that is said to lack its next entry, where all entries are known.
+-- What is known of an epoch that is said to lack its next entry, if all entries are known.
 record Meets (root : Root) (files : Files) (rs : List Record) (epoch place : ℕ) (entries : List Entry) (lost : LacksNext root files rs epoch place) : Type 0 where
   back : List Entry
   is : entries ≡ (lost.before ++ lost.here) ++ back
@@ -334,13 +334,13 @@ meets entry epochs root files rs entries epoch place fits opened less lost =
         ]
       ]
 
--- no entry is missing
+-- No entry is missing.
 none_lost : EntriesDiffer → EpochsDiffer → (root : Root) (files : Files) (rs : List Record) (entries : List Entry) (epoch place : ℕ) → RootFits root → AreOpened root files rs entries → epoch < 64 → LacksNext root files rs epoch place → ⊥
 none_lost entry epochs root files rs entries epoch place fits opened less lost =
     let met = meets entry epochs root files rs entries epoch place fits opened less lost in
     by met.back met.is met.earlier (filed met.back epoch) refl met.here_is met.rest_is met.long
   where
-    -- the epoch has no entry
+    -- The epoch has no entry.
     empty : lost.here ≡ [] → filed entries epoch ≡ map in_file lost.here ++ [] → 8 ≤ named_length root epoch → ⊥
     empty none here long =
         let files_none : filed entries epoch ≡ [] = here ∙ ap (λ (l : List Entry). map in_file l ++ []) none in
@@ -373,7 +373,7 @@ none_lost entry epochs root files rs entries epoch place fits opened less lost =
         let first : AreFirst rs (map record_of cs) (xs ++ c ∷ []) = first_front rs (xs ++ c ∷ []) cs (subst (AreFirst rs []) (is ∙ sym (append_assoc xs (c ∷ []) cs)) opened.first) in
         lost.lacks c (map record_of cs) (chain (Some (commit_behind (last_commit None lost.here) (in_file c))) fs) same first (rest ∙ (λ i. chain (parent i) (file i ∷ fs)))
 
--- files that are opened have no damage
+-- Files that are opened have no damage.
 pub opened_undamaged : EntriesDiffer → EpochsDiffer → OpenedUndamaged
 opened_undamaged entry epochs root files rs entries epoch place has opened (inl front) = no_front_lost root files rs entries epoch place opened.whole front.0 front.1
 opened_undamaged entry epochs root files rs entries epoch place has opened (inr (inl next)) = none_lost entry epochs root files rs entries epoch place has.fits opened next.0 next.1

@@ -16,11 +16,11 @@ use Rattle.epoch_store.proofs.Mapped.{map_length, records_are_valid}
 use Rattle.epoch_store.proofs.UniqueRoots.{root_is_one, not_shut, front_is_one}
 use Rattle.epoch_store.proofs.UniqueEntries.{AreBelow, entries_are_one, records_at, filed_is_one}
 
--- an archive of three values
+-- Archives with three equal values are equal.
 archive_is : (a b : Archive) → a.config ≡ b.config → a.entries ≡ b.entries → a.next ≡ b.next → a ≡ b
 archive_is a b p q r = λ i. record { config = p i; entries = q i; next = r i }
 
--- files stand for at most one archive by one root
+-- Files stand for at most one archive by one root.
 one_by_root : RecordsDiffer → EpochsDiffer → (root : Root) (image : Files) (a b : Archive) → RecoversBy root image a → RecoversBy root image b → a ≡ b
 one_by_root records epochs root image a b p q =
     let next : a.next ≡ b.next = sym p.names.next ∙ q.names.next in
@@ -40,7 +40,7 @@ one_by_root records epochs root image a b p q =
     (front_is_one (image (epoch_file_of root e)) (bytes_in a e) (bytes_in b e) long (p.stands.epochs_front e few) (q.stands.epochs_front e few))) in
     archive_is a b (sym p.names.config ∙ q.names.config) entries next
 
--- and by any, since the current root is one
+-- Files stand for at most one archive by any root, since they have one current root.
 pub recovers_one : SpellingsDiffer → RecordsDiffer → EpochsDiffer → RecoversOne
 recovers_one spellings records epochs image a b p q =
     let root : p.0 ≡ q.0 =
@@ -48,18 +48,18 @@ recovers_one spellings records epochs image a b p q =
     (root_is_one (image root_name) (spelling p.0) (spelling q.0) p.1.stands.current q.1.stands.current) in
     one_by_root records epochs q.0 image a b (subst (λ (r : Root). RecoversBy r image a) root p.1) q.1
 
--- nor for one and for none
+-- Files never stand both for an archive and for none.
 pub recovers_some_one : SpellingsDiffer → RecordsDiffer → EpochsDiffer → RecoversSomeOne
 recovers_some_one spellings records epochs image None None p q = refl
 recovers_some_one spellings records epochs image None (Some b) p q = absurd (not_shut (image root_name) (spelling q.0) q.1.stands.current p)
 recovers_some_one spellings records epochs image (Some a) None p q = absurd (not_shut (image root_name) (spelling p.0) p.1.stands.current q)
 recovers_some_one spellings records epochs image (Some a) (Some b) p q = ap (λ (c : Archive). Some c) (recovers_one spellings records epochs image a b p q)
 
--- files that are exactly those of an archive stand for it
+-- Files that are exactly those of an archive stand for it.
 pub exact_recovers : ExactRecovers
 exact_recovers files a p = (p.0, record { valid = p.1.valid; names = p.1.names; stands = p.1.exact.stands })
 
--- a store's own disk stands for its archive
+-- A store's own disk stands for its archive.
 pub store_recovers : StoreRecovers
 store_recovers v a k own =
     (λ image left. (v.root, record { valid = own.keeps.valid; names = own.keeps.names; stands = own.on.images image left }), (v.root, record { valid = own.keeps.valid; names = own.keeps.names; exact = own.on.exact }))

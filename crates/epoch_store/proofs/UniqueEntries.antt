@@ -1,4 +1,4 @@
--- The records of an archive and the texts of its epochs say which entries it has.
+-- The records of an archive and the texts of its epochs determine its entries.
 use Rattle.std.specs.Prelude.{◌≡◌, ◌≢◌, ◌+◌, ◌<◌, ◌≤◌, ◌==◌, ◌^◌, ℕ, zero, suc, true, false, List, [], ◌∷◌, ◌++◌, length, map, Option, Some, None, refl}
 use Rattle.std.specs.List.{AllByRecursion}
 use Rattle.std.proofs.Common.{◌∙◌, sym, ap, subst, inl, inr, arith, length-append}
@@ -14,54 +14,54 @@ use Rattle.epoch_store.specs.Recovery.{entry_of, record_for, records_from}
 use Rattle.epoch_store.specs.Stores.{in_file}
 use Rattle.epoch_store.proofs.Appends.{nat_eq_or_not}
 
--- a test on numbers that are the same, and on those that aren't
+-- A test on numbers that are equal, and on those that aren't.
 same_test : (m n : ℕ) → m ≡ n → (m == n) ≡ true
 same_test m n is = grind (arith, nat_tests)
 
 other_test : (m n : ℕ) → m ≢ n → (m == n) ≡ false
 other_test m n apart = grind (arith, nat_tests)
 
--- the entry of a number in front, and behind others of other numbers
+-- The entry of a number at the front, and after others of other numbers.
 entry_here : (e : Entry) (es : List Entry) → entry_of (e ∷ es) e.number ≡ Some e
 entry_here e es = rw (same_test e.number e.number refl) refl
 
 entry_later : (e : Entry) (es : List Entry) (n : ℕ) → e.number ≢ n → entry_of (e ∷ es) n ≡ entry_of es n
 entry_later e es n apart = rw (other_test e.number n apart) refl
 
--- where numbers rise, none is below the first
+-- If numbers rise, none is below the first.
 none_below : (es : List Entry) (low epoch n : ℕ) → Rise low epoch es → n < low → entry_of es n ≡ None
 none_below [] low epoch n rise less = refl
 none_below (e ∷ es) low epoch n rise less =
     let high = rise.0 in
     entry_later e es n (λ is. absurd (omega (arith, is, less, high))) ∙ none_below es (e.number + 1) e.epoch n rise.2 (omega (arith, less, high))
 
--- a number has the same record in both
+-- A number has the same record in both lists.
 abbrev SameRecord : List Entry → List Entry → ℕ → Type 0
 SameRecord es fs n = record_for n (entry_of es n) ≡ record_for n (entry_of fs n)
 
--- the record of a number with an entry isn't that of a number without one
+-- The record of a number with an entry isn't that of a number without one.
 no_record : (n : ℕ) (e : Entry) → e.epoch ≤ 63 → record_for n (Some e) ≡ record_for n None → ⊥
 no_record n e small is = let epoch : e.epoch ≡ 4294967295 = ap (λ (r : Record). r.epoch) is in absurd (omega (arith, epoch, small))
 
--- so the first number of the one isn't below that of the other
+-- So the first number of the one isn't below that of the other.
 not_below : (e : Entry) (es fs : List Entry) (low epoch : ℕ) → e.epoch ≤ 63 → Rise low epoch fs → SameRecord (e ∷ es) fs e.number → low ≤ e.number
 not_below e es fs low epoch small rise same = elim (cases_lt e.number low) [
   | inl less ↦ absurd (no_record e.number e small (sym (ap (record_for e.number) (entry_here e es)) ∙ (same ∙ ap (record_for e.number) (none_below fs low epoch e.number rise less))))
   | inr more ↦ more
 ]
 
--- the entries of an epoch with one of it in front, and with one of another
+-- The entries of an epoch with one of it at the front, and with one of another.
 in_here : (e : Entry) (es : List Entry) (epoch : ℕ) → e.epoch ≡ epoch → in_epoch (e ∷ es) epoch ≡ e ∷ in_epoch es epoch
 in_here e es epoch is = rw (same_test e.epoch epoch is) refl
 
 in_there : (e : Entry) (es : List Entry) (epoch : ℕ) → e.epoch ≢ epoch → in_epoch (e ∷ es) epoch ≡ in_epoch es epoch
 in_there e es epoch apart = rw (other_test e.epoch epoch apart) refl
 
--- what an epoch's file says of its entries
+-- The entries of an epoch as they are in its file.
 abbrev pub filed : List Entry → ℕ → List EpochEntry
 filed es epoch = map in_file (in_epoch es epoch)
 
--- the first of a list, and the others
+-- The first of a list, or a default.
 abbrev first_of_list : EpochEntry → List EpochEntry → EpochEntry
 first_of_list other [] = other
 first_of_list other (x ∷ xs) = x
@@ -70,7 +70,8 @@ abbrev others : List EpochEntry → List EpochEntry
 others [] = []
 others (x ∷ xs) = xs
 
--- with entries of one epoch in front both files say the same of the two and of the others
+-- If the first entries are of one epoch, their entries in the file are equal, and so are the
+-- others'.
 same_first : (e f : Entry) (es fs : List Entry) → e.epoch ≡ f.epoch → filed (e ∷ es) e.epoch ≡ filed (f ∷ fs) e.epoch → in_file e ≡ in_file f
 same_first e f es fs epoch is =
     ap (first_of_list (in_file e)) (sym (ap (map in_file) (in_here e es e.epoch refl)) ∙ (is ∙ ap (map in_file) (in_here f fs e.epoch (sym epoch))))
@@ -81,15 +82,16 @@ same_others e f es fs n epoch is = elim (nat_eq_or_not e.epoch n) [
   | inr apart ↦ sym (ap (map in_file) (in_there e es n apart)) ∙ (is ∙ ap (map in_file) (in_there f fs n (λ there. apart (epoch ∙ there))))
 ]
 
--- entries of the same number and epoch of which the file says the same
+-- Entries with equal numbers, epochs and file entries are equal.
 entry_is : (e f : Entry) → e.number ≡ f.number → e.epoch ≡ f.epoch → in_file e ≡ in_file f → e ≡ f
 entry_is e f p q r = λ i. record { number = p i; epoch = q i; text = (r i).text; moment = (r i).moment }
 
--- all have lesser numbers
+-- All entries have lesser numbers.
 abbrev pub AreBelow : ℕ → List Entry → Type 0
 AreBelow high es = AllByRecursion (λ (e : Entry). e.number < high) es
 
--- entries whose numbers rise are one list where their records are, and what the files of their epochs say
+-- Two lists of entries whose numbers rise are equal if their records and the files of their epochs
+-- are.
 pub entries_are_one : (es fs : List Entry) (low high older newer : ℕ) → AllByRecursion IsEntry es → AllByRecursion IsEntry fs → AreBelow high es → AreBelow high fs → Rise low older es → Rise low newer fs
     → ((n : ℕ) → low ≤ n → n < high → SameRecord es fs n) → ((epoch : ℕ) → epoch < 64 → filed es epoch ≡ filed fs epoch) → es ≡ fs
 entries_are_one [] [] low high older newer valid also below under rise up same files = refl
@@ -116,7 +118,7 @@ entries_are_one (e ∷ es) (f ∷ fs) low high older newer valid also below unde
     (λ n few. same_others e f es fs n epoch (files n few)) in
     λ i. first i ∷ rest i
 
--- records of the same numbers that are the same are so one by one
+-- Equal records of the same numbers are equal one by one.
 pub records_at : (es fs : List Entry) (n count : ℕ) → records_from es n count ≡ records_from fs n count → (m : ℕ) → n ≤ m → m < n + count → SameRecord es fs m
 records_at es fs n zero is m low high = absurd (omega (arith, low, high))
 records_at es fs n (suc count) is m low high = elim (nat_eq_or_not n m) [
@@ -131,17 +133,17 @@ records_at es fs n (suc count) is m low high = elim (nat_eq_or_not n m) [
   behind [] = []
   behind (r ∷ rs) = rs
 
--- the bytes of entries are those of what their file says of them
+-- The bytes of entries are those of their file entries.
 chain_is : (parent : Option Id20) (es : List Entry) → entries_bytes parent es ≡ chain parent (map in_file es)
 chain_is parent [] = refl
 chain_is parent (e ∷ es) = ap (λ (b : List ℕ). bytes_behind parent (in_file e) ++ b) (chain_is (Some (commit_behind parent (in_file e))) es)
 
--- they may all stand in a file
+-- All of them may be in a file.
 are_entries : (es : List Entry) → AllByRecursion IsEntry es → AreEpochEntries (map in_file es)
 are_entries [] all = tt
 are_entries (e ∷ es) all = (record { name = refl; text = all.0.text; moment = all.0.moment }, are_entries es all.1)
 
--- and so may those of an epoch
+-- So may those of an epoch.
 valid_in : (es : List Entry) (epoch : ℕ) → AllByRecursion IsEntry es → AllByRecursion IsEntry (in_epoch es epoch)
 valid_in [] epoch all = tt
 valid_in (e ∷ es) epoch all = elim (nat_eq_or_not e.epoch epoch) [
@@ -149,7 +151,7 @@ valid_in (e ∷ es) epoch all = elim (nat_eq_or_not e.epoch epoch) [
   | inr apart ↦ subst (AllByRecursion IsEntry) (sym (in_there e es epoch apart)) (valid_in es epoch all.1)
 ]
 
--- epochs of the same bytes say the same of their entries
+-- Epochs with the same bytes have the same file entries.
 epoch_is_one : EpochsDiffer → (es fs : List Entry) → AllByRecursion IsEntry es → AllByRecursion IsEntry fs → length (epoch_bytes es) < 2 ^ 64 → epoch_bytes es ≡ epoch_bytes fs → map in_file es ≡ map in_file fs
 epoch_is_one differ [] [] valid also short is = refl
 epoch_is_one differ [] (f ∷ fs) valid also short is = let size : 0 ≡ length (epoch_bytes (f ∷ fs)) = ap (λ (b : List ℕ). length b) is in absurd (omega (arith, size, length-append magic (entries_bytes None (f ∷ fs))))

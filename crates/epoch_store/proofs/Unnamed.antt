@@ -1,4 +1,4 @@
--- The files that a root doesn't name are just those that aren't kept.
+-- The files that a root doesn't name are exactly those that aren't kept.
 use Rattle.std.specs.Prelude.{◌≡◌, ◌≢◌, ◌⊎◌, ◌<◌, ◌==◌, ◌&&◌, nat_lt, not, ℕ, Bool, true, false, cond, List, [], ◌∷◌, length, get_or, Option, Some, None, refl}
 use Rattle.std.specs.List.{Contains, filter}
 use Rattle.std.proofs.Common.{◌∙◌, sym, ap, subst, inl, inr, arith}
@@ -13,7 +13,7 @@ use Rattle.root_slots.specs.declared.root.Root.{Root}
 use Rattle.root_slots.specs.Valid.{no_place}
 use Rattle.epoch_store.specs.Settling.{IsKept, FoundOn, ToSweep, named_by, names_file, AreOthers}
 
--- what passes a test is kept
+-- An item that passes a test is kept by the filter.
 kept_in : (p : FileName → Bool) (xs : List FileName) (x : FileName) → Contains xs x → p x ≡ true → Contains (filter p xs) x
 kept_in p [] x among passes = among
 kept_in p (y ∷ ys) x among passes = by (λ later. kept_in p ys x later passes) (p y) refl where
@@ -27,7 +27,7 @@ kept_in p (y ∷ ys) x among passes = by (λ later. kept_in p ys x later passes)
     | inr later ↦ rest later
   ]
 
--- and what is kept passes it
+-- An item that is kept by the filter passes the test.
 passes_in : (p : FileName → Bool) (xs : List FileName) (x : FileName) → Contains (filter p xs) x → p x ≡ true
 passes_in p [] x among = absurd (none_in x among)
 passes_in p (y ∷ ys) x among = by (passes_in p ys x) (p y) refl among where
@@ -35,7 +35,7 @@ passes_in p (y ∷ ys) x among = by (passes_in p ys x) (p y) refl among where
   by rest true is held = elim (one_of y (filter p ys) x held) [ inl first ↦ ap p (sym first) ∙ is | inr later ↦ rest later ]
   by rest false is held = rest held
 
--- tests on numbers
+-- Tests on numbers.
 same_test : (n : ℕ) → (n == n) ≡ true
 same_test n = grind (arith, nat_tests)
 
@@ -56,7 +56,7 @@ not_both : (b : Bool) → b ≡ true → not b ≡ true → ⊥
 not_both true is isnt = let wrong : false ≡ true = isnt in absurd cc
 not_both false is isnt = let wrong : false ≡ true = is in absurd cc
 
--- a list of some length isn't empty, and one that isn't empty has a length
+-- A list that isn't empty has a length, and a list with a length isn't empty.
 some_in : (bytes : List ℕ) → bytes ≢ [] → 0 < length bytes
 some_in [] some = absurd (some refl)
 some_in (b ∷ bs) some = omega arith
@@ -65,7 +65,7 @@ not_empty : (bytes : List ℕ) → 0 < length bytes → bytes ≢ []
 not_empty bytes some none = let n : length bytes ≡ 0 = ap length none in absurd (omega (arith, some, n))
 
 module _ (root : Root) (epochs : ℕ → List ℕ) (long : (e : ℕ) → e < 64 → (get_or root.epochs e no_place).length ≡ length (epochs e)) where
-  -- what is kept is named
+  -- A file that is kept is named.
   kept_named : (name : FileName) → IsKept root epochs name → names_file root name ≡ true
   kept_named name (inl is) = ap (names_file root) is
   kept_named name (inr (inl is)) = ap (names_file root) is ∙ same_test root.map.gen_
@@ -75,7 +75,7 @@ module _ (root : Root) (epochs : ℕ → List ℕ) (long : (e : ℕ) → e < 64 
       ap (names_file root) e.2 ∙ rw (less_test e.0 64 e.1) (rw (less_test 0 place.length (omega (arith, some, long e.0 e.1))) (same_test place.gen_))
   kept_named name (inr (inr (inr c))) = ap (names_file root) c.1 ∙ rw (less_test 0 root.cache.length c.0) (same_test root.cache.gen_)
 
-  -- and what is named is kept
+  -- A file that is named is kept.
   named_kept : (k : FileKind) (n g : ℕ) → named_by root k n g ≡ true → IsKept root epochs (record { kind = k; number = n; gen_ = g })
   named_kept kind.Root n g is =
       let tests = both (n == 0) (g == 0) is in
@@ -102,18 +102,18 @@ module _ (root : Root) (epochs : ℕ → List ℕ) (long : (e : ℕ) → e < 64 
       let gen_is = sym (is_same root.cache.gen_ g has.1) in
       inr (inr (inr (is_less 0 root.cache.length has.0, λ i. record { kind = kind.Cache; number = number i; gen_ = gen_is i })))
 
-  -- no kept file is one of the others
+  -- No kept file is one of the others.
   spared : (names : List FileName) (name : FileName) → Contains (filter (λ (n : FileName). not (names_file root n)) names) name → IsKept root epochs name → ⊥
   spared names name among kept = not_both (names_file root name) (kept_named name kept) (passes_in (λ (n : FileName). not (names_file root n)) names name among)
 
-  -- and each file that is there is kept, or one of them
+  -- Each file that is there is kept, or one of the others.
   listed : (names : List FileName) (name : FileName) → Contains names name → IsKept root epochs name ⊎ Contains (filter (λ (n : FileName). not (names_file root n)) names) name
   listed names name among = by (names_file root name) refl where
     by : (b : Bool) → names_file root name ≡ b → IsKept root epochs name ⊎ Contains (filter (λ (n : FileName). not (names_file root n)) names) name
     by true is = inl (named_kept name.kind name.number name.gen_ is)
     by false is = inr (kept_in (λ (n : FileName). not (names_file root n)) names name among (ap not is))
 
--- so they are to be swept, of a disk that was found
+-- So a disk that was found is ready to be settled.
 pub to_sweep : (root : Root) (slot : ℕ) (map : List ℕ) (epochs : ℕ → List ℕ) (others : List FileName) (k m : Option Content) → FoundOn root slot map epochs k
     → WhereTold (AreOthers root others) k → Told Unchanged k m → ToSweep root slot map epochs others m
 to_sweep root slot map epochs others None m found are same = absurd found

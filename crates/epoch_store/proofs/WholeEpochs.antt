@@ -17,7 +17,7 @@ use Rattle.epoch_store.specs.Recovery.{bytes_in}
 use Rattle.epoch_store.specs.Reads.{StandsAt}
 use Rattle.epoch_store.specs.Stores.{View, IsStoreOf}
 
--- no entry stands in an epoch above 63
+-- No entry is in an epoch above 63.
 none_above : (es : List Entry) (n : ℕ) → AllByRecursion IsEntry es → 63 < n → in_epoch es n ≡ []
 none_above [] n all above = refl
 none_above (e ∷ es) n all above =
@@ -25,17 +25,17 @@ none_above (e ∷ es) n all above =
     let other : (e.epoch == n) ≡ false = grind (arith, nat_tests) in
     rw other (none_above es n all.1 above)
 
--- an epoch without bytes has no entry
+-- An epoch without bytes has no entry.
 empty : (es : List Entry) → length (epoch_bytes es) ≡ 0 → es ≡ []
 empty [] none = refl
 empty (e ∷ es) none = let parts = length-append magic (entries_bytes None (e ∷ es)) in absurd (omega (arith, parts, none))
 
--- one with bytes has one
+-- An epoch with bytes has an entry.
 some : (es : List Entry) → 0 < length (epoch_bytes es) → has_entry es ≡ true
 some [] there = absurd (omega (arith, there))
 some (e ∷ es) there = refl
 
--- without an entry nothing is put behind the bytes
+-- Without an entry nothing is appended.
 nothing : (es : List Entry) (old : List ℕ) → es ≡ [] → GivesEpochIn es old old (Ok false)
 nothing es old is = subst (λ (l : List Entry). GivesEpochIn l old old (Ok false)) (sym is) (sym (append-nil old), refl)
 
@@ -43,7 +43,7 @@ zero_or_not : (n : ℕ) → (n ≡ 0) ⊎ (0 < n)
 zero_or_not zero = inl refl
 zero_or_not (suc n) = inr (omega arith)
 
--- what is given for an epoch that the root names no bytes of, or that there is not
+-- The result for an epoch of which the root names no bytes, or that there is not.
 pub unnamed_gives : (v : View) (a : Archive) (k : Option Content) (n : ℕ) (old : List ℕ) → IsStoreOf v a k → (get_or v.root.epochs n no_place).length ≡ 0 → GivesEpochIn (in_epoch a.entries n) old old (Ok false)
 unnamed_gives v a None n old own unnamed = absurd own
 unnamed_gives v a (Some k) n old own unnamed =
@@ -53,11 +53,11 @@ unnamed_gives v a (Some k) n old own unnamed =
       | inr above ↦ none_above a.entries n own.keeps.valid.entries (omega (arith, above))
     ])
 
--- what stands at the front of a file, so many bytes, is the bytes that it begins with
+-- The first bytes of a file are the bytes that it starts with.
 front_is : (bytes file text : List ℕ) (size : ℕ) → size ≡ length bytes → length bytes ≤ length file → take (length bytes) file ≡ bytes → StandsAt file 0 size text → text ≡ bytes
 front_is bytes file text size is long front stands = stands (omega (arith, is, long)) ∙ (ap (λ (n : ℕ). take n file) is ∙ front)
 
--- what is read of an epoch that the root names bytes of
+-- The result for an epoch of which the root names bytes.
 pub read_gives : (v : View) (a : Archive) (k : Option Content) (n : ℕ) (old new text : List ℕ) (file : FileName) → IsStoreOf v a k → n ≤ 63 → file ≡ epoch_file_of v.root n → 0 < (get_or v.root.epochs n no_place).length
     → WhereTold (λ (c : Content). StandsAt (bytes_of (c file).seen) 0 (get_or v.root.epochs n no_place).length text) k → new ≡ old ++ text → GivesEpochIn (in_epoch a.entries n) old new (Ok true)
 read_gives v a None n old new text file own low file_is there stands added = absurd own

@@ -1,5 +1,5 @@
--- What the opening of an archive finds: the entries of the archive that a root's files stand for, or the first place where they
--- stand for none.
+-- The result of opening an archive: the entries of the archive that a root's files stand for, or
+-- the first offset at which they stand for none.
 use Rattle.std.specs.Prelude.{◌≡◌, ◌≢◌, ◌⊎◌, ◌+◌, ◌<◌, ℕ, nat_lt, Bool, List, [], ◌∷◌, ◌++◌, length, take, map, get_or, None}
 use Rattle.std.specs.List.{AllByRecursion, filter}
 use Rattle.disk_model.specs.Disk.{Files, bytes_of}
@@ -15,19 +15,20 @@ use Rattle.epoch_store.specs.Files.{Fronts, epoch_file_of}
 use Rattle.arch_model.specs.Validity.{IsEntry, Rise, IdsDiffer, BlobsAgree}
 use Rattle.epoch_store.specs.Stores.{in_file}
 
--- whether the number of a record has a message
+-- Whether the number of a record has a message.
 abbrev pub has_message : Record → Bool
 has_message r = nat_lt r.epoch 64
 
--- the records of the numbers that have a message, in order
+-- The records of the numbers that have a message, in order.
 abbrev pub messages : List Record → List Record
 messages rs = filter has_message rs
 
--- the record of an entry
+-- The record of an entry.
 abbrev pub record_of : Entry → Record
 record_of e = record { number = e.number; epoch = e.epoch; blob = blob_id_of e.text }
 
--- These may be an archive's entries, and theirs are the first of a map's records that have a message; so many others are behind.
+-- These may be an archive's entries, and their records are the first of a map's that have a
+-- message, followed by the others.
 pub record AreFirst (rs behind : List Record) (entries : List Entry) : Type 0 where
   pub valid : AllByRecursion IsEntry entries
   pub order : Rise 1 0 entries
@@ -35,26 +36,29 @@ pub record AreFirst (rs behind : List Record) (entries : List Entry) : Type 0 wh
   pub blobs : BlobsAgree entries
   pub records : messages rs ≡ map record_of entries ++ behind
 
--- the length of an epoch that a root names
+-- The length of an epoch that a root names.
 abbrev pub named_length : Root → ℕ → ℕ
 named_length root e = (get_or root.epochs e no_place).length
 
--- the bytes of an epoch's file, as many as the root names, or as there are
+-- The bytes of an epoch's file, as many as the root names or as there are.
 abbrev pub named_bytes : Root → Files → ℕ → List ℕ
 named_bytes root files e = take (named_length root e) (bytes_of (files (epoch_file_of root e)))
 
--- Each epoch below one has the bytes of those of these entries that stand in it, just as many as the root names.
+-- Each epoch below one has exactly the bytes of these entries that are in it, with the length that
+-- the root names.
 pub record AreWhole (root : Root) (files : Files) (epoch : ℕ) (entries : List Entry) : Type 0 where
   pub below : AllByRecursion (λ (e : Entry). e.epoch < epoch) entries
   pub lengths : (e : ℕ) → e < epoch → named_length root e ≡ length (epoch_bytes (in_epoch entries e))
   pub fronts : (e : ℕ) → e < epoch → Fronts (epoch_bytes (in_epoch entries e)) (files (epoch_file_of root e))
 
--- The files of all epochs are those of these entries, and they have all records of the map that have a message.
+-- The files of all epochs are those of these entries, and they have all records of the map that
+-- have a message.
 pub record AreOpened (root : Root) (files : Files) (rs : List Record) (entries : List Entry) : Type 0 where
   pub first : AreFirst rs [] entries
   pub whole : AreWhole root files 64 entries
 
--- The epochs below this one are whole, and have the first entries of the map; this one doesn't begin with the magic.
+-- The epochs below this one are whole, and have the first entries of the map. This one doesn't
+-- start with the magic.
 pub record LacksFront (root : Root) (files : Files) (rs : List Record) (epoch place : ℕ) : Type 0 where
   pub before : List Entry
   pub behind : List Record
@@ -64,8 +68,9 @@ pub record LacksFront (root : Root) (files : Files) (rs : List Record) (epoch pl
   pub lacks : LacksMagic (named_length root epoch) (bytes_of (files (epoch_file_of root epoch)))
   pub place_is : place ≡ 0
 
--- The epochs below this one are whole; this one begins with the magic and some entries, and all of these are the first of the
--- map. At the place behind them no next one stands, though there is none yet or the epoch goes on.
+-- The epochs below this one are whole. This one starts with the magic and some entries, and all of
+-- these are the first of the map. There is no next one at the offset after them, although there is
+-- none yet or the epoch goes on.
 pub record LacksNext (root : Root) (files : Files) (rs : List Record) (epoch place : ℕ) : Type 0 where
   pub before : List Entry
   pub here : List Entry
@@ -80,8 +85,8 @@ pub record LacksNext (root : Root) (files : Files) (rs : List Record) (epoch pla
   pub lacks : (next : Entry) (others : List Record) (more : List ℕ) → next.epoch ≡ epoch → AreFirst rs others ((before ++ here) ++ next ∷ [])
       → rest ≢ bytes_behind (last_commit None here) (in_file next) ++ more
 
--- All epochs are whole, and have the first entries of the map. The map has a record more, whose message should stand in this
--- epoch, behind its end.
+-- All epochs are whole, and have the first entries of the map. The map has one more record, whose
+-- message should be in this epoch, after its end.
 pub record LacksLast (root : Root) (files : Files) (rs : List Record) (epoch place : ℕ) : Type 0 where
   pub before : List Entry
   pub next : Record
@@ -91,8 +96,9 @@ pub record LacksLast (root : Root) (files : Files) (rs : List Record) (epoch pla
   pub stands : epoch ≡ next.epoch
   pub place_is : place ≡ named_length root epoch
 
--- An epoch is the first one that is damaged, and this is the place: its front, or that of the first entry that isn't there or
--- isn't the next one of the map; or where all epochs are whole, the end of the one that should have the map's next message.
+-- An epoch is the first one that is damaged, at this offset: 0, or that of the first entry that
+-- isn't there or isn't the next one of the map. If all epochs are whole, it is the end of the one
+-- that should have the map's next message.
 abbrev pub IsFirstDamage : Root → Files → List Record → ℕ → ℕ → Type 0
 IsFirstDamage root files rs epoch place =
     ((epoch < 64) × LacksFront root files rs epoch place) ⊎ (((epoch < 64) × LacksNext root files rs epoch place) ⊎ LacksLast root files rs epoch place)

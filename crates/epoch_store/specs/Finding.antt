@@ -1,5 +1,5 @@
--- What is found on the files of a disk when an archive is opened: what is kept of the archive, that there is none, or the first place
--- where the files that the root names leave their form.
+-- The result of reading an archive's files when it is opened: what is kept of the archive, that
+-- there is none, or the first offset at which the files that the root names aren't in their form.
 use Rattle.std.specs.Prelude.{◌≡◌, ◌⊎◌, ◌+◌, ◌-◌, ◌<◌, ℕ, List, length, Result, Ok, Err}
 use Rattle.std.specs.Global.{Vec}
 use Rattle.disk_model.specs.declared.name.FileName.{FileName}
@@ -32,19 +32,20 @@ pub record IsCurrentRoot (root : Root) (slot : ℕ) (files : Files) : Type 0 whe
   pub is_root : IsRoot root
   pub fits : RootFits root
 
--- The map that a root names begins with the records of all numbers below the next one.
+-- The map that a root names starts with the records of all numbers below the next one.
 pub record HasRecords (root : Root) (files : Files) (rs : List Record) : Type 0 where
   pub begins : BeginsWith rs (bytes_of (files (map_file_of root)))
   pub count : length rs ≡ root.next - 1
 
--- What was found is what the files stand for: their current root and its slot, and what is kept of the entries of all epochs.
+-- What was found is what the files stand for: their current root and its slot, and the entries of
+-- all epochs without their texts.
 pub record IsFoundIn (files : Files) (found : Found) : Type 0 where
   pub records : List Record
   pub root : IsCurrentRoot found.root found.slot files
   pub has : HasRecords found.root files records
   pub read : AreRead found.root files records found.entries.items
 
--- The slot of the current root has no root.
+-- The body of the current slot spells no root.
 pub record IsDamagedRoot (files : Files) (file : FileName) (at : ℕ) : Type 0 where
   pub file_is : file ≡ root_name
   pub damaged : slots.IsDamaged at (bytes_of (files root_name))
@@ -68,11 +69,11 @@ pub record IsDamagedEpoch (files : Files) (file : FileName) (at : ℕ) : Type 0 
   pub file_is : file ≡ epoch_file_of root epoch
   pub first : IsFirstDamage root files records epoch at
 
--- a file is the first one that is damaged, and this is the place
+-- A file is the first one that is damaged, at this offset.
 abbrev pub IsDamagedFile : Files → FileName → ℕ → Type 0
 IsDamagedFile files file at = IsDamagedRoot files file at ⊎ (IsDamagedMap files file at ⊎ IsDamagedEpoch files file at)
 
--- what is found on files
+-- The results of reading files.
 abbrev pub Finds : Files → Result Found OpenRefusal → Type 0
 Finds files (Ok found) = IsFoundIn files found
 Finds files (Err NoArchive) = IsShutFile (files root_name)
@@ -80,7 +81,7 @@ Finds files (Err (Damaged file at)) = IsDamagedFile files file at
 Finds files (Err DiskFault) = Unit {0}
 Finds files (Err NoMemory) = Unit {0}
 
--- the current root of files and its slot, or why there is none
+-- The current root of files and its slot, or why there is none.
 abbrev pub FindsRoot : Files → Result (ℕ × Root) OpenRefusal → Type 0
 FindsRoot files (Ok found) = IsCurrentRoot found.1 found.0 files
 FindsRoot files (Err NoArchive) = IsShutFile (files root_name)
@@ -88,7 +89,7 @@ FindsRoot files (Err (Damaged file at)) = IsDamagedRoot files file at
 FindsRoot files (Err DiskFault) = Unit {0}
 FindsRoot files (Err NoMemory) = Unit {0}
 
--- the records of the map that a root names, or where it is damaged
+-- The records of the map that a root names, or where it is damaged.
 abbrev pub FindsRecords : Root → Files → Result (List Record) OpenRefusal → Type 0
 FindsRecords root files (Ok rs) = HasRecords root files rs
 FindsRecords root files (Err NoArchive) = ⊥
@@ -96,74 +97,74 @@ FindsRecords root files (Err (Damaged file at)) = (file ≡ map_file_of root) ×
 FindsRecords root files (Err DiskFault) = Unit {0}
 FindsRecords root files (Err NoMemory) = Unit {0}
 
--- a file is that of an epoch, and it is the first one that is damaged
+-- A file is that of an epoch, and it is the first one that is damaged.
 abbrev pub IsEpochDamage : Root → Files → List Record → FileName → ℕ → Type 0
 IsEpochDamage root files rs file at = (epoch : ℕ) × (file ≡ epoch_file_of root epoch) × IsFirstDamage root files rs epoch at
 
--- why the epochs of a root are not read
+-- Why the epochs of a root are not read.
 abbrev pub StopsBy : Root → Files → List Record → OpenRefusal → Type 0
 StopsBy root files rs NoArchive = ⊥
 StopsBy root files rs (Damaged file at) = IsEpochDamage root files rs file at
 StopsBy root files rs DiskFault = Unit {0}
 StopsBy root files rs NoMemory = Unit {0}
 
--- the epochs below one are read, or why not
+-- The epochs below one are read, or why not.
 abbrev pub ReadsUpTo : Root → Files → List Record → ℕ → Result Joined OpenRefusal → Type 0
 ReadsUpTo root files rs epoch (Ok joined) = IsReadUpTo root files rs epoch joined
 ReadsUpTo root files rs epoch (Err refusal) = StopsBy root files rs refusal
 
--- an epoch more is read, or why not, whatever is read already
+-- One more epoch is read, or why not, whatever was read before.
 abbrev pub ReadsEpoch : Root → ℕ → Joined → Result Joined OpenRefusal → Files → Type 0
 ReadsEpoch root epoch old result files = (rs : List Record) → RootFits root → IsReadUpTo root files rs epoch old → ReadsUpTo root files rs (epoch + 1) result
 
--- the same, where the entries that its file has are known
+-- The same if the entries of its file are known.
 abbrev pub ReadsSeen : Root → ℕ → Joined → List Seen → Result Joined OpenRefusal → Files → Type 0
 ReadsSeen root epoch old seen result files =
     (rs : List Record) → RootFits root → IsReadUpTo root files rs epoch old → IsEpoch (named_length root epoch) (bytes_of (files (epoch_file_of root epoch))) seen
     → ReadsUpTo root files rs (epoch + 1) result
 
--- why an epoch isn't read whose file is no epoch from a place on, whatever is read already
+-- Why an epoch isn't read whose file is no epoch from an offset on, whatever was read before.
 abbrev pub StopsEpoch : Root → ℕ → Joined → ℕ → OpenRefusal → Files → Type 0
 StopsEpoch root epoch old place refusal files =
     (rs : List Record) → RootFits root → 0 < named_length root epoch → IsReadUpTo root files rs epoch old
     → IsDamagedAt (named_length root epoch) (bytes_of (files (epoch_file_of root epoch))) place → StopsBy root files rs refusal
 
--- the same, where the entries before that place are known
+-- The same if the entries before that offset are known.
 abbrev pub StopsSeen : Root → ℕ → Joined → ℕ → List Seen → OpenRefusal → Files → Type 0
 StopsSeen root epoch old place seen refusal files =
     (rs : List Record) → RootFits root → IsReadUpTo root files rs epoch old → IsDamagedAt (named_length root epoch) (bytes_of (files (epoch_file_of root epoch))) place
     → IsEpoch place (bytes_of (files (epoch_file_of root epoch))) seen → StopsBy root files rs refusal
 
--- all epochs are read, or why not, where none is read yet
+-- All epochs are read, or why not, if none was read before.
 abbrev pub ReadsEach : Root → Joined → Result Joined OpenRefusal → Files → Type 0
 ReadsEach root old result files = (rs : List Record) → RootFits root → IsReadUpTo root files rs 0 old → ReadsUpTo root files rs 64 result
 
--- what is kept of the entries of all epochs, or why they are not read
+-- What is kept of the entries of all epochs, or why they are not read.
 abbrev pub KeepsAll : Root → Files → List Record → Result (Vec StoredEntry) OpenRefusal → Type 0
 KeepsAll root files rs (Ok kept) = AreRead root files rs kept.items
 KeepsAll root files rs (Err refusal) = StopsBy root files rs refusal
 
--- the same, where the epochs are read
+-- The same if the epochs are read.
 abbrev pub EndsWith : Root → Joined → Result (Vec StoredEntry) OpenRefusal → Type 0
 EndsWith root joined result = (rs : List Record) (files : Files) → IsReadUpTo root files rs 64 joined → KeepsAll root files rs result
 
--- the same, where the records of the map are these
+-- The same if the records of the map are these.
 abbrev pub KeepsBy : Root → List Record → Result (Vec StoredEntry) OpenRefusal → Files → Type 0
 KeepsBy root rs result files = RootFits root → HasRecords root files rs → KeepsAll root files rs result
 
--- the map and what is kept of the entries of all epochs
+-- The map is whole, and what is kept of the entries of all epochs.
 pub record HasEntries (root : Root) (files : Files) (kept : List StoredEntry) : Type 0 where
   pub records : List Record
   pub has : HasRecords root files records
   pub read : AreRead root files records kept
 
--- the map is whole, and an epoch isn't
+-- The map is whole, and an epoch isn't.
 pub record LacksEntries (root : Root) (files : Files) (file : FileName) (at : ℕ) : Type 0 where
   pub records : List Record
   pub has : HasRecords root files records
   pub damage : IsEpochDamage root files records file at
 
--- what is found of the map and the epochs that a root names
+-- The results of reading the map and the epochs that a root names.
 abbrev pub FindsEntries : Root → Files → Result (Vec StoredEntry) OpenRefusal → Type 0
 FindsEntries root files (Ok kept) = HasEntries root files kept.items
 FindsEntries root files (Err NoArchive) = ⊥

@@ -15,35 +15,36 @@ use Rattle.root_slots.specs.Slots.{Elsewhere, HasRoot, Ready, IsShutFile}
 use Rattle.epoch_store.specs.Recovery.{Recovers}
 use Rattle.epoch_store.specs.Opens.{IsOnlySynced}
 
--- all bytes of a root file are zeros
+-- All bytes of a root file are zeros.
 abbrev pub AreZeros : List ℕ → Type 0
 AreZeros file = file ≡ replicate 4096 0
 
--- no slot is open, or the first root is there; all other files are as a crash before might have left them
+-- No slot is open, or the first root is there; all other files are as a crash before might have
+-- left them.
 pub record IsShutOrFirst (body : List ℕ) (k : Content) (image : Files) : Type 0 where
   pub root : IsShutFile (image root_name) ⊎ IfThere (HasRoot body) (image root_name)
   pub elsewhere : Elsewhere k image
 
--- the same, where the disk tells its content
+-- The same, if the disk tells its content.
 abbrev pub ShutOrFirst : List ℕ → Option Content → Files → Type 0
 ShutOrFirst body None image = Unit {0}
 ShutOrFirst body (Some k) image = IsShutOrFirst body k image
 
--- What a crash leaves while an archive is made: what it might have left before; and where no slot was open, no open slot, or the
--- archive without entries.
+-- What a crash leaves while an archive is created: what it might have left before; and if no slot
+-- was open, no open slot, or the archive without entries.
 abbrev pub MakingLeaves : Archive → Option Content → Files → Type 0
 MakingLeaves a content image = Image content image ⊎ (WhereTold (λ k. IsShutFile (k root_name).seen) content × (IsShutFile (image root_name) ⊎ Recovers image a))
 
--- no slot is open, or the root of this body is there
+-- No slot is open, or the root of this body is there.
 abbrev pub ShutOrRoot : List ℕ → Files → Type 0
 ShutOrRoot body image = IsShutFile (image root_name) ⊎ IfThere (HasRoot body) (image root_name)
 
--- the same, where the disk tells its content
+-- The same, if the disk tells its content.
 abbrev pub MakesRoot : List ℕ → Option Content → Files → Type 0
 MakesRoot body None image = Unit {0}
 MakesRoot body (Some k) image = ShutOrRoot body image
 
--- the root of an archive without entries
+-- The root of an archive without entries.
 abbrev pub first_root_of : Config → Root
 first_root_of config = record {
   config = config;
@@ -54,27 +55,28 @@ first_root_of config = record {
   cache = no_place;
 }
 
--- A disk has a root of this body in slot 0, the other slot is ready for the next one, no other file is there, and all that reads
--- give is on the disk.
+-- A disk has a root of this body in slot 0, the other slot is ready for the next one, there is no
+-- other file, and all that reads give is on the disk.
 pub record HasOnly (body : List ℕ) (k : Content) : Type 0 where
   pub roots : (file : File) → Fits (k root_name).sure file → IfThere (Ready 1 body) file
   pub others : (name : FileName) → name ≢ root_name → (k name).seen ≡ None
   pub settled : IsSettled k
 
--- What making an archive is answered, by the root file as it reads: a store where no slot is open, and else that there is one.
+-- The results of creating an archive, by the root file as it reads: a store if no slot is open, and
+-- otherwise `Exists`.
 abbrev pub MakingAnswers : {T : Type 0} → Result T InitRefusal → Content → Type 0
 MakingAnswers (Ok store) k = IsShutFile (k root_name).seen
 MakingAnswers (Err Exists) k = IsShutFile (k root_name).seen → ⊥
 MakingAnswers (Err DiskFault) k = Unit {0}
 MakingAnswers (Err NoMemory) k = Unit {0}
 
--- behind this refusal, unless the disk failed, all files are synced and no more
+-- After this error, unless the disk failed, all files are synced, and otherwise unchanged.
 abbrev pub OnlySyncs : InitRefusal → Option Content → Option Content → Type 0
 OnlySyncs Exists old new = Told IsOnlySynced old new
 OnlySyncs DiskFault old new = Unit {0}
 OnlySyncs NoMemory old new = Told IsOnlySynced old new
 
--- a refusal to make an archive, but for the disk's fault, comes before anything is changed
+-- An error of creating an archive, except a fault of the disk, comes before anything is changed.
 abbrev pub RefusesToMake : {T : Type 0} → Result T InitRefusal → Option Content → Option Content → Type 0
 RefusesToMake (Ok made) old new = Unit {0}
 RefusesToMake (Err why) old new = OnlySyncs why old new

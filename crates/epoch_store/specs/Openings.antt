@@ -1,4 +1,4 @@
--- What the opening of an archive finds is what its files stand for.
+-- What is found when an archive is opened is what its files stand for.
 use Rattle.std.specs.Prelude.{◌≡◌, ◌-◌, ℕ, List, [], length}
 use Rattle.disk_model.specs.Disk.{Files, bytes_of}
 use Rattle.arch_model.specs.Archives.{Entry, Archive}
@@ -17,7 +17,7 @@ use Rattle.epoch_store.specs.Stores.{stored_behind}
 use Rattle.epoch_store.specs.Damage.{AreWhole, AreOpened, IsFirstDamage}
 use Rattle.epoch_store.specs.Joined.{Joined, Holds}
 
--- the archive of a root's settings and next number, and of these entries
+-- The archive with a root's settings and next number, and with these entries.
 abbrev pub archive_of : Root → List Entry → Archive
 archive_of root entries = record { config = root.config; entries = entries; next = root.next }
 
@@ -30,36 +30,37 @@ pub record HasMap (root : Root) (files : Files) (rs : List Record) : Type 0 wher
   pub count : length rs ≡ root.next - 1
   pub begins : BeginsWith rs (bytes_of (files (map_file_of root)))
 
--- The epochs below one are read and whole, and their entries are joined to the first records of the map.
+-- The epochs below one are read and whole, and their entries are joined to the first records of the
+-- map.
 pub record IsReadUpTo (root : Root) (files : Files) (rs : List Record) (epoch : ℕ) (v : Joined) : Type 0 where
   pub entries : List Entry
   pub behind : List Record
   pub holds : Holds v rs behind entries
   pub whole : AreWhole root files epoch entries
 
--- All are read, and this is kept of their entries.
+-- All epochs are read, and this is kept of their entries.
 pub record AreRead (root : Root) (files : Files) (rs : List Record) (kept : List StoredEntry) : Type 0 where
   pub entries : List Entry
   pub opened : AreOpened root files rs entries
   pub kept_are : kept ≡ stored_behind [] entries
 
--- files that are opened stand for the archive of what was found
+-- Files that are opened stand for the archive of what was found.
 abbrev pub OpenedRecovers : Type 0
 OpenedRecovers = (root : Root) (files : Files) (rs : List Record) (entries : List Entry) → HasMap root files rs → AreOpened root files rs entries → RecoversBy root files (archive_of root entries)
 
--- files that stand for an archive are opened, with its entries
+-- Files that stand for an archive are opened with its entries.
 abbrev pub RecoversOpened : Type 0
 RecoversOpened = (root : Root) (files : Files) (rs : List Record) (a : Archive) → HasMap root files rs → RecoversBy root files a → AreOpened root files rs a.entries
 
--- files that are opened have no damage
+-- Files that are opened have no damage.
 abbrev pub OpenedUndamaged : Type 0
 OpenedUndamaged = (root : Root) (files : Files) (rs : List Record) (entries : List Entry) (epoch place : ℕ) → HasMap root files rs → AreOpened root files rs entries → IsFirstDamage root files rs epoch place → ⊥
 
--- files that stand for an archive have its map
+-- Files that stand for an archive have its map.
 abbrev pub RecoversMap : Type 0
 RecoversMap = (root : Root) (files : Files) (a : Archive) → RecoversBy root files a → HasMap root files (records_of a)
 
--- and no damage: not in their map, nor in an epoch
+-- Files that stand for an archive have no damage, neither in their map nor in an epoch.
 abbrev pub RecoversUndamaged : Type 0
 RecoversUndamaged =
     (root : Root) (files : Files) (a : Archive) → RecoversBy root files a

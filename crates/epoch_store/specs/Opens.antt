@@ -1,4 +1,4 @@
--- What the opening of an archive leaves, and what it is answered.
+-- The results of opening an archive, and what they leave.
 use Rattle.std.specs.Prelude.{◌≡◌, List, Option, Some, None, Result, Ok, Err}
 use Rattle.std.specs.List.{Contains}
 use Rattle.disk_model.specs.declared.name.FileName.{FileName}
@@ -16,28 +16,30 @@ use Rattle.epoch_store.specs.Finding.{IsCurrentRoot, HasRecords, IsDamagedFile}
 use Rattle.epoch_store.specs.Recovery.{Recovers, RecoversSome}
 use Rattle.epoch_store.specs.Stores.{View}
 
--- files stand for one of these archives, or for none where that is one of these
+-- Files stand for one of these archives, or for none if that is one of these.
 abbrev pub RecoversOf : List (Option Archive) → Files → Type 0
 RecoversOf may image = (a : Option Archive) × Contains may a × RecoversSome image a
 
--- each crash of a disk that tells its content leaves files that do
+-- Each crash of a disk that tells its content leaves such files.
 abbrev pub AllRecoverOf : List (Option Archive) → Option Content → Type 0
 AllRecoverOf may None = ⊥
 AllRecoverOf may (Some k) = (image : Files) → Image (Some k) image → RecoversOf may image
 
--- a disk that tells its content reads as files that stand for an archive
+-- A disk that tells its content reads as files that stand for an archive.
 abbrev pub ReadsAs : Archive → Option Content → Type 0
 ReadsAs a None = ⊥
 ReadsAs a (Some k) = Recovers (as_read k) a
 
--- A store keeps what the files stand for: their current root and its slot, and the entries of all epochs.
+-- A store keeps what the files stand for: their current root and its slot, and the entries of all
+-- epochs.
 pub record IsOpenedIn (files : Files) (v : View) : Type 0 where
   pub records : List Record
   pub root : IsCurrentRoot v.root v.slot files
   pub has : HasRecords v.root files records
   pub read : AreRead v.root files records v.entries
 
--- what opening is answered, by the files as they read: a store of them, that no slot is open, or the first place that is damaged
+-- The results of opening, by the files as they read: a store of them, that no slot is open, or the
+-- first offset that is damaged.
 abbrev pub Opens : Files → Result View OpenRefusal → Type 0
 Opens files (Ok store) = IsOpenedIn files store
 Opens files (Err NoArchive) = IsShutFile (files root_name)
@@ -45,24 +47,24 @@ Opens files (Err (Damaged file at)) = IsDamagedFile files file at
 Opens files (Err DiskFault) = Unit {0}
 Opens files (Err NoMemory) = Unit {0}
 
--- a refusal tells of want alone: the disk failed, or memory was wanted
+-- An error that says nothing of the files: the disk failed, or memory ran out.
 abbrev pub IsWant : OpenRefusal → Type 0
 IsWant NoArchive = ⊥
 IsWant (Damaged file at) = ⊥
 IsWant DiskFault = Unit {0}
 IsWant NoMemory = Unit {0}
 
--- what is opened well is refused for want alone
+-- A result without errors but those.
 abbrev pub OpensWell : {T : Type 0} → Result T OpenRefusal → Type 0
 OpensWell (Ok store) = Unit {0}
 OpensWell (Err refusal) = IsWant refusal
 
--- no file reads otherwise, and all that reads give is on the disk
+-- Every file reads as before, and all that reads give is on the disk.
 pub record IsOnlySynced (old new : Content) : Type 0 where
   pub seen : (name : FileName) → (new name).seen ≡ (old name).seen
   pub settled : IsSettled new
 
--- unless the disk failed, all files are synced and no more
+-- Unless the disk failed, all files are synced, and otherwise unchanged.
 abbrev pub SyncsBy : {T : Type 0} → Result T OpenRefusal → Option Content → Option Content → Type 0
 SyncsBy (Ok found) old new = Told IsOnlySynced old new
 SyncsBy (Err NoArchive) old new = Told IsOnlySynced old new
@@ -70,7 +72,7 @@ SyncsBy (Err (Damaged file at)) old new = Told IsOnlySynced old new
 SyncsBy (Err DiskFault) old new = Unit {0}
 SyncsBy (Err NoMemory) old new = Told IsOnlySynced old new
 
--- a refusal but for the disk's fault comes before anything is changed
+-- An error, except a fault of the disk, comes before anything is changed.
 abbrev pub RefusesBefore : {T : Type 0} → Result T OpenRefusal → Option Content → Option Content → Type 0
 RefusesBefore (Ok store) old new = Unit {0}
 RefusesBefore (Err NoArchive) old new = Told IsOnlySynced old new

@@ -1,4 +1,4 @@
--- What a store tells of its entries, and what reading a text gives.
+-- What a store tells of its entries, and the results of reading a text.
 use Rattle.std.specs.Prelude.{◌≡◌, ◌≢◌, ◌+◌, ◌<◌, ◌≤◌, ℕ, Bool, true, false, List, ◌++◌, length, take, drop, slice_get, get_or, Option, Some, None, Result, Ok, Err}
 use Rattle.disk_model.specs.declared.name.FileName.{FileName}
 use Rattle.disk_model.specs.Disk.{Content, bytes_of}
@@ -12,74 +12,77 @@ use Rattle.root_slots.specs.Valid.{no_place}
 use Rattle.epoch_store.specs.declared.entries.StoredEntry.{StoredEntry}
 use Rattle.epoch_store.specs.Files.{epoch_file_of}
 
--- an entry, all but its text
+-- An entry without its text.
 abbrev pub line_of : StoredEntry → EntryLine
 line_of s = record { name = s.seen.name; number = s.number; epoch = s.epoch; secs = s.seen.moment; blob = s.seen.blob; size = s.seen.size; commit = s.seen.commit }
 
--- the same of an entry that may be none
+-- The same for an entry that may be missing.
 abbrev pub line_if : Option StoredEntry → Option EntryLine
 line_if None = None
 line_if (Some s) = Some (line_of s)
 
--- the file that an entry stands in, and the place of its first byte there
+-- The file of an entry, and the entry's offset there.
 abbrev pub place_if : Root → Option StoredEntry → Option (FileName × ℕ)
 place_if root None = None
 place_if root (Some s) = Some (epoch_file_of root s.epoch, s.seen.at)
 
--- a text has the size and the blob id of an entry's
+-- A text has the size and the blob id of an entry's.
 pub record IsTextOf (s : StoredEntry) (text : List ℕ) : Type 0 where
   pub size : length text ≡ s.seen.size
   pub blob : blob_id_of text ≡ s.seen.blob
 
--- What reading the text of an entry gives: behind the bytes before stands a text of the entry's size and blob id. Where a text
--- of another id was found, both ids are told. No refusal changes the bytes.
+-- The results of reading the text of an entry: a text of the entry's size and blob id is appended.
+-- If a text with another id was found, both ids are told. No error changes the bytes.
 abbrev pub GivesText : StoredEntry → List ℕ → List ℕ → Result Unit TextRefusal → Type 0
 GivesText s old new (Ok _) = (text : List ℕ) × IsTextOf s text × (new ≡ old ++ text)
 GivesText s old new (Err (Damaged named found)) = (new ≡ old) × (named ≡ s.seen.blob) × (found ≢ named)
 GivesText s old new (Err DiskFault) = new ≡ old
 GivesText s old new (Err NoMemory) = new ≡ old
 
--- a text is what stands in a file from a place on, where the file goes on so far
+-- A text is the bytes of a file from an offset on, if the file has so many.
 abbrev pub StandsAt : List ℕ → ℕ → ℕ → List ℕ → Type 0
 StandsAt file place size text = place + size ≤ length file → text ≡ take size (drop place file)
 
--- what is read and what is found is what stands in the place of an entry's text, in the file of its epoch
+-- What is read and what is found are the bytes at the offset of an entry's text, in the file of its
+-- epoch.
 abbrev pub FindsText : Root → StoredEntry → List ℕ → List ℕ → Result Unit TextRefusal → Content → Type 0
 FindsText root s old new (Ok _) k = (text : List ℕ) × StandsAt (bytes_of (k (epoch_file_of root s.epoch)).seen) s.seen.text_at s.seen.size text × (new ≡ old ++ text)
 FindsText root s old new (Err (Damaged named found)) k = (text : List ℕ) × StandsAt (bytes_of (k (epoch_file_of root s.epoch)).seen) s.seen.text_at s.seen.size text × (found ≡ blob_id_of text)
 FindsText root s old new (Err DiskFault) k = Unit {0}
 FindsText root s old new (Err NoMemory) k = Unit {0}
 
--- the text of an entry of an archive, by its place among the others
+-- The text of an entry that may be missing.
 abbrev pub text_if : Option Entry → Option (List ℕ)
 text_if None = None
 text_if (Some e) = Some e.text
 
--- what reading gives on the disk of an archive: the text of its entry, and no damage
+-- The results of reading on the disk of an archive: the text of the entry at an index, and no
+-- damage.
 abbrev pub GivesTextOf : Archive → ℕ → List ℕ → List ℕ → Result Unit TextRefusal → Type 0
 GivesTextOf a i old new (Ok _) = (text : List ℕ) × (text_if (slice_get a.entries i) ≡ Some text) × (new ≡ old ++ text)
 GivesTextOf a i old new (Err (Damaged named found)) = ⊥
 GivesTextOf a i old new (Err DiskFault) = Unit {0}
 GivesTextOf a i old new (Err NoMemory) = Unit {0}
 
--- a refusal tells of no damage
+-- An error that isn't damage.
 abbrev pub IsQuiet : TextRefusal → Type 0
 IsQuiet DiskFault = Unit {0}
 IsQuiet NoMemory = Unit {0}
 IsQuiet (Damaged named found) = ⊥
 
--- the same of an answer
+-- A result that isn't damage.
 abbrev pub AnswersQuietly : {T : Type 0} → Result T TextRefusal → Type 0
 AnswersQuietly (Ok made) = Unit {0}
 AnswersQuietly (Err e) = IsQuiet e
 
--- what asking for an epoch gives by what the root names: as many bytes as it names behind those before, or that it names none
+-- The results of reading an epoch by what the root names: that many bytes are appended, or the root
+-- names none.
 abbrev pub IsEpochFound : Root → ℕ → List ℕ → List ℕ → Result Bool TextRefusal → Type 0
 IsEpochFound root e old new (Ok true) = (bytes : List ℕ) × (length bytes ≡ (get_or root.epochs e no_place).length) × (0 < length bytes) × (new ≡ old ++ bytes)
 IsEpochFound root e old new (Ok false) = (get_or root.epochs e no_place).length ≡ 0
 IsEpochFound root e old new (Err refused) = Unit {0}
 
--- the bytes that are read stand at the front of the epoch's file
+-- The bytes that are read are those at the front of the epoch's file.
 abbrev pub FindsEpoch : Root → ℕ → List ℕ → List ℕ → Result Bool TextRefusal → Content → Type 0
 FindsEpoch root e old new (Ok true) k = (bytes : List ℕ) × StandsAt (bytes_of (k (epoch_file_of root e)).seen) 0 (get_or root.epochs e no_place).length bytes × (new ≡ old ++ bytes)
 FindsEpoch root e old new (Ok false) k = Unit {0}

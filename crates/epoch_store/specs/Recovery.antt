@@ -14,35 +14,35 @@ use Rattle.root_slots.specs.Valid.{IsRoot, RootFits, no_place}
 use Rattle.epoch_store.specs.Files.{StandsFor, IsExact}
 use Rattle.arch_model.specs.Validity.{IsArchive}
 
--- the entry of a number, where it has one
+-- The entry of a number, if it has one.
 abbrev pub entry_of : List Entry → ℕ → Option Entry
 entry_of [] n = None
 entry_of (e ∷ es) n = if e.number == n then Some e else entry_of es n
 
--- the record of a number: the epoch and the blob id of its message, or that it has none
+-- The record of a number: the epoch and the blob id of its message, or that it has none.
 abbrev pub record_for : ℕ → Option Entry → Record
 record_for n None = record { number = n; epoch = 4294967295; blob = record { 0 = replicate 20 0 } }
 record_for n (Some e) = record { number = n; epoch = e.epoch; blob = blob_id_of e.text }
 
--- the records of so many numbers from one on
+-- The records of `count` numbers from one on.
 abbrev pub records_from : List Entry → ℕ → ℕ → List Record
 records_from entries n zero = []
 records_from entries n (suc count) = record_for n (entry_of entries n) ∷ records_from entries (n + 1) count
 
--- the records of an archive: one for each number below the next one
+-- The records of an archive: one for each number below the next one.
 abbrev pub records_of : Archive → List Record
 records_of a = records_from a.entries 1 (a.next - 1)
 
--- the bytes of the map of an archive
+-- The bytes of the map of an archive.
 abbrev pub map_bytes : Archive → List ℕ
 map_bytes a = flat_map record_bytes (records_of a)
 
--- the bytes of an epoch of an archive
+-- The bytes of an epoch of an archive.
 abbrev pub bytes_in : Archive → ℕ → List ℕ
 bytes_in a e = epoch_bytes (in_epoch a.entries e)
 
--- A root names an archive: it has its settings and next number, and the lengths of its epochs; that of its map follows from the
--- next number. It names no cache.
+-- A root names an archive: it has its settings and next number, and the lengths of its epochs; the
+-- length of its map follows from the next number. It names no cache.
 pub record Names (root : Root) (a : Archive) : Type 0 where
   pub is_root : IsRoot root
   pub fits : RootFits root
@@ -51,27 +51,27 @@ pub record Names (root : Root) (a : Archive) : Type 0 where
   pub epochs : (e : ℕ) → e < 64 → (get_or root.epochs e no_place).length ≡ length (bytes_in a e)
   pub cache : root.cache.length ≡ 0
 
--- files stand for an archive by a root that names it
+-- Files stand for an archive by a root that names it.
 pub record RecoversBy (root : Root) (image : Files) (a : Archive) : Type 0 where
   pub valid : IsArchive a
   pub names : Names root a
   pub stands : StandsFor root (map_bytes a) (bytes_in a) image
 
--- files stand for an archive
+-- Files stand for an archive.
 abbrev pub Recovers : Files → Archive → Type 0
 Recovers image a = (root : Root) × RecoversBy root image a
 
--- files stand for an archive, or there is none: no slot is open
+-- Files stand for an archive, or for none: no slot is open.
 abbrev pub RecoversSome : Files → Option Archive → Type 0
 RecoversSome image None = IsShutFile (image root_name)
 RecoversSome image (Some a) = Recovers image a
 
--- files are exactly those of an archive by a root that names it
+-- Files are exactly those of an archive by a root that names it.
 pub record ExactBy (root : Root) (files : Files) (a : Archive) : Type 0 where
   pub valid : IsArchive a
   pub names : Names root a
   pub exact : IsExact root (map_bytes a) (bytes_in a) files
 
--- files are exactly those of an archive
+-- Files are exactly those of an archive.
 abbrev pub Exact : Files → Archive → Type 0
 Exact files a = (root : Root) × ExactBy root files a

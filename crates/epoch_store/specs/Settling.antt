@@ -1,5 +1,5 @@
--- How the disk of an archive is brought to rest: the other slot is made ready, tails are cut, and files that the root doesn't name
--- are taken away.
+-- How the disk of an archive is settled: the other slot is made ready, tails are cut, and files
+-- that the root doesn't name are removed.
 use Rattle.std.specs.Prelude.{◌≡◌, ◌≢◌, ◌⊎◌, ◌-◌, ◌<◌, ◌==◌, ◌&&◌, nat_lt, not, Bool, ℕ, List, [], ◌∷◌, length, map as mapped, get_or, Option, Some, None, IsSome}
 use Rattle.std.specs.List.{Contains, filter, range_with_len}
 use Rattle.disk_files.specs.Listing.{AreAllNames}
@@ -18,93 +18,99 @@ use Rattle.root_slots.specs.Spelling.{spelling}
 use Rattle.root_slots.specs.Valid.{no_place}
 use Rattle.epoch_store.specs.Files.{map_file_of, epoch_file_of, IsCache, StandsFor, as_read, IsOn}
 
--- a disk that told its content tells it still, and one that didn't tells none
+-- A disk that told its content still tells it, and one that didn't tells none.
 abbrev pub TellsAs : Option Content → Option Content → Type 0
 TellsAs old new = Told (λ (k m : Content). Unit {0}) old new
 
--- all that reads give is on the disk, and the current root is this body in this slot
+-- All that reads give is on the disk, and the current root is this body in this slot.
 pub record RestsOn (slot : ℕ) (body : List ℕ) (k : Content) : Type 0 where
   pub in_range : slot < 2
   pub settled : IsSettled k
   pub current : IfThere (Current slot body) (k root_name).seen
 
--- the same, of a disk that tells its content
+-- The same for a disk that tells its content.
 abbrev pub Rests : ℕ → List ℕ → Option Content → Type 0
 Rests slot body None = ⊥
 Rests slot body (Some k) = RestsOn slot body k
 
--- while the other slot is made ready, the current root stays, and all other files are as a crash before might have left them
+-- While the other slot is made ready, the current root stays, and all other files are as a crash
+-- before might have left them.
 pub record KeepsCurrent (slot : ℕ) (body : List ℕ) (k : Content) (image : Files) : Type 0 where
   pub root : IfThere (Current slot body) (image root_name)
   pub elsewhere : Elsewhere k image
 
--- the same, where the disk tells its content
+-- The same, if the disk tells its content.
 abbrev pub StaysCurrent : ℕ → List ℕ → Option Content → Files → Type 0
 StaysCurrent slot body None image = Unit {0}
 StaysCurrent slot body (Some k) image = KeepsCurrent slot body k image
 
--- the other slot is ready for the next root, no other file reads otherwise, and all of it is on the disk
+-- The other slot is ready for the next root, every other file reads as before, and all of it is on
+-- the disk.
 pub record IsReadied (slot : ℕ) (body : List ℕ) (old new : Content) : Type 0 where
   pub root : IfThere (Ready (1 - slot) body) (new root_name).seen
   pub elsewhere : (other : FileName) → other ≢ root_name → (new other).seen ≡ (old other).seen
   pub settled : IsSettled new
 
--- a root names a file with some bytes: the root file, the map's, or that of an epoch or a cache that has bytes
+-- A root names a file with some bytes: the root file, the map's, or that of an epoch or a cache
+-- that has bytes.
 abbrev pub IsKept : Root → (ℕ → List ℕ) → FileName → Type 0
 IsKept root epochs name =
     (name ≡ root_name) ⊎ ((name ≡ map_file_of root) ⊎ (((e : ℕ) × (e < 64) × (name ≡ epoch_file_of root e) × (epochs e ≢ [])) ⊎ IsCache root name))
 
--- A disk on which all is synced stands for a map and epochs of these bytes, of the lengths that the root names.
+-- A disk on which all is synced stands for a map and epochs of these bytes, with the lengths that
+-- the root names.
 pub record IsFound (root : Root) (slot : ℕ) (map : List ℕ) (epochs : ℕ → List ℕ) (k : Content) : Type 0 where
   pub rests : RestsOn slot (spelling root) k
   pub stands : StandsFor root map epochs (as_read k)
   pub map_long : root.map.length ≡ length map
   pub epochs_long : (e : ℕ) → e < 64 → (get_or root.epochs e no_place).length ≡ length (epochs e)
 
--- the same, of a disk that tells its content
+-- The same for a disk that tells its content.
 abbrev pub FoundOn : Root → ℕ → List ℕ → (ℕ → List ℕ) → Option Content → Type 0
 FoundOn root slot map epochs None = ⊥
 FoundOn root slot map epochs (Some k) = IsFound root slot map epochs k
 
--- What is asked of a disk that is to be brought to rest: it stands for a map and epochs of these bytes, and these other files are
--- just those that are there and aren't named.
+-- What settling a disk requires: it stands for a map and epochs of these bytes, and the other files
+-- are exactly those that are there and aren't named.
 pub record IsToSweep (root : Root) (slot : ℕ) (map : List ℕ) (epochs : ℕ → List ℕ) (others : List FileName) (k : Content) : Type 0 where
   pub found : IsFound root slot map epochs k
   pub spared : (name : FileName) → Contains others name → IsKept root epochs name → ⊥
   pub listed : (name : FileName) → IsSome (k name).seen → IsKept root epochs name ⊎ Contains others name
 
--- the same, of a disk that tells its content
+-- The same for a disk that tells its content.
 abbrev pub ToSweep : Root → ℕ → List ℕ → (ℕ → List ℕ) → List FileName → Option Content → Type 0
 ToSweep root slot map epochs others None = ⊥
 ToSweep root slot map epochs others (Some k) = IsToSweep root slot map epochs others k
 
--- a disk that tells its content is exactly that of a map and epochs by a root
+-- A disk that tells its content is exactly that of a map and epochs by a root.
 abbrev pub OnDisk : Root → ℕ → List ℕ → (ℕ → List ℕ) → Option Content → Type 0
 OnDisk root slot map epochs None = ⊥
 OnDisk root slot map epochs (Some k) = IsOn root slot map epochs k
 
--- the part of an epoch's file that a root names
+-- The part of an epoch's file that a root names.
 abbrev pub epoch_part_of : Root → ℕ → FilePart
 epoch_part_of root e = record { file = epoch_file_of root e; length = (get_or root.epochs e no_place).length }
 
--- the parts of the files that a root names: the map's, and those of the epochs
+-- The parts of the files that a root names: the map's, and those of the epochs.
 abbrev pub named_parts_of : Root → List FilePart
 named_parts_of root = record { file = map_file_of root; length = root.map.length } ∷ mapped (epoch_part_of root) (range_with_len 0 64)
 
--- a place has bytes, and is that of a file of this generation
+-- A `Place` has bytes and this generation.
 abbrev pub has_place : Place → ℕ → Bool
 has_place place gen_ = nat_lt 0 place.length && place.gen_ == gen_
 
--- whether a root names a file: the root file itself, the map's, or that of an epoch or a cache that has bytes
+-- Whether a root names a file, by the parts of its name: the root file itself, the map's, or that
+-- of an epoch or a cache that has bytes.
 abbrev pub named_by : Root → FileKind → ℕ → ℕ → Bool
 named_by root kind.Root number gen_ = number == 0 && gen_ == 0
 named_by root kind.Map number gen_ = number == 0 && gen_ == root.map.gen_
 named_by root kind.Epoch number gen_ = nat_lt number 64 && has_place (get_or root.epochs number no_place) gen_
 named_by root kind.Cache number gen_ = number == 0 && has_place root.cache gen_
 
+-- Whether a root names a file.
 abbrev pub names_file : Root → FileName → Bool
 names_file root name = named_by root name.kind name.number name.gen_
 
--- these are the files of a disk that a root doesn't name
+-- These are the files of a disk that a root doesn't name.
 abbrev pub AreOthers : Root → List FileName → Content → Type 0
 AreOthers root others k = (names : List FileName) × AreAllNames names k × (others ≡ filter (λ (name : FileName). not (names_file root name)) names)

@@ -25,17 +25,18 @@ use Rattle.epoch_store.specs.Files.{map_file_of, epoch_file_of, IsOn}
 use Rattle.arch_model.specs.Validity.{IsArchive}
 use Rattle.epoch_store.specs.Recovery.{Names, map_bytes, bytes_in, Recovers}
 
--- What is kept in memory: the current root and its slot, and of each entry all but its text.
+-- What is kept in memory: the current root and its slot, and each entry without its text.
 pub record View : Type 0 where
   pub root : Root
   pub slot : ℕ
   pub entries : List StoredEntry
 
--- an entry as it stands in its epoch's file
+-- An entry as it is in its epoch's file.
 abbrev pub in_file : Entry → EpochEntry
 in_file e = record { name = message_name; text = e.text; moment = e.moment }
 
--- what is kept of an entry behind others: it stands behind those of its epoch, and behind the epoch's first eight bytes
+-- What is kept of an entry after others: its offset follows the epoch's first eight bytes and the
+-- other entries of its epoch.
 abbrev pub stored_at : List Entry → Entry → StoredEntry
 stored_at before e = record {
   number = e.number;
@@ -43,7 +44,7 @@ stored_at before e = record {
   seen = seen_at (8 + length (entries_bytes None (in_epoch before e.epoch))) (last_commit None (in_epoch before e.epoch)) (in_file e);
 }
 
--- what is kept of entries behind others
+-- What is kept of entries after others.
 abbrev pub stored_behind : List Entry → List Entry → List StoredEntry
 stored_behind before [] = []
 stored_behind before (e ∷ es) = stored_at before e ∷ stored_behind (before ++ e ∷ []) es
@@ -54,28 +55,30 @@ pub record Keeps (v : View) (a : Archive) : Type 0 where
   pub names : Names v.root a
   pub kept : v.entries ≡ stored_behind [] a.entries
 
--- A disk is a store's own, and holds this archive: the store keeps it, and the disk is exactly the archive's by the store's root.
+-- A disk is a store's own, and holds this archive: the store keeps it, and the disk is exactly the
+-- archive's by the store's root.
 pub record IsDiskOf (v : View) (a : Archive) (k : Content) : Type 0 where
   pub keeps : Keeps v a
   pub on : IsOn v.root v.slot (map_bytes a) (bytes_in a) k
 
--- the same, of a disk that tells its content
+-- The same for a disk that tells its content.
 abbrev pub IsStoreOf : View → Archive → Option Content → Type 0
 IsStoreOf v a None = ⊥
 IsStoreOf v a (Some k) = IsDiskOf v a k
 
--- the one archive or the other
+-- Files stand for one archive or the other.
 abbrev pub RecoversEither : Archive → Archive → Files → Type 0
 RecoversEither a b image = Recovers image a ⊎ Recovers image b
 
--- the files that a store names have their sizes at least: the root file its own, and map and epochs what the root says
+-- The files that a store names have at least their sizes: the root file its own, and map and epochs
+-- those that the root names.
 pub record HasSizes (v : View) (k : Content) : Type 0 where
   pub root : HasRootSize k
   pub map_long : v.root.map.length ≤ length (bytes_of (k (map_file_of v.root)).seen)
   pub epochs_long : (e : ℕ) → e < 64 → (get_or v.root.epochs e no_place).length ≤ length (bytes_of (k (epoch_file_of v.root e)).seen)
 
--- A new text would be accepted: the archive is no mirror and has a number left, the text is a storage text, and no entry has its own
--- id or its blob id.
+-- A new text would be accepted: the archive is no mirror and has a number left, the text is a
+-- storage text, and no entry has its own id or its blob id.
 pub record Accepts (v : View) (text : List ℕ) : Type 0 where
   pub writable : v.root.config.mirror ≡ false
   pub number_left : v.root.next ≤ v.root.config.max
@@ -83,17 +86,17 @@ pub record Accepts (v : View) (text : List ℕ) : Type 0 where
   pub id : AllByRecursion (λ (e : StoredEntry). own_id text ≢ Some e.seen.id) v.entries
   pub blob : AllByRecursion (λ (e : StoredEntry). blob_id_of text ≢ e.seen.blob) v.entries
 
--- the entries of a store stand in epochs of 0 to 63
+-- The entries of a store are in epochs 0 to 63.
 abbrev pub InEpochs : List StoredEntry → Type 0
 InEpochs entries = (i : ℕ) (e : StoredEntry) → slice_get entries i ≡ Some e → e.epoch ≤ 63
 
--- the epoch of the last entry of an archive, or 0, and its last commit
+-- The epoch of the last entry of an archive, or 0, and its last commit.
 pub record IsEnd (a : Archive) (end_ : End) : Type 0 where
   pub epoch : end_.epoch ≡ last_epoch a.entries
   pub parent : end_.parent ≡ last_commit None (in_epoch a.entries (last_epoch a.entries))
 
--- Where the next entry of an archive goes: its epoch, and the file of that epoch, behind its bytes and its last commit; where
--- the epoch has no bytes, a new file of this generation.
+-- Where the next entry of an archive is written: its epoch, and the file of that epoch, after its
+-- bytes and its last commit. If the epoch has no bytes, it is a new file of this generation.
 pub record IsNextPlace (root : Root) (a : Archive) (new_gen : ℕ) (p : NextPlace) : Type 0 where
   pub epoch : p.epoch ≡ new_epoch a
   pub length_is : p.length ≡ length (bytes_in a p.epoch)
@@ -101,11 +104,11 @@ pub record IsNextPlace (root : Root) (a : Archive) (new_gen : ℕ) (p : NextPlac
   pub new : bytes_in a p.epoch ≡ [] → p.gen_ ≡ new_gen
   pub parent : p.parent ≡ last_commit None (in_epoch a.entries p.epoch)
 
--- one more, up to the greatest number of 64 bits
+-- One more, up to 2^64 - 1.
 abbrev pub next_sequence : ℕ → ℕ
 next_sequence n = min (n + 1) (2 ^ 64 - 1)
 
--- the root behind one more entry: its epoch's file ends here now, and the map has one record more
+-- The root after one more entry: the epoch's file ends here, and the map has one more record.
 abbrev pub root_after : Root → NextPlace → ℕ → Root
 root_after root p end_ = record {
   config = root.config;
@@ -116,7 +119,7 @@ root_after root p end_ = record {
   cache = root.cache;
 }
 
--- the place behind the bytes of an epoch of a root, or at the front of a new file
+-- The place after the bytes of an epoch of a root, or at the front of a new file.
 abbrev pub place_of : Root → ℕ → Option Id20 → NextPlace
 place_of root epoch parent = record {
   epoch = epoch;
@@ -125,22 +128,23 @@ place_of root epoch parent = record {
   parent = parent;
 }
 
--- a new entry is a message behind the last commit of its epoch
+-- A new entry is a message after the last commit of its epoch.
 pub record IsMessage (p : NextPlace) (entry : NewEntry) : Type 0 where
   pub name : entry.name ≡ message_name
   pub parent : entry.parent ≡ p.parent
 
--- This place is that of the next entry of the archive, its text would be accepted, and there is a next root.
+-- This place is that of the next entry of the archive, its text would be accepted, and there is a
+-- next root.
 pub record GoesNext (v : View) (a : Archive) (p : NextPlace) (entry : NewEntry) : Type 0 where
   pub place : IsNextPlace v.root a (next_sequence v.root.sequence) p
   pub accepts : Accepts v entry.text.now
   pub room : v.root.sequence + 1 < 2 ^ 64
 
--- the archive with a new entry as a message
+-- The archive with a new entry as a message.
 abbrev pub with_message : Archive → NextPlace → NewEntry → Archive
 with_message a p entry = with_entry a p.epoch entry.text.now entry.moment
 
--- what the store keeps then
+-- What the store keeps after a new entry.
 abbrev pub view_after : View → Archive → Root → NextPlace → NewEntry → View
 view_after v a root p entry = record {
   root = root;
@@ -148,8 +152,8 @@ view_after v a root p entry = record {
   entries = v.entries ++ stored_at a.entries (record { number = a.next; epoch = p.epoch; text = entry.text.now; moment = entry.moment }) ∷ [];
 }
 
--- One more entry stands behind those that were kept: it has the next number, and the ids of a text. The next number is one more,
--- and the settings stay.
+-- One more entry follows those that were kept. It has the next number and the ids of a text. The
+-- next number is one more, and the settings stay.
 pub record AddsEntry (old new : View) (text : List ℕ) : Type 0 where
   pub entry : StoredEntry
   pub entries : new.entries ≡ old.entries ++ entry ∷ []
@@ -160,7 +164,7 @@ pub record AddsEntry (old new : View) (text : List ℕ) : Type 0 where
   pub next : new.root.next ≡ old.root.next + 1
   pub config : new.root.config ≡ old.root.config
 
--- a call that doesn't read never says that a file is damaged
+-- A call that doesn't read never returns `Damaged`.
 abbrev pub SeesNoDamage : {T : Type 0} → Result T StoreRefusal → Type 0
 SeesNoDamage (Ok given) = Unit {0}
 SeesNoDamage (Err DiskFault) = Unit {0}

@@ -1,4 +1,4 @@
--- What is left of a disk while bytes are put behind those of two files.
+-- What is left of a disk while bytes are appended to two files.
 use Rattle.std.specs.Prelude.{◌≡◌, ◌≢◌, ℕ, List, Option, Some, None}
 use Rattle.disk_model.specs.declared.name.FileName.{FileName}
 use Rattle.disk_model.specs.Disk.{Files, Content, Fits, bytes_of, overlay}
@@ -9,24 +9,25 @@ use Rattle.number_map.specs.declared.line.Record.{Record}
 use Rattle.epoch_file.specs.declared.entry.NewEntry.{NewEntry}
 use Rattle.epoch_store.specs.declared.putting.Part.{Part}
 
--- two files as a crash leaves them up to a place each, and every other file as before
+-- A crash leaves two files with their bytes up to an offset each, and every other file as before.
 pub record IsAppending (first second : Part) (k : Content) (image : Files) : Type 0 where
   pub first_front : FrontOrigin first.place (k first.file).sure (image first.file)
   pub second_front : FrontOrigin second.place (k second.file).sure (image second.file)
   pub elsewhere : (other : FileName) → other ≢ first.file → other ≢ second.file → Fits (k other).sure (image other)
 
--- the same, where the disk tells its content
+-- The same, if the disk tells its content.
 abbrev pub Appending : Part → Part → Option Content → Files → Type 0
 Appending first second None image = Unit {0}
 Appending first second (Some k) image = IsAppending first second k image
 
--- after them: the bytes stand in both files from their places on, no other file reads otherwise, and all of it is on the disk
+-- After the appends both files have the bytes at their offsets, every other file reads as before,
+-- and all of it is on the disk.
 pub record AreAppended (first : Part) (bytes : List ℕ) (second : Part) (more : List ℕ) (old new : Content) : Type 0 where
   pub first_file : (new first.file).seen ≡ Some (overlay first.place bytes (bytes_of (old first.file).seen))
   pub second_file : (new second.file).seen ≡ Some (overlay second.place more (bytes_of (old second.file).seen))
   pub elsewhere : (other : FileName) → other ≢ first.file → other ≢ second.file → (new other).seen ≡ (old other).seen
   pub settled : IsSettled new
 
--- the record of a number whose message is a new entry of the epoch that has this file
+-- The record of a number whose message is a new entry of the epoch with this file.
 abbrev pub line_of : ℕ → Part → NewEntry → Record
 line_of number epoch entry = record { number = number; epoch = epoch.file.number; blob = blob_id_of entry.text.now }

@@ -1,13 +1,13 @@
-//! What is kept of an entry in memory.
+//! The entries of an archive as they are kept in memory.
 use epoch_file::Seen;
 
-/// An entry, all but its text.
+/// An entry without its text.
 #[derive(Debug, Drop)]
 pub struct StoredEntry {
     /// The number of its message.
     pub number: u32,
-    /// The epoch that it stands in.
+    /// The epoch that it is in.
     pub epoch: u32,
-    /// What is seen of it in the epoch's file.
+    /// What was recorded of it when the epoch's file was read or written.
     pub seen: Seen,
 }

@@ -1,4 +1,4 @@
-//! What is read of the epochs of an archive on a disk.
+//! Reads the epochs of an archive on a disk.
 ghost use Rattle.std.specs.Prelude.{◌≡◌, ◌<◌, ◌≤◌, ◌+◌, get_or, Err};
 ghost use Rattle.arch_base.specs.Counts.{Rose};
 ghost use Rattle.arch_model.specs.Archives.{Archive, in_epoch};
@@ -16,14 +16,14 @@ use arch_model::TextRefusal;
 use disk_model::Disk;
 
 impl Store {
-    /// The sequence of the current root.
+    /// Returns the sequence of the current root.
     pub fn sequence(&self) -> u64
         ensures { result ≡ self.now.root.sequence }
     {
         self.root.sequence
     }
 
-    /// How many bytes of an epoch the root names, none of one that there is not.
+    /// Returns the number of bytes of an epoch that the root names, 0 if there is no such epoch.
     fn named_length(&self, epoch: u32) -> u64
         ensures length { result ≡ (get_or self.now.root.epochs epoch no_place).length }
         ensures there { 0 < result → epoch ≤ 63 }
@@ -34,12 +34,13 @@ impl Store {
         }
     }
 
-    /// Puts the bytes of an epoch behind others, read by one call of the disk, and says whether it has an entry: false comes
-    /// exactly where the root names no bytes of it.
+    /// Appends the bytes of an epoch to `into`, and returns whether the epoch has an entry.
     ///
-    /// DiskFault comes only where the disk's count of faults rose, and NoMemory only for want of memory; that a file is damaged
-    /// is never answered. A refusal leaves the bytes as they were, and so does an epoch without an entry. Nothing changes on the
-    /// disk.
+    /// Reads the disk at most once. `false` comes exactly if the root names no bytes of the epoch,
+    /// and leaves the bytes unchanged. Nothing changes on the disk.
+    ///
+    /// `DiskFault` comes only if the disk's count of faults rose, and `NoMemory` only if memory
+    /// runs out; `Damaged` never comes. An error leaves the bytes unchanged.
     pub fn epoch<D: Disk>(
         &self,
         disk: &mut D,

@@ -1,4 +1,4 @@
-//! What an archive's files have, read from the root to the last epoch before anything is changed.
+//! Reads an archive's files, from the root to the last epoch. Changes nothing.
 ghost use Rattle.std.specs.Prelude.{◌≡◌, ◌≢◌, ◌+◌, ◌<◌, ◌≤◌, Err, IfOk, get_or};
 ghost use Rattle.arch_base.specs.Counts.{Rose};
 ghost use Rattle.disk_model.specs.Disk.{Files, Image, Told, WhereTold, Unchanged, LeavesOnly};
@@ -21,7 +21,7 @@ use number_map::Records;
 use root_slots::{Place, Root, RootRefusal, root_fits};
 use std::alloc::Global;
 
-/// What is found of an archive: its current root, the root's slot, and what is kept of its entries.
+/// An archive as found: its current root, the root's slot, and its entries without texts.
 #[derive(Drop)]
 pub(crate) struct Found {
     pub(crate) root: Root,
@@ -29,7 +29,7 @@ pub(crate) struct Found {
     pub(crate) entries: Vec<StoredEntry>,
 }
 
-/// The root file.
+/// Returns the name of the root file.
 fn root_file() -> FileName
     ensures { result ≡ root_name }
 {
@@ -40,7 +40,9 @@ fn root_file() -> FileName
     }
 }
 
-/// The place of an epoch that a root names: no byte of generation 0 where there is no such epoch.
+/// Returns the `Place` of an epoch that a root names.
+///
+/// It has length 0 and generation 0 if there is no such epoch.
 fn named_place(root: &Root, epoch: u32) -> Place
     ensures { result ≡ get_or root.now.epochs epoch no_place }
 {
@@ -50,14 +52,14 @@ fn named_place(root: &Root, epoch: u32) -> Place
     }
 }
 
-/// The file of an epoch that a root names.
+/// Returns the file of an epoch that a root names.
 fn named_file(root: &Root, epoch: u32) -> FileName
     ensures { result ≡ epoch_file_of root.now epoch }
 {
     epoch_file(epoch, named_place(root, epoch).gen_)
 }
 
-/// The current root and its slot.
+/// Reads the current root and its slot.
 fn find_root<D: Disk>(disk: &mut D) -> Result<(u8, Root), OpenRefusal>
     ensures found { WhereTold (λ k. FindsRoot (as_read k) result) (D.content disk.old) }
     ensures slot { IfOk result (λ found. found.0 < 2) }
@@ -80,7 +82,7 @@ fn find_root<D: Disk>(disk: &mut D) -> Result<(u8, Root), OpenRefusal>
     }
 }
 
-/// The records of the map that a root names.
+/// Reads the records of the map that a root names.
 fn find_records<D: Disk>(alloc: Global, disk: &mut D, root: &Root) -> Result<Records, OpenRefusal>
     requires root { IsRoot root.now }
     ensures found { WhereTold (λ k. FindsRecords root.now (as_read k) result) (D.content disk.old) }
@@ -96,7 +98,9 @@ fn find_records<D: Disk>(alloc: Global, disk: &mut D, root: &Root) -> Result<Rec
     }
 }
 
-/// The entries of an epoch joined to others, or the place of the first one that can't be.
+/// Joins the entries of an epoch to others.
+///
+/// `Damaged` has the offset of the first entry that can't be joined.
 fn take(root: &Root, epoch: u32, joining: Joining, seen: SeenList) -> Result<Joining, OpenRefusal>
     requires small { epoch ≤ 63 }
     requires before { AreBefore epoch joining.entries }
@@ -115,8 +119,10 @@ fn take(root: &Root, epoch: u32, joining: Joining, seen: SeenList) -> Result<Joi
     }
 }
 
-/// Why an epoch isn't read whose entries are these before a place where no next one stands: one of these may not be
-/// joined to others, and else it is that place.
+/// Returns why an epoch isn't read whose entries, up to the offset `at`, are these.
+///
+/// `Damaged` has the offset of the first of these entries that can't be joined to others, or `at`
+/// if all can.
 fn stop_in(root: &Root, epoch: u32, joining: Joining, at: u64, seen: SeenList) -> OpenRefusal
     requires small { epoch ≤ 63 }
     requires behind { 8 < at }
@@ -134,8 +140,10 @@ fn stop_in(root: &Root, epoch: u32, joining: Joining, at: u64, seen: SeenList) -
     }
 }
 
-/// Why an epoch isn't read in whose file no entry stands at a place: one before it may not be joined to others, and else it
-/// is that place.
+/// Returns why an epoch isn't read whose file has no entry at the offset `at`.
+///
+/// `Damaged` has the offset of the first entry before it that can't be joined to others, or `at` if
+/// all can.
 fn stop_at<D: Disk>(
     alloc: Global,
     disk: &mut D,
@@ -157,14 +165,16 @@ fn stop_at<D: Disk>(
     }
     match epoch_file::walk(alloc, disk, file, at) {
         Ok(seen) => stop_in(root, epoch, joining, at, seen),
-        // The bytes up to there are an epoch.
+        // The bytes before the offset are an epoch.
         Err(WalkRefusal::Damaged { at: _ }) => OpenRefusal::Damaged { file, at },
         Err(WalkRefusal::DiskFault) => OpenRefusal::DiskFault,
         Err(WalkRefusal::NoMemory) => OpenRefusal::NoMemory,
     }
 }
 
-/// The entries of an epoch that a root names joined to others. One of no byte has none.
+/// Reads the entries of an epoch that a root names, and joins them to others.
+///
+/// An epoch of length 0 has none.
 fn join_epoch<D: Disk>(
     alloc: Global,
     disk: &mut D,
@@ -191,7 +201,7 @@ fn join_epoch<D: Disk>(
     }
 }
 
-/// The entries of all epochs that a root names, joined to the records of the map.
+/// Reads the entries of all epochs that a root names, and joins them to the records of the map.
 fn join_all<D: Disk>(
     alloc: Global,
     disk: &mut D,
@@ -214,8 +224,9 @@ fn join_all<D: Disk>(
     Ok(joining)
 }
 
-/// What is kept of the entries, where all records of the map that have a message have one. Else the epoch of the first other
-/// one is damaged, at its end.
+/// Returns the entries if each record of the map that has a message has one.
+///
+/// Otherwise the epoch of the first record without an entry is `Damaged`, at its end.
 fn finish(root: &Root, joining: Joining) -> Result<Vec<StoredEntry>, OpenRefusal>
     ensures ends { EndsWith root.now joining result }
     ensures kept { IfOk result (λ kept. kept.items ≡ joining.entries) }
@@ -230,7 +241,7 @@ fn finish(root: &Root, joining: Joining) -> Result<Vec<StoredEntry>, OpenRefusal
     }
 }
 
-/// What is kept of the entries of all epochs that a root names, whose map has these records.
+/// Reads the entries of all epochs that a root names, whose map has these records.
 fn read_epochs<D: Disk>(
     alloc: Global,
     disk: &mut D,
@@ -251,7 +262,7 @@ fn read_epochs<D: Disk>(
     }
 }
 
-/// What is kept of the entries that a root names.
+/// Reads the entries that a root names.
 fn find_entries<D: Disk>(
     alloc: Global,
     disk: &mut D,
@@ -270,14 +281,17 @@ fn find_entries<D: Disk>(
     }
 }
 
-/// What is found of an archive on a disk, which stays as it is: all that its files have is read, and held against the map.
+/// Reads an archive on a disk: all that its root names, checked against the map.
 ///
-/// NoArchive comes only where no slot of the root is open. Damaged comes only where the files that the root names leave
-/// their form, with the first place where they do: of the root, then of the map, then of the epochs in order. DiskFault comes
-/// only where the disk's count of faults rose, and NoMemory only for want of memory.
+/// The disk stays as it is.
+///
+/// `NoArchive` comes only if no slot of the root is open. `Damaged` comes only if a file that the
+/// root names isn't in its form; it has the first such offset, in the root, then the map, then the
+/// epochs in order. `DiskFault` comes only if the disk's count of faults rose, and `NoMemory` only
+/// if memory runs out.
 pub(crate) fn find<D: Disk>(alloc: Global, disk: &mut D) -> Result<Found, OpenRefusal>
     ensures found { WhereTold (λ k. Finds (as_read k) result) (D.content disk.old) }
-    // Whatever the disk tells, it is a root of a slot, and entries of epochs 0 to 63.
+    // Whatever the disk tells, the result has a root, its slot, and entries of epochs 0 to 63.
     ensures slot { IfOk result (λ found. found.slot < 2) }
     ensures root { IfOk result (λ found. IsRoot found.root) }
     ensures epochs { IfOk result (λ found. AreBefore 64 found.entries.items) }

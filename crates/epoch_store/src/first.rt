@@ -21,14 +21,14 @@ use disk_model::{Disk, DiskFault, FileName, WalkRefusal};
 use root_slots::{Place, Root, RootRefusal, begin, fill, raise, read};
 use std::alloc::Global;
 
-/// The root of an archive without entries.
+/// Returns the root of an archive without entries.
 pub fn first_root(config: &Config) -> Root
     requires { IsConfig config.now }
     ensures root { result ≡ first_root_of config.now }
     ensures valid { IsRoot result }
     ensures name { IsName config.now.name }
 {
-    // Its name is one, which the slice brings into the proof.
+    // The slice brings into the proof that the name is valid.
     let _name = config.name.as_slice();
     Root {
         config: config.copy(),
@@ -40,12 +40,12 @@ pub fn first_root(config: &Config) -> Root
     }
 }
 
-/// Takes all files away, and makes a root file with the first root.
+/// Removes all files, and creates a root file with the first root.
 pub fn make<D: Disk>(disk: &mut D, names: &[FileName], root: &Root) -> Result<(), DiskFault>
     requires root { IsRoot root.now }
-    // Where no crash leaves an open slot before, at each moment a crash leaves none, or the root.
+    // If no crash leaves an open slot before, at each moment a crash leaves none, or the root.
     ensures any_moment { EachShut (D.content disk.old) → LeavesOnly D.moment D.left_since disk.old disk.new (MakesRoot (spelling root.now) (D.content disk.old)) }
-    // After Ok it is the root, the other slot is ready, and there is no other file.
+    // After `Ok` a crash leaves the root, the other slot is ready, and there is no other file.
     ensures done { WhereTold (AreAllNames names.now) (D.content disk.old) → 0 < root.now.sequence → OnOk result (WhereTold (HasOnly (spelling root.now)) (D.content disk.new)) }
     ensures told { OnOk result (Told (λ old new. Unit {0}) (D.content disk.old) (D.content disk.new)) }
     ensures cause { IsCaused (D.faults disk.old) (D.faults disk.new) result }
@@ -57,7 +57,7 @@ pub fn make<D: Disk>(disk: &mut D, names: &[FileName], root: &Root) -> Result<()
     raise_first(disk, root)
 }
 
-/// Puts the first root into slot 0 of a root file of zeros, and opens its gate.
+/// Writes the first root to slot 0 of a root file of zeros, and opens its gate.
 pub fn raise_first<D: Disk>(disk: &mut D, root: &Root) -> Result<(), DiskFault>
     requires size { WhereTold HasRootSize (D.content disk.old) }
     requires root { IsRoot root.now }
@@ -73,8 +73,9 @@ pub fn raise_first<D: Disk>(disk: &mut D, root: &Root) -> Result<(), DiskFault>
     raise(disk, 0)
 }
 
-/// Whether there is no archive: it syncs, and no slot of the root is open. Exists comes exactly where one is, and nothing but the
-/// sync is done.
+/// Syncs, and checks that there is no archive: no slot of the root is open.
+///
+/// `Exists` comes exactly if a slot is open. Nothing is done but the sync.
 pub fn no_archive<D: Disk>(disk: &mut D) -> Result<(), InitRefusal>
     ensures any_moment { LeavesOnly D.moment D.left_since disk.old disk.new (Image (D.content disk.old)) }
     ensures answer { WhereTold (MakingAnswers result) (D.content disk.old) }
@@ -92,7 +93,7 @@ pub fn no_archive<D: Disk>(disk: &mut D) -> Result<(), InitRefusal>
     }
 }
 
-/// The names of all files.
+/// Returns the names of all files, in order.
 pub fn all_names<D: Disk>(alloc: Global, disk: &mut D) -> Result<FileNames, InitRefusal>
     ensures names { IfOk result (λ names. WhereTold (AreAllNames names) (D.content disk.old)) }
     ensures same { Told Unchanged (D.content disk.old) (D.content disk.new) }

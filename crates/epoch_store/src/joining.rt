@@ -1,4 +1,4 @@
-//! The entries of the epochs, joined to the records of the map.
+//! Joins the entries of the epochs to the records of the map.
 ghost use Rattle.std.specs.Prelude.{◌≡◌, ◌+◌, ◌<◌, ◌≤◌, [], IfOk, IfErr};
 ghost use Rattle.epoch_store.specs.Damage.{messages, has_message};
 ghost use Rattle.epoch_store.specs.Joined.{Wants, JoinsOne, AreBefore, TakesEpoch, Finishes};
@@ -14,8 +14,10 @@ use std::marker::Model;
 /// The name of a message's file.
 const MESSAGE: u8 = b'm';
 
-/// The records of a map that have a message, and what is kept of the entries that have come so far: those of the first records,
-/// in order, each with an own id and a blob id that no other has.
+/// The records of a map that have a message, and the entries so far.
+///
+/// These are the entries of the first records, in order, each with an own id and a blob id that no
+/// other has.
 #[derive(Drop)]
 pub(crate) struct Joining {
     records: Vec<Record>,
@@ -33,7 +35,7 @@ impl Model for Joining {
     ghost invariant = { λ j. AreKnown j.entries.items j.known × HaveEpochs j.records.items };
 }
 
-/// The records that have a message.
+/// Returns the records that have a message.
 fn with_message(alloc: Global, records: &[Record]) -> Result<Vec<Record>, AllocError>
     ensures { IfOk result (λ kept. kept.items ≡ messages records.now) }
 {
@@ -45,7 +47,7 @@ fn with_message(alloc: Global, records: &[Record]) -> Result<Vec<Record>, AllocE
 }
 
 impl Joining {
-    /// The records of a map, and no entry yet.
+    /// Starts with the records of a map, and no entry yet.
     #[tactic(auto, using(crate::proofs::Firsts::messages_small))]
     pub(crate) fn new(alloc: Global, records: &Records) -> Result<Joining, NoMemory>
         ensures records { IfOk result (λ joining. joining.records ≡ messages records.now) }
@@ -59,7 +61,7 @@ impl Joining {
         })
     }
 
-    /// The number of the next record, where it is that of an entry of an epoch.
+    /// Returns the number of the next record if an entry of an epoch is that record's message.
     fn wanted(&self, epoch: u32, seen: &Seen) -> Option<u32>
         ensures { Wants self.now epoch seen.now result }
     {
@@ -76,7 +78,9 @@ impl Joining {
         Some(record.number)
     }
 
-    /// One entry more, or its place, where it isn't wanted or hasn't ids of its own.
+    /// Joins one more entry.
+    ///
+    /// `Damaged` has the entry's offset if it isn't the next record's or lacks ids of its own.
     fn take_one(self, epoch: u32, seen: Seen) -> Result<Joining, JoinRefusal>
         ensures { JoinsOne self epoch seen result }
     {
@@ -112,11 +116,13 @@ impl Joining {
         })
     }
 
-    /// The entries of an epoch more: those that its file has, in order. The epochs are taken one behind the other, each at most
-    /// once.
+    /// Joins the entries of an epoch's file, in order.
     ///
-    /// Damaged comes exactly where an entry isn't the message of the map's next record, or has the own id or the blob id of an
-    /// earlier one, with the place of the first such entry. NoMemory comes only for want of memory. All is dropped then.
+    /// Epochs are taken one after the other, each at most once.
+    ///
+    /// `Damaged` comes exactly if an entry isn't the message of the map's next record, or has the
+    /// own id or the blob id of an earlier one; it has the offset of the first such entry.
+    /// `NoMemory` comes only if memory runs out. An error drops everything.
     pub(crate) fn take_epoch(self, epoch: u32, seen: SeenList) -> Result<Joining, JoinRefusal>
         requires small { epoch ≤ 63 }
         requires before { AreBefore epoch self.entries }
@@ -133,8 +139,9 @@ impl Joining {
         Ok(joining)
     }
 
-    /// What is kept of the entries, where all records of the map that have a message have one. Else the epoch that the first
-    /// other message should stand in.
+    /// Returns the entries if each record of the map that has a message has one.
+    ///
+    /// Otherwise returns the epoch of the first message without an entry.
     pub(crate) fn finish(self) -> Result<Vec<StoredEntry>, Unmatched>
         ensures finished { Finishes self result }
         ensures kept { IfOk result (λ kept. kept.items ≡ self.entries) }

@@ -10,13 +10,13 @@ use thiserror::Error;
 /// Why the entries of an epoch weren't joined to the records of the map.
 #[derive(Debug, Drop, PartialEq, Eq, Error)]
 pub(crate) enum JoinRefusal {
-    /// Memory was wanted, and there was none.
+    /// A call ran out of memory.
     #[error("out of memory")]
     NoMemory,
-    /// An entry isn't the next one of the map, or hasn't ids of its own.
+    /// An entry isn't the next one of the map, or lacks ids of its own.
     #[error("the entry at {at} does not belong there")]
     Damaged {
-        /// The place of the entry in its epoch's file, in bytes.
+        /// The offset of the entry in its epoch's file, in bytes.
         at: u64,
     },
 }
@@ -32,11 +32,11 @@ impl From<NoMemory> for JoinRefusal {
     }
 }
 
-/// The map has a message that stands in no epoch.
+/// The map has a message that is in no epoch.
 #[derive(Clone, Copy, Debug, Drop, PartialEq, Eq, Error)]
 #[error("a message is not in epoch {epoch}")]
 pub(crate) struct Unmatched {
-    /// The epoch that the first such message should stand in.
+    /// The epoch of the first such message, by the map.
     pub epoch: u32,
 }
 
@@ -47,7 +47,7 @@ pub(crate) struct Known {
     pub(crate) blobs: BTreeSet<[u8; 20]>,
 }
 
-/// No ids.
+/// Creates empty sets of ids.
 pub(crate) fn known_of_none(alloc: Global) -> Known
     ensures ids { result.ids.keys ≡ [] }
     ensures blobs { result.blobs.keys ≡ [] }
@@ -58,7 +58,7 @@ pub(crate) fn known_of_none(alloc: Global) -> Known
     }
 }
 
-/// Puts an own id to the others, and says whether it is new.
+/// Adds an own id, and returns whether it is new.
 pub(crate) fn add_id(ids: &mut BTreeSet<Vec<u8>>, id: &Bytes) -> Result<bool, NoMemory>
     ensures { IfOk result (AddsOne (id_in ids.old) (id_in ids.new) id.now) }
 {
@@ -66,7 +66,7 @@ pub(crate) fn add_id(ids: &mut BTreeSet<Vec<u8>>, id: &Bytes) -> Result<bool, No
     Ok(ids.insert(key)?)
 }
 
-/// Puts a blob id to the others, and says whether it is new.
+/// Adds a blob id, and returns whether it is new.
 pub(crate) fn add_blob(blobs: &mut BTreeSet<[u8; 20]>, blob: &ObjectId) -> Result<bool, NoMemory>
     ensures { IfOk result (AddsOne (blob_in blobs.old) (blob_in blobs.new) blob.now.0) }
 {

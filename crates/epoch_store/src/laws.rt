@@ -5,7 +5,7 @@ use epoch_file::law_of_epochs;
 use number_map::law_of_records;
 use root_slots::law_of_spellings;
 
-/// Files stand for at most one archive, and not for one and for none.
+/// Files stand for at most one archive, and never both for an archive and for none.
 pub fn law_of_recovery()
     ensures one { RecoversOne }
     ensures some_one { RecoversSomeOne }
@@ -15,8 +15,11 @@ pub fn law_of_recovery()
     law_of_epochs();
 }
 
-/// A store's own disk is exactly that of its archive, and each crash leaves files that stand for it. Files that are exactly
-/// an archive's stand for it.
+/// A store's own disk is exactly that of its archive.
+///
+/// Each crash of it leaves files that stand for the archive.
+///
+/// Files that are exactly an archive's stand for it.
 #[tactic(auto, using(crate::proofs::Unique::store_recovers, crate::proofs::Unique::exact_recovers))]
 pub fn law_of_stores()
     ensures recovers { StoreRecovers }

@@ -1,4 +1,6 @@
-//! The archive on a disk: a root, a map of numbers, and the files of the epochs, of which no crash can halve a change.
+//! The archive on a disk: a root, a map of numbers, and the files of the epochs.
+//!
+//! No crash leaves a change half done.
 #![tactic(auto)]
 
 mod entries;

@@ -4,7 +4,9 @@ ghost use Rattle.epoch_store.specs.Openings.{OpenedRecovers, OpenedUndamaged, Re
 use epoch_file::{law_of_entries, law_of_epochs};
 use number_map::law_of_records;
 
-/// Files are opened with entries just where they stand for the archive of these, and such files have no damage.
+/// Files are opened with entries exactly if they stand for the archive with these.
+///
+/// Such files have no damage.
 #[tactic(auto, using(crate::proofs::Opened::opened_recovers))]
 pub fn law_of_opening()
     ensures recovers { OpenedRecovers }

@@ -1,4 +1,4 @@
-//! An entry and its record, put behind those of two files.
+//! Appends an entry to an epoch's file, and its record to the map.
 ghost use Rattle.std.specs.Prelude.{◌≡◌, ◌≢◌, ◌≤◌, ◌<◌, ◌+◌, ◌^◌, Err, IsTrue, IfOk, OnOk};
 ghost use Rattle.arch_base.specs.Counts.{Rose};
 ghost use Rattle.disk_model.specs.Disk.{Told, WhereTold, IsAtMostLength, LeavesOnly};
@@ -15,16 +15,18 @@ use epoch_file::{NewEntry, StoreRefusal, Written, append_entry};
 use number_map::{Record, append};
 use std::alloc::Global;
 
-/// A file, and the place in it up to which all stays as it is.
+/// A file, and the offset up to which it stays as it is.
 #[derive(Clone, Copy, Debug, Drop)]
 pub struct Part {
     /// The file.
     pub file: FileName,
-    /// The place, in bytes.
+    /// The offset, in bytes.
     pub place: u64,
 }
 
-/// Puts an entry into an epoch's file and the record of its number into a map's, each from a place on, and syncs.
+/// Writes an entry to an epoch's file and its record to a map, and syncs.
+///
+/// Each is written at an offset, which is at most the length of its file.
 pub fn put_both<D: Disk>(
     alloc: Global,
     disk: &mut D,
@@ -60,7 +62,7 @@ pub fn put_both<D: Disk>(
     Ok(written)
 }
 
-/// The file of a map of a generation.
+/// Returns the name of the file of a map of a generation.
 pub fn map_file(gen_: u64) -> FileName
     ensures { result ≡ map_name gen_ }
 {
@@ -71,7 +73,7 @@ pub fn map_file(gen_: u64) -> FileName
     }
 }
 
-/// The file of an epoch of a generation.
+/// Returns the name of the file of an epoch of a generation.
 pub fn epoch_file(epoch: u32, gen_: u64) -> FileName
     ensures { result ≡ epoch_name epoch gen_ }
 {

@@ -1,4 +1,4 @@
-//! What is read of an archive on a disk.
+//! Reads the entries of an archive on a disk.
 ghost use Rattle.std.specs.Prelude.{◌≡◌, ◌≤◌, ◌<◌, ◌+◌, Err, Some, IfOk, length, slice_get};
 ghost use Rattle.arch_base.specs.Counts.{Rose};
 ghost use Rattle.arch_model.specs.Archives.{Archive};
@@ -19,28 +19,30 @@ use git_objects::blob_id;
 use std::alloc::Global;
 
 impl Store {
-    /// The settings of the archive.
+    /// Returns the settings of the archive.
     pub fn config(&self) -> &Config
         ensures { result.now ≡ self.now.root.config }
     {
         &self.root.config
     }
 
-    /// The number of the next message.
+    /// Returns the number of the next message.
     pub fn next_number(&self) -> u32
         ensures { result ≡ self.now.root.next }
     {
         self.root.next
     }
 
-    /// What is kept of each entry, in the order of their delivery.
+    /// Returns the entries without their texts, in the order of their delivery.
     pub fn stored(&self) -> &[StoredEntry]
         ensures { result.now ≡ self.now.entries }
     {
         self.entries.as_slice()
     }
 
-    /// An entry by its place among all, from 0. None comes exactly where there are not so many.
+    /// Returns the entry at an index, from 0.
+    ///
+    /// The result is `None` exactly if there are not so many.
     pub fn entry(&self, index: u64) -> Option<EntryLine>
         ensures { result ≡ line_if (slice_get self.now.entries index) }
     {
@@ -50,8 +52,9 @@ impl Store {
         }
     }
 
-    /// The file that an entry stands in, and the place of its first byte there. None comes exactly where there are not so
-    /// many entries.
+    /// Returns the file of an entry, and the entry's offset there.
+    ///
+    /// The result is `None` exactly if there are not so many entries.
     pub fn place(&self, index: u64) -> Option<(FileName, u64)>
         ensures { result ≡ place_if self.now.root (slice_get self.now.entries index) }
     {
@@ -61,7 +64,7 @@ impl Store {
         }
     }
 
-    /// The file of an epoch.
+    /// Returns the name of the file of an epoch.
     pub(crate) fn file_of(&self, epoch: u32) -> FileName
         requires { epoch ≤ 63 }
         ensures { result ≡ epoch_file_of self.now.root epoch }
@@ -69,11 +72,13 @@ impl Store {
         epoch_file(epoch, self.root.epochs[epoch as usize].gen_)
     }
 
-    /// Puts the text of an entry behind other bytes, read by one call of the disk.
+    /// Appends the text of an entry to `into`.
     ///
-    /// Where what stands there has another blob id than the entry, that is Damaged, which never comes on the disk of an archive.
-    /// DiskFault comes only where the disk's count of faults rose, and NoMemory only for want of memory. A refusal leaves the
-    /// bytes as they were, and nothing changes on the disk.
+    /// Reads the disk at most once, and changes nothing on it.
+    ///
+    /// `Damaged` comes if the bytes there have another blob id than the entry, which never happens
+    /// on the disk of an archive. `DiskFault` comes only if the disk's count of faults rose, and
+    /// `NoMemory` only if memory runs out. An error leaves the bytes unchanged.
     pub fn text<D: Disk>(
         &self,
         disk: &mut D,
@@ -108,7 +113,7 @@ impl Store {
     }
 }
 
-/// An entry, all but its text.
+/// Returns an entry without its text.
 fn entry_line(entry: &StoredEntry) -> EntryLine
     ensures { result ≡ line_of entry.now }
 {
@@ -123,14 +128,16 @@ fn entry_line(entry: &StoredEntry) -> EntryLine
     }
 }
 
-/// Room for so many bytes.
+/// Allocates room for `size` bytes.
 fn room_for(alloc: Global, size: u64) -> Result<Vec<u8>, NoMemory>
     ensures { IfOk result (λ room. length room.items ≡ size) }
 {
     Ok(vec![in alloc; 0; size as usize]?)
 }
 
-/// The bytes of a file from a place on, so many. For those that the file lacks anything may stand.
+/// Returns `size` bytes of a file, from an offset on.
+///
+/// If the file ends before, the rest may be anything.
 pub(crate) fn read_text<D: Disk>(
     alloc: Global,
     disk: &mut D,

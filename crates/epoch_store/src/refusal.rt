@@ -1,9 +1,9 @@
-//! Why an archive was not made.
+//! The errors of creating an archive.
 use arch_base::NoMemory;
 use disk_model::{DiskFault, WalkRefusal};
 use thiserror::Error;
 
-/// Why an archive was not made.
+/// Why an archive was not created.
 #[derive(Debug, Drop, PartialEq, Eq, Error)]
 pub enum InitRefusal {
     /// There is one already: a slot of its root is open.
@@ -12,7 +12,7 @@ pub enum InitRefusal {
     /// A call of the disk failed.
     #[error("the disk failed")]
     DiskFault,
-    /// Memory was wanted, and there was none.
+    /// A call ran out of memory.
     #[error("out of memory")]
     NoMemory,
 }

@@ -1,4 +1,4 @@
-//! The disk of an archive, brought to rest when it is opened.
+//! Settles the disk of an archive when it is opened.
 ghost use Rattle.std.specs.Prelude.{◌≡◌, ◌<◌, ℕ, List, not, IfOk, OnOk};
 ghost use Rattle.arch_base.specs.Counts.{IsCaused};
 ghost use Rattle.disk_model.specs.Disk.{Told, WhereTold, LeavesOnly};
@@ -16,8 +16,9 @@ use disk_model::{Disk, DiskFault, FileKind, FileName};
 use root_slots::{Place, Root, fill, is_open};
 use std::alloc::{AllocError, Global};
 
-/// Makes the slot that isn't the current one ready for the next root: where it is shut, the current root is put into it, and it is
-/// left shut.
+/// Makes the slot that isn't the current one ready for the next root.
+///
+/// If its gate is shut, writes the current root to it and leaves the gate shut.
 pub(crate) fn ready_other<D: Disk>(disk: &mut D, slot: u8, root: &Root) -> Result<(), DiskFault>
     requires slot { slot < 2 }
     requires size { WhereTold HasRootSize (D.content disk.old) }
@@ -33,7 +34,7 @@ pub(crate) fn ready_other<D: Disk>(disk: &mut D, slot: u8, root: &Root) -> Resul
     fill(disk, 1 - slot, root)
 }
 
-/// The part of an epoch's file that a root names.
+/// Returns the part of an epoch's file that a root names.
 fn epoch_part(root: &Root, epoch: usize) -> FilePart
     requires { epoch < 64 }
     ensures { result ≡ epoch_part_of root.now epoch }
@@ -45,7 +46,7 @@ fn epoch_part(root: &Root, epoch: usize) -> FilePart
     }
 }
 
-/// The parts of the files that a root names: the map's, and those of the epochs.
+/// Returns the parts of the files that a root names: the map's, and those of the epochs.
 pub(crate) fn named_parts(alloc: Global, root: &Root) -> Result<Vec<FilePart>, AllocError>
     ensures { IfOk result (λ parts. parts.items ≡ named_parts_of root.now) }
 {
@@ -60,8 +61,10 @@ pub(crate) fn named_parts(alloc: Global, root: &Root) -> Result<Vec<FilePart>, A
     Ok(parts)
 }
 
-/// Brings the disk of an archive to rest: makes the other slot ready for the next root, cuts the tails of the files that the root
-/// names, takes the others away, and syncs.
+/// Settles the disk of an archive.
+///
+/// Makes the other slot ready for the next root, cuts the tails of the files that the root names,
+/// removes all other files, and syncs.
 pub(crate) fn sweep<D: Disk>(
     disk: &mut D,
     slot: u8,
@@ -75,7 +78,7 @@ pub(crate) fn sweep<D: Disk>(
     requires parts { parts.now ≡ named_parts_of root.now }
     // At each moment a crash leaves files that stand for the same map and epochs.
     ensures any_moment { (map : List ℕ) (epochs : ℕ → List ℕ) → ToSweep root.now slot map epochs others.now (D.content disk.old) → LeavesOnly D.moment D.left_since disk.old disk.new (StandsFor root.now map epochs) }
-    // After Ok the disk is exactly theirs.
+    // After `Ok` the disk is exactly theirs.
     ensures done { (map : List ℕ) (epochs : ℕ → List ℕ) → ToSweep root.now slot map epochs others.now (D.content disk.old) → OnOk result (OnDisk root.now slot map epochs (D.content disk.new)) }
     ensures told { OnOk result (TellsAs (D.content disk.old) (D.content disk.new)) }
     ensures cause { IsCaused (D.faults disk.old) (D.faults disk.new) result }
@@ -86,7 +89,9 @@ pub(crate) fn sweep<D: Disk>(
     disk.sync()
 }
 
-/// Whether a root names a file: the root file itself, the map's, or that of an epoch or a cache that has bytes.
+/// Returns whether a root names a file.
+///
+/// It names the root file itself, the map's, and those of each epoch and cache that has bytes.
 fn is_named(root: &Root, name: FileName) -> bool
     ensures { result ≡ names_file root.now name }
 {
@@ -100,14 +105,14 @@ fn is_named(root: &Root, name: FileName) -> bool
     }
 }
 
-/// Whether a place has bytes, and is that of a file of a generation.
+/// Returns whether a `Place` has bytes and this generation.
 fn is_place(place: Place, gen_: u64) -> bool
     ensures { result ≡ has_place place gen_ }
 {
     place.length > 0 && place.gen_ == gen_
 }
 
-/// Those of the names that a root doesn't name.
+/// Returns the names that a root doesn't name.
 pub(crate) fn unnamed(
     alloc: Global,
     names: &[FileName],

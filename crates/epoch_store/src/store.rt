@@ -34,10 +34,12 @@ use std::marker::Model;
 /// The last epoch, which grows without end.
 const LAST_EPOCH: u32 = 63;
 
-/// A file isn't made longer than this, and no room is found for more.
+/// The length from which on a file takes no further entry. The result is then `NoMemory`.
 const MOST: u64 = 1 << 62;
 
-/// The archive on a disk. It keeps the current root, and of each entry all but its text. A contract sees it as what it keeps.
+/// The archive on a disk.
+///
+/// Keeps the current root, and each entry without its text. Its contract view is what it keeps.
 #[derive(Drop)]
 pub struct Store {
     pub(crate) root: Root,
@@ -58,17 +60,20 @@ impl Model for Store {
 }
 
 impl Store {
-    /// Makes an archive without entries, in the place of a disk without an open slot: it takes all files away and makes a root file
-    /// with the first root, of sequence 1.
+    /// Creates an archive without entries on a disk without an open slot.
     ///
-    /// At each moment a crash leaves what it might have left before; and where no slot was open, no open slot, or the archive.
-    /// Exists comes exactly where a slot is open, and then nothing is written. DiskFault comes only where the disk's count of faults
-    /// rose, and NoMemory only for want of memory, before anything is written.
+    /// Removes all files and creates a root file with the first root, of sequence 1. At each moment
+    /// a crash leaves what it might have left before; if no slot was open, it may also leave no
+    /// open slot, or the archive.
+    ///
+    /// `Exists` comes exactly if a slot is open, and then nothing is written. `DiskFault` comes
+    /// only if the disk's count of faults rose, and `NoMemory` only if memory runs out, before
+    /// anything is written.
     pub fn init<D: Disk>(alloc: Global, disk: &mut D, config: &Config) -> Result<Store, InitRefusal>
         requires config { IsConfig config.now }
         ensures any_moment { LeavesOnly D.moment D.left_since disk.old disk.new (MakingLeaves (empty_archive config.now) (D.content disk.old)) }
         ensures answer { WhereTold (MakingAnswers result) (D.content disk.old) }
-        // Behind Exists and NoMemory the disk is synced, and no more.
+        // After `Exists` and `NoMemory` the disk is synced, and otherwise unchanged.
         ensures refused { RefusesToMake result (D.content disk.old) (D.content disk.new) }
         ensures done { IfOk result (λ store. WhereTold (IsDiskOf store (empty_archive config.now)) (D.content disk.new)) }
         ensures sizes { IfOk result (λ store. WhereTold (HasSizes store) (D.content disk.new)) }
@@ -88,7 +93,7 @@ impl Store {
         })
     }
 
-    /// The last epoch that has an entry, and its last commit.
+    /// Returns the last epoch that has an entry, and its last commit.
     fn end(&self) -> End
         ensures small { result.epoch ≤ 63 }
         ensures end { (a : Archive) → Keeps self.now a → IsEnd a result }
@@ -105,7 +110,7 @@ impl Store {
         }
     }
 
-    /// Where the next entry goes.
+    /// Returns where the next entry is written.
     fn next_place(&self) -> NextPlace
         ensures small { result.epoch ≤ 63 }
         ensures place { result ≡ place_of self.now.root result.epoch result.parent }
@@ -119,7 +124,7 @@ impl Store {
         self.place_in(end.epoch + 1, None)
     }
 
-    /// Where the next entry of an epoch goes that has this last commit.
+    /// Returns where the next entry of an epoch with this last commit is written.
     fn place_in(&self, epoch: u32, parent: Option<ObjectId>) -> NextPlace
         requires { epoch ≤ 63 }
         ensures { result ≡ place_of self.now.root epoch parent }
@@ -138,7 +143,7 @@ impl Store {
         }
     }
 
-    /// The root behind one more entry, whose epoch's file ends there.
+    /// Returns the root after one more entry; the file of the entry's epoch then ends at `end`.
     fn next_root(&self, place: &NextPlace, end: u64) -> Root
         requires small { place.now.epoch ≤ 63 }
         requires place { place.now ≡ place_of self.now.root place.now.epoch place.now.parent }
@@ -159,7 +164,7 @@ impl Store {
         root
     }
 
-    /// Puts an entry and its record behind the others, and commits the root that names them.
+    /// Appends an entry and its record, and commits the root that names them.
     fn write_entry<D: Disk>(
         &self,
         alloc: Global,
@@ -202,7 +207,7 @@ impl Store {
         Ok((root, written))
     }
 
-    /// What is kept of a new entry that was written.
+    /// Returns what is kept of a new entry that was written.
     fn new_entry(
         &self,
         place: &NextPlace,
@@ -240,11 +245,12 @@ impl Store {
         }
     }
 
-    /// Puts a message behind the others: its text takes the next number at a moment, in seconds since 1970.
+    /// Appends a message: its text takes the next number, at a moment in seconds since 1970.
     ///
-    /// At each moment a crash leaves the archive before or the one with the message, and after Ok the latter. DiskFault comes
-    /// only where the disk's count of faults rose: then one of the two is there, and the store has to be opened again. NoMemory
-    /// comes only for want of memory, or of room in a file of more than 2^62 bytes, and nothing was done.
+    /// At each moment a crash leaves the archive before or the one with the message, and after `Ok`
+    /// the latter. `DiskFault` comes only if the disk's count of faults rose: one of the two
+    /// archives is then there, and the store has to be reopened. `NoMemory` comes only if memory
+    /// runs out, or if the epoch's file has 2^62 bytes or more; then nothing was done.
     pub fn deliver_entry<D: Disk>(
         &mut self,
         alloc: Global,
@@ -293,14 +299,16 @@ impl Store {
     }
 }
 
-/// Where the first byte of a new entry stands in a file of so many bytes: behind the eight bytes that a new file begins with.
+/// Returns the offset of a new entry in a file of a length.
+///
+/// A new file starts with eight other bytes.
 fn front_place(length: u64) -> u64
     ensures { result ≡ (if length == 0 then 8 else length) }
 {
     if length == 0 { 8 } else { length }
 }
 
-/// How many bytes stand before a text of this size in its blob.
+/// Returns the number of bytes before a text of this size in its blob.
 fn blob_front_len(size: usize) -> u64
     ensures value { result ≡ 6 + length (decimal size) }
     ensures small { result ≤ 26 }
@@ -309,7 +317,7 @@ fn blob_front_len(size: usize) -> u64
     6 + buffer.format(size).len() as u64
 }
 
-/// The own id of a text that has one.
+/// Returns a copy of the own id of a text that has one.
 fn own_id_of(alloc: Global, text: &[u8]) -> Result<Bytes, NoMemory>
     requires { IsSome (own_id_in text.now) }
     ensures { IfOk result (λ id. own_id_in text.now ≡ Some id) }

@@ -1,4 +1,4 @@
-//! The opening of an archive: a sync, what its files stand for, and then the disk brought to rest.
+//! Opens an archive: syncs, reads its files, and settles the disk.
 ghost use Rattle.std.specs.Prelude.{◌≡◌, ◌<◌, ◌≤◌, ℕ, List, Option, Err, IfOk, OnOk};
 ghost use Rattle.arch_base.specs.Counts.{Rose};
 ghost use Rattle.disk_model.specs.Disk.{Image, Told, WhereTold, Unchanged, LeavesOnly};
@@ -25,7 +25,7 @@ use disk_model::{Disk, FileName, WalkRefusal};
 use root_slots::{Root, law_of_spellings};
 use std::alloc::Global;
 
-/// What is found of an archive on a disk behind a sync, which leaves what a crash before might have left.
+/// Syncs, and reads the archive on a disk. A crash leaves what a crash before might have left.
 fn find_synced<D: Disk>(alloc: Global, disk: &mut D) -> Result<Found, OpenRefusal>
     ensures found { WhereTold (λ k. Finds (as_read k) result) (D.content disk.old) }
     ensures synced { SyncsBy result (D.content disk.old) (D.content disk.new) }
@@ -40,7 +40,7 @@ fn find_synced<D: Disk>(alloc: Global, disk: &mut D) -> Result<Found, OpenRefusa
     find(alloc, disk)
 }
 
-/// The files of a disk that a root doesn't name.
+/// Returns the files of a disk that a root doesn't name.
 fn other_files<D: Disk>(
     alloc: Global,
     disk: &mut D,
@@ -61,7 +61,7 @@ fn other_files<D: Disk>(
     }
 }
 
-/// Brings the disk of an archive that was found to rest. For want of memory nothing is changed.
+/// Settles the disk of an archive that was found. `NoMemory` leaves the disk unchanged.
 fn settle<D: Disk>(alloc: Global, disk: &mut D, slot: u8, root: &Root) -> Result<(), OpenRefusal>
     requires slot { slot < 2 }
     requires size { WhereTold HasRootSize (D.content disk.old) }
@@ -87,15 +87,18 @@ fn settle<D: Disk>(alloc: Global, disk: &mut D, slot: u8, root: &Root) -> Result
 }
 
 impl Store {
-    /// Opens the archive on a disk. It syncs first and reads all that the current root names, and only then changes the disk: where the
-    /// other slot is shut it is filled with the current root and left shut, tails are cut, and files that the root doesn't name are
-    /// taken away.
+    /// Opens the archive on a disk.
     ///
-    /// At each moment a crash leaves files that stand for an archive that they might have stood for before. NoArchive comes only where
-    /// no slot is open, and Damaged only where the files that the root names leave their form, with the first place where they do:
-    /// of the root, then of the map, then of the epochs in order; neither comes where the files stand for an archive. DiskFault
-    /// comes only where the disk's count of faults rose, and NoMemory only for want of memory. Every refusal but DiskFault
-    /// leaves all files as they read.
+    /// Syncs first, reads all that the current root names, and only then changes the disk: writes
+    /// the current root to the other slot if that is shut, and leaves it shut; cuts tails; and
+    /// removes the files that the root doesn't name. At each moment a crash leaves files that stand
+    /// for an archive that they might have stood for before.
+    ///
+    /// `NoArchive` comes only if no slot is open. `Damaged` comes only if a file that the root
+    /// names isn't in its form; it has the first such offset, in the root, then the map, then the
+    /// epochs in order. Neither comes if the files stand for an archive. `DiskFault` comes only if
+    /// the disk's count of faults rose, and `NoMemory` only if memory runs out. Every error but
+    /// `DiskFault` leaves all files as they read.
     pub fn open<D: Disk>(alloc: Global, disk: &mut D) -> Result<Store, OpenRefusal>
         ensures any_moment { (may : List (Option Archive)) → AllRecoverOf may (D.content disk.old) → LeavesOnly D.moment D.left_since disk.old disk.new (RecoversOf may) }
         ensures answer { WhereTold (λ k. Opens (as_read k) result) (D.content disk.old) }

@@ -1,11 +1,13 @@
-//! Walks the file of an epoch in the folder that it is run in, for `tests/bench` to time.
+//! Walks the file of an epoch in the current folder, for `tests/bench` to time.
 #![tactic(auto)]
 
 use disk_model::{Disk, FileKind, FileName};
 use epoch_file::walk;
 use real_edges::FolderDisk;
 
-/// Walks the whole file `epoch-0.1`, and prints how many entries and bytes it has. Damage ends it with a failure.
+/// Walks the whole file `epoch-0.1`, and prints the number of its entries and of its bytes.
+///
+/// Ends with an error if the file is damaged.
 fn main(rt: HostRuntime) -> anyhow::Result<()> {
     let alloc = rt.alloc();
     let file = FileName {

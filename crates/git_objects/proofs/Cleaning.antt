@@ -7,33 +7,33 @@ use Rattle.std.proofs.lemmas.List.Sums.{prefix_len_is, prefix_len_stops, suffix_
 use Rattle.std.proofs.lemmas.Bool.{and_parts}
 use Rattle.git_objects.specs.CleanText.{is_clean_byte, is_space, trimmed, clean, IsClean}
 
--- a filter that keeps all keeps the list
+-- A filter that keeps all keeps the list.
 pub filter-all : (p : ℕ → Bool) (xs : List ℕ) → list_all p xs ≡ true → filter p xs ≡ xs
 filter-all p [] h = refl
 filter-all p (x ∷ xs) h =
     let parts = and_parts (p x) (list_all p xs) h in
     rw parts.0 (ap (λ l. x ∷ l) (filter-all p xs parts.1))
 
--- a filter makes no list longer
+-- A filter makes no list longer.
 length-filter_le : (p : ℕ → Bool) (xs : List ℕ) → length (filter p xs) ≤ length xs
 length-filter_le p xs = omega (arith, length-filter p xs, count_by-le-length p xs)
 
--- the step of the next lemma, by what the test says
+-- The step of the next lemma, by the result of the test.
 all-filter_at : (p : ℕ → Bool) (x : ℕ) (xs : List ℕ) (b : Bool) → length (filter p xs) ≤ length xs → (length xs ≤ length (filter p xs) → list_all p xs ≡ true)
     → suc (length xs) ≤ length (cond b (x ∷ filter p xs) (filter p xs)) → (b && list_all p xs) ≡ true
 all-filter_at p x xs true short rest h = rest (omega arith)
 all-filter_at p x xs false short rest h = absurd (omega arith)
 
--- a filter that drops nothing keeps all
+-- A filter that drops nothing keeps all.
 pub all-filter : (p : ℕ → Bool) (xs : List ℕ) → length xs ≤ length (filter p xs) → list_all p xs ≡ true
 all-filter p [] h = refl
 all-filter p (x ∷ xs) h = all-filter_at p x xs (p x) (length-filter_le p xs) (all-filter p xs) h
 
--- a byte that is no space fails the test
+-- A byte that is no space fails the test.
 no_space : (c : ℕ) → c ≢ 32 → is_space c ≡ false
 no_space c h = search (rules, tests)
 
--- where no space stands at the ends, none is taken away
+-- A text without spaces at its ends isn't changed by trimming.
 trimmed-ends : (text : List ℕ) → get_or text 0 0 ≢ 32 → get_or text (length text - 1) 0 ≢ 32 → trimmed text ≡ text
 trimmed-ends text first last =
     let front : prefix_len is_space text ≡ 0 = prefix_len_is is_space text 0 0 (omega arith) (λ k below. absurd (omega arith)) (λ some. no_space (get_or text 0 0) first) in
@@ -42,11 +42,11 @@ trimmed-ends text first last =
     let whole : length text - (length text - length text) ≡ length text = omega arith in
     rw (front, back, whole) (take_all (length text) text (omega arith))
 
--- a text of clean bytes that neither begins nor ends with a space is clean
+-- A text of clean bytes that neither starts nor ends with a space is clean.
 pub IsClean-from : (text : List ℕ) → list_all is_clean_byte text ≡ true → get_or text 0 0 ≢ 32 → get_or text (length text - 1) 0 ≢ 32 → IsClean text
 IsClean-from text all first last = record { same = rw (filter-all is_clean_byte text all) (trimmed-ends text first last) }
 
--- a text that is trimmed to no less has no space to take away
+-- A text that trimming doesn't shorten has no space at its ends.
 trimmed-whole : (text : List ℕ) → 0 < length text → length text ≤ length (trimmed text) → (prefix_len is_space text ≡ 0) × (suffix_len is_space text ≡ 0)
 trimmed-whole text some long =
     let n = prefix_len is_space text in
@@ -54,7 +54,7 @@ trimmed-whole text some long =
     let len : length (trimmed text) ≡ min (length text - m) (length text) - n = length-drop n (take (length text - m) text) ∙ ap (λ l. l - n) (length-take (length text - m) text) in
     (omega arith, omega arith)
 
--- nothing is made longer
+-- Trimming makes no text longer.
 trimmed-le : (text : List ℕ) → length (trimmed text) ≤ length text
 trimmed-le text =
     let n = prefix_len is_space text in
@@ -62,7 +62,7 @@ trimmed-le text =
     let len : length (trimmed text) ≡ min (length text - m) (length text) - n = length-drop n (take (length text - m) text) ∙ ap (λ l. l - n) (length-take (length text - m) text) in
     omega arith
 
--- a text without a space in front
+-- A text without a space at its start.
 no_space-first : (text : List ℕ) → 0 < length text → prefix_len is_space text ≡ 0 → get_or text 0 0 ≢ 32
 no_space-first [] some none e = omega arith
 no_space-first (c ∷ text) some none e =
@@ -70,7 +70,7 @@ no_space-first (c ∷ text) some none e =
     let long : prefix_len is_space (c ∷ text) ≡ 1 + prefix_len is_space text = rw space refl in
     omega arith
 
--- nor at its end
+-- A text without a space at its end.
 no_space-last : (text : List ℕ) → 0 < length text → suffix_len is_space text ≡ 0 → get_or text (length text - 1) 0 ≢ 32
 no_space-last text some none e =
     let space : is_space (get_or text (length text - 1) 0) ≡ true = search (rules, tests) in
@@ -78,7 +78,7 @@ no_space-last text some none e =
     let whole : take (length text) text ≡ text = take_all (length text) text (omega arith) in
     omega (arith, long, ap (suffix_len is_space) whole)
 
--- a clean text has clean bytes alone, and no space at its ends
+-- A clean text has only clean bytes, and no space at its ends.
 pub IsClean-parts : (text : List ℕ) → 0 < length text → IsClean text
     → (list_all is_clean_byte text ≡ true) × (get_or text 0 0 ≢ 32) × (get_or text (length text - 1) 0 ≢ 32)
 IsClean-parts text some h =
@@ -88,20 +88,20 @@ IsClean-parts text some h =
     let ends = trimmed-whole text some (omega (arith, ap length same)) in
     (all, no_space-first text some ends.0, no_space-last text some ends.1)
 
--- a text that begins with a space is not clean
+-- A text that starts with a space is not clean.
 pub unclean-first : (text : List ℕ) → 0 < length text → get_or text 0 0 ≡ 32 → (IsTrue false → IsClean text) × (IsClean text → IsTrue false)
 unclean-first text some e = (λ t. cc, λ h. absurd ((IsClean-parts text some h).1 e))
 
--- nor is one that ends with a space
+-- A text that ends with a space is not clean.
 pub unclean-last : (text : List ℕ) → 0 < length text → get_or text (length text - 1) 0 ≡ 32 → (IsTrue false → IsClean text) × (IsClean text → IsTrue false)
 unclean-last text some e = (λ t. cc, λ h. absurd ((IsClean-parts text some h).2 e))
 
--- any other is clean where its bytes are
+-- Any other text is clean if its bytes are.
 pub clean-by_bytes : (text : List ℕ) (all : Bool) → 0 < length text → get_or text 0 0 ≢ 32 → get_or text (length text - 1) 0 ≢ 32
     → all ≡ list_all is_clean_byte text → (IsTrue all → IsClean text) × (IsClean text → IsTrue all)
 clean-by_bytes text all some first last e = (λ t. IsClean-from text (sym e ∙ t) first last, λ h. e ∙ (IsClean-parts text some h).0)
 
--- each byte of a part passes a test that each of the whole does
+-- Each byte of a part passes a test that each byte of the whole passes.
 all-take : (p : ℕ → Bool) (n : ℕ) (xs : List ℕ) → list_all p xs ≡ true → list_all p (take n xs) ≡ true
 all-take p zero xs h = refl
 all-take p (suc n) [] h = refl
@@ -114,17 +114,17 @@ all-drop p zero xs h = h
 all-drop p (suc n) [] h = refl
 all-drop p (suc n) (x ∷ xs) h = all-drop p n xs (and_parts (p x) (list_all p xs) h).1
 
--- the step of the next lemma, by what the test says
+-- The step of the next lemma, by the result of the test.
 all-of_filter_at : (p : ℕ → Bool) (x : ℕ) (b : Bool) (xs : List ℕ) → p x ≡ b → list_all p (filter p xs) ≡ true → list_all p (cond b (x ∷ filter p xs) (filter p xs)) ≡ true
 all-of_filter_at p x true xs e h = rw e h
 all-of_filter_at p x false xs e h = h
 
--- and each byte of what a filter keeps
+-- Each byte that a filter keeps passes its test.
 all-of_filter : (p : ℕ → Bool) (xs : List ℕ) → list_all p (filter p xs) ≡ true
 all-of_filter p [] = refl
 all-of_filter p (x ∷ xs) = all-of_filter_at p x (p x) xs refl (all-of_filter p xs)
 
--- the first byte of a trimmed text is no space
+-- The first byte of a trimmed text is no space.
 trimmed-first : (text : List ℕ) → 0 < length (trimmed text) → get_or (trimmed text) 0 0 ≢ 32
 trimmed-first text some e =
     let n = prefix_len is_space text in
@@ -136,7 +136,7 @@ trimmed-first text some e =
     let space : is_space (get_or text n 0) ≡ true = ap is_space (sym at ∙ e) in
     cc
 
--- nor is the last
+-- The last byte of a trimmed text is no space.
 trimmed-last : (text : List ℕ) → 0 < length (trimmed text) → get_or (trimmed text) (length (trimmed text) - 1) 0 ≢ 32
 trimmed-last text some e =
     let n = prefix_len is_space text in
@@ -153,12 +153,12 @@ trimmed-last text some e =
     let space : is_space (get_or (reverse text) s 0) ≡ true = ap is_space (back ∙ ap (λ k. get_or text k 0) same ∙ sym at ∙ e) in
     cc
 
--- a text of clean bytes without a space at its ends, if it has any, is clean
+-- A text of clean bytes without a space at its ends, if it has any byte, is clean.
 IsClean-ends : (text : List ℕ) → list_all is_clean_byte text ≡ true → (0 < length text → get_or text 0 0 ≢ 32) → (0 < length text → get_or text (length text - 1) 0 ≢ 32) → IsClean text
 IsClean-ends [] all first last = record { same = refl }
 IsClean-ends (c ∷ text) all first last = IsClean-from (c ∷ text) all (first (omega arith)) (last (omega arith))
 
--- what is made clean is clean
+-- Cleaning makes a text clean.
 pub IsClean-clean : (text : List ℕ) → IsClean (clean text)
 IsClean-clean text =
     let kept : List ℕ = filter is_clean_byte text in

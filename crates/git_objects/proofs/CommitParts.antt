@@ -8,7 +8,7 @@ use Rattle.git_objects.specs.CleanText.{IsClean}
 use Rattle.git_objects.specs.Fronts.{Lacks, Begins, Both, in_turn}
 use Rattle.git_objects.specs.Commits.{IsCommit, IsContentOf, HoldsNoCommit, IsParent, IsNumber, IsZone, commit_content, tree_line, parent_part, name_part, email_part, number_part, zone_text, committed_part, text_part}
 
--- the four parts: ids, author, time, and what ends the content
+-- The four parts: ids, author, time, and the end of the content.
 abbrev ids : Id20 × Option Id20 → List ℕ → List ℕ
 ids = in_turn tree_line parent_part
 
@@ -21,7 +21,7 @@ time = in_turn (number_part 32) zone_text
 abbrev end_part : ℕ × List ℕ → List ℕ → List ℕ
 end_part = in_turn committed_part (text_part 10)
 
--- what stands behind each part of a commit
+-- The bytes after each part of a commit.
 abbrev behind_time : Commit → List ℕ
 behind_time c = end_part (c.committed, c.subject) []
 
@@ -31,7 +31,7 @@ behind_person c = time (c.secs, c.zone) (behind_time c)
 abbrev behind_ids : Commit → List ℕ
 behind_ids c = person (c.author, c.email) (behind_person c)
 
--- commits of the same fields are the same
+-- Commits with equal fields are equal.
 commit-once : (c : Commit) (tree : Id20) (parent : Option Id20) (name email : List ℕ) (secs : ℕ) (zone : ℤ) (moment : ℕ) (subject : List ℕ)
     → c.tree ≡ tree → c.parent ≡ parent → c.author ≡ name → c.email ≡ email → c.secs ≡ secs → c.zone ≡ zone → c.committed ≡ moment → c.subject ≡ subject
     → (let d : Commit = record { tree = tree; parent = parent; author = name; email = email; secs = secs; zone = zone; committed = moment; subject = subject } in c ≡ d)
@@ -46,11 +46,11 @@ commit-once c tree parent name email secs zone moment subject a b d e f g h k = 
   subject = k i;
 }
 
--- without ids there is no commit
+-- Bytes that don't start with ids are no commit.
 pub no_ids : (bytes : List ℕ) → Lacks (Both IsId IsParent) ids bytes → HoldsNoCommit bytes
 no_ids bytes none = λ c valid is. none (c.tree, c.parent) (behind_ids c) (valid.tree, valid.parent) is
 
--- the parts that are read, and the bytes behind each
+-- The parts that are read, and the bytes after each.
 pub record ReadIds (bytes : List ℕ) (tree : Id20) (parent : Option Id20) (rest : List ℕ) : Type 0 where
   pub begins : Begins (Both IsId IsParent) ids bytes (tree, parent) rest
 
@@ -63,57 +63,57 @@ pub record ReadTime (bytes : List ℕ) (secs : ℕ) (zone : ℤ) (rest : List �
 pub record ReadEnd (bytes : List ℕ) (moment : ℕ) (subject rest : List ℕ) : Type 0 where
   pub begins : Begins (Both IsNumber IsClean) end_part bytes (moment, subject) rest
 
--- a commit has the ids that are read
+-- A commit has the ids that are read.
 ids-are : {bytes rest : List ℕ} {tree : Id20} {parent : Option Id20} (one : ReadIds bytes tree parent rest) (c : Commit) → IsCommit c → bytes ≡ commit_content c
     → (c.tree ≡ tree) × (c.parent ≡ parent) × (rest ≡ behind_ids c)
 ids-are one c valid is =
     let same = one.begins.only (c.tree, c.parent) (behind_ids c) (valid.tree, valid.parent) is in
     (ap (λ (p : Id20 × Option Id20). p.0) (sym same.0), ap (λ (p : Id20 × Option Id20). p.1) (sym same.0), same.1)
 
--- the author
+-- A commit has the author that is read.
 person-are : {bytes rest name email : List ℕ} (two : ReadPerson bytes name email rest) (c : Commit) → IsCommit c → bytes ≡ behind_ids c
     → (c.author ≡ name) × (c.email ≡ email) × (rest ≡ behind_person c)
 person-are two c valid is =
     let same = two.begins.only (c.author, c.email) (behind_person c) (valid.author, valid.email) is in
     (ap (λ (p : List ℕ × List ℕ). p.0) (sym same.0), ap (λ (p : List ℕ × List ℕ). p.1) (sym same.0), same.1)
 
--- the time
+-- A commit has the time that is read.
 time-are : {bytes rest : List ℕ} {secs : ℕ} {zone : ℤ} (three : ReadTime bytes secs zone rest) (c : Commit) → IsCommit c → bytes ≡ behind_person c
     → (c.secs ≡ secs) × (c.zone ≡ zone) × (rest ≡ behind_time c)
 time-are three c valid is =
     let same = three.begins.only (c.secs, c.zone) (behind_time c) (valid.secs, valid.zone) is in
     (ap (λ (p : ℕ × ℤ). p.0) (sym same.0), ap (λ (p : ℕ × ℤ). p.1) (sym same.0), same.1)
 
--- and the end
+-- A commit has the end that is read.
 end-are : {bytes rest subject : List ℕ} {moment : ℕ} (four : ReadEnd bytes moment subject rest) (c : Commit) → IsCommit c → bytes ≡ behind_time c
     → (c.committed ≡ moment) × (c.subject ≡ subject) × (rest ≡ [])
 end-are four c valid is =
     let same = four.begins.only (c.committed, c.subject) [] (valid.committed, valid.subject) is in
     (ap (λ (p : ℕ × List ℕ). p.0) (sym same.0), ap (λ (p : ℕ × List ℕ). p.1) (sym same.0), same.1)
 
--- without an author there is no commit
+-- Bytes without an author are no commit.
 pub no_person : (bytes rest : List ℕ) (tree : Id20) (parent : Option Id20) → ReadIds bytes tree parent rest → Lacks (Both IsClean IsClean) person rest → HoldsNoCommit bytes
 no_person bytes rest tree parent one none = λ c valid is. none (c.author, c.email) (behind_person c) (valid.author, valid.email) (ids-are one c valid is).2
 
--- nor without a time
+-- Bytes without a time are no commit.
 pub no_time : (bytes rest later name email : List ℕ) (tree : Id20) (parent : Option Id20) → ReadIds bytes tree parent rest → ReadPerson rest name email later
     → Lacks (Both IsNumber IsZone) time later → HoldsNoCommit bytes
 no_time bytes rest later name email tree parent one two none = λ c valid is.
     none (c.secs, c.zone) (behind_time c) (valid.secs, valid.zone) (person-are two c valid (ids-are one c valid is).2).2
 
--- nor without an end
+-- Bytes without an end are no commit.
 pub no_end : (bytes rest later last name email : List ℕ) (tree : Id20) (parent : Option Id20) (secs : ℕ) (zone : ℤ) → ReadIds bytes tree parent rest → ReadPerson rest name email later
     → ReadTime later secs zone last → Lacks (Both IsNumber IsClean) end_part last → HoldsNoCommit bytes
 no_end bytes rest later last name email tree parent secs zone one two three none = λ c valid is.
     none (c.committed, c.subject) [] (valid.committed, valid.subject) (time-are three c valid (person-are two c valid (ids-are one c valid is).2).2).2
 
--- nor where more bytes follow
+-- Bytes that go on after the end are no commit.
 pub more_behind : (bytes rest later last name email subject more : List ℕ) (tree : Id20) (parent : Option Id20) (secs : ℕ) (zone : ℤ) (moment : ℕ) → ReadIds bytes tree parent rest
     → ReadPerson rest name email later → ReadTime later secs zone last → ReadEnd last moment subject more → more ≢ [] → HoldsNoCommit bytes
 more_behind bytes rest later last name email subject more tree parent secs zone moment one two three four some = λ c valid is.
     some (end-are four c valid (time-are three c valid (person-are two c valid (ids-are one c valid is).2).2).2).2
 
--- else the commit is the one of these parts
+-- Otherwise the commit is the one with these parts.
 pub parts-found : (bytes rest later last name email subject more : List ℕ) (tree : Id20) (parent : Option Id20) (secs : ℕ) (zone written : ℤ) (moment : ℕ) → ReadIds bytes tree parent rest
     → ReadPerson rest name email later → ReadTime later secs zone last → ReadEnd last moment subject more → more ≡ [] → written ≡ zone
     → IsContentOf bytes (record { tree = tree; parent = parent; author = name; email = email; secs = secs; zone = written; committed = moment; subject = subject })

@@ -1,24 +1,24 @@
--- Pieces one behind another.
+-- Pieces one after the other.
 use Rattle.std.proofs.Common.{◌≡◌, ◌≢◌, ℕ, List, ◌++◌, cond, Result, Ok, Err, OnOk, is_ok, sym, ap, ◌∙◌}
 use Rattle.std.proofs.lemmas.List.{append_cancel_left, append_assoc}
 use Rattle.git_objects.specs.Fronts.{Lacks, Begins, Both, in_turn, led, followed, Appends}
 
--- without the first piece there are not two
+-- Bytes that lack the first piece lack both.
 pub lacks-first : {A B : Type 0} (va : A → Type 0) (vb : B → Type 0) (sa : A → List ℕ → List ℕ) (sb : B → List ℕ → List ℕ) (bytes : List ℕ)
     → Lacks va sa bytes → Lacks (Both va vb) (in_turn sa sb) bytes
 lacks-first va vb sa sb bytes none = λ pair rest valid is. none pair.0 (sb pair.1 rest) valid.0 is
 
--- nor without the second
+-- Bytes that lack the second piece lack both.
 pub lacks-second : {A B : Type 0} (va : A → Type 0) (vb : B → Type 0) (sa : A → List ℕ → List ℕ) (sb : B → List ℕ → List ℕ) (bytes : List ℕ) (a : A) (behind : List ℕ)
     → Begins va sa bytes a behind → Lacks vb sb behind → Lacks (Both va vb) (in_turn sa sb) bytes
 lacks-second va vb sa sb bytes a behind first none = λ pair rest valid is.
     none pair.1 rest valid.1 (first.only pair.0 (sb pair.1 rest) valid.0 is).1
 
--- pairs of equal parts
+-- Pairs of equal parts are equal.
 pair-once : {A B : Type 0} (a c : A) (b d : B) → a ≡ c → b ≡ d → (let p : A × B = (a, b) in let q : A × B = (c, d) in p ≡ q)
 pair-once a c b d e f = cc
 
--- with both there are two
+-- Bytes with one piece and then the other have both.
 pub begins-both : {A B : Type 0} (va : A → Type 0) (vb : B → Type 0) (sa : A → List ℕ → List ℕ) (sb : B → List ℕ → List ℕ) (bytes : List ℕ) (a : A) (behind : List ℕ) (b : B) (rest : List ℕ)
     → Begins va sa bytes a behind → Begins vb sb behind b rest → Begins (Both va vb) (in_turn sa sb) bytes (a, b) rest
 begins-both va vb sa sb bytes a behind b rest first second = record {
@@ -30,18 +30,18 @@ begins-both va vb sa sb bytes a behind b rest first second = record {
       (pair-once a pair.0 b pair.1 one.0 two.0, two.1);
 }
 
--- without the word there is no piece behind it
+-- Bytes that lack the word lack the piece after it.
 pub lacks-word : {V : Type 0} (valid : V → Type 0) (spell : V → List ℕ → List ℕ) (bytes word : List ℕ)
     → ((rest : List ℕ) → bytes ≢ word ++ rest) → Lacks valid (led word spell) bytes
 lacks-word valid spell bytes word none = λ v rest ok is. none (spell v rest) is
 
--- nor with another piece
+-- Bytes that lack the piece after a word lack both.
 pub lacks-led : {V : Type 0} (valid : V → Type 0) (spell : V → List ℕ → List ℕ) (bytes word behind : List ℕ)
     → bytes ≡ word ++ behind → Lacks valid spell behind → Lacks valid (led word spell) bytes
 lacks-led valid spell bytes word behind e none = λ v rest ok is.
     none v rest ok (append_cancel_left word behind (spell v rest) (sym e ∙ is))
 
--- a word and a piece
+-- A word and then a piece.
 pub begins-led : {V : Type 0} (valid : V → Type 0) (spell : V → List ℕ → List ℕ) (bytes word behind : List ℕ) (v : V) (rest : List ℕ)
     → bytes ≡ word ++ behind → Begins valid spell behind v rest → Begins valid (led word spell) bytes v rest
 begins-led valid spell bytes word behind v rest e one = record {
@@ -50,17 +50,17 @@ begins-led valid spell bytes word behind v rest e one = record {
   only = λ w more ok is. one.only w more ok (append_cancel_left word behind (spell w more) (sym e ∙ is));
 }
 
--- without the piece there is none with a word behind it
+-- Bytes that lack the piece lack it with a word after it.
 pub lacks-front : {V : Type 0} (valid : V → Type 0) (spell : V → List ℕ → List ℕ) (bytes word : List ℕ)
     → Lacks valid spell bytes → Lacks valid (followed spell word) bytes
 lacks-front valid spell bytes word none = λ v rest ok is. none v (word ++ rest) ok is
 
--- nor without the word
+-- Bytes that lack the word after a piece lack both.
 pub lacks-behind : {V : Type 0} (valid : V → Type 0) (spell : V → List ℕ → List ℕ) (bytes word : List ℕ) (v : V) (behind : List ℕ)
     → Begins valid spell bytes v behind → ((rest : List ℕ) → behind ≢ word ++ rest) → Lacks valid (followed spell word) bytes
 lacks-behind valid spell bytes word v behind one none = λ w rest ok is. none rest (one.only w (word ++ rest) ok is).1
 
--- a piece and a word
+-- A piece and then a word.
 pub begins-followed : {V : Type 0} (valid : V → Type 0) (spell : V → List ℕ → List ℕ) (bytes word : List ℕ) (v : V) (behind rest : List ℕ)
     → Begins valid spell bytes v behind → behind ≡ word ++ rest → Begins valid (followed spell word) bytes v rest
 begins-followed valid spell bytes word v behind rest one e = record {
@@ -71,21 +71,21 @@ begins-followed valid spell bytes word v behind rest one e = record {
       (same.0, append_cancel_left word rest more (sym e ∙ same.1));
 }
 
--- two pieces put behind old bytes, one after the other
+-- Two pieces appended, one after the other.
 pub appends-both : (old between new : List ℕ) (first second : List ℕ → List ℕ) → Appends old between first → Appends between new second → Appends old new (λ rest. first (second rest))
 appends-both old between new first second f s = λ rest. s rest ∙ f (second rest)
 
--- bytes put behind old ones
+-- Bytes appended.
 pub appends-bytes : (old new bytes : List ℕ) → new ≡ old ++ bytes → Appends old new (λ rest. bytes ++ rest)
 appends-bytes old new bytes e = λ rest. ap (λ l. l ++ rest) e ∙ append_assoc old bytes rest
 
--- what is put in last, where that succeeds
+-- The bytes that are appended last, if that succeeds.
 pub appends-last : {T E : Type 0} (result : Result T E) (old new bytes : List ℕ) → new ≡ cond (is_ok result) (old ++ bytes) old
     → OnOk result (Appends old new (λ rest. bytes ++ rest))
 appends-last (Ok t) old new bytes e = appends-bytes old new bytes e
 appends-last (Err r) old new bytes e = tt
 
--- what follows where a result is Ok
+-- A consequence of what holds if a result is `Ok`.
 pub OnOk-then : {T E : Type 0} (result : Result T E) (P Q : Type 0) → OnOk result P → (P → Q) → OnOk result Q
 OnOk-then (Ok t) P Q h f = f h
 OnOk-then (Err e) P Q h f = tt

@@ -9,20 +9,20 @@ use Rattle.git_objects.specs.Commits.{hex_line}
 use Rattle.git_objects.proofs.Splitting.{NoByte-at, parted-once}
 use Rattle.git_objects.proofs.Spellings.{id-once}
 
--- no place of a list without c has it
+-- No index of a list without c has it.
 NoByte-index : (c : ℕ) (table : List ℕ) (k : ℕ) → (0 ≡ c → ⊥) → NoByte c table → get_or table k 0 ≡ c → ⊥
 NoByte-index c [] k nonzero h e = nonzero e
 NoByte-index c (b ∷ table) zero nonzero h e = h.0 e
 NoByte-index c (b ∷ table) (suc k) nonzero h e = NoByte-index c table k nonzero h.1 e
 
--- digits from a table without c have none
+-- Digits from a table without c don't contain it.
 NoByte-digits : (c : ℕ) (table xs : List ℕ) → (0 ≡ c → ⊥) → NoByte c table → NoByte c (encode_with table xs)
 unfolding encode_with
 NoByte-digits c table [] nonzero h = tt
 NoByte-digits c table (x ∷ xs) nonzero h =
     (NoByte-index c table (x / 16) nonzero h, (NoByte-index c table (x % 16) nonzero h, NoByte-digits c table xs nonzero h))
 
--- no digit is a line feed
+-- No digit is a line feed.
 digits_apart : NoByte 10 lower_digits
 digits_apart = (
   λ e. omega (arith, e),
@@ -62,11 +62,11 @@ digits_apart = (
   ),
 )
 
--- the digits of an id hold no line feed
+-- The digits of an id contain no line feed.
 pub NoByte-hex : (id : Id20) → NoByte 10 (encode_lower id.0)
 NoByte-hex id = NoByte-digits 10 lower_digits id.0 (λ e. omega (arith, e)) digits_apart
 
--- ids with the same digits are the same
+-- Ids with the same digits are equal.
 pub hex-once : (a b : Id20) → IsId a → IsId b → encode_lower a.0 ≡ encode_lower b.0 → a ≡ b
 hex-once a b h k e =
     let left : decode_sized (encode_lower a.0) 20 ≡ Ok a.0 = decode_sized-encode_lower a.0 20 h.len h.bytes in
@@ -75,17 +75,17 @@ hex-once a b h k e =
     let bytes : a.0 ≡ b.0 = cc in
     id-once a b bytes
 
--- without a line feed no id stands at the front
+-- Bytes without a line feed don't start with an id.
 pub hex-none : (line : List ℕ) → NoByte 10 line → Lacks IsId hex_line line
 hex-none line h = λ id rest valid is. NoByte-at 10 (encode_lower id.0) rest (subst (NoByte 10) is h)
 
--- nor where the bytes before it spell none
+-- Bytes don't start with an id if the bytes before the line feed spell none.
 pub hex-other : (line digits rest : List ℕ) → NoByte 10 digits → line ≡ digits ++ 10 ∷ rest → ((id : Id20) → IsId id → digits ≢ encode_lower id.0)
     → Lacks IsId hex_line line
 hex-other line digits rest h e none = λ id more valid is.
     none id valid (parted-once 10 digits (encode_lower id.0) rest more h (NoByte-hex id) (sym e ∙ is)).0
 
--- else the id is the one that they spell
+-- Otherwise the id is the one that they spell.
 pub hex-found : (line digits rest : List ℕ) (id : Id20) → NoByte 10 digits → line ≡ digits ++ 10 ∷ rest → IsId id → digits ≡ encode_lower id.0
     → Begins IsId hex_line line id rest
 hex-found line digits rest id h e valid is = record {

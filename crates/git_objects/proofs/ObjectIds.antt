@@ -1,4 +1,4 @@
--- Ids of objects have twenty bytes.
+-- Ids of objects have 20 bytes.
 use Rattle.std.proofs.Common.{◌≡◌, ◌<◌, ◌*◌, ℕ, zero, suc, List, [], ◌∷◌, ◌++◌, length, get_or, length-append, refl, arith}
 use Rattle.std.specs.Int.{byte_at, bytes_high_first, to_be_bytes}
 use Rattle.sha1.specs.Sha1.{sha1, digest_bytes}
@@ -7,7 +7,7 @@ use Rattle.git_objects.specs.Objects.{id_of}
 use mir.Syntax.{w32}
 use Rattle.std.specs.Prelude.{slice_index}
 
--- each is a byte
+-- Each number of a list is a byte.
 abbrev AreBytes : List ℕ → Type 0
 AreBytes [] = Unit {0}
 AreBytes (b ∷ bs) = (b < 256) × AreBytes bs
@@ -29,7 +29,7 @@ AreBytes-number : (k n : ℕ) → AreBytes (bytes_high_first k n)
 AreBytes-number zero n = tt
 AreBytes-number (suc k) n = (byte_at-small k n, AreBytes-number k n)
 
--- the bytes of a digest
+-- A digest consists of bytes.
 AreBytes-digest : (h : List ℕ) (n : ℕ) → AreBytes (digest_bytes h n)
 unfolding digest_bytes
 AreBytes-digest h zero = tt
@@ -42,7 +42,7 @@ length-digest h (suc n) =
     let four : length (to_be_bytes w32 (slice_index h n)) ≡ 4 = refl in
     omega (arith, length-append (digest_bytes h n) (to_be_bytes w32 (slice_index h n)), length-digest h n, four)
 
--- the id of any bytes is one
+-- The id of any bytes is valid.
 pub IsId-id_of : (text : List ℕ) → IsId (id_of text)
 unfolding sha1
 IsId-id_of text = record { len = length-digest _ 5; bytes = λ k. AreBytes-at (sha1 text) k (AreBytes-digest _ 5) }

@@ -1,4 +1,4 @@
--- Spellings of objects, and what stands behind them.
+-- Spellings of objects, and the bytes that follow them.
 use Rattle.std.proofs.Common.{◌≡◌, ◌≢◌, ◌<◌, ◌≤◌, ◌-◌, ◌+◌, ◌^◌, ℕ, List, [], ◌∷◌, ◌++◌, length, get_or, take, drop, replicate, slice_set, slice_range, codes, length-append, refl, sym, ap, ◌∙◌, arith}
 use Rattle.std.proofs.lemmas.List.{append_assoc, append-nil, take_at, drop_at, drop_more, get_or-append-add, get_or-drop}
 use Rattle.std.proofs.lemmas.Fmt.{decimal_injective}
@@ -14,17 +14,17 @@ use Rattle.git_objects.specs.Laws.{SpellingsStandApart}
 use Rattle.git_objects.proofs.Splitting.{parted-once}
 use Rattle.git_objects.proofs.Numbers.{NoByte-decimal}
 
--- a spelling before what follows
+-- A spelling before what follows.
 pub spelling-before : (object : GitObject) (rest : List ℕ) → spelling object ++ rest ≡ kind_part (kind_of object) (sized_before (content_of object) rest)
 spelling-before object rest =
     append_assoc (kind_word (kind_of object)) (sized (content_of object)) rest
     ∙ ap (kind_part (kind_of object)) (append_assoc (decimal (length (content_of object))) (0 ∷ content_of object) rest)
 
--- lists with other heads are others
+-- Lists with different heads differ.
 heads : (a b : ℕ) (x y : List ℕ) → a ≢ b → a ∷ x ≡ b ∷ y → ⊥
 heads a b x y apart e = apart cc
 
--- types are told apart by their words
+-- Types differ by their words.
 pub kind-once : (k l : Kind) (x y : List ℕ) → kind_part k x ≡ kind_part l y → (k ≡ l) × (x ≡ y)
 kind-once Blob Blob x y e = (refl, cc)
 kind-once Blob Tree x y e = absurd (heads 98 116 _ _ (omega arith) e)
@@ -36,17 +36,17 @@ kind-once Commit Blob x y e = absurd (heads 99 98 _ _ (omega arith) e)
 kind-once Commit Tree x y e = absurd (heads 99 116 _ _ (omega arith) e)
 kind-once Commit Commit x y e = (refl, cc)
 
--- a tree's content has 29 bytes
+-- A tree's content has 29 bytes.
 pub length-tree_content : (name : ℕ) (id : Id20) → length id.0 ≡ 20 → length (tree_content name id) ≡ 29
 length-tree_content name id h = omega (arith, h)
 
--- each object that is spelled has a size
+-- Each object that is spelled has a size.
 pub HasSize-content : (object : GitObject) → IsObject object → HasSize (content_of object)
 HasSize-content (BlobOf content) h = h
 HasSize-content (TreeOf name id) h = let len = length-tree_content name id h.1.len in omega (arith, len)
 HasSize-content (CommitOf content) h = h
 
--- a content with its size is told apart from others
+-- Contents with their sizes are equal if their bytes are.
 pub sized-once : (content other x y : List ℕ) → HasSize content → HasSize other → sized_before content x ≡ sized_before other y → (content ≡ other) × (x ≡ y)
 sized-once content other x y h k e =
     let parts = parted-once 0 (decimal (length content)) (decimal (length other)) (content ++ x) (other ++ y)
@@ -56,15 +56,15 @@ sized-once content other x y h k e =
       sym (drop_at content x (length content) refl) ∙ ap (drop (length content)) parts.1 ∙ drop_at other y (length content) (sym len),
     )
 
--- ids of the same bytes are the same
+-- Ids with the same bytes are equal.
 pub id-once : (a b : Id20) → a.0 ≡ b.0 → a ≡ b
 id-once a b e = let make : List ℕ → Id20 = λ bytes. record { 0 = bytes } in ap make e
 
--- a tree's content tells its name and its id
+-- A tree's content determines its name and its id.
 pub tree-once : (name other : ℕ) (a b : Id20) → tree_content name a ≡ tree_content other b → (name ≡ other) × (a ≡ b)
 tree-once name other a b e = let bytes : a.0 ≡ b.0 = cc in (cc, id-once a b bytes)
 
--- an object is told by its type and its content
+-- An object's type and content determine it.
 pub object-once : (a b : GitObject) → kind_of a ≡ kind_of b → content_of a ≡ content_of b → a ≡ b
 object-once (BlobOf x) (BlobOf y) k e = ap BlobOf e
 object-once (BlobOf x) (TreeOf m i) k e = cc
@@ -76,20 +76,20 @@ object-once (CommitOf x) (BlobOf y) k e = cc
 object-once (CommitOf x) (TreeOf m i) k e = cc
 object-once (CommitOf x) (CommitOf y) k e = ap CommitOf e
 
--- no object's spelling is a proper prefix of another's
+-- No object's spelling is a proper prefix of another's.
 pub stand_apart : SpellingsStandApart
 stand_apart a b x y h k e =
     let kinds = kind-once (kind_of a) (kind_of b) (sized_before (content_of a) x) (sized_before (content_of b) y) (sym (spelling-before a x) ∙ e ∙ spelling-before b y) in
     let contents = sized-once (content_of a) (content_of b) x y (HasSize-content a h) (HasSize-content b k) kinds.1 in
     (object-once a b kinds.0 contents.0, contents.1)
 
--- the 37 bytes of a tree: what they begin with, with the name and the id put in
+-- The 37 bytes of a tree: its first bytes, then the name and the id.
 pub tree-written : (name : ℕ) (id : Id20) (front back : List ℕ) → length id.0 ≡ 20 → front ≡ codes "tree 29\0100644 " → back ≡ id.0
     → put_mid 17 20 (slice_set (front ++ replicate 22 0) 15 name) back ≡ tree_spelling name id
 unfolding digits
 tree-written name id front back h e f = rw (e, f, length-tree_content name id h) (ap (λ l. codes "tree 29\0100644 " ++ name ∷ 0 ∷ l) (append-nil id.0))
 
--- 22 bytes behind the mode are a name, NUL and an id
+-- After the mode, 22 bytes are a name, NUL and an id.
 pub tree-read : (content file id : List ℕ) (name : ℕ) → content ≡ codes "100644 " ++ file → length file ≡ 22 → get_or file 0 0 ≡ name → get_or file 1 0 ≡ 0 → id ≡ drop 2 file
     → content ≡ codes "100644 " ++ name ∷ 0 ∷ id
 tree-read content file id name e len first second back =
@@ -98,7 +98,7 @@ tree-read content file id name e len first second back =
     let whole : file ≡ name ∷ 0 ∷ id = cc in
     e ∙ ap (λ l. codes "100644 " ++ l) whole
 
--- what a piece between two others is
+-- A piece between two others.
 pub piece-between : (bytes front content rest : List ℕ) → bytes ≡ front ++ (content ++ rest)
     → (length content ≤ length bytes - length rest) × (content ≡ slice_range bytes (length bytes - length rest - length content) (length bytes - length rest))
 piece-between bytes front content rest e =
@@ -108,7 +108,7 @@ piece-between bytes front content rest e =
     let back : drop (length front) bytes ≡ content ++ rest = ap (drop (length front)) e ∙ drop_at front (content ++ rest) (length front) refl in
     (omega arith, rw (start, long, back) (sym (take_at content rest (length content) refl)))
 
--- a type, and a content with its size, are the spelling of an object
+-- A type and a content with its size are the spelling of an object.
 pub object-front : (bytes behind rest content : List ℕ) (kind : Kind) (object : GitObject) → Begins AnyKind kind_part bytes kind behind
     → Begins HasSize sized_before behind content rest → kind ≡ kind_of object → content ≡ content_of object → IsObject object
     → IsFront bytes object (length bytes - length rest)
@@ -125,7 +125,7 @@ object-front bytes behind rest content kind object first second k e valid =
       spelled = ap (take cut) spelled ∙ take_at (spelling object) rest cut long;
     }
 
--- and the content is a piece of the bytes
+-- The content is a piece of the bytes.
 pub content-lent : (bytes behind rest content : List ℕ) (kind : Kind) → Begins AnyKind kind_part bytes kind behind → Begins HasSize sized_before behind content rest
     → (length content ≤ length bytes - length rest) × (content ≡ slice_range bytes (length bytes - length rest - length content) (length bytes - length rest))
 content-lent bytes behind rest content kind first second =
@@ -133,14 +133,14 @@ content-lent bytes behind rest content kind first second =
     piece-between bytes (kind_word kind ++ (decimal (length content) ++ 0 ∷ [])) content rest
     (first.spelled ∙ ap (kind_part kind) (second.spelled ∙ digits_behind) ∙ sym (append_assoc (kind_word kind) (decimal (length content) ++ 0 ∷ []) (content ++ rest)))
 
--- bytes behind a word and two more bytes are bytes
+-- The bytes after a word and two more bytes are bytes.
 pub small-behind : (content word file id : List ℕ) (k : ℕ) → content ≡ word ++ file → id ≡ drop 2 file → get_or content (length word + (2 + k)) 0 < 2 ^ 8 → get_or id k 0 < 2 ^ 8
 small-behind content word file id k e back small =
     let here : get_or content (length word + (2 + k)) 0 ≡ get_or id k 0 =
     ap (λ l. get_or l (length word + (2 + k)) 0) e ∙ get_or-append-add word file (2 + k) 0 ∙ sym (get_or-drop 2 file k 0) ∙ ap (λ l. get_or l k 0) (sym back) in
     omega (arith, here, small)
 
--- the spelling of a tree has 37 bytes
+-- The spelling of a tree has 37 bytes.
 pub length-tree_spelling : (name : ℕ) (id : Id20) → length id.0 ≡ 20 → length (tree_spelling name id) ≡ 37
 unfolding digits
 length-tree_spelling name id h = rw (length-tree_content name id h) (omega (arith, length-tree_content name id h))

@@ -6,25 +6,25 @@ use Rattle.std.proofs.lemmas.Int.{ints}
 use Rattle.git_objects.specs.Fronts.{Lacks, Begins}
 use Rattle.git_objects.specs.Commits.{IsZone, IsBelow100, two_digits, zone_text, zone_sign}
 
--- a zone's minutes are less than a day
+-- A zone's minutes are less than a day.
 pub zone-abs : (zone : ℤ) → IsZone zone → unsigned_abs zone ≤ 1439
 zone-abs (pos n) h = omega (arith, ints, h.high)
 zone-abs (negsuc n) h = omega (arith, ints, h.low)
 
--- the same bytes have the same tail and head
+-- Equal bytes have equal heads and tails.
 tails : {bytes : List ℕ} {a b : ℕ} {x y : List ℕ} → bytes ≡ a ∷ x → bytes ≡ b ∷ y → x ≡ y
 tails e f = cc
 
 heads : {bytes : List ℕ} {a b : ℕ} {x y : List ℕ} → bytes ≡ a ∷ x → bytes ≡ b ∷ y → a ≡ b
 heads e f = cc
 
--- without the digits of the hour there is no zone
+-- Bytes without the digits of the hour don't start with a zone.
 pub zone-hour : (bytes : List ℕ) (sign : ℕ) (behind : List ℕ) → bytes ≡ sign ∷ behind → Lacks IsBelow100 two_digits behind → Lacks IsZone zone_text bytes
 zone-hour bytes sign behind e none = λ zone rest valid is.
     let small : unsigned_abs zone / 60 < 100 = omega (arith, zone-abs zone valid) in
     none (unsigned_abs zone / 60) (two_digits (unsigned_abs zone % 60) rest) small (tails e is)
 
--- nor without those of the minute
+-- Bytes without the digits of the minute don't start with a zone.
 pub zone-minute : (bytes : List ℕ) (sign : ℕ) (behind : List ℕ) (hour : ℕ) (later : List ℕ) → bytes ≡ sign ∷ behind
     → Begins IsBelow100 two_digits behind hour later → Lacks IsBelow100 two_digits later → Lacks IsZone zone_text bytes
 zone-minute bytes sign behind hour later e one none = λ zone rest valid is.
@@ -32,16 +32,16 @@ zone-minute bytes sign behind hour later e one none = λ zone rest valid is.
     let low : unsigned_abs zone % 60 < 100 = omega arith in
     none (unsigned_abs zone % 60) rest low (one.only (unsigned_abs zone / 60) (two_digits (unsigned_abs zone % 60) rest) small (tails e is)).1
 
--- zones west of UTC
+-- The zone west of UTC with these minutes.
 zone-west : (zone : ℤ) (minutes : ℕ) → zone_sign zone ≡ 45 → unsigned_abs zone ≡ suc minutes → zone ≡ negsuc minutes
 zone-west (pos n) minutes s e = absurd (omega (arith, s))
 zone-west (negsuc n) minutes s e = ap negsuc (omega (arith, e))
 
--- less than none is west
+-- A negative zone is west of UTC.
 west-of : (n : ℕ) → 0 < n → pos 0 -ℤ pos n ≡ negsuc (n - 1)
 west-of n some = omega (arith, ints)
 
--- a zone west of UTC
+-- A zone west of UTC.
 pub zone-west_found : (bytes behind : List ℕ) (hour : ℕ) (later : List ℕ) (minute : ℕ) (rest : List ℕ) (zone : ℤ) → bytes ≡ 45 ∷ behind
     → Begins IsBelow100 two_digits behind hour later → Begins IsBelow100 two_digits later minute rest → hour ≤ 23 → minute ≤ 59
     → 0 < 60 * hour + minute → zone ≡ pos 0 -ℤ pos (60 * hour + minute) → Begins IsZone zone_text bytes zone rest

@@ -1,5 +1,5 @@
--- Commits (git, "Git Objects" and `git help commit-tree`): the lines of a commit's content, each given before the bytes
--- that follow it.
+-- Commits (git, "Git Objects" and `git help commit-tree`): the lines of a commit's content, each
+-- given before the bytes that follow it.
 use Rattle.std.specs.Prelude.{◌≡◌, ◌≢◌, ◌+◌, ◌/◌, ◌%◌, ◌<◌, ◌^◌, ◌≤ℤ◌, ℕ, ℤ, pos, negsuc, List, [], ◌∷◌, ◌++◌, codes, Option, Some, None}
 use Rattle.std.specs.Fmt.{decimal}
 use Rattle.std.specs.Int.RustNames.{unsigned_abs}
@@ -11,94 +11,96 @@ use Rattle.git_objects.specs.CleanText.{IsClean}
 use Rattle.git_objects.specs.Fronts.{followed}
 use Rattle.git_objects.specs.Objects.{spelling, CommitOf}
 
--- a number below 100 as two digits
+-- A number below 100 as two digits.
 abbrev pub two_digits : ℕ → List ℕ → List ℕ
 two_digits n rest = (48 + n / 10) ∷ (48 + n % 10) ∷ rest
 
--- a number that two digits spell
+-- A number that two digits spell.
 abbrev pub IsBelow100 : ℕ → Type 0
 IsBelow100 n = n < 100
 
--- minutes as hours and minutes, two digits each
+-- Minutes as hours and minutes, two digits each.
 abbrev pub clock : ℕ → List ℕ → List ℕ
 clock minutes rest = two_digits (minutes / 60) (two_digits (minutes % 60) rest)
 
--- `+` for a time zone at or east of UTC, `-` for one west of it
+-- `+` for a time zone at or east of UTC, `-` for one west of it.
 abbrev pub zone_sign : ℤ → ℕ
 zone_sign (pos minutes) = 43
 zone_sign (negsuc less_one) = 45
 
--- a time zone's minutes east of UTC as `+hhmm`, or `-hhmm` where it lies west
+-- A time zone's minutes east of UTC as `+hhmm`, or as `-hhmm` for a zone west of UTC.
 abbrev pub zone_text : ℤ → List ℕ → List ℕ
 zone_text zone rest = zone_sign zone ∷ clock (unsigned_abs zone) rest
 
--- the 40 digits of an id, and a line feed
+-- The 40 digits of an id, and a line feed.
 abbrev pub hex_line : Id20 → List ℕ → List ℕ
 hex_line id rest = encode_lower id.0 ++ 10 ∷ rest
 
--- the line that names the tree
+-- The line that names the tree.
 abbrev pub tree_line : Id20 → List ℕ → List ℕ
 tree_line id rest = codes "tree " ++ hex_line id rest
 
--- the line that names the parent, where there is one
+-- The line that names the parent, if there is one.
 abbrev pub parent_line : Option Id20 → List ℕ → List ℕ
 parent_line None rest = rest
 parent_line (Some id) rest = codes "parent " ++ hex_line id rest
 
--- what stands between the parent and the author's name
+-- The bytes from the parent's line up to the author's name.
 abbrev pub parent_part : Option Id20 → List ℕ → List ℕ
 parent_part = followed parent_line (codes "author ")
 
--- clean text, and the byte that ends it
+-- Clean text, and the byte that ends it.
 abbrev pub text_part : ℕ → List ℕ → List ℕ → List ℕ
 text_part end text rest = text ++ end ∷ rest
 
--- a name, and the space and bracket behind it
+-- A name, and the space and bracket after it.
 abbrev pub name_part : List ℕ → List ℕ → List ℕ
 name_part name rest = name ++ 32 ∷ 60 ∷ rest
 
--- an address, and the bracket and space behind it
+-- An address, and the bracket and space after it.
 abbrev pub email_part : List ℕ → List ℕ → List ℕ
 email_part = followed (text_part 62) (codes " ")
 
--- a number in digits, and the byte that ends it
+-- A number in digits, and the byte that ends it.
 abbrev pub number_part : ℕ → ℕ → List ℕ → List ℕ
 number_part end n rest = decimal n ++ end ∷ rest
 
--- what stands between the author's time zone and the subject: the archive as the committer, and when it took the
--- message
+-- The bytes between the author's time zone and the subject: the archive as the committer, and the
+-- time at which it took the message.
 abbrev pub committed_part : ℕ → List ℕ → List ℕ
 committed_part moment rest = codes "\ncommitter piv2 <piv2@localhost> " ++ number_part 32 moment (codes "+0000\n\n" ++ rest)
 
--- the line that names the author: name, address, seconds since 1970 and time zone
+-- The line that names the author: name, address, seconds since 1970 and time zone.
 abbrev pub author_line : List ℕ → List ℕ → ℕ → ℤ → List ℕ → List ℕ
 author_line name email secs zone rest = codes "author " ++ name_part name (email_part email (number_part 32 secs (zone_text zone rest)))
 
--- the content of a commit: the lines of tree, parent, author and committer, an empty line, and the subject on a line
+-- The content of a commit: the lines of tree, parent, author and committer, an empty line, and the
+-- subject on a line.
 abbrev pub commit_content : Commit → List ℕ
 commit_content c =
     tree_line c.tree (parent_line c.parent (author_line c.author c.email c.secs c.zone
     (committed_part c.committed (text_part 10 c.subject []))))
 
--- the spelling of a commit
+-- The spelling of a commit.
 abbrev pub commit_spelling : Commit → List ℕ
 commit_spelling c = spelling (CommitOf (commit_content c))
 
--- a time zone less than a day away from UTC
+-- A time zone less than a day away from UTC.
 pub record IsZone (zone : ℤ) : Type 0 where
   pub low : negsuc 1438 ≤ℤ zone
   pub high : zone ≤ℤ pos 1439
 
--- an id where there is one
+-- An id, if there is one.
 abbrev pub IsParent : Option Id20 → Type 0
 IsParent None = Unit {0}
 IsParent (Some id) = IsId id
 
--- a number of 64 bits
+-- A number of 64 bits.
 abbrev pub IsNumber : ℕ → Type 0
 IsNumber n = n < 2 ^ 64
 
--- the commits that are spelled: author, address and subject are clean, the numbers have 64 bits, and the zone is one
+-- The commits that are spelled: author, address and subject are clean, the numbers have 64 bits,
+-- and the zone is valid.
 pub record IsCommit (c : Commit) : Type 0 where
   pub tree : IsId c.tree
   pub parent : IsParent c.parent
@@ -109,12 +111,12 @@ pub record IsCommit (c : Commit) : Type 0 where
   pub committed : IsNumber c.committed
   pub subject : IsClean c.subject
 
--- bytes hold a commit's content exactly, and this is the commit
+-- The bytes are the content of this commit and of no other.
 pub record IsContentOf (bytes : List ℕ) (c : Commit) : Type 0 where
   pub valid : IsCommit c
   pub spelled : bytes ≡ commit_content c
   pub only : (other : Commit) → IsCommit other → bytes ≡ commit_content other → other ≡ c
 
--- bytes are no commit's content
+-- The bytes are no commit's content.
 abbrev pub HoldsNoCommit : List ℕ → Type 0
 HoldsNoCommit bytes = (c : Commit) → IsCommit c → bytes ≢ commit_content c

@@ -1,38 +1,38 @@
--- What stands at the front of bytes. A kind of piece is given as `spell`, the piece of a value before the bytes that
--- follow it, and `valid`, which values have a piece.
+-- Pieces at the front of bytes. A kind of piece is given as `spell`, the piece of a value before
+-- the bytes that follow it, and `valid`, which values have a piece.
 use Rattle.std.specs.Prelude.{◌≡◌, ◌≢◌, ℕ, List, [], ◌∷◌, ◌++◌}
 
--- no piece of the kind stands at the front of the bytes
+-- The bytes don't start with a piece of the kind.
 abbrev pub Lacks : {V : Type 0} → (V → Type 0) → (V → List ℕ → List ℕ) → List ℕ → Type 0
 Lacks {V} valid spell bytes = (v : V) (rest : List ℕ) → valid v → bytes ≢ spell v rest
 
--- the piece of this value stands at the front of the bytes, before this rest, and no other does
+-- The bytes start with the piece of this value, followed by this rest, and with no other.
 pub record Begins {V : Type 0} (valid : V → Type 0) (spell : V → List ℕ → List ℕ) (bytes : List ℕ) (v : V) (rest : List ℕ) : Type 0 where
   pub valid_one : valid v
   pub spelled : bytes ≡ spell v rest
   pub only : (w : V) (more : List ℕ) → valid w → bytes ≡ spell w more → (v ≡ w) × (rest ≡ more)
 
--- a word, and then the piece of a value
+-- A word, then the piece of a value.
 abbrev pub led : {V : Type 0} → List ℕ → (V → List ℕ → List ℕ) → V → List ℕ → List ℕ
 led word spell v rest = word ++ spell v rest
 
--- the piece of a value, and then a word
+-- The piece of a value, then a word.
 abbrev pub followed : {V : Type 0} → (V → List ℕ → List ℕ) → List ℕ → V → List ℕ → List ℕ
 followed spell word v rest = spell v (word ++ rest)
 
--- the pieces of two values, one behind the other
+-- The pieces of two values, one after the other.
 abbrev pub in_turn : {A B : Type 0} → (A → List ℕ → List ℕ) → (B → List ℕ → List ℕ) → A × B → List ℕ → List ℕ
 in_turn first second pair rest = first pair.0 (second pair.1 rest)
 
--- both values have a piece
+-- Both values have a piece.
 abbrev pub Both : {A B : Type 0} → (A → Type 0) → (B → Type 0) → A × B → Type 0
 Both first second pair = first pair.0 × second pair.1
 
--- no byte of the bytes is c
+-- No byte of the bytes is c.
 abbrev pub NoByte : ℕ → List ℕ → Type 0
 NoByte c [] = Unit {0}
 NoByte c (b ∷ bs) = (b ≡ c → ⊥) × NoByte c bs
 
--- new bytes are the old ones with a piece behind them
+-- The new bytes are the old ones with a piece appended.
 abbrev pub Appends : List ℕ → List ℕ → (List ℕ → List ℕ) → Type 0
 Appends old new piece = (rest : List ℕ) → new ++ rest ≡ old ++ piece rest

@@ -1,5 +1,5 @@
--- Git objects, their spellings and ids (git, "Git Objects": type, space, size in digits, NUL and content; the id is
--- the SHA-1 of the whole).
+-- Git objects, their spellings and ids (git, "Git Objects": type, space, size in digits, NUL and
+-- content; the id is the SHA-1 of the whole).
 use Rattle.std.specs.Prelude.{◌≡◌, ◌≢◌, ◌<◌, ◌^◌, ℕ, Bool, true, ◌||◌, ◌==◌, List, ◌∷◌, ◌++◌, length, codes, Option, MatchOption}
 use Rattle.std.specs.Fmt.{decimal}
 use Rattle.sha1.specs.Sha1.{sha1}
@@ -8,84 +8,87 @@ use Rattle.arch_base.specs.Ids.{IsId}
 use Rattle.git_objects.specs.declared.kinds.Kind.{Kind}
 use Rattle.git_objects.specs.declared.kinds.Kind.TheVariants.{Blob, Tree, Commit}
 
--- an object: a blob with its content, a tree that holds one file of a name, or a commit with its content
+-- An object: a blob with its content, a tree that holds one file of a name, or a commit with its
+-- content.
 pub data GitObject : Type 0 where
   BlobOf : (content : List ℕ) → GitObject
   TreeOf : (name : ℕ) (id : Id20) → GitObject
   CommitOf : (content : List ℕ) → GitObject
 
--- the name of the file that a tree here holds: `m` or `d`
+-- The name of the file in a tree of the archive: `m` or `d`.
 abbrev pub is_entry_name : ℕ → Bool
 is_entry_name name = name == 109 || name == 100
 
--- a size that has digits of an unsigned number of 64 bits
+-- A content whose size is an unsigned number of 64 bits.
 abbrev pub HasSize : List ℕ → Type 0
 HasSize content = length content < 2 ^ 64
 
--- the objects that are spelled: the size of each is below 2^64, and a tree holds one file `m` or `d`
+-- The objects that are spelled: the size of each is below 2^64, and a tree holds one file `m` or
+-- `d`.
 abbrev pub IsObject : GitObject → Type 0
 IsObject (BlobOf content) = HasSize content
 IsObject (TreeOf name id) = (is_entry_name name ≡ true) × IsId id
 IsObject (CommitOf content) = HasSize content
 
--- the type of an object, with the space behind it
+-- The type of an object, and the space after it.
 abbrev pub kind_word : Kind → List ℕ
 kind_word Blob = codes "blob "
 kind_word Tree = codes "tree "
 kind_word Commit = codes "commit "
 
--- any type
+-- Any type.
 abbrev pub AnyKind : Kind → Type 0
 AnyKind kind = Unit {0}
 
--- the type of an object and its space, before what follows
+-- The type of an object and its space, before what follows.
 abbrev pub kind_part : Kind → List ℕ → List ℕ
 kind_part kind rest = kind_word kind ++ rest
 
--- a size in digits, NUL, and the content of that size
+-- A size in digits, NUL, and the content of that size.
 abbrev pub sized : List ℕ → List ℕ
 sized content = decimal (length content) ++ 0 ∷ content
 
--- the same before what follows
+-- The same before what follows.
 abbrev pub sized_before : List ℕ → List ℕ → List ℕ
 sized_before content rest = decimal (length content) ++ 0 ∷ (content ++ rest)
 
--- the content of a tree of one file: its mode, its name, NUL and the id of its blob
+-- The content of a tree of one file: its mode, its name, NUL and the id of its blob.
 abbrev pub tree_content : ℕ → Id20 → List ℕ
 tree_content name id = codes "100644 " ++ name ∷ 0 ∷ id.0
 
--- an object's type, and its content
+-- The type of an object.
 abbrev pub kind_of : GitObject → Kind
 kind_of (BlobOf content) = Blob
 kind_of (TreeOf name id) = Tree
 kind_of (CommitOf content) = Commit
 
+-- The content of an object.
 abbrev pub content_of : GitObject → List ℕ
 content_of (BlobOf content) = content
 content_of (TreeOf name id) = tree_content name id
 content_of (CommitOf content) = content
 
--- the spelling of an object
+-- The spelling of an object.
 abbrev pub spelling : GitObject → List ℕ
 spelling object = kind_word (kind_of object) ++ sized (content_of object)
 
--- the spelling of a blob
+-- The spelling of a blob.
 abbrev pub blob_spelling : List ℕ → List ℕ
 blob_spelling content = spelling (BlobOf content)
 
--- the spelling of a tree of one file
+-- The spelling of a tree of one file.
 abbrev pub tree_spelling : ℕ → Id20 → List ℕ
 tree_spelling name id = spelling (TreeOf name id)
 
--- the id of a spelling: its SHA-1
+-- The id of a spelling: its SHA-1.
 abbrev pub id_of : List ℕ → Id20
 id_of text = record { 0 = sha1 text }
 
--- the id of a blob
+-- The id of a blob.
 abbrev pub blob_id_of : List ℕ → Id20
 blob_id_of content = id_of (blob_spelling content)
 
--- a content is that of a tree of one file, with this name and id; or it is that of none
+-- A content is that of a tree of one file with this name and id, or that of no such tree.
 abbrev pub IsTreeContent : List ℕ → Option (ℕ × Id20) → Type 0
 IsTreeContent content found =
     MatchOption found ((name : ℕ) (id : Id20) → is_entry_name name ≡ true → IsId id → content ≢ tree_content name id)

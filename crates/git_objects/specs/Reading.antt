@@ -1,4 +1,4 @@
--- What the readers of objects and commits answer.
+-- The results of reading objects and commits.
 use Rattle.std.specs.Prelude.{◌≡◌, ◌≢◌, ◌-◌, ◌≤◌, ℕ, List, ◌++◌, length, slice_range, Option, Some, None, Result, Ok, Err, MatchOption}
 use Rattle.arch_base.specs.declared.sequence.NoMemory.{NoMemory}
 use Rattle.git_objects.specs.declared.objects.Object.{Object}
@@ -8,33 +8,33 @@ use Rattle.git_objects.specs.Objects.{GitObject, BlobOf, TreeOf, CommitOf, IsObj
 use Rattle.git_objects.specs.Commits.{IsContentOf, HoldsNoCommit}
 use Rattle.git_objects.specs.declared.commit_reading.Parts.{Parts}
 
--- the object that a reader shows
+-- The object that a reader returned.
 abbrev pub shown : Object → GitObject
 shown (Blob content) = BlobOf content.now
 shown (Tree name id) = TreeOf name id
 shown (Commit content) = CommitOf content.now
 
--- bytes begin with the spelling of this object, which takes so many of them
+-- The bytes start with the spelling of this object, which has this length.
 pub record IsFront (bytes : List ℕ) (object : GitObject) (len : ℕ) : Type 0 where
   pub valid : IsObject object
   pub inside : len ≤ length bytes
   pub spelled : slice_range bytes 0 len ≡ spelling object
 
--- the content that is lent is the piece of the bytes that ends where the object does
+-- The borrowed content is the piece of the bytes that ends where the object ends.
 abbrev pub LendsPiece : List ℕ → Object → ℕ → Type 0
 LendsPiece bytes (Blob content) len = (length content.now ≤ len) × (content.now ≡ slice_range bytes (len - length content.now) len)
 LendsPiece bytes (Tree name id) len = Unit {0}
 LendsPiece bytes (Commit content) len = (length content.now ≤ len) × (content.now ≡ slice_range bytes (len - length content.now) len)
 
--- no object's spelling stands at the front of the bytes
+-- The bytes start with no object's spelling.
 abbrev pub HasNoObject : List ℕ → Type 0
 HasNoObject bytes = (object : GitObject) (rest : List ℕ) → IsObject object → bytes ≢ spelling object ++ rest
 
--- what is found is this object, with the length of its spelling
+-- The result is this object and the length of its spelling.
 abbrev pub Finds : Option (Object × ℕ) → GitObject → Type 0
 Finds found object = MatchOption found ⊥ (λ f. (shown f.0 ≡ object) × (f.1 ≡ length (spelling object)))
 
--- the commit of the parts that a reader lends
+-- The commit of the parts that a reader borrows.
 abbrev pub commit_of : Parts → CommitRecord
 commit_of parts = record {
   tree = parts.tree;
@@ -47,7 +47,7 @@ commit_of parts = record {
   subject = parts.subject.now;
 }
 
--- a commit is read where the bytes hold one, and none where they hold none
+-- The commit that the bytes hold, or none if they hold none.
 abbrev pub ReadsCommit : List ℕ → Result (Option CommitRecord) NoMemory → Type 0
 ReadsCommit bytes (Err e) = Unit {0}
 ReadsCommit bytes (Ok None) = HoldsNoCommit bytes

@@ -1,9 +1,9 @@
-//! Clean text, as a name, an address or a subject stands in a commit.
+//! Clean text: the names, addresses and subjects of commits.
 ghost use Rattle.std.specs.Prelude.{◌≡◌, ◌↔◌, IsTrue};
 ghost use Rattle.std.specs.List.{list_all};
 ghost use Rattle.git_objects.specs.CleanText.{IsClean, is_clean_byte as clean_byte};
 
-/// Whether a text is clean.
+/// Returns whether a text is clean.
 pub(crate) fn is_clean(text: &[u8]) -> bool
     ensures { IsTrue result ↔ IsClean text.now }
 {
@@ -19,14 +19,14 @@ pub(crate) fn is_clean(text: &[u8]) -> bool
     are_clean_bytes(text)
 }
 
-/// Whether clean text may hold each of the bytes.
+/// Returns whether clean text may hold each of the bytes.
 fn are_clean_bytes(bytes: &[u8]) -> bool
     ensures { result ≡ list_all clean_byte bytes.now }
 {
     bytes.iter().all(|byte| is_clean_byte(*byte))
 }
 
-/// Whether clean text may hold a byte.
+/// Returns whether clean text may hold a byte.
 fn is_clean_byte(byte: u8) -> bool
     ensures { result ≡ clean_byte byte }
 {

@@ -1,4 +1,4 @@
-//! The reader of commits.
+//! Reads commits.
 ghost use Rattle.std.specs.Prelude.{◌≡◌, ◌≢◌, ◌∷◌, ◌<◌, [], IfOk, ◌^◌, ℕ, slice_index, Some, MatchOption, false, codes};
 ghost use Rattle.arch_base.specs.Ids.{IsId};
 ghost use Rattle.git_objects.specs.declared.commits.Commit.{Commit as CommitRecord};
@@ -13,7 +13,9 @@ use crate::fronts::{after, before, parted_at, read_number};
 use arch_base::{Bytes, NoMemory, ObjectId, id_of_hex};
 use std::alloc::Global;
 
-/// The commit that a commit's content spells, or None for any other content. What was spelled is read again.
+/// Returns the commit that a commit's content spells, or `None` for any other content.
+///
+/// A commit that was spelled is read back.
 pub fn read_commit(alloc: Global, content: &[u8]) -> Result<Option<Commit>, NoMemory>
     ensures exact { ReadsCommit content.now result }
     ensures again { (c : CommitRecord) → IsCommit c → content.now ≡ commit_content c → IfOk result (λ found. found ≡ Some c) }
@@ -33,14 +35,14 @@ pub fn read_commit(alloc: Global, content: &[u8]) -> Result<Option<Commit>, NoMe
     }))
 }
 
-/// The bytes once more.
+/// Returns a copy of the bytes.
 fn copied(alloc: Global, bytes: &[u8]) -> Result<Bytes, NoMemory>
     ensures { IfOk result (λ made. made ≡ bytes.now) }
 {
     Ok(Bytes::from_vec(Vec::from_slice(alloc, bytes)?))
 }
 
-/// A commit as it is read: its texts lie in the content.
+/// The parts of a commit as they are read; its texts are borrowed from the content.
 #[derive(Debug, Clone, Copy, Drop)]
 struct Parts<'a> {
     tree: ObjectId,
@@ -53,7 +55,7 @@ struct Parts<'a> {
     subject: &'a [u8],
 }
 
-/// The parts of a commit's content.
+/// Reads the parts of a commit's content.
 fn read_parts(content: &[u8]) -> Option<Parts<'_>>
     ensures { MatchOption result (HoldsNoCommit content.now) (λ parts. IsContentOf content.now (commit_of parts)) }
 {
@@ -76,7 +78,7 @@ fn read_parts(content: &[u8]) -> Option<Parts<'_>>
     })
 }
 
-/// The ids of tree and parent, up to the author's name.
+/// Reads the ids of tree and parent, up to the author's name.
 fn read_ids(bytes: &[u8]) -> Option<(ObjectId, Option<ObjectId>, &[u8])>
     ensures { MatchOption result (Lacks (Both IsId IsParent) (in_turn tree_line parent_part) bytes.now)
         (λ found. Begins (Both IsId IsParent) (in_turn tree_line parent_part) bytes.now (found.0, found.1) found.2.now) }
@@ -86,7 +88,7 @@ fn read_ids(bytes: &[u8]) -> Option<(ObjectId, Option<ObjectId>, &[u8])>
     Some((tree, parent, rest))
 }
 
-/// The parent, up to the author's name.
+/// Reads the parent, up to the author's name.
 fn read_parent(bytes: &[u8]) -> Option<(Option<ObjectId>, &[u8])>
     ensures { MatchOption result (Lacks IsParent parent_part bytes.now)
         (λ found. Begins IsParent parent_part bytes.now found.0 found.1.now) }
@@ -98,7 +100,7 @@ fn read_parent(bytes: &[u8]) -> Option<(Option<ObjectId>, &[u8])>
     Some((Some(id), after(b"author ", rest)?))
 }
 
-/// The id on the line that begins with a word.
+/// Reads the id on the line that starts with a word.
 fn read_id<'a>(word: &[u8], bytes: &'a [u8]) -> Option<(ObjectId, &'a [u8])>
     ensures { MatchOption result (Lacks IsId (led word.now hex_line) bytes.now)
         (λ found. Begins IsId (led word.now hex_line) bytes.now found.0 found.1.now) }
@@ -109,12 +111,12 @@ fn read_id<'a>(word: &[u8], bytes: &'a [u8]) -> Option<(ObjectId, &'a [u8])>
     Some((id, rest))
 }
 
-/// Bytes are below 256: a call brings that into the proof around it, and does nothing.
+/// Brings into the proof around the call that bytes are below 256. Does nothing.
 fn are_bytes(bytes: &[u8])
     ensures { (k : ℕ) → slice_index bytes.now k < 2 ^ 8 }
 {}
 
-/// The author's name and address, up to the seconds.
+/// Reads the author's name and address, up to the seconds.
 fn read_person(bytes: &[u8]) -> Option<(&[u8], &[u8], &[u8])>
     ensures { MatchOption result (Lacks (Both IsClean IsClean) (in_turn name_part email_part) bytes.now)
         (λ found. Begins (Both IsClean IsClean) (in_turn name_part email_part) bytes.now (found.0.now, found.1.now) found.2.now) }
@@ -124,7 +126,7 @@ fn read_person(bytes: &[u8]) -> Option<(&[u8], &[u8], &[u8])>
     Some((name, email, after(b" ", rest)?))
 }
 
-/// A clean name, up to the address.
+/// Reads a clean name, up to the address.
 fn read_name(bytes: &[u8]) -> Option<(&[u8], &[u8])>
     ensures { MatchOption result (Lacks IsClean name_part bytes.now)
         (λ found. Begins IsClean name_part bytes.now found.0.now found.1.now) }
@@ -137,7 +139,7 @@ fn read_name(bytes: &[u8]) -> Option<(&[u8], &[u8])>
     Some((name, rest))
 }
 
-/// Clean text, up to a byte that it can't hold.
+/// Reads clean text, up to a byte that clean text can't hold.
 fn read_text(end: u8, bytes: &[u8]) -> Option<(&[u8], &[u8])>
     requires { is_clean_byte end ≡ false }
     ensures { MatchOption result (Lacks IsClean (text_part end) bytes.now)
@@ -150,7 +152,7 @@ fn read_text(end: u8, bytes: &[u8]) -> Option<(&[u8], &[u8])>
     Some((text, rest))
 }
 
-/// The author's seconds and time zone.
+/// Reads the author's seconds and time zone.
 fn read_time(bytes: &[u8]) -> Option<(u64, i16, &[u8])>
     ensures { MatchOption result (Lacks (Both IsNumber IsZone) (in_turn (number_part 32) zone_text) bytes.now)
         (λ found. Begins (Both IsNumber IsZone) (in_turn (number_part 32) zone_text) bytes.now (found.0, found.1) found.2.now) }
@@ -160,7 +162,7 @@ fn read_time(bytes: &[u8]) -> Option<(u64, i16, &[u8])>
     Some((secs, zone, rest))
 }
 
-/// A time zone of `+hhmm` or `-hhmm`, which is not `-0000`.
+/// Reads a time zone of the form `+hhmm` or `-hhmm`, other than `-0000`.
 fn read_zone(bytes: &[u8]) -> Option<(i16, &[u8])>
     ensures { MatchOption result (Lacks IsZone zone_text bytes.now)
         (λ found. Begins IsZone zone_text bytes.now found.0 found.1.now) }
@@ -179,7 +181,7 @@ fn read_zone(bytes: &[u8]) -> Option<(i16, &[u8])>
     }
 }
 
-/// A number of two digits.
+/// Reads a number of two digits.
 fn read_two_digits(bytes: &[u8]) -> Option<(u8, &[u8])>
     ensures { MatchOption result (Lacks IsBelow100 two_digits bytes.now)
         (λ found. Begins IsBelow100 two_digits bytes.now found.0 found.1.now) }
@@ -190,7 +192,7 @@ fn read_two_digits(bytes: &[u8]) -> Option<(u8, &[u8])>
     Some((10 * (bytes[0] - b'0') + (bytes[1] - b'0'), &bytes[2..]))
 }
 
-/// The moment of the commit, and the subject, which ends the content.
+/// Reads the moment of the commit, and the subject, which ends the content.
 fn read_end(bytes: &[u8]) -> Option<(u64, &[u8], &[u8])>
     ensures { MatchOption result (Lacks (Both IsNumber IsClean) (in_turn committed_part (text_part 10)) bytes.now)
         (λ found. Begins (Both IsNumber IsClean) (in_turn committed_part (text_part 10)) bytes.now (found.0, found.1.now) found.2.now) }
@@ -200,7 +202,7 @@ fn read_end(bytes: &[u8]) -> Option<(u64, &[u8], &[u8])>
     Some((committed, subject, rest))
 }
 
-/// The subject, up to the line feed that ends its line.
+/// Reads the subject, up to the line feed that ends its line.
 fn read_subject(bytes: &[u8]) -> Option<(&[u8], &[u8])>
     ensures { MatchOption result (Lacks IsClean (text_part 10) bytes.now)
         (λ found. Begins IsClean (text_part 10) bytes.now found.0.now found.1.now) }
@@ -208,7 +210,7 @@ fn read_subject(bytes: &[u8]) -> Option<(&[u8], &[u8])>
     read_text(b'\n', bytes)
 }
 
-/// The moment of the commit, up to the subject.
+/// Reads the moment of the commit, up to the subject.
 fn read_committed(bytes: &[u8]) -> Option<(u64, &[u8])>
     ensures { MatchOption result (Lacks IsNumber committed_part bytes.now)
         (λ found. Begins IsNumber committed_part bytes.now found.0 found.1.now) }

@@ -8,28 +8,28 @@ use arch_base::{Bytes, NoMemory, ObjectId, hex_of};
 use itoa::Buffer;
 use std::alloc::Global;
 
-/// A commit: whose message it keeps, and when.
+/// A commit.
 #[derive(Debug, Drop)]
 pub struct Commit {
     /// The id of its tree.
     pub tree: ObjectId,
-    /// The id of the commit before it, where there is one.
+    /// The id of the commit before it, if there is one.
     pub parent: Option<ObjectId>,
     /// The author's name, clean; it may be empty.
     pub author: Bytes,
     /// The author's address, clean; it may be empty.
     pub email: Bytes,
-    /// When the author wrote, in seconds since 1970.
+    /// The time at which the author wrote, in seconds since 1970.
     pub secs: u64,
     /// The author's time zone, in minutes east of UTC: -1439 to 1439.
     pub zone: i16,
-    /// When it was committed, in seconds since 1970.
+    /// The time of the commit, in seconds since 1970.
     pub committed: u64,
     /// The subject, clean; it may be empty.
     pub subject: Bytes,
 }
 
-/// The spelling of a commit: `commit SIZE`, NUL and its content.
+/// Returns the spelling of a commit: `commit SIZE`, NUL and its content.
 pub fn commit_bytes(alloc: Global, commit: &Commit) -> Result<Bytes, NoMemory>
     requires author { IsClean commit.now.author }
     requires email { IsClean commit.now.email }
@@ -45,7 +45,7 @@ pub fn commit_bytes(alloc: Global, commit: &Commit) -> Result<Bytes, NoMemory>
     Ok(bytes)
 }
 
-/// The content of a commit.
+/// Returns the content of a commit.
 fn commit_content(alloc: Global, commit: &Commit) -> Result<Bytes, NoMemory>
     requires { IsZone commit.now.zone }
     ensures { IfOk result (λ made. made ≡ content_of_commit commit.now) }
@@ -59,7 +59,7 @@ fn commit_content(alloc: Global, commit: &Commit) -> Result<Bytes, NoMemory>
     Ok(content)
 }
 
-/// Puts a word, the digits of an id and a line feed at the end.
+/// Appends a word, the digits of an id and a line feed.
 fn push_id(into: &mut Bytes, word: &[u8], id: &ObjectId) -> Result<(), NoMemory>
     ensures { OnOk result (Appends into.old into.new (λ rest. word.now ++ hex_line id.now rest)) }
 {
@@ -68,7 +68,7 @@ fn push_id(into: &mut Bytes, word: &[u8], id: &ObjectId) -> Result<(), NoMemory>
     into.push(b'\n')
 }
 
-/// Puts the line that names the parent at the end, where there is one.
+/// Appends the line that names the parent, if there is one.
 fn push_parent(into: &mut Bytes, parent: &Option<ObjectId>) -> Result<(), NoMemory>
     ensures { OnOk result (Appends into.old into.new (parent_line parent.now)) }
 {
@@ -78,7 +78,7 @@ fn push_parent(into: &mut Bytes, parent: &Option<ObjectId>) -> Result<(), NoMemo
     }
 }
 
-/// Puts the line that names the author at the end, but for its line feed.
+/// Appends the line that names the author, without its line feed.
 fn push_author(into: &mut Bytes, commit: &Commit) -> Result<(), NoMemory>
     requires { IsZone commit.now.zone }
     ensures { OnOk result (Appends into.old into.new (author_line commit.now.author commit.now.email commit.now.secs commit.now.zone)) }
@@ -90,7 +90,7 @@ fn push_author(into: &mut Bytes, commit: &Commit) -> Result<(), NoMemory>
     into.push_slice(&zone_text(commit.zone))
 }
 
-/// Puts what stands between the author's time zone and the subject at the end.
+/// Appends the bytes between the author's time zone and the subject.
 fn push_committed(into: &mut Bytes, moment: u64) -> Result<(), NoMemory>
     ensures { OnOk result (Appends into.old into.new (committed_part moment)) }
 {
@@ -99,7 +99,7 @@ fn push_committed(into: &mut Bytes, moment: u64) -> Result<(), NoMemory>
     into.push_slice(b"+0000\n\n")
 }
 
-/// Puts a text and a word behind it at the end.
+/// Appends a text, then a word.
 fn push_text(into: &mut Bytes, text: &[u8], word: &[u8]) -> Result<(), NoMemory>
     ensures { OnOk result (Appends into.old into.new (λ rest. text.now ++ (word.now ++ rest))) }
 {
@@ -107,7 +107,7 @@ fn push_text(into: &mut Bytes, text: &[u8], word: &[u8]) -> Result<(), NoMemory>
     into.push_slice(word)
 }
 
-/// Puts the digits of a number and a byte behind them at the end.
+/// Appends the digits of a number, then a byte.
 fn push_number(into: &mut Bytes, number: u64, end: u8) -> Result<(), NoMemory>
     ensures { OnOk result (Appends into.old into.new (number_part end number)) }
 {
@@ -116,7 +116,7 @@ fn push_number(into: &mut Bytes, number: u64, end: u8) -> Result<(), NoMemory>
     into.push(end)
 }
 
-/// A time zone as `+hhmm` or `-hhmm`.
+/// Returns a time zone as `+hhmm` or `-hhmm`.
 fn zone_text(zone: i16) -> [u8; 5]
     requires { IsZone zone }
     ensures { (rest : List ℕ) → result ++ rest ≡ zone_digits zone rest }

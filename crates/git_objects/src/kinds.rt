@@ -5,7 +5,7 @@ ghost use Rattle.git_objects.specs.Objects.{AnyKind, kind_part};
 
 use crate::fronts::after;
 
-/// What an object is.
+/// The type of an object.
 #[derive(Debug, Clone, Copy, PartialEq, Eq, Drop)]
 pub(crate) enum Kind {
     Blob,
@@ -13,7 +13,7 @@ pub(crate) enum Kind {
     Commit,
 }
 
-/// The type that the bytes begin with, and the bytes behind it and its space.
+/// Reads an object's type and the space after it, and returns the rest.
 pub(crate) fn read_kind(bytes: &[u8]) -> Option<(Kind, &[u8])>
     ensures { MatchOption result (Lacks AnyKind kind_part bytes.now)
         (λ found. Begins AnyKind kind_part bytes.now found.0 found.1.now) }

@@ -1,4 +1,6 @@
-//! Git objects: blobs, trees of one file and commits, spelled, read again and named by their ids (git, "Git Objects").
+//! Git objects (git, "Git Objects"): blobs, trees of one file, and commits.
+//!
+//! Spells objects, reads them back, and computes their ids.
 #![tactic(auto)]
 
 mod clean_text;

@@ -12,7 +12,7 @@ use arch_base::{Id20, ObjectId};
 use itoa::Buffer;
 use sha1::Sha1;
 
-/// An object as it is read: what it holds lies in the bytes that were read.
+/// An object as it is read; its content is borrowed from the bytes.
 #[derive(Debug, Clone, Copy, Drop)]
 pub enum Object<'a> {
     /// A file's content.
@@ -28,7 +28,7 @@ pub enum Object<'a> {
     Commit(&'a [u8]),
 }
 
-/// The id of the blob with this content: the SHA-1 of its spelling.
+/// Returns the id of the blob with this content: the SHA-1 of its spelling.
 pub fn blob_id(content: &[u8]) -> ObjectId
     ensures value { result ≡ blob_id_of content.now }
     ensures valid { IsId result }
@@ -42,7 +42,7 @@ pub fn blob_id(content: &[u8]) -> ObjectId
     Id20(hasher.finalize())
 }
 
-/// The id of a spelled object: the SHA-1 of the spelling.
+/// Returns the id of a spelled object: the SHA-1 of the spelling.
 pub fn object_id(spelling: &[u8]) -> ObjectId
     ensures value { result ≡ id_of spelling.now }
     ensures valid { IsId result }
@@ -50,7 +50,7 @@ pub fn object_id(spelling: &[u8]) -> ObjectId
     Id20(Sha1::digest(spelling))
 }
 
-/// The spelling of a tree of one file, `m` or `d`, of mode 100644.
+/// Returns the spelling of a tree of one file, `m` or `d`, of mode 100644.
 pub fn tree_bytes(name: u8, id: &ObjectId) -> [u8; 37]
     requires { IsTrue (entry_name name) }
     ensures { result ≡ tree_spelling name id.now }
@@ -62,14 +62,16 @@ pub fn tree_bytes(name: u8, id: &ObjectId) -> [u8; 37]
     bytes
 }
 
-/// The object that the bytes begin with, and how many of them its spelling takes: `TYPE SIZE`, NUL and the content, with
-/// the size in digits without a leading zero. A blob and a commit have any content, a tree one file `m` or `d` of mode
-/// 100644. None where the bytes begin with the spelling of no object.
+/// Reads the object that the bytes start with, and returns it and the length of its spelling.
+///
+/// A spelling is `TYPE SIZE`, NUL and the content, with the size in digits without a leading zero.
+/// A blob and a commit have any content, a tree one file `m` or `d` of mode 100644. The result is
+/// `None` if the bytes start with the spelling of no object.
 pub fn read_object(bytes: &[u8]) -> Option<(Object<'_>, usize)>
     ensures found { IfSome result (λ found. IsFront bytes.now (shown found.0) found.1) }
     ensures lent { IfSome result (λ found. LendsPiece bytes.now found.0 found.1) }
     ensures none { IfNone result (HasNoObject bytes.now) }
-    // What is spelled is read again whatever follows it.
+    // A spelled object is read back whatever follows it.
     ensures again { (object : GitObject) (rest : List ℕ) → IsObject object → bytes.now ≡ spelling object ++ rest → Finds result object }
 {
     let (kind, behind) = read_kind(bytes)?;
@@ -85,7 +87,7 @@ pub fn read_object(bytes: &[u8]) -> Option<(Object<'_>, usize)>
     }
 }
 
-/// The content whose size the bytes begin with, and the bytes behind it.
+/// Reads a size and the content of that size, and returns the content and the rest.
 fn read_content(bytes: &[u8]) -> Option<(&[u8], &[u8])>
     ensures { MatchOption result (Lacks HasSize sized_before bytes.now)
         (λ found. Begins HasSize sized_before bytes.now found.0.now found.1.now) }
@@ -97,7 +99,7 @@ fn read_content(bytes: &[u8]) -> Option<(&[u8], &[u8])>
     Some(rest.split_at(size as usize))
 }
 
-/// The name and the id of a tree's content.
+/// Reads the name and the id in a tree's content.
 fn read_tree(content: &[u8]) -> Option<(u8, ObjectId)>
     ensures { IsTreeContent content.now result }
 {
@@ -110,14 +112,16 @@ fn read_tree(content: &[u8]) -> Option<(u8, ObjectId)>
     Some((file[0], Id20(id)))
 }
 
-/// Whether a tree here has a file of this name.
+/// Returns whether a tree of the archive may have a file of this name.
 fn is_entry_name(name: u8) -> bool
     ensures { result ≡ entry_name name }
 {
     name == b'm' || name == b'd'
 }
 
-/// No object's spelling is a proper prefix of another's, and each is the spelling of one object.
+/// Shows that no object's spelling is a proper prefix of another's.
+///
+/// Each spelling is that of one object.
 pub fn spellings_stand_apart()
     ensures { SpellingsStandApart }
 {}

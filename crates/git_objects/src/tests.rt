@@ -11,43 +11,65 @@ const TREE: &[u8] = b"ff904aaaf3647f5d5e49c759a67194e6c0ea3fa7";
 
 const FIRST: &[u8] = b"76063a3a91ab738c9e5856b47d2659e12609e101";
 
+/// Whether an id is spelled so in hexadecimal.
+fn has_digits(id: &ObjectId, digits: &[u8]) -> bool {
+    Some(*id) == id_of_hex(digits)
+}
+
 #[test]
-fn blobs_and_trees_have_the_ids_of_git(rt: HostRuntime) {
-    let Some(blob) = id_of_hex(BLOB) else {
-        return assert!(rt; false);
-    };
-    assert!(rt; blob_id(b"hello\n") == blob);
-    assert!(rt; Some(blob_id(b"")) == id_of_hex(b"e69de29bb2d1d6434b8b29ae775ad8c2e48c5391"));
-    assert!(rt; Some(object_id(&tree_bytes(b'm', &blob))) == id_of_hex(TREE));
-    assert!(rt;
-        Some(object_id(&tree_bytes(b'd', &blob)))
-            == id_of_hex(b"087bd2d5b1a1d0198d0588d026926acab77d3921")
-    );
-    match read_object(b"blob 6\0hello\ntree") {
-        Some((Object::Blob(content), 13)) => assert!(rt; content == b"hello\n".as_slice()),
-        _ => assert!(rt; false),
+fn blobs_have_the_ids_of_git(rt: HostRuntime) {
+    let empty = b"e69de29bb2d1d6434b8b29ae775ad8c2e48c5391";
+    assert!(rt; has_digits(&blob_id(b"hello\n"), BLOB));
+    assert!(rt; has_digits(&blob_id(b""), empty));
+}
+
+#[test]
+fn trees_have_the_ids_of_git(rt: HostRuntime) {
+    let deletion = b"087bd2d5b1a1d0198d0588d026926acab77d3921";
+    let blob = blob_id(b"hello\n");
+    assert!(rt; has_digits(&object_id(&tree_bytes(b'm', &blob)), TREE));
+    assert!(rt; has_digits(&object_id(&tree_bytes(b'd', &blob)), deletion));
+}
+
+/// Whether the blob of a content stands at the front of bytes, and takes so many.
+fn begins_with_blob(bytes: &[u8], wanted: &[u8], taken: usize) -> bool {
+    match read_object(bytes) {
+        Some((Object::Blob(content), len)) => content == wanted && len == taken,
+        _ => false,
     }
-    match read_object(&tree_bytes(b'd', &blob)) {
-        Some((Object::Tree { name, id }, 37)) => assert!(rt; name == b'd' && id == blob),
-        _ => assert!(rt; false),
+}
+
+/// Whether the spelling of the tree of a deletion is read as that tree, and is taken whole.
+fn reads_deletion_again(blob: &ObjectId) -> bool {
+    match read_object(&tree_bytes(b'd', blob)) {
+        Some((Object::Tree { name, id }, 37)) => name == b'd' && id == *blob,
+        _ => false,
     }
 }
 
 #[test]
+fn objects_are_read(rt: HostRuntime) {
+    assert!(rt; begins_with_blob(b"blob 6\0hello\ntree", b"hello\n", 13));
+    assert!(rt; reads_deletion_again(&blob_id(b"hello\n")));
+}
+
+/// Bytes that spell no object.
+const OTHER_OBJECTS: [&[u8]; 10] = [
+    b"",
+    b"blob 06\0hello\n",
+    b"blob 7\0hello\n",
+    b"blob 6hello\n",
+    b"blob \0",
+    b"blob 18446744073709551616\0",
+    b"tag 0\0",
+    b"tree 29\0100755 m\0....................",
+    b"tree 29\0100644 x\0....................",
+    b"tree 30\0100644 m\0.....................",
+];
+
+#[test]
 fn other_bytes_are_no_object(rt: HostRuntime) {
-    let bad: [&[u8]; 10] = [
-        b"",
-        b"blob 06\0hello\n",
-        b"blob 7\0hello\n",
-        b"blob 6hello\n",
-        b"blob \0",
-        b"blob 18446744073709551616\0",
-        b"tag 0\0",
-        b"tree 29\0100755 m\0....................",
-        b"tree 29\0100644 x\0....................",
-        b"tree 30\0100644 m\0.....................",
-    ];
-    for bytes in bad {
+    for bytes in &OTHER_OBJECTS {
         assert!(rt; read_object(bytes).is_none());
     }
 }
@@ -57,7 +79,7 @@ fn other_bytes_are_no_object(rt: HostRuntime) {
 struct Row<'a> {
     content: &'a [u8],
     id: &'a [u8],
-    parent: Option<ObjectId>,
+    parent: Option<&'a [u8]>,
     author: &'a [u8],
     email: &'a [u8],
     secs: u64,
@@ -78,10 +100,15 @@ fn agrees(alloc: Global, row: &Row<'_>) -> Result<bool, NoMemory> {
     Ok(Some(object_id(spelling.as_slice())) == id_of_hex(row.id))
 }
 
+/// The id of the parent of a row's commit.
+fn parent_of(row: &Row<'_>) -> Option<ObjectId> {
+    id_of_hex(row.parent?)
+}
+
 /// Whether a commit has the fields of a row.
 fn has_fields(commit: &Commit, row: &Row<'_>) -> bool {
     Some(commit.tree) == id_of_hex(TREE)
-        && commit.parent == row.parent
+        && commit.parent == parent_of(row)
         && commit.author.as_slice() == row.author
         && commit.email.as_slice() == row.email
         && commit.secs == row.secs
@@ -90,86 +117,85 @@ fn has_fields(commit: &Commit, row: &Row<'_>) -> bool {
         && commit.subject.as_slice() == row.subject
 }
 
+/// Commits as git gives them.
+const COMMITS: [Row<'static>; 4] = [
+    Row {
+        content: b"tree ff904aaaf3647f5d5e49c759a67194e6c0ea3fa7\nauthor Ann B <ann@x.y> 1700000000 +0130\ncommitter piv2 <piv2@localhost> 1700000001 +0000\n\nFirst subject\n",
+        id: FIRST,
+        parent: None,
+        author: b"Ann B",
+        email: b"ann@x.y",
+        secs: 1700000000,
+        zone: 90,
+        committed: 1700000001,
+        subject: b"First subject",
+    },
+    Row {
+        content: b"tree ff904aaaf3647f5d5e49c759a67194e6c0ea3fa7\nparent 76063a3a91ab738c9e5856b47d2659e12609e101\nauthor Bob <bob@x.y> 1234567890 -0959\ncommitter piv2 <piv2@localhost> 1700000002 +0000\n\nSecond\n",
+        id: b"1814820f07c1b26474fe0c8d1be8733d53664ef6",
+        parent: Some(FIRST),
+        author: b"Bob",
+        email: b"bob@x.y",
+        secs: 1234567890,
+        zone: -599,
+        committed: 1700000002,
+        subject: b"Second",
+    },
+    Row {
+        content: b"tree ff904aaaf3647f5d5e49c759a67194e6c0ea3fa7\nauthor  <e@f> 0 +0000\ncommitter piv2 <piv2@localhost> 1700000003 +0000\n\n\n",
+        id: b"8e188e56c361aa08b5a45cbc5cb5032fe0df5cf2",
+        parent: None,
+        author: b"",
+        email: b"e@f",
+        secs: 0,
+        zone: 0,
+        committed: 1700000003,
+        subject: b"",
+    },
+    Row {
+        content: b"tree ff904aaaf3647f5d5e49c759a67194e6c0ea3fa7\nparent 76063a3a91ab738c9e5856b47d2659e12609e101\nauthor A <> 5 -2359\ncommitter piv2 <piv2@localhost> 0 +0000\n\ns\n",
+        id: b"cec6f00ad12b81397e9198a973d63c4e654dd955",
+        parent: Some(FIRST),
+        author: b"A",
+        email: b"",
+        secs: 5,
+        zone: -1439,
+        committed: 0,
+        subject: b"s",
+    },
+];
+
 #[test]
 fn commits_have_the_ids_of_git(rt: HostRuntime) {
-    let rows = [
-        Row {
-            content: b"tree ff904aaaf3647f5d5e49c759a67194e6c0ea3fa7\nauthor Ann B <ann@x.y> 1700000000 +0130\ncommitter piv2 <piv2@localhost> 1700000001 +0000\n\nFirst subject\n",
-            id: FIRST,
-            parent: None,
-            author: b"Ann B",
-            email: b"ann@x.y",
-            secs: 1700000000,
-            zone: 90,
-            committed: 1700000001,
-            subject: b"First subject",
-        },
-        Row {
-            content: b"tree ff904aaaf3647f5d5e49c759a67194e6c0ea3fa7\nparent 76063a3a91ab738c9e5856b47d2659e12609e101\nauthor Bob <bob@x.y> 1234567890 -0959\ncommitter piv2 <piv2@localhost> 1700000002 +0000\n\nSecond\n",
-            id: b"1814820f07c1b26474fe0c8d1be8733d53664ef6",
-            parent: id_of_hex(FIRST),
-            author: b"Bob",
-            email: b"bob@x.y",
-            secs: 1234567890,
-            zone: -599,
-            committed: 1700000002,
-            subject: b"Second",
-        },
-        Row {
-            content: b"tree ff904aaaf3647f5d5e49c759a67194e6c0ea3fa7\nauthor  <e@f> 0 +0000\ncommitter piv2 <piv2@localhost> 1700000003 +0000\n\n\n",
-            id: b"8e188e56c361aa08b5a45cbc5cb5032fe0df5cf2",
-            parent: None,
-            author: b"",
-            email: b"e@f",
-            secs: 0,
-            zone: 0,
-            committed: 1700000003,
-            subject: b"",
-        },
-        Row {
-            content: b"tree ff904aaaf3647f5d5e49c759a67194e6c0ea3fa7\nparent 76063a3a91ab738c9e5856b47d2659e12609e101\nauthor A <> 5 -2359\ncommitter piv2 <piv2@localhost> 0 +0000\n\ns\n",
-            id: b"cec6f00ad12b81397e9198a973d63c4e654dd955",
-            parent: id_of_hex(FIRST),
-            author: b"A",
-            email: b"",
-            secs: 5,
-            zone: -1439,
-            committed: 0,
-            subject: b"s",
-        },
-    ];
-    for row in &rows {
-        assert!(rt;
-            agrees(rt.alloc(), row).is_ok_and(|agree| agree),
-            "the commit {}",
-            row.secs
-        );
+    for row in &COMMITS {
+        let agrees = agrees(rt.alloc(), row);
+        assert!(rt; matches!(agrees, Ok(true)), "the commit {}", row.secs);
     }
 }
 
+/// What follows the line of a tree in a commit.
+const REST: &[u8] = b"author A <e> 5 +0000\ncommitter piv2 <piv2@localhost> 0 +0000\n\ns\n";
+
+/// What doesn't follow it in any commit.
+const OTHER_RESTS: [&[u8]; 12] = [
+    b"author A <e> 5 -0000\ncommitter piv2 <piv2@localhost> 0 +0000\n\ns\n",
+    b"author A <e> 5 +2400\ncommitter piv2 <piv2@localhost> 0 +0000\n\ns\n",
+    b"author A <e> 5 +0060\ncommitter piv2 <piv2@localhost> 0 +0000\n\ns\n",
+    b"author A <e> 05 +0000\ncommitter piv2 <piv2@localhost> 0 +0000\n\ns\n",
+    b"author A <e> 5 +0000\ncommitter piv2 <piv2@localhost> 0 +0100\n\ns\n",
+    b"author A <e> 5 +0000\ncommitter piv3 <piv2@localhost> 0 +0000\n\ns\n",
+    b"author A <e> 5 +0000\ncommitter piv2 <piv2@localhost> 0 +0000\n\ns",
+    b"author A <e> 5 +0000\ncommitter piv2 <piv2@localhost> 0 +0000\n\ns\n\n",
+    b"author A <e> 5 +0000\ncommitter piv2 <piv2@localhost> 0 +0000\n\n s\n",
+    b"author A<e> 5 +0000\ncommitter piv2 <piv2@localhost> 0 +0000\n\ns\n",
+    b"author A  <e> 5 +0000\ncommitter piv2 <piv2@localhost> 0 +0000\n\ns\n",
+    b"parent ff904\nauthor A <e> 5 +0000\ncommitter piv2 <piv2@localhost> 0 +0000\n\ns\n",
+];
+
 #[test]
 fn other_contents_are_no_commit(rt: HostRuntime) {
-    let bad: [&[u8]; 12] = [
-        b"author A <e> 5 -0000\ncommitter piv2 <piv2@localhost> 0 +0000\n\ns\n",
-        b"author A <e> 5 +2400\ncommitter piv2 <piv2@localhost> 0 +0000\n\ns\n",
-        b"author A <e> 5 +0060\ncommitter piv2 <piv2@localhost> 0 +0000\n\ns\n",
-        b"author A <e> 05 +0000\ncommitter piv2 <piv2@localhost> 0 +0000\n\ns\n",
-        b"author A <e> 5 +0000\ncommitter piv2 <piv2@localhost> 0 +0100\n\ns\n",
-        b"author A <e> 5 +0000\ncommitter piv3 <piv2@localhost> 0 +0000\n\ns\n",
-        b"author A <e> 5 +0000\ncommitter piv2 <piv2@localhost> 0 +0000\n\ns",
-        b"author A <e> 5 +0000\ncommitter piv2 <piv2@localhost> 0 +0000\n\ns\n\n",
-        b"author A <e> 5 +0000\ncommitter piv2 <piv2@localhost> 0 +0000\n\n s\n",
-        b"author A<e> 5 +0000\ncommitter piv2 <piv2@localhost> 0 +0000\n\ns\n",
-        b"author A  <e> 5 +0000\ncommitter piv2 <piv2@localhost> 0 +0000\n\ns\n",
-        b"parent ff904\nauthor A <e> 5 +0000\ncommitter piv2 <piv2@localhost> 0 +0000\n\ns\n",
-    ];
-    assert!(rt;
-        is_commit(
-            rt.alloc(),
-            b"author A <e> 5 +0000\ncommitter piv2 <piv2@localhost> 0 +0000\n\ns\n"
-        ) == Some(true)
-    );
-    for rest in bad {
+    assert!(rt; is_commit(rt.alloc(), REST) == Some(true));
+    for rest in &OTHER_RESTS {
         assert!(rt; is_commit(rt.alloc(), rest) == Some(false));
     }
 }

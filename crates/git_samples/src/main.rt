@@ -1,6 +1,8 @@
-//! Prints sample objects as `git_objects` spells and names them, for real git to judge: `tests/git` puts each into a
-//! repository. A line an object: `TYPE ID SIZE SPELLING`, with the size of the spelling and its bytes in hex. The last
-//! commits printed are a chain.
+//! Prints sample objects as `git_objects` writes and names them, for git itself to judge:
+//! `tests/git` puts each into a repository.
+//!
+//! Each object is a line `TYPE ID SIZE SPELLING`, with the size of the spelling in bytes and its
+//! bytes in hex. The last commits that are printed form a chain.
 #![tactic(auto)]
 
 ghost use Rattle.std.specs.Prelude.{◌≡◌, IsTrue};
@@ -37,7 +39,7 @@ fn main(rt: HostRuntime) -> anyhow::Result<()> {
     Ok(())
 }
 
-/// Every byte, sixteen times over: 4096 bytes.
+/// Returns every byte, sixteen times over: 4,096 bytes.
 fn every_byte(alloc: Global) -> Result<Bytes, NoMemory> {
     let mut bytes = Bytes::new(alloc);
     for at in 0..4096u16 {
@@ -56,7 +58,7 @@ fn print_blob(rt: &impl Print, alloc: Global, content: &[u8]) -> anyhow::Result<
     print_object(rt, alloc, "blob", &blob_id(content), spelling.as_slice())
 }
 
-/// Prints a commit, and gives its id.
+/// Prints a commit, and returns its id.
 fn print_commit(
     rt: &impl Print,
     alloc: Global,
@@ -82,14 +84,15 @@ fn print_commit(
     Ok(id)
 }
 
-/// The bytes of a text.
+/// Returns the bytes of a text.
 fn text(alloc: Global, text: &str) -> Result<Bytes, NoMemory> {
     let mut bytes = Bytes::new(alloc);
     bytes.push_slice(text.as_bytes())?;
     Ok(bytes)
 }
 
-/// The spelling of a commit, or None where a text or the time zone may not stand in one.
+/// Returns the spelling of a commit, or `None` if a text isn't clean or the zone isn't less than a
+/// day from UTC.
 fn spelled(alloc: Global, commit: &Commit) -> Result<Option<Bytes>, NoMemory> {
     let clean = is_clean(commit.author.as_slice())
         && is_clean(commit.email.as_slice())
@@ -100,14 +103,14 @@ fn spelled(alloc: Global, commit: &Commit) -> Result<Option<Bytes>, NoMemory> {
     Ok(Some(commit_bytes(alloc, commit)?))
 }
 
-/// Whether a time zone is less than a day away from UTC.
+/// Returns whether a time zone is less than a day from UTC.
 fn is_zone(zone: i16) -> bool
     ensures { IsTrue result → IsZone zone }
 {
     zone > -1440 && zone < 1440
 }
 
-/// Whether a text is clean.
+/// Returns whether a text is clean: it may be a text of a commit.
 fn is_clean(text: &[u8]) -> bool
     ensures { IsTrue result → IsClean text.now }
 {
@@ -120,14 +123,14 @@ fn is_clean(text: &[u8]) -> bool
     are_clean_bytes(text)
 }
 
-/// Whether clean text may hold each of the bytes.
+/// Returns whether clean text may have each of the bytes.
 fn are_clean_bytes(bytes: &[u8]) -> bool
     ensures { result ≡ list_all clean_byte bytes.now }
 {
     bytes.iter().all(|byte| is_clean_byte(*byte))
 }
 
-/// Whether clean text may hold a byte.
+/// Returns whether clean text may have a byte.
 fn is_clean_byte(byte: u8) -> bool
     ensures { result ≡ clean_byte byte }
 {

@@ -3,7 +3,7 @@
 /// Contents of blobs.
 pub const BLOBS: [&[u8]; 4] = [b"", b"hello\n", b"\0a\r\nb\0\r\r\n\n\0", b"no line feed"];
 
-/// A commit but for its ids. Its texts are clean.
+/// A commit without its ids. Its texts are clean.
 #[derive(Drop)]
 pub struct Sample {
     /// The author's name.
@@ -48,7 +48,7 @@ pub const ALONE: [Sample; 3] = [
     },
 ];
 
-/// Commits of which each is the parent of the next, from one without a parent on.
+/// A chain of commits: the first has no parent, and each is the parent of the next.
 pub const CHAIN: [Sample; 6] = [
     Sample {
         author: "Ann B. Example",

@@ -8,7 +8,7 @@ use Rattle.line_door.specs.Plain.{silent, behind, then_by, then_say, if_request,
 use Rattle.line_door.specs.Cuts.{more_of, said_with, CutDoor, CutLaw, PiecesLaw, PlainLaw, PlainIsFed, DoorLaws}
 use Rattle.line_door.proofs.Acting.{plus-plus, plus-none, acts-from}
 
--- What is said, and what follows.
+-- What is said, and then what follows it.
 module _ {H A : Type 0} where
   then-none : (s : Said H A) (f : A → H → Said H A) → s.next ≡ None → then_say s f ≡ s
   then-none s f e = ap (λ (o : Option H). then_by o s f) e
@@ -32,7 +32,7 @@ module _ {H A : Type 0} (said : A → H → Way → Said H A) (is_request : H �
   at-rest (suc n) a h e = ap (λ (b : Bool). if_request b said (plain_from said is_request n) a h) e
 
   module _ (door : CutDoor said is_request more size) where
-    -- more requests than the size are no other requests
+    -- Allowing more requests than the size changes nothing.
     enough-at : (n m : ℕ) (a : A) (h : H) (b : Bool) → is_request h ≡ b → (o : Option H) → (said a h Plain).next ≡ o →
         ((c : A) (k : H) → size k < size h → plain_from said is_request n c k ≡ plain_from said is_request m c k) → plain_from said is_request (suc n) a h ≡ plain_from said is_request (suc m) a h
     enough-at n m a h false e o next more_of = at-rest (suc n) a h e ∙ sym (at-rest (suc m) a h e)
@@ -50,7 +50,7 @@ module _ {H A : Type 0} (said : A → H → Way → Said H A) (is_request : H �
     enough (suc n) zero a h p q = absurd (omega arith)
     enough (suc n) (suc m) a h p q = enough-at n m a h (is_request h) refl (said a h Plain).next refl (λ c k l. enough n m c k (omega arith) (omega arith))
 
-    -- a piece behind what is left
+    -- The answer to a piece that follows the bytes of a session.
     abbrev next : List ℕ → A → H → Said H A
     next q b k = plain_from said is_request (suc (size (more q k))) b (more q k)
 
@@ -88,7 +88,7 @@ module _ {H A : Type 0} (said : A → H → Way → Said H A) (is_request : H �
     cut-from (suc n) zero a h q p l = absurd (omega arith)
     cut-from (suc n) (suc m) a h q p l = cut-at n m a h q (is_request h) refl (said a h Plain).next refl l (λ c k x y. cut-from n m c k q (omega arith) (omega arith))
 
-    -- feeding p and then q says and leaves what feeding both at once says and leaves
+    -- Feeding `p` and then `q` says and leaves the same as feeding both at once.
     pub cut : CutLaw said is_request more size
     unfolding plain
     cut a h p q =
@@ -110,7 +110,7 @@ module _ {H A : Type 0} (said : A → H → Way → Said H A) (is_request : H �
     sent-with q s i held a j (inr (inr x)) =
         inr (inr (record { streamed = x.streamed; held_is = ap (more_of (more q)) x.held_is; after_is = x.after_is; count = x.count; some = x.some; proper = x.proper; out_is = x.out_is }))
 
-    -- a request is answered the same with more bytes behind it
+    -- A request is answered the same when more bytes follow it.
     step-with : (q : List ℕ) (h : H) (w m : Talk H A) → is_request h ≡ true → Step said is_request h w m → Step said is_request (more q h) (with q w) (with q m)
     step-with q h w m e step = record {
       held = ap (more_of (more q)) step.held;
@@ -128,7 +128,7 @@ module _ {H A : Type 0} (said : A → H → Way → Said H A) (is_request : H �
     requests-with q w [] m e = ap (with q) e
     requests-with q w (x ∷ xs) m e = ((more q e.0.0, door.request_stays q e.0.0 e.0.1, step-with q e.0.0 w x e.0.1 e.0.2), requests-with q x xs m e.1)
 
-    -- a step may begin where the disk's count was less
+    -- A step may start from a lower count of the disk's faults.
     step-from : (h : H) (w x m : Talk H A) → x.held ≡ w.held → x.after ≡ w.after → x.outside.out ≡ w.outside.out → x.outside.lost ≡ w.outside.lost → x.outside.disk ≤ w.outside.disk →
         Step said is_request h w m → Step said is_request h x m
     step-from h w x m held after out lost disk step = record {
@@ -146,12 +146,12 @@ module _ {H A : Type 0} (said : A → H → Way → Said H A) (is_request : H �
     fed-from w x v held after out lost disk (y ∷ ys) m each last =
         (y ∷ ys, m, ((each.0.0, each.0.1, step-from each.0.0 w x y held after out lost disk each.0.2), each.1), last)
 
-    -- requests and then a course
+    -- Requests, and then a course, are a course.
     fed-behind : (w : Talk H A) (ms : List (Talk H A)) (m v : Talk H A) → Requests said is_request w ms m → Fed said is_request m v → Fed said is_request w v
     fed-behind w [] m v each fed = subst (λ (t : Talk H A). Fed said is_request t v) each fed
     fed-behind w (x ∷ xs) m v each fed = let more_fed = fed-behind x xs m v each.1 fed in (x ∷ more_fed.0, more_fed.1, (each.0, more_fed.2), more_fed.3)
 
-    -- a rest that was kept
+    -- The act kept the rest `k`, and changed nothing else but the disk's count of faults.
     record Kept (k : H) (m v : Talk H A) : Type 0 where
       held : m.held ≡ Some k
       after : v.after ≡ m.after
@@ -182,7 +182,7 @@ module _ {H A : Type 0} (said : A → H → Way → Said H A) (is_request : H �
         by (inr rest) =
             kept-by k last.before m v (said m.after last.before last.step.acts.way) last.step.held last.step.acts.disk_later kept (door.rest_kept m.after last.before last.step.acts.way rest) last.step.acts.sent
 
-    -- a course of p, whose rest was kept, and then a course of q make a course of both at once
+    -- A course of `p` whose rest was kept, and then a course of `q`, make a course of both at once.
     pub pieces : PiecesLaw said is_request more size
     pieces h p q a o v k z first kept second =
         let rest = kept-last k first.1 v first.3 kept in
@@ -192,7 +192,7 @@ module _ {H A : Type 0} (said : A → H → Way → Said H A) (is_request : H �
 
     -- The plain function.
 
-    -- acts by the rules, one after another
+    -- Two plain acts in order are one with the joined words.
     plain-then : (s t : Said H A) (i j l : Outside) (held : Option H) (b c : A) (k : Option H) → PlainActs s i held b j → PlainActs t j k c l → PlainActs (behind s.words t) i k c l
     plain-then s t i j l held b c k first second = record {
       disk_later = omega (arith, first.disk_later, second.disk_later);
@@ -204,7 +204,7 @@ module _ {H A : Type 0} (said : A → H → Way → Said H A) (is_request : H �
       };
     }
 
-    -- what behind these words is done from the middle on
+    -- The second part of such an act is a plain act from the middle on.
     plain-second : (s t : Said H A) (i l : Outside) (c : A) (k : Option H) → PlainActs (behind s.words t) i k c l → PlainActs t (outside (plus i.out s.words) i.disk i.lost) k c l
     plain-second s t i l c k both = record {
       disk_later = both.disk_later;
@@ -216,7 +216,7 @@ module _ {H A : Type 0} (said : A → H → Way → Said H A) (is_request : H �
       };
     }
 
-    -- a talk from which a course leads is open
+    -- A talk from which a plain course leads is open.
     plain-open : (w : Talk H A) (ms : List (Talk H A)) (m v : Talk H A) → PlainRequests said is_request w ms m → PlainLast said is_request m v → (k : H) × (w.held ≡ Some k)
     plain-open w [] m v each last = (last.before, subst (λ (t : Talk H A). t.held ≡ Some last.before) each last.step.held)
     plain-open w (x ∷ xs) m v each last = (each.0.0, each.0.2.held)
@@ -285,7 +285,7 @@ module _ {H A : Type 0} (said : A → H → Way → Said H A) (is_request : H �
     plain-fed (suc n) h w v l held acts =
         plain-fed-at n h w v held acts (is_request h) refl (said w.after h Plain).next refl (λ k m shorter open_m acts_m. plain-fed n k m v (omega arith) open_m acts_m)
 
-    -- a course by the rules alone, without loss, is the plain function
+    -- A plain course says and leaves what the plain function says and leaves.
     pub by_rules : PlainLaw said is_request more size
     unfolding plain
     by_rules h w v held = (
@@ -309,11 +309,11 @@ module _ {H A : Type 0} (said : A → H → Way → Said H A) (is_request : H �
     course-plain w [] m each = each
     course-plain w (x ∷ xs) m each = ((each.0.0, each.0.1, step-plain each.0.0 w x each.0.2), course-plain x xs m each.1)
 
-    -- and it is one of the courses of the piece
+    -- A plain course is a course.
     pub is_course : PlainIsFed said is_request more size
     is_course w v fed =
         (fed.0, fed.1, course-plain w fed.0 fed.1 fed.2, record { before = fed.3.before; step = step-plain fed.3.before fed.1 v fed.3.step; ends = fed.3.ends })
 
-    -- all laws of a door
+    -- All laws of a door.
     pub door_laws : DoorLaws said is_request more size
     door_laws = record { cut = cut; pieces = pieces; by_rules = by_rules; is_course = is_course }

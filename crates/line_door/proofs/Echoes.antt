@@ -1,4 +1,4 @@
--- The small door has the laws under which a piece may be cut anywhere.
+-- The small door keeps the laws under which a piece may be cut anywhere.
 use Rattle.std.proofs.Common.{◌≡◌, ◌<◌, ◌⊎◌, ℕ, List, ◌++◌, length, Some, None, Bool, true, false, inl, inr, refl, sym, ap, subst, ◌∙◌, append_assoc}
 use Rattle.line_door.specs.Acts.{Way, Plain, Memory, Disk, Newer}
 use Rattle.line_door.specs.Lines.{Front, Whole, Long, Partial, front, is_whole, content}

@@ -1,4 +1,4 @@
--- The line at the front: where it goes on, and by the code's scan.
+-- The line at the front: how more bytes continue it, and how the code's scan finds it.
 use Rattle.std.proofs.Common.{◌≡◌, ◌<◌, ◌≤◌, ◌+◌, ◌-◌, ℕ, zero, suc, List, [], ◌∷◌, ◌++◌, length, take, drop, get_or, eqb, ltb, Option, Some, None, Bool, true, false, refl, sym, ap, subst, ◌∙◌, add-one, length-append, arith}
 use Rattle.std.specs.Prelude.{if◌then◌else◌}
 use Rattle.std.proofs.lemmas.Bool.{eqb-true, eqb-false, eq-eqb, ne_eqb, ltb-true, ltb-false, lt-ltb, le-ltb}
@@ -7,7 +7,7 @@ use Rattle.std.proofs.Math.Seq.{get_or-append_seam, take-append_seam}
 use Rattle.line_door.specs.Lines.{put_before, first_line, Front, Whole, Long, Partial, sized, front, is_whole, content}
 use Rattle.line_door.specs.LineLaws.{NoFeed, IsLine, LineLaw}
 
--- what is found in a list that begins with this byte
+-- The first line of a list, by whether its first byte is a line feed.
 abbrev cut_at : Bool → ℕ → List ℕ → Option (List ℕ × List ℕ) → Option (List ℕ × List ℕ)
 cut_at true b bs o = Some ([], bs)
 cut_at false b bs o = put_before b o
@@ -19,7 +19,7 @@ first_line-cons b bs = by (eqb b 10)
     by true = refl
     by false = refl
 
--- a line and what follows it
+-- A line and the bytes after it.
 abbrev found : List ℕ → List ℕ → Option (List ℕ × List ℕ)
 found line rest = Some (line, rest)
 
@@ -36,7 +36,7 @@ goes-at false b bs ys None o' p more e = none_some p e
 goes-at false b bs ys (Some r) o' p more e =
     subst (λ (x : List ℕ × List ℕ). put_before b o' ≡ found x.0 (x.1 ++ ys)) (some_is (b ∷ r.0, r.1) p e) (ap (put_before b) (more r refl))
 
--- a line stays what it is whatever follows
+-- More bytes leave a whole line unchanged.
 pub first_line-goes_on : (xs ys : List ℕ) (p : List ℕ × List ℕ) → first_line xs ≡ Some p → first_line (xs ++ ys) ≡ Some (p.0, p.1 ++ ys)
 first_line-goes_on [] ys p e = none_some p e
 first_line-goes_on (b ∷ bs) ys p e =
@@ -48,17 +48,17 @@ joined-at true b bs o p is more e = subst (λ (r : List ℕ × List ℕ). b ∷ 
 joined-at false b bs None p is more e = none_some p e
 joined-at false b bs (Some r) p is more e = subst (λ (x : List ℕ × List ℕ). b ∷ bs ≡ x.0 ++ 10 ∷ x.1) (some_is (b ∷ r.0, r.1) p e) (ap (λ (x : List ℕ). b ∷ x) (more r refl))
 
--- the bytes are the line, its line feed, and what follows
+-- The bytes are the line, its line feed, and the rest.
 pub first_line-joined : (xs : List ℕ) (p : List ℕ × List ℕ) → first_line xs ≡ Some p → xs ≡ p.0 ++ 10 ∷ p.1
 first_line-joined [] p e = none_some p e
 first_line-joined (b ∷ bs) p e = joined-at (eqb b 10) b bs (first_line bs) p (eqb-true b 10) (λ r f. first_line-joined bs r f) (sym (first_line-cons b bs) ∙ e)
 
--- what follows a line is shorter
+-- The rest after a line is shorter than the bytes.
 pub first_line-shorter : (xs : List ℕ) (p : List ℕ × List ℕ) → first_line xs ≡ Some p → length p.1 < length xs
 first_line-shorter xs p e =
     subst (λ (x : List ℕ). length p.1 < length x) (sym (first_line-joined xs p e)) (omega (arith, length-append p.0 (10 ∷ p.1)))
 
--- no line is found before the n-th byte
+-- No line ends before the n-th byte.
 abbrev far : ℕ → Option (List ℕ × List ℕ) → Type 0
 far n None = Unit {0}
 far n (Some p) = n ≤ length p.0
@@ -75,7 +75,7 @@ far-less : (m n : ℕ) (o : Option (List ℕ × List ℕ)) → m ≤ n → far n
 far-less m n None l h = tt
 far-less m n (Some p) l h = omega arith
 
--- the first line, by the place of its line feed
+-- The first line, by the offset of its line feed.
 pub first_line-at : (xs : List ℕ) (n : ℕ) → n < length xs → get_or xs n 0 ≡ 10 → ((k : ℕ) → k < n → get_or xs k 0 ≡ 10 → ⊥) → first_line xs ≡ Some (take n xs, drop (suc n) xs)
 first_line-at [] n l is before = absurd (omega arith)
 first_line-at (x ∷ xs) zero l is before = first_line-cons x xs ∙ ap (λ (t : Bool). cut_at t x xs (first_line xs)) (eq-eqb x 10 is)
@@ -84,7 +84,7 @@ first_line-at (x ∷ xs) (suc n) l is before =
     ∙ ap (λ (t : Bool). cut_at t x xs (first_line xs)) (ne_eqb x 10 (before 0 (omega arith)))
     ∙ ap (put_before x) (first_line-at xs n (omega arith) is (λ k h e. before (suc k) (omega arith) e))
 
--- no line feed among the first n bytes
+-- The first n bytes have no line feed.
 pub first_line-far : (xs : List ℕ) (n : ℕ) → n ≤ length xs → ((k : ℕ) → k < n → get_or xs k 0 ≡ 10 → ⊥) → far n (first_line xs)
 first_line-far xs zero l before = far-zero (first_line xs)
 first_line-far [] (suc n) l before = absurd (omega arith)
@@ -92,7 +92,7 @@ first_line-far (x ∷ xs) (suc n) l before =
     subst (far (suc n)) (sym (first_line-cons x xs ∙ ap (λ (t : Bool). cut_at t x xs (first_line xs)) (ne_eqb x 10 (before 0 (omega arith)))))
     (far-put n x (first_line xs) (first_line-far xs n (omega arith) (λ k h e. before (suc k) (omega arith) e)))
 
--- no line feed
+-- Bytes without a line feed have no first line.
 pub first_line-none : (xs : List ℕ) → ((k : ℕ) → k < length xs → get_or xs k 0 ≡ 10 → ⊥) → first_line xs ≡ None
 first_line-none [] before = refl
 first_line-none (x ∷ xs) before =
@@ -100,7 +100,7 @@ first_line-none (x ∷ xs) before =
     ∙ ap (λ (t : Bool). cut_at t x xs (first_line xs)) (ne_eqb x 10 (before 0 (omega arith)))
     ∙ ap (put_before x) (first_line-none xs (λ k h e. before (suc k) (omega arith) e))
 
--- what precedes a byte that is no line feed has none
+-- If no line is found, the first byte is no line feed, and none is found after it.
 none-at : (t : Bool) (b : ℕ) (bs : List ℕ) (o : Option (List ℕ × List ℕ)) → cut_at t b bs o ≡ None → (t ≡ false) × (o ≡ None)
 none-at true b bs o e = absurd (cc)
 none-at false b bs None e = (refl, refl)
@@ -111,21 +111,21 @@ first_line-behind b bs ys e =
     let parts = none-at (eqb b 10) b bs (first_line bs) (sym (first_line-cons b bs) ∙ e) in
     (parts.1, first_line-cons b (bs ++ ys) ∙ ap (λ (t : Bool). cut_at t b (bs ++ ys) (first_line (bs ++ ys))) parts.0)
 
--- bytes without one, and then a line
+-- Bytes without a line feed come before the first line.
 pub first_line-append : (xs ys : List ℕ) (p : List ℕ × List ℕ) → first_line xs ≡ None → first_line ys ≡ Some p → first_line (xs ++ ys) ≡ Some (xs ++ p.0, p.1)
 first_line-append [] ys p e f = f
 first_line-append (b ∷ bs) ys p e f =
     let parts = first_line-behind b bs ys e in
     parts.1 ∙ ap (put_before b) (first_line-append bs ys p parts.0 f)
 
--- and no line
+-- Two lists without a line feed have none when joined.
 pub first_line-append_none : (xs ys : List ℕ) → first_line xs ≡ None → first_line ys ≡ None → first_line (xs ++ ys) ≡ None
 first_line-append_none [] ys e f = f
 first_line-append_none (b ∷ bs) ys e f =
     let parts = first_line-behind b bs ys e in
     parts.1 ∙ ap (put_before b) (first_line-append_none bs ys parts.0 f)
 
--- and none for long
+-- Bytes without a line feed move the end of the line further away.
 first_line-append_far : (xs ys : List ℕ) (n : ℕ) → first_line xs ≡ None → far n (first_line ys) → far (length xs + n) (first_line (xs ++ ys))
 first_line-append_far [] ys n e f = far-less (length {A = ℕ} [] + n) n (first_line ys) (omega arith) f
 first_line-append_far (b ∷ bs) ys n e f =
@@ -177,15 +177,15 @@ sized-far : (limit : ℕ) (bytes : List ℕ) (o : Option (List ℕ × List ℕ))
 sized-far limit bytes None l h = ap (λ (t : Bool). if t then Partial else Long) (le-ltb (length bytes) limit l)
 sized-far limit bytes (Some p) l h = ap (λ (t : Bool). if t then Whole p.0 p.1 else Long) (le-ltb (length p.0) limit h)
 
--- a part has no line feed, and is short
+-- A part has no line feed, and is short.
 pub front-partial : (limit : ℕ) (xs : List ℕ) → front limit xs ≡ Partial → (first_line xs ≡ None) × (length xs < limit)
 front-partial limit xs e = sized-partial limit xs (first_line xs) e
 
--- before the first byte
+-- No bytes are a part.
 pub front-nothing : (limit : ℕ) → 0 < limit → front limit [] ≡ Partial
 front-nothing limit l = ap (λ (t : Bool). if t then Partial else Long) (lt-ltb 0 limit l)
 
--- a line goes on to be the line that it is
+-- More bytes leave a whole line unchanged.
 pub front-goes_on : (limit : ℕ) (xs ys line rest : List ℕ) → front limit xs ≡ Whole line rest → front limit (xs ++ ys) ≡ Whole line (rest ++ ys)
 front-goes_on limit xs ys line rest e =
     let parts = sized-whole limit xs (first_line xs) line rest e in
@@ -199,21 +199,21 @@ stays-long limit xs ys None is e =
 stays-long limit xs ys (Some p) is e =
     ap (sized limit (xs ++ ys)) (first_line-goes_on xs ys p is) ∙ ap (λ (t : Bool). if t then Whole p.0 (p.1 ++ ys) else Long) (line_long (ltb (length p.0) limit) p e)
 
--- a line that is too long stays so
+-- A line that is too long stays too long.
 pub front-stays_long : (limit : ℕ) (xs ys : List ℕ) → front limit xs ≡ Long → front limit (xs ++ ys) ≡ Long
 front-stays_long limit xs ys e = stays-long limit xs ys (first_line xs) refl e
 
--- what follows a line is shorter
+-- The rest after a line is shorter than the bytes.
 pub front-shorter : (limit : ℕ) (xs line rest : List ℕ) → front limit xs ≡ Whole line rest → length rest < length xs
 front-shorter limit xs line rest e = first_line-shorter xs (line, rest) (sized-whole limit xs (first_line xs) line rest e).0
 
--- the bytes are the line, its line feed, and what follows
+-- The bytes are the line, its line feed, and the rest.
 pub front-joined : (limit : ℕ) (xs line rest : List ℕ) → front limit xs ≡ Whole line rest → xs ≡ line ++ 10 ∷ rest
 front-joined limit xs line rest e = first_line-joined xs (line, rest) (sized-whole limit xs (first_line xs) line rest e).0
 
--- What the code's scan of a piece says.
+-- What the code's scan of a piece finds.
 
--- a part goes on by a piece that ends it
+-- The piece ends the line.
 pub front-line : (limit : ℕ) (held piece : List ℕ) (n : ℕ) → front limit held ≡ Partial → first_line piece ≡ Some (take n piece, drop (suc n) piece) → n < length piece → length held + n < limit →
     front limit (held ++ piece) ≡ Whole (held ++ take n piece) (drop (suc n) piece)
 front-line limit held piece n part is l short =
@@ -221,19 +221,19 @@ front-line limit held piece n part is l short =
     ∙ ap (λ (t : Bool). if t then Whole (held ++ take n piece) (drop (suc n) piece) else Long)
     (lt-ltb (length (held ++ take n piece)) limit (omega (arith, length-append held (take n piece), length-take-le n piece)))
 
--- that does not end it
+-- The piece doesn't end the line, which is still a part.
 pub front-more : (limit : ℕ) (held piece : List ℕ) → front limit held ≡ Partial → first_line piece ≡ None → length held + length piece < limit → front limit (held ++ piece) ≡ Partial
 front-more limit held piece part is short =
     ap (sized limit (held ++ piece)) (first_line-append_none held piece (front-partial limit held part).0 is)
     ∙ ap (λ (t : Bool). if t then Partial else Long) (lt-ltb (length (held ++ piece)) limit (omega (arith, length-append held piece)))
 
--- that does not end it in time
+-- The piece doesn't end the line within the limit.
 pub front-long : (limit : ℕ) (held piece : List ℕ) (n : ℕ) → front limit held ≡ Partial → length held + n ≡ limit → n ≤ length piece → ((k : ℕ) → k < n → get_or piece k 0 ≡ 10 → ⊥) → front limit (held ++ piece) ≡ Long
 front-long limit held piece n part is l before =
     sized-far limit (held ++ piece) (first_line (held ++ piece)) (omega (arith, length-append held piece))
     (far-less limit (length held + n) (first_line (held ++ piece)) (omega arith) (first_line-append_far held piece n (front-partial limit held part).0 (first_line-far piece n l before)))
 
--- a line that is whole, or too long, stays so
+-- More bytes leave a whole line whole, and a line that is too long too long.
 pub is_whole-stays : (limit : ℕ) (xs ys : List ℕ) → is_whole (front limit xs) ≡ true → is_whole (front limit (xs ++ ys)) ≡ true
 is_whole-stays limit xs ys = by (front limit xs) refl
   where
@@ -242,13 +242,13 @@ is_whole-stays limit xs ys = by (front limit xs) refl
     by Long e is = ap is_whole (front-stays_long limit xs ys e)
     by Partial e is = absurd (cc)
 
--- what is neither is a part
+-- A front that isn't whole is a part.
 pub not_whole : (f : Front) → is_whole f ≡ false → f ≡ Partial
 not_whole (Whole line rest) e = absurd (cc)
 not_whole Long e = absurd (cc)
 not_whole Partial e = refl
 
--- the place of a line feed in the piece is the end of the line
+-- The line ends at the offset of the first line feed of the piece.
 pub ahead-line : (limit : ℕ) (held piece : List ℕ) (n : ℕ) → front limit held ≡ Partial → n < length piece → get_or piece n 0 ≡ 10 → ((k : ℕ) → k < n → get_or piece k 0 ≡ 10 → ⊥) → length held + n < limit →
     (n < length piece) × (front limit (held ++ piece) ≡ Whole (held ++ take n piece) (drop (n + 1) piece))
 ahead-line limit held piece n part l is before short = (l, rw add-one (front-line limit held piece n part (first_line-at piece n l is before) l short))
@@ -263,12 +263,12 @@ single-at false b bs (Some r) p is more e = subst (λ (x : List ℕ × List ℕ)
     no_feed-cons x xs other none zero l ten = other ten
     no_feed-cons x xs other none (suc k) l ten = none k (omega arith) ten
 
--- a line has no line feed
+-- A line has no line feed.
 pub first_line-single : (xs : List ℕ) (p : List ℕ × List ℕ) → first_line xs ≡ Some p → NoFeed p.0
 first_line-single [] p e = none_some p e
 first_line-single (b ∷ bs) p e = single-at (eqb b 10) b bs (first_line bs) p (eqb-false b 10) (λ r f. first_line-single bs r f) (sym (first_line-cons b bs) ∙ e)
 
--- where no line is found there is none
+-- Bytes in which no line is found have no line feed.
 pub first_line-no_feed : (xs : List ℕ) → first_line xs ≡ None → NoFeed xs
 first_line-no_feed [] e k l ten = omega arith
 first_line-no_feed (b ∷ bs) e zero l ten = eqb-false b 10 (none-at (eqb b 10) b bs (first_line bs) (sym (first_line-cons b bs) ∙ e)).0 ten
@@ -288,7 +288,7 @@ whole-from limit bytes line rest is =
 partial-from : (limit : ℕ) (bytes : List ℕ) → NoFeed bytes → length bytes < limit → front limit bytes ≡ Partial
 partial-from limit bytes none short = ap (sized limit bytes) (first_line-none bytes none) ∙ ap (λ (t : Bool). if t then Partial else Long) (lt-ltb (length bytes) limit short)
 
--- the last byte
+-- The content of a line, by its last byte.
 content-at : (line : List ℕ) (b : ℕ) (t : Bool) → eqb b 13 ≡ t → content (line ++ b ∷ []) ≡ (if t then line else line ++ b ∷ [])
 content-at line b t e =
     let bytes : List ℕ = line ++ b ∷ [] in
@@ -298,7 +298,7 @@ content-at line b t e =
     ∙ ap (λ (x : List ℕ). if eqb b 13 then x else bytes) (take-append_seam line (b ∷ []))
     ∙ ap (λ (u : Bool). if u then line else bytes) e
 
--- what the line at the front is
+-- The law of the line at the front.
 pub line_law : LineLaw
 line_law = record {
   whole = λ limit bytes line rest. (λ e. whole-is limit bytes line rest e, λ is. whole-from limit bytes line rest is);

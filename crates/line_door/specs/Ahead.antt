@@ -1,10 +1,10 @@
--- What comes next where a part of a line goes on by a piece.
+-- How a piece continues a part of a line.
 use Rattle.std.specs.Prelude.{◌≡◌, ◌+◌, ◌<◌, ℕ, List, ◌++◌, length, take, drop}
 use Rattle.line_door.specs.Lines.{Whole, Long, Partial, front}
 use Rattle.line_door.specs.declared.line.Ahead.{Ahead}
 use Rattle.line_door.specs.declared.line.Ahead.TheVariants as ahead
 
--- the line ends at that byte of the piece; or it is too long; or it is still a part
+-- The line ends at this byte of the piece, or it is too long, or it is still a part.
 abbrev pub IsAhead : ℕ → List ℕ → List ℕ → Ahead → Type 0
 IsAhead limit held piece (ahead.Line n) = (n < length piece) × (front limit (held ++ piece) ≡ Whole (held ++ take n piece) (drop (n + 1) piece))
 IsAhead limit held piece ahead.Long = front limit (held ++ piece) ≡ Long

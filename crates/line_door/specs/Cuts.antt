@@ -1,39 +1,42 @@
--- What a connection is answered does not depend on how its bytes are cut into pieces.
+-- The answers to a connection do not depend on how its bytes are cut into pieces.
 use Rattle.std.specs.Prelude.{◌≡◌, ◌<◌, ◌⊎◌, ◌↔◌, ℕ, List, ◌++◌, Option, Some, None, Bool, true, false}
 use Rattle.line_door.specs.Acts.{Outside, Said, Way, Plain, PlainActs}
 use Rattle.line_door.specs.Course.{Talk, talk, Fed, PlainFed}
 use Rattle.line_door.specs.Plain.{silent, then_say, plain}
 
+-- The session with more bytes, if it is open.
 abbrev pub more_of : {H : Type 0} → (H → H) → Option H → Option H
 more_of more None = None
 more_of more (Some h) = Some (more h)
 
--- the same is said, and the session behind it has more bytes
+-- The same words, where the session after them has more bytes.
 abbrev pub said_with : {H A : Type 0} → (H → H) → Said H A → Said H A
 said_with more s = record { next = more_of more s.next; words = s.words; streamed = s.streamed; after = s.after }
 
 module _ {H A : Type 0} (said : A → H → Way → Said H A) (is_request : H → Bool) (more : List ℕ → H → H) (size : H → ℕ) where
-  -- the laws of a door under which a piece may be cut anywhere; `more q h` is h with q behind its bytes
+  -- The laws of a door whose pieces may be cut anywhere. `more q h` is `h` with `q` after its
+  -- bytes.
   pub record CutDoor : Type 0 where
-    -- a whole request stays one with more bytes behind it, and the same is said
+    -- A whole request stays one, and says the same, when more bytes follow it.
     pub request_stays : (q : List ℕ) (h : H) → is_request h ≡ true → is_request (more q h) ≡ true
     pub said_stays : (q : List ℕ) (a : A) (h : H) (way : Way) → is_request h ≡ true → said a (more q h) way ≡ said_with (more q) (said a h way)
-    -- a rest is kept without a word, or the session is closed
+    -- A rest is kept without a word, or the session is closed.
     pub rest_plain : (a : A) (h : H) → is_request h ≡ false → said a h Plain ≡ silent a h
     pub rest_kept : (a : A) (h : H) (way : Way) → is_request h ≡ false → ((said a h way).next ≡ None) ⊎ (said a h way ≡ silent a h)
-    -- pieces are joined
+    -- Two pieces in order are one joined piece.
     pub more_joined : (p q : List ℕ) (h : H) → more q (more p h) ≡ more (p ++ q) h
-    -- a request that leaves the session open makes it smaller
+    -- A request that leaves the session open makes it smaller.
     pub shorter : (a : A) (h k : H) → is_request h ≡ true → (said a h Plain).next ≡ Some k → size k < size h
 
-  -- feeding p and then q says and leaves what feeding both at once says and leaves
+  -- Feeding `p` and then `q` says and leaves the same as feeding both at once.
   abbrev pub CutLaw : Type 0
   CutLaw =
       (a : A) (h : H) (p q : List ℕ) →
       plain said is_request size a (more (p ++ q) h)
       ≡ then_say (plain said is_request size a (more p h)) (λ b k. plain said is_request size b (more q k))
 
-  -- a course of p, whose rest was kept, and then a course of q make a course of both at once, whatever departures they took
+  -- A course of `p` whose rest was kept, and then a course of `q`, make a course of both at once,
+  -- whatever ways their acts took.
   abbrev pub PiecesLaw : Type 0
   PiecesLaw =
       (h : H) (p q : List ℕ) (a : A) (o : Outside) (v : Talk H A) (k : H) (z : Talk H A) →
@@ -42,18 +45,18 @@ module _ {H A : Type 0} (said : A → H → Way → Said H A) (is_request : H �
       Fed said is_request (talk (Some (more q k)) v.after v.outside) z →
       Fed said is_request (talk (Some (more (p ++ q) h)) a o) z
 
-  -- a course by the rules alone, without loss, is the plain function
+  -- A plain course says and leaves what the plain function says and leaves.
   abbrev pub PlainLaw : Type 0
   PlainLaw =
       (h : H) (w v : Talk H A) →
       w.held ≡ Some h →
       PlainFed said is_request w v ↔ PlainActs (plain said is_request size w.after h) w.outside v.held v.after v.outside
 
-  -- and it is one of the courses of the piece
+  -- A plain course is a course.
   abbrev pub PlainIsFed : Type 0
   PlainIsFed = (w v : Talk H A) → PlainFed said is_request w v → Fed said is_request w v
 
-  -- what a door with these laws keeps
+  -- The laws that such a door keeps.
   pub record DoorLaws : Type 0 where
     pub cut : CutLaw
     pub pieces : PiecesLaw

@@ -1,4 +1,5 @@
-//! What every door of lines shares: acts and courses of a session, what they say when cut anywhere, and the line at the front of a piece.
+//! What all doors of lines share: the acts and courses of a session, the laws of cutting its bytes
+//! into pieces, the line at the front of its bytes, and the writing of answers.
 #![tactic(auto)]
 
 mod laws;

@@ -1,25 +1,28 @@
-//! The line at the front of the bytes of a connection: it ends with a line feed, and a carriage return before it is dropped.
-//! A limit counts the line's end, as the 512 octets of RFC 3977, section 3.1, do.
+//! The line at the front of a connection's bytes.
+//!
+//! A line ends with a line feed, and one carriage return before it is dropped. The limit includes
+//! the line's end, like the 512 octets of RFC 3977, section 3.1.
 ghost use Rattle.std.specs.Prelude.{◌≡◌};
 ghost use Rattle.line_door.specs.Lines.{front, content, Partial};
 ghost use Rattle.line_door.specs.Ahead.{IsAhead};
 
 use memchr::memchr;
 
-/// What comes next where a part of a line goes on by a piece.
+/// How a piece continues a part of a line.
 #[derive(Clone, Copy, Debug, PartialEq, Eq)]
 pub enum Ahead {
-    /// The line ends at the line feed that is that byte of the piece.
+    /// The line ends at the line feed at this offset of the piece.
     Line(usize),
     /// The line is longer than the limit.
     Long,
-    /// The whole piece is still a part of the line.
+    /// The line does not end in the piece, and is not too long yet.
     More,
 }
 
-/// What comes next where `held`, a part of a line, goes on by `piece`.
+/// Finds out how `piece` continues `held`, which is a part of a line.
 ///
-/// A line has at most `limit` octets with its line feed. No byte of `held` is looked at, and at most `limit` of the piece.
+/// A line has at most `limit` octets with its line feed. Reads no byte of `held`, and at most
+/// `limit` bytes of the piece.
 pub fn next_in(held: &[u8], piece: &[u8], limit: usize) -> Ahead
     requires { front limit held.now ≡ Partial }
     ensures { IsAhead limit held.now piece.now result }
@@ -37,7 +40,7 @@ pub fn next_in(held: &[u8], piece: &[u8], limit: usize) -> Ahead
     }
 }
 
-/// A line, read up to its line feed, without one carriage return at its end.
+/// Removes one carriage return from the end of a line, which has no line feed.
 pub fn line_content(line: &[u8]) -> &[u8]
     ensures { result.now ≡ content line.now }
 {

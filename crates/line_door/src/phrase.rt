@@ -1,12 +1,13 @@
-//! Words that are said to a connection.
+//! Writes words to a connection.
 ghost use Rattle.std.specs.Prelude.{◌++◌, ◌∷◌, []};
 ghost use Rattle.line_door.specs.Phrases.{Says};
 
 use edge_io::Sink;
 
-/// Says one piece of words, and answers whether it was taken whole.
+/// Writes words, and returns whether all of them were taken.
 ///
-/// Where it was not, a prefix of it was taken and the sink's count of faults rose: the session is to be closed.
+/// If not, a prefix of them was taken and the sink's count of faults rose. The caller then closes
+/// the session.
 pub fn say<O: Sink>(bytes: &[u8], out: &mut O) -> bool
     ensures said { Says bytes.now (O.taken out.old) (O.faults out.old) (O.taken out.new) (O.faults out.new) result }
     ensures sink { O.alike out.old out.new }
@@ -17,7 +18,9 @@ pub fn say<O: Sink>(bytes: &[u8], out: &mut O) -> bool
     }
 }
 
-/// Says words and a line feed, and answers whether both were taken whole.
+/// Writes words and a line feed, and returns whether all of them were taken.
+///
+/// If not, a prefix of them was taken and the sink's count of faults rose.
 pub fn say_line<O: Sink>(words: &[u8], out: &mut O) -> bool
     ensures said { Says (words.now ++ 10 ∷ []) (O.taken out.old) (O.faults out.old) (O.taken out.new) (O.faults out.new) result }
     ensures sink { O.alike out.old out.new }

@@ -25,6 +25,11 @@ impl Taker {
             faults: 0,
         }
     }
+
+    /// Whether it took these bytes, and one write failed.
+    fn holds(&self, bytes: &[u8]) -> bool {
+        self.bytes.as_slice() == bytes && self.faults == 1
+    }
 }
 
 impl Sink for Taker {
@@ -48,32 +53,36 @@ impl Sink for Taker {
     }
 }
 
+/// Pieces, and what stands at their front where lines have at most 8 bytes.
+const FIRST: [(&[u8], Ahead); 9] = [
+    (b"", Ahead::More),
+    (b"\n", Ahead::Line(0)),
+    (b"ab\r\n", Ahead::Line(3)),
+    (b"abc\ndef\n", Ahead::Line(3)),
+    (b"abcdefg", Ahead::More),
+    (b"abcdefg\n", Ahead::Line(7)),
+    (b"abcdefgh", Ahead::Long),
+    (b"abcdefgh\n", Ahead::Long),
+    (b"a\0b\r", Ahead::More),
+];
+
+/// The same after three bytes of a line.
+const AFTER_THREE: [(&[u8], Ahead); 6] = [
+    (b"\n", Ahead::Line(0)),
+    (b"d\ne\n", Ahead::Line(1)),
+    (b"defg", Ahead::More),
+    (b"defg\n", Ahead::Line(4)),
+    (b"defgh", Ahead::Long),
+    (b"defgh\n", Ahead::Long),
+];
+
 #[test]
 fn lines_end_at_their_line_feed(rt: HostRuntime) {
-    let first: [(&[u8], Ahead); 9] = [
-        (b"", Ahead::More),
-        (b"\n", Ahead::Line(0)),
-        (b"ab\r\n", Ahead::Line(3)),
-        (b"abc\ndef\n", Ahead::Line(3)),
-        (b"abcdefg", Ahead::More),
-        (b"abcdefg\n", Ahead::Line(7)),
-        (b"abcdefgh", Ahead::Long),
-        (b"abcdefgh\n", Ahead::Long),
-        (b"a\0b\r", Ahead::More),
-    ];
-    for (piece, want) in first {
-        assert!(rt; next_in(b"", piece, 8) == want);
+    for (piece, wanted) in &FIRST {
+        assert!(rt; next_in(b"", piece, 8) == *wanted);
     }
-    let behind: [(&[u8], Ahead); 6] = [
-        (b"\n", Ahead::Line(0)),
-        (b"d\ne\n", Ahead::Line(1)),
-        (b"defg", Ahead::More),
-        (b"defg\n", Ahead::Line(4)),
-        (b"defgh", Ahead::Long),
-        (b"defgh\n", Ahead::Long),
-    ];
-    for (piece, want) in behind {
-        assert!(rt; next_in(b"abc", piece, 8) == want);
+    for (piece, wanted) in &AFTER_THREE {
+        assert!(rt; next_in(b"abc", piece, 8) == *wanted);
     }
 }
 
@@ -88,32 +97,41 @@ fn a_line_of_512_bytes_is_read(rt: HostRuntime) {
     assert!(rt; next_in(b"", &piece, 512) == Ahead::Line(511));
 }
 
+/// Lines, and their contents.
+const CONTENTS: [(&[u8], &[u8]); 6] = [
+    (b"", b""),
+    (b"\r", b""),
+    (b"abc", b"abc"),
+    (b"abc\r", b"abc"),
+    (b"abc\r\r", b"abc\r"),
+    (b"a\rb", b"a\rb"),
+];
+
 #[test]
 fn one_carriage_return_is_dropped(rt: HostRuntime) {
-    let table: [(&[u8], &[u8]); 6] = [
-        (b"", b""),
-        (b"\r", b""),
-        (b"abc", b"abc"),
-        (b"abc\r", b"abc"),
-        (b"abc\r\r", b"abc\r"),
-        (b"a\rb", b"a\rb"),
-    ];
-    for (line, want) in table {
-        assert!(rt; line_content(line) == want);
+    for (line, wanted) in &CONTENTS {
+        assert!(rt; line_content(line) == *wanted);
     }
+}
+
+/// Whether a sink that takes three writes takes words and a line, and no word after them.
+fn takes_three_writes(sink: &mut Taker) -> bool {
+    let words = say(b"ab", sink);
+    let line = say_line(b"cd", sink);
+    let lost = !say(b"ef", sink);
+    words && line && lost && sink.holds(b"abcd\n")
+}
+
+/// Whether a sink that takes one write takes the words of a line without its line feed.
+fn takes_one_write(sink: &mut Taker) -> bool {
+    let lost = !say_line(b"cd", sink);
+    lost && sink.holds(b"cd")
 }
 
 #[test]
 fn words_stop_where_the_sink_fails(rt: HostRuntime) {
-    let alloc = rt.alloc();
-    let mut sink = Taker::new(alloc, 3);
-    assert!(rt; say(b"ab", &mut sink));
-    assert!(rt; say_line(b"cd", &mut sink));
-    assert!(rt; !say(b"ef", &mut sink));
-    assert!(rt; sink.bytes.as_slice() == b"abcd\n".as_slice() && sink.faults == 1);
-    let mut short = Taker::new(alloc, 1);
-    assert!(rt; !say_line(b"cd", &mut short));
-    assert!(rt; short.bytes.as_slice() == b"cd".as_slice() && short.faults == 1);
+    assert!(rt; takes_three_writes(&mut Taker::new(rt.alloc(), 3)));
+    assert!(rt; takes_one_write(&mut Taker::new(rt.alloc(), 1)));
     cut_law();
     pieces_law();
     plain_law();

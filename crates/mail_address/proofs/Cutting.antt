@@ -9,7 +9,7 @@ use Rattle.mail_address.specs.declared.place.Place.TheVariants.{Outside, Pair, Q
 use Rattle.mail_address.specs.Places.{next_place, marked_by}
 use Rattle.mail_address.specs.Items.{cut, onto_item, ends_item, ending_of, is_grouped_behind, is_bracketed_behind, items_of}
 
--- more bytes at the front of the first item
+-- More bytes at the front of the first item.
 abbrev pub put_before : List ℕ → List (List ℕ × Ending) → List (List ℕ × Ending)
 put_before xs [] = []
 put_before xs (item ∷ items) = (xs ++ item.0, item.1) ∷ items
@@ -20,11 +20,11 @@ put_before-onto xs b (item ∷ items) =
     let front : xs ++ (b ∷ item.0) ≡ (xs ++ b ∷ []) ++ item.0 = sym (append_assoc xs (b ∷ []) item.0) in
     ap (λ (ys : List ℕ). (ys, item.1) ∷ items) front
 
--- the items of the bytes from a place on, behind the bytes before it
+-- The items of the bytes from an index on, with the bytes before it in the first item.
 abbrev pub cut_from : Bool → Bool → Place → List ℕ → ℕ → List (List ℕ × Ending)
 cut_from grouped bracketed place xs i = put_before (take i xs) (cut grouped bracketed (marked_by next_place place (drop i xs)))
 
--- a byte that ends no item
+-- A byte that doesn't end an item.
 pub cut_from-step : (grouped bracketed : Bool) (place : Place) (xs : List ℕ) (i : ℕ) → i < length xs
     → ends_item grouped bracketed (get_or xs i 0, place) ≡ false
     → cut_from grouped bracketed place xs i ≡ cut_from grouped (is_bracketed_behind bracketed (get_or xs i 0, place)) (next_place place (get_or xs i 0)) xs (i + 1)
@@ -32,7 +32,7 @@ cut_from-step grouped bracketed place xs i h e =
     rw (drop_more xs i 0 h, e, take_more xs i 0 h)
     (put_before-onto (take i xs) (get_or xs i 0) (cut grouped (is_bracketed_behind bracketed (get_or xs i 0, place)) (marked_by next_place (next_place place (get_or xs i 0)) (drop (i + 1) xs))))
 
--- behind the end of an item nothing is open
+-- After the end of an item no quoted string and no comment is open.
 outside_behind : (b : ℕ) (t : Bool) → (b == 44 || b == 59 || (b == 58 && t)) ≡ true → next_place Outside b ≡ Outside
 outside_behind b t e = grind (arith, nat_tests)
 
@@ -45,14 +45,14 @@ place_behind grouped false b QuotedPair e = cc
 place_behind grouped false b (Comment depth) e = cc
 place_behind grouped false b (CommentPair depth) e = cc
 
--- a byte that ends an item
+-- A byte that ends an item.
 pub cut_from-end : (grouped bracketed : Bool) (place : Place) (xs : List ℕ) (i : ℕ) → i < length xs
     → ends_item grouped bracketed (get_or xs i 0, place) ≡ true
     → cut_from grouped bracketed place xs i ≡ (take i xs, ending_of (get_or xs i 0)) ∷ items_of (is_grouped_behind grouped (ending_of (get_or xs i 0))) (drop (i + 1) xs)
 cut_from-end grouped bracketed place xs i h e =
     rw (drop_more xs i 0 h, e, append-nil (take i xs), place_behind grouped bracketed (get_or xs i 0) place e) refl
 
--- the end of the bytes
+-- The end of the bytes.
 pub cut_from-all : (grouped bracketed : Bool) (place : Place) (xs : List ℕ) (i : ℕ) → length xs ≤ i
     → cut_from grouped bracketed place xs i ≡ (xs, Semicolon) ∷ []
 cut_from-all grouped bracketed place xs i h = rw (drop_all i xs h, take_all i xs h, append-nil xs) refl

@@ -1,4 +1,4 @@
--- A list of plain mailboxes is read back.
+-- A list of plain mailboxes is read back as it was.
 use Rattle.std.proofs.Common.{◌≡◌, ℕ, suc, ◌+◌, ◌<◌, Bool, true, false, cond, ◌==◌, nat_lt, ◌&&◌, List, [], ◌∷◌, ◌++◌, map, Option, None, Some, length, drop, refl, sym, ◌∙◌, ap, append_assoc, append-nil, zero-add, arith}
 use Rattle.std.proofs.lemmas.Bool.Decides.{nat_tests}
 use Rattle.std.proofs.lemmas.List.{take_at, drop_at, drop-drop, length-append}
@@ -18,7 +18,7 @@ use Rattle.mail_address.specs.Laws.{is_plain, is_plain_letter, PlainMailbox, IsP
 use Rattle.mail_address.proofs.Cutting.{put_before}
 use Rattle.mail_address.proofs.Spacing.{without_space-space}
 
--- a byte that changes no place, and ends nothing
+-- A byte that changes no place, and ends nothing.
 record IsQuiet (b : ℕ) : Type 0 where
   quote : (b == 34) ≡ false
   paren : (b == 40) ≡ false
@@ -33,7 +33,7 @@ abbrev AllQuiet : List ℕ → Type 0
 AllQuiet [] = Unit {0}
 AllQuiet (b ∷ bs) = IsQuiet b × AllQuiet bs
 
--- no byte is this one
+-- None of the bytes is this one.
 abbrev HasNo : ℕ → List ℕ → Type 0
 HasNo c [] = Unit {0}
 HasNo c (b ∷ bs) = ((b == c) ≡ false) × HasNo c bs
@@ -74,7 +74,7 @@ quiet-space = record { quote = refl; paren = refl; comma = refl; colon = refl; s
 quiet-at : IsQuiet 64
 quiet-at = record { quote = refl; paren = refl; comma = refl; colon = refl; semicolon = refl; less = refl; greater = refl; backslash = refl }
 
--- the facts of all bytes, from those of each
+-- The properties of all bytes, from those of each byte.
 all_tail : (p : ℕ → Bool) (b : ℕ) (bs : List ℕ) → AllPass p (b ∷ bs) → AllPass p bs
 all_tail p b bs all = λ k d h. let later : suc k < length (b ∷ bs) = omega arith in all (suc k) d later
 
@@ -109,7 +109,7 @@ has_no-append : (c : ℕ) (xs ys : List ℕ) → HasNo c xs → HasNo c ys → H
 has_no-append c [] ys q r = r
 has_no-append c (x ∷ xs) ys q r = (q.0, has_no-append c xs ys q.1 r)
 
--- quiet bytes are of the item that follows them
+-- Quiet bytes belong to the item that follows them.
 put_before-nil : (items : List (List ℕ × Ending)) → items ≡ put_before [] items
 put_before-nil [] = refl
 put_before-nil (item ∷ items) = refl
@@ -127,7 +127,7 @@ cut-quiet g false (b ∷ bs) ys q =
     let ih : cut g false (marked (bs ++ ys)) ≡ put_before bs (cut g false (marked ys)) = cut-quiet g false bs ys q.1 in
     rw (q.0.comma, q.0.semicolon, q.0.colon, q.0.less, q.0.quote, q.0.paren, ih) (onto_item-put_before b bs (cut g false (marked ys)))
 
--- a mailbox as it stands in a list: a name, a space, an address between brackets, and what follows
+-- A mailbox as a list has it: a name, a space, an address between brackets, and the rest.
 abbrev line : List ℕ → List ℕ → List ℕ → List ℕ
 line name address ys = (name ++ 32 ∷ []) ++ (60 ∷ (address ++ (62 ∷ ys)))
 
@@ -149,7 +149,7 @@ cut-line g name address ys q r =
     = cut-quiet g false front (60 ∷ (address ++ (62 ∷ ys))) q in
     outer ∙ ap (λ (items : List (List ℕ × Ending)). put_before front (onto_item 60 items)) inner ∙ put_before-line front address (cut g false (marked ys))
 
--- what is looked for is not among quiet bytes
+-- No quiet byte is the one searched for.
 len_before-quiet : (sought : Sought) (xs ys : List ℕ) → ((b : ℕ) → IsQuiet b → is_sought sought (b, Outside) ≡ false) → AllQuiet xs
     → len_before sought Outside (xs ++ ys) ≡ length xs + len_before sought Outside ys
 len_before-quiet sought [] ys none q = sym (zero-add (len_before sought Outside ys))
@@ -160,7 +160,7 @@ len_before-quiet sought (b ∷ bs) ys none q =
 nat_lt-true : (n m : ℕ) → n < m → nat_lt n m ≡ true
 nat_lt-true n m h = grind (arith, nat_tests)
 
--- the parts of such an item
+-- The parts of such an item.
 len_before-line : (name address : List ℕ) → AllQuiet (name ++ 32 ∷ []) → len_before OpenBracket Outside (line name address []) ≡ length (name ++ 32 ∷ [])
 len_before-line name address q =
     let len : len_before OpenBracket Outside (line name address []) ≡ length (name ++ 32 ∷ []) + 0
@@ -200,7 +200,7 @@ address_bytes-line name address q r =
     let has = has_bracket-line name address q in
     rw has (ap up_to_bracket (behind_bracket-line name address q) ∙ up_to_bracket-line address r)
 
--- the texts of quiet bytes
+-- The texts of quiet bytes.
 spoken_from-quiet : (xs : List ℕ) → AllQuiet xs → spoken_from Outside xs ≡ xs
 spoken_from-quiet [] q = refl
 spoken_from-quiet (b ∷ bs) q = rw (q.0.quote, q.0.paren, q.0.backslash) (ap (λ (ys : List ℕ). b ∷ ys) (spoken_from-quiet bs q.1))
@@ -217,7 +217,7 @@ spaced-push : (bs : List ℕ) → spaced (bs ++ 32 ∷ []) ≡ spaced bs
 spaced-push [] = refl
 spaced-push (b ∷ bs) = rw (begins_word-push bs, spaced-push bs) refl
 
--- the address of such a mailbox
+-- The address of such a mailbox.
 split_last-no : (c : ℕ) (xs : List ℕ) → HasNo c xs → split_last (is_this c) xs ≡ None
 split_last-no c [] lacks = refl
 split_last-no c (x ∷ xs) lacks = rw (lacks.0, split_last-no c xs lacks.1) refl
@@ -236,7 +236,7 @@ without_route-quiet (b ∷ bs) q =
     let none : split_last (is_this 58) (b ∷ bs) ≡ None = split_last-no 58 (b ∷ bs) (no_colon (b ∷ bs) q) in
     ap (λ (parts : Option (List ℕ × List ℕ)). cond (b == 64) (part_behind (b ∷ bs) parts) (b ∷ bs)) none ∙ cond_same (b == 64) (b ∷ bs)
 
--- an address with an `@` is not empty
+-- An address with an `@` isn't empty.
 some_length : (local_part host : List ℕ) → (length (local_part ++ (64 ∷ host)) == 0) ≡ false
 some_length local_part host =
     let all : length (local_part ++ (64 ∷ host)) ≡ length local_part + length (64 ∷ host) = length-append local_part (64 ∷ host) in
@@ -268,7 +268,7 @@ mailbox_in-line name local_part host q r lacks at =
     ∙ ap (mailbox_with (joined_words name)) text
     ∙ mailbox_with-at (joined_words name) local_part host at
 
--- the facts of a plain mailbox, with bytes that say nothing in front of its name
+-- The properties of a plain mailbox, with bytes before its name that don't change it.
 front_quiet : (lead : List ℕ) (m : PlainMailbox) → AllQuiet lead → IsPlain m → AllQuiet ((lead ++ m.name) ++ 32 ∷ [])
 front_quiet lead m q plain =
     all_quiet-append (lead ++ m.name) (32 ∷ []) (all_quiet-append lead m.name q (all_quiet-plain m.name plain.name)) (quiet-space, tt)
@@ -288,7 +288,7 @@ mailbox_in-plain lead m q words plain =
 spelled-line : (lead : List ℕ) (m : PlainMailbox) (ys : List ℕ) → lead ++ (spelled m ++ ys) ≡ line (lead ++ m.name) (m.local_part ++ (64 ∷ m.host)) ys
 spelled-line lead m ys = simp append_assoc
 
--- what items tell: the last, and one with others behind its comma
+-- The addresses of the last item, and of an item with others after its comma.
 told-last : (item : List ℕ) (address : Address) → mailbox_in item ≡ address ∷ [] → told false (put_before item (cut false false (marked []))) ≡ address ∷ []
 told-last item address tells = rw (append-nil item, tells) refl
 
@@ -296,7 +296,7 @@ told-more : (item rest : List ℕ) (address : Address) → mailbox_in item ≡ a
     → told false (put_before item (cut false false (marked (44 ∷ rest)))) ≡ address ∷ told false (items_of false rest)
 told-more item rest address tells = rw (append-nil item, tells) refl
 
--- each mailbox is plain
+-- Each mailbox is plain.
 abbrev AllPlain : List PlainMailbox → Type 0
 AllPlain [] = Unit {0}
 AllPlain (m ∷ ms) = IsPlain m × AllPlain ms
@@ -308,7 +308,7 @@ all_plain (m ∷ ms) all =
     let tail : All IsPlain ms = λ k d h. let later : suc k < length (m ∷ ms) = omega arith in all (suc k) d later in
     (all 0 m here, all_plain ms tail)
 
--- a list of plain mailboxes, behind bytes that say nothing in front of a name
+-- A list of plain mailboxes, after bytes that don't change a name.
 told-plain : (lead : List ℕ) → AllQuiet lead → ((name : List ℕ) → joined_words (lead ++ name) ≡ joined_words name)
     → (m : PlainMailbox) (ms : List PlainMailbox) → IsPlain m → AllPlain ms
     → told false (items_of false (lead ++ spelled_list (m ∷ ms))) ≡ address_with m ∷ map address_with ms

@@ -1,4 +1,4 @@
--- What is looked for in bytes, byte by byte.
+-- The search for a byte, byte by byte.
 use Rattle.std.proofs.Common.{◌≡◌, ℕ, ◌+◌, ◌<◌, ◌≤◌, Bool, true, false, cond, List, [], ◌∷◌, Option, None, Some, length, get_or, take, drop, refl, sym, ◌∙◌, ap, arith}
 use Rattle.std.proofs.lemmas.List.{drop_more, drop_all, take-map}
 use Rattle.std.specs.List.{position_or_len, before_first}
@@ -14,14 +14,15 @@ pub bytes_of-marked_by : (next : Place → ℕ → Place) (place : Place) (xs : 
 bytes_of-marked_by next place [] = refl
 bytes_of-marked_by next place (b ∷ bs) = ap (λ (ys : List ℕ). b ∷ ys) (bytes_of-marked_by next (next place b) bs)
 
--- the bytes before what is looked for
+-- The bytes before the one searched for.
 pub before_first-marked_by : (p : ℕ × Place → Bool) (place : Place) (xs : List ℕ)
     → bytes_of (before_first p (marked_by next_place place xs)) ≡ take (position_or_len p (marked_by next_place place xs)) xs
 before_first-marked_by p place xs =
     sym (take-map (λ (mark : ℕ × Place). mark.0) (position_or_len p (marked_by next_place place xs)) (marked_by next_place place xs))
     ∙ ap (take (position_or_len p (marked_by next_place place xs))) (bytes_of-marked_by next_place place xs)
 
--- how many bytes stand before what is looked for from a place on, with those before that place
+-- The number of bytes before the one searched for, counted from an index on, plus the bytes before
+-- that index.
 abbrev pub len_from : Sought → Place → List ℕ → ℕ → ℕ
 len_from sought place xs i = i + len_before sought place (drop i xs)
 
@@ -38,14 +39,14 @@ len_from-found sought place xs i h e = rw (drop_more xs i 0 h, e) (omega arith)
 pub len_from-all : (sought : Sought) (place : Place) (xs : List ℕ) (i : ℕ) → length xs ≤ i → len_from sought place xs i ≡ i
 len_from-all sought place xs i h = rw (drop_all i xs h) (omega arith)
 
--- one byte before others, in the search for the last comment
+-- One byte before others, in the search for the last comment.
 part_behind-split_with : (t : Bool) (x : ℕ × Place) (xs others : List (ℕ × Place)) (parts : Option (List (ℕ × Place) × List (ℕ × Place)))
     → part_behind others (split_with t x xs parts) ≡ part_behind (cond t xs others) parts
 part_behind-split_with t x xs others (Some parts) = refl
 part_behind-split_with true x xs others None = refl
 part_behind-split_with false x xs others None = refl
 
--- a byte that begins a comment is followed by one in a comment
+-- The byte after one that starts a comment is in a comment.
 behind_start : (b : ℕ) (place : Place) → is_comment_start (b, place) ≡ true → next_place place b ≡ Comment 1
 behind_start b Outside e = let is : b ≡ 40 = eqb-true b 40 e in rw is refl
 behind_start b Pair e = cc
@@ -54,7 +55,8 @@ behind_start b QuotedPair e = cc
 behind_start b (Comment depth) e = cc
 behind_start b (CommentPair depth) e = cc
 
--- the marks behind the start of the last comment from a place on, or those of an inside that was found before it
+-- The marked bytes after the start of the last comment from an index on, or those of an inside that
+-- was found before it.
 abbrev pub behind_from : List ℕ → Place → List ℕ → ℕ → List (ℕ × Place)
 behind_from inside place xs i = part_behind (marked_by next_place (Comment 1) inside) (split_last is_comment_start (marked_by next_place place (drop i xs)))
 

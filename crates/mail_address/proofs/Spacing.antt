@@ -10,12 +10,12 @@ use Rattle.mail_address.specs.Places.{next_place, next_name_place, marked_by, by
 use Rattle.mail_address.specs.Words.{stays_in_name, stays_in_address, spoken_from, address_from, spaced, without_space, joined_words}
 use Rattle.mail_address.specs.Gaps.{given, gap_behind, PutsOfName}
 
--- what bytes put at the end of a name, one after another
+-- The bytes that bytes append to a name, one after another.
 abbrev pub given_from : Gap → List ℕ → List ℕ
 given_from gap [] = []
 given_from gap (b ∷ bs) = given gap b ++ given_from (gap_behind gap b) bs
 
--- behind a word, and behind a waiting space, the words that follow are as they are
+-- After a word, and after a space that waits, the words that follow are unchanged.
 abbrev GivesSpaced : List ℕ → Type 0
 GivesSpaced bs = (given_from Word bs ≡ spaced bs) × (given_from Space bs ≡ spaced (32 ∷ bs))
 
@@ -28,7 +28,7 @@ gives_spaced : (bs : List ℕ) → GivesSpaced bs
 gives_spaced [] = (refl, refl)
 gives_spaced (b ∷ bs) = gives_spaced-step b bs (b == 32) refl (gives_spaced bs)
 
--- a space in front is trimmed
+-- A space at the front is trimmed.
 without_space-step : (b : ℕ) (bs : List ℕ) (t : Bool) → (b == 32) ≡ t → without_space (spaced (32 ∷ b ∷ bs)) ≡ without_space (spaced (b ∷ bs))
 without_space-step b bs true e = rw e refl
 without_space-step b bs false e = rw e (rw e refl)
@@ -41,18 +41,18 @@ given_from-start-step : (b : ℕ) (bs : List ℕ) (t : Bool) → (b == 32) ≡ t
 given_from-start-step b bs true e ih = let is : b ≡ 32 = eqb-true b 32 e in rw is (ih ∙ sym (without_space-space bs))
 given_from-start-step b bs false e ih = rw e (rw e (ap (λ (ys : List ℕ). b ∷ ys) (gives_spaced bs).0))
 
--- from the start bytes give their words
+-- From the start, bytes give their words.
 pub given_from-start : (bs : List ℕ) → given_from Start bs ≡ joined_words bs
 given_from-start [] = refl
 given_from-start (b ∷ bs) = given_from-start-step b bs (b == 32) refl (given_from-start bs)
 
--- a byte with its place that stays or goes
+-- A byte with its place, which stays or is removed.
 given_step : (t : Bool) (gap : Gap) (place : Place) (b : ℕ) (text : List ℕ) (marks : List (ℕ × Place))
     → text ++ given_from gap (bytes_of (cond t ((b, place) ∷ marks) marks)) ≡ cond t (text ++ given gap b) text ++ given_from (cond t (gap_behind gap b) gap) (bytes_of marks)
 given_step true gap place b text marks = sym (append_assoc text (given gap b) (given_from (gap_behind gap b) (bytes_of marks)))
 given_step false gap place b text marks = refl
 
--- the text of a name, with what the bytes from a place on put behind it
+-- The text of a name, with what the bytes from an index on append to it.
 abbrev pub name_from : List ℕ → Gap → Place → List ℕ → ℕ → List ℕ
 name_from text gap place xs i = text ++ given_from gap (spoken_from place (drop i xs))
 
@@ -69,7 +69,7 @@ name_from-step old new gap behind place xs i h puts =
 pub name_from-all : (text : List ℕ) (gap : Gap) (place : Place) (xs : List ℕ) (i : ℕ) → length xs ≤ i → name_from text gap place xs i ≡ text
 name_from-all text gap place xs i h = rw (drop_all i xs h) (append-nil text)
 
--- the text of an address, with what the bytes from a place on put behind it
+-- The text of an address, with what the bytes from an index on append to it.
 abbrev pub text_from : List ℕ → Place → List ℕ → ℕ → List ℕ
 text_from text place xs i = text ++ address_from place (drop i xs)
 

@@ -1,9 +1,9 @@
-//! Addresses, and lists of them.
+//! Addresses, and lists of addresses.
 ghost use Rattle.std.specs.Prelude.{◌≡◌};
 
 use arch_base::{Bytes, Duplicate, NoMemory, Sequence};
 
-/// What a member of an address list is (RFC 5322, section 3.4).
+/// The kind of a member of an address list (RFC 5322, section 3.4).
 #[derive(Debug, Clone, Copy, PartialEq, Eq, Drop)]
 pub enum AddressKind {
     /// A mailbox, with or without a name.
@@ -17,15 +17,15 @@ pub enum AddressKind {
 /// A member of an address list.
 #[derive(Debug, Drop)]
 pub struct Address {
-    /// What it is.
+    /// The kind of the member.
     pub kind: AddressKind,
-    /// The name of a mailbox or of a group, without its quotes, comments and backslashes; may be empty. Encoded words
-    /// stay as they are written.
+    /// The name of a mailbox or of a group, without its quotes, comments and backslashes. It may be
+    /// empty. Encoded words stay as they are written.
     pub name: Bytes,
-    /// What stands before the last `@` of a mailbox's address, or the whole address where it has no `@`. It is empty at
-    /// the start and end of a group.
+    /// The part of a mailbox's address before its last `@`, or the whole address if it has no `@`.
+    /// It is empty at the start and end of a group.
     pub mailbox: Bytes,
-    /// What stands behind that `@`; may be empty.
+    /// The part of the address after that `@`. It may be empty.
     pub host: Bytes,
 }
 

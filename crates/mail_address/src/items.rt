@@ -1,23 +1,23 @@
-//! The items of an address list, and the parts of an item.
+//! Splits an address list into items, and an item into its parts.
 ghost use Rattle.std.specs.Prelude.{◌≡◌, ◌∷◌, [], MatchOption, IfSome};
 ghost use Rattle.mail_address.specs.Items.{items_of, ends_item, ending_of, is_grouped_behind, is_bracketed_behind, behind_comment_start, last_comment as inside_of_last, name_bytes, address_bytes, IsFirstItem};
 ghost use Rattle.mail_address.specs.Places.{next_place, marked, marked_by};
 
 use crate::place::{Place, Sought, len_before};
 
-/// What ends an item.
+/// The end of an item.
 #[derive(Debug, Clone, Copy, Drop)]
 pub(crate) enum Ending {
     /// A comma.
     Comma,
     /// The colon that makes the item the name of a group.
     Colon,
-    /// A semicolon, which ends an open group too, or the end of the value.
+    /// A semicolon or the end of the value. Either also ends an open group.
     Semicolon,
 }
 
 impl Ending {
-    /// Whether a group is open behind it, where one was open before or not.
+    /// Returns whether a group is open after this end. `grouped` says whether one was open before.
     pub(crate) fn is_grouped_behind(self, grouped: bool) -> bool
         ensures { result ≡ is_grouped_behind grouped self }
     {
@@ -32,16 +32,17 @@ impl Ending {
 /// An item of an address list.
 #[derive(Debug, Clone, Copy, Drop)]
 pub(crate) struct Item<'a> {
-    /// The bytes up to what ends it.
+    /// The bytes before its end.
     pub(crate) bytes: &'a [u8],
-    /// What ends it.
+    /// Its end.
     pub(crate) ending: Ending,
-    /// The bytes after that.
+    /// The bytes after its end.
     pub(crate) rest: &'a [u8],
 }
 
-/// The first item of a value and what ends it, or None where the whole value is the last item. `grouped` says whether a
-/// group is open.
+/// Returns the first item of a value and its end. `grouped` says whether a group is open.
+///
+/// `None` if the whole value is the last item.
 pub(crate) fn first_item(value: &[u8], grouped: bool) -> Option<Item<'_>>
     ensures { MatchOption result (items_of grouped value.now ≡ (value.now, Ending.Semicolon) ∷ [])
         (λ item. IsFirstItem grouped value.now item.bytes.now item.ending item.rest.now) }
@@ -62,14 +63,16 @@ pub(crate) fn first_item(value: &[u8], grouped: bool) -> Option<Item<'_>>
     None
 }
 
-/// Whether a byte ends an item, where a group is open or not, and where the byte stands between `<` and `>` or not.
+/// Returns whether a byte ends an item.
+///
+/// `grouped` says whether a group is open, and `bracketed` whether the byte is between `<` and `>`.
 fn ends_item_at(grouped: bool, bracketed: bool, place: Place, byte: u8) -> bool
     ensures { result ≡ ends_item grouped bracketed (byte, place) }
 {
     !bracketed && place.is_outside() && (byte == b',' || byte == b';' || (byte == b':' && !grouped))
 }
 
-/// What a byte is that ends an item.
+/// Returns the kind of end that a byte is.
 fn ending_at(byte: u8) -> Ending
     ensures { result ≡ ending_of byte }
 {
@@ -80,7 +83,8 @@ fn ending_at(byte: u8) -> Ending
     }
 }
 
-/// Whether the byte after a byte stands between `<` and `>`, where the byte does or does not.
+/// Returns whether the byte after this one is between `<` and `>`. `bracketed` says whether this
+/// one is.
 fn is_bracketed(bracketed: bool, place: Place, byte: u8) -> bool
     ensures { result ≡ is_bracketed_behind bracketed (byte, place) }
 {
@@ -91,16 +95,16 @@ fn is_bracketed(bracketed: bool, place: Place, byte: u8) -> bool
     }
 }
 
-/// The bytes of an item that its name and its address are read from.
+/// The bytes of an item from which its name and its address are read.
 #[derive(Debug, Clone, Copy, Drop)]
 pub(crate) struct ItemParts<'a> {
-    /// What stands before the `<`, or the inside of the last comment where there is no `<`.
+    /// The bytes before the `<`, or the inside of the last comment if there is no `<`.
     pub(crate) name: &'a [u8],
-    /// What stands between `<` and `>`, or the item where there is no `<`.
+    /// The bytes between `<` and `>`, or the whole item if there is no `<`.
     pub(crate) address: &'a [u8],
 }
 
-/// The parts of an item.
+/// Returns the parts of an item.
 pub(crate) fn parts_of(item: &[u8]) -> ItemParts<'_>
     ensures name { result.name.now ≡ name_bytes item.now }
     ensures address { result.address.now ≡ address_bytes item.now }
@@ -121,7 +125,7 @@ pub(crate) fn parts_of(item: &[u8]) -> ItemParts<'_>
     }
 }
 
-/// The inside of an item's last comment, or nothing where it has none.
+/// Returns the inside of an item's last comment, or nothing if it has no comment.
 fn last_comment(item: &[u8]) -> &[u8]
     ensures { result.now ≡ inside_of_last item.now }
 {
@@ -130,7 +134,7 @@ fn last_comment(item: &[u8]) -> &[u8]
     &inside[..end]
 }
 
-/// The bytes behind the `(` of an item's last comment, or nothing where it has none.
+/// Returns the bytes after the `(` of an item's last comment, or nothing if it has no comment.
 fn behind_last_start(item: &[u8]) -> &[u8]
     ensures { marked_by next_place (Place.Comment 1) result.now ≡ behind_comment_start (marked item.now) }
 {

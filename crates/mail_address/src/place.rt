@@ -1,27 +1,28 @@
-//! Where the bytes of an address list stand: in a quoted string, in a comment, or outside of both.
+//! Tracks where the bytes of an address list are: in a quoted string, in a comment, or outside of
+//! both.
 ghost use Rattle.std.specs.Prelude.{◌≡◌, ◌≤◌, ◌<◌, ◌+◌, ◌^◌, length};
 ghost use Rattle.mail_address.specs.Places.{depth_of, next_place, next_name_place, is_outside as stands_outside, is_in_one_comment as in_one_comment, is_sought, is_comment_start};
 ghost use Rattle.mail_address.specs.Items.{len_before as count_before};
 
-/// Where a byte stands.
+/// Where a byte is.
 #[derive(Debug, Clone, Copy, Drop)]
 pub(crate) enum Place {
     /// Outside of quoted strings and comments.
     Outside,
-    /// Outside, behind a backslash that takes the byte along.
+    /// Outside, directly after a backslash that quotes the byte.
     Pair,
     /// In a quoted string.
     Quoted,
-    /// In a quoted string, behind a backslash.
+    /// In a quoted string, directly after a backslash.
     QuotedPair,
-    /// In so many comments, one in another.
+    /// In nested comments, to this depth.
     Comment(usize),
-    /// In so many comments, behind a backslash.
+    /// In nested comments, to this depth, directly after a backslash.
     CommentPair(usize),
 }
 
 impl Place {
-    /// Where the byte after a byte stands.
+    /// Returns the place of the byte after this one.
     pub(crate) fn next(self, byte: u8) -> Place
         requires { depth_of self < usize.MAX }
         ensures value { result ≡ next_place self byte }
@@ -37,7 +38,7 @@ impl Place {
         }
     }
 
-    /// Where the byte after a byte of a name stands.
+    /// Returns the place of the byte after this one, in a name.
     pub(crate) fn next_in_name(self, byte: u8) -> Place
         requires { depth_of self < usize.MAX }
         ensures value { result ≡ next_name_place self byte }
@@ -49,7 +50,7 @@ impl Place {
         }
     }
 
-    /// Where the byte after one stands that is outside of quoted strings and comments.
+    /// Returns the place after a byte that is outside of quoted strings and comments.
     fn behind_plain(byte: u8) -> Place
         ensures { result ≡ next_place Place.Outside byte }
     {
@@ -60,7 +61,7 @@ impl Place {
         }
     }
 
-    /// Where the byte after one stands that is in a quoted string.
+    /// Returns the place after a byte that is in a quoted string.
     fn behind_quoted(byte: u8) -> Place
         ensures { result ≡ next_place Place.Quoted byte }
     {
@@ -71,7 +72,7 @@ impl Place {
         }
     }
 
-    /// Where the byte after one stands that is in so many comments.
+    /// Returns the place after a byte that is in comments to this depth.
     fn behind_comment(depth: usize, byte: u8) -> Place
         requires { depth < usize.MAX }
         ensures value { result ≡ next_place (Place.Comment depth) byte }
@@ -86,14 +87,14 @@ impl Place {
         }
     }
 
-    /// Whether it is outside of quoted strings and comments.
+    /// Returns whether the place is outside of quoted strings and comments.
     pub(crate) fn is_outside(self) -> bool
         ensures { result ≡ stands_outside self }
     {
         matches!(self, Place::Outside)
     }
 
-    /// Whether it is in an outermost comment, and not behind a backslash.
+    /// Returns whether the place is in an outermost comment, and not after a backslash.
     fn is_in_one_comment(self) -> bool
         ensures { result ≡ in_one_comment self }
     {
@@ -103,7 +104,7 @@ impl Place {
         }
     }
 
-    /// Whether a byte here begins an outermost comment.
+    /// Returns whether a byte here starts an outermost comment.
     pub(crate) fn starts_comment(self, byte: u8) -> bool
         ensures { result ≡ is_comment_start (byte, self) }
     {
@@ -111,7 +112,7 @@ impl Place {
     }
 }
 
-/// What is looked for in an item.
+/// A byte that is searched for in an item.
 #[derive(Debug, Clone, Copy, Drop)]
 pub(crate) enum Sought {
     /// A `<` outside of quoted strings and comments.
@@ -123,7 +124,7 @@ pub(crate) enum Sought {
 }
 
 impl Sought {
-    /// Whether a byte at a place is what is looked for.
+    /// Returns whether a byte at a place is the one searched for.
     pub(crate) fn is_at(self, place: Place, byte: u8) -> bool
         ensures { result ≡ is_sought self (byte, place) }
     {
@@ -135,8 +136,8 @@ impl Sought {
     }
 }
 
-/// How many bytes stand before the first that is looked for, or all where it is missing. The first byte stands at
-/// `start`.
+/// Returns the number of bytes before the first byte that is searched for, or the length if there
+/// is none. The first byte is at the place `start`.
 pub(crate) fn len_before(sought: Sought, start: Place, bytes: &[u8]) -> usize
     requires { depth_of start ≤ 1 }
     ensures value { result ≡ count_before sought start bytes.now }

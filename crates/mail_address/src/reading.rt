@@ -1,4 +1,4 @@
-//! The addresses of an address list.
+//! Reads the addresses of an address list.
 ghost use Rattle.std.specs.Prelude.{◌≡◌, ◌++◌, ◌∷◌, [], IfOk, OnOk, length, ◌≤◌};
 ghost use Rattle.mail_address.specs.Addresses.{addresses_of, told_by, mailbox_in, mailbox_with, group_start, group_end, mailbox_of, host_of, without_route as without_route_of};
 ghost use Rattle.mail_address.specs.Splits.{part_behind, split_last, is_this};
@@ -10,9 +10,10 @@ use arch_base::{Bytes, NoMemory};
 use memchr::memrchr;
 use std::alloc::Global;
 
-/// The mailboxes and groups of an address list, in order (RFC 5322, section 3.4). `value` is a flat value: a field's
-/// value, or several joined by `, `, without line ends and tabs. Every value is read, and the call is refused for want
-/// of memory alone.
+/// Returns the mailboxes and groups of an address list, in order (RFC 5322, section 3.4).
+///
+/// `value` is a flat value: a field's value, or several joined by `, `, without line ends and tabs.
+/// Every value is read, and the only error is `NoMemory`.
 pub fn list(alloc: Global, value: &[u8]) -> Result<Addresses, NoMemory>
     ensures { IfOk result (λ found. found ≡ addresses_of value.now) }
 {
@@ -28,7 +29,7 @@ pub fn list(alloc: Global, value: &[u8]) -> Result<Addresses, NoMemory>
     Ok(addresses)
 }
 
-/// Puts what an item tells behind addresses.
+/// Appends the addresses of an item.
 fn push_item(
     alloc: Global,
     addresses: &mut Addresses,
@@ -48,7 +49,7 @@ fn push_item(
     }
 }
 
-/// Puts the start of a group behind addresses.
+/// Appends the start of a group.
 fn push_start(alloc: Global, addresses: &mut Addresses, item: &[u8]) -> Result<(), NoMemory>
     ensures { OnOk result (addresses.new ≡ addresses.old ++ group_start item.now ∷ []) }
 {
@@ -60,7 +61,7 @@ fn push_start(alloc: Global, addresses: &mut Addresses, item: &[u8]) -> Result<(
     })
 }
 
-/// Puts the end of a group behind addresses, where a group is open.
+/// Appends the end of a group if a group is open.
 fn push_end(alloc: Global, addresses: &mut Addresses, grouped: bool) -> Result<(), NoMemory>
     ensures { OnOk result (addresses.new ≡ addresses.old ++ group_end grouped) }
 {
@@ -75,7 +76,7 @@ fn push_end(alloc: Global, addresses: &mut Addresses, grouped: bool) -> Result<(
     })
 }
 
-/// Puts the mailbox that an item is behind addresses, unless its name and its address are empty.
+/// Appends the mailbox of an item, unless its name and its address are empty.
 fn push_mailbox(alloc: Global, addresses: &mut Addresses, item: &[u8]) -> Result<(), NoMemory>
     ensures { OnOk result (addresses.new ≡ addresses.old ++ mailbox_in item.now) }
 {
@@ -85,7 +86,7 @@ fn push_mailbox(alloc: Global, addresses: &mut Addresses, item: &[u8]) -> Result
     push_named(alloc, addresses, name, without_route(text.as_slice()))
 }
 
-/// Puts the mailbox of a name and an address behind addresses, unless both are empty.
+/// Appends the mailbox with a name and an address, unless both are empty.
 fn push_named(
     alloc: Global,
     addresses: &mut Addresses,
@@ -106,7 +107,7 @@ fn push_named(
     })
 }
 
-/// Bytes of one's own.
+/// Copies bytes into a value of its own.
 fn copied(alloc: Global, bytes: &[u8]) -> Result<Bytes, NoMemory>
     ensures { IfOk result (λ made. made ≡ bytes.now) }
 {
@@ -115,7 +116,8 @@ fn copied(alloc: Global, bytes: &[u8]) -> Result<Bytes, NoMemory>
     Ok(made)
 }
 
-/// An address without its route: one that begins with `@` loses all up to its last colon.
+/// Returns an address without its route: if it starts with `@`, all up to its last colon is
+/// removed.
 fn without_route(address: &[u8]) -> &[u8]
     ensures { result.now ≡ without_route_of address.now }
 {
@@ -125,7 +127,7 @@ fn without_route(address: &[u8]) -> &[u8]
     }
 }
 
-/// What stands behind the last colon, or all where there is none.
+/// Returns the bytes after the last colon, or all bytes if there is none.
 fn behind_last_colon(address: &[u8]) -> &[u8]
     ensures { result.now ≡ part_behind address.now (split_last (is_this 58) address.now) }
 {
@@ -135,7 +137,7 @@ fn behind_last_colon(address: &[u8]) -> &[u8]
     }
 }
 
-/// What stands before and behind the last `@` of an address. Without an `@` the host is empty.
+/// Returns the parts of an address before and after its last `@`. Without an `@` the host is empty.
 fn split_host(address: &[u8]) -> (&[u8], &[u8])
     ensures mailbox { result.0.now ≡ mailbox_of address.now }
     ensures host { result.1.now ≡ host_of address.now }

@@ -1,4 +1,4 @@
-//! The texts of names and of addresses.
+//! Reads the texts of names and of addresses.
 ghost use Rattle.std.specs.Prelude.{◌≡◌, ◌++◌, ◌∷◌, [], IfOk, OnOk, if◌then◌else◌};
 ghost use Rattle.mail_address.specs.Words.{stays_in_name as stays_in_name_at, stays_in_address as stays_in_address_at, name_text as name_text_of, address_text as address_text_of};
 ghost use Rattle.mail_address.specs.Gaps.{given, gap_behind, PutsOfName};
@@ -7,19 +7,21 @@ use crate::place::Place;
 use arch_base::{Bytes, NoMemory};
 use std::alloc::Global;
 
-/// What stands before the next byte of a name.
+/// What precedes the next byte of a name.
 #[derive(Debug, Clone, Copy, Drop)]
 pub(crate) enum Gap {
     /// Nothing yet.
     Start,
     /// A byte of a word.
     Word,
-    /// A word, and spaces that are not written yet.
+    /// A word, and spaces that aren't written yet.
     Space,
 }
 
-/// The name that bytes spell: quotes, comments and backslashes go, runs of spaces become one, and the ends are trimmed.
-/// Refused for want of memory alone.
+/// Returns the name that bytes spell.
+///
+/// Quotes, comments and backslashes are removed, each run of spaces becomes one space, and the ends
+/// are trimmed. The only error is `NoMemory`.
 pub(crate) fn name_text(alloc: Global, bytes: &[u8]) -> Result<Bytes, NoMemory>
     ensures { IfOk result (λ text. text ≡ name_text_of bytes.now) }
 {
@@ -33,7 +35,7 @@ pub(crate) fn name_text(alloc: Global, bytes: &[u8]) -> Result<Bytes, NoMemory>
     Ok(text)
 }
 
-/// Puts a byte of a name at the end of its text, if it stays, and gives what stands before the next.
+/// Appends a byte of a name to its text if the byte stays, and returns what precedes the next byte.
 fn push_of_name(text: &mut Bytes, gap: Gap, place: Place, byte: u8) -> Result<Gap, NoMemory>
     ensures { IfOk result (PutsOfName text.old text.new gap place byte) }
 {
@@ -43,7 +45,7 @@ fn push_of_name(text: &mut Bytes, gap: Gap, place: Place, byte: u8) -> Result<Ga
     push_spaced(text, gap, byte)
 }
 
-/// Puts a byte at the end of a name's text, where a space waits for the next word.
+/// Appends a byte to a name's text. A space waits until the next word.
 fn push_spaced(text: &mut Bytes, gap: Gap, byte: u8) -> Result<Gap, NoMemory>
     ensures text { OnOk result (text.new ≡ text.old ++ given gap byte) }
     ensures gap { IfOk result (λ behind. behind ≡ gap_behind gap byte) }
@@ -62,7 +64,7 @@ fn push_spaced(text: &mut Bytes, gap: Gap, byte: u8) -> Result<Gap, NoMemory>
     Ok(Gap::Word)
 }
 
-/// Whether a byte of a name stays.
+/// Returns whether a byte of a name stays.
 fn stays_in_name(place: Place, byte: u8) -> bool
     ensures { result ≡ stays_in_name_at place byte }
 {
@@ -74,8 +76,9 @@ fn stays_in_name(place: Place, byte: u8) -> bool
     }
 }
 
-/// The address that bytes spell: comments go, and so do spaces outside of quoted strings. Refused for want of memory
-/// alone.
+/// Returns the address that bytes spell.
+///
+/// Comments are removed, and so are spaces outside of quoted strings. The only error is `NoMemory`.
 pub(crate) fn address_text(alloc: Global, bytes: &[u8]) -> Result<Bytes, NoMemory>
     ensures { IfOk result (λ text. text ≡ address_text_of bytes.now) }
 {
@@ -88,7 +91,7 @@ pub(crate) fn address_text(alloc: Global, bytes: &[u8]) -> Result<Bytes, NoMemor
     Ok(text)
 }
 
-/// Puts a byte of an address at the end of its text, if it stays.
+/// Appends a byte of an address to its text if the byte stays.
 fn push_of_address(text: &mut Bytes, place: Place, byte: u8) -> Result<(), NoMemory>
     ensures { OnOk result (text.new ≡ (if stays_in_address_at place byte then text.old ++ byte ∷ [] else text.old)) }
 {
@@ -99,7 +102,7 @@ fn push_of_address(text: &mut Bytes, place: Place, byte: u8) -> Result<(), NoMem
     }
 }
 
-/// Whether a byte of an address stays.
+/// Returns whether a byte of an address stays.
 fn stays_in_address(place: Place, byte: u8) -> bool
     ensures { result ≡ stays_in_address_at place byte }
 {

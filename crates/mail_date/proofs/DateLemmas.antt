@@ -7,7 +7,7 @@ use Rattle.jiff_core.proofs.SignedLemmas.{signed_arith}
 use Rattle.jiff_core.proofs.CalendarLemmas.{day_count-epoch, days_from_civil-day_count, day_count-lt_year}
 use Rattle.jiff_core.proofs.DateLemmas.{civil}
 
--- a day whose number isn't negative lies in a year from 1970 on
+-- A day whose number isn't negative is in a year from 1970 on.
 pub year_from_1970 : (day : Date) → pos 0 ≤ℤ epoch_day day → pos 1970 ≤ℤ day.year
 year_from_1970 day h =
     by_lt_z day.year (pos 1970) (λ before. absurd (omega (arith, signed_arith, days_from_civil-day_count day.year day.month day.day, day_count-epoch, day_count-lt_year day.year day.month day.day (pos 1970) 1 1 (civil day) (omega arith) before)))

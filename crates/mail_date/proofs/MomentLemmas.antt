@@ -14,7 +14,7 @@ use Rattle.mail_date.specs.Laws.{MomentIsSpelled}
 use Rattle.mail_date.proofs.OneLemmas.{one_spelled}
 use Rattle.mail_date.proofs.ReadLemmas.{spelled_by_date, refused_by_date, refused_without_date}
 
--- what the tests on a date say
+-- A date that passes the tests is valid.
 valid_day : (date : CivilDate) → is_valid_day date ≡ true → IsValidDay date
 valid_day date h = grind (arith, nat_tests)
 
@@ -31,7 +31,7 @@ valid_day_test date h = grind (arith, nat_tests)
 valid_time_test : (date : CivilDate) → IsValid date → is_valid_time date ≡ true
 valid_time_test date h = grind (arith, nat_tests)
 
--- seconds and zone
+-- The moment of valid seconds and a zone.
 from_at : (secs : ℕ) (t : Bool) (date : CivilDate) → nat_le secs last_second ≡ t → pos secs ≡ seconds_of date → IsValid date
     → IfSome {T = Moment} (cond t (Some (record { secs = secs; zone = date.zone })) None) (IsMomentOf date)
 from_at secs false date e same valid = tt
@@ -61,7 +61,7 @@ from_none : (s : ℤ) (date : CivilDate) → s ≡ seconds_of date → IfNone (m
 from_none (negsuc n) date same = λ moment h. before_1970 n moment.secs (h.secs ∙ sym same)
 from_none (pos secs) date same = none_at secs (nat_le secs last_second) date refl same
 
--- the moment of a date, by whether the date is valid
+-- The moment of a date, by whether the date is valid.
 at_is : (t : Bool) (date : CivilDate) → (is_valid_day date && is_valid_time date) ≡ t
     → IfSome (cond t (moment_from (seconds_of date) date.zone) None) (IsMomentOf date)
 at_is false date e = tt
@@ -85,7 +85,7 @@ moment_at-is date = at_is (is_valid_day date && is_valid_time date) date refl
 moment_at-none : (date : CivilDate) → IfNone (moment_at date) ((moment : Moment) → IsMomentOf date moment → ⊥)
 moment_at-none date = at_none (is_valid_day date && is_valid_time date) date refl
 
--- the moment in a text, by its date
+-- The moment in a text, by its date.
 in_is : (d : Option CivilDate) (text : List ℕ) → d ≡ date_of text → IfSome (option_and_then moment_at d) (Spells text)
 in_is None text e = tt
 in_is (Some date) text e = spelled_by_date (moment_at date) text date e (moment_at-is date)
@@ -102,7 +102,7 @@ moment_in-none : (text : List ℕ) → IfNone (moment_in text) ((moment : Moment
 unfolding moment_in
 moment_in-none text = in_none (date_of text) text refl
 
--- two answers that are spelled, and are none only where nothing is, are the same
+-- Two answers are the same if each is spelled, and is `None` only if nothing is spelled.
 same_answer : (a b : Option Moment) (text : List ℕ) → IfSome a (Spells text) → IfNone a ((moment : Moment) → Spells text moment → ⊥)
     → IfSome b (Spells text) → IfNone b ((moment : Moment) → Spells text moment → ⊥) → a ≡ b
 same_answer None None text h k i j = refl
@@ -110,7 +110,7 @@ same_answer None (Some m) text h k i j = absurd (k m i)
 same_answer (Some m) None text h k i j = absurd (j m h)
 same_answer (Some m) (Some n) text h k i j = ap (λ (x : Moment). Some x) (one_spelled text m n h i)
 
--- what is spelled, or none, is the moment in the text
+-- Such an answer is the moment in the text.
 pub answer_in : (answer : Option Moment) (text : List ℕ) → IfSome answer (Spells text) → IfNone answer ((moment : Moment) → Spells text moment → ⊥) → answer ≡ moment_in text
 answer_in answer text h k = same_answer answer (moment_in text) text h k (moment_in-is text) (moment_in-none text)
 

@@ -24,7 +24,7 @@ one_spelled text a b h k =
     let same : h.0 ≡ k.0 = same_Some _ _ (sym (parts_spell text h.0 h.1) ∙ parts_spell text k.0 k.1) in
     one_moment k.0 a b (subst (λ (date : CivilDate). IsMomentOf date a) same h.2) k.2
 
--- the day that the calendar has
+-- The day that the calendar has.
 abbrev day_in_calendar : (date : CivilDate) → IsValidDay date → Date
 day_in_calendar date h = record { year = pos date.year; month = date.month; day = date.day; year_in = omega (arith, signed_arith); month_in = h.month; day_in = h.day }
 

@@ -1,4 +1,4 @@
--- A text spells a date where it is put together from the parts of one, and nowhere else.
+-- A text spells a date exactly if it consists of the parts of one.
 use Rattle.std.proofs.Common.{◌≡◌, ℕ, zero, suc, ◌+◌, ◌-◌, ◌*◌, ◌≤◌, ◌==◌, ◌&&◌, ◌||◌, Bool, true, false, not, cond, List, [], ◌∷◌, ◌++◌, length, take, drop, get_or, Option, Some, None, refl, sym, ap, ◌∙◌, subst, inl, inr, arith, append_assoc, eqb-true, ℤ}
 use Rattle.std.specs.Char.{is_ascii_digit, to_ascii_lowercase}
 use Rattle.std.specs.List.{onto_first, prefix_len, list_all}
@@ -19,7 +19,7 @@ use Rattle.mail_date.proofs.WordLemmas.{words_of-none, words_of-first, begins_wo
 one-more : (n : ℕ) → 1 + n ≡ suc n
 one-more n = omega arith
 
--- what is in front passes the test
+-- The bytes at the front pass the test.
 front_passes : (p : ℕ → Bool) (xs : List ℕ) → list_all p (take (prefix_len p xs) xs) ≡ true
 front_passes p [] = refl
 front_passes p (x ∷ xs) = go (p x) refl (front_passes p xs)
@@ -28,7 +28,7 @@ front_passes p (x ∷ xs) = go (p x) refl (front_passes p xs)
     go true e ih = rw (one-more (prefix_len p xs), e) ih
     go false e ih = refl
 
--- and what follows begins with no byte of a word
+-- The rest doesn't start with a byte of a word.
 behind_word : (xs : List ℕ) → begins_word (drop (prefix_len is_word_byte xs) xs) ≡ false
 behind_word [] = refl
 behind_word (x ∷ xs) = go (is_word_byte x) refl (behind_word xs)
@@ -37,7 +37,7 @@ behind_word (x ∷ xs) = go (is_word_byte x) refl (behind_word xs)
     go true e ih = rw (one-more (prefix_len is_word_byte xs)) ih
     go false e ih = e
 
--- a text with a first word
+-- A text with a first word: white space, the word, and the rest with the other words.
 record Split (text word : List ℕ) (words : List (List ℕ)) : Type 0 where
   lead : List ℕ
   rest : List ℕ
@@ -78,17 +78,17 @@ split_word text word words e = go (prefix_len is_word_byte (without_white text))
           next = words_are;
         }
 
--- a word's first byte is a word's
+-- The first byte of a word is a byte of a word.
 begins_word-word : (word rest : List ℕ) → IsWord word → begins_word (word ++ rest) ≡ true
 begins_word-word [] rest h = absurd (let some : 1 ≤ 0 = h.some in omega arith)
 begins_word-word (b ∷ bs) rest h = (and_parts _ _ h.bytes).0
 
--- white space between two words
+-- Between two words there is white space.
 gap_between : (text lead word rest : List ℕ) → text ≡ lead ++ (word ++ rest) → begins_word text ≡ false → IsWhite lead → IsWord word → IsGap lead
 gap_between text [] word rest e behind white is_word = absurd (let bytes = begins_word-word word rest is_word in let same : begins_word text ≡ true = rw e bytes in cc)
 gap_between text (b ∷ bs) word rest e behind white is_word = record { some = grind (arith); white = white }
 
--- a text without words is white space
+-- A text without words is white space.
 white_without_words : (text : List ℕ) → words_of text ≡ [] → IsWhite text
 white_without_words text e = go (prefix_len is_word_byte (without_white text)) refl
   where
@@ -108,7 +108,7 @@ white_without_words text e = go (prefix_len is_word_byte (without_white text)) r
             last true h = absurd (omega arith)
             last false h = refl
 
--- nothing but a comment follows
+-- If the words left are none or a comment, the text ends after the zone.
 ending_of : (text : List ℕ) (words : List (List ℕ)) → words_of text ≡ words → begins_word text ≡ false → is_comment words ≡ true → IsEnding text
 ending_of text [] e behind comment = inl (white_without_words text e)
 ending_of text (word ∷ words) e behind comment = inr (go word (split_word text word words e) comment)
@@ -185,7 +185,7 @@ ending_comment text (inl white) =
 ending_comment text (inr h) =
     ap is_comment (ap words_of h.whole ∙ words_of-gap h.gap (40 ∷ h.comment) h.is_gap.white) ∙ comment_word h.comment
 
--- white space in front of anything is dropped
+-- White space before any text is dropped.
 without_white-gap : (gap rest : List ℕ) → IsWhite gap → without_white (gap ++ rest) ≡ without_white rest
 without_white-gap [] rest h = refl
 without_white-gap (b ∷ bs) rest h =
@@ -196,7 +196,7 @@ without_white-word : (text : List ℕ) → begins_word text ≡ true → without
 without_white-word [] h = refl
 without_white-word (b ∷ bs) h = rw (not_white b h) refl
 
--- a day's name begins with a letter
+-- A day's name starts with a letter.
 letter_test : (n k : ℕ) (more : Bool) → 97 ≤ k → (n == k && more) ≡ true → 97 ≤ n
 letter_test n k more h e = let same : n ≡ k = eqb-true n k (and_parts (n == k) more e).0 in omega arith
 
@@ -218,7 +218,7 @@ letter_in_word a h = grind (arith, nat_tests)
 no_letter : (a : ℕ) → is_ascii_digit a ≡ true → 65 ≤ a → ⊥
 no_letter a h k = grind (arith, nat_tests)
 
--- a digit begins no day's name
+-- No day's name starts with a digit.
 digit-no_day : (a : ℕ) (rest : List ℕ) → is_ascii_digit a ≡ true → begins_with_day (a ∷ rest) ≡ false
 digit-no_day a [] h = refl
 digit-no_day a (b ∷ []) h = refl
@@ -230,7 +230,7 @@ digit-no_day a (b ∷ c ∷ d ∷ rest) h = go (is_day_name (a ∷ b ∷ c ∷ [
     go false e true = refl
     go false e false = refl
 
--- the number of two digits
+-- Two bytes that spell a number are digits.
 digits_of : (high low n : ℕ) → number_of high low ≡ Some n → (is_ascii_digit high ≡ true) × (is_ascii_digit low ≡ true)
 digits_of high low n e = go (is_ascii_digit high) (is_ascii_digit low) e
   where
@@ -245,7 +245,7 @@ day_word-no_day (low ∷ []) rest n e = digit-no_day low rest (digits_of 48 low 
 day_word-no_day (high ∷ low ∷ []) rest n e = digit-no_day high (low ∷ rest) (digits_of high low n e).0
 day_word-no_day (a ∷ b ∷ c ∷ cs) rest n e = absurd (none-some _ e)
 
--- the opening is passed over
+-- The opening is skipped.
 opened : (opening day rest : List ℕ) (n : ℕ) → IsOpening opening → IsWord day → day_of day ≡ Some n → words_of (without_day (opening ++ (day ++ rest))) ≡ words_of (day ++ rest)
 opened opening day rest n (inl white) word e =
     let body : without_white (opening ++ (day ++ rest)) ≡ day ++ rest = without_white-gap opening (day ++ rest) white ∙ without_white-word (day ++ rest) (begins_word-word day rest word) in
@@ -257,12 +257,12 @@ opened opening day rest n (inr h) word e =
     let body : without_white (opening ++ text) ≡ h.first ∷ h.second ∷ h.third ∷ 44 ∷ (h.behind ++ text) = rw (h.whole, cut) (without_white-gap h.before (h.first ∷ h.second ∷ h.third ∷ 44 ∷ (h.behind ++ text)) h.white_before ∙ without_white-word (h.first ∷ h.second ∷ h.third ∷ 44 ∷ (h.behind ++ text)) letter) in
     rw (body, h.named) (words_of-gap h.behind text h.white_behind)
 
--- the pieces of a date are there
+-- The pieces of a date are there.
 joined_day : (day month year : Option ℕ) (clock : Option Clock) (offset : Option ℤ) (date : CivilDate) → joined day month year clock offset ≡ Some date → (n : ℕ) × (day ≡ Some n)
 joined_day None month year clock offset date e = absurd (none-some _ e)
 joined_day (Some n) month year clock offset date e = (n, refl)
 
--- a text that is put together from the parts of a date spells it
+-- A text that consists of the parts of a date spells it.
 pub parts_spell : (text : List ℕ) (date : CivilDate) → DateParts text date → date_of text ≡ Some date
 parts_spell text date p =
     let (n, day_is) = joined_day _ _ _ _ _ date p.value in
@@ -275,7 +275,7 @@ parts_spell text date p =
     let all : words_of (without_day text) ≡ p.day ∷ p.month ∷ p.year ∷ p.clock ∷ p.zone ∷ words_of p.ending = ap (λ (t : List ℕ). words_of (without_day t)) p.whole ∙ (opened p.opening p.day behind_day n p.opens p.is_day day_is ∙ day_word) in
     rw (all, ending_comment p.ending p.ends) p.value
 
--- the words of a date
+-- The words of a date.
 record FiveWords (words : List (List ℕ)) (date : CivilDate) : Type 0 where
   day : List ℕ
   month : List ℕ
@@ -299,7 +299,7 @@ five_words (day ∷ month ∷ year ∷ clock ∷ zone ∷ others) date e = go (i
     go false h f = absurd (none-some _ f)
     go true h f = record { day = day; month = month; year = year; clock = clock; zone = zone; others = others; whole = refl; comment = h; value = f }
 
--- what stands before the words
+-- The text before the words.
 record Opened (text body : List ℕ) : Type 0 where
   opening : List ℕ
   whole : text ≡ opening ++ body
@@ -337,7 +337,7 @@ opened_text : (text : List ℕ) → Opened text (without_day text)
 opened_text text =
     opened_by text (without_white text) (take (prefix_len is_white text) text) (begins_with_day (without_white text)) refl (sym (take-append-drop (prefix_len is_white text) text)) (front_passes is_white text)
 
--- a text that spells a date is put together from the parts of one
+-- A text that spells a date consists of the parts of one.
 pub spelled_parts : (text : List ℕ) (date : CivilDate) → date_of text ≡ Some date → DateParts text date
 spelled_parts text date e =
     let w = five_words (words_of (without_day text)) date e in

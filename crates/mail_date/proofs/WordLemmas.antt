@@ -1,4 +1,4 @@
--- A text's first word, and the words behind it.
+-- The first word of a text, and the words after it.
 use Rattle.std.proofs.Common.{◌≡◌, ℕ, suc, ◌+◌, ◌<◌, Bool, true, false, not, cond, List, [], ◌∷◌, take, drop, refl, sym, ap, ◌∙◌, arith}
 use Rattle.std.specs.List.{onto_first, prefix_len}
 use Rattle.mail_date.specs.Words.{is_white, is_word_byte, without_white, begins_word, words_of}
@@ -6,7 +6,7 @@ use Rattle.mail_date.specs.Words.{is_white, is_word_byte, without_white, begins_
 one-more : (n : ℕ) → 1 + n ≡ suc n
 one-more n = omega arith
 
--- white space at the front makes no word
+-- White space at the front makes no word.
 pub words_of-without_white : (text : List ℕ) → words_of (without_white text) ≡ words_of text
 words_of-without_white [] = refl
 words_of-without_white (b ∷ bs) = go (is_white b) refl (words_of-without_white bs)
@@ -15,7 +15,7 @@ words_of-without_white (b ∷ bs) = go (is_white b) refl (words_of-without_white
     go true e ih = rw (one-more (prefix_len is_white bs)) ih
     go false e ih = rw e refl
 
--- and behind it a word begins, or nothing is left
+-- After it a word begins, or nothing is left.
 pub begins_word-without_white : (text : List ℕ) → begins_word (without_white text) ≡ false → without_white text ≡ []
 begins_word-without_white [] h = refl
 begins_word-without_white (b ∷ bs) h = go (is_white b) refl h (begins_word-without_white bs)
@@ -24,7 +24,7 @@ begins_word-without_white (b ∷ bs) h = go (is_white b) refl h (begins_word-wit
     go true e k ih = rw (one-more (prefix_len is_white bs)) (ih (rw (one-more (prefix_len is_white bs)) at k))
     go false e k ih = let back : not false ≡ false = rw e at k in cc
 
--- a text that begins with no word's byte has no such bytes at its front
+-- A text that doesn't start with a byte of a word has no such bytes at its front.
 pub no_front_bytes : (text : List ℕ) → begins_word text ≡ false → prefix_len is_word_byte text ≡ 0
 no_front_bytes [] h = refl
 no_front_bytes (b ∷ bs) h = rw h refl
@@ -37,7 +37,7 @@ begins_word-none (b ∷ bs) h = go (is_word_byte b) h
     go true k = absurd (omega arith)
     go false k = refl
 
--- the bytes at the front that aren't white space are the first word
+-- The bytes at the front that aren't white space are the first word.
 pub words_of-front : (text : List ℕ) → begins_word text ≡ true → words_of text ≡ take (prefix_len is_word_byte text) text ∷ words_of (drop (prefix_len is_word_byte text) text)
 words_of-front [] h = cc
 words_of-front (b ∷ bs) h = go (is_white b) refl h (begins_word bs) refl (words_of-front bs)
@@ -47,11 +47,11 @@ words_of-front (b ∷ bs) h = go (is_white b) refl h (begins_word bs) refl (word
     go false e k true m ih = rw (one-more (prefix_len is_word_byte bs), ih m) refl
     go false e k false m ih = rw (no_front_bytes bs m) refl
 
--- a text of white space has no words
+-- A text of white space has no words.
 pub words_of-none : (text : List ℕ) → prefix_len is_word_byte (without_white text) ≡ 0 → words_of text ≡ []
 words_of-none text h = sym (words_of-without_white text) ∙ ap words_of (begins_word-without_white text (begins_word-none (without_white text) h))
 
--- the first word, and the words behind it
+-- The first word, and the words after it.
 pub words_of-first : (text : List ℕ) → 0 < prefix_len is_word_byte (without_white text) → let body = without_white text in words_of text ≡ take (prefix_len is_word_byte body) body ∷ words_of (drop (prefix_len is_word_byte body) body)
 words_of-first text h = sym (words_of-without_white text) ∙ words_of-front (without_white text) (go (begins_word (without_white text)) refl)
   where

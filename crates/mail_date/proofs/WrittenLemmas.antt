@@ -1,4 +1,4 @@
--- A Date that is written for a moment is put together from the parts of a date.
+-- A Date field that is written for a moment consists of the parts of a date.
 use Rattle.std.proofs.Common.{◌≡◌, ℕ, zero, suc, ◌+◌, ◌-◌, ◌*◌, ◌/◌, ◌%◌, ◌<◌, ◌≤◌, ◌&&◌, nat_le, nat_lt, Bool, true, false, cond, List, [], ◌∷◌, ◌++◌, length, Some, refl, sym, inl, arith, append_assoc, ℤ, pos, negsuc, unsigned_abs}
 use Rattle.std.specs.Char.{is_ascii_digit}
 use Rattle.std.specs.Int.{IsInRange}
@@ -27,14 +27,14 @@ printable_in_word a h = grind (arith, nat_tests)
 digit_in_word : (n : ℕ) → is_word_byte (48 + n) ≡ true
 digit_in_word n = printable_in_word (48 + n) (omega arith)
 
--- two digits spell their number
+-- Two digits spell their number.
 number_written : (n : ℕ) → n < 100 → number_of (48 + n / 10) (48 + n % 10) ≡ Some n
 number_written n h =
     let tests : (is_ascii_digit (48 + n / 10) && is_ascii_digit (48 + n % 10)) ≡ true = grind (arith, nat_tests) in
     let value : (48 + n / 10 - 48) * 10 + (48 + n % 10 - 48) ≡ n = omega arith in
     rw (tests, value) refl
 
--- the day
+-- The day, which has one or two digits, is read.
 day_short : (n : ℕ) → n < 10 → day_of ((48 + n) ∷ []) ≡ Some n
 day_short n h =
     let test : is_ascii_digit (48 + n) ≡ true = grind (arith, nat_tests) in
@@ -49,7 +49,7 @@ day_written n h = go (nat_lt n 10) refl
     go true e = let small : n < 10 = grind (arith, nat_tests) in (day_short n small, word_by ((48 + n) ∷ []) refl (rw (digit_in_word n) refl))
     go false e = (number_written n h, word_by (two_digits n) refl (rw (digit_in_word (n / 10), digit_in_word (n % 10)) refl))
 
--- the month
+-- The name of a month is read, and is a word.
 month_written : (month : ℕ) → IsInRange 1 12 month → (month_of (month_name month) ≡ Some month) × IsWord (month_name month)
 month_written (suc zero) h = (refl, word_by (month_name 1) refl refl)
 month_written (suc (suc zero)) h = (refl, word_by (month_name 2) refl refl)
@@ -66,7 +66,7 @@ month_written (suc (suc (suc (suc (suc (suc (suc (suc (suc (suc (suc (suc zero))
 month_written zero h = absurd (omega arith)
 month_written (suc (suc (suc (suc (suc (suc (suc (suc (suc (suc (suc (suc (suc k))))))))))))) h = absurd (omega arith)
 
--- the year
+-- A year of four digits is read, and is a word.
 year_written : (year : ℕ) → year ≤ 9999 → (year_of (four_digits year) ≡ Some year) × IsWord (four_digits year)
 year_written year h =
     let value : year / 100 * 100 + year % 100 ≡ year = omega arith in (
@@ -74,7 +74,7 @@ year_written year h =
       word_by (four_digits year) refl (rw (digit_in_word (year / 100 / 10), digit_in_word (year / 100 % 10), digit_in_word (year % 100 / 10), digit_in_word (year % 100 % 10)) refl),
     )
 
--- the time of day
+-- The time of day of a date, which is read.
 shown_clock : CivilDate → Clock
 shown_clock date = record { hour = date.hour; minute = date.minute; second = date.second }
 
@@ -87,7 +87,7 @@ clock_written date h =
       word_by (clock_text date) refl (rw (digit_in_word (date.hour / 10), digit_in_word (date.hour % 10), digit_in_word (date.minute / 10), digit_in_word (date.minute % 10), digit_in_word (date.second / 10), digit_in_word (date.second % 10)) refl),
     )
 
--- the zone
+-- The zone is read, and is a word.
 sign_in_word : (zone : ℤ) → is_word_byte (sign_of zone) ≡ true
 sign_in_word (pos n) = refl
 sign_in_word (negsuc n) = refl

@@ -7,21 +7,21 @@ use Rattle.mail_date.specs.Words.{is_white, is_word_byte, is_day_name}
 use Rattle.mail_date.specs.Pieces.{day_of, month_of, year_of, clock_of, zone_of}
 use Rattle.mail_date.specs.Dates.{joined, IsMomentOf}
 
--- white space, or nothing
+-- White space, or nothing.
 abbrev pub IsWhite : List ℕ → Type 0
 IsWhite text = list_all is_white text ≡ true
 
--- white space between two parts: at least one byte
+-- White space between two parts: at least one byte.
 pub record IsGap (text : List ℕ) : Type 0 where
   pub some : 1 ≤ length text
   pub white : IsWhite text
 
--- a part itself has no white space
+-- A part itself: at least one byte, and no white space.
 pub record IsWord (text : List ℕ) : Type 0 where
   pub some : 1 ≤ length text
   pub bytes : list_all is_word_byte text ≡ true
 
--- a day's name of three letters and a comma, with white space before and behind, or none
+-- A day's name of three letters and a comma, with optional white space before and after.
 pub record IsDayOpening (text : List ℕ) : Type 0 where
   pub before : List ℕ
   pub behind : List ℕ
@@ -33,22 +33,23 @@ pub record IsDayOpening (text : List ℕ) : Type 0 where
   pub white_before : IsWhite before
   pub white_behind : IsWhite behind
 
--- what stands before the day of the month
+-- The text before the day of the month: white space or nothing, or the name of a day.
 abbrev pub IsOpening : List ℕ → Type 0
 IsOpening text = IsWhite text ⊎ IsDayOpening text
 
--- white space, a parenthesis and anything
+-- White space, an opening parenthesis and any bytes.
 pub record IsCommentEnding (text : List ℕ) : Type 0 where
   pub gap : List ℕ
   pub comment : List ℕ
   pub whole : text ≡ gap ++ (40 ∷ comment)
   pub is_gap : IsGap gap
 
--- what stands behind the zone
+-- The text after the zone: white space or nothing, or a comment.
 abbrev pub IsEnding : List ℕ → Type 0
 IsEnding text = IsWhite text ⊎ IsCommentEnding text
 
--- The parts of a text that spells a date: `[Day,] D Mon YYYY hh:mm[:ss] zone`, and white space and a comment.
+-- The parts of a text that spells a date: `[Day,] D Mon YYYY hh:mm[:ss] zone`, then optionally
+-- white space and a comment.
 pub record DateParts (text : List ℕ) (date : CivilDate) : Type 0 where
   pub opening : List ℕ
   pub day : List ℕ
@@ -75,6 +76,6 @@ pub record DateParts (text : List ℕ) (date : CivilDate) : Type 0 where
   pub ends : IsEnding ending
   pub value : joined (day_of day) (month_of month) (year_of year) (clock_of clock) (zone_of zone) ≡ Some date
 
--- a text spells a moment: it is put together from the parts of a date that names the moment
+-- The text spells the moment: it consists of the parts of a date that names the moment.
 abbrev pub Spells : List ℕ → Moment → Type 0
 Spells text moment = (date : CivilDate) × DateParts text date × IsMomentOf date moment

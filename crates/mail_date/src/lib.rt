@@ -1,4 +1,4 @@
-//! Dates of mails: what the value of a Date field says, and the ways in which a moment is printed.
+//! Dates of mail: reads the value of a Date field, and prints moments.
 #![tactic(auto)]
 
 mod laws;

@@ -1,4 +1,4 @@
-//! Moments, and the dates that clocks show.
+//! Moments, and the dates that clocks show at them.
 ghost use Rattle.std.specs.Prelude.{◌≡◌, ◌<◌, ◌≤◌, ◌↔◌, IsTrue, IfSome, IfNone, pos, ◌≤ℤ◌};
 ghost use Rattle.std.specs.Int.{IsInRange};
 ghost use Rattle.jiff_core.specs.Calendar.{days_from_civil, IsEpochDay};
@@ -10,19 +10,19 @@ ghost use Rattle.mail_date.specs.Printed.{IsPrintable, IsDateAt, IsShownDate, ut
 use jiff_core::civil;
 use jiff_core::civil::{Date, Time};
 
-/// A moment, with the zone that it was written in.
+/// A moment, and the zone in which it was written.
 #[derive(Debug, Clone, Copy, PartialEq, Eq)]
 pub struct Moment {
-    /// Seconds since 1970 in UTC, from 0 to 253402300799.
+    /// Seconds since 1970 in UTC, from 0 to 253,402,300,799.
     pub secs: u64,
-    /// Minutes east of UTC, from -1439 to 1439.
+    /// Minutes east of UTC, from -1,439 to 1,439.
     pub zone: i16,
 }
 
-/// What a calendar and a clock in a zone show.
+/// A date and a time of day, as a calendar and a clock in a zone show them.
 #[derive(Debug, Clone, Copy, PartialEq, Eq)]
 pub struct CivilDate {
-    /// The year, of four digits.
+    /// The year, with four digits.
     pub year: u16,
     /// The month, from 1.
     pub month: u8,
@@ -44,7 +44,10 @@ const LAST_SECOND: i64 = 253_402_300_799;
 /// The days from -9999-01-01 to 1970-01-01.
 const DAYS_BEFORE_1970: u32 = 4_371_587;
 
-/// The moment that a date names, where the calendar has the date and the moment lies in the years 1970 to 9999 of UTC.
+/// Returns the moment that a date names.
+///
+/// `None` if the calendar doesn't have the date, or the moment is outside the years 1970 to 9999 of
+/// UTC.
 pub fn moment_of(date: &CivilDate) -> Option<Moment>
     ensures spelled { IfSome result (IsMomentOf date.now) }
     ensures refused { IfNone result ((moment : Moment) → IsMomentOf date.now moment → ⊥) }
@@ -62,14 +65,15 @@ pub fn moment_of(date: &CivilDate) -> Option<Moment>
     })
 }
 
-/// Whether the calendar has the day, in a year from 1970 to 9999, and a clock shows the time.
+/// Returns whether the calendar has the day, in a year from 1970 to 9999, and a clock shows the
+/// time.
 fn is_valid(date: &CivilDate) -> bool
     ensures { IsTrue result ↔ IsValid date.now }
 {
     is_valid_day(date) && date.hour <= 23 && date.minute <= 59 && date.second <= 60
 }
 
-/// Whether the calendar has the day, in a year from 1970 to 9999.
+/// Returns whether the calendar has the day, in a year from 1970 to 9999.
 fn is_valid_day(date: &CivilDate) -> bool
     ensures { IsTrue result ↔ IsValidDay date.now }
 {
@@ -81,7 +85,7 @@ fn is_valid_day(date: &CivilDate) -> bool
     date.day >= 1 && date.day <= civil::days_in_month(year as i16, month)
 }
 
-/// The day number, from 0 for the first of January 1970.
+/// Returns the day number. The first of January 1970 is 0.
 fn day_number(date: &CivilDate) -> i64
     requires { IsValid date.now }
     ensures value { result ≡ days_from_civil (pos date.now.year) date.now.month date.now.day }
@@ -95,7 +99,7 @@ fn day_number(date: &CivilDate) -> i64
     day.to_unix_epoch_day() as i64
 }
 
-/// The second of the day; a second 60 is the second before it.
+/// Returns the second of the day. A second 60 counts as second 59.
 fn second_of_day(date: &CivilDate) -> u32
     requires { IsValid date.now }
     ensures value { result ≡ second_of_day date.now }
@@ -104,7 +108,7 @@ fn second_of_day(date: &CivilDate) -> u32
     date.hour as u32 * 3600 + date.minute as u32 * 60 + date.second.min(59) as u32
 }
 
-/// Seconds since 1970 in UTC.
+/// Returns the seconds since 1970 in UTC.
 fn seconds_of(date: &CivilDate) -> i64
     requires { IsValid date.now }
     ensures { result ≡ seconds_of date.now }
@@ -113,7 +117,7 @@ fn seconds_of(date: &CivilDate) -> i64
     day_number(date) * 86_400 + second_of_day(date) as i64 - zone * 60
 }
 
-/// The year of a day from 1970 on.
+/// Returns the year of a day from 1970 on.
 fn year_of(day: Date) -> u16
     requires { pos 0 ≤ℤ epoch_day day }
     ensures value { pos result ≡ day.year }
@@ -122,7 +126,7 @@ fn year_of(day: Date) -> u16
     day.year as u16
 }
 
-/// The date that a clock shows, by its seconds since 1970.
+/// Returns the date that a clock shows. `seconds` is that date and time as seconds since 1970.
 fn date_of_seconds(seconds: u64, zone: i16) -> CivilDate
     requires { seconds ≤ last_second }
     ensures valid { IsValid result }
@@ -143,7 +147,7 @@ fn date_of_seconds(seconds: u64, zone: i16) -> CivilDate
     }
 }
 
-/// The date that a clock in the moment's zone shows.
+/// Returns the date that a clock in the moment's zone shows.
 fn date_at(moment: &Moment) -> CivilDate
     requires bound { moment.now.secs ≤ last_second }
     requires printable { IsPrintable moment.now }
@@ -154,7 +158,7 @@ fn date_at(moment: &Moment) -> CivilDate
     date_of_seconds(seconds as u64, moment.zone)
 }
 
-/// The date that a clock in UTC shows.
+/// Returns the date that a clock in UTC shows.
 pub fn utc_date(secs: u64) -> CivilDate
     requires { secs ≤ last_second }
     ensures { IsDateAt (utc secs) result }
@@ -162,7 +166,8 @@ pub fn utc_date(secs: u64) -> CivilDate
     date_at(&Moment { secs, zone: 0 })
 }
 
-/// The date that a clock in the moment's zone shows, or in UTC where that clock shows another year than 1970 to 9999.
+/// Returns the date that a clock in the moment's zone shows, or the date in UTC if the zone's clock
+/// shows a year outside 1970 to 9999.
 pub fn shown_date(moment: &Moment) -> CivilDate
     requires bound { moment.now.secs ≤ last_second }
     requires zone { IsZone moment.now.zone }

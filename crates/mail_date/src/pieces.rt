@@ -1,11 +1,11 @@
-//! What each word of a date says.
+//! The meaning of each word of a date.
 ghost use Rattle.std.specs.Prelude.{◌≡◌, ◌<◌, IfSome};
 ghost use Rattle.std.specs.List.{position};
 ghost use Rattle.mail_date.specs.Pieces.{number_of, day_of, month_of, year_of, clock_at, clock_of, zone_of, offset_at, named_zone, IsZone};
 
 use crate::words::{is_name, name_place};
 
-/// A time of day, as its digits say it.
+/// A time of day, as its digits spell it.
 #[derive(Debug, Clone, Copy, PartialEq, Eq)]
 pub struct Clock {
     /// The hour, below 100.
@@ -27,10 +27,10 @@ const ZONES: [[u8; 3]; 8] = [
     *b"EST", *b"EDT", *b"CST", *b"CDT", *b"MST", *b"MDT", *b"PST", *b"PDT",
 ];
 
-/// Their minutes east of UTC.
+/// The minutes east of UTC of `ZONES`, in the same order.
 const ZONE_MINUTES: [i16; 8] = [-300, -240, -360, -300, -420, -360, -480, -420];
 
-/// The number that two digits spell.
+/// Returns the number that two digits spell.
 fn number_of(high: u8, low: u8) -> Option<u8>
     ensures value { result ≡ number_of high low }
     ensures bound { IfSome result (λ n. n < 100) }
@@ -41,7 +41,7 @@ fn number_of(high: u8, low: u8) -> Option<u8>
     Some((high - b'0') * 10 + (low - b'0'))
 }
 
-/// A day of the month.
+/// Reads a day of the month, of one or two digits.
 pub fn day_of(word: &[u8]) -> Option<u8>
     ensures { result ≡ day_of word.now }
 {
@@ -52,7 +52,7 @@ pub fn day_of(word: &[u8]) -> Option<u8>
     }
 }
 
-/// A month's number, by its name in any case.
+/// Reads the name of a month, in any case, and returns the month's number from 1.
 pub fn month_of(word: &[u8]) -> Option<u8>
     ensures { result ≡ month_of word.now }
 {
@@ -60,7 +60,7 @@ pub fn month_of(word: &[u8]) -> Option<u8>
     Some(place as u8 + 1)
 }
 
-/// A year of four digits.
+/// Reads a year of four digits.
 pub fn year_of(word: &[u8]) -> Option<u16>
     ensures { result ≡ year_of word.now }
 {
@@ -72,7 +72,7 @@ pub fn year_of(word: &[u8]) -> Option<u16>
     Some(century as u16 * 100 + year as u16)
 }
 
-/// A time of day, with seconds or without.
+/// Reads a time of day, with or without seconds.
 pub fn clock_of(word: &[u8]) -> Option<Clock>
     ensures { result ≡ clock_of word.now }
 {
@@ -85,7 +85,7 @@ pub fn clock_of(word: &[u8]) -> Option<Clock>
     }
 }
 
-/// A time of day, where its three numbers are there.
+/// Returns the time of day if all three numbers are there.
 fn clock_at(hour: Option<u8>, minute: Option<u8>, second: Option<u8>) -> Option<Clock>
     ensures { result ≡ clock_at hour minute second }
 {
@@ -96,7 +96,7 @@ fn clock_at(hour: Option<u8>, minute: Option<u8>, second: Option<u8>) -> Option<
     })
 }
 
-/// Minutes east of UTC.
+/// Reads a zone, and returns its minutes east of UTC.
 pub fn zone_of(word: &[u8]) -> Option<i16>
     ensures value { result ≡ zone_of word.now }
     ensures bound { IfSome result IsZone }
@@ -108,7 +108,7 @@ pub fn zone_of(word: &[u8]) -> Option<i16>
     }
 }
 
-/// Minutes east of UTC, by sign, hours and minutes.
+/// Returns the minutes east of UTC for a sign, hours up to 23 and minutes up to 59.
 fn offset_at(sign: u8, hours: Option<u8>, minutes: Option<u8>) -> Option<i16>
     ensures value { result ≡ offset_at sign hours minutes }
     ensures bound { IfSome result IsZone }
@@ -125,7 +125,7 @@ fn offset_at(sign: u8, hours: Option<u8>, minutes: Option<u8>) -> Option<i16>
     }
 }
 
-/// Minutes east of UTC, by a name in any case.
+/// Returns the minutes east of UTC of a zone's name, in any case.
 fn named_zone(word: &[u8]) -> Option<i16>
     ensures value { result ≡ named_zone word.now }
     ensures bound { IfSome result IsZone }

@@ -1,4 +1,4 @@
-//! Moments as they are printed.
+//! Prints moments for IMAP, for RFC 3339 and for pages.
 ghost use Rattle.std.specs.Prelude.{◌≡◌, ◌≤◌, ◌<◌};
 ghost use Rattle.mail_date.specs.Pieces.{IsZone};
 ghost use Rattle.mail_date.specs.Dates.{last_second};
@@ -7,9 +7,11 @@ ghost use Rattle.mail_date.specs.Printed.{sign_of, tens_or_space, imap_text, rfc
 use crate::moment::{Moment, shown_date, utc_date};
 use crate::pieces::MONTHS;
 
-/// `dd-Mon-yyyy hh:mm:ss +zzzz` (RFC 3501, 9), the day in two places padded by a space.
+/// Prints `dd-Mon-yyyy hh:mm:ss +zzzz` (RFC 3501, 9), the day padded with a space to two
+/// characters.
 ///
-/// Where the moment's seconds and its zone together lie outside 0 to 253402300799, it is printed in zone `+0000`.
+/// If the moment's seconds and its zone together are outside 0 to 253,402,300,799, the moment is
+/// printed in zone `+0000`.
 pub fn print_imap(moment: &Moment) -> [u8; 26]
     requires bound { moment.now.secs ≤ last_second }
     requires zone { IsZone moment.now.zone }
@@ -50,7 +52,7 @@ pub fn print_imap(moment: &Moment) -> [u8; 26]
     ]
 }
 
-/// The first place of a number in two places.
+/// Returns the first of a number's two characters: its tens, or a space below 10.
 fn tens_or_space(number: u8) -> u8
     requires { number < 100 }
     ensures { result ≡ tens_or_space number }
@@ -62,14 +64,16 @@ fn tens_or_space(number: u8) -> u8
     }
 }
 
-/// The sign of a zone.
+/// Returns the sign of a zone.
 fn sign_of(zone: i16) -> u8
     ensures { result ≡ sign_of zone }
 {
     if zone < 0 { b'-' } else { b'+' }
 }
 
-/// `YYYY-MM-DDThh:mm:ssZ` (RFC 3339, 5.6), in UTC, of seconds since 1970, from 0 to 253402300799.
+/// Prints `YYYY-MM-DDThh:mm:ssZ` (RFC 3339, 5.6) in UTC.
+///
+/// `secs` counts seconds since 1970, from 0 to 253,402,300,799.
 pub fn print_rfc3339(secs: u64) -> [u8; 20]
     requires { secs ≤ last_second }
     ensures { PrintsUtc rfc3339_text secs result }
@@ -100,7 +104,9 @@ pub fn print_rfc3339(secs: u64) -> [u8; 20]
     ]
 }
 
-/// `YYYY-MM-DD hh:mm`, in UTC, of seconds since 1970, from 0 to 253402300799.
+/// Prints `YYYY-MM-DD hh:mm` in UTC.
+///
+/// `secs` counts seconds since 1970, from 0 to 253,402,300,799.
 pub fn print_page(secs: u64) -> [u8; 16]
     requires { secs ≤ last_second }
     ensures { PrintsUtc page_text secs result }

@@ -1,4 +1,4 @@
-//! The value of a Date field.
+//! Reads the value of a Date field.
 ghost use Rattle.std.specs.Prelude.{◌≡◌, ◌≤◌, IfSome, IfNone};
 ghost use Rattle.mail_date.specs.Words.{words_of};
 ghost use Rattle.mail_date.specs.Pieces.{IsZone};
@@ -11,13 +11,15 @@ use crate::moment::{CivilDate, Moment, moment_of};
 use crate::pieces::{clock_of, day_of, month_of, year_of, zone_of};
 use crate::words::{first_word, without_day};
 
-/// The moment that the value of a Date field spells, and its zone.
+/// Returns the moment that the value of a Date field spells, and its zone.
 ///
-/// The value is read as it is written: `[Day,] D Mon YYYY hh:mm[:ss] zone`, and behind white space a comment (RFC 5322,
-/// 3.3 and 4.3, without years of two digits and military zones). White space is space, tab, carriage return and line
-/// feed. Names are read in any case, and the day's name isn't compared with the date. A second 60 is read as 59. `None`
-/// for any other value, for a day that the calendar doesn't have, and for a moment that in UTC lies before 1970 or after
-/// 9999. What is read can be printed.
+/// The value is `[Day,] D Mon YYYY hh:mm[:ss] zone`, then optionally white space and a comment (RFC
+/// 5322, 3.3 and 4.3, without years of two digits and military zones). White space is space, tab,
+/// carriage return and line feed. Names are read in any case, and the day's name isn't compared
+/// with the date. A second 60 is read as 59.
+///
+/// `None` for any other value, for a day that the calendar doesn't have, and for a moment that in
+/// UTC is before 1970 or after 9999. Each moment that is returned can be printed.
 pub fn read(value: &[u8]) -> Option<Moment>
     ensures value { result ≡ moment_in value.now }
     ensures spelled { IfSome result (Spells value.now) }
@@ -29,7 +31,7 @@ pub fn read(value: &[u8]) -> Option<Moment>
     moment_of(&date)
 }
 
-/// The date that a text spells.
+/// Returns the date that a text spells.
 fn date_of(text: &[u8]) -> Option<CivilDate>
     ensures value { result ≡ date_of text.now }
     ensures zone { IfSome result (λ date. IsZone date.zone) }
@@ -37,7 +39,7 @@ fn date_of(text: &[u8]) -> Option<CivilDate>
     date_of_words(without_day(text))
 }
 
-/// The date that the words of a text spell.
+/// Returns the date that the words of a text spell.
 fn date_of_words(text: &[u8]) -> Option<CivilDate>
     ensures value { result ≡ date_of_words (words_of text.now) }
     ensures zone { IfSome result (λ date. IsZone date.zone) }
@@ -66,7 +68,7 @@ fn date_of_words(text: &[u8]) -> Option<CivilDate>
     })
 }
 
-/// Whether a text has no word, or its first word begins with a parenthesis.
+/// Returns whether a text has no word, or its first word starts with a parenthesis.
 fn is_comment(text: &[u8]) -> bool
     ensures { result ≡ is_comment (words_of text.now) }
 {

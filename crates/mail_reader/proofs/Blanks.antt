@@ -1,4 +1,4 @@
--- What is blank at the ends of a value.
+-- The blank bytes at the ends of a value.
 use Rattle.std.proofs.Common.{◌≡◌, ℕ, Bool, true, false, cond, eqb, not, ◌||◌, List, [], ◌∷◌, ◌++◌, map, refl, sym, ap, ◌∙◌}
 use Rattle.std.specs.List.{filter}
 use Rattle.std.proofs.lemmas.Bool.{eqb-true, or_parts}
@@ -7,11 +7,11 @@ use Rattle.mail_reader.specs.Stored.{without_end}
 use Rattle.mail_reader.specs.Values.{space_for, is_no_feed, unfolded}
 use Rattle.mail_reader.proofs.Trims.{without_end-push, without_end-push_other}
 
--- a byte makes nothing or a space
+-- The byte becomes nothing or a space.
 abbrev pub is_blank : ℕ → Bool
 is_blank b = eqb b 10 || eqb (space_for b) 32
 
--- one byte more in front
+-- One more byte at the front.
 abbrev pub unfolded_by : Bool → ℕ → List ℕ → List ℕ
 unfolded_by feed b later = cond feed later (space_for b ∷ later)
 
@@ -31,7 +31,7 @@ unfolded-append (x ∷ xs) ys =
     step true e = e
     step false e = ap (λ t. space_for x ∷ t) e
 
--- a blank at the end goes
+-- A blank byte at the end is removed.
 pub end_blank : (xs : List ℕ) (y : ℕ) → is_blank y ≡ true → without_end 32 (unfolded (xs ++ y ∷ [])) ≡ without_end 32 (unfolded xs)
 end_blank xs y h =
     ap (without_end 32) (unfolded-append xs (y ∷ []) ∙ ap (λ t. unfolded xs ++ t) (unfolded-cons y [])) ∙ step (eqb y 10) h
@@ -40,7 +40,7 @@ end_blank xs y h =
     step true h = ap (without_end 32) (append-nil (unfolded xs))
     step false h = ap (λ b. without_end 32 (unfolded xs ++ b ∷ [])) (eqb-true (space_for y) 32 h) ∙ without_end-push 32 (unfolded xs)
 
--- any other byte stays
+-- Any other byte stays.
 pub end_other : (xs : List ℕ) (y : ℕ) → is_blank y ≡ false → without_end 32 (unfolded (xs ++ y ∷ [])) ≡ unfolded (xs ++ y ∷ [])
 end_other xs y h =
     let both = or_parts (eqb y 10) (eqb (space_for y) 32) h in

@@ -1,4 +1,4 @@
--- The body, and the form, by what stands behind the header.
+-- The body, and the form, by the bytes after the header.
 use Rattle.std.proofs.Common.{◌≡◌, ℕ, ◌<◌, Bool, true, false, cond, eqb, List, [], ◌∷◌, ◌++◌, length, drop, get_or, None, Some, refl, ap, ◌∙◌, arith, length-append}
 use Rattle.std.specs.List.{concat, filter, onto_first}
 use Rattle.std.proofs.lemmas.Bool.{eqb-true, false_from_ne_true, eq-eqb}
@@ -10,12 +10,12 @@ use Rattle.mail_reader.proofs.FieldNames.{name_within}
 use Rattle.mail_reader.proofs.FirstFields.{parts_by}
 use Rattle.mail_reader.proofs.KeptLines.{stays}
 
--- an empty line in front goes
+-- An empty line at the front is removed.
 pub body-empty : (rest : List ℕ) → 0 < length rest → get_or rest 0 0 ≡ 10 → concat (after_empty (lines_of rest)) ≡ drop 1 rest
 body-empty [] l h = absurd (omega arith)
 body-empty (x ∷ xs) l h = rw (eq-eqb x 10 h, eq-eqb x 10 h) (concat-lines_of xs)
 
--- any other line stays
+-- Any other line stays.
 pub body-other : (rest : List ℕ) → (0 < length rest → get_or rest 0 0 ≡ 10 → ⊥) → concat (after_empty (lines_of rest)) ≡ rest
 body-other [] h = refl
 body-other (x ∷ xs) h =
@@ -28,7 +28,7 @@ body-other (x ∷ xs) h =
     stays_first b ne ([] ∷ ls) = rw ne refl
     stays_first b ne ((c ∷ cs) ∷ ls) = refl
 
--- each of the lists has an element
+-- Each of the lists has an element.
 abbrev pub AllSome : List (List ℕ) → Type 0
 AllSome [] = Unit {0}
 AllSome (x ∷ xs) = (0 < length x) × AllSome xs
@@ -55,7 +55,7 @@ pub AllSome-kept : (lines : List (List ℕ)) → AllSome (kept_fields lines)
 unfolding kept_fields
 AllSome-kept lines = AllSome-filter stays (parts_of (header_lines lines)).1 (AllSome-parts (header_lines lines))
 
--- a form, by the bytes of its fields
+-- The form, by the bytes of its fields.
 pub form_of-none : (fields : List (List ℕ)) (body : List ℕ) → AllSome fields → length (concat fields) ≡ 0 → form_of fields body ≡ None
 form_of-none [] body h e = refl
 form_of-none (x ∷ xs) body h e = absurd (omega (arith, h.0, length-append x (concat xs)))

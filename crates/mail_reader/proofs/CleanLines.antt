@@ -12,14 +12,14 @@ use Rattle.mail_reader.proofs.Trims.{NoFeed, NoByte-without_end, without_end-twi
 use Rattle.mail_reader.proofs.LineEnds.{lines_of-at, clean_lines-at, clean_lines-last, clean_lines-none}
 use Rattle.mail_reader.proofs.KeptLines.{kept_at, kept_from}
 
--- a line that a storage form may have
+-- A line that a storage form may have.
 pub record CleanLine (line : List ℕ) : Type 0 where
   pub content : List ℕ
   pub is : line ≡ content ++ 10 ∷ []
   pub no_feed : NoFeed content
   pub no_return : content_of content ≡ content
 
--- each line is clean
+-- Each line is clean.
 abbrev pub AllClean : List (List ℕ) → Type 0
 AllClean [] = Unit {0}
 AllClean (l ∷ ls) = CleanLine l × AllClean ls
@@ -28,14 +28,14 @@ pub AllClean-append : (xs ys : List (List ℕ)) → AllClean xs → AllClean ys 
 AllClean-append [] ys h k = k
 AllClean-append (x ∷ xs) ys h k = (h.0, AllClean-append xs ys h.1 k)
 
--- the empty line
+-- The empty line is clean.
 pub clean_empty : CleanLine (10 ∷ [])
 clean_empty = record { content = []; is = refl; no_feed = tt; no_return = refl }
 
 clean_content : (xs : List ℕ) → NoFeed xs → CleanLine (content_of xs ++ 10 ∷ [])
 clean_content xs h = record { content = content_of xs; is = refl; no_feed = NoByte-without_end 10 13 xs h; no_return = without_end-twice 13 xs }
 
--- what stands before the first line feed and after it
+-- The bytes before the first line feed and after it.
 record SplitsAt (xs : List ℕ) : Type 0 where
   before : List ℕ
   after : List ℕ
@@ -52,7 +52,7 @@ split_at_feed (x ∷ xs) = step (eqb x 10) x refl (split_at_feed xs)
     step false x e (inl h) = inl (e, h)
     step false x e (inr s) = inr record { before = x ∷ s.before; after = s.after; free = (e, s.free); is = ap (λ t. x ∷ t) s.is; shorter = omega (arith, s.shorter) }
 
--- the lines of a message are clean
+-- The lines of a message are clean.
 all_clean : (n : ℕ) (bytes : List ℕ) → length bytes ≤ n → AllClean (clean_lines bytes)
 all_clean zero bytes h =
     let nil : bytes ≡ [] = nil_from_length bytes (omega arith) in
@@ -72,7 +72,7 @@ all_clean (suc n) bytes h = step bytes h (all_clean n) (split_at_feed bytes)
 pub AllClean-lines : (bytes : List ℕ) → AllClean (clean_lines bytes)
 AllClean-lines bytes = all_clean (length bytes) bytes (omega arith)
 
--- the lines of clean lines that are joined
+-- Clean lines that are joined have the same lines again.
 pub clean_lines-concat : (ls : List (List ℕ)) → AllClean ls → clean_lines (concat ls) ≡ ls
 clean_lines-concat [] h = clean_lines-none
 clean_lines-concat (l ∷ ls) h =
@@ -85,7 +85,7 @@ lines_of-concat (l ∷ ls) h =
     ap lines_of (ap (λ t. t ++ concat ls) h.0.is ∙ append_assoc h.0.content (10 ∷ []) (concat ls))
     ∙ lines_of-at h.0.content (concat ls) h.0.no_feed ∙ rw (lines_of-concat ls h.1) (ap (λ t. t ∷ ls) (sym h.0.is))
 
--- what is left of clean lines is clean
+-- The lines that are kept of clean lines are clean.
 pub AllClean-kept : (place : Place) (ls : List (List ℕ)) → AllClean ls → AllClean (kept_from place ls)
 AllClean-kept place [] h = tt
 AllClean-kept place (l ∷ ls) h = step (next_place place l) l (λ next. kept_from next ls) h.0 (λ next. AllClean-kept next ls h.1)
@@ -119,20 +119,20 @@ pub AllClean-after_mailbox : (ls : List (List ℕ)) → AllClean ls → AllClean
 AllClean-after_mailbox [] h = tt
 AllClean-after_mailbox (l ∷ ls) h = AllClean-cond (is_mailbox_line l) ls (l ∷ ls) h.1 h
 
--- clean lines end with a line feed
+-- Clean lines end with a line feed.
 pub ended-clean : (l : List ℕ) (ls : List (List ℕ)) → AllClean (l ∷ ls) → (front : List ℕ) × (concat (l ∷ ls) ≡ front ++ 10 ∷ [])
 ended-clean l [] h = (h.0.content, append-nil l ∙ h.0.is)
 ended-clean l (m ∷ ls) h =
     let later = ended-clean m ls h.1 in
     (l ++ later.0, ap (λ t. l ++ t) later.1 ∙ sym (append_assoc l later.0 (10 ∷ [])))
 
--- a content has no line feed
+-- The content of a line has no line feed.
 pub no_feed_at : (xs : List ℕ) (k : ℕ) → NoFeed xs → get_or xs k 0 ≡ 10 → ⊥
 no_feed_at [] k h e = absurd (omega arith)
 no_feed_at (x ∷ xs) zero h e = both_ways (eqb x 10) h.0 (eq-eqb x 10 e)
 no_feed_at (x ∷ xs) (suc k) h e = no_feed_at xs k h.1 e
 
--- and no carriage return at its end
+-- It has no carriage return at its end.
 no_return_last : (xs : List ℕ) (k : ℕ) → k + 1 ≡ length xs → content_of xs ≡ xs → get_or xs k 0 ≡ 13 → ⊥
 no_return_last xs k l e last =
     let place : length xs - 1 ≡ k = omega arith in
@@ -149,7 +149,7 @@ no_return_last xs k l e last =
         step true y w n h = omega arith
         step false y w n h = omega arith
 
--- clean lines have no carriage return directly before a line feed
+-- Clean lines have no carriage return directly before a line feed.
 pub no_returns-clean : (ls : List (List ℕ)) → AllClean ls → (k : ℕ) → get_or (concat ls) k 0 ≡ 13 → get_or (concat ls) (k + 1) 0 ≡ 10 → ⊥
 no_returns-clean [] h k r f = absurd (omega arith)
 no_returns-clean (l ∷ ls) h k r f =

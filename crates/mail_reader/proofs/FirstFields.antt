@@ -1,4 +1,4 @@
--- What stands at the front of a text: a line, continuation lines, a field, or none.
+-- The front of a text: a line, continuation lines, a field, or no field.
 use Rattle.std.proofs.Common.{◌≡◌, ℕ, ◌+◌, ◌<◌, ◌≤◌, suc, Bool, true, false, cond, eqb, ◌||◌, List, [], ◌∷◌, ◌++◌, length, take, drop, map, get_or, refl, sym, ap, ◌∙◌, append_assoc, arith, length-drop, subst}
 use Rattle.std.specs.List.{onto_first, prefix_len}
 use Rattle.std.proofs.lemmas.List.{take_more, take_all, drop_all, take-take, take-append-drop, drop-take, drop-drop, length-take-le, append-nil, length-map}
@@ -9,29 +9,29 @@ use Rattle.mail_reader.proofs.Trims.{NoFeed}
 use Rattle.mail_reader.proofs.LineEnds.{lines_of-at, lines_of-none}
 use Rattle.mail_reader.proofs.FieldNames.{prefix_len-within, name_within, no_field-continuation}
 
--- the first line, where a line feed is found
+-- The first line, if a line feed is found.
 pub lines_of-first : (xs : List ℕ) (k : ℕ) → k < length xs → NoFeed (take k xs) → get_or xs k 0 ≡ 10 → xs ≡ take k xs ++ 10 ∷ drop (k + 1) xs
     → lines_of xs ≡ take (k + 1) xs ∷ lines_of (drop (k + 1) xs)
 lines_of-first xs k h free here split =
     ap lines_of split ∙ lines_of-at (take k xs) (drop (k + 1) xs) free
     ∙ ap (λ t. t ∷ lines_of (drop (k + 1) xs)) (sym (take_more xs k 0 h ∙ ap (λ b. take k xs ++ b ∷ []) here))
 
--- and where none is
+-- The first line, if no line feed is found.
 pub lines_of-only : (xs : List ℕ) → NoFeed xs → 0 < length xs → lines_of xs ≡ take (length xs) xs ∷ lines_of (drop (length xs) xs)
 lines_of-only xs free h =
     rw (take_all (length xs) xs (omega arith), drop_all (length xs) xs (omega arith)) (lines_of-none xs free h)
 
--- a line put before parts, by whether it begins a field
+-- The parts with one more line before them, by whether it starts a field.
 abbrev pub parts_by : Bool → List ℕ → List ℕ × List (List ℕ) → List ℕ × List (List ℕ)
 parts_by t line parts = cond t ([], (line ++ parts.0) ∷ parts.1) (line ++ parts.0, parts.1)
 
--- two pieces from the front
+-- Two pieces at the front.
 pub take-two : (xs : List ℕ) (n m : ℕ) → take n xs ++ take m (drop n xs) ≡ take (n + m) xs
 take-two xs n m =
     sym (ap (λ t. take n xs ++ t) (drop-take n m xs)) ∙ ap (λ t. t ++ drop n (take (n + m) xs)) (sym (take-take n (n + m) xs (omega arith)))
     ∙ take-append-drop n (take (n + m) xs)
 
--- so many bytes at the front are continuation lines
+-- The first `len` bytes are continuation lines.
 pub record Continuing (bytes : List ℕ) (len : ℕ) : Type 0 where
   pub within : len ≤ length bytes
   pub parts : parts_of (front (lines_of bytes)) ≡ (take len bytes ++ (parts_of (front (lines_of (drop len bytes)))).0, (parts_of (front (lines_of (drop len bytes)))).1)
@@ -40,7 +40,7 @@ pub record Continuing (bytes : List ℕ) (len : ℕ) : Type 0 where
 pub Continuing-none : (bytes : List ℕ) → Continuing bytes 0
 Continuing-none bytes = record { within = omega arith; parts = refl; behind = refl }
 
--- a continuation line at the front of lines
+-- A continuation line at the front of lines.
 parts-continued : (line : List ℕ) (lines : List (List ℕ)) → is_continuation line ≡ true
     → parts_of (front (line ∷ lines)) ≡ (line ++ (parts_of (front lines)).0, (parts_of (front lines)).1)
 parts-continued line lines c = rw (no_field-continuation line c, c, no_field-continuation line c) refl
@@ -63,7 +63,7 @@ Continuing-more bytes n m h l e c =
       behind = h.behind ∙ rest;
     }
 
--- at a line that goes on with nothing the rest of the header is a header
+-- At a line that continues nothing, the rest of the header is a header.
 record Stops (lines : List (List ℕ)) : Type 0 where
   parts : parts_of (front lines) ≡ ([], (parts_of (header_lines lines)).1)
   behind : behind lines ≡ after_header lines
@@ -98,7 +98,7 @@ pub Continues-all : (bytes : List ℕ) (n : ℕ) → Continuing bytes n → leng
 Continues-all bytes n h l =
     from_stops bytes n h (let P : List (List ℕ) → Type 0 = λ ls. Stops ls in subst P (sym (ap lines_of (drop_all n bytes l))) Stops-none)
 
--- a field line and what goes on with it are the first field
+-- A field line and the lines that continue it are the first field.
 pub first_field : (text : List ℕ) (n m : ℕ) → 0 < n → n ≤ length text → lines_of text ≡ take n text ∷ lines_of (drop n text)
     → is_field_line (take n text) ≡ true → Continues (drop n text) m → IsFirstField text (n + m)
 unfolding fields_of
@@ -115,7 +115,7 @@ first_field text n m some within e f h =
       behind = ap after_header e ∙ rw f h.behind ∙ ap (λ t. after_header (lines_of t)) rest;
     }
 
--- no field at the front
+-- The text doesn't start with a field.
 pub no_field : (text line : List ℕ) (lines : List (List ℕ)) → lines_of text ≡ line ∷ lines → is_field_line line ≡ false → HasNoField text
 unfolding fields_of
 no_field text line lines e f = record {
@@ -127,7 +127,7 @@ pub no_field-none : (text : List ℕ) → text ≡ [] → HasNoField text
 unfolding fields_of
 no_field-none text e = rw e record { fields = refl; behind = refl }
 
--- there are no more fields than bytes
+-- There are no more fields than bytes.
 pub length-fields_of : (text : List ℕ) → length (fields_of text) ≤ length text
 unfolding fields_of
 length-fields_of text =

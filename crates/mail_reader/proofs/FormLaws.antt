@@ -1,4 +1,4 @@
--- The laws of storage forms, and that the fields of a text are its front.
+-- The laws of storage forms, and the law that the fields of a text are its front.
 use Rattle.std.proofs.Common.{◌≡◌, ℕ, ◌+◌, ◌<◌, ◌≤◌, suc, Bool, true, false, cond, eqb, ◌&&◌, ◌||◌, List, [], ◌∷◌, ◌++◌, Option, None, Some, length, map, get_or, refl, sym, ap, ◌∙◌, append_assoc, arith, length-append, ⊎_elim}
 use Rattle.std.specs.List.{concat}
 use Rattle.std.proofs.lemmas.Bool.{eqb-true, cases_lt}
@@ -23,14 +23,14 @@ once bytes text e =
     let f = form_lines bytes text e in
     ap storage_form f.is ∙ form_at f.first f.kept f.rest f.clean f.clean_rest f.field f.again ∙ ap Some (sym f.is)
 
--- the lines of a form are clean, and are its lines
+-- The lines of a form are clean, and are its lines.
 all_clean : (text : List ℕ) (f : FormLines text) → AllClean (f.first ∷ (f.kept ++ (10 ∷ []) ∷ f.rest))
 all_clean text f = AllClean-append (f.first ∷ f.kept) ((10 ∷ []) ∷ f.rest) f.clean (clean_empty, f.clean_rest)
 
 all_lines : (text : List ℕ) (f : FormLines text) → lines_of text ≡ f.first ∷ (f.kept ++ (10 ∷ []) ∷ f.rest)
 all_lines text f = ap lines_of f.is ∙ lines_of-concat (f.first ∷ (f.kept ++ (10 ∷ []) ∷ f.rest)) (all_clean text f)
 
--- a text of which the first line begins a field has a field
+-- A text whose first line starts a field has a field.
 some_fields : (text l : List ℕ) (ls : List (List ℕ)) → lines_of text ≡ l ∷ ls → is_field_line l ≡ true → 0 < length (fields_of text)
 unfolding fields_of
 some_fields text l ls e h = rw (e, h, h) (omega arith)
@@ -46,13 +46,13 @@ clean bytes text e =
       no_returns = λ k r g. no_returns-clean lines (all_clean text f) k (ap (λ t. get_or t k 0) (sym f.is) ∙ r) (ap (λ t. get_or t (k + 1) 0) (sym f.is) ∙ g);
     }
 
--- the bytes of fields are the fields
+-- The bytes of fields are the fields.
 wholes-fields : (xs : List (List ℕ)) → wholes (map field_of xs) ≡ concat xs
 unfolding field_of
 wholes-fields [] = refl
 wholes-fields (x ∷ xs) = ap (λ t. x ++ t) (wholes-fields xs)
 
--- parts, joined, are the lines
+-- The parts, joined, are the lines.
 concat-parts : (ls : List (List ℕ)) → concat ls ≡ (parts_of ls).0 ++ concat (parts_of ls).1
 concat-parts [] = refl
 concat-parts (l ∷ ls) = step (is_field_line l) l (parts_of ls) (concat ls) (concat-parts ls)
@@ -61,7 +61,7 @@ concat-parts (l ∷ ls) = step (is_field_line l) l (parts_of ls) (concat ls) (co
     step true l p c e = ap (λ t. l ++ t) e ∙ sym (append_assoc l p.0 (concat p.1))
     step false l p c e = ap (λ t. l ++ t) e ∙ sym (append_assoc l p.0 (concat p.1))
 
--- before the first field of a header nothing stands
+-- A header has nothing before its first field.
 header-first : (ls : List (List ℕ)) → (parts_of (header_lines ls)).0 ≡ []
 header-first [] = refl
 header-first (l ∷ ls) = step (is_field_line l) l refl
@@ -70,7 +70,7 @@ header-first (l ∷ ls) = step (is_field_line l) l refl
     step true l e = rw e refl
     step false l e = refl
 
--- the header and what is behind it are the lines
+-- The header and the lines after it are all the lines.
 concat-front : (ls : List (List ℕ)) → concat ls ≡ concat (front ls) ++ concat (behind ls)
 concat-front [] = refl
 concat-front (l ∷ ls) = step (is_field_line l || is_continuation l) l (front ls) (behind ls) ls (concat-front ls)
@@ -104,7 +104,7 @@ parts bytes text e =
     let rest : concat (after_header (lines_of text)) ≡ 10 ∷ concat (after_empty (after_header (lines_of text))) = rw behind refl in
     fields_front text ∙ ap (λ t. wholes (fields_of text) ++ t) rest
 
--- a field line stands at one place whatever was before it
+-- A field line has the same place whatever precedes it.
 same_again : (l : List ℕ) (kept rest : List (List ℕ)) → is_field_line l ≡ true → Again Start (l ∷ kept) rest → Again Kept (l ∷ kept) rest
 same_again l kept rest h a =
     let same : next_place Kept l ≡ next_place Start l = rw h refl in
@@ -128,7 +128,7 @@ in_front bytes text line e k =
     ap (λ t. storage_form (line ++ t)) f.is ∙ form_at line (f.first ∷ f.kept) f.rest (kept_clean line k, f.clean) f.clean_rest k.field more
     ∙ ap (λ t. Some (line ++ t)) (sym f.is)
 
--- a form, by the lines of what it is made of
+-- A form, by the lines of which it is made.
 form_bytes : (bytes text : List ℕ) → storage_form bytes ≡ Some text
     → length text ≡ length (concat (kept_from Start (after_mailbox_line (clean_lines bytes)))) + (1 + length (concat (body_lines (after_mailbox_line (clean_lines bytes)))))
 form_bytes bytes text e =
@@ -145,7 +145,7 @@ form_bytes bytes text e =
     some_is : {xs : List ℕ} → Some text ≡ Some xs → text ≡ xs
     some_is h = cc
 
--- what is kept and what is behind are no longer than the lines
+-- The kept lines and those after the header together are no longer than the lines.
 short_kept : (place : Place) (ls : List (List ℕ)) → length (concat (kept_from place ls)) + length (concat (behind_from place ls)) ≤ length (concat ls)
 short_kept place [] = omega arith
 short_kept place (l ∷ ls) = step (next_place place l) l ls (λ next. kept_from next ls) (λ next. behind_from next ls) (λ next. short_kept next ls)

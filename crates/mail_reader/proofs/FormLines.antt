@@ -15,12 +15,12 @@ use Rattle.mail_reader.proofs.KeptLines.{kept_at, kept_from, behind_at, behind_f
 use Rattle.mail_reader.proofs.Bodied.{storage_form-none, storage_form-some}
 use Rattle.mail_reader.proofs.CleanLines.{AllClean, AllClean-append, AllClean-lines, AllClean-kept, AllClean-body, AllClean-after_mailbox, clean_empty, clean_lines-concat}
 
--- an empty line begins no field
+-- An empty line doesn't start a field.
 pub empty_no_field : is_field_line (10 ∷ []) ≡ false
 unfolding is_field_line
 empty_no_field = refl
 
--- the header of lines is kept whole, and an empty line and the rest are behind it
+-- The header of the lines is kept whole, and after it are an empty line and the rest.
 pub record Again (place : Place) (lines rest : List (List ℕ)) : Type 0 where
   pub kept : kept_from place (lines ++ (10 ∷ []) ∷ rest) ≡ lines
   pub behind : behind_from place (lines ++ (10 ∷ []) ∷ rest) ≡ (10 ∷ []) ∷ rest
@@ -28,7 +28,8 @@ pub record Again (place : Place) (lines rest : List (List ℕ)) : Type 0 where
 again_none : (place : Place) (rest : List (List ℕ)) → Again place [] rest
 again_none place rest = record { kept = rw empty_no_field refl; behind = rw empty_no_field refl }
 
--- where a line stands in what is kept, by where it stood before: what is dropped is as though it weren't there
+-- The place of a line among the kept lines, by its place before: dropped lines are as if they
+-- weren't there.
 abbrev Follows : Place → Place → Type 0
 Follows Start Start = Unit {0}
 Follows Start Kept = ⊥
@@ -51,7 +52,7 @@ drop_follows Dropped Start h = tt
 drop_follows Dropped Kept h = tt
 drop_follows Dropped Dropped h = h
 
--- a line that is kept is kept again
+-- A line that is kept is kept again.
 pub again_more : (q : Place) (line : List ℕ) (kept rest : List (List ℕ)) → next_place q line ≡ Some Kept → Again Kept kept rest → Again q (line ∷ kept) rest
 again_more q line kept rest e h = record {
   kept = ap (λ o. kept_at o line (λ next. kept_from next (kept ++ (10 ∷ []) ∷ rest))) e ∙ ap (λ ls. line ∷ ls) h.kept;
@@ -75,7 +76,7 @@ again p q h (line ∷ lines) rest =
     step false d true Kept Dropped h ef ed ec later ih = absurd h
     step false d true Dropped q h ef ed ec later ih = ih Dropped q h
 
--- lines of which the first begins a field
+-- Lines of which the first starts a field.
 abbrev pub StartsField : List (List ℕ) → Type 0
 StartsField [] = Unit {0}
 StartsField (l ∷ ls) = is_field_line l ≡ true
@@ -91,7 +92,7 @@ starts_field (line ∷ lines) = step (is_field_line line) (is_dropped line) (is_
     step false d true e later h = (tt, h)
     step false d false e later h = (tt, tt)
 
--- a line of a mailbox begins no field
+-- A mailbox's line doesn't start a field.
 pub mailbox_no_field : (line : List ℕ) → is_mailbox_line line ≡ true → is_field_line line ≡ false
 unfolding is_field_line
 mailbox_no_field line h =
@@ -99,17 +100,17 @@ mailbox_no_field line h =
     let split : line ≡ codes "From " ++ drop 5 line = sym (take-append-drop 5 line) ∙ ap (λ t. t ++ drop 5 line) (sym from) in
     ap is_field_line split
 
--- lines of which the first begins a field have no mailbox's line in front
+-- Lines of which the first starts a field have no mailbox's line at the front.
 pub same_mailbox : (l : List ℕ) (ls : List (List ℕ)) → is_field_line l ≡ true → after_mailbox_line (l ∷ ls) ≡ l ∷ ls
 same_mailbox l ls h =
     let is_not : is_mailbox_line l ≡ false = false_from_ne_true (is_mailbox_line l) (λ e. both_ways (is_field_line l) (mailbox_no_field l e) h) in
     rw is_not refl
 
--- a field line isn't empty
+-- A field line isn't empty.
 pub some_field : (line : List ℕ) → is_field_line line ≡ true → 0 < length line
 some_field line h = let w : prefix_len is_name_byte line < length line = name_within line h in omega arith
 
--- the form of clean lines of which the header is kept whole
+-- The form of clean lines whose header is kept whole.
 pub form_at : (l : List ℕ) (kept rest : List (List ℕ)) → AllClean (l ∷ kept) → AllClean rest → is_field_line l ≡ true → Again Start (l ∷ kept) rest
     → storage_form (concat ((l ∷ kept) ++ (10 ∷ []) ∷ rest)) ≡ Some (concat ((l ∷ kept) ++ (10 ∷ []) ∷ rest))
 form_at l kept rest clean clean_rest field h =
@@ -125,7 +126,7 @@ form_at l kept rest clean clean_rest field h =
     omega (arith, ap length fields, length-append l (concat kept), some_field l field) in
     storage_form-some (concat lines) some ∙ rw (fields, body) (ap Some (sym (concat-append (l ∷ kept) ((10 ∷ []) ∷ rest))))
 
--- a storage form, taken apart
+-- A storage form, split into its lines.
 pub record FormLines (text : List ℕ) : Type 0 where
   pub first : List ℕ
   pub kept : List (List ℕ)
@@ -136,7 +137,7 @@ pub record FormLines (text : List ℕ) : Type 0 where
   pub field : is_field_line first ≡ true
   pub again : Again Start (first ∷ kept) rest
 
--- each storage form can be taken apart so
+-- Each storage form can be split so.
 pub form_lines : (bytes text : List ℕ) → storage_form bytes ≡ Some text → FormLines text
 form_lines bytes text e =
     let lines = after_mailbox_line (clean_lines bytes) in

@@ -1,4 +1,4 @@
--- What a hasher took, one piece after another.
+-- What a hasher has hashed, one piece after another.
 use Rattle.std.proofs.Common.{◌≡◌, ℕ, List, [], ◌++◌, sym, subst, append_assoc}
 use Rattle.std.proofs.lemmas.List.{append-nil}
 use Rattle.sha2.specs.Hashers.{Holds256}
@@ -14,7 +14,7 @@ Took-then a b c xs ys h k = record { each = λ m t. let P : List ℕ → Type 0 
 pub Took-same : (a b : Sha256) (xs ys : List ℕ) → xs ≡ ys → Took a b xs → Took a b ys
 Took-same a b xs ys e h = let P : List ℕ → Type 0 = λ t. Took a b t in subst P e h
 
--- nine pieces, one after another, are what they are joined from the right
+-- Nine pieces, one after another, are the same as joined from the right.
 pub nine : (a b c d e f g h i : List ℕ)
     → (((((((a ++ b) ++ c) ++ d) ++ e) ++ f) ++ g) ++ h) ++ i ≡ (a ++ (b ++ (c ++ (d ++ (e ++ (f ++ (g ++ []))))))) ++ (h ++ i)
 nine a b c d e f g h i = simp (append_assoc, append-nil)

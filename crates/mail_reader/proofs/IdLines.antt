@@ -1,4 +1,4 @@
--- The line of a Message-ID field that an id is put in.
+-- The line of a Message-ID field with a given id.
 use Rattle.std.proofs.Common.{◌≡◌, ℕ, ◌+◌, true, eqb, List, [], ◌∷◌, ◌++◌, Some, length, take, map, refl, sym, ap, ◌∙◌, append_assoc, arith, length-append, codes, add-zero, subst}
 use Rattle.std.specs.List.{AllPass, prefix_len, list_all}
 use Rattle.std.specs.Prelude.{option_and_then}
@@ -19,27 +19,27 @@ NoByte-append : (c : ℕ) (xs ys : List ℕ) → NoByte c xs → NoByte c ys →
 NoByte-append c [] ys h k = k
 NoByte-append c (x ∷ xs) ys h k = (h.0, NoByte-append c xs ys h.1 k)
 
--- a front that passes whole ends at the first byte that doesn't
+-- A prefix of which all passes ends at the first byte that doesn't.
 passes : (xs : List ℕ) → list_all is_id_byte xs ≡ true → prefix_len is_id_byte xs ≡ length xs
 passes [] h = refl
 passes (x ∷ xs) h =
     let both = and_parts (is_id_byte x) (list_all is_id_byte xs) h in
     rw both.0 (omega (arith, passes xs both.1))
 
--- no byte of an id is a line feed
+-- No byte of an id is a line feed.
 free_of_feed : (xs : List ℕ) → list_all is_id_byte xs ≡ true → NoFeed xs
 free_of_feed [] h = tt
 free_of_feed (x ∷ xs) h =
     let both = and_parts (is_id_byte x) (list_all is_id_byte xs) h in
     (false_from_ne_true (eqb x 10) (λ e. both_ways (is_id_byte x) (ap is_id_byte (eqb-true x 10 e)) both.0), free_of_feed xs both.1)
 
--- how many bytes of an id stand before its closing bracket
+-- The number of bytes of an id before its closing bracket.
 id_len-at : (xs more : List ℕ) → AllPass is_id_byte xs → id_len (xs ++ 62 ∷ more) ≡ length xs
 id_len-at xs more h =
     let all : prefix_len is_id_byte xs ≡ length xs = passes xs (list_all-from_AllPass is_id_byte xs h) in
     prefix_len-append is_id_byte xs (62 ∷ more) ∙ rw (all, eq-eqb (length xs) (length xs) refl) (add-zero (length xs))
 
--- an id is the first of what it stands in front of
+-- An id is the first id of a value that starts with it.
 first-id : (id more : List ℕ) → IsId id → first_of (ids_of (id ++ more)) ≡ Some id
 first-id id more h =
     let inside = h.inside in
@@ -51,13 +51,13 @@ first-id id more h =
     ap (λ n. take (n + 1) (inside ++ 62 ∷ more)) len ∙ ap (take (length inside + 1)) (sym (append_assoc inside (62 ∷ []) more)) ∙ take_at (inside ++ 62 ∷ []) more (length inside + 1) (length-append inside (62 ∷ [])) in
     ap (λ t. first_of (ids_of t)) is ∙ rw closed (ap (λ t. Some (60 ∷ t)) piece ∙ ap Some (sym h.is))
 
--- a line feed at the end of more than one piece is dropped from the last
+-- A line feed at the end of two pieces is dropped from the last.
 without_feed-append : (xs : List ℕ) (y : ℕ) (ys : List ℕ) → without_feed (xs ++ y ∷ ys) ≡ xs ++ without_feed (y ∷ ys)
 without_feed-append [] y ys = refl
 without_feed-append (x ∷ []) y ys = refl
 without_feed-append (x ∷ w ∷ xs) y ys = ap (λ t. x ∷ t) (without_feed-append (w ∷ xs) y ys)
 
--- what stands in a line with an id
+-- The content of the line with an id.
 id_content : (id : List ℕ) → IsId id → NoFeed (codes "Message-ID: " ++ id)
 id_content id h =
     NoByte-append 10 (codes "Message-ID: ") id (refl, (refl, (refl, (refl, (refl, (refl, (refl, (refl, (refl, (refl, (refl, (refl, tt))))))))))))
@@ -72,7 +72,7 @@ id_field_line id = refl
 id_lines : (id text : List ℕ) → IsId id → lines_of (id_line id ++ text) ≡ id_line id ∷ lines_of text
 id_lines id text h = ap (λ t. lines_of (codes "Message-ID: " ++ t)) (append_assoc id (10 ∷ []) text) ∙ lines_of-at (codes "Message-ID: " ++ id) text (id_content id h)
 
--- the first id of a field that begins with such a line
+-- The first id of a field that starts with such a line.
 id_value : (id more : List ℕ) → IsId id → first_of (ids_of (field_of (id_line id ++ more)).value) ≡ Some id
 unfolding field_of
 id_value id more h =
@@ -84,7 +84,7 @@ id_first : (id more : List ℕ) (rest : List FieldText) → IsId id
 unfolding field_of
 id_first id more rest h = id_value id more h
 
--- the fields of a text with such a line in front
+-- The fields of a text with such a line at the front.
 id_fields : (id text : List ℕ) → IsId id
     → fields_of (id_line id ++ text) ≡ field_of (id_line id ++ (parts_of (front (lines_of text))).0) ∷ map field_of (parts_of (front (lines_of text))).1
 unfolding fields_of

@@ -5,17 +5,17 @@ use Rattle.std.specs.Prelude.{option_copied}
 use Rattle.mail_reader.specs.Ids.{id_len, closes_id, ids_of, first_of, OpensId}
 use Rattle.mail_reader.proofs.Trims.{NoByte}
 
--- bytes without an opening bracket have no ids
+-- Bytes without an opening bracket have no ids.
 pub ids_of-none : (xs : List ℕ) → NoByte 60 xs → ids_of xs ≡ []
 ids_of-none [] h = refl
 ids_of-none (x ∷ xs) h = rw h.0 (ids_of-none xs h.1)
 
--- and don't hide any behind them
+-- They hide no ids after them.
 pub ids_of-behind : (xs rest : List ℕ) → NoByte 60 xs → ids_of (xs ++ rest) ≡ ids_of rest
 ids_of-behind [] rest h = refl
 ids_of-behind (x ∷ xs) rest h = rw h.0 (ids_of-behind xs rest h.1)
 
--- from the first bracket on
+-- The value from the first bracket on.
 pub opens_id : (xs : List ℕ) (k : ℕ) → k < length xs → NoByte 60 (take k xs) → get_or xs k 0 ≡ 60 → drop k xs ≡ 60 ∷ drop (k + 1) xs
     → xs ≡ take k xs ++ 60 ∷ drop (k + 1) xs → OpensId xs (drop k xs)
 opens_id xs k h free here rest split = record {
@@ -25,12 +25,12 @@ opens_id xs k h free here rest split = record {
   within = omega (arith, length-drop k xs);
 }
 
--- a piece is its bracket and what is inside
+-- A piece is its bracket and the bytes inside.
 pub piece-split : (piece : List ℕ) → get_or piece 0 0 ≡ 60 → 0 < length piece → piece ≡ 60 ∷ drop 1 piece
 piece-split [] h l = absurd (omega arith)
 piece-split (x ∷ xs) h l = ap (λ b. b ∷ xs) h
 
--- an id that is closed
+-- An id that is closed.
 pub ids_of-closed : (value piece : List ℕ) (len : ℕ) → OpensId value piece → closes_id (drop 1 piece) ≡ true → len ≡ id_len (drop 1 piece)
     → ids_of value ≡ take (len + 2) piece ∷ ids_of (drop 1 piece)
 ids_of-closed value piece len h closed e =
@@ -40,11 +40,11 @@ ids_of-closed value piece len h closed e =
     ap (take (len + 2)) split ∙ rw two (ap (λ n. 60 ∷ take (n + 1) (drop 1 piece)) e) in
     h.ids ∙ ap ids_of split ∙ rw closed (ap (λ t. t ∷ ids_of (drop 1 piece)) (sym at))
 
--- and one that isn't
+-- An id that isn't closed.
 pub ids_of-open : (value piece : List ℕ) → OpensId value piece → closes_id (drop 1 piece) ≡ false → ids_of value ≡ ids_of (drop 1 piece)
 ids_of-open value piece h closed = h.ids ∙ ap ids_of (piece-split piece h.bracket h.some) ∙ rw closed refl
 
--- there are no more ids than bytes
+-- There are no more ids than bytes.
 pub length-ids_of : (xs : List ℕ) → length (ids_of xs) ≤ length xs
 length-ids_of [] = omega arith
 length-ids_of (x ∷ xs) = step (eqb x 60 && closes_id xs) (60 ∷ take (id_len xs + 1) xs) (ids_of xs) (length xs) (length-ids_of xs)
@@ -53,7 +53,7 @@ length-ids_of (x ∷ xs) = step (eqb x 60 && closes_id xs) (60 ∷ take (id_len 
     step true id ids n h = omega arith
     step false id ids n h = omega arith
 
--- an iterator's next is the head of its list
+-- The next id of the iterator is the first of its list.
 pub first_is : (r : Option (Bor (List ℕ))) (ids rest : List (List ℕ)) → MatchOption r ((ids ≡ []) × (rest ≡ [])) (λ (id : Bor (List ℕ)). ids ≡ id.now ∷ rest) → option_copied r ≡ first_of ids
 first_is None ids rest h = sym (ap first_of h.0)
 first_is (Some id) ids rest h = sym (ap first_of h)

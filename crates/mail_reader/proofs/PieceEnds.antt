@@ -1,4 +1,4 @@
--- What stands behind pieces at the front of a text.
+-- The rest of a text after pieces at its front.
 use Rattle.std.proofs.Common.{◌≡◌, ℕ, List, [], ◌∷◌, ◌++◌, Option, None, Some, ◌<◌, ◌≤◌, Bool, eqb, length, take, drop, true, false, ⊎_elim, arith, length-append, refl, sym, ap, ◌∙◌, append_assoc}
 use Rattle.std.specs.List.{concat}
 use Rattle.std.proofs.lemmas.List.{append_cancel_left, append-nil, nil_from_length, take-append-drop, take_at}
@@ -15,7 +15,8 @@ use Rattle.mail_reader.specs.declared.storing.Place.TheVariants.{Start, Kept, Dr
 use Rattle.mail_reader.proofs.KeptLines.{kept_at, kept_from, behind_at, behind_from}
 use Rattle.mail_reader.proofs.Bodied.{storage_form-none, storage_form-some}
 
--- a text is all and something more exactly where what is left of it is the rest and the same
+-- The text is all pieces and something more exactly if the rest of it is the remaining pieces and
+-- the same.
 pub record Ahead (text all left rest : List ℕ) : Type 0 where
   pub on : (more : List ℕ) → text ≡ all ++ more → left ≡ rest ++ more
   pub back : (more : List ℕ) → left ≡ rest ++ more → text ≡ all ++ more
@@ -26,23 +27,23 @@ Ahead-none text all rest e = record {
   back = λ more h. h ∙ ap (λ t. t ++ more) e;
 }
 
--- a piece further
+-- One piece further.
 pub Ahead-more : (text all left piece after rest later : List ℕ) → Ahead text all left rest → rest ≡ piece ++ later → left ≡ piece ++ after → Ahead text all after later
 Ahead-more text all left piece after rest later h split e = record {
   on = λ more k. append_cancel_left piece after (later ++ more) (sym e ∙ h.on more k ∙ ap (λ t. t ++ more) split ∙ append_assoc piece later more);
   back = λ more k. h.back more (e ∙ ap (λ t. piece ++ t) k ∙ sym (append_assoc piece later more) ∙ ap (λ t. t ++ more) (sym split));
 }
 
--- the piece isn't there
+-- The piece isn't there.
 pub Ahead-not : (text all left piece rest later : List ℕ) → Ahead text all left rest → rest ≡ piece ++ later → NotBegun left piece → NotBegun text all
 Ahead-not text all left piece rest later h split not_there more k =
     not_there (later ++ more) (h.on more k ∙ ap (λ t. t ++ more) split ∙ append_assoc piece later more)
 
--- nothing is left to come
+-- No pieces remain.
 pub Ahead-all : (text all left rest : List ℕ) → Ahead text all left rest → rest ≡ [] → text ≡ all ++ left
 Ahead-all text all left rest h e = h.back left (ap (λ t. t ++ left) (sym e))
 
--- what is kept of a line, and of those behind it
+-- What is kept of a line, and of those after it.
 pub kept_more : (place next : Place) (line : List ℕ) (lines : List (List ℕ)) → next_place place line ≡ Some next
     → concat (kept_from place (line ∷ lines)) ≡ piece_at next line ++ concat (kept_from next lines)
 kept_more place next line lines e =
@@ -53,14 +54,14 @@ kept_more place next line lines e =
     by_place Kept = refl
     by_place Dropped = refl
 
--- a line feed behind a piece
+-- A line feed after a piece.
 pub feed_behind : (text content rest : List ℕ) (r : Option (Bor (List ℕ))) → text ≡ content ++ rest → Follows rest (10 ∷ []) r → Follows text (content ++ 10 ∷ []) r
 feed_behind text content rest None e h =
     λ more k. h more (append_cancel_left content rest ((10 ∷ []) ++ more) (sym e ∙ k ∙ append_assoc content (10 ∷ []) more))
 feed_behind text content rest (Some found) e h =
     e ∙ ap (λ t. content ++ t) h ∙ sym (append_assoc content (10 ∷ []) found.now)
 
--- what a comparison with a piece says
+-- The result of a comparison with a piece.
 pub piece_there : (text content rest : List ℕ) → bytes_eq (take (length content) text) content ≡ true → rest ≡ drop (length content) text → text ≡ content ++ rest
 piece_there text content rest h e =
     sym (take-append-drop (length content) text) ∙ ap (λ t. t ++ drop (length content) text) ((bytes_eq-Decides (take (length content) text) content).0 h) ∙ ap (λ t. content ++ t) (sym e)
@@ -70,11 +71,11 @@ piece_not_there text content h more k =
     let same : take (length content) text ≡ content = ap (take (length content)) (k ∙ append_assoc content (10 ∷ []) more) ∙ take_at content ((10 ∷ []) ++ more) (length content) refl in
     both_ways (bytes_eq (take (length content) text) content) h ((bytes_eq-Decides (take (length content) text) content).1 same)
 
--- the lines behind the header, a line further
+-- The lines after the header, one line further.
 pub behind_more : (place next : Place) (line : List ℕ) (lines : List (List ℕ)) → next_place place line ≡ Some next → behind_from place (line ∷ lines) ≡ behind_from next lines
 behind_more place next line lines e = ap (λ o. behind_at o (line ∷ lines) (λ n. behind_from n lines)) e
 
--- whether what is left is nothing
+-- The text ends here exactly if nothing is left.
 pub ends_there : (text all left : List ℕ) (b : Bool) → text ≡ all ++ left → b ≡ eqb (length left) 0 → IsTrue b ↔ (text ≡ all)
 ends_there text all left b is e = (
   λ t. let none : left ≡ [] = nil_from_length left (eqb-true (length left) 0 (sym e ∙ t)) in
@@ -83,18 +84,18 @@ ends_there text all left b is e = (
       e ∙ ap (λ l. eqb (length l) 0) none,
 )
 
--- what isn't there isn't the whole
+-- A text that doesn't start with all isn't all.
 pub never : (text all : List ℕ) → NotBegun text all → IsTrue false ↔ (text ≡ all)
 never text all h = (λ t. absurd (false≢true t), λ same. absurd (h [] (same ∙ sym (append-nil all))))
 
--- the kept fields of bytes, and the body, as the form has them
+-- The kept fields of bytes, and the body, as the form has them.
 abbrev pub form_fields : List ℕ → List ℕ
 form_fields bytes = concat (kept_fields (after_mailbox_line (clean_lines bytes)))
 
 abbrev pub form_body : List ℕ → List ℕ
 form_body bytes = concat (body_lines (after_mailbox_line (clean_lines bytes)))
 
--- a text that begins with the fields is the form exactly where the body follows
+-- A text that starts with the fields is the form exactly if the body follows.
 pub is_form-some : (bytes text left : List ℕ) (b : Bool) → text ≡ form_fields bytes ++ left → length left < length text → IsTrue b ↔ (left ≡ 10 ∷ form_body bytes)
     → IsTrue b ↔ (storage_form bytes ≡ Some text)
 is_form-some bytes text left b is shorter h =
@@ -107,7 +108,7 @@ is_form-some bytes text left b is shorter h =
     same_some : (xs ys : List ℕ) → Some xs ≡ Some ys → xs ≡ ys
     same_some xs ys k = cc
 
--- without a field there is no form
+-- Without a field there is no form.
 pub is_form-none : (bytes text left : List ℕ) → text ≡ form_fields bytes ++ left → length text ≤ length left → IsTrue false ↔ (storage_form bytes ≡ Some text)
 is_form-none bytes text left is longer =
     let none : length (form_fields bytes) ≡ 0 = omega (arith, ap length is, length-append (form_fields bytes) left) in
@@ -116,7 +117,7 @@ is_form-none bytes text left is longer =
     apart : None ≡ Some text → ⊥
     apart k = cc
 
--- and a text that doesn't begin with the fields is no form
+-- A text that doesn't start with the fields isn't the form.
 pub is_form-not : (bytes text : List ℕ) → NotBegun text (form_fields bytes) → IsTrue false ↔ (storage_form bytes ≡ Some text)
 is_form-not bytes text h = (
   λ t. absurd (false≢true t),

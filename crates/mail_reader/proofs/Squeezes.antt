@@ -1,4 +1,4 @@
--- Runs of spaces made one, byte by byte.
+-- Runs of spaces, reduced to one space, byte by byte.
 use Rattle.std.proofs.Common.{◌≡◌, ℕ, Bool, true, false, cond, eqb, ◌&&◌, List, [], ◌∷◌, ◌++◌, refl, sym, ap, ◌∙◌}
 use Rattle.std.proofs.lemmas.Bool.{eqb-true}
 use Rattle.mail_reader.specs.Stored.{all_of, without_end}
@@ -7,12 +7,12 @@ use Rattle.mail_reader.specs.Content.{squeezed}
 use Rattle.mail_reader.specs.Hashing.{waiting, given_at, waits_behind}
 use Rattle.mail_reader.proofs.Blanks.{unfolded-cons}
 
--- what bytes give, where a space waits or none does
+-- What bytes add. The flag says whether a space waits before them.
 abbrev pub given_from : Bool → List ℕ → List ℕ
 given_from spaced [] = []
 given_from spaced (b ∷ bs) = given_at spaced b ++ given_from (waits_behind spaced b) bs
 
--- no space is at the end
+-- The bytes don't end with a space.
 abbrev pub NoEnd : List ℕ → Type 0
 NoEnd xs = without_end 32 xs ≡ xs
 
@@ -23,7 +23,7 @@ NoEnd-tail x xs h = step (eqb x 32 && all_of 32 xs) (without_end 32 xs) h
     step true w e = cc
     step false w e = cc
 
--- one byte, by what it is: f a line feed, s what makes a space
+-- One byte, by what it is: `f` says that it is a line feed, and `s` that it becomes a space.
 step : (f s : Bool) (c : ℕ) (spaced : Bool) (later : List ℕ) (given : Bool → List ℕ) → eqb c 32 ≡ s → NoEnd (waiting spaced ++ cond f later (c ∷ later))
     → ((next : Bool) → NoEnd (waiting next ++ later) → given next ≡ squeezed (waiting next ++ later))
     → cond f [] (cond s [] (waiting spaced ++ c ∷ [])) ++ given (cond f spaced s) ≡ squeezed (waiting spaced ++ cond f later (c ∷ later))

@@ -1,4 +1,4 @@
--- What stands behind a piece at the front of a text.
+-- The rest of a text after a piece at its front.
 use Rattle.std.specs.Prelude.{◌≡◌, ℕ, List, [], ◌++◌, Option, MatchOption}
 use Rattle.std.specs.Borrow.{Bor}
 use Rattle.std.specs.List.{concat}
@@ -7,21 +7,22 @@ use Rattle.mail_reader.specs.Stored.{clean_lines, kept_fields}
 use Rattle.mail_reader.specs.declared.storing.Place.{Place}
 use Rattle.mail_reader.specs.declared.storing.Place.TheVariants.{Start, Kept, Dropped}
 
--- a text doesn't begin with a piece
+-- The text doesn't start with the piece.
 abbrev pub NotBegun : List ℕ → List ℕ → Type 0
 NotBegun text piece = (more : List ℕ) → text ≡ piece ++ more → ⊥
 
--- what follows a piece at the front of a text, or None where the text doesn't begin with it
+-- The rest of the text after a piece at its front, or `None` if the text doesn't start with it.
 abbrev pub Follows : List ℕ → List ℕ → Option (Bor (List ℕ)) → Type 0
 Follows text piece found = MatchOption found (NotBegun text piece) (λ more. text ≡ piece ++ more.now)
 
--- what is kept of a line at its place
+-- What is kept of a line at its place.
 abbrev pub piece_at : Place → List ℕ → List ℕ
 piece_at Start line = []
 piece_at Kept line = line
 piece_at Dropped line = []
 
--- what follows the kept fields of bytes in a text, and what follows the header in the bytes
+-- The rest of the text after the kept fields of the bytes, and the rest of the bytes after their
+-- header.
 abbrev pub FollowsFields : List ℕ → List ℕ → Option (Bor (List ℕ) × Bor (List ℕ)) → Type 0
 FollowsFields text bytes found =
     MatchOption found (NotBegun text (concat (kept_fields (clean_lines bytes))))

@@ -1,22 +1,23 @@
--- What a hasher has taken in since an earlier state, and runs of spaces made one, byte by byte.
+-- What a hasher has hashed since an earlier state, and runs of spaces reduced to one space, byte by
+-- byte.
 use Rattle.std.specs.Prelude.{ℕ, Bool, true, false, ◌==◌, List, [], ◌∷◌, ◌++◌, if◌then◌else◌}
 use Rattle.sha2.specs.Hashers.{Holds256}
 use Rattle.sha2.specs.declared.Sha256.{Sha256}
 use Rattle.mail_reader.specs.Values.{space_for}
 
--- the hasher took these bytes
+-- The hasher has hashed these bytes since the old state.
 pub record Took (old new : Sha256) (bytes : List ℕ) : Type 0 where
   pub each : (m : List ℕ) → Holds256 old m → Holds256 new (m ++ bytes)
 
--- a space that waits for a byte behind it
+-- The space that waits for a byte after it, if there is one.
 abbrev pub waiting : Bool → List ℕ
 waiting true = 32 ∷ []
 waiting false = []
 
--- what a byte gives where a space waits or none does
+-- What a byte adds. The flag says whether a space waits before it.
 abbrev pub given_at : Bool → ℕ → List ℕ
 given_at spaced b = if b == 10 then [] else if space_for b == 32 then [] else waiting spaced ++ space_for b ∷ []
 
--- and whether a space waits behind it
+-- A space waits after the byte. The flag says whether one waits before it.
 abbrev pub waits_behind : Bool → ℕ → Bool
 waits_behind spaced b = if b == 10 then spaced else space_for b == 32

@@ -1,4 +1,4 @@
-//! Whether a text is a storage text, without memory.
+//! Checks whether a text is a storage text, without allocating.
 ghost use Rattle.std.specs.Prelude.{◌≡◌, ◌↔◌, ◌++◌, ◌∷◌, [], Some, IsTrue};
 ghost use Rattle.std.specs.List.{concat};
 ghost use Rattle.mail_reader.specs.Stored.{storage_form, clean_lines};
@@ -12,14 +12,15 @@ use crate::storing::{Place, after_empty_line, after_mailbox_line};
 /// The greatest length of a storage text, in bytes.
 const MAX_TEXT_LEN: usize = 8_388_800;
 
-/// Whether a text is a storage text: at most 8,388,800 bytes that are their own storage form, with an own id.
+/// Returns whether a text is a storage text: at most 8,388,800 bytes that are their own storage
+/// form, with an own id.
 pub fn is_stored(text: &[u8]) -> bool
     ensures { IsTrue result ↔ IsStorageText text.now }
 {
     text.len() <= MAX_TEXT_LEN && is_form_of(text, text) && own_id(text).is_some()
 }
 
-/// Whether a text is the storage form of bytes.
+/// Returns whether a text is the storage form of some bytes.
 fn is_form_of(text: &[u8], bytes: &[u8]) -> bool
     ensures { IsTrue result ↔ storage_form bytes.now ≡ Some text.now }
 {
@@ -29,8 +30,10 @@ fn is_form_of(text: &[u8], bytes: &[u8]) -> bool
     }
 }
 
-/// What follows the kept fields of bytes in a text, and what follows the header in the bytes. None where the text
-/// doesn't begin with these fields.
+/// Returns the rest of a text after the kept fields of some bytes, and the rest of the bytes after
+/// their header.
+///
+/// `None` if the text doesn't start with these fields.
 fn after_fields<'a, 'b>(text: &'a [u8], bytes: &'b [u8]) -> Option<(&'a [u8], &'b [u8])>
     ensures { FollowsFields text.now bytes.now result }
 {
@@ -52,7 +55,7 @@ fn after_fields<'a, 'b>(text: &'a [u8], bytes: &'b [u8]) -> Option<(&'a [u8], &'
     Some((left, rest))
 }
 
-/// What follows, in a text, what is kept of a line at its place.
+/// Returns the rest of a text after what is kept of a line at its place.
 fn after_piece<'a>(text: &'a [u8], place: Place, content: &[u8]) -> Option<&'a [u8]>
     ensures { Follows text.now (piece_at place (content.now ++ 10 ∷ [])) result }
 {
@@ -62,7 +65,7 @@ fn after_piece<'a>(text: &'a [u8], place: Place, content: &[u8]) -> Option<&'a [
     }
 }
 
-/// What follows a line at the front of a text.
+/// Returns the rest of a text after a line at its front.
 fn after_line<'a>(text: &'a [u8], content: &[u8]) -> Option<&'a [u8]>
     ensures { Follows text.now (content.now ++ 10 ∷ []) result }
 {
@@ -72,7 +75,7 @@ fn after_line<'a>(text: &'a [u8], content: &[u8]) -> Option<&'a [u8]>
     }
 }
 
-/// What follows a line feed at the front of a text.
+/// Returns the rest of a text after a line feed at its front.
 fn after_feed(text: &[u8]) -> Option<&[u8]>
     ensures { Follows text.now (10 ∷ []) result }
 {
@@ -82,7 +85,7 @@ fn after_feed(text: &[u8]) -> Option<&[u8]>
     }
 }
 
-/// Whether a text is an empty line and then the lines of bytes.
+/// Returns whether a text is an empty line and then the lines of some bytes.
 fn is_body_of(text: &[u8], bytes: &[u8]) -> bool
     ensures { IsTrue result ↔ text.now ≡ 10 ∷ concat (clean_lines bytes.now) }
 {
@@ -92,7 +95,7 @@ fn is_body_of(text: &[u8], bytes: &[u8]) -> bool
     }
 }
 
-/// Whether a text is the lines of bytes.
+/// Returns whether a text is the lines of some bytes.
 fn is_lines_of(text: &[u8], bytes: &[u8]) -> bool
     ensures { IsTrue result ↔ text.now ≡ concat (clean_lines bytes.now) }
 {

@@ -1,4 +1,4 @@
-//! The content id of a message: the same for a message that was sent twice.
+//! Computes the content id of a message. It is the same for a message that was sent twice.
 ghost use Rattle.std.specs.Prelude.{◌≡◌, ◌++◌, ◌∷◌, []};
 ghost use Rattle.std.specs.Str.{str_to_ascii_lowercase};
 ghost use Rattle.mail_reader.specs.Fields.{fields_of};
@@ -11,9 +11,11 @@ use crate::reading::{body, is_same_name};
 use crate::values::{space_for, trim};
 use sha2::{Digest, Sha256};
 
-/// The content id of a text: the SHA-256 (FIPS 180-4) of its fields Subject, From, Date, References, In-Reply-To, To
-/// and Cc, each with its name in lower case, a colon and its flat value with each run of spaces made one, of a line
-/// feed, and of the body.
+/// Returns the content id of a text.
+///
+/// It is the SHA-256 (FIPS 180-4) of the fields Subject, From, Date, References, In-Reply-To, To
+/// and Cc, of a line feed, and of the body. Each field is hashed as its name in lower case, a
+/// colon, its flat value, in which each run of spaces is one space, and a line feed.
 pub fn content_id(text: &[u8]) -> [u8; 32]
     ensures { result ≡ content_id_of text.now }
 {
@@ -30,7 +32,7 @@ pub fn content_id(text: &[u8]) -> [u8; 32]
     hasher.finalize()
 }
 
-/// Takes in the fields of a name.
+/// Hashes the fields with a name.
 fn hash_fields(hasher: &mut Sha256, text: &[u8], name: &[u8])
     ensures { Took hasher.old hasher.new (counted name.now (fields_of text.now)) }
 {
@@ -41,7 +43,7 @@ fn hash_fields(hasher: &mut Sha256, text: &[u8], name: &[u8])
     }
 }
 
-/// Takes in a field.
+/// Hashes a field.
 fn hash_field(hasher: &mut Sha256, name: &[u8], value: &[u8])
     ensures { Took hasher.old hasher.new (counted_field name.now value.now) }
 {
@@ -51,7 +53,7 @@ fn hash_field(hasher: &mut Sha256, name: &[u8], value: &[u8])
     hash_bytes(hasher, b"\n");
 }
 
-/// Takes in a name in lower case.
+/// Hashes a name in lower case.
 fn hash_lower(hasher: &mut Sha256, name: &[u8])
     ensures { Took hasher.old hasher.new (str_to_ascii_lowercase name.now) }
 {
@@ -60,7 +62,7 @@ fn hash_lower(hasher: &mut Sha256, name: &[u8])
     }
 }
 
-/// Takes in the flat value of a value, with each run of spaces made one.
+/// Hashes the flat value of a value, in which each run of spaces is one space.
 fn hash_squeezed(hasher: &mut Sha256, value: &[u8])
     ensures { Took hasher.old hasher.new (squeezed (flat_of value.now)) }
 {
@@ -70,7 +72,8 @@ fn hash_squeezed(hasher: &mut Sha256, value: &[u8])
     }
 }
 
-/// Takes in what a byte gives where a space waits or none does, and says whether one waits behind it.
+/// Hashes what a byte adds, and returns whether a space waits after it. `spaced` says whether one
+/// waits before it.
 fn hash_spaced(hasher: &mut Sha256, spaced: bool, byte: u8) -> bool
     ensures took { Took hasher.old hasher.new (given_at spaced byte) }
     ensures waits { result ≡ waits_behind spaced byte }
@@ -87,7 +90,7 @@ fn hash_spaced(hasher: &mut Sha256, spaced: bool, byte: u8) -> bool
     false
 }
 
-/// Takes in a space that waits.
+/// Hashes the space that waits, if there is one.
 fn hash_waiting(hasher: &mut Sha256, spaced: bool)
     ensures { Took hasher.old hasher.new (waiting spaced) }
 {
@@ -96,14 +99,14 @@ fn hash_waiting(hasher: &mut Sha256, spaced: bool)
     }
 }
 
-/// Takes in a byte.
+/// Hashes a byte.
 fn hash_byte(hasher: &mut Sha256, byte: u8)
     ensures { Took hasher.old hasher.new (byte ∷ []) }
 {
     hash_bytes(hasher, &[byte]);
 }
 
-/// Takes in bytes.
+/// Hashes bytes.
 fn hash_bytes(hasher: &mut Sha256, bytes: &[u8])
     ensures { Took hasher.old hasher.new bytes.now }
 {

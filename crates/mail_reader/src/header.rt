@@ -1,4 +1,4 @@
-//! The fields of a text, as an iterator that lends them.
+//! The fields of a text, as an iterator that borrows them.
 ghost use Rattle.std.specs.Prelude.{◌≡◌, ◌<◌, ◌≤◌, MatchOption, length, ◌++◌, ◌∷◌, [], take, drop};
 ghost use Rattle.std.specs.List.{prefix_len};
 ghost use Rattle.mail_reader.specs.Lines.{lines_of, is_name_byte};
@@ -9,24 +9,24 @@ use crate::lines::{is_continuation, is_field_line, name_len};
 use memchr::memchr;
 use std::marker::Model;
 
-/// A field of a header (RFC 5322, section 2.2), lent from the text that it stands in.
+/// A field of a header (RFC 5322, section 2.2), borrowed from its text.
 #[derive(Debug, Clone, Copy, Drop)]
 pub struct Field<'a> {
     /// The bytes before its colon.
     pub name: &'a [u8],
-    /// The bytes after its colon, folds with them, without the last line feed.
+    /// The bytes after its colon, including folds, without the last line feed.
     pub value: &'a [u8],
-    /// All its bytes, with its continuation lines.
+    /// All its bytes, including its continuation lines.
     pub whole: &'a [u8],
 }
 
-/// The fields of a text, first to last.
+/// The fields of a text, from first to last.
 #[derive(Debug, Drop)]
 pub struct Fields<'a> {
     rest: &'a [u8],
 }
 
-// A clause sees the fields that are left.
+// A clause sees the remaining fields.
 impl<'a> Model for Fields<'a> {
     ghost use Rattle.std.specs.Prelude.{List};
     ghost use Rattle.mail_reader.specs.Fields.{FieldText, fields_of};
@@ -37,7 +37,7 @@ impl<'a> Model for Fields<'a> {
 }
 
 impl<'a> Fields<'a> {
-    /// The fields of a text's header.
+    /// Returns the fields of a text's header.
     pub(crate) fn of(text: &'a [u8]) -> Fields<'a>
         ensures value { result ≡ fields_of text.now }
         ensures len { length result ≤ length text.now }
@@ -64,7 +64,7 @@ impl<'a> Iterator for Fields<'a> {
     }
 }
 
-/// The length of the field at the front of a text.
+/// Returns the length of the field at the front of a text.
 pub(crate) fn field_len(text: &[u8]) -> Option<usize>
     ensures { MatchOption result (HasNoField text.now) (λ len. IsFirstField text.now len) }
 {
@@ -78,7 +78,7 @@ pub(crate) fn field_len(text: &[u8]) -> Option<usize>
     Some(first + continuation_len(&text[first..]))
 }
 
-/// The length of the first line of a text that isn't empty, its line feed with it.
+/// Returns the length of the first line of a text that isn't empty, including its line feed.
 fn line_len(text: &[u8]) -> usize
     requires { 0 < length text.now }
     ensures some { 0 < result }
@@ -91,7 +91,7 @@ fn line_len(text: &[u8]) -> usize
     }
 }
 
-/// The length of the continuation lines at the front of bytes.
+/// Returns the length of the continuation lines at the front.
 fn continuation_len(bytes: &[u8]) -> usize
     ensures { Continues bytes.now result }
 {
@@ -107,7 +107,7 @@ fn continuation_len(bytes: &[u8]) -> usize
     len
 }
 
-/// The field that bytes are.
+/// Returns the field that consists of these bytes.
 fn split_field(whole: &[u8]) -> Field<'_>
     requires { prefix_len is_name_byte whole.now < length whole.now }
     ensures { shown result ≡ field_of whole.now }
@@ -120,7 +120,7 @@ fn split_field(whole: &[u8]) -> Field<'_>
     }
 }
 
-/// Bytes without the line feed at their end.
+/// Returns the bytes without the line feed at their end.
 fn without_feed(bytes: &[u8]) -> &[u8]
     ensures { result.now ≡ without_feed bytes.now }
 {

@@ -1,17 +1,17 @@
-//! The ids in a value.
+//! The ids in a value, as an iterator that borrows them.
 ghost use Rattle.std.specs.Prelude.{◌≡◌, ◌≤◌, [], length, MatchOption};
 ghost use Rattle.mail_reader.specs.Ids.{ids_of, id_len, is_id_byte, ClosesId, OpensId, SplitsId};
 
 use memchr::memchr;
 use std::marker::Model;
 
-/// The ids of a value (RFC 5322, section 3.6.4) with their brackets, from left to right.
+/// The ids of a value (RFC 5322, section 3.6.4) in their brackets, from left to right.
 #[derive(Debug, Drop)]
 pub struct Ids<'a> {
     rest: &'a [u8],
 }
 
-// A clause sees the ids that are left.
+// A clause sees the remaining ids.
 impl<'a> Model for Ids<'a> {
     ghost use Rattle.std.specs.Prelude.{List, ℕ};
     ghost use Rattle.mail_reader.specs.Ids.{ids_of};
@@ -22,7 +22,8 @@ impl<'a> Model for Ids<'a> {
 }
 
 impl<'a> Ids<'a> {
-    /// The ids of a value: its pieces of 1 to 248 printable bytes other than brackets, between brackets.
+    /// Returns the ids of a value: its parts of 1 to 248 printable bytes other than brackets,
+    /// between brackets.
     pub fn of(value: &'a [u8]) -> Ids<'a>
         ensures value { result ≡ ids_of value.now }
         ensures len { length result ≤ length value.now }
@@ -47,7 +48,7 @@ impl<'a> Iterator for Ids<'a> {
     }
 }
 
-/// The first id of a value, and the bytes that have the others.
+/// Returns the first id of a value, and the bytes with the other ids.
 fn split_id(value: &[u8]) -> (Option<&[u8]>, &[u8])
     ensures { SplitsId value.now result }
 {
@@ -62,7 +63,7 @@ fn split_id(value: &[u8]) -> (Option<&[u8]>, &[u8])
     (None, &[])
 }
 
-/// The bytes from the first opening bracket on.
+/// Returns the bytes from the first opening bracket on.
 fn from_bracket(value: &[u8]) -> Option<&[u8]>
     ensures { MatchOption result (ids_of value.now ≡ []) (λ piece. OpensId value.now piece.now) }
 {
@@ -72,7 +73,7 @@ fn from_bracket(value: &[u8]) -> Option<&[u8]>
     }
 }
 
-/// The length of an id that is closed behind its bytes.
+/// Returns the length of an id if a closing bracket follows its bytes.
 fn closing_len(inside: &[u8]) -> Option<usize>
     ensures { ClosesId inside.now result }
 {
@@ -87,14 +88,14 @@ fn closing_len(inside: &[u8]) -> Option<usize>
 /// The greatest length of an id without its brackets, in bytes.
 const MAX_ID_LEN: usize = 248;
 
-/// How many bytes of an id bytes begin with.
+/// Returns the number of bytes of an id at the front.
 fn id_len(bytes: &[u8]) -> usize
     ensures { result ≡ id_len bytes.now }
 {
     bytes.iter().take_while(|byte| is_id_byte(**byte)).count()
 }
 
-/// Whether a byte may stand in an id between its brackets.
+/// Returns whether an id may have a byte between its brackets.
 fn is_id_byte(byte: u8) -> bool
     ensures { result ≡ is_id_byte byte }
 {

@@ -1,4 +1,5 @@
-//! What a message of mail says of itself: its storage form, fields, body and ids. Lines, fields and folding are those of RFC 5322.
+//! Reads messages of mail: their storage form, fields, body, ids and references. Lines, fields and
+//! folding are those of RFC 5322.
 #![tactic(auto)]
 
 mod checking;

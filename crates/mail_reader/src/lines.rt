@@ -1,4 +1,4 @@
-//! The lines of a text.
+//! Reads the lines of a text.
 ghost use Rattle.std.specs.Prelude.{◌≡◌, ◌<◌, ◌++◌, ◌∷◌, [], length};
 ghost use Rattle.std.specs.List.{prefix_len};
 ghost use Rattle.mail_reader.specs.Lines.{is_name_byte, is_field_line, is_continuation};
@@ -13,7 +13,7 @@ pub struct Line<'a> {
     pub rest: &'a [u8],
 }
 
-/// The first line of bytes that aren't empty.
+/// Returns the first line of bytes that aren't empty.
 pub fn first_line(bytes: &[u8]) -> Line<'_>
     requires { 0 < length bytes.now }
     ensures lines { clean_lines bytes.now ≡ (result.content.now ++ 10 ∷ []) ∷ clean_lines result.rest.now }
@@ -31,7 +31,7 @@ pub fn first_line(bytes: &[u8]) -> Line<'_>
     }
 }
 
-/// A line without the carriage returns at its end.
+/// Returns a line without the carriage returns at its end.
 fn without_returns(line: &[u8]) -> &[u8]
     ensures { result.now ≡ content_of line.now }
 {
@@ -42,21 +42,21 @@ fn without_returns(line: &[u8]) -> &[u8]
     content
 }
 
-/// How many bytes of a name a line begins with.
+/// Returns the number of bytes of a field's name at the front of a line.
 pub fn name_len(line: &[u8]) -> usize
     ensures { result ≡ prefix_len is_name_byte line.now }
 {
     line.iter().take_while(|byte| is_name_byte(**byte)).count()
 }
 
-/// Whether a byte may stand in a field's name.
+/// Returns whether a field's name may have a byte.
 fn is_name_byte(byte: u8) -> bool
     ensures { result ≡ is_name_byte byte }
 {
     byte.is_ascii_graphic() && byte != b':'
 }
 
-/// Whether a line begins a field. It is all the same whether the line feed is with it.
+/// Returns whether a line starts a field, with or without its line feed.
 pub fn is_field_line(content: &[u8]) -> bool
     ensures value { result ≡ is_field_line content.now }
     ensures ended { result ≡ is_field_line (content.now ++ 10 ∷ []) }
@@ -65,7 +65,7 @@ pub fn is_field_line(content: &[u8]) -> bool
     len > 0 && len < content.len() && content[len] == b':'
 }
 
-/// Whether a line goes on with a field. It is all the same whether the line feed is with it.
+/// Returns whether a line continues a field, with or without its line feed.
 pub fn is_continuation(content: &[u8]) -> bool
     ensures value { result ≡ is_continuation content.now }
     ensures ended { result ≡ is_continuation (content.now ++ 10 ∷ []) }

@@ -1,4 +1,4 @@
-//! What is read of a text: its fields, its body and its own id.
+//! Reads the fields, the body and the own id of a text.
 ghost use Rattle.std.specs.Prelude.{◌≡◌, ◌≤◌, length, option_copied};
 ghost use Rattle.std.specs.Str.{str_eq_ignore_ascii_case};
 ghost use Rattle.mail_reader.specs.Fields.{fields_of};
@@ -9,8 +9,10 @@ ghost use Rattle.mail_reader.specs.Ids.{own_id};
 use crate::header::{Fields, field_len};
 use crate::ids::Ids;
 
-/// The fields of a text's header, first to last. The header is the longest run of field lines and continuation lines
-/// from the start, of which the first is a field line (RFC 5322, section 2.2).
+/// Returns the fields of a text's header, from first to last.
+///
+/// The header is the longest run of field lines and continuation lines from the start whose first
+/// line is a field line (RFC 5322, section 2.2).
 pub fn fields(text: &[u8]) -> Fields<'_>
     ensures value { result ≡ fields_of text.now }
     ensures len { length result ≤ length text.now }
@@ -18,7 +20,8 @@ pub fn fields(text: &[u8]) -> Fields<'_>
     Fields::of(text)
 }
 
-/// The body of a text: what follows the header, without the empty line behind it (RFC 5322, section 2.3).
+/// Returns the body of a text: the bytes after the header and after the empty line that follows it
+/// (RFC 5322, section 2.3).
 pub fn body(text: &[u8]) -> &[u8]
     ensures { result.now ≡ body_of text.now }
 {
@@ -28,7 +31,7 @@ pub fn body(text: &[u8]) -> &[u8]
     }
 }
 
-/// What follows the header of a text.
+/// Returns the rest of a text after its header.
 fn after_header(text: &[u8]) -> &[u8]
     ensures { lines_of result.now ≡ after_header (lines_of text.now) }
 {
@@ -39,8 +42,10 @@ fn after_header(text: &[u8]) -> &[u8]
     rest
 }
 
-/// The own id of a text: the first id of its first Message-ID (RFC 5322, section 3.6.4), with its brackets. None where
-/// it has no such field, or the first has no id.
+/// Returns the own id of a text: the first id of its first Message-ID field (RFC 5322, section
+/// 3.6.4), in its brackets.
+///
+/// `None` if the text has no such field, or the first one has no id.
 pub fn own_id(text: &[u8]) -> Option<&[u8]>
     ensures { option_copied result ≡ own_id text.now }
 {
@@ -52,7 +57,7 @@ pub fn own_id(text: &[u8]) -> Option<&[u8]>
     None
 }
 
-/// Whether two names are the same but for the case of letters.
+/// Returns whether two names are equal, ignoring case.
 pub(crate) fn is_same_name(name: &[u8], other: &[u8]) -> bool
     ensures { result ≡ str_eq_ignore_ascii_case name.now other.now }
 {

@@ -1,4 +1,4 @@
-//! The messages that a message answers.
+//! Finds the messages that a message answers.
 ghost use Rattle.std.specs.Prelude.{◌≡◌, [], IfOk, OnOk};
 ghost use Rattle.std.specs.List.{fold};
 ghost use Rattle.mail_reader.specs.Fields.{fields_of};
@@ -13,11 +13,13 @@ use std::alloc::Global;
 use std::collections::BTreeSet;
 use std::marker::Model;
 
-/// How many references count.
+/// The greatest number of references that are returned.
 const MAX_REFS: usize = 200;
 
-/// The ids of the messages that a message answers (RFC 5322, section 3.6.4): those of every References field, then of
-/// every In-Reply-To field, of equal ones the first, and of these the last 200. NoMemory comes only for want of memory.
+/// Returns the ids of the messages that a message answers (RFC 5322, section 3.6.4).
+///
+/// These are the ids of every References field, then of every In-Reply-To field. Of equal ids only
+/// the first counts, and of these the last 200 are returned. The only error is `NoMemory`.
 pub fn refs_of(alloc: Global, text: &[u8]) -> Result<Texts, NoMemory>
     ensures { IfOk result (λ refs. refs ≡ refs_of text.now) }
 {
@@ -27,7 +29,7 @@ pub fn refs_of(alloc: Global, text: &[u8]) -> Result<Texts, NoMemory>
     found.last(alloc, MAX_REFS)
 }
 
-/// Puts the ids of the fields of a name behind the others.
+/// Appends the ids of the fields with a name.
 fn push_named<'a>(found: &mut Distinct<'a>, text: &'a [u8], name: &[u8]) -> Result<(), NoMemory>
     ensures { OnOk result (found.new ≡ fold put_new found.old (ids_in name.now (fields_of text.now))) }
 {
@@ -39,7 +41,7 @@ fn push_named<'a>(found: &mut Distinct<'a>, text: &'a [u8], name: &[u8]) -> Resu
     Ok(())
 }
 
-/// Puts the ids of a value behind the others.
+/// Appends the ids of a value.
 fn push_ids<'a>(found: &mut Distinct<'a>, value: &'a [u8]) -> Result<(), NoMemory>
     ensures { OnOk result (found.new ≡ fold put_new found.old (ids_of value.now)) }
 {
@@ -49,14 +51,14 @@ fn push_ids<'a>(found: &mut Distinct<'a>, value: &'a [u8]) -> Result<(), NoMemor
     Ok(())
 }
 
-/// Ids, of equal ones the first.
+/// Different ids, in the order in which each came first.
 #[derive(Drop)]
 struct Distinct<'a> {
     ids: Vec<&'a [u8]>,
     seen: BTreeSet<&'a [u8]>,
 }
 
-// A clause sees the ids in order. The set has the same.
+// A clause sees the ids in order. The set has the same ids.
 impl<'a> Model for Distinct<'a> {
     ghost use Rattle.std.specs.Prelude.{List, ℕ};
     ghost use Rattle.mail_reader.specs.References.{shown_all, HasSeen};
@@ -69,7 +71,7 @@ impl<'a> Model for Distinct<'a> {
 }
 
 impl<'a> Distinct<'a> {
-    /// No ids.
+    /// Returns an empty list of ids.
     fn new(alloc: Global) -> Self
         ensures { result ≡ [] }
     {
@@ -79,14 +81,14 @@ impl<'a> Distinct<'a> {
         }
     }
 
-    /// The last ids, at most so many.
+    /// Returns the last `n` ids, or all if there are fewer.
     fn last(&self, alloc: Global, n: usize) -> Result<Texts, NoMemory>
         ensures { IfOk result (λ ids. ids ≡ last n self.now) }
     {
         copy_all(alloc, &self.ids[self.ids.len().saturating_sub(n)..])
     }
 
-    /// Puts an id behind the others, unless it is there.
+    /// Appends an id, unless it is there already.
     fn push(&mut self, id: &'a [u8]) -> Result<(), NoMemory>
         ensures { OnOk result (self.new ≡ put_new self.old id.now) }
     {
@@ -101,7 +103,7 @@ impl<'a> Distinct<'a> {
     }
 }
 
-/// The texts that slices have.
+/// Copies the texts of slices.
 fn copy_all(alloc: Global, slices: &[&[u8]]) -> Result<Texts, NoMemory>
     ensures { IfOk result (λ texts. texts ≡ shown_all slices.now) }
 {
@@ -112,7 +114,7 @@ fn copy_all(alloc: Global, slices: &[&[u8]]) -> Result<Texts, NoMemory>
     Ok(texts)
 }
 
-/// The text that a slice has.
+/// Copies the text of a slice.
 fn copied(alloc: Global, slice: &[u8]) -> Result<Bytes, NoMemory>
     ensures { IfOk result (λ text. text ≡ slice.now) }
 {

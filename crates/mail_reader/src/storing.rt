@@ -1,4 +1,4 @@
-//! The storage form: what comes from outside is kept in this form, or refused.
+//! Brings a message into storage form, the form in which it is kept, or refuses it.
 ghost use Rattle.std.specs.Prelude.{◌≡◌, ◌++◌, ◌∷◌, [], IfOk, OnOk, true};
 ghost use Rattle.std.specs.List.{concat};
 ghost use Rattle.mail_reader.specs.Lines.{is_field_line, after_header, after_empty};
@@ -11,16 +11,16 @@ use arch_base::{Bytes, NoMemory};
 use std::alloc::Global;
 use thiserror::Error;
 
-/// Why a message isn't kept.
+/// The reason why a message isn't kept.
 #[derive(Debug, Drop, PartialEq, Eq, Error)]
 pub enum StoredRefusal {
-    /// No field is left of the header.
+    /// No field of the header stays.
     #[error("no field is left")]
     NoFields,
-    /// The message has so many bytes, which are more than 8,388,608.
+    /// The message has this number of bytes, which is more than 8,388,608.
     #[error("{0} bytes are too many")]
     TooLarge(u64),
-    /// Memory was wanted, and there was none.
+    /// Out of memory.
     #[error("out of memory")]
     NoMemory,
 }
@@ -36,15 +36,17 @@ impl From<NoMemory> for StoredRefusal {
     }
 }
 
-/// The greatest length of a message that is taken, in bytes.
+/// The greatest length of a message that is accepted, in bytes.
 const MAX_LEN: usize = 8_388_608;
 
-/// The storage form of a message: every line ends with a line feed and has no carriage return before it, a mailbox's
-/// `From ` line in front is dropped, so are the fields `Bytes`, `Lines`, `Content-Length` and `Status`, and an empty
-/// line parts the header (RFC 5322, section 2.2) from the body.
+/// Returns the storage form of a message.
 ///
-/// NoFields comes where no field is left, TooLarge with the number of bytes where there are more than 8,388,608 and a
-/// field is left. NoMemory comes only for want of memory.
+/// Every line ends with a line feed, and has no carriage return before it. A mailbox's `From ` line
+/// at the front is dropped, and so are the fields `Bytes`, `Lines`, `Content-Length` and `Status`.
+/// An empty line separates the header (RFC 5322, section 2.2) from the body.
+///
+/// `NoFields` if no field stays. `TooLarge`, with the number of bytes, if a field stays and there
+/// are more than 8,388,608 bytes. `NoMemory` comes only when out of memory.
 pub fn stored(alloc: Global, bytes: &[u8]) -> Result<Bytes, StoredRefusal>
     ensures { Gives result (stored bytes.now) }
 {
@@ -61,7 +63,7 @@ pub fn stored(alloc: Global, bytes: &[u8]) -> Result<Bytes, StoredRefusal>
     Ok(text)
 }
 
-/// The bytes after the line that a mailbox has before a message.
+/// Returns the bytes after the line that a mailbox has before a message, if they start with one.
 pub(crate) fn after_mailbox_line(bytes: &[u8]) -> &[u8]
     ensures { clean_lines result.now ≡ after_mailbox_line (clean_lines bytes.now) }
 {
@@ -76,14 +78,15 @@ pub(crate) fn after_mailbox_line(bytes: &[u8]) -> &[u8]
     }
 }
 
-/// Whether a line is one that a mailbox has between messages.
+/// Returns whether a line is one that a mailbox has between messages.
 fn is_mailbox_line(content: &[u8]) -> bool
     ensures { result ≡ is_mailbox_line (content.now ++ 10 ∷ []) }
 {
     content.starts_with(b"From ")
 }
 
-/// Where a line stands in a header: nowhere yet, in a field that is kept, or in one that is dropped.
+/// Where a line of a header is: before the first field, in a field that is kept, or in one that is
+/// dropped.
 #[derive(Debug, Clone, Copy, Drop)]
 pub(crate) enum Place {
     Start,
@@ -92,7 +95,8 @@ pub(crate) enum Place {
 }
 
 impl Place {
-    /// Where a line stands after one that stands here, or None where it is behind the header.
+    /// Returns the place of the next line, after a line at this place. `None` if that line is after
+    /// the header.
     pub(crate) fn next(self, content: &[u8]) -> Option<Place>
         ensures { result ≡ next_place self (content.now ++ 10 ∷ []) }
     {
@@ -113,7 +117,7 @@ impl Place {
     }
 }
 
-/// Whether a field line begins a field that is dropped.
+/// Returns whether a field line starts a field that is dropped.
 fn is_dropped(content: &[u8]) -> bool
     requires { is_field_line content.now ≡ true }
     ensures { result ≡ is_dropped (content.now ++ 10 ∷ []) }
@@ -125,7 +129,7 @@ fn is_dropped(content: &[u8]) -> bool
         || is_same_name(name, b"Status")
 }
 
-/// Puts the fields that stay at the end of a text, and gives the bytes after the header.
+/// Appends the fields that stay to a text, and returns the bytes after the header.
 fn keep_fields<'a>(text: &mut Bytes, bytes: &'a [u8]) -> Result<&'a [u8], NoMemory>
     ensures fields { OnOk result (text.new ≡ text.old ++ concat (kept_fields (clean_lines bytes.now))) }
     ensures rest { IfOk result (λ rest. clean_lines rest.now ≡ after_header (clean_lines bytes.now)) }
@@ -146,7 +150,7 @@ fn keep_fields<'a>(text: &mut Bytes, bytes: &'a [u8]) -> Result<&'a [u8], NoMemo
     Ok(rest)
 }
 
-/// Puts a line at the end of a text.
+/// Appends a line to a text.
 fn push_line(text: &mut Bytes, content: &[u8]) -> Result<(), NoMemory>
     ensures { OnOk result (text.new ≡ text.old ++ (content.now ++ 10 ∷ [])) }
 {
@@ -154,7 +158,7 @@ fn push_line(text: &mut Bytes, content: &[u8]) -> Result<(), NoMemory>
     text.push(b'\n')
 }
 
-/// The bytes after an empty line, where one stands first.
+/// Returns the bytes after an empty line, if the first line is empty.
 pub(crate) fn after_empty_line(bytes: &[u8]) -> &[u8]
     ensures { clean_lines result.now ≡ after_empty (clean_lines bytes.now) }
 {
@@ -169,7 +173,7 @@ pub(crate) fn after_empty_line(bytes: &[u8]) -> &[u8]
     }
 }
 
-/// Puts the lines of a message at the end of a text.
+/// Appends the lines of a message to a text.
 fn push_lines(text: &mut Bytes, bytes: &[u8]) -> Result<(), NoMemory>
     ensures { OnOk result (text.new ≡ text.old ++ concat (clean_lines bytes.now)) }
 {

@@ -1,4 +1,4 @@
-//! A field's value without its folding.
+//! Unfolds the value of a field.
 ghost use Rattle.std.specs.Prelude.{◌≡◌, ◌||◌, ◌==◌, IfOk};
 ghost use Rattle.mail_reader.specs.Stored.{without_end};
 ghost use Rattle.mail_reader.specs.Values.{flat_of, space_for, unfolded, without_front};
@@ -6,8 +6,10 @@ ghost use Rattle.mail_reader.specs.Values.{flat_of, space_for, unfolded, without
 use arch_base::{Bytes, NoMemory};
 use std::alloc::{AllocError, Global};
 
-/// The flat value of a field's value: without line feeds, with a space for each tab, carriage return and NUL, and
-/// without spaces at both ends (RFC 5322, section 2.2.3). NoMemory comes only for want of memory.
+/// Returns the flat value of a field's value (RFC 5322, section 2.2.3).
+///
+/// It has no line feeds, has a space for each tab, carriage return and NUL, and has no spaces at
+/// its ends. The only error is `NoMemory`.
 pub fn flat(alloc: Global, value: &[u8]) -> Result<Bytes, NoMemory>
     ensures { IfOk result (λ made. made ≡ flat_of value.now) }
 {
@@ -15,7 +17,8 @@ pub fn flat(alloc: Global, value: &[u8]) -> Result<Bytes, NoMemory>
     Ok(Bytes::from_vec(made))
 }
 
-/// A value without its line feeds, and with spaces for what a space stands for.
+/// Returns a value without its line feeds, in which a space replaces each tab, carriage return and
+/// NUL.
 fn unfold(alloc: Global, value: &[u8]) -> Result<Vec<u8>, AllocError>
     ensures { IfOk result (λ made. made.items ≡ unfolded value.now) }
 {
@@ -26,7 +29,7 @@ fn unfold(alloc: Global, value: &[u8]) -> Result<Vec<u8>, AllocError>
         .collect(alloc)
 }
 
-/// The space that stands for a byte, or the byte.
+/// Returns a space for a tab, a carriage return and a NUL, and any other byte unchanged.
 pub(crate) fn space_for(byte: u8) -> u8
     ensures { result ≡ space_for byte }
 {
@@ -36,14 +39,14 @@ pub(crate) fn space_for(byte: u8) -> u8
     }
 }
 
-/// A value without what makes line feeds and spaces at its ends.
+/// Returns a value without the bytes at its ends that become nothing or a space.
 pub(crate) fn trim(value: &[u8]) -> &[u8]
     ensures { unfolded result.now ≡ flat_of value.now }
 {
     trim_end(trim_start(value))
 }
 
-/// A value without what makes line feeds and spaces at its front.
+/// Returns a value without the bytes at its front that become nothing or a space.
 fn trim_start(value: &[u8]) -> &[u8]
     ensures { unfolded result.now ≡ without_front (unfolded value.now) }
 {
@@ -57,7 +60,7 @@ fn trim_start(value: &[u8]) -> &[u8]
     rest
 }
 
-/// A value without what makes line feeds and spaces at its end.
+/// Returns a value without the bytes at its end that become nothing or a space.
 fn trim_end(value: &[u8]) -> &[u8]
     ensures { unfolded result.now ≡ without_end 32 (unfolded value.now) }
 {
@@ -71,7 +74,7 @@ fn trim_end(value: &[u8]) -> &[u8]
     rest
 }
 
-/// Whether a byte makes nothing or a space.
+/// Returns whether a byte becomes nothing or a space.
 fn is_blank(byte: u8) -> bool
     ensures { result ≡ (byte == 10 || space_for byte == 32) }
 {

@@ -1,11 +1,11 @@
--- The pieces of a value, one step on.
+-- The pieces of a value, one step further.
 use Rattle.std.proofs.Common.{◌≡◌, ◌<◌, ◌+◌, ◌-◌, ◌∙◌, ℕ, zero, suc, List, [], ◌∷◌, ◌++◌, length, take, drop, Some, None, refl, ap, sym, append_assoc, arith}
 use Rattle.std.proofs.Math.Seq.{take-add}
 use Rattle.std.proofs.lemmas.List.{drop-drop}
 use Rattle.mime_words.specs.declared.charset.Charset.{Charset}
 use Rattle.mime_words.specs.Words.{EncodedText, bytes_of, word_at, word_len, charset_of, plain, pieces_of_word, pieces_at, pieces_from, pieces}
 
--- what belongs to a word is passed over
+-- The bytes that belong to a word are skipped.
 pub pieces_from-drop : (bs : List ℕ) (n : ℕ) → pieces_from bs n ≡ pieces (drop n bs)
 pieces_from-drop [] zero = refl
 pieces_from-drop [] (suc n) = refl
@@ -16,12 +16,12 @@ drop-pred : (b : ℕ) (bs : List ℕ) (n : ℕ) → 0 < n → drop (n - 1) bs �
 drop-pred b bs zero h = absurd (omega arith)
 drop-pred b bs (suc n) h = let e : suc n - 1 ≡ n = omega arith in ap (λ k. drop k bs) e
 
--- no word at the front
+-- The bytes start with no word.
 pub pieces-no_word : (bytes : List ℕ) → 0 < length bytes → word_at bytes ≡ None → pieces bytes ≡ plain (take 1 bytes) ++ pieces (drop 1 bytes)
 pieces-no_word [] h e = absurd (omega arith)
 pieces-no_word (b ∷ bs) h e = ap (λ found. pieces_at found (b ∷ bs) (λ n. pieces_from bs n)) e
 
--- a word at the front
+-- The bytes start with a word.
 pub pieces-word : (bytes : List ℕ) (word : EncodedText) → 0 < length bytes → word_at bytes ≡ Some word
     → pieces bytes ≡ pieces_of_word (charset_of word.charset) word (take (word_len word) bytes) ++ pieces (drop (word_len word) bytes)
 pieces-word [] word h e = absurd (omega arith)
@@ -30,7 +30,7 @@ pieces-word (b ∷ bs) word h e =
     ap (λ found. pieces_at found (b ∷ bs) (λ n. pieces_from bs n)) e
     ∙ ap (λ ps. pieces_of_word (charset_of word.charset) word (take (word_len word) (b ∷ bs)) ++ ps) (pieces_from-drop bs (word_len word - 1) ∙ ap pieces (drop-pred b bs (word_len word) long))
 
--- a word of a charset that isn't read, and one of a charset that is
+-- A word of a charset that isn't decoded, and one of a charset that is.
 pub pieces-text_word : (bytes : List ℕ) (word : EncodedText) → 0 < length bytes → word_at bytes ≡ Some word → charset_of word.charset ≡ None
     → pieces bytes ≡ plain (take (word_len word) bytes) ++ pieces (drop (word_len word) bytes)
 pieces-text_word bytes word h e none =
@@ -46,7 +46,7 @@ plain-append : (xs ys : List ℕ) → plain (xs ++ ys) ≡ plain xs ++ plain ys
 plain-append [] ys = refl
 plain-append (x ∷ xs) ys = ap (λ ps. record { charset = None; bytes = x ∷ [] } ∷ ps) (plain-append xs ys)
 
--- text that is passed over
+-- More text is skipped.
 pub cut_more : (value : List ℕ) (n m : ℕ) → pieces value ≡ plain (take n value) ++ pieces (drop n value)
     → pieces (drop n value) ≡ plain (take m (drop n value)) ++ pieces (drop m (drop n value))
     → pieces value ≡ plain (take (n + m) value) ++ pieces (drop (n + m) value)

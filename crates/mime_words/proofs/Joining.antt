@@ -1,4 +1,4 @@
--- A text that is written piece by piece is that of the pieces joined.
+-- The text that is written piece by piece is that of the joined pieces.
 use Rattle.std.proofs.Common.{◌≡◌, ◌∙◌, ℕ, Bool, true, false, cond, List, [], ◌∷◌, ◌++◌, Option, Some, None, refl, ap, sym, append_assoc, append-nil}
 use Rattle.std.specs.List.{flat_map}
 use Rattle.std.proofs.lemmas.Str.{utf8_lossy_empty}
@@ -8,11 +8,11 @@ use Rattle.mime_words.specs.Words.{Piece, plain}
 use Rattle.mime_words.specs.Decoding.{same_charset, before, joined, read_as, text_of}
 use Rattle.mime_words.specs.Writing.{Written, empty, finished, with_held, with_piece, with_text}
 
--- a piece by its parts
+-- A piece with its parts.
 abbrev pub piece : Option Charset → List ℕ → Piece
 piece charset bytes = record { charset = charset; bytes = bytes }
 
--- what is written, and then pieces
+-- The text written so far, and then the pieces.
 abbrev pub all_text : Written → List Piece → List ℕ
 all_text w ps = w.text ++ flat_map text_of (before (piece w.charset w.held) (joined ps))
 
@@ -22,7 +22,7 @@ same-refl (Some Utf8) = refl
 same-refl (Some UsAscii) = refl
 same-refl (Some Latin1) = refl
 
--- charsets that are found to be the same
+-- Charsets that the test finds the same are the same.
 pub same-true : (a b : Option Charset) → same_charset a b ≡ true → a ≡ b
 same-true None None e = refl
 same-true None (Some b) e = cc
@@ -39,7 +39,7 @@ same-true (Some Latin1) (Some Utf8) e = cc
 same-true (Some Latin1) (Some UsAscii) e = cc
 same-true (Some Latin1) (Some Latin1) e = refl
 
--- two pieces of one charset before others, by whether the first of those has it too
+-- Two pieces of one charset before others, by whether the first of those has it too.
 before_by : (k : Option Charset) (a b : List ℕ) (q : Piece) (qs : List Piece) (t : Bool)
     → before (piece k a) (cond t (piece k (b ++ q.bytes) ∷ qs) (piece k b ∷ q ∷ qs)) ≡ cond t (piece k (a ++ b ++ q.bytes) ∷ qs) (piece k (a ++ b) ∷ q ∷ qs)
 before_by k a b q qs true = rw (same-refl k) (ap (λ bytes. piece k bytes ∷ qs) (sym (append_assoc a b q.bytes)))
@@ -49,7 +49,7 @@ before_same : (k : Option Charset) (a b : List ℕ) (ps : List Piece) → before
 before_same k a b [] = rw (same-refl k) refl
 before_same k a b (q ∷ qs) = before_by k a b q qs (same_charset k q.charset)
 
--- a piece before one of another charset
+-- A piece before one of another charset.
 other_by : (p : Piece) (k : Option Charset) (b : List ℕ) (q : Piece) (qs : List Piece) → same_charset p.charset k ≡ false → (t : Bool)
     → before p (cond t (piece k (b ++ q.bytes) ∷ qs) (piece k b ∷ q ∷ qs)) ≡ p ∷ cond t (piece k (b ++ q.bytes) ∷ qs) (piece k b ∷ q ∷ qs)
 other_by p k b q qs e true = rw e refl
@@ -60,7 +60,7 @@ before_other : (p : Piece) (k : Option Charset) (b : List ℕ) (ps : List Piece)
 before_other p k b [] e = rw e refl
 before_other p k b (q ∷ qs) e = other_by p k b q qs e (same_charset k q.charset)
 
--- one piece is written, by whether it has the charset of what waits
+-- One piece is written, by whether it has the charset of the bytes that wait.
 written_by : (w : Written) (p : Piece) (ps : List Piece) (t : Bool) → same_charset w.charset p.charset ≡ t
     → all_text (with_held (cond t w (record { text = finished w; charset = p.charset; held = [] })) p.bytes) ps ≡ all_text w (p ∷ ps)
 written_by w p ps true e =
@@ -74,7 +74,7 @@ written_by w p ps false e =
 pub all_text-with_piece : (w : Written) (p : Piece) (ps : List Piece) → all_text (with_piece w p) ps ≡ all_text w (p ∷ ps)
 all_text-with_piece w p ps = written_by w p ps (same_charset w.charset p.charset) refl
 
--- a piece that is written waits
+-- A piece that is written waits.
 charset_by : (w : Written) (p : Piece) (t : Bool) → same_charset w.charset p.charset ≡ t
     → (with_held (cond t w (record { text = finished w; charset = p.charset; held = [] })) p.bytes).charset ≡ p.charset
 charset_by w p true e = same-true w.charset p.charset e
@@ -83,7 +83,7 @@ charset_by w p false e = refl
 pub with_piece-charset : (w : Written) (p : Piece) → (with_piece w p).charset ≡ p.charset
 with_piece-charset w p = charset_by w p (same_charset w.charset p.charset) refl
 
--- text byte by byte is one piece
+-- Text, byte by byte, is one piece.
 pub joined_plain : (b : ℕ) (bs : List ℕ) (ps : List Piece) → joined (plain (b ∷ bs) ++ ps) ≡ before (piece None (b ∷ bs)) (joined ps)
 joined_plain b [] ps = refl
 joined_plain b (c ∷ cs) ps = ap (before (piece None (b ∷ []))) (joined_plain c cs ps) ∙ before_same None (b ∷ []) (c ∷ cs) (joined ps)
@@ -94,7 +94,7 @@ all_text-with_text w (b ∷ bs) ps =
     all_text-with_piece w (piece None (b ∷ bs)) ps
     ∙ ap (λ qs. w.text ++ flat_map text_of (before (piece w.charset w.held) qs)) (sym (joined_plain b bs ps))
 
--- nothing is written before the first piece
+-- Nothing is written before the first piece.
 empty_by : (q : Piece) (qs : List Piece) (t : Bool) → same_charset None q.charset ≡ t
     → flat_map text_of (cond t (piece None q.bytes ∷ qs) (piece None [] ∷ q ∷ qs)) ≡ flat_map text_of (q ∷ qs)
 empty_by q qs true e = ap (λ k. read_as k q.bytes ++ flat_map text_of qs) (same-true None q.charset e)
@@ -107,6 +107,6 @@ empty_before (q ∷ qs) = empty_by q qs (same_charset None q.charset) refl
 pub all_text-empty : (ps : List Piece) → all_text empty ps ≡ flat_map text_of (joined ps)
 all_text-empty ps = empty_before (joined ps)
 
--- no piece is left
+-- No piece is left.
 pub all_text-finished : (w : Written) → all_text w [] ≡ finished w
 all_text-finished w = ap (λ text. w.text ++ text) (append-nil (read_as w.charset w.held))

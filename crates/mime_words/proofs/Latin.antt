@@ -1,4 +1,4 @@
--- Characters of ISO-8859-1, one more.
+-- One more character of ISO-8859-1.
 use Rattle.std.proofs.Common.{◌≡◌, ◌<◌, ◌+◌, ◌∙◌, ℕ, List, ◌++◌, length, get_or, drop, ap, sym, append_assoc}
 use Rattle.std.proofs.lemmas.List.{drop_more}
 use Rattle.std.specs.Char.{encode_utf8}

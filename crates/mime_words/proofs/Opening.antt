@@ -7,7 +7,7 @@ use Rattle.mime_words.specs.declared.words.EncodedWord.{EncodedWord}
 use Rattle.mime_words.specs.Words.{EncodedText, is_charset_byte, encoding_at, closed_word, opened_word}
 use Rattle.mime_words.specs.Writing.{IsWordOf}
 
--- a word whose charset's name is so long
+-- A word whose charset's name has this length.
 abbrev pub opened_at : ℕ → List ℕ → Option EncodedText
 opened_at n inside = cond (nat_eq n 0) None (option_and_then (closed_word (take n inside) (drop (n + 3) inside)) (encoding_at (drop n inside)))
 
@@ -20,7 +20,7 @@ pub opened_at-is : (n : ℕ) (inside : List ℕ) (encoding : Encoding) → (n �
 opened_at-is n inside encoding some e =
     by_false (nat_eq n 0) _ (ne_eqb n 0 some) ∙ ap (option_and_then (closed_word (take n inside) (drop (n + 3) inside))) e
 
--- what is found behind the encoding is what is found behind `=?`
+-- The word that is found after the encoding is the word that is found after `=?`.
 pub opened : (inside charset behind rest : List ℕ) (n : ℕ) (encoding : Encoding) (found : Option EncodedWord) → n ≡ prefix_len is_charset_byte inside
     → n ≤ length inside → (n ≡ 0 → ⊥) → charset ≡ take n inside → behind ≡ drop n inside → encoding_at behind ≡ Some encoding → 3 ≤ length behind
     → rest ≡ drop 3 behind → IsWordOf (closed_word charset rest encoding) (length charset + length rest + 5) found

@@ -1,4 +1,4 @@
--- The symbols of bytes, read again.
+-- The symbols that encode bytes decode to these bytes.
 use Rattle.std.proofs.Common.{◌≡◌, ◌<◌, ◌+◌, ◌*◌, ◌/◌, ◌%◌, ◌∙◌, ℕ, suc, zero, Bool, true, false, cond, not, ◌&&◌, nat_eq, List, [], ◌∷◌, ◌++◌, replicate, length, get_or, Option, Some, None, refl, ap, arith, eqb-true}
 use Rattle.std.specs.List.{cons_option}
 use Rattle.std.proofs.lemmas.Bool.{agree_below_at}
@@ -7,12 +7,12 @@ use Rattle.base64.specs.Engines.{standard}
 use Rattle.base64.specs.GeneralPurpose.{encode_of, IsBytes}
 use Rattle.mime_words.specs.Base64.{six_bits, sextets, packed, unbase64}
 
--- a number that is found
+-- The number is found.
 abbrev is_found : Option ℕ → ℕ → Bool
 is_found None i = false
 is_found (Some v) i = nat_eq v i
 
--- the symbol at a place isn't `=`, and stands for the place
+-- The symbol at an index isn't `=`, and encodes the index.
 abbrev stands_for : List ℕ → ℕ → Bool
 stands_for t i = not (nat_eq (get_or t i 0) 61) && is_found (six_bits (get_or t i 0)) i
 
@@ -31,7 +31,7 @@ no_symbols : (k : ℕ) → sextets (replicate k 61) ≡ []
 no_symbols zero = refl
 no_symbols (suc k) = refl
 
--- so many six bits are the bytes that they were made of
+-- The groups of six bits are the bytes that they were made of.
 three : (a b c : ℕ) (later : List ℕ) → a < 256 → b < 256 → c < 256
     → packed ((a / 4) ∷ (a % 4 * 16 + b / 16) ∷ (b % 16 * 4 + c / 64) ∷ (c % 64) ∷ later) ≡ a ∷ b ∷ c ∷ packed later
 three a b c later la lb lc =
@@ -54,7 +54,7 @@ one a la =
 onto : (t : List ℕ) → Stand t → (i : ℕ) (rest later : List ℕ) → i < 64 → sextets rest ≡ later → sextets (get_or t i 0 ∷ rest) ≡ i ∷ later
 onto t h i rest later l e = symbol t h i rest l ∙ ap (λ xs. i ∷ xs) e
 
--- two, three and four symbols
+-- Two, three and four symbols.
 two_symbols : (t : List ℕ) → Stand t → (i j : ℕ) (rest later : List ℕ) → i < 64 → j < 64 → sextets rest ≡ later
     → sextets (get_or t i 0 ∷ get_or t j 0 ∷ rest) ≡ i ∷ j ∷ later
 two_symbols t h i j rest later li lj e = onto t h i (get_or t j 0 ∷ rest) (j ∷ later) li (onto t h j rest later lj e)
@@ -69,7 +69,7 @@ four_symbols : (t : List ℕ) → Stand t → (i j k l : ℕ) (rest later : List
 four_symbols t h i j k l rest later li lj lk ll e =
     onto t h i (get_or t j 0 ∷ get_or t k 0 ∷ get_or t l 0 ∷ rest) (j ∷ k ∷ l ∷ later) li (three_symbols t h j k l rest later lj lk ll e)
 
--- symbols of bytes and any padding
+-- The symbols of bytes, and any padding.
 symbols : (t : List ℕ) → Stand t → (k : ℕ) (m : List ℕ) → IsBytes m → packed (sextets (encode_symbols t m ++ replicate k 61)) ≡ m
 unfolding encode_symbols
 symbols t h k [] bytes = ap packed (no_symbols k)

@@ -20,14 +20,14 @@ no_word b bs h =
     ap (λ t. option_and_then opened_word (cond t (Some (drop 2 (b ∷ bs))) None))
     (not_both (nat_eq b 61) (nat_eq (get_or bs 0 0) 63) (λ x y. h (eqb-true b 61 x) (eqb-true (get_or bs 0 0) 63 y)))
 
--- all of it is text
+-- All of the value is text.
 pub pieces-plain : (value : List ℕ) → HasNoOpening value → pieces value ≡ plain value
 pieces-plain [] h = refl
 pieces-plain (b ∷ bs) h =
     let later : HasNoOpening bs = λ k x y. h (suc k) x (let e : suc k + 1 ≡ suc (k + 1) = omega arith in rw e y) in
     pieces-no_word (b ∷ bs) (omega arith) (no_word b bs (h 0)) ∙ ap (λ ps. piece None (b ∷ []) ∷ ps) (pieces-plain bs later)
 
--- and text alone is read as UTF-8
+-- Text alone is read as UTF-8.
 text-plain : (value : List ℕ) → flat_map text_of (joined (plain value)) ≡ utf8_lossy value
 text-plain [] = sym (utf8_lossy_empty [] refl)
 text-plain (b ∷ bs) =

@@ -1,4 +1,4 @@
--- A word is found where bytes begin with its spelling, and nowhere else.
+-- A word is found exactly if the bytes start with its form.
 use Rattle.std.proofs.Common.{◌≡◌, ◌<◌, ◌+◌, ◌∙◌, ℕ, suc, Bool, true, false, cond, ◌&&◌, nat_eq, List, [], ◌∷◌, ◌++◌, length, take, drop, get_or, Option, Some, None, option_and_then, refl, ap, sym, subst, arith, eqb-true}
 use Rattle.std.specs.List.{prefix_len, list_all}
 use Rattle.std.proofs.Math.Seq.{take-append_seam, drop-append_seam, drop-append-add}
@@ -11,7 +11,7 @@ use Rattle.mime_words.specs.Words.{EncodedText, is_charset_byte, is_text_byte, e
 use Rattle.mime_words.specs.Laws.{IsSpelled}
 use Rattle.mime_words.proofs.Opening.{opened_at, opened_at-is}
 
--- a run of bytes that pass, and one behind it that doesn't
+-- A run of bytes that pass, and one after it that doesn't.
 run_by : (t : Bool) (n m : ℕ) → t ≡ true → n ≡ m → cond t (1 + n) 0 ≡ suc m
 run_by true n m e h = omega arith
 run_by false n m e h = cc
@@ -22,7 +22,7 @@ run p (x ∷ xs) ys b all stop =
     let parts : (p x ≡ true) × (list_all p xs ≡ true) = and_parts (p x) (list_all p xs) all in
     run_by (p x) (prefix_len p (xs ++ b ∷ ys)) (length xs) parts.0 (run p xs ys b parts.1 stop)
 
--- the bytes of a run pass
+-- The bytes of a run pass.
 passes : (p : ℕ → Bool) (xs : List ℕ) → list_all p (take (prefix_len p xs) xs) ≡ true
 passes p xs =
     let n = prefix_len p xs in
@@ -30,12 +30,12 @@ passes p xs =
     let below : k < n = omega (arith, length-prefix_len p xs) in
     ap p (get_or-take n xs k d below) ∙ prefix_len_passes p xs k d below)
 
--- a word whose encoded text is so long
+-- A word whose encoded text has this length.
 abbrev closed_at : ℕ → List ℕ → List ℕ → Encoding → Option EncodedText
 closed_at n charset behind encoding =
     cond (is_closing (drop n behind)) (Some (record { charset = charset; encoding = encoding; text = take n behind })) None
 
--- what is spelled is found
+-- A word that is written is found.
 closes : (charset text behind : List ℕ) (encoding : Encoding) → list_all is_text_byte text ≡ true
     → closed_word charset (text ++ 63 ∷ 61 ∷ behind) encoding ≡ Some (record { charset = charset; encoding = encoding; text = text })
 closes charset text behind encoding all =
@@ -63,7 +63,7 @@ spelled bytes word s =
     ∙ opens word.charset (word.text ++ 63 ∷ 61 ∷ s.behind) s.letter word.encoding s.named s.name s.encoding
     ∙ closes word.charset word.text s.behind word.encoding s.text
 
--- what an answer says of the tests before it
+-- What an answer says of the tests before it.
 none-some : {Y : Type 0} {y : Y} → None ≡ Some y → ⊥
 none-some e = cc
 
@@ -79,7 +79,7 @@ if_false : {Y : Type 0} (t : Bool) (o : Option Y) (y : Y) → cond t None o ≡ 
 if_false true o y e = absurd (none-some e)
 if_false false o y e = (refl, e)
 
--- bytes that begin with two, and with three
+-- Bytes that start with two given bytes, and with three.
 two : (xs : List ℕ) (a b : ℕ) → get_or xs 0 0 ≡ suc a → get_or xs 1 0 ≡ suc b → xs ≡ suc a ∷ suc b ∷ drop 2 xs
 two [] a b x y = absurd (omega arith)
 two (c ∷ []) a b x y = absurd (omega arith)
@@ -113,7 +113,7 @@ lettered xs encoding e =
 closing : (xs : List ℕ) → is_closing xs ≡ true → xs ≡ 63 ∷ 61 ∷ drop 2 xs
 closing xs e = let ends : (get_or xs 0 0 ≡ 63) × (get_or xs 1 0 ≡ 61) = both_eq _ _ 63 61 e in two xs 62 60 ends.0 ends.1
 
--- what is found is spelled
+-- A word that is found is written there.
 found_at : (bytes inside end : List ℕ) (n m : ℕ) (encoding : Encoding) → n ≡ prefix_len is_charset_byte inside → (n ≡ 0 → ⊥)
     → end ≡ drop (n + 3) inside → m ≡ prefix_len is_text_byte end → bytes ≡ 61 ∷ 63 ∷ inside → encoding_at (drop n inside) ≡ Some encoding
     → is_closing (drop m end) ≡ true → IsSpelled bytes (record { charset = take n inside; encoding = encoding; text = take m end })

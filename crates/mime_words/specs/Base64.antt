@@ -2,7 +2,7 @@
 use Rattle.std.specs.Prelude.{◌≡◌, ◌<◌, ℕ, ◌+◌, ◌-◌, ◌*◌, ◌/◌, ◌%◌, ◌&&◌, ◌==◌, nat_le, List, [], ◌∷◌, Option, Some, None, MatchOption, if◌then◌else◌}
 use Rattle.std.specs.List.{cons_option}
 
--- the six bits that a byte of the alphabet stands for (RFC 4648, section 4, table 1)
+-- The six bits that a byte of the alphabet encodes (RFC 4648, section 4, table 1).
 abbrev pub six_bits : ℕ → Option ℕ
 six_bits b =
     if nat_le 65 b && nat_le b 90 then Some (b - 65)
@@ -11,13 +11,15 @@ six_bits b =
     else (if b == 43 then Some 62
     else (if b == 47 then Some 63 else None))))
 
--- the six bits of each byte of the alphabet before the first `=`; other bytes are passed over (RFC 2045, section 6.8)
+-- The six bits of each byte of the alphabet before the first `=`. Other bytes are skipped (RFC
+-- 2045, section 6.8).
 abbrev pub sextets : List ℕ → List ℕ
 sextets [] = []
 sextets (b ∷ bs) = if b == 61 then [] else cons_option (six_bits b) (sextets bs)
 
--- Four times six bits are three bytes. At the end three times six bits are two bytes and two are one; bits that are left over
--- are dropped, and so are six bits alone (RFC 4648, section 4).
+-- Four groups of six bits are three bytes. At the end, three groups are two bytes and two groups
+-- are one byte. The bits that are left over are dropped, and so is a single group (RFC 4648,
+-- section 4).
 abbrev pub packed : List ℕ → List ℕ
 packed [] = []
 packed (a ∷ []) = []
@@ -25,10 +27,10 @@ packed (a ∷ b ∷ []) = (4 * a + b / 16) ∷ []
 packed (a ∷ b ∷ c ∷ []) = (4 * a + b / 16) ∷ (b % 16 * 16 + c / 4) ∷ []
 packed (a ∷ b ∷ c ∷ d ∷ rest) = (4 * a + b / 16) ∷ (b % 16 * 16 + c / 4) ∷ (c % 4 * 64 + d) ∷ packed rest
 
--- the bytes that a base64 text stands for
+-- The bytes that a base64 text encodes.
 unfoldable pub unbase64 : List ℕ → List ℕ
 unbase64 text = packed (sextets text)
 
--- the first of the six bits that are left, and what is left then
+-- The first of the remaining groups of six bits is taken, if there is one, and the others remain.
 abbrev pub TakesFirst : List ℕ → List ℕ → Option ℕ → Type 0
 TakesFirst old new taken = MatchOption taken ((old ≡ []) × (new ≡ [])) (λ bits. (bits < 64) × (old ≡ bits ∷ new))

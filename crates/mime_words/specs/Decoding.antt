@@ -1,4 +1,4 @@
--- The text that a value with encoded words is (RFC 2047, sections 2 and 6).
+-- The text of a value with encoded words (RFC 2047, sections 2 and 6).
 use Rattle.std.specs.Prelude.{ℕ, Bool, true, false, ◌&&◌, ◌||◌, not, ◌==◌, List, [], ◌∷◌, ◌++◌, Option, Some, None, is_some, if◌then◌else◌}
 use Rattle.std.specs.List.{flat_map, list_all}
 use Rattle.std.specs.Str.{encode_utf8_all}
@@ -7,32 +7,36 @@ use Rattle.mime_words.specs.declared.charset.Charset.{Charset}
 use Rattle.mime_words.specs.declared.charset.Charset.TheVariants.{Utf8, UsAscii, Latin1}
 use Rattle.mime_words.specs.Words.{Piece, pieces}
 
+-- The byte is a space.
 abbrev pub is_space : ℕ → Bool
 is_space b = b == 32
 
+-- All bytes are spaces.
 abbrev pub is_blank : List ℕ → Bool
 is_blank bytes = list_all is_space bytes
 
--- a word, and text outside of words that is spaces alone
+-- The piece is an encoded word.
 abbrev pub is_word : Piece → Bool
 is_word piece = is_some piece.charset
 
+-- The piece is text outside of words, and all of it is spaces.
 abbrev pub is_gap : Piece → Bool
 is_gap piece = not (is_word piece) && is_blank piece.bytes
 
--- spaces, or none, and then a word stand at the front
+-- The pieces start with spaces, or none, and then a word.
 abbrev pub reaches_word : List Piece → Bool
 reaches_word [] = false
 reaches_word (piece ∷ later) = is_word piece || (is_gap piece && reaches_word later)
 
--- The spaces between two words are dropped (RFC 2047, section 6.2). The flag says whether a word stands before these pieces,
--- with nothing or with spaces that were dropped between.
+-- The pieces without the spaces between two words (RFC 2047, section 6.2). The flag says that a
+-- word precedes these pieces, with nothing between, or with spaces that were dropped.
 abbrev pub without_gaps : Bool → List Piece → List Piece
 without_gaps behind_word [] = []
 without_gaps behind_word (piece ∷ later) =
     if behind_word && is_gap piece && reaches_word later then without_gaps true later
     else piece ∷ without_gaps (is_word piece) later
 
+-- Both are the same charset, or both are none.
 abbrev pub same_charset : Option Charset → Option Charset → Bool
 same_charset None None = true
 same_charset None (Some b) = false
@@ -47,29 +51,32 @@ same_charset (Some Latin1) (Some Utf8) = false
 same_charset (Some Latin1) (Some UsAscii) = false
 same_charset (Some Latin1) (Some Latin1) = true
 
--- a piece before others: one with the first of them, where both have the same charset, or both have none
+-- A piece before others. It is joined with the first of them if both have the same charset, or both
+-- have none.
 abbrev pub before : Piece → List Piece → List Piece
 before piece [] = piece ∷ []
 before piece (first ∷ later) =
     if same_charset piece.charset first.charset then record { charset = piece.charset; bytes = piece.bytes ++ first.bytes } ∷ later
     else piece ∷ first ∷ later
 
--- neighbours of one charset are joined, so that a character may be cut over them
+-- Neighbours of one charset are joined, so that a character may be split between them.
 abbrev pub joined : List Piece → List Piece
 joined [] = []
 joined (piece ∷ later) = before piece (joined later)
 
--- A byte of ISO-8859-1 is the character of that number. All others are UTF-8, with U+FFFD for what is none.
+-- A byte of ISO-8859-1 is the character with that number. All other bytes are UTF-8, with U+FFFD
+-- for those that aren't.
 abbrev pub read_as : Option Charset → List ℕ → List ℕ
 read_as None bytes = utf8_lossy bytes
 read_as (Some Utf8) bytes = utf8_lossy bytes
 read_as (Some UsAscii) bytes = utf8_lossy bytes
 read_as (Some Latin1) bytes = encode_utf8_all bytes
 
+-- The text of a piece, in UTF-8.
 abbrev pub text_of : Piece → List ℕ
 text_of piece = read_as piece.charset piece.bytes
 
--- The text of a value, in UTF-8: it is cut into pieces, the spaces between two words are dropped, neighbours of one charset are
--- joined, and each is read.
+-- The text of a value, in UTF-8: the value is cut into pieces, the spaces between two words are
+-- dropped, neighbours of one charset are joined, and each piece is read.
 unfoldable pub decoded : List ℕ → List ℕ
 decoded value = flat_map text_of (joined (without_gaps false (pieces value)))

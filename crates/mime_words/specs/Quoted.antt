@@ -1,36 +1,37 @@
 -- The encoding Q (RFC 2047, section 4.2), read from any bytes.
 use Rattle.std.specs.Prelude.{ℕ, ◌+◌, ◌-◌, ◌*◌, ◌&&◌, ◌==◌, nat_le, List, [], ◌∷◌, Option, Some, None, if◌then◌else◌}
 
--- the value of a hexadecimal digit, in either case
+-- The value of a hexadecimal digit, in either case.
 abbrev pub hex_value : ℕ → Option ℕ
 hex_value c =
     if nat_le 48 c && nat_le c 57 then Some (c - 48)
     else (if nat_le 65 c && nat_le c 70 then Some (c - 55)
     else (if nat_le 97 c && nat_le c 102 then Some (c - 87) else None))
 
--- the byte that two digits spell
+-- The byte that two digits spell.
 abbrev pub spelled : Option ℕ → Option ℕ → Option ℕ
 spelled None low = None
 spelled (Some high) None = None
 spelled (Some high) (Some low) = Some (16 * high + low)
 
--- the byte that `=` and two digits stand for, where bytes begin with them
+-- The byte that `=` and two digits at the front encode, if the bytes start with them.
 abbrev pub escape : List ℕ → Option ℕ
 escape [] = None
 escape (b ∷ []) = None
 escape (b ∷ x ∷ []) = None
 escape (b ∷ x ∷ y ∷ bs) = if b == 61 then spelled (hex_value x) (hex_value y) else None
 
--- an underscore stands for a space, any other byte for itself
+-- An underscore is a space, and any other byte is itself.
 abbrev pub plain_byte : ℕ → ℕ
 plain_byte b = if b == 95 then 32 else b
 
--- what bytes give whose first byte is part of an escape, or is plain
+-- The bytes of a text whose first byte starts an escape, or is plain.
 abbrev pub escape_or_plain : Option ℕ → ℕ → List ℕ → List ℕ → List ℕ
 escape_or_plain None b behind_byte behind_escape = plain_byte b ∷ behind_byte
 escape_or_plain (Some byte) b behind_byte behind_escape = byte ∷ behind_escape
 
--- `=` and two digits are a byte, an underscore is a space, and all other bytes stay, other `=` among them
+-- `=` and two digits are a byte, an underscore is a space, and all other bytes stay, including any
+-- other `=`.
 abbrev pub unquoted : List ℕ → List ℕ
 unquoted [] = []
 unquoted (b ∷ []) = plain_byte b ∷ []

@@ -9,94 +9,98 @@ use Rattle.mime_words.specs.declared.encoding.Encoding.TheVariants.{Base64, Quot
 use Rattle.mime_words.specs.Base64.{unbase64}
 use Rattle.mime_words.specs.Quoted.{unquoted}
 
--- the charsets that are read, their names in any case
+-- The charsets that are decoded, by their names in any case.
 abbrev pub charset_of : List ℕ → Option Charset
 charset_of name =
     if str_eq_ignore_ascii_case name (codes "utf-8") then Some Utf8
     else (if str_eq_ignore_ascii_case name (codes "us-ascii") then Some UsAscii
     else (if str_eq_ignore_ascii_case name (codes "iso-8859-1") then Some Latin1 else None))
 
--- a byte of a charset's name: any but `?` and a space
+-- A byte of a charset's name: any byte but `?` and a space.
 abbrev pub is_charset_byte : ℕ → Bool
 is_charset_byte b = not (b == 63) && not (b == 32)
 
--- a byte of an encoded text: printable ASCII but a space and `?`
+-- A byte of an encoded text: printable ASCII, but no space and no `?`.
 abbrev pub is_text_byte : ℕ → Bool
 is_text_byte b = nat_le 33 b && nat_le b 126 && not (b == 63)
 
--- the encodings, by their letters
+-- The encodings, by their letters.
 abbrev pub encoding_of : ℕ → Option Encoding
 encoding_of b = if b == 66 || b == 98 then Some Base64 else (if b == 81 || b == 113 then Some Quoted else None)
 
--- an encoded word: its charset's name, its encoding and its encoded text
+-- An encoded word: the name of its charset, its encoding and its encoded text.
 pub record EncodedText : Type 0 where
   pub charset : List ℕ
   pub encoding : Encoding
   pub text : List ℕ
 
--- how long it is, with `=?`, `?`, the letter, `?` and `?=`
+-- The length of an encoded word, with `=?`, `?`, the letter, `?` and `?=`.
 abbrev pub word_len : EncodedText → ℕ
 word_len word = length word.charset + length word.text + 7
 
--- what follows `=?`
+-- The bytes after `=?` at the front.
 abbrev pub behind_opening : List ℕ → Option (List ℕ)
 behind_opening bytes = if slice_index bytes 0 == 61 && slice_index bytes 1 == 63 then Some (drop 2 bytes) else None
 
--- the encoding whose letter stands between two `?`, at the front
+-- The encoding whose letter is between two `?` at the front.
 abbrev pub encoding_at : List ℕ → Option Encoding
 encoding_at bytes = if slice_index bytes 0 == 63 && slice_index bytes 2 == 63 then encoding_of (slice_index bytes 1) else None
 
--- `?=`, at the front
+-- The bytes start with `?=`.
 abbrev pub is_closing : List ℕ → Bool
 is_closing bytes = slice_index bytes 0 == 63 && slice_index bytes 1 == 61
 
--- behind a charset's name and the encoding: the encoded text, and `?=`
+-- The encoded word, if after its charset's name and its encoding the encoded text and `?=` follow.
 abbrev pub closed_word : List ℕ → List ℕ → Encoding → Option EncodedText
 closed_word charset behind encoding =
     let n = prefix_len is_text_byte behind in
     if is_closing (drop n behind) then Some (record { charset = charset; encoding = encoding; text = take n behind }) else None
 
--- behind `=?`: one or more bytes of the charset's name, the encoding, and the rest of a word
+-- The encoded word after `=?`: one or more bytes of the charset's name, the encoding, and the rest
+-- of the word.
 abbrev pub opened_word : List ℕ → Option EncodedText
 opened_word inside =
     let n = prefix_len is_charset_byte inside in
     if n == 0 then None
     else option_and_then (closed_word (take n inside) (drop (n + 3) inside)) (encoding_at (drop n inside))
 
--- the encoded word that bytes begin with: `=?`, the charset's name, `?`, the encoding's letter, `?`, the encoded text, `?=`
+-- The encoded word at the front: `=?`, the charset's name, `?`, the encoding's letter, `?`, the
+-- encoded text, `?=`.
 abbrev pub word_at : List ℕ → Option EncodedText
 word_at bytes = option_and_then opened_word (behind_opening bytes)
 
--- the bytes of an encoded text
+-- The bytes that an encoded text encodes.
 abbrev pub bytes_of : Encoding → List ℕ → List ℕ
 bytes_of Base64 text = unbase64 text
 bytes_of Quoted text = unquoted text
 
--- A piece of a value: the bytes of a word, which are read in its charset, or bytes outside of words, which have none.
+-- A piece of a value: the bytes of a word, which are read in its charset, or bytes outside of
+-- words, which have no charset.
 pub record Piece : Type 0 where
   pub charset : Option Charset
   pub bytes : List ℕ
 
--- text outside of words, each byte by itself
+-- Text outside of words, one piece for each byte.
 abbrev pub plain : List ℕ → List Piece
 plain text = map (λ b. record { charset = None; bytes = b ∷ [] }) text
 
--- A word of a charset that is read is one piece. A word of any other charset stays as it is written.
+-- A word of a charset that is decoded is one piece. A word of any other charset stays as it is
+-- written.
 abbrev pub pieces_of_word : Option Charset → EncodedText → List ℕ → List Piece
 pieces_of_word None word written = plain written
 pieces_of_word (Some charset) word written = record { charset = Some charset; bytes = bytes_of word.encoding word.text } ∷ []
 
--- the pieces of bytes that begin with a word, or with another byte
+-- The pieces of bytes that start with a word, or with another byte.
 abbrev pub pieces_at : Option EncodedText → List ℕ → (ℕ → List Piece) → List Piece
 pieces_at None bytes behind = plain (take 1 bytes) ++ behind 0
 pieces_at (Some word) bytes behind = pieces_of_word (charset_of word.charset) word (take (word_len word) bytes) ++ behind (word_len word - 1)
 
--- the pieces of bytes, of which so many at the front belong to the word before them
+-- The pieces of bytes, of which the first `n` belong to the word before them.
 abbrev pub pieces_from : List ℕ → ℕ → List Piece
 pieces_from [] n = []
 pieces_from (b ∷ bs) zero = pieces_at (word_at (b ∷ bs)) (b ∷ bs) (λ n. pieces_from bs n)
 pieces_from (b ∷ bs) (suc n) = pieces_from bs n
 
--- The pieces of a value: words are found from left to right, and none begins within another.
+-- The pieces of a value. Words are found from left to right, and none starts within another.
 abbrev pub pieces : List ℕ → List Piece
 pieces value = pieces_from value 0

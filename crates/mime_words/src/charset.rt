@@ -1,9 +1,9 @@
-//! The charsets that are read.
+//! The charsets of encoded words that are decoded.
 ghost use Rattle.std.specs.Prelude.{◌≡◌};
 ghost use Rattle.mime_words.specs.Words.{charset_of};
 ghost use Rattle.mime_words.specs.Decoding.{same_charset};
 
-/// A charset that is read.
+/// A charset that is decoded.
 #[derive(Debug, Clone, Copy, PartialEq, Eq, Drop)]
 pub enum Charset {
     Utf8,
@@ -11,7 +11,9 @@ pub enum Charset {
     Latin1,
 }
 
-/// The charset of a name in any case, or None for one that is not read.
+/// Returns the charset with a name, in any case.
+///
+/// `None` for a charset that isn't decoded.
 pub fn charset_of(name: &[u8]) -> Option<Charset>
     ensures { result ≡ charset_of name.now }
 {
@@ -26,7 +28,7 @@ pub fn charset_of(name: &[u8]) -> Option<Charset>
     }
 }
 
-/// Whether both are the same charset, or both are none.
+/// Returns whether both are the same charset, or both are `None`.
 pub fn is_same(a: Option<Charset>, b: Option<Charset>) -> bool
     ensures { result ≡ same_charset a b }
 {

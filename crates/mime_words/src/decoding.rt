@@ -1,4 +1,4 @@
-//! The text of a value with encoded words.
+//! Decodes a value with encoded words into text.
 ghost use Rattle.std.specs.Prelude.{◌≡◌, ◌++◌, [], IfOk, OnOk, Some, string_bytes};
 ghost use Rattle.std.specs.Str.{IsUtf8, encode_utf8_all};
 ghost use Rattle.std.specs.Str.Lossy.{utf8_lossy};
@@ -14,9 +14,12 @@ use arch_base::{Bytes, NoMemory};
 use std::alloc::Global;
 use std::marker::Model;
 
-/// The text of a field's value, in UTF-8 (RFC 2047). Words of `utf-8`, `us-ascii` and `iso-8859-1` are decoded, words of any
-/// other charset stay as they are written. Spaces between two decoded words are dropped, and such neighbours of one charset
-/// are joined before their bytes are read. What is no UTF-8, in words and outside, becomes U+FFFD.
+/// Returns the text of a field's value in UTF-8 (RFC 2047).
+///
+/// Words of `utf-8`, `us-ascii` and `iso-8859-1` are decoded, and words of any other charset stay
+/// as they are written. Spaces between two decoded words are dropped. Neighbouring words of one
+/// charset are joined before their bytes are read. Bytes that aren't UTF-8, in words and outside,
+/// become U+FFFD.
 pub fn decode(alloc: Global, value: &[u8]) -> Result<Bytes, NoMemory>
     ensures value { IfOk result (λ text. text ≡ decoded value.now) }
     ensures utf8 { IfOk result (λ text. IsUtf8 text) }
@@ -25,7 +28,7 @@ pub fn decode(alloc: Global, value: &[u8]) -> Result<Bytes, NoMemory>
     Ok(Bytes::from_vec(text.into_bytes()))
 }
 
-/// The text of a field's value.
+/// Returns the text of a field's value.
 fn decode_text(alloc: Global, value: &[u8]) -> Result<String, NoMemory>
     ensures { IfOk result (λ text. string_bytes text ≡ decoded value.now) }
 {
@@ -40,7 +43,7 @@ fn decode_text(alloc: Global, value: &[u8]) -> Result<String, NoMemory>
     decoding.finish(alloc)
 }
 
-/// A text that is finished, and bytes of one charset, or of none, that wait for more of it.
+/// The finished text, and bytes of one charset, or of none, that wait for more of it.
 #[derive(Debug, Drop)]
 struct Decoding {
     text: String,
@@ -58,7 +61,7 @@ impl Model for Decoding {
 }
 
 impl Decoding {
-    /// Nothing is written.
+    /// Starts with an empty text.
     fn new(alloc: Global) -> Self
         ensures { result ≡ empty }
     {
@@ -69,7 +72,7 @@ impl Decoding {
         }
     }
 
-    /// Makes way for bytes of a charset: what waits for another one is read.
+    /// Prepares for bytes of a charset: the bytes that wait for another charset are read.
     fn turn(&mut self, alloc: Global, charset: Option<Charset>) -> Result<(), NoMemory>
         ensures { OnOk result (self.new ≡ turned self.old charset) }
     {
@@ -82,7 +85,7 @@ impl Decoding {
         Ok(())
     }
 
-    /// Puts text outside of words behind what is written.
+    /// Appends text from outside of words.
     fn push_text(&mut self, alloc: Global, text: &[u8]) -> Result<(), NoMemory>
         ensures { OnOk result (self.new ≡ with_text self.old text.now) }
     {
@@ -93,7 +96,7 @@ impl Decoding {
         self.held.push_slice(text)
     }
 
-    /// Puts the text before a word behind what is written, unless it is spaces behind another word.
+    /// Appends the text before a word, unless it is only spaces after another word.
     fn push_text_before(&mut self, alloc: Global, text: &[u8]) -> Result<(), NoMemory>
         ensures { OnOk result (self.new ≡ with_text_before self.old text.now) }
     {
@@ -103,7 +106,7 @@ impl Decoding {
         self.push_text(alloc, text)
     }
 
-    /// Puts the bytes of a word behind what is written.
+    /// Appends the bytes of a word.
     fn push_word(&mut self, alloc: Global, word: Word<'_>) -> Result<(), NoMemory>
         ensures { OnOk result (self.new ≡ with_piece self.old (piece_of word.entry)) }
     {
@@ -114,7 +117,7 @@ impl Decoding {
         }
     }
 
-    /// All the text.
+    /// Reads the bytes that still wait, and returns the whole text.
     fn finish(self, alloc: Global) -> Result<String, NoMemory>
         ensures { IfOk result (λ text. string_bytes text ≡ finished self) }
     {
@@ -128,14 +131,14 @@ impl Decoding {
     }
 }
 
-/// Whether bytes are spaces alone.
+/// Returns whether all bytes are spaces.
 fn is_blank(bytes: &[u8]) -> bool
     ensures { result ≡ is_blank bytes.now }
 {
     bytes.iter().all(|byte| *byte == b' ')
 }
 
-/// Puts the characters that bytes are at the end of a text.
+/// Appends the characters of bytes in a charset to a text.
 fn push_read(
     alloc: Global,
     text: &mut String,
@@ -150,7 +153,7 @@ fn push_read(
     }
 }
 
-/// Puts UTF-8 at the end of a text, with U+FFFD for what is none.
+/// Appends UTF-8 to a text, with U+FFFD for bytes that aren't UTF-8.
 fn push_lossy(alloc: Global, text: &mut String, bytes: &[u8]) -> Result<(), NoMemory>
     ensures { OnOk result (string_bytes text.new ≡ string_bytes text.old ++ utf8_lossy bytes.now) }
 {
@@ -159,7 +162,7 @@ fn push_lossy(alloc: Global, text: &mut String, bytes: &[u8]) -> Result<(), NoMe
     Ok(())
 }
 
-/// Puts the characters of ISO-8859-1 at the end of a text.
+/// Appends the characters of ISO-8859-1 to a text.
 fn push_latin1(text: &mut String, bytes: &[u8]) -> Result<(), NoMemory>
     ensures { OnOk result (string_bytes text.new ≡ string_bytes text.old ++ encode_utf8_all bytes.now) }
 {

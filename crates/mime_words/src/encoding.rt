@@ -1,15 +1,15 @@
-//! The encodings of words.
+//! The encodings of encoded words.
 ghost use Rattle.std.specs.Prelude.{◌≡◌};
 ghost use Rattle.mime_words.specs.Words.{encoding_of};
 
-/// How the bytes of a word are written.
+/// The encoding of a word's bytes.
 #[derive(Debug, Clone, Copy, PartialEq, Eq, Drop)]
 pub enum Encoding {
     Base64,
     Quoted,
 }
 
-/// The encoding of a letter in either case.
+/// Returns the encoding with a letter, in either case.
 pub fn encoding_of(letter: u8) -> Option<Encoding>
     ensures { result ≡ encoding_of letter }
 {

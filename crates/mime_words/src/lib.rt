@@ -1,4 +1,5 @@
-//! Encoded words in the values of header fields (RFC 2047), and base64 that may have other bytes in it (RFC 2045, section 6.8).
+//! Decodes encoded words in the values of header fields (RFC 2047), and base64 that may have other
+//! bytes in it (RFC 2045, section 6.8).
 #![tactic(auto)]
 
 mod charset;

@@ -1,11 +1,13 @@
-//! The encoding Q (RFC 2047, section 4.2).
+//! Decodes the encoding Q (RFC 2047, section 4.2).
 ghost use Rattle.std.specs.Prelude.{◌≡◌, ◌<◌, ◌∷◌, ◌++◌, OnOk, IfSome, length};
 ghost use Rattle.mime_words.specs.Quoted.{hex_value, escape, plain_byte, unquoted};
 
 use arch_base::{Bytes, NoMemory};
 
-/// Puts the bytes of a text in Q at the end of others: `=` and two hexadecimal digits are a byte, an underscore is a space, and
-/// any other byte is itself.
+/// Decodes a text in Q, and appends its bytes.
+///
+/// `=` and two hexadecimal digits are a byte, an underscore is a space, and any other byte is
+/// itself.
 pub fn push_unquoted(text: &[u8], into: &mut Bytes) -> Result<(), NoMemory>
     ensures { OnOk result (into.new ≡ into.old ++ unquoted text.now) }
 {
@@ -18,7 +20,7 @@ pub fn push_unquoted(text: &[u8], into: &mut Bytes) -> Result<(), NoMemory>
     Ok(())
 }
 
-/// The first byte that a text stands for, and the bytes behind what stands for it.
+/// Returns the first byte that a text encodes, and the rest of the text.
 fn split_byte(text: &[u8]) -> (u8, &[u8])
     requires { 0 < length text.now }
     ensures bytes { unquoted text.now ≡ result.0 ∷ unquoted result.1.now }
@@ -30,14 +32,14 @@ fn split_byte(text: &[u8]) -> (u8, &[u8])
     }
 }
 
-/// What a byte outside of an escape stands for.
+/// Returns the byte that a byte outside of an escape encodes.
 fn plain_byte(byte: u8) -> u8
     ensures { result ≡ plain_byte byte }
 {
     if byte == b'_' { b' ' } else { byte }
 }
 
-/// The byte that `=` and two digits stand for at the front of a text.
+/// Returns the byte that `=` and two digits at the front of a text encode.
 fn escape(text: &[u8]) -> Option<u8>
     ensures { result ≡ escape text.now }
 {
@@ -49,7 +51,7 @@ fn escape(text: &[u8]) -> Option<u8>
     Some(16 * high + low)
 }
 
-/// The value of a hexadecimal digit, in either case.
+/// Returns the value of a hexadecimal digit, in either case.
 fn hex_value(digit: u8) -> Option<u8>
     ensures value { result ≡ hex_value digit }
     ensures bound { IfSome result (λ value. value < 16) }

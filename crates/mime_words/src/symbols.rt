@@ -1,4 +1,4 @@
-//! Base64 that may have other bytes in it.
+//! Decodes base64 that may have other bytes in it.
 ghost use Rattle.std.specs.Prelude.{◌≡◌, ◌++◌, IfOk, OnOk, List, ℕ};
 ghost use Rattle.mime_words.specs.Base64.{six_bits, sextets, unbase64, TakesFirst};
 
@@ -6,8 +6,10 @@ use arch_base::{Bytes, NoMemory};
 use std::alloc::Global;
 use std::marker::Model;
 
-/// The bytes that a base64 text stands for (RFC 2045, section 6.8). Bytes outside of the alphabet are passed over, the first
-/// `=` ends the text, and bits that make no whole byte at its end are dropped.
+/// Returns the bytes that a base64 text encodes (RFC 2045, section 6.8).
+///
+/// Bytes outside of the alphabet are skipped, the first `=` ends the text, and bits at its end that
+/// make no whole byte are dropped.
 pub fn unbase64(alloc: Global, text: &[u8]) -> Result<Bytes, NoMemory>
     ensures { IfOk result (λ bytes. bytes ≡ unbase64 text.now) }
 {
@@ -16,7 +18,7 @@ pub fn unbase64(alloc: Global, text: &[u8]) -> Result<Bytes, NoMemory>
     Ok(bytes)
 }
 
-/// Puts the bytes of a base64 text at the end of others.
+/// Decodes a base64 text, and appends its bytes.
 #[tactic(auto, unfolding(crate::specs::Base64::unbase64))]
 pub fn push_unbase64(text: &[u8], into: &mut Bytes) -> Result<(), NoMemory>
     ensures { OnOk result (into.new ≡ into.old ++ unbase64 text.now) }
@@ -39,13 +41,13 @@ pub fn push_unbase64(text: &[u8], into: &mut Bytes) -> Result<(), NoMemory>
     Ok(())
 }
 
-/// The symbols of a base64 text that are left.
+/// The remaining symbols of a base64 text.
 #[derive(Debug, Drop)]
 struct Symbols<'a> {
     rest: &'a [u8],
 }
 
-// A clause sees the six bits of each symbol that is left.
+// A clause sees the six bits of each remaining symbol.
 impl<'a> Model for Symbols<'a> {
     ghost use Rattle.std.specs.Prelude.{List, ℕ};
     ghost use Rattle.mime_words.specs.Base64.{sextets};
@@ -56,7 +58,7 @@ impl<'a> Model for Symbols<'a> {
 }
 
 impl<'a> Symbols<'a> {
-    /// The six bits of the next symbol.
+    /// Removes the next symbol, and returns its six bits.
     fn take(&mut self) -> Option<u8>
         ensures { TakesFirst self.old self.new result }
     {
@@ -66,7 +68,7 @@ impl<'a> Symbols<'a> {
     }
 }
 
-/// The six bits of the first symbol, and the bytes behind it.
+/// Returns the six bits of the first symbol, and the bytes after it.
 fn split_symbol(text: &[u8]) -> (Option<u8>, &[u8])
     ensures { TakesFirst (sextets text.now) (sextets result.1.now) result.0 }
 {
@@ -83,7 +85,7 @@ fn split_symbol(text: &[u8]) -> (Option<u8>, &[u8])
     (None, &[])
 }
 
-/// The six bits that a byte of the alphabet stands for.
+/// Returns the six bits that a byte of the alphabet encodes.
 fn six_bits(byte: u8) -> Option<u8>
     ensures { result ≡ six_bits byte }
 {

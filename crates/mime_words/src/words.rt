@@ -1,4 +1,4 @@
-//! Encoded words at the front of a value (RFC 2047, section 2).
+//! Finds encoded words in a value (RFC 2047, section 2).
 ghost use Rattle.std.specs.Prelude.{◌≡◌, ◌≤◌, ◌<◌, ◌+◌, length, IfSome, option_copied};
 ghost use Rattle.std.specs.List.{prefix_len};
 ghost use Rattle.mime_words.specs.Words.{is_charset_byte, is_text_byte, behind_opening, encoding_at, is_closing, closed_word, opened_word, word_at};
@@ -7,7 +7,7 @@ ghost use Rattle.mime_words.specs.Writing.{IsFront, FindsWord, IsWordOf};
 use crate::charset::{Charset, charset_of};
 use crate::encoding::{Encoding, encoding_of};
 
-/// A word of a charset that is read: its charset, its encoding, and its encoded text.
+/// A word of a charset that is decoded: its charset, its encoding and its encoded text.
 #[derive(Debug, Clone, Copy, Drop)]
 pub struct Word<'a> {
     pub charset: Charset,
@@ -15,7 +15,7 @@ pub struct Word<'a> {
     pub text: &'a [u8],
 }
 
-/// The first word of a value that is read, with the text before it and the bytes behind it.
+/// The first word of a value that is decoded, with the text before it and the bytes after it.
 #[derive(Debug, Clone, Copy, Drop)]
 pub struct Found<'a> {
     pub before: &'a [u8],
@@ -23,14 +23,14 @@ pub struct Found<'a> {
     pub rest: &'a [u8],
 }
 
-/// What stands at the front of bytes: so many bytes of text, or a word that is read, of so many bytes.
+/// The front of some bytes: text of a length, or a word that is decoded, with the word's length.
 #[derive(Debug, Clone, Copy, Drop)]
 pub enum Front<'a> {
     Text(usize),
     Decoded(Word<'a>, usize),
 }
 
-/// The first word of a value that is read, or None where all of the value is text.
+/// Returns the first word of a value that is decoded, or `None` if the whole value is text.
 pub fn first_word(value: &[u8]) -> Option<Found<'_>>
     ensures { FindsWord value.now result }
 {
@@ -50,7 +50,7 @@ pub fn first_word(value: &[u8]) -> Option<Found<'_>>
     None
 }
 
-/// What stands at the front of bytes.
+/// Reads the front of some bytes.
 fn read_front(bytes: &[u8]) -> Front<'_>
     requires { 0 < length bytes.now }
     ensures { IsFront bytes.now result }
@@ -72,7 +72,7 @@ fn read_front(bytes: &[u8]) -> Front<'_>
     }
 }
 
-/// An encoded word: its charset's name, its encoding and its encoded text.
+/// An encoded word: the name of its charset, its encoding and its encoded text.
 #[derive(Debug, Clone, Copy, Drop)]
 pub struct EncodedWord<'a> {
     pub charset: &'a [u8],
@@ -80,14 +80,14 @@ pub struct EncodedWord<'a> {
     pub text: &'a [u8],
 }
 
-/// The encoded word that bytes begin with.
+/// Returns the encoded word at the front of some bytes.
 fn word_at(bytes: &[u8]) -> Option<EncodedWord<'_>>
     ensures { IsWordOf (word_at bytes.now) (length bytes.now) result }
 {
     opened_word(behind_opening(bytes)?)
 }
 
-/// The encoded word whose `=?` stands before bytes.
+/// Returns the encoded word whose `=?` is directly before these bytes.
 fn opened_word(inside: &[u8]) -> Option<EncodedWord<'_>>
     ensures { IsWordOf (opened_word inside.now) (length inside.now + 2) result }
 {
@@ -100,7 +100,8 @@ fn opened_word(inside: &[u8]) -> Option<EncodedWord<'_>>
     closed_word(charset, &behind[3..], encoding)
 }
 
-/// The encoded word of a charset's name and an encoding, with the encoded text and `?=` at the front of bytes.
+/// Returns the encoded word of a charset's name and an encoding, if the bytes start with an encoded
+/// text and `?=`.
 fn closed_word<'a>(
     charset: &'a [u8],
     behind: &'a [u8],
@@ -119,7 +120,7 @@ fn closed_word<'a>(
     })
 }
 
-/// What follows `=?`.
+/// Returns the bytes after `=?` at the front.
 fn behind_opening(bytes: &[u8]) -> Option<&[u8]>
     ensures { option_copied result ≡ behind_opening bytes.now }
 {
@@ -129,7 +130,7 @@ fn behind_opening(bytes: &[u8]) -> Option<&[u8]>
     }
 }
 
-/// The encoding whose letter stands between two `?`, at the front.
+/// Returns the encoding whose letter is between two `?` at the front.
 fn encoding_at(bytes: &[u8]) -> Option<Encoding>
     ensures value { result ≡ encoding_at bytes.now }
     ensures long { IfSome result (λ _. 3 ≤ length bytes.now) }
@@ -140,14 +141,14 @@ fn encoding_at(bytes: &[u8]) -> Option<Encoding>
     }
 }
 
-/// Whether `?=` stands at the front.
+/// Returns whether the bytes start with `?=`.
 fn is_closing(bytes: &[u8]) -> bool
     ensures { result ≡ is_closing bytes.now }
 {
     matches!(bytes, [b'?', b'=', ..])
 }
 
-/// How many bytes of a charset's name bytes begin with.
+/// Returns the length of the charset's name at the front.
 fn charset_len(bytes: &[u8]) -> usize
     ensures value { result ≡ prefix_len is_charset_byte bytes.now }
     ensures within { result ≤ length bytes.now }
@@ -158,7 +159,7 @@ fn charset_len(bytes: &[u8]) -> usize
         .count()
 }
 
-/// How many bytes of an encoded text bytes begin with.
+/// Returns the length of the encoded text at the front.
 fn text_len(bytes: &[u8]) -> usize
     ensures value { result ≡ prefix_len is_text_byte bytes.now }
     ensures within { result ≤ length bytes.now }
@@ -166,14 +167,14 @@ fn text_len(bytes: &[u8]) -> usize
     bytes.iter().take_while(|byte| is_text_byte(**byte)).count()
 }
 
-/// Whether a byte may stand in a charset's name.
+/// Returns whether a charset's name may have a byte.
 fn is_charset_byte(byte: u8) -> bool
     ensures { result ≡ is_charset_byte byte }
 {
     byte != b'?' && byte != b' '
 }
 
-/// Whether a byte may stand in an encoded text.
+/// Returns whether an encoded text may have a byte.
 fn is_text_byte(byte: u8) -> bool
     ensures { result ≡ is_text_byte byte }
 {

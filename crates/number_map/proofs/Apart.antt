@@ -1,4 +1,4 @@
--- Records of the same bytes are the same, and a map has one answer.
+-- Records with the same bytes are equal, and reading a map has one result.
 use Rattle.std.specs.Prelude.{◌≡◌, ◌+◌, ◌*◌, ◌<◌, ◌^◌, ℕ, List, [], ◌∷◌, ◌++◌, length, take, drop, zero, suc, refl}
 use Rattle.std.specs.List.{flat_map}
 use Rattle.std.proofs.Common.{◌∙◌, sym, ap, subst, inl, inr, arith, append_assoc, length-append}
@@ -12,23 +12,24 @@ use Rattle.number_map.specs.Sizes.{record_length, epoch_fits}
 use Rattle.number_map.specs.Walks.{BeginsWith, IsDamaged}
 use Rattle.number_map.specs.Laws.{RecordsDiffer, RecordsAreOne, DamageIsOne, ReadOrDamaged}
 
--- the three parts of a record, and what stands behind it
+-- The three parts of a record, followed by the rest.
 record_parts : (line : Record) (rest : List ℕ) → record_bytes line ++ rest ≡ be32 line.number ++ (be32 line.epoch ++ (line.blob.0 ++ rest))
 unfolding record_bytes
 record_parts line rest = append_assoc (be32 line.number ++ be32 line.epoch) line.blob.0 rest ∙ append_assoc (be32 line.number) (be32 line.epoch) (line.blob.0 ++ rest)
 
--- a record of three values
+-- A record of three values.
 pub record_is : (a b : Record) → a.number ≡ b.number → a.epoch ≡ b.epoch → a.blob.0 ≡ b.blob.0 → a ≡ b
 record_is a b p q r = λ i. record { number = p i; epoch = q i; blob = record { 0 = r i } }
 
--- what is the same where records in front of bytes are: all but the number, which may not fit its field
+-- What is equal if bytes that start with records are equal: all but the number, which may not fit
+-- its field.
 pub record SameFront (a b : Record) (x y : List ℕ) : Type 0 where
   pub number : a.number < 2 ^ 32 → b.number < 2 ^ 32 → a.number ≡ b.number
   pub epoch : a.epoch ≡ b.epoch
   pub blob : a.blob.0 ≡ b.blob.0
   pub rest : x ≡ y
 
--- records in front
+-- Bytes that start with records.
 pub same_front : (a b : Record) (x y : List ℕ) → length a.blob.0 ≡ 20 → length b.blob.0 ≡ 20 → a.epoch < 2 ^ 32 → b.epoch < 2 ^ 32 → record_bytes a ++ x ≡ record_bytes b ++ y → SameFront a b x y
 same_front a b x y ida idb fita fitb is =
     let left = be32 a.epoch ++ (a.blob.0 ++ x) in
@@ -44,7 +45,7 @@ same_front a b x y ida idb fita fitb is =
       rest = sym (rest_is 20 bytes a.blob.0 x ida refl) ∙ rest_is 20 bytes b.blob.0 y idb epochs.1;
     }
 
--- lists of records from one number on
+-- Lists of records from one number on.
 same_lists : (n : ℕ) (a b : List Record) → AreRecordsFrom n a → AreRecordsFrom n b → flat_map record_bytes a ≡ flat_map record_bytes b → a ≡ b
 same_lists n [] [] va vb is = refl
 same_lists n [] (y ∷ ys) va vb is =
@@ -61,21 +62,21 @@ same_lists n (x ∷ xs) (y ∷ ys) va vb is =
     let others : xs ≡ ys = same_lists (n + 1) xs ys va.1 vb.1 both.rest in
     λ i. first i ∷ others i
 
--- two lists of records of the same bytes are the same list
+-- Two lists of records with the same bytes are equal.
 pub records_differ : RecordsDiffer
 records_differ a b va vb is = same_lists 1 a b va vb is
 
--- what is read up to a number is one list
+-- The records read up to a number are one list.
 pub records_are_one : RecordsAreOne
 records_are_one count bytes a b p q = records_differ a b p.1.valid q.1.valid (sym p.1.spelled ∙ (ap (λ (n : ℕ). take (28 * n) bytes) (p.0 ∙ sym q.0) ∙ q.1.spelled))
 
--- a record of this number in front of bytes
+-- Bytes that start with a record of this number.
 record HasRecord (n : ℕ) (bytes : List ℕ) : Type 0 where
   line : Record
   valid : IsRecord n line
   is : take 28 bytes ≡ record_bytes line
 
--- one among others
+-- A record among others.
 has_record : (n : ℕ) (lines : List Record) (rest bytes : List ℕ) (m : ℕ) → AreRecordsFrom n lines → bytes ≡ flat_map record_bytes lines ++ rest → m < length lines → HasRecord (n + m) (drop (28 * m) bytes)
 has_record n [] rest bytes m valid is below = absurd (omega (arith, below))
 has_record n (x ∷ xs) rest bytes zero valid is below =
@@ -93,7 +94,7 @@ has_record n (x ∷ xs) rest bytes (suc m) valid is below =
     let number : n + 1 + m ≡ n + suc m = omega arith in
     record { line = other.line; valid = subst (λ (k : ℕ). IsRecord k other.line) number other.valid; is = ap (λ (b : List ℕ). take 28 b) further ∙ other.is }
 
--- no damage where there is a record
+-- A map isn't damaged at a record that it has.
 no_damage : (lines : List Record) (bytes : List ℕ) (count at : ℕ) → BeginsWith lines bytes → (d : IsDamaged count at bytes) → length d.before < length lines → ⊥
 no_damage lines bytes count at begins d below =
     let m = length d.before in
@@ -103,7 +104,7 @@ no_damage lines bytes count at begins d below =
     let number : 1 + m ≡ m + 1 = omega arith in
     d.none has.line (subst (λ (k : ℕ). IsRecord k has.line) number has.valid) (ap (λ (k : ℕ). take 28 (drop k bytes)) d.place ∙ has.is)
 
--- a map is damaged at one place at most
+-- A map is damaged at one offset at most.
 pub damage_is_one : DamageIsOne
 damage_is_one count bytes a b p q =
     elim (cases_lt (length p.before) (length q.before)) [
@@ -114,6 +115,6 @@ damage_is_one count bytes a b p q =
       ]
     ]
 
--- what is read up to a number isn't damaged up to it
+-- A map whose records up to a number are read isn't damaged up to that number.
 pub read_or_damaged : ReadOrDamaged
 read_or_damaged count bytes lines at p d = no_damage lines bytes count at p.1 d (omega (arith, p.0, d.fewer))

@@ -12,7 +12,7 @@ use Rattle.number_map.specs.Records.{record_bytes, HasMessage, HasNone, IsRecord
 use Rattle.number_map.specs.Sizes.{record_length, epoch_fits}
 use Rattle.number_map.proofs.Apart.{record_is, same_front}
 
--- three parts put over zeros
+-- Three parts written over zeros.
 pub spelled_is : (line : Record) (a b c zeros : List ℕ) → a ≡ be32 line.number → b ≡ be32 line.epoch → c ≡ line.blob.0 → length zeros ≡ 24 → length line.blob.0 ≡ 20 → put_mid 8 20 (put_mid 4 4 (a ++ zeros) b) c ≡ record_bytes line
 unfolding record_bytes
 spelled_is line a b c zeros isa isb isc size id =
@@ -26,37 +26,37 @@ spelled_is line a b c zeros isa isb isc size id =
     let behind : c ++ drop 20 (drop 8 mid) ≡ c = ap (λ (l : List ℕ). c ++ l) none ∙ append-nil c in
     ap (λ (l : List ℕ). take 8 mid ++ l) behind ∙ (ap (λ (l : List ℕ). l ++ c) front ∙ (λ i. isa i ++ isb i ++ isc i))
 
--- three parts, one behind the other
+-- Three parts, one after the other.
 pub parts_are : (number epoch : ℕ) (blob : Id20) (bytes : List ℕ) → be32 number ≡ take 4 bytes → be32 epoch ≡ take 4 (drop 4 bytes) → blob.0 ≡ drop 4 (drop 4 bytes) → record_bytes (record { number = number; epoch = epoch; blob = blob }) ≡ bytes
 unfolding record_bytes
 parts_are number epoch blob bytes a b c =
     let rest = drop 4 bytes in
     (λ i. a i ++ b i ++ c i) ∙ (append_assoc (take 4 bytes) (take 4 rest) (drop 4 rest) ∙ (ap (λ (l : List ℕ). take 4 bytes ++ l) (take-append-drop 4 rest) ∙ take-append-drop 4 bytes))
 
--- a record in front is whole
+-- A record at the front is whole.
 pub whole_bytes : (n : ℕ) (bytes : List ℕ) (line : Record) → IsRecord n line → take 28 bytes ≡ record_bytes line → 28 ≤ length bytes
 whole_bytes n bytes line valid is =
     let id = valid.blob in
     omega (arith, length-take 28 bytes, ap (λ (l : List ℕ). length l) is, record_length line id.len)
 
--- none in front of too few bytes
+-- Too few bytes have no record.
 pub none_short : (bytes : List ℕ) (line : Record) (n : ℕ) → length bytes < 28 → IsRecord n line → take 28 bytes ≡ record_bytes line → ⊥
 none_short bytes line n short valid is = omega (arith, short, whole_bytes n bytes line valid is)
 
--- the one that was read is the one in front
+-- The record that was read is the one at the front.
 pub read_is : (n : ℕ) (x line : Record) (bytes : List ℕ) → n < 2 ^ 32 → x.number < 2 ^ 32 → x.epoch < 2 ^ 32 → IsId x.blob → record_bytes x ≡ bytes → IsRecord n line → bytes ≡ record_bytes line → x ≡ line
 read_is n x line bytes fits number epoch id read valid is =
     let other = valid.blob in
     let both = same_front x line [] [] id.len other.len epoch (epoch_fits n line valid) (ap (λ (l : List ℕ). l ++ []) (read ∙ is)) in
     record_is x line (both.number number (subst (λ (k : ℕ). k < 2 ^ 32) (sym valid.number) fits)) both.epoch both.blob
 
--- another number stands there
+-- The record at the front has another number.
 pub none_other : (n : ℕ) (x line : Record) (bytes : List ℕ) → n < 2 ^ 32 → x.number < 2 ^ 32 → x.epoch < 2 ^ 32 → IsId x.blob → record_bytes x ≡ bytes → (x.number ≡ n → ⊥) → IsRecord n line → bytes ≡ record_bytes line → ⊥
 none_other n x line bytes fits number epoch id read apart valid is =
     let same : x ≡ line = read_is n x line bytes fits number epoch id read valid is in
     apart (ap (λ (r : Record). r.number) same ∙ valid.number)
 
--- no message and not none stands there
+-- The record at the front neither has a valid message nor lacks one.
 pub none_valid : (n : ℕ) (x line : Record) (bytes : List ℕ) → n < 2 ^ 32 → x.number < 2 ^ 32 → x.epoch < 2 ^ 32 → IsId x.blob → record_bytes x ≡ bytes → (HasMessage x ⊎ HasNone x → ⊥) → IsRecord n line → bytes ≡ record_bytes line → ⊥
 none_valid n x line bytes fits number epoch id read bad valid is =
     let same : x ≡ line = read_is n x line bytes fits number epoch id read valid is in

@@ -1,4 +1,4 @@
--- Records in front of a map, and one more.
+-- The records that a map starts with, and one more.
 use Rattle.std.specs.Prelude.{◌≡◌, ◌+◌, ◌*◌, ◌<◌, ℕ, Err, List, [], ◌∷◌, ◌++◌, length, take, drop, suc}
 use Rattle.std.specs.List.{flat_map}
 use Rattle.std.proofs.Common.{◌∙◌, sym, ap, subst, inl, inr, arith, append_assoc}
@@ -12,25 +12,25 @@ use Rattle.number_map.specs.Sizes.{records_length}
 use Rattle.number_map.specs.Walks.{BeginsWith, IsDamaged}
 use Rattle.number_map.specs.Pieces.{Stands, IsEnough, IsNext, IsLast, ReadsNext, ReadsOn}
 
--- a map that begins with records, and the rest of it
+-- A map that starts with records has a rest.
 pub stands_of : (lines : List Record) (map : List ℕ) → BeginsWith lines map → Stands lines (drop (28 * length lines) map) map
 stands_of lines map begins = record {
   valid = begins.valid;
   spelled = sym (take-append-drop (28 * length lines) map) ∙ ap (λ (l : List ℕ). l ++ drop (28 * length lines) map) begins.spelled;
 }
 
--- and the other way round
+-- A map of records and a rest starts with the records.
 pub begins_of : (lines : List Record) (rest map : List ℕ) → Stands lines rest map → BeginsWith lines map
 begins_of lines rest map stands = record { valid = stands.valid; spelled = front_is (28 * length lines) map (flat_map record_bytes lines) rest (records_length 1 lines stands.valid) stands.spelled }
 
--- a valid record behind valid ones
+-- A valid record appended to valid ones.
 valid_more : (n : ℕ) (lines : List Record) (line : Record) → AreRecordsFrom n lines → IsRecord (n + length lines) line → AreRecordsFrom n (lines ++ line ∷ [])
 valid_more n [] line valid last = let number : n + 0 ≡ n = omega arith in (subst (λ (k : ℕ). IsRecord k line) number last, tt)
 valid_more n (x ∷ xs) line valid last =
     let number : n + suc (length xs) ≡ n + 1 + length xs = omega arith in
     (valid.0, valid_more (n + 1) xs line valid.1 (subst (λ (k : ℕ). IsRecord k line) number last))
 
--- one record more
+-- One more record.
 pub one_more : (old new : List Record) (bytes behind map : List ℕ) → Stands old (bytes ++ behind) map → IsNext bytes old new → Stands new (drop 28 bytes ++ behind) map
 one_more old new bytes behind map stands next =
     let line = next.line in
@@ -45,14 +45,14 @@ one_more old new bytes behind map stands next =
     stands.spelled ∙ (ap (λ (l : List ℕ). front ++ l) piece ∙ (sym (append_assoc front (record_bytes line) rest) ∙ ap (λ (l : List ℕ). l ++ rest) more)) in
     subst (λ (l : List Record). Stands l rest map) (sym next.lines) (record { valid = valid; spelled = is })
 
--- what stands in front of a piece stands in front of the map
+-- The first bytes of a piece are those of the rest of the map.
 front_of : (bytes behind : List ℕ) → IsEnough 1 bytes behind → take 28 (bytes ++ behind) ≡ take 28 bytes
 front_of bytes behind enough = elim enough [
   | inl fits ↦ take-append-le 28 bytes behind (omega (arith, fits))
   | inr none ↦ ap (λ (l : List ℕ). take 28 (bytes ++ l)) none ∙ ap (λ (l : List ℕ). take 28 l) (append-nil bytes)
 ]
 
--- no record more
+-- No more record.
 pub none_more : (count at : ℕ) (old new : List Record) (bytes behind map : List ℕ) → length old < count → IsEnough 1 bytes behind → Stands old (bytes ++ behind) map → IsLast at bytes old new → IsDamaged count at map
 none_more count at old new bytes behind map fewer enough stands last =
     let place : drop at map ≡ bytes ++ behind =
@@ -60,11 +60,11 @@ none_more count at old new bytes behind map fewer enough stands last =
     let front : take 28 (drop at map) ≡ take 28 bytes = ap (λ (l : List ℕ). take 28 l) place ∙ front_of bytes behind enough in
     record { before = old; begins = begins_of old (bytes ++ behind) map stands; fewer = fewer; place = last.place; none = λ line valid is. last.none line valid (sym front ∙ is) }
 
--- enough for what is left
+-- The rest of a piece has room for the remaining records.
 pub enough_left : (wanted done : ℕ) (bytes rest behind : List ℕ) → done < wanted → length rest + 28 * done ≡ length bytes → IsEnough wanted bytes behind → IsEnough 1 rest behind
 enough_left wanted done bytes rest behind below left enough = elim enough [ inl fits ↦ inl (omega (arith, below, left, fits)) | inr none ↦ inr none ]
 
--- what was refused in a piece is refused of the map
+-- A piece is damaged where the map is.
 pub piece_refused : (refusal : WalkRefusal) (wanted done : ℕ) (start old new : List Record) (bytes rest map behind : List ℕ) → done < wanted → length old ≡ length start + done → length rest + 28 * done ≡ length bytes → Stands old (rest ++ behind) map
     → IsEnough wanted bytes behind → ReadsNext {T = Unit {0}} (Err refusal) rest old new → ReadsOn {T = Unit {0}} (Err refusal) (length start + wanted) map new
 piece_refused DiskFault wanted done start old new bytes rest map behind below count left stands enough next = absurd next

@@ -12,7 +12,7 @@ use Rattle.number_map.specs.Walks.{BeginsWith}
 use Rattle.number_map.specs.Pieces.{Stands, IsEnough, ReadsOn}
 use Rattle.number_map.proofs.Standing.{stands_of}
 
--- a piece that was read stands behind the records before it
+-- A piece that was read follows the records before it.
 record PieceStands (wanted : ℕ) (lines : List Record) (piece behind map : List ℕ) : Type 0 where
   stands : Stands lines (piece ++ behind) map
   enough : IsEnough wanted piece behind
@@ -30,7 +30,7 @@ piece_stands lines map before after place n wanted begins room at count is =
       enough = elim (cases_lt n (28 * wanted)) [ inl short ↦ inr (drop_all n rest (omega (arith, short, count, room, length-drop place map))) | inr fits ↦ inl (omega (arith, fits, long)) ];
     }
 
--- one piece more
+-- One more piece.
 pub piece_read : {T : Type 0} (result : Result T WalkRefusal) (content : Option Content) (file : FileName) (place n wanted : ℕ) (before after : List ℕ) (lines new : List Record) → length before ≡ 28 * wanted → place ≡ 28 * length lines
     → WhereTold (HasRead file place n before after) content
     → ((map behind : List ℕ) → Stands lines (take n after ++ behind) map → IsEnough wanted (take n after) behind → ReadsOn result (length lines + wanted) map new)

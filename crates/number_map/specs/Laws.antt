@@ -1,4 +1,4 @@
--- Records and their bytes, and the answers of a walk.
+-- Laws of records and of the results of reading a map.
 use Rattle.std.specs.Prelude.{◌≡◌, ℕ, Ok, Err, List}
 use Rattle.std.specs.List.{flat_map}
 use Rattle.disk_model.specs.declared.refusal.WalkRefusal.TheVariants.{Damaged}
@@ -6,18 +6,18 @@ use Rattle.number_map.specs.declared.line.Record.{Record}
 use Rattle.number_map.specs.Records.{record_bytes, AreRecordsFrom}
 use Rattle.number_map.specs.Walks.{Walks}
 
--- two lists of records of the same bytes are the same list
+-- Two lists of records with the same bytes are equal.
 abbrev pub RecordsDiffer : Type 0
 RecordsDiffer = (a b : List Record) → AreRecordsFrom 1 a → AreRecordsFrom 1 b → flat_map record_bytes a ≡ flat_map record_bytes b → a ≡ b
 
--- what is read up to a number is one list
+-- The records read up to a number are one list.
 abbrev pub RecordsAreOne : Type 0
 RecordsAreOne = (count : ℕ) (bytes : List ℕ) (a b : List Record) → Walks count bytes (Ok a) → Walks count bytes (Ok b) → a ≡ b
 
--- a map is damaged at one place at most
+-- A map is damaged at one offset at most.
 abbrev pub DamageIsOne : Type 0
 DamageIsOne = (count : ℕ) (bytes : List ℕ) (a b : ℕ) → Walks count bytes (Err (Damaged a)) → Walks count bytes (Err (Damaged b)) → a ≡ b
 
--- what is read up to a number isn't damaged up to it
+-- A map whose records up to a number are read isn't damaged up to that number.
 abbrev pub ReadOrDamaged : Type 0
 ReadOrDamaged = (count : ℕ) (bytes : List ℕ) (lines : List Record) (at : ℕ) → Walks count bytes (Ok lines) → Walks count bytes (Err (Damaged at)) → ⊥

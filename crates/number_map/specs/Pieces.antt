@@ -1,4 +1,4 @@
--- How a map is read piece by piece.
+-- Reading a map piece by piece.
 use Rattle.std.specs.Prelude.{◌≡◌, ◌≢◌, ◌⊎◌, ◌+◌, ◌*◌, ◌≤◌, ℕ, Result, Ok, Err, List, [], ◌∷◌, ◌++◌, length, take}
 use Rattle.std.specs.List.{flat_map}
 use Rattle.disk_model.specs.declared.refusal.WalkRefusal.{WalkRefusal}
@@ -7,36 +7,36 @@ use Rattle.number_map.specs.declared.line.Record.{Record}
 use Rattle.number_map.specs.Records.{record_bytes, IsRecord, AreRecordsFrom}
 use Rattle.number_map.specs.Walks.{IsDamaged, BeginsWith}
 
--- the record of the next number was put behind the others
+-- The record of the next number was appended to the others.
 pub record IsNext (bytes : List ℕ) (old new : List Record) : Type 0 where
   pub line : Record
   pub valid : IsRecord (length old + 1) line
   pub spelled : take 28 bytes ≡ record_bytes line
   pub lines : new ≡ old ++ line ∷ []
 
--- there is none of the next number, whose place this is
+-- There is no record of the next number, and this is its offset.
 pub record IsLast (at : ℕ) (bytes : List ℕ) (old new : List Record) : Type 0 where
   pub place : at ≡ 28 * length old
   pub none : (line : Record) → IsRecord (length old + 1) line → take 28 bytes ≢ record_bytes line
   pub lines : new ≡ old
 
--- what is read of the next number
+-- The results of reading the next number.
 abbrev pub ReadsNext : {T : Type 0} → Result T WalkRefusal → List ℕ → List Record → List Record → Type 0
 ReadsNext (Ok _) bytes old new = IsNext bytes old new
 ReadsNext (Err (Damaged at)) bytes old new = IsLast at bytes old new
 ReadsNext (Err DiskFault) bytes old new = ⊥
 ReadsNext (Err NoMemory) bytes old new = Unit {0}
 
--- A map is these records, and these bytes behind them.
+-- A map consists of these records, followed by these bytes.
 pub record Stands (lines : List Record) (rest bytes : List ℕ) : Type 0 where
   pub valid : AreRecordsFrom 1 lines
   pub spelled : bytes ≡ flat_map record_bytes lines ++ rest
 
--- so many records fill no more than these bytes, or nothing stands behind them
+-- The piece has room for this many records, or nothing follows it.
 abbrev pub IsEnough : ℕ → List ℕ → List ℕ → Type 0
 IsEnough wanted bytes behind = (28 * wanted ≤ length bytes) ⊎ (behind ≡ [])
 
--- the records up to a number are read, or there is no such one
+-- The results of reading the records up to a number.
 abbrev pub ReadsOn : {T : Type 0} → Result T WalkRefusal → ℕ → List ℕ → List Record → Type 0
 ReadsOn (Ok _) count bytes new = (length new ≡ count) × BeginsWith new bytes
 ReadsOn (Err (Damaged at)) count bytes new = IsDamaged count at bytes

@@ -4,25 +4,25 @@ use Rattle.arch_base.specs.Ids.{IsId}
 use Rattle.disk_model.specs.BigEndian.{be32}
 use Rattle.number_map.specs.declared.line.Record.{Record}
 
--- the number, the epoch, and the id of the blob: 28 bytes
+-- The number, the epoch, and the id of the blob: 28 bytes, numbers with the highest byte first.
 unfoldable pub record_bytes : Record → List ℕ
 record_bytes line = be32 line.number ++ be32 line.epoch ++ line.blob.0
 
--- the number's message stands in an epoch, one of 0 to 63
+-- The number's message is in an epoch, one of 0 to 63.
 abbrev pub HasMessage : Record → Type 0
 HasMessage line = line.epoch ≤ 63
 
--- the number has no message: no epoch, written as 4294967295, and a blob of zeros
+-- The number has no message: its epoch is 4294967295, and its blob is zeros.
 abbrev pub HasNone : Record → Type 0
 HasNone line = (line.epoch ≡ 4294967295) × (line.blob.0 ≡ replicate 20 0)
 
--- the valid records of a number, with a message or without one
+-- The valid records of a number, with a message or without one.
 pub record IsRecord (n : ℕ) (line : Record) : Type 0 where
   pub number : line.number ≡ n
   pub blob : IsId line.blob
   pub message : HasMessage line ⊎ HasNone line
 
--- valid records of the numbers from this one on, in order
+-- Valid records of the numbers from this one on, in order.
 abbrev pub AreRecordsFrom : ℕ → List Record → Type 0
 AreRecordsFrom n [] = Unit {0}
 AreRecordsFrom n (line ∷ lines) = IsRecord n line × AreRecordsFrom (n + 1) lines

@@ -1,4 +1,4 @@
--- What is read of a map.
+-- The results of reading a map.
 use Rattle.std.specs.Prelude.{◌≡◌, ◌≢◌, ◌+◌, ◌*◌, ◌<◌, ℕ, Result, Ok, Err, List, length, take, drop}
 use Rattle.std.specs.List.{flat_map}
 use Rattle.disk_model.specs.declared.refusal.WalkRefusal.{WalkRefusal}
@@ -6,13 +6,13 @@ use Rattle.disk_model.specs.declared.refusal.WalkRefusal.TheVariants.{DiskFault,
 use Rattle.number_map.specs.declared.line.Record.{Record}
 use Rattle.number_map.specs.Records.{record_bytes, IsRecord, AreRecordsFrom}
 
--- A map begins with these records, of the numbers from 1 on.
+-- A map starts with these records, of the numbers from 1 on.
 pub record BeginsWith (lines : List Record) (bytes : List ℕ) : Type 0 where
   pub valid : AreRecordsFrom 1 lines
   pub spelled : take (28 * length lines) bytes ≡ flat_map record_bytes lines
 
--- A map has no valid record of some number up to the last one asked for, and this is the place of the first such
--- number: the record isn't whole, or isn't one of that number.
+-- A map has no valid record of some number up to the last one asked for. The offset is that of the
+-- first such number, whose record isn't whole or isn't one of that number.
 pub record IsDamaged (count at : ℕ) (bytes : List ℕ) : Type 0 where
   pub before : List Record
   pub begins : BeginsWith before bytes
@@ -20,7 +20,7 @@ pub record IsDamaged (count at : ℕ) (bytes : List ℕ) : Type 0 where
   pub place : at ≡ 28 * length before
   pub none : (line : Record) → IsRecord (length before + 1) line → take 28 (drop at bytes) ≢ record_bytes line
 
--- what is read of a map of these bytes up to a number
+-- The results of reading a map with these bytes up to a number.
 abbrev pub Walks : ℕ → List ℕ → Result (List Record) WalkRefusal → Type 0
 Walks count bytes (Ok lines) = (length lines ≡ count) × BeginsWith lines bytes
 Walks count bytes (Err (Damaged at)) = IsDamaged count at bytes

@@ -1,4 +1,4 @@
-//! What the map says of a number.
+//! The record that the map has for a number.
 ghost use Rattle.std.specs.Prelude.{◌≡◌, ◌⊎◌, ◌↔◌, ◌++◌, IsTrue};
 ghost use Rattle.number_map.specs.Records.{HasMessage, HasNone};
 
@@ -7,21 +7,21 @@ use arch_base::{Duplicate, NoMemory, ObjectId, Sequence};
 /// The greatest number of an epoch.
 const LAST_EPOCH: u32 = 63;
 
-/// What stands for the epoch of a number without a message.
+/// The epoch in the record of a number without a message.
 const NO_EPOCH: u32 = 4_294_967_295;
 
-/// Where the message of a number stands.
+/// The record of a number: where its message is, if it has one.
 #[derive(Clone, Copy, Debug, PartialEq, Eq, Drop)]
 pub struct Record {
     /// The number, from 1.
     pub number: u32,
-    /// The epoch, 0 to 63, or 4,294,967,295 where the number has no message.
+    /// The epoch, 0 to 63, or 4,294,967,295 if the number has no message.
     pub epoch: u32,
-    /// The id of the message's blob, or zeros where the number has no message.
+    /// The id of the message's blob, or zeros if the number has no message.
     pub blob: ObjectId,
 }
 
-/// Records, one for each number.
+/// A list of records, one for each number.
 pub type Records = Sequence<Record>;
 
 impl Duplicate for Record {
@@ -30,7 +30,7 @@ impl Duplicate for Record {
     }
 }
 
-/// Whether a record has a message in an epoch that there may be, or none.
+/// Returns whether a record has a message in an epoch from 0 to 63, or none.
 pub fn is_valid(line: &Record) -> bool
     ensures { IsTrue result ↔ (HasMessage line.now ⊎ HasNone line.now) }
 {

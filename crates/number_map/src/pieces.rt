@@ -1,4 +1,4 @@
-//! Records that stand in a piece of a map.
+//! Reads records from a piece of a map.
 ghost use Rattle.std.specs.Prelude.{◌≡◌, ◌≢◌, ◌+◌, ◌<◌, ◌≤◌, ◌^◌, ◌++◌, Err, ℕ, List, length, OnOk};
 ghost use Rattle.number_map.specs.Pieces.{ReadsNext, Stands, IsEnough, ReadsOn};
 
@@ -6,7 +6,7 @@ use crate::line::Records;
 use crate::reading::record_in_front;
 use disk_model::WalkRefusal;
 
-/// Reads the record of the next number from the front of bytes, and puts it behind the others.
+/// Reads the record of the next number from the front of bytes, and appends it to the others.
 #[tactic(auto, using(crate::proofs::Spelled::whole_bytes))]
 fn read_next(bytes: &[u8], lines: &mut Records) -> Result<(), WalkRefusal>
     requires { length lines.old + 1 < 2 ^ 32 }
@@ -23,7 +23,9 @@ fn read_next(bytes: &[u8], lines: &mut Records) -> Result<(), WalkRefusal>
     Ok(())
 }
 
-/// Reads so many records more from a piece of a map that has them all, or that ends where the map does.
+/// Reads `wanted` more records from a piece of a map.
+///
+/// The piece has them all, or ends where the map ends.
 pub fn read_piece(bytes: &[u8], wanted: u32, lines: &mut Records) -> Result<(), WalkRefusal>
     requires { length lines.old + wanted < 2 ^ 32 }
     ensures read { (map behind : List ℕ) → Stands lines.old (bytes.now ++ behind) map → IsEnough wanted bytes.now behind → ReadsOn result (length lines.old + wanted) map lines.new }

@@ -1,4 +1,4 @@
-//! Records, read from their bytes.
+//! Reads records from their bytes.
 ghost use Rattle.std.specs.Prelude.{◌≡◌, ◌≢◌, ◌<◌, ◌^◌, length, take, IfSome, IfNone};
 ghost use Rattle.arch_base.specs.Ids.{IsId};
 ghost use Rattle.disk_model.specs.BigEndian.{be32};
@@ -8,7 +8,7 @@ ghost use Rattle.number_map.specs.Records.{record_bytes, IsRecord};
 use crate::line::{Record, is_valid};
 use arch_base::{Id20, ObjectId};
 
-/// A number of 32 bits.
+/// Reads a number of 32 bits, the highest byte first.
 fn number32(bytes: &[u8]) -> u32
     requires { length bytes.now ≡ 4 }
     ensures { be32 result ≡ bytes.now }
@@ -18,7 +18,7 @@ fn number32(bytes: &[u8]) -> u32
     u32::from_be_bytes(digits)
 }
 
-/// The id of a blob.
+/// Reads the id of a blob.
 fn blob_id(bytes: &[u8]) -> ObjectId
     requires { length bytes.now ≡ 20 }
     ensures bytes { result.0 ≡ bytes.now }
@@ -29,7 +29,7 @@ fn blob_id(bytes: &[u8]) -> ObjectId
     Id20(digits)
 }
 
-/// The record that bytes are those of, valid or not.
+/// Reads the record with these bytes, valid or not.
 fn any_record(bytes: &[u8]) -> Record
     requires { length bytes.now ≡ 28 }
     ensures bytes { record_bytes result ≡ bytes.now }
@@ -46,7 +46,7 @@ fn any_record(bytes: &[u8]) -> Record
     }
 }
 
-/// The record of a number that stands in front of bytes, where there is one.
+/// Returns the valid record of a number at the front of bytes, if there is one.
 pub fn record_in_front(bytes: &[u8], number: u32) -> Option<Record>
     ensures some { IfSome result (λ line. IsRecord number line × (take 28 bytes.now ≡ record_bytes line)) }
     ensures none { IfNone result ((line : Record) → IsRecord number line → take 28 bytes.now ≢ record_bytes line) }

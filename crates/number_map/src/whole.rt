@@ -1,4 +1,4 @@
-//! A map, read from its front to its end.
+//! Reads a map from its front.
 ghost use Rattle.std.specs.Prelude.{◌≡◌, ◌+◌, ◌*◌, ◌<◌, ◌≤◌, ◌^◌, [], Err, length, IfOk, OnOk};
 ghost use Rattle.arch_base.specs.Counts.{Rose};
 ghost use Rattle.disk_model.specs.Disk.{Image, Told, WhereTold, Unchanged, LeavesOnly, bytes_of};
@@ -11,17 +11,17 @@ use arch_base::NoMemory;
 use disk_model::{Disk, DiskFault, FileName, WalkRefusal};
 use std::alloc::Global;
 
-/// How many records are read at once.
+/// The number of records that are read at once.
 const PIECE: u32 = 2340;
 
-/// Room for a piece: 65,520 bytes, or 28 for each record.
+/// Allocates room for a piece: 65,520 bytes, 28 for each record.
 fn room(alloc: Global) -> Result<Vec<u8>, NoMemory>
     ensures { IfOk result (λ made. length made.items ≡ 28 * 2340) }
 {
     Ok(vec![in alloc; 0u8; 65_520]?)
 }
 
-/// Reads so many records more, from one piece of a map.
+/// Reads `wanted` more records, as one piece of a map.
 fn read_more<D: Disk>(
     disk: &mut D,
     file: FileName,
@@ -45,7 +45,7 @@ fn read_more<D: Disk>(
     }
 }
 
-/// Reads so many records from the front, piece by piece.
+/// Reads the first `count` records, piece by piece.
 fn read_all<D: Disk>(
     disk: &mut D,
     file: FileName,
@@ -73,9 +73,10 @@ fn read_all<D: Disk>(
     Ok(())
 }
 
-/// Reads the records of a map up to a number: one for each number from 1 on. The map is damaged at the place of the
-/// first record that isn't whole in the file, or isn't a valid one of its number. What stands behind the last one isn't
-/// looked at.
+/// Reads the first `count` records of a map, one for each number from 1 on.
+///
+/// The map is `Damaged` at the offset of the first of these records that isn't whole in the file or
+/// isn't a valid one of its number. The bytes after the last record aren't read.
 pub fn walk<D: Disk>(
     alloc: Global,
     disk: &mut D,

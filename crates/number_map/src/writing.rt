@@ -1,4 +1,4 @@
-//! One record more.
+//! Appends a record to a map.
 ghost use Rattle.std.specs.Prelude.{◌≡◌, ◌+◌, ◌<◌, ◌^◌, length, OnOk, OnErr};
 ghost use Rattle.arch_base.specs.Counts.{IsCaused};
 ghost use Rattle.disk_model.specs.Disk.{Told, WhereTold, OneFile, Wrote, Tore, IsAtMostLength, Elapses};
@@ -7,7 +7,7 @@ ghost use Rattle.number_map.specs.Records.{record_bytes};
 use crate::line::Record;
 use disk_model::{Disk, DiskFault, FileName};
 
-/// The bytes of a record.
+/// Returns the bytes of a record.
 pub fn spell(line: &Record) -> [u8; 28]
     ensures bytes { result ≡ record_bytes line.now }
     ensures size { length (record_bytes line.now) ≡ 28 }
@@ -19,9 +19,9 @@ pub fn spell(line: &Record) -> [u8; 28]
     bytes
 }
 
-/// Writes a record to a map at a place up to its end: 28 bytes, in one write. Nothing is synced. A missing file is made.
+/// Writes a record of 28 bytes to a map, in one write, at an offset of at most its length.
 ///
-/// After a failure the 28 bytes may hold anything.
+/// Creates a missing file. Syncs nothing. After a fault the 28 bytes may hold anything.
 pub fn append<D: Disk>(
     disk: &mut D,
     file: FileName,

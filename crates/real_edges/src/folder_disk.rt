@@ -4,18 +4,27 @@ ghost use Rattle.arch_base.specs.Counts.{Rose};
 ghost use Rattle.disk_model.specs.Laws.{untold_fits};
 ghost use Rattle.real_edges.specs.Counted.{Counted};
 
+use crate::cause::Failure;
 use crate::folder::Folder;
 use arch_base::NoMemory;
 use disk_model::{Disk, DiskFault, FileName};
 use std::alloc::Global;
 use std::marker::Model;
+use std::time::Duration;
 
-/// A disk over a folder of the system, which doesn't tell what it holds.
+/// How many seconds another run that uses the folder is waited for.
+const WAIT_SECONDS: u64 = 10;
+
+/// A disk over a folder of the system, which doesn't tell what it holds. The first call that needs the folder takes its
+/// lock, and holds it as long as this disk is there: so another run can't use it. Where another one does, the lock is asked
+/// for again for ten seconds, and then the call is a fault that changed nothing.
 #[derive(Drop)]
 pub struct FolderDisk {
     folder: Folder,
     faults: u64,
     reads: u64,
+    // Why the first call that failed did so.
+    cause: Option<Failure>,
 }
 
 // A clause sees the two counts.
@@ -32,20 +41,43 @@ impl FolderDisk {
     pub fn open(rt: &HostRuntime, alloc: Global, path: &str) -> Result<FolderDisk, NoMemory>
         ensures { IfOk result (λ disk. disk ≡ record { faults = 0; reads = 0 }) }
     {
-        let folder = Folder::new(rt, alloc, path)?;
+        FolderDisk::open_within(rt, alloc, path, Duration::from_secs(WAIT_SECONDS))
+    }
+
+    /// The disk over the folder of this path, which waits so long at most for another run.
+    pub(crate) fn open_within(
+        rt: &HostRuntime,
+        alloc: Global,
+        path: &str,
+        wait: Duration,
+    ) -> Result<FolderDisk, NoMemory>
+        ensures { IfOk result (λ disk. disk ≡ record { faults = 0; reads = 0 }) }
+    {
+        let folder = Folder::new(rt, alloc, path, wait)?;
         Ok(FolderDisk {
             folder,
             faults: 0,
             reads: 0,
+            cause: None,
         })
     }
 
-    /// Counts a fault.
-    fn fault(&mut self) -> DiskFault
+    /// Returns why the first call that failed did so, or None where none has: a path and the system's words, as
+    /// `piv2-store/root: Permission denied`.
+    pub fn cause(&self) -> Result<Option<String>, NoMemory> {
+        match &self.cause {
+            Some(failure) => Ok(Some(self.folder.words(failure)?)),
+            None => Ok(None),
+        }
+    }
+
+    /// Counts a fault, and keeps why it came if it is the first one.
+    fn fault(&mut self, failure: Failure) -> DiskFault
         ensures rose { Rose self.old.faults self.new.faults }
         ensures later { self.old.faults ≤ self.new.faults }
         ensures reads { self.new.reads ≡ self.old.reads }
     {
+        self.cause = self.cause.or(Some(failure));
         self.faults = self.faults.saturating_add(1);
         DiskFault
     }
@@ -70,53 +102,53 @@ impl Disk for FolderDisk {
 
     ghost reads_fit = { λ d k is name. untold_fits k is name };
 
-    fn read(&mut self, name: FileName, place: u64, into: &mut [u8]) -> Result<usize, DiskFault> {
+    fn read(&mut self, name: FileName, offset: u64, into: &mut [u8]) -> Result<usize, DiskFault> {
         self.reads = self.reads.saturating_add(1);
-        match self.folder.read(name, place, into) {
+        match self.folder.read(name, offset, into) {
             Ok(count) => Ok(count),
-            Err(_) => Err(self.fault()),
+            Err(failure) => Err(self.fault(failure)),
         }
     }
 
     fn length(&mut self, name: FileName) -> Result<u64, DiskFault> {
         match self.folder.length(name) {
             Ok(length) => Ok(length),
-            Err(_) => Err(self.fault()),
+            Err(failure) => Err(self.fault(failure)),
         }
     }
 
-    fn write_at(&mut self, name: FileName, place: u64, bytes: &[u8]) -> Result<(), DiskFault> {
-        match self.folder.write(name, place, bytes) {
+    fn write_at(&mut self, name: FileName, offset: u64, bytes: &[u8]) -> Result<(), DiskFault> {
+        match self.folder.write(name, offset, bytes) {
             Ok(()) => Ok(()),
-            Err(_) => Err(self.fault()),
+            Err(failure) => Err(self.fault(failure)),
         }
     }
 
     fn cut(&mut self, name: FileName, length: u64) -> Result<(), DiskFault> {
         match self.folder.cut(name, length) {
             Ok(()) => Ok(()),
-            Err(_) => Err(self.fault()),
+            Err(failure) => Err(self.fault(failure)),
         }
     }
 
     fn remove(&mut self, name: FileName) -> Result<(), DiskFault> {
         match self.folder.remove(name) {
             Ok(()) => Ok(()),
-            Err(_) => Err(self.fault()),
+            Err(failure) => Err(self.fault(failure)),
         }
     }
 
     fn name_at(&mut self, index: u64) -> Result<Option<FileName>, DiskFault> {
         match self.folder.name_at(index) {
             Ok(name) => Ok(name),
-            Err(_) => Err(self.fault()),
+            Err(failure) => Err(self.fault(failure)),
         }
     }
 
     fn sync(&mut self) -> Result<(), DiskFault> {
         match self.folder.sync() {
             Ok(()) => Ok(()),
-            Err(_) => Err(self.fault()),
+            Err(failure) => Err(self.fault(failure)),
         }
     }
 }

@@ -2,8 +2,12 @@
 //! isn't known to any contract; their failures are counted.
 #![tactic(auto)]
 
+mod cause;
 mod folder;
 mod folder_disk;
+mod folder_lock;
+mod held_folder;
+mod mark;
 mod names;
 mod open_file;
 mod std_sink;

@@ -1,10 +1,11 @@
 //! The standard output.
 ghost use Rattle.std.specs.Prelude.{◌≡◌, None, IfOk};
 
+use crate::cause::system_words;
 use arch_base::NoMemory;
 use edge_io::{Sink, SinkFault};
 use std::alloc::Global;
-use std::io::Print;
+use std::io::{self, Print};
 use std::marker::Model;
 
 /// The standard output, which doesn't tell what it took.
@@ -12,6 +13,8 @@ use std::marker::Model;
 pub struct StdSink<P> {
     printer: P,
     faults: u64,
+    // Why the first write that failed did so.
+    cause: Option<io::Error>,
 }
 
 // A clause sees how many writes failed.
@@ -31,7 +34,18 @@ impl<P: Print> StdSink<P> {
         Ok(StdSink {
             printer: rt,
             faults: 0,
+            cause: None,
         })
+    }
+}
+
+impl<P> StdSink<P> {
+    /// Returns why the first write that failed did so, in the system's words, or None where none has.
+    pub fn cause(&self, alloc: Global) -> Result<Option<String>, NoMemory> {
+        match &self.cause {
+            Some(error) => Ok(Some(system_words(alloc, error)?)),
+            None => Ok(None),
+        }
     }
 }
 
@@ -47,7 +61,8 @@ impl<P: Print> Sink for StdSink<P> {
     fn write(&mut self, bytes: &[u8]) -> Result<(), SinkFault> {
         match self.printer.write_all(bytes) {
             Ok(()) => Ok(()),
-            Err(_) => {
+            Err(refused) => {
+                self.cause = self.cause.or(Some(refused));
                 self.faults = self.faults.saturating_add(1);
                 Err(SinkFault)
             }

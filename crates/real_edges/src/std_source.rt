@@ -1,10 +1,11 @@
 //! The standard input.
 ghost use Rattle.std.specs.Prelude.{◌≡◌, None, IfOk};
 
+use crate::cause::system_words;
 use arch_base::NoMemory;
 use edge_io::{Source, SourceFault};
 use std::alloc::Global;
-use std::io::{Input, Read, StdinLock};
+use std::io::{self, Input, Read, StdinLock};
 use std::marker::Model;
 
 /// The standard input, which doesn't tell what it has left.
@@ -12,6 +13,8 @@ use std::marker::Model;
 pub struct StdSource<R = StdinLock<'static>> {
     reader: R,
     faults: u64,
+    // Why the first read that failed did so.
+    cause: Option<io::Error>,
 }
 
 // A clause sees how many reads failed.
@@ -31,7 +34,18 @@ impl<R: Read> StdSource<R> {
         Ok(StdSource {
             reader: rt.reader(),
             faults: 0,
+            cause: None,
         })
+    }
+}
+
+impl<R> StdSource<R> {
+    /// Returns why the first read that failed did so, in the system's words, or None where none has.
+    pub fn cause(&self, alloc: Global) -> Result<Option<String>, NoMemory> {
+        match &self.cause {
+            Some(error) => Ok(Some(system_words(alloc, error)?)),
+            None => Ok(None),
+        }
     }
 }
 
@@ -43,7 +57,8 @@ impl<R: Read> Source for StdSource<R> {
     fn read(&mut self, into: &mut [u8]) -> Result<usize, SourceFault> {
         match self.reader.read(into) {
             Ok(count) => Ok(count),
-            Err(_) => {
+            Err(refused) => {
+                self.cause = self.cause.or(Some(refused));
                 self.faults = self.faults.saturating_add(1);
                 Err(SourceFault)
             }

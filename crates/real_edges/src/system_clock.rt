@@ -1,11 +1,12 @@
 //! The system's clock.
-ghost use Rattle.std.specs.Prelude.{◌≡◌, None, IfOk, IfSome};
+ghost use Rattle.std.specs.Prelude.{◌≡◌, None, IfOk};
 ghost use Rattle.edge_io.specs.Events.{IsMoment};
 
+use crate::cause::system_words;
 use arch_base::NoMemory;
 use edge_io::ClockFault;
 use std::alloc::Global;
-use std::io;
+use std::io::{self, ErrorKind};
 use std::marker::Model;
 use std::time::{Clock, SystemTime, UNIX_EPOCH};
 
@@ -17,6 +18,8 @@ const LAST_MOMENT: u64 = 253_402_300_799;
 pub struct SystemClock<C> {
     clock: C,
     faults: u64,
+    // Why the first call that failed did so.
+    cause: Option<io::Error>,
 }
 
 // A clause sees how many calls failed.
@@ -36,7 +39,18 @@ impl<C: Clock> SystemClock<C> {
         Ok(SystemClock {
             clock: rt,
             faults: 0,
+            cause: None,
         })
+    }
+}
+
+impl<C> SystemClock<C> {
+    /// Returns why the first call that failed did so, in words, or None where none has.
+    pub fn cause(&self, alloc: Global) -> Result<Option<String>, NoMemory> {
+        match &self.cause {
+            Some(error) => Ok(Some(system_words(alloc, error)?)),
+            None => Ok(None),
+        }
     }
 }
 
@@ -47,8 +61,9 @@ impl<C: Clock> edge_io::Clock for SystemClock<C> {
 
     fn now(&mut self) -> Result<u64, ClockFault> {
         match moment_of(SystemTime::now(&self.clock)) {
-            Some(moment) => Ok(moment),
-            None => {
+            Ok(moment) => Ok(moment),
+            Err(refused) => {
+                self.cause = self.cause.or(Some(refused));
                 self.faults = self.faults.saturating_add(1);
                 Err(ClockFault)
             }
@@ -56,14 +71,24 @@ impl<C: Clock> edge_io::Clock for SystemClock<C> {
     }
 }
 
-/// The moment of a time, or None where the time couldn't be read or is no moment.
-fn moment_of(time: io::Result<SystemTime>) -> Option<u64>
-    ensures { IfSome result IsMoment }
+/// The moment of a time, or an error where the time couldn't be read or is no moment.
+fn moment_of(time: io::Result<SystemTime>) -> io::Result<u64>
+    ensures { IfOk result IsMoment }
 {
-    let since = time.ok()?.duration_since(UNIX_EPOCH).ok()?;
+    let Ok(since) = time?.duration_since(UNIX_EPOCH) else {
+        return Err(no_moment());
+    };
     let moment = since.as_secs();
     if moment > LAST_MOMENT {
-        return None;
+        return Err(no_moment());
     }
-    Some(moment)
+    Ok(moment)
+}
+
+/// The error of a time that is no moment.
+fn no_moment() -> io::Error {
+    io::Error::new(
+        ErrorKind::InvalidData,
+        "the time isn't between 1970 and 9999",
+    )
 }

@@ -1,11 +1,14 @@
 //! The edges on real folders, and on readers, printers and clocks that fail.
 use crate::names::{name_of, path_in};
 use crate::{FolderDisk, StdSink, StdSource, SystemClock};
+use arch_base::NoMemory;
 use disk_model::{Disk, DiskFault, FileKind, FileName};
 use edge_io::{Clock, ClockFault, Sink, SinkFault};
+use std::alloc::Global;
 use std::fmt::Display;
-use std::fs;
+use std::fs::{self, File, Permissions};
 use std::io::{self, ErrorKind, Print};
+use std::os::unix::fs::{PermissionsExt, symlink};
 use std::test::Fail;
 use std::time::Duration;
 
@@ -23,120 +26,179 @@ fn epoch(number: u32, gen_: u64) -> FileName {
     }
 }
 
-fn read_of<D: Disk>(disk: &mut D, name: FileName, place: u64, into: &mut [u8]) -> Option<usize> {
-    disk.read(name, place, into).ok()
+/// Says whether a read of the root from an offset on gives so many bytes, and leaves this in a buffer.
+fn reads(
+    disk: &mut FolderDisk,
+    offset: u64,
+    count: usize,
+    wanted: &[u8; 8],
+) -> Result<bool, DiskFault> {
+    let mut into = *b"........";
+    let found = disk.read(ROOT, offset, &mut into)?;
+    Ok(found == count && into == *wanted)
 }
 
-fn names_of<D: Disk>(disk: &mut D, into: &mut [Option<FileName>]) -> Result<(), DiskFault> {
-    for place in 0..into.len() {
-        into[place] = disk.name_at(place as u64)?;
-    }
-    Ok(())
+/// Says whether a disk has no file, and what changes none can be done.
+fn is_bare(disk: &mut FolderDisk) -> Result<bool, DiskFault> {
+    let length = disk.length(ROOT)?;
+    let nothing = reads(disk, 0, 0, b"........")?;
+    let name = disk.name_at(0)?;
+    disk.sync()?;
+    disk.cut(ROOT, 0)?;
+    disk.remove(ROOT)?;
+    Ok(length == 0 && nothing && name.is_none())
+}
+
+/// Writes the root, and says whether it is read so.
+fn is_written(disk: &mut FolderDisk) -> Result<bool, DiskFault> {
+    disk.write_at(ROOT, 0, b"abcdef")?;
+    disk.write_at(ROOT, 4, b"EFG")?;
+    let length = disk.length(ROOT)?;
+    let middle = reads(disk, 1, 6, b"bcdEFG..")?;
+    let end = reads(disk, 7, 0, b"........")?;
+    let far = reads(disk, u64::MAX, 0, b"........")?;
+    Ok(length == 7 && middle && end && far)
+}
+
+/// Cuts the root and makes an empty file, and says whether both are there so.
+fn is_cut(disk: &mut FolderDisk) -> Result<bool, DiskFault> {
+    disk.cut(ROOT, 5)?;
+    let length = disk.length(ROOT)?;
+    disk.write_at(epoch(3, 9), 0, b"")?;
+    let empty = disk.length(epoch(3, 9))?;
+    let name = disk.name_at(1)?;
+    disk.sync()?;
+    Ok(length == 5 && empty == 0 && name == Some(epoch(3, 9)))
+}
+
+/// Says whether the root is what was left by these, and removes it.
+fn is_removed(disk: &mut FolderDisk) -> Result<bool, DiskFault> {
+    let kept = reads(disk, 0, 5, b"abcdE...")?;
+    disk.remove(ROOT)?;
+    let length = disk.length(ROOT)?;
+    let name = disk.name_at(1)?;
+    disk.sync()?;
+    Ok(kept && length == 0 && name.is_none())
+}
+
+/// Says whether a file has these bytes.
+fn holds(rt: &HostRuntime, path: &str, wanted: &[u8]) -> io::Result<bool> {
+    Ok(fs::read(rt, path)?.as_slice() == wanted)
 }
 
 #[test]
 fn a_folder_keeps_files(rt: HostRuntime) -> Result<(), Fail> {
     let mut disk = FolderDisk::open(&rt, rt.alloc(), "kept")?;
-    let mut into = *b"........";
-    assert_eq!(rt; disk.length(ROOT), Ok(0));
-    assert_eq!(rt; read_of(&mut disk, ROOT, 0, &mut into), Some(0));
-    assert_eq!(rt; disk.name_at(0), Ok(None));
-    assert_eq!(rt; disk.sync(), Ok(()));
-    assert_eq!(rt; disk.cut(ROOT, 0), Ok(()));
-    assert_eq!(rt; disk.remove(ROOT), Ok(()));
+    assert_eq!(rt; is_bare(&mut disk), Ok(true));
     // Nothing so far needed the folder.
     assert!(rt; !fs::exists(&rt, "kept")?);
-    assert_eq!(rt; disk.write_at(ROOT, 0, b"abcdef"), Ok(()));
-    assert_eq!(rt; disk.write_at(ROOT, 4, b"EFG"), Ok(()));
-    assert_eq!(rt; disk.length(ROOT), Ok(7));
-    assert_eq!(rt; read_of(&mut disk, ROOT, 1, &mut into), Some(6));
-    assert_eq!(rt; into, *b"bcdEFG..");
-    assert_eq!(rt; read_of(&mut disk, ROOT, 7, &mut into), Some(0));
-    assert_eq!(rt; read_of(&mut disk, ROOT, u64::MAX, &mut into), Some(0));
-    assert_eq!(rt; disk.cut(ROOT, 5), Ok(()));
-    assert_eq!(rt; disk.length(ROOT), Ok(5));
-    assert_eq!(rt; disk.write_at(epoch(3, 9), 0, b""), Ok(()));
-    assert_eq!(rt; disk.length(epoch(3, 9)), Ok(0));
-    assert_eq!(rt; disk.name_at(1), Ok(Some(epoch(3, 9))));
-    assert_eq!(rt; disk.sync(), Ok(()));
-    drop(disk);
-    assert!(rt; fs::read(&rt, "kept/root")?.as_slice() == b"abcdE".as_slice());
-    let mut again = FolderDisk::open(&rt, rt.alloc(), "kept")?;
-    assert_eq!(rt; read_of(&mut again, ROOT, 0, &mut into), Some(5));
-    assert_eq!(rt; into, *b"abcdEG..");
-    assert_eq!(rt; again.remove(ROOT), Ok(()));
-    assert_eq!(rt; again.length(ROOT), Ok(0));
-    assert_eq!(rt; again.name_at(1), Ok(None));
-    assert_eq!(rt; again.sync(), Ok(()));
-    assert!(rt; !fs::exists(&rt, "kept/root")?);
-    fs::remove_dir_all(&rt, "kept")?;
+    assert_eq!(rt; is_written(&mut disk), Ok(true));
+    assert_eq!(rt; is_cut(&mut disk), Ok(true));
     Ok(())
+}
+
+#[test]
+fn a_folder_is_opened_again(rt: HostRuntime) -> Result<(), Fail> {
+    fs::create_dir(&rt, "again")?;
+    fs::write(&rt, "again/root", b"abcdE".as_slice())?;
+    let mut disk = FolderDisk::open(&rt, rt.alloc(), "again")?;
+    assert_eq!(rt; is_removed(&mut disk), Ok(true));
+    assert!(rt; !fs::exists(&rt, "again/root")?);
+    Ok(())
+}
+
+/// Writes three pieces of an epoch, and an end.
+fn write_long(disk: &mut FolderDisk, piece: &[u8]) -> Result<(), DiskFault> {
+    for index in 0..3 {
+        disk.write_at(epoch(0, 1), index * 1_000_000, piece)?;
+    }
+    disk.write_at(epoch(0, 1), 3_000_000, b"end")
+}
+
+/// Reads what was written so, and says whether it is all there.
+fn is_long(disk: &mut FolderDisk, into: &mut [u8]) -> Result<bool, DiskFault> {
+    let count = disk.read(epoch(0, 1), 0, into)?;
+    let written = into.iter().filter(|byte| **byte == b'x').count();
+    let left = into.iter().filter(|byte| **byte == b'.').count();
+    Ok(count == 3_000_003 && written == 3_000_000 && left == 999_997)
 }
 
 #[test]
 fn a_long_file_is_read_whole(rt: HostRuntime) -> Result<(), Fail> {
     let mut disk = FolderDisk::open(&rt, rt.alloc(), "long")?;
     let piece = vec![in rt.alloc(); b'x'; 1_000_000]?;
-    for place in 0..3 {
-        assert_eq!(rt;
-            disk.write_at(epoch(0, 1), place * 1_000_000, &piece),
-            Ok(())
-        );
-    }
-    assert_eq!(rt; disk.write_at(epoch(0, 1), 3_000_000, b"end"), Ok(()));
+    assert_eq!(rt; write_long(&mut disk, &piece), Ok(()));
     let mut into = vec![in rt.alloc(); b'.'; 4_000_000]?;
-    assert_eq!(rt;
-        read_of(&mut disk, epoch(0, 1), 0, &mut into),
-        Some(3_000_003)
-    );
-    assert!(rt; into.iter().filter(|byte| **byte == b'x').count() == 3_000_000);
-    assert!(rt; into.iter().filter(|byte| **byte == b'.').count() == 999_997);
-    fs::remove_dir_all(&rt, "long")?;
+    assert_eq!(rt; is_long(&mut disk, &mut into), Ok(true));
     Ok(())
+}
+
+/// Makes empty files of these names in a folder.
+fn make_files(rt: &HostRuntime, folder: &str, names: &[&str]) -> io::Result<()> {
+    fs::create_dir(rt, folder)?;
+    for name in names {
+        let path = format!(in rt.alloc(); "{folder}/{name}")?;
+        fs::write(rt, path.as_str(), b"".as_slice())?;
+    }
+    Ok(())
+}
+
+/// Says whether the name at an index is this one, and is spelled as it is read.
+fn is_named(
+    rt: &HostRuntime,
+    disk: &mut FolderDisk,
+    index: u64,
+    wanted: Option<FileName>,
+) -> Result<bool, Fail> {
+    let found = disk.name_at(index)?;
+    let Some(name) = found else {
+        return Ok(wanted.is_none());
+    };
+    let path = path_in(rt.alloc(), "names", name)?;
+    let read = path.strip_prefix("names/").and_then(name_of);
+    Ok(found == wanted && read == found)
 }
 
 #[test]
 fn names_come_in_order(rt: HostRuntime) -> Result<(), Fail> {
-    fs::create_dir(&rt, "names")?;
-    for text in [
-        "cache.7",
-        "epoch-10.2",
-        "epoch-2.11",
-        "epoch-2.3",
-        "map.18446744073709551615",
-        "map.2",
-        "root",
-        "root-1.0",
-        "map-4.0",
-        "cache-4294967295.1",
-        "epoch-0.0",
-        // Names of others.
-        "root.0",
-        "root-0.0",
-        "map",
-        "map.",
-        "map.01",
-        "map.18446744073709551616",
-        "map-0.1",
-        "epoch.1",
-        "epoch-.1",
-        "epoch-1",
-        "epoch-01.1",
-        "epoch-1.2.3",
-        "epoch-4294967296.1",
-        "Root",
-        "cache.1 ",
-        "cache.x",
-        "note.txt",
-        ".root",
-    ] {
-        let path = format!(in rt.alloc(); "names/{text}")?;
-        fs::write(&rt, path.as_str(), b"".as_slice())?;
-    }
+    make_files(
+        &rt,
+        "names",
+        &[
+            "cache.7",
+            "epoch-10.2",
+            "epoch-2.11",
+            "epoch-2.3",
+            "map.18446744073709551615",
+            "map.2",
+            "root",
+            "root-1.0",
+            "map-4.0",
+            "cache-4294967295.1",
+            "epoch-0.0",
+            // Names of others.
+            "root.0",
+            "root-0.0",
+            "map",
+            "map.",
+            "map.01",
+            "map.18446744073709551616",
+            "map-0.1",
+            "epoch.1",
+            "epoch-.1",
+            "epoch-1",
+            "epoch-01.1",
+            "epoch-1.2.3",
+            "epoch-4294967296.1",
+            "Root",
+            "cache.1 ",
+            "cache.x",
+            "note.txt",
+            ".root",
+        ],
+    )?;
     let mut disk = FolderDisk::open(&rt, rt.alloc(), "names")?;
-    let mut found = [None; 12];
-    assert_eq!(rt; names_of(&mut disk, &mut found), Ok(()));
-    for (place, (kind, number, gen_)) in [
+    for (index, (kind, number, gen_)) in [
         (FileKind::Root, 0, 0),
         (FileKind::Root, 1, 0),
         (FileKind::Map, 0, 2),
@@ -152,68 +214,229 @@ fn names_come_in_order(rt: HostRuntime) -> Result<(), Fail> {
     .into_iter()
     .enumerate()
     {
+        let wanted = FileName { kind, number, gen_ };
         assert!(rt;
-            found[place] == Some(FileName { kind, number, gen_ }),
-            "at {place}"
-        );
-        let path = path_in(rt.alloc(), "names", FileName { kind, number, gen_ })?;
-        assert!(rt;
-            path.strip_prefix("names/").and_then(name_of) == found[place],
-            "at {place}"
+            is_named(&rt, &mut disk, index as u64, Some(wanted))?,
+            "at {index}"
         );
     }
-    assert!(rt; found[11].is_none());
-    fs::remove_dir_all(&rt, "names")?;
+    assert!(rt; is_named(&rt, &mut disk, 11, None)?);
     Ok(())
+}
+
+/// Writes a byte into each of ninety files, and says whether they are read so.
+fn keeps_many(disk: &mut FolderDisk) -> Result<bool, DiskFault> {
+    for number in 0..90 {
+        disk.write_at(epoch(number, 1), 0, &[b'a' + (number % 26) as u8])?;
+    }
+    for number in 0..90 {
+        let mut into = *b".";
+        disk.read(epoch(number, 1), 0, &mut into)?;
+        if into != [b'a' + (number % 26) as u8] {
+            return Ok(false);
+        }
+    }
+    disk.sync()?;
+    Ok(true)
 }
 
 #[test]
 fn more_files_than_are_kept_open(rt: HostRuntime) -> Result<(), Fail> {
     let mut disk = FolderDisk::open(&rt, rt.alloc(), "many")?;
-    for number in 0..90 {
-        assert_eq!(rt;
-            disk.write_at(epoch(number, 1), 0, &[b'a' + (number % 26) as u8]),
-            Ok(())
-        );
-    }
-    for number in 0..90 {
-        let mut into = *b".";
-        assert_eq!(rt; read_of(&mut disk, epoch(number, 1), 0, &mut into), Some(1));
-        assert_eq!(rt; into, [b'a' + (number % 26) as u8]);
-    }
-    assert_eq!(rt; disk.sync(), Ok(()));
-    fs::remove_dir_all(&rt, "many")?;
+    assert_eq!(rt; keeps_many(&mut disk), Ok(true));
     Ok(())
+}
+
+/// Says whether every call of a disk fails.
+fn all_fail(disk: &mut FolderDisk) -> bool {
+    let read = disk.read(ROOT, 0, &mut [0]).is_err();
+    let length = disk.length(ROOT).is_err();
+    let write = disk.write_at(ROOT, 0, b"a").is_err();
+    let cut = disk.cut(ROOT, 0).is_err();
+    let remove = disk.remove(ROOT).is_err();
+    let name = disk.name_at(0).is_err();
+    let sync = disk.sync().is_err();
+    read && length && write && cut && remove && name && sync
+}
+
+/// The disk of another run, which waits for a short time only.
+fn other(rt: &HostRuntime, path: &str) -> Result<FolderDisk, NoMemory> {
+    FolderDisk::open_within(rt, rt.alloc(), path, Duration::from_millis(20))
+}
+
+/// Says whether a cause is told so.
+fn is_told(cause: Option<String>, words: &str) -> bool {
+    match cause {
+        Some(text) => text.as_str() == words,
+        None => false,
+    }
+}
+
+/// Says whether every call of another run fails, and for this reason.
+fn is_refused(rt: &HostRuntime, path: &str, words: &str) -> Result<bool, NoMemory> {
+    let mut disk = other(rt, path)?;
+    let failed = all_fail(&mut disk);
+    Ok(failed && is_told(disk.cause()?, words))
 }
 
 #[test]
 fn what_the_system_refuses_is_a_fault(rt: HostRuntime) -> Result<(), Fail> {
     // A file stands where the folder is to be, and the folder above another one is missing.
     fs::write(&rt, "refused", b"".as_slice())?;
-    for path in ["refused", "missing/refused"] {
-        let mut disk = FolderDisk::open(&rt, rt.alloc(), path)?;
-        assert_eq!(rt; disk.write_at(ROOT, 0, b"a"), Err(DiskFault), "{path}");
-    }
-    let mut disk = FolderDisk::open(&rt, rt.alloc(), "refused")?;
-    assert_eq!(rt; disk.read(ROOT, 0, &mut [0]), Err(DiskFault));
-    assert_eq!(rt; disk.length(ROOT), Err(DiskFault));
-    assert_eq!(rt; disk.cut(ROOT, 0), Err(DiskFault));
-    assert_eq!(rt; disk.remove(ROOT), Err(DiskFault));
-    assert_eq!(rt; disk.name_at(0), Err(DiskFault));
-    fs::remove_file(&rt, "refused")?;
+    assert!(rt; is_refused(&rt, "refused", "refused: not a directory")?);
+    let mut disk = other(&rt, "missing/refused")?;
+    assert_eq!(rt; disk.write_at(ROOT, 0, b"a"), Err(DiskFault));
+    assert!(rt; is_told(disk.cause()?, "missing/refused: No such file or directory"));
     Ok(())
+}
+
+/// Returns how long the root is for another run, or None where that fails.
+fn length_for_other(rt: &HostRuntime, path: &str) -> Result<Option<u64>, NoMemory> {
+    Ok(other(rt, path)?.length(ROOT).ok())
+}
+
+// No contract can see the lock itself: that it is taken, and that no call lets it go, is shown by what another run gets
+// between two calls and after the last. That each call asks for the folder first, and that it isn't asked for anew, is
+// in the clauses of the call that finds it.
+#[test]
+fn a_second_run_waits_and_gives_up(rt: HostRuntime) -> Result<(), Fail> {
+    let mut first = FolderDisk::open(&rt, rt.alloc(), "locked")?;
+    assert_eq!(rt; first.write_at(ROOT, 0, b"abc"), Ok(()));
+    assert!(rt; is_refused(&rt, "locked", "locked is in use by another run")?);
+    assert_eq!(rt; first.sync(), Ok(()));
+    assert!(rt; is_refused(&rt, "locked", "locked is in use by another run")?);
+    drop(first);
+    assert_eq!(rt; length_for_other(&rt, "locked")?, Some(3));
+    Ok(())
+}
+
+/// Says whether a run that saw the folder missing is refused, now that it has a root, and sees no file as before.
+fn is_too_late(late: &mut FolderDisk) -> Result<bool, NoMemory> {
+    let refused = late.write_at(ROOT, 0, b"x").is_err();
+    let length = late.length(ROOT);
+    let told = is_told(late.cause()?, "filled was made by another run meanwhile");
+    Ok(refused && length == Ok(0) && told)
+}
+
+#[test]
+fn a_folder_that_was_filled_meanwhile_is_refused(rt: HostRuntime) -> Result<(), Fail> {
+    let mut late = other(&rt, "filled")?;
+    assert_eq!(rt; late.length(ROOT), Ok(0));
+    make_files(&rt, "filled", &["root"])?;
+    assert!(rt; is_too_late(&mut late)?);
+    assert!(rt; holds(&rt, "filled/root", b"")?);
+    // One that was made meanwhile and has no file is fine.
+    fs::remove_file(&rt, "filled/root")?;
+    assert_eq!(rt; late.write_at(ROOT, 0, b"x"), Ok(()));
+    Ok(())
+}
+
+/// Puts a device, which can't be synced, where an epoch is to be.
+fn plant_device(rt: &HostRuntime, path: &str) -> io::Result<()> {
+    symlink(rt, "/dev/null", path)
+}
+
+/// Has a sync of the disk fail, and says whether it fails from then on.
+fn fails_to_sync(rt: &HostRuntime, disk: &mut FolderDisk) -> io::Result<bool> {
+    plant_device(rt, "failed/epoch-0.1")?;
+    let failed = disk.length(epoch(0, 1)).is_err();
+    fs::remove_file(rt, "failed/epoch-0.1")?;
+    let opened = disk.length(epoch(0, 1)).is_ok();
+    Ok(failed && opened && disk.sync().is_err())
 }
 
 #[test]
 fn after_a_failed_sync_none_is_answered(rt: HostRuntime) -> Result<(), Fail> {
-    let mut disk = FolderDisk::open(&rt, rt.alloc(), "failed")?;
+    let mut disk = other(&rt, "failed")?;
     assert_eq!(rt; disk.write_at(ROOT, 0, b"a"), Ok(()));
-    fs::remove_dir_all(&rt, "failed")?;
-    assert_eq!(rt; disk.sync(), Err(DiskFault));
-    fs::create_dir(&rt, "failed")?;
-    assert_eq!(rt; disk.sync(), Err(DiskFault));
-    assert_eq!(rt; FolderDisk::open(&rt, rt.alloc(), "failed")?.sync(), Ok(()));
-    fs::remove_dir_all(&rt, "failed")?;
+    assert!(rt; fails_to_sync(&rt, &mut disk)?);
+    assert!(rt; is_told(disk.cause()?, "failed/epoch-0.1: Invalid argument"));
+    assert!(rt; fs::exists(&rt, "failed/sync-failed")?);
+    Ok(())
+}
+
+/// Plants the mark of a failed sync in a folder.
+fn plant_mark(rt: &HostRuntime, path: &str) -> io::Result<()> {
+    fs::write(rt, path, b"".as_slice())
+}
+
+/// Plants the mark of a failed sync, and says whether a run leaves the root's bytes and removes the mark.
+fn mends(rt: &HostRuntime) -> io::Result<bool> {
+    plant_mark(rt, "marked/sync-failed")?;
+    let before = fs::read(rt, "marked/root")?;
+    let found = length_for_other(rt, "marked").ok().flatten();
+    let same = holds(rt, "marked/root", before.as_slice())?;
+    let gone = !fs::exists(rt, "marked/sync-failed")?;
+    Ok(same && gone && found == Some(before.len() as u64))
+}
+
+/// Writes a few bytes of the root in a run of its own.
+fn writes(rt: &HostRuntime, path: &str, offset: u64) -> Result<bool, NoMemory> {
+    Ok(other(rt, path)?.write_at(ROOT, offset, b"tail").is_ok())
+}
+
+#[test]
+fn behind_a_mark_all_is_written_again(rt: HostRuntime) -> Result<(), Fail> {
+    make_files(&rt, "marked", &["root", "epoch-0.1"])?;
+    assert!(rt; mends(&rt)?);
+    for offset in [0, 65_532, 65_533, 131_068, 200_000] {
+        assert!(rt; writes(&rt, "marked", offset)?);
+        assert!(rt; mends(&rt)?, "at {offset}");
+    }
+    Ok(())
+}
+
+/// Says whether the mark is in the folder, and a run's call on it fails or not.
+fn stays(rt: &HostRuntime, stays: bool) -> io::Result<bool> {
+    let failed = length_for_other(rt, "stays").ok().flatten().is_none();
+    let marked = fs::exists(rt, "stays/sync-failed")?;
+    Ok(failed == stays && marked == stays)
+}
+
+#[test]
+fn a_mark_stays_where_a_file_cannot_be_synced(rt: HostRuntime) -> Result<(), Fail> {
+    make_files(&rt, "stays", &["sync-failed"])?;
+    plant_device(&rt, "stays/epoch-0.1")?;
+    assert!(rt; stays(&rt, true)?);
+    fs::remove_file(&rt, "stays/epoch-0.1")?;
+    assert!(rt; stays(&rt, false)?);
+    Ok(())
+}
+
+/// Says who may read a folder, in the system's words for permissions.
+fn permit(rt: &HostRuntime, path: &str, mode: u32) -> io::Result<()> {
+    fs::set_permissions(rt, path, Permissions::from_mode(mode))
+}
+
+/// Says whether a folder is made by the first write while the one above it may be read, and not before.
+fn is_made_when_readable(rt: &HostRuntime, disk: &mut FolderDisk) -> io::Result<bool> {
+    let refused = disk.write_at(ROOT, 0, b"a").is_err();
+    let gone = !fs::exists(rt, "above/below")?;
+    permit(rt, "above", 0o700)?;
+    let made = disk.write_at(ROOT, 0, b"a").is_ok();
+    let synced = disk.sync().is_ok();
+    permit(rt, "above", 0o300)?;
+    Ok(refused && gone && made && synced)
+}
+
+/// Says whether a folder is used where the one above it may be searched but not read: not to make it, but from then on.
+fn is_used_below(rt: &HostRuntime) -> Result<bool, Fail> {
+    let mut disk = other(rt, "above/below")?;
+    let made = is_made_when_readable(rt, &mut disk)?;
+    let told = is_told(disk.cause()?, "above: Permission denied");
+    drop(disk);
+    let synced = other(rt, "above/below")?.sync().is_ok();
+    Ok(made && told && synced)
+}
+
+#[test]
+fn a_folder_above_that_may_not_be_read(rt: HostRuntime) -> Result<(), Fail> {
+    fs::create_dir(&rt, "above")?;
+    permit(&rt, "above", 0o300)?;
+    // Who may read everything sees nothing of this.
+    let used = File::open(&rt, "above").is_ok() || is_used_below(&rt)?;
+    permit(&rt, "above", 0o700)?;
+    assert!(rt; used);
     Ok(())
 }
 
@@ -255,6 +478,7 @@ fn a_time_that_is_no_moment_is_a_fault(rt: HostRuntime) -> Result<(), Fail> {
         let stands = Stands(seconds);
         let mut clock = SystemClock::new(&stands, rt.alloc())?;
         assert_eq!(rt; clock.now(), found);
+        assert_eq!(rt; clock.cause(rt.alloc())?.is_none(), found.is_ok());
     }
     Ok(())
 }
@@ -277,13 +501,18 @@ impl Print for Closed {
     }
 }
 
+/// Says whether a sink that fails counts as one, and tells why.
+fn is_fault_told(sink: &mut StdSink<&Closed>, alloc: Global) -> Result<bool, NoMemory> {
+    let before = sink.cause(alloc)?.is_none();
+    let failed = sink.write(b"a") == Err(SinkFault);
+    Ok(before && failed && is_told(sink.cause(alloc)?, "broken pipe"))
+}
+
 #[test]
 fn what_is_not_printed_is_a_fault(rt: HostRuntime) -> Result<(), Fail> {
     let closed = Closed;
-    assert_eq!(rt;
-        StdSink::new(&closed, rt.alloc())?.write(b"a"),
-        Err(SinkFault)
-    );
+    let mut sink = StdSink::new(&closed, rt.alloc())?;
+    assert!(rt; is_fault_told(&mut sink, rt.alloc())?);
     assert_eq!(rt; StdSink::new(&rt, rt.alloc())?.write(b""), Ok(()));
     assert!(rt; StdSource::new(&rt, rt.alloc()).is_ok());
     Ok(())

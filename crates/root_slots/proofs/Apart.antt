@@ -1,4 +1,4 @@
--- Values of one spelling are one.
+-- Values with the same spelling are equal.
 use Rattle.std.specs.Prelude.{◌≡◌, ◌<◌, ℕ, nat_eq, List, [], ◌∷◌, ◌++◌, length, get_or, take, drop, suc, refl}
 use Rattle.std.specs.List.{flat_map}
 use Rattle.std.proofs.Common.{◌∙◌, sym, ap, arith, append_assoc}
@@ -13,7 +13,7 @@ use Rattle.root_slots.specs.Valid.{no_place, PlaceFits}
 use Rattle.root_slots.specs.Laws.{SpellingsDiffer, SpellingsFill}
 use Rattle.root_slots.proofs.Reading.{place_parts, place_is, name_parts, config_parts, config_is, root_parts, root_is, second_byte, flag_read}
 
--- places in front
+-- Bytes that start with places.
 apart_place : (p q : Place) (x y : List ℕ) → PlaceFits p → PlaceFits q → place_bytes p ++ x ≡ place_bytes q ++ y → (p ≡ q) × (x ≡ y)
 apart_place p q x y a b is =
     let parts = sym (place_parts (place_bytes p ++ x) x p refl) ∙ place_parts (place_bytes p ++ x) y q is in
@@ -21,7 +21,7 @@ apart_place p q x y a b is =
     let lengths = apart64 p.length q.length x y a.length b.length gens.1 in
     (place_is p.gen_ p.length q gens.0 lengths.0, lengths.1)
 
--- as many places in front
+-- Bytes that start with equally many places.
 apart_places : (ps qs : List Place) (x y : List ℕ) → length ps ≡ length qs → ((i : ℕ) → i < length ps → PlaceFits (get_or ps i no_place)) → ((i : ℕ) → i < length qs → PlaceFits (get_or qs i no_place))
     → flat_map place_bytes ps ++ x ≡ flat_map place_bytes qs ++ y → (ps ≡ qs) × (x ≡ y)
 apart_places [] [] x y count a b is = (refl, is)
@@ -33,7 +33,7 @@ apart_places (p ∷ ps) (q ∷ qs) x y count a b is =
     let others = apart_places ps qs x y (omega (arith, count)) (λ i below. a (suc i) (omega (arith, below))) (λ i below. b (suc i) (omega (arith, below))) first.1 in
     (λ i. first.0 i ∷ others.0 i, others.1)
 
--- names in front
+-- Bytes that start with names.
 apart_name : (m n x y : List ℕ) → IsName m → IsName n → name_bytes m ++ x ≡ name_bytes n ++ y → (m ≡ n) × (x ≡ y)
 apart_name m n x y a b is =
     let bytes = name_bytes m ++ x in
@@ -42,7 +42,7 @@ apart_name m n x y a b is =
     let size : length m ≡ length n = sym left.count ∙ right.count in
     (sym left.itself ∙ (ap (λ (k : ℕ). take k (drop 1 (take 65 bytes))) size ∙ right.itself), sym left.behind ∙ right.behind)
 
--- settings in front
+-- Bytes that start with settings.
 apart_config : (c d : Config) (x y : List ℕ) → IsName c.name → IsName d.name → IsConfig c → IsConfig d → config_bytes c ++ x ≡ config_bytes d ++ y → (c ≡ d) × (x ≡ y)
 apart_config c d x y named named2 a b is =
     let bytes = config_bytes c ++ x in
@@ -56,7 +56,7 @@ apart_config c d x y named named2 a b is =
     let borns = apart32 c.born d.born x y (omega (arith, a.born_high)) (omega (arith, b.born_high)) mosts.1 in
     (config_is c d names.0 limits.0 slices.0 mosts.0 mirrors borns.0, borns.1)
 
--- two roots of one spelling are one
+-- Two roots with the same spelling are equal.
 pub spellings_differ : SpellingsDiffer
 spellings_differ r s a b v w is =
     let bytes = spelling r in
@@ -69,6 +69,6 @@ spellings_differ r s a b v w is =
     let caches = apart_place r.cache s.cache _ _ a.cache b.cache epochs.1 in
     root_is r s configs.0 sequences.0 nexts.0 maps.0 epochs.0 caches.0
 
--- a spelling fills its slot
+-- A spelling fills its slot.
 pub spellings_fill : SpellingsFill
 spellings_fill r a = spelling_length r a.name a.count

@@ -5,17 +5,17 @@ use Rattle.std.proofs.Common.{◌∙◌, ap, sym, subst, inl, inr, arith}
 use Rattle.std.proofs.lemmas.Bool.{cases_lt}
 use Rattle.root_slots.specs.Slots.{gate, body_place, body_at, sequence_of, Precedes, Current}
 
--- the part of the file
+-- The part of the file.
 pub body_part : (file : List ℕ) (slot n : ℕ) → n ≡ 1536 → take n (drop (body_place slot) file) ≡ body_at file slot
 unfolding body_at
 body_part file slot n is = ap (λ (k : ℕ). take k (drop (body_place slot) file)) is
 
--- its sequence
+-- The sequence of the body.
 pub sequence_part : (file : List ℕ) (slot n value : ℕ) → n ≡ 1536 → value ≡ from_be_bytes w64 (take 8 (take n (drop (body_place slot) file))) → value ≡ sequence_of (body_at file slot)
 unfolding sequence_of
 sequence_part file slot n value is gives = gives ∙ ap (λ (b : List ℕ). from_be_bytes w64 (take 8 b)) (body_part file slot n is)
 
--- of two slots with a body that precedes the other's, each is slot 0
+-- Two slots whose bodies precede each other's are both slot 0.
 precede_both : (m n s t : ℕ) → (m < n) ⊎ ((m ≡ n) × (s ≡ 0)) → (n < m) ⊎ ((n ≡ m) × (t ≡ 0)) → s ≡ t
 precede_both m n s t left right =
     elim left [
@@ -23,7 +23,7 @@ precede_both m n s t left right =
       | inr twin ↦ elim right [ inl more ↦ let e = twin.0 in absurd (omega (arith, more, e)) | inr same ↦ twin.1 ∙ sym same.1 ]
     ]
 
--- two slots are one, or each is the other one
+-- Two slots are equal, or each is the other one.
 one_or_other : (s t : ℕ) → s < 2 → t < 2 → (s ≡ t) ⊎ ((1 - s ≡ t) × (1 - t ≡ s))
 one_or_other s t a b =
     elim (cases_lt s 1) [
@@ -31,7 +31,7 @@ one_or_other s t a b =
       | inr high ↦ elim (cases_lt t 1) [ inl low2 ↦ inr (omega arith, omega arith) | inr high2 ↦ inl (omega arith) ]
     ]
 
--- a file has one current root
+-- A file has one current root.
 pub same_slot : (s t : ℕ) (a b file : List ℕ) → Current s a file → Current t b file → s ≡ t
 same_slot s t a b file p q =
     elim (one_or_other s t p.in_range q.in_range) [ inl same ↦ same | inr apart ↦ precede_both (sequence_of b) (sequence_of a) s t (older s t a b p q apart.0) (older t s b a q p apart.1) ] where

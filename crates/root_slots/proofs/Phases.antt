@@ -1,4 +1,4 @@
--- A commit in three writes: what a crash leaves during each, and what stands after it.
+-- A commit in three writes: what a crash leaves during each, and what holds after it.
 use Rattle.std.specs.Prelude.{◌≡◌, ◌≢◌, ◌⊎◌, ℕ, zero, suc, ◌+◌, ◌-◌, ◌<◌, ◌≤◌, Option, Some, None, List, [], ◌∷◌, length, get_or, take, drop}
 use Rattle.std.proofs.Common.{◌∙◌, sym, ap, subst, inl, inr, arith}
 use Rattle.std.proofs.lemmas.Bool.{cases_lt}
@@ -10,26 +10,26 @@ use Rattle.root_slots.specs.RootName.{root_name}
 use Rattle.root_slots.specs.Each.{IfThere, EachRoot, part_stays, each_writing, each_written, elsewhere_before}
 use Rattle.root_slots.specs.Slots.{HasRootSize, gate, body_place, body_at, sequence_of, Precedes, Current, HasRoot, Ready, IsOldOrNew, with_root, HasNewRoot, IsCommitted}
 
--- a number is this one or another
+-- A number is this one or another.
 nat_eq_or_not : (m n : ℕ) → (m ≡ n) ⊎ (m ≢ n)
 nat_eq_or_not m n = elim (cases_lt m n) [
   | inl low ↦ inr (λ e. absurd (omega (arith, low, e)))
   | inr high ↦ elim (cases_lt n m) [ inl low ↦ inr (λ e. absurd (omega (arith, low, e))) | inr same ↦ inl (omega arith) ]
 ]
 
--- two numbers
+-- Two numbers differ.
 zero_isnt_one : (n : ℕ) → n ≡ 0 → n ≡ 1 → ⊥
 zero_isnt_one n zero_is one_is = absurd (omega (arith, zero_is, one_is))
 
--- a byte that is written stands there
+-- A byte that was written is there.
 overlay-byte : (at value : ℕ) (old : List ℕ) → at < length old → get_or (overlay at (value ∷ []) old) at 0 ≡ value
 overlay-byte at value old below = grind (arith, common_steps)
 
--- a byte inside of a written range
+-- A byte inside a written range.
 overlay-there : (at : ℕ) (bytes old : List ℕ) (i : ℕ) → at ≤ length old → at ≤ i → i < at + length bytes → get_or (overlay at bytes old) i 0 ≡ get_or bytes (i - at) 0
 overlay-there at bytes old i inside low high = grind (arith, common_steps)
 
--- that the gate was shut in between leaves no trace
+-- Shutting the gate in between leaves no trace.
 shut_between : (slot : ℕ) (new old : List ℕ) → slot < 2 → length new ≡ 1536 → length old ≡ 4096 → overlay slot (1 ∷ []) (overlay (body_place slot) new (overlay slot (0 ∷ []) old)) ≡ with_root slot new old
 shut_between slot new old in_range whole size =
     let shut : List ℕ = overlay slot (0 ∷ []) old in
@@ -69,7 +69,7 @@ shut_between slot new old in_range whole size =
           overlay_kept slot (1 ∷ []) (overlay (body_place slot) new (overlay slot (0 ∷ []) old)) i (omega (arith, there, shut_size, in_range)) (same_apart i apart)
           ∙ (in_body i apart ∙ sym (overlay_kept slot (1 ∷ []) (overlay (body_place slot) new old) i (omega (arith, here, size, in_range)) (same_apart i apart)))
 
--- while a slot is shut the other one has the current root
+-- While a slot is shut the other one has the current root.
 pub record Shut (slot : ℕ) (old file : List ℕ) : Type 0 where
   pub in_range : slot < 2
   pub size : length file ≡ 4096
@@ -77,30 +77,30 @@ pub record Shut (slot : ℕ) (old file : List ℕ) : Type 0 where
   pub opened : gate file (1 - slot) ≡ 1
   pub holds : body_at file (1 - slot) ≡ old
 
--- a slot that is shut and has the new body
+-- A slot that is shut and has the new body.
 pub record Filled (slot : ℕ) (old new file : List ℕ) : Type 0 where
   pub shut : Shut slot old file
   pub filled : body_at file slot ≡ new
 
--- either root
+-- Either root.
 abbrev pub Either : List ℕ → List ℕ → List ℕ → Type 0
 Either old new file = HasRoot old file ⊎ HasRoot new file
 
--- a body that a write leaves alone
+-- A body outside the range of a write stays.
 body_stays : (at n slot : ℕ) (a b : List ℕ) → SameOutside at n a b → (body_place slot + 1536 ≤ at) ⊎ (at + n ≤ body_place slot) → body_at b slot ≡ body_at a slot
 unfolding body_at
 body_stays at n slot a b same apart = part_stays at n a b (body_place slot) 1536 same apart
 
--- a body that is written stands there
+-- A body that was written is there.
 body_written : (slot : ℕ) (new a : List ℕ) → length new ≡ 1536 → body_place slot ≤ length a → body_at (overlay (body_place slot) new a) slot ≡ new
 unfolding body_at
 body_written slot new a whole inside = ap (λ (n : ℕ). take n (drop (body_place slot) (overlay (body_place slot) new a))) (sym whole) ∙ overlay-inside (body_place slot) new a inside
 
--- the other slot of the other slot
+-- The other slot of the other slot.
 back : (slot : ℕ) → slot < 2 → 1 - (1 - slot) ≡ slot
 back slot in_range = omega arith
 
--- a shut slot
+-- A file with a shut slot has the old root.
 pub shut_current : (slot : ℕ) (old file : List ℕ) → Shut slot old file → HasRoot old file
 shut_current slot old file s = (
   1 - slot,
@@ -113,7 +113,7 @@ shut_current slot old file s = (
   },
 )
 
--- a gate that is shut
+-- A gate that was shut.
 pub shut_written : (slot : ℕ) (old a b : List ℕ) → slot < 2 → Ready slot old a → SameOutside slot 1 a b → gate b slot ≢ 1 → Shut slot old b
 shut_written slot old a b in_range ready same shut = record {
   in_range = in_range;
@@ -125,7 +125,7 @@ shut_written slot old a b in_range ready same shut = record {
   other_place : (s : ℕ) → s < 2 → (1 - s < s) ⊎ (s + 1 ≤ 1 - s)
   other_place s below = elim (cases_lt s 1) [ inl low ↦ inr (omega arith) | inr high ↦ inl (omega arith) ]
 
--- an open gate of a slot that held what a commit allows
+-- An open gate of a slot with a body that a commit allows.
 opened_again : (slot : ℕ) (old a b : List ℕ) → slot < 2 → Ready slot old a → SameOutside slot 1 a b → gate b slot ≡ 1 → HasRoot old b
 opened_again slot old a b in_range ready same open_ =
     elim ready.other [
@@ -174,12 +174,12 @@ opened_again slot old a b in_range ready same open_ =
         | inr high ↦ keep (inr (ap sequence_of (stays ∙ twin), omega arith))
       ]
 
--- any byte in the gate of the slot
+-- Any byte in the gate of the slot.
 pub shut_torn : (slot : ℕ) (old new a b : List ℕ) → slot < 2 → Ready slot old a → SameOutside slot 1 a b → Either old new b
 shut_torn slot old new a b in_range ready same =
     elim (nat_eq_or_not (gate b slot) 1) [ inl open_ ↦ inl (opened_again slot old a b in_range ready same open_) | inr shut ↦ inl (shut_current slot old b (shut_written slot old a b in_range ready same shut)) ]
 
--- any bytes in the body of the slot
+-- Any bytes in the body of the slot.
 pub fill_torn : (slot : ℕ) (old a b : List ℕ) → Shut slot old a → SameOutside (body_place slot) 1536 a b → Shut slot old b
 fill_torn slot old a b s same =
     let in_range = s.in_range in
@@ -193,7 +193,7 @@ fill_torn slot old a b s same =
       apart : (n : ℕ) → n < 2 → (body_place (1 - n) + 1536 ≤ body_place n) ⊎ (body_place n + 1536 ≤ body_place (1 - n))
       apart n below = elim (cases_lt n 1) [ inl low ↦ inr (omega arith) | inr high ↦ inl (omega arith) ]
 
--- a gate that is open
+-- A gate that was opened.
 pub raised : (slot : ℕ) (old new a b : List ℕ) → sequence_of old < sequence_of new → Filled slot old new a → SameOutside slot 1 a b → gate b slot ≡ 1 → Current slot new b
 raised slot old new a b newer f same open_ =
     let in_range = f.shut.in_range in
@@ -205,7 +205,7 @@ raised slot old new a b newer f same open_ =
       newest = λ opened. inl (subst (λ (body : List ℕ). sequence_of body < sequence_of new) (sym (body_stays slot 1 (1 - slot) a b same (inr (omega arith)) ∙ f.shut.holds)) newer);
     }
 
--- a gate that stays shut
+-- A gate that stays shut.
 still_shut : (slot : ℕ) (old new a b : List ℕ) → Filled slot old new a → SameOutside slot 1 a b → gate b slot ≢ 1 → Shut slot old b
 still_shut slot old new a b f same shut =
     let in_range = f.shut.in_range in
@@ -219,31 +219,31 @@ still_shut slot old new a b f same shut =
       other_place : (s : ℕ) → s < 2 → (1 - s < s) ⊎ (s + 1 ≤ 1 - s)
       other_place s below = elim (cases_lt s 1) [ inl low ↦ inr (omega arith) | inr high ↦ inl (omega arith) ]
 
--- any byte in the gate then
+-- Any byte in the gate while it is opened.
 pub raise_torn : (slot : ℕ) (old new a b : List ℕ) → sequence_of old < sequence_of new → Filled slot old new a → SameOutside slot 1 a b → Either old new b
 raise_torn slot old new a b newer f same =
     elim (nat_eq_or_not (gate b slot) 1) [ inl open_ ↦ inr (slot, raised slot old new a b newer f same open_) | inr shut ↦ inl (shut_current slot old b (still_shut slot old new a b f same shut)) ]
 
--- a root of either kind is there
+-- A root of either kind is there.
 split_there : (old new : List ℕ) (file : File) → IfThere (Either old new) file → IfThere (HasRoot old) file ⊎ IfThere (HasRoot new) file
 split_there old new None there = absurd there
 split_there old new (Some bytes) there = there
 
--- the size of the root file stays
+-- The size of the root file stays.
 pub size_stays : (at : ℕ) (bytes : List ℕ) (old new : Option Content) → at + length bytes ≤ 4096 → WhereTold HasRootSize old → Told (IsWritten root_name at bytes) old new → WhereTold HasRootSize new
 size_stays at bytes None None inside size written = tt
 size_stays at bytes None (Some m) inside size written = absurd written
 size_stays at bytes (Some k) None inside size written = absurd written
 size_stays at bytes (Some k) (Some m) inside size written = ap (λ (f : File). length (bytes_of f)) written.here ∙ (overlay-size at bytes (bytes_of (k root_name).seen) (omega (arith, size, inside)) ∙ size)
 
--- the gate of the other slot stands apart
+-- The gates of the two slots are apart.
 apart : (slot : ℕ) → slot < 2 → (1 - slot < slot) ⊎ (slot + 1 ≤ 1 - slot)
 apart zero in_range = inr (omega arith)
 apart (suc zero) in_range = inl (omega arith)
 apart (suc (suc n)) in_range = absurd (omega (arith, in_range))
 
 module _ (slot : ℕ) (old new : List ℕ) (in_range : slot < 2) where
-  -- during the first write
+  -- During the first write.
   pub during_shut : (k0 : Option Content) (image : Files) → ReadsFit k0 → WhereTold HasRootSize k0 → EachRoot (Ready slot old) k0 → Writing root_name slot 1 k0 image → IsOldOrNew old new k0 image
   during_shut None image fit size each writing = tt
   during_shut (Some k) image fit size each writing = record {
@@ -251,7 +251,7 @@ module _ (slot : ℕ) (old new : List ℕ) (in_range : slot < 2) where
     elsewhere = writing.elsewhere;
   }
 
-  -- what stands after it
+  -- After the first write.
   pub is_shut : (k0 k1 : Option Content) → ReadsFit k0 → EachRoot (Ready slot old) k0 → Told (IsWritten root_name slot (0 ∷ [])) k0 k1 → EachRoot (Shut slot old) k1
   is_shut k0 k1 fit each written = each_written (Ready slot old) (Shut slot old) slot (0 ∷ []) k0 k1 fit each zeroed written where
     zeroed : (a : List ℕ) → Ready slot old a → Shut slot old (overlay slot (0 ∷ []) a)
@@ -260,7 +260,7 @@ module _ (slot : ℕ) (old new : List ℕ) (in_range : slot < 2) where
         let same = overlay-torn slot (0 ∷ []) a (omega (arith, size, in_range)) in
         shut_written slot old a (overlay slot (0 ∷ []) a) in_range ready same (λ open_. zero_isnt_one (gate (overlay slot (0 ∷ []) a) slot) (overlay-byte slot 0 a (omega (arith, size, in_range))) open_)
 
-  -- during the second
+  -- During the second write.
   pub during_fill : (k0 k1 : Option Content) (image : Files) → ReadsFit k0 → ReadsFit k1 → WhereTold HasRootSize k1 → Told (IsWritten root_name slot (0 ∷ [])) k0 k1 → EachRoot (Shut slot old) k1 → Writing root_name (body_place slot) 1536 k1 image → IsOldOrNew old new k0 image
   during_fill None k1 image fit fit1 size told each writing = tt
   during_fill (Some k) None image fit fit1 size told each writing = absurd told
@@ -269,7 +269,7 @@ module _ (slot : ℕ) (old new : List ℕ) (in_range : slot < 2) where
     elsewhere = λ other apart. elsewhere_before slot (0 ∷ []) k m image fit told other apart (writing.elsewhere other apart);
   }
 
-  -- what stands after it
+  -- After the second write.
   pub is_filled : length new ≡ 1536 → (k1 k2 : Option Content) → ReadsFit k1 → EachRoot (Shut slot old) k1 → Told (IsWritten root_name (body_place slot) new) k1 k2 → EachRoot (Filled slot old new) k2
   is_filled whole k1 k2 fit each written = each_written (Shut slot old) (Filled slot old new) (body_place slot) new k1 k2 fit each stands written where
     stands : (a : List ℕ) → Shut slot old a → Filled slot old new (overlay (body_place slot) new a)
@@ -278,7 +278,7 @@ module _ (slot : ℕ) (old new : List ℕ) (in_range : slot < 2) where
         let same = subst (λ (n : ℕ). SameOutside (body_place slot) n a (overlay (body_place slot) new a)) whole (overlay-torn (body_place slot) new a (omega (arith, size, whole, in_range))) in
         record { shut = fill_torn slot old a (overlay (body_place slot) new a) s same; filled = body_written slot new a whole (omega (arith, size, in_range)) }
 
-  -- during the third
+  -- During the third write.
   pub during_raise : sequence_of old < sequence_of new → (k0 k1 k2 : Option Content) (image : Files) → ReadsFit k0 → ReadsFit k1 → ReadsFit k2 → WhereTold HasRootSize k2 → Told (IsWritten root_name slot (0 ∷ [])) k0 k1 → Told (IsWritten root_name (body_place slot) new) k1 k2 → EachRoot (Filled slot old new) k2
       → Writing root_name slot 1 k2 image → IsOldOrNew old new k0 image
   during_raise newer None k1 k2 image fit fit1 fit2 size told told1 each writing = tt
@@ -289,7 +289,7 @@ module _ (slot : ℕ) (old new : List ℕ) (in_range : slot < 2) where
     elsewhere = λ other apart. elsewhere_before slot (0 ∷ []) k m image fit told other apart (elsewhere_before (body_place slot) new m n image fit1 told1 other apart (writing.elsewhere other apart));
   }
 
-  -- what stands after it
+  -- After the third write.
   pub is_raised : sequence_of old < sequence_of new → (k2 k3 : Option Content) → ReadsFit k2 → EachRoot (Filled slot old new) k2 → Told (IsWritten root_name slot (1 ∷ [])) k2 k3 → EachRoot (Current slot new) k3
   is_raised newer k2 k3 fit each written = each_written (Filled slot old new) (Current slot new) slot (1 ∷ []) k2 k3 fit each opened written where
     opened : (a : List ℕ) → Filled slot old new a → Current slot new (overlay slot (1 ∷ []) a)
@@ -298,7 +298,7 @@ module _ (slot : ℕ) (old new : List ℕ) (in_range : slot < 2) where
         let same = overlay-torn slot (1 ∷ []) a (omega (arith, size, in_range)) in
         raised slot old new a (overlay slot (1 ∷ []) a) newer f same (overlay-byte slot 1 a (omega (arith, size, in_range)))
 
-  -- and the other slot is then ready for the next root
+  -- The other slot is then ready for the next root.
   pub is_ready : sequence_of old < sequence_of new → (k2 k3 : Option Content) → ReadsFit k2 → EachRoot (Filled slot old new) k2 → Told (IsWritten root_name slot (1 ∷ [])) k2 k3 → EachRoot (Ready (1 - slot) new) k3
   is_ready newer k2 k3 fit each written = each_written (Filled slot old new) (Ready (1 - slot) new) slot (1 ∷ []) k2 k3 fit each ready written where
     ready : (a : List ℕ) → Filled slot old new a → Ready (1 - slot) new (overlay slot (1 ∷ []) a)
@@ -312,7 +312,7 @@ module _ (slot : ℕ) (old new : List ℕ) (in_range : slot < 2) where
           other = inl (same.bytes (1 - slot) (apart slot in_range) ∙ f.shut.opened);
         }
 
--- the other files and the disk after the three writes
+-- The other files and the disk after the three writes.
 pub committed : (slot : ℕ) (new : List ℕ) (k0 k1 k2 k3 : Option Content) → Told (IsWritten root_name slot (0 ∷ [])) k0 k1 → Told (IsWritten root_name (body_place slot) new) k1 k2 → Told (IsWritten root_name slot (1 ∷ [])) k2 k3 → Told IsCommitted k0 k3
 committed slot new None None None None a b c = tt
 committed slot new None None None (Some n) a b c = absurd c
@@ -326,7 +326,7 @@ committed slot new (Some k) (Some l) (Some m) (Some n) a b c = record {
   settled = c.settled;
 }
 
--- the root file after them
+-- The root file after the three writes.
 pub has_new_root : (slot : ℕ) (new : List ℕ) → slot < 2 → length new ≡ 1536 → (k0 k1 k2 k3 : Option Content) → WhereTold HasRootSize k0 → Told (IsWritten root_name slot (0 ∷ [])) k0 k1 → Told (IsWritten root_name (body_place slot) new) k1 k2 → Told (IsWritten root_name slot (1 ∷ [])) k2 k3 → Told (HasNewRoot slot new) k0 k3
 has_new_root slot new in_range whole None None None None size a b c = tt
 has_new_root slot new in_range whole None None None (Some n) size a b c = absurd c

@@ -13,27 +13,27 @@ use Rattle.root_slots.specs.Spelling.{flag, place_bytes, name_bytes, config_byte
 use Rattle.root_slots.specs.Sizes.{name_length}
 use Rattle.root_slots.specs.Valid.{no_place, PlaceFits}
 
--- six parts, and a rest behind them
+-- Six parts and a rest.
 pub six_parts : (a b c d e f rest : List ℕ) → (a ++ b ++ c ++ d ++ e ++ f) ++ rest ≡ a ++ (b ++ (c ++ (d ++ (e ++ (f ++ rest)))))
 six_parts a b c d e f rest =
     append_assoc (a ++ b ++ c ++ d ++ e) f rest ∙ (append_assoc (a ++ b ++ c ++ d) e (f ++ rest) ∙ (append_assoc (a ++ b ++ c) d (e ++ (f ++ rest)) ∙ (append_assoc (a ++ b) c (d ++ (e ++ (f ++ rest))) ∙ append_assoc a b (c ++ (d ++ (e ++ (f ++ rest)))))))
 
--- the two numbers of a place
+-- The two numbers of a place.
 pub place_parts : (bytes rest : List ℕ) (p : Place) → bytes ≡ place_bytes p ++ rest → bytes ≡ be64 p.gen_ ++ (be64 p.length ++ rest)
 unfolding place_bytes
 place_parts bytes rest p is = is ∙ append_assoc (be64 p.gen_) (be64 p.length) rest
 
--- a place of two numbers
+-- A place of two numbers.
 pub place_is : (gen_ long : ℕ) (p : Place) → gen_ ≡ p.gen_ → long ≡ p.length → record { gen_ = gen_; length = long } ≡ p
 place_is gen_ long p a b = λ i. record { gen_ = a i; length = b i }
 
--- the parts of a name
+-- The parts of a name.
 pub record NameParts (bytes rest text : List ℕ) : Type 0 where
   pub count : get_or (take 1 (take 65 bytes)) 0 0 ≡ length text
   pub itself : take (length text) (drop 1 (take 65 bytes)) ≡ text
   pub behind : drop 65 bytes ≡ rest
 
--- a name is its length, itself and zeros
+-- A name is its length, its text and zeros.
 pub name_parts : (bytes rest text : List ℕ) → IsName text → bytes ≡ name_bytes text ++ rest → NameParts bytes rest text
 unfolding name_bytes
 name_parts bytes rest text valid is =
@@ -44,66 +44,66 @@ name_parts bytes rest text valid is =
       behind = rest_is 65 bytes (name_bytes text) rest (name_length text valid) is;
     }
 
--- the parts of settings
+-- The parts of settings.
 pub config_parts : (bytes rest : List ℕ) (c : Config) → bytes ≡ config_bytes c ++ rest → bytes ≡ (1 ∷ flag c.mirror ∷ []) ++ (name_bytes c.name ++ (be64 c.limit ++ (be32 c.slice ++ (be32 c.max ++ (be32 c.born ++ rest)))))
 unfolding config_bytes
 config_parts bytes rest c is = is ∙ six_parts (1 ∷ flag c.mirror ∷ []) (name_bytes c.name) (be64 c.limit) (be32 c.slice) (be32 c.max) (be32 c.born) rest
 
--- a flag is read back
+-- A flag is read back.
 pub flag_read : (mirror : Bool) → nat_eq (flag mirror) 1 ≡ mirror
 flag_read true = refl
 flag_read false = refl
 
--- the second of two bytes in front
+-- The second of two bytes at the front.
 pub second_byte : (bytes rest : List ℕ) (a b : ℕ) → bytes ≡ (a ∷ b ∷ []) ++ rest → get_or (take 2 bytes) 1 0 ≡ b
 second_byte bytes rest a b is = ap (λ (l : List ℕ). get_or (take 2 l) 1 0) is
 
--- the value of an option, or else this one
+-- The value of an option, or this default.
 abbrev value_or : {A : Type 0} → A → Option A → A
 value_or x None = x
 value_or x (Some y) = y
 
--- one value of an option
+-- An option has one value.
 pub some_is : {A : Type 0} (found : Option A) (x y : A) → found ≡ Some x → found ≡ Some y → x ≡ y
 some_is found x y a b = ap (λ (o : Option _). value_or x o) (sym a ∙ b)
 
--- there is a value
+-- An option has a value.
 abbrev HasValue : {A : Type 0} → Option A → Type 0
 HasValue None = ⊥
 HasValue (Some x) = Unit {0}
 
--- not both a value and none
+-- An option doesn't both have a value and lack one.
 pub none_isnt : {A : Type 0} (found : Option A) (x : A) → found ≡ None → found ≡ Some x → ⊥
 none_isnt found x a b = subst (λ (o : Option _). HasValue o) (sym b ∙ a) tt
 
--- a name that is found
+-- A name that is found.
 pub found_is : (found : Option (List ℕ)) (given text : List ℕ) → given ≡ text → IsName text → IfSome found (λ name. (name ≡ given) × IsName given) → IfNone found (IsName given → ⊥) → found ≡ Some text
 found_is None given text is valid some none = absurd (none (subst IsName (sym is) valid))
 found_is (Some name) given text is valid some none = ap (λ (t : List ℕ). Some t) (some.0 ∙ is)
 
--- the text behind its length
+-- The text after its length.
 pub text_is : (front behind bytes rest text : List ℕ) → front ≡ take 1 (take 65 bytes) → behind ≡ drop 1 (take 65 bytes) → NameParts bytes rest text → take (get_or front 0 0) behind ≡ text
 text_is front behind bytes rest text a b parts =
     ap (λ (n : ℕ). take n behind) (ap (λ (l : List ℕ). get_or l 0 0) a ∙ parts.count) ∙ (ap (λ (l : List ℕ). take (length text) l) b ∙ parts.itself)
 
--- the parts of a root
+-- The parts of a root.
 pub root_parts : (bytes : List ℕ) (r : Root) → bytes ≡ spelling r → bytes ≡ be64 r.sequence ++ (config_bytes r.config ++ (be32 r.next ++ (place_bytes r.map ++ (flat_map place_bytes r.epochs ++ (place_bytes r.cache ++ replicate (1536 - length (fields r)) 0)))))
 unfolding spelling fields
 root_parts bytes r is = is ∙ six_parts (be64 r.sequence) (config_bytes r.config) (be32 r.next) (place_bytes r.map) (flat_map place_bytes r.epochs) (place_bytes r.cache) (replicate (1536 - length (fields r)) 0)
 
--- settings of six values
+-- Settings of six values.
 pub config_is : (x c : Config) → x.name ≡ c.name → x.limit ≡ c.limit → x.slice ≡ c.slice → x.max ≡ c.max → x.mirror ≡ c.mirror → x.born ≡ c.born → x ≡ c
 config_is x c p1 p2 p3 p4 p5 p6 = λ i. record { name = p1 i; limit = p2 i; slice = p3 i; max = p4 i; mirror = p5 i; born = p6 i }
 
--- a root of six values
+-- A root of six values.
 pub root_is : (x r : Root) → x.config ≡ r.config → x.sequence ≡ r.sequence → x.next ≡ r.next → x.map ≡ r.map → x.epochs ≡ r.epochs → x.cache ≡ r.cache → x ≡ r
 root_is x r p1 p2 p3 p4 p5 p6 = λ i. record { config = p1 i; sequence = p2 i; next = p3 i; map = p4 i; epochs = p5 i; cache = p6 i }
 
--- what a loop has read of places
+-- The places that a loop has read.
 abbrev pub HasRead : ℕ → List Place → List ℕ → List Place → List ℕ → Type 0
 HasRead i all left ps more = (take i all ≡ take i ps) × (left ≡ flat_map place_bytes (drop i ps) ++ more)
 
--- one place more
+-- One more place.
 pub reads_on : (i : ℕ) (all ps : List Place) (left after more : List ℕ) (next : Place) → i < 64 → length all ≡ 64 → length ps ≡ 64 → PlaceFits (get_or ps i no_place)
     → ((p : Place) (rest : List ℕ) → PlaceFits p → left ≡ place_bytes p ++ rest → (next ≡ p) × (after ≡ rest)) → HasRead i all left ps more → HasRead (i + 1) (set all i next) after ps more
 reads_on i all ps left after more next below size count fits read before =
@@ -115,11 +115,11 @@ reads_on i all ps left after more next below size count fits read before =
     let grown : take (i + 1) ps ≡ take i ps ++ p ∷ [] = rw add-one (take-suc ps i no_place (omega (arith, below, count))) in
     (take_more_set all i next (omega (arith, below, size)) ∙ (ap (λ (l : List Place). l ++ next ∷ []) before.0 ∙ (ap (λ (q : Place). take i ps ++ q ∷ []) both.0 ∙ sym grown)), both.1)
 
--- before the first place
+-- Before the first place.
 pub reads_none : (all ps : List Place) (left more : List ℕ) → left ≡ flat_map place_bytes ps ++ more → HasRead 0 all left ps more
 reads_none all ps left more is = (refl, is)
 
--- after the last
+-- After the last place.
 pub reads_all : (all ps : List Place) (left more : List ℕ) → length all ≡ 64 → length ps ≡ 64 → HasRead 64 all left ps more → (all ≡ ps) × (left ≡ more)
 reads_all all ps left more size count read =
     (sym (take_all 64 all (omega (arith, size))) ∙ (read.0 ∙ take_all 64 ps (omega (arith, count))), read.1 ∙ ap (λ (l : List Place). flat_map place_bytes l ++ more) (drop_all 64 ps (omega (arith, count))))

@@ -1,13 +1,13 @@
--- Roots and their spellings.
+-- Laws of roots and their spellings.
 use Rattle.std.specs.Prelude.{◌≡◌, length}
 use Rattle.root_slots.specs.declared.root.Root.{Root}
 use Rattle.root_slots.specs.Spelling.{spelling}
 use Rattle.root_slots.specs.Valid.{RootFits, IsRoot}
 
--- two roots of one spelling are one
+-- Two roots with the same spelling are equal.
 abbrev pub SpellingsDiffer : Type 0
 SpellingsDiffer = (r s : Root) → RootFits r → RootFits s → IsRoot r → IsRoot s → spelling r ≡ spelling s → r ≡ s
 
--- a spelling fills its slot
+-- A spelling fills its slot.
 abbrev pub SpellingsFill : Type 0
 SpellingsFill = (r : Root) → RootFits r → length (spelling r) ≡ 1536

@@ -2,6 +2,6 @@
 use Rattle.disk_model.specs.declared.name.FileName.{FileName}
 use Rattle.disk_model.specs.declared.name.FileKind.TheVariants.{Root}
 
--- the root file
+-- The root file.
 abbrev pub root_name : FileName
 root_name = record { kind = Root; number = 0; gen_ = 0 }

@@ -1,4 +1,4 @@
--- How long the parts of a root are, and where its sequence stands.
+-- The lengths of the parts of a root, and where its sequence is.
 use Rattle.std.specs.Prelude.{◌≡◌, ◌<◌, ◌^◌, ◌*◌, ℕ, List, [], ◌∷◌, ◌++◌, length, replicate, ◌-◌}
 use Rattle.std.specs.List.{flat_map}
 use Rattle.std.proofs.Common.{arith, length-append}
@@ -12,17 +12,17 @@ use Rattle.disk_model.specs.BigEndian.{be32, be64, be32_length, be64_length}
 use Rattle.root_slots.specs.Spelling.{flag, place_bytes, name_bytes, config_bytes, fields, spelling}
 use Rattle.root_slots.specs.Slots.{sequence_of}
 
--- sixteen bytes a place
+-- A place takes 16 bytes.
 pub place_length : (p : Place) → length (place_bytes p) ≡ 16
 unfolding place_bytes
 place_length p = omega (arith, length-append (be64 p.gen_) (be64 p.length), be64_length p.gen_, be64_length p.length)
 
--- and so many for each of a list
+-- Each place of a list takes 16 bytes.
 pub places_length : (ps : List Place) → length (flat_map place_bytes ps) ≡ 16 * length ps
 places_length [] = omega arith
 places_length (p ∷ ps) = omega (arith, length-append (place_bytes p) (flat_map place_bytes ps), place_length p, places_length ps)
 
--- sixty-five bytes a name
+-- A name takes 65 bytes.
 pub name_length : (name : List ℕ) → IsName name → length (name_bytes name) ≡ 65
 unfolding name_bytes
 name_length name valid =
@@ -30,7 +30,7 @@ name_length name valid =
     let zeros : List ℕ = replicate (64 - length name) 0 in
     omega (arith, length-append ((length name ∷ []) ++ name) zeros, length-append (length name ∷ []) name, length-replicate {A = ℕ} (64 - length name) 0)
 
--- eighty-seven bytes of settings
+-- The format and the settings take 87 bytes.
 pub config_length : (c : Config) → IsName c.name → length (config_bytes c) ≡ 87
 unfolding config_bytes
 config_length c valid =
@@ -40,7 +40,7 @@ config_length c valid =
     let e = d ++ be32 c.max in
     omega (arith, length-append e (be32 c.born), length-append d (be32 c.max), length-append b (be32 c.slice), length-append a (be64 c.limit), length-append (1 ∷ flag c.mirror ∷ []) (name_bytes c.name), name_length c.name valid, be64_length c.limit, be32_length c.slice, be32_length c.max, be32_length c.born)
 
--- 1,155 bytes of fields
+-- The fields take 1,155 bytes.
 pub fields_length : (r : Root) → IsName r.config.name → length r.epochs ≡ 64 → length (fields r) ≡ 1155
 unfolding fields
 fields_length r valid count =
@@ -50,12 +50,12 @@ fields_length r valid count =
     let e = d ++ flat_map place_bytes r.epochs in
     omega (arith, count, length-append e (place_bytes r.cache), length-append d (flat_map place_bytes r.epochs), length-append b (place_bytes r.map), length-append a (be32 r.next), length-append (be64 r.sequence) (config_bytes r.config), be64_length r.sequence, config_length r.config valid, be32_length r.next, place_length r.map, places_length r.epochs, place_length r.cache)
 
--- 1,536 bytes in all
+-- A spelling takes 1,536 bytes.
 pub spelling_length : (r : Root) → IsName r.config.name → length r.epochs ≡ 64 → length (spelling r) ≡ 1536
 unfolding spelling
 spelling_length r valid count = let size = fields_length r valid count in omega (arith, size, length-append (fields r) (replicate (1536 - length (fields r)) 0), length-replicate {A = ℕ} (1536 - length (fields r)) 0)
 
--- a body begins with its root's sequence
+-- A spelling starts with its root's sequence.
 pub sequence-spelling : (r : Root) → r.sequence < 2 ^ 64 → sequence_of (spelling r) ≡ r.sequence
 unfolding spelling fields sequence_of be64
 sequence-spelling r fits = from_be_bytes-to_be_bytes_8 r.sequence fits

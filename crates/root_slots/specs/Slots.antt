@@ -1,4 +1,4 @@
--- The root file, its two slots, and which of them is the current root.
+-- The root file, its two slots, and which of them has the current root.
 use Rattle.std.specs.Prelude.{◌≡◌, ◌≢◌, ◌⊎◌, Bool, true, false, ℕ, ◌+◌, ◌-◌, ◌*◌, ◌<◌, Option, Some, None, Result, Ok, Err, List, [], ◌∷◌, length, get_or, take, drop, replicate}
 use Rattle.std.specs.Int.{from_be_bytes, w64}
 use Rattle.disk_model.specs.declared.name.FileName.{FileName}
@@ -12,45 +12,46 @@ use Rattle.root_slots.specs.Each.{IfThere}
 use Rattle.root_slots.specs.Spelling.{spelling}
 use Rattle.root_slots.specs.Valid.{RootFits, IsRoot}
 
--- the root file has its size
+-- The root file has its size.
 abbrev pub HasRootSize : Content → Type 0
 HasRootSize k = length (bytes_of (k root_name).seen) ≡ 4096
 
--- all other files are as a crash before might have left them
+-- All other files are as a crash before might have left them.
 abbrev pub Elsewhere : Content → Files → Type 0
 Elsewhere k image = (other : FileName) → other ≢ root_name → Fits (k other).sure (image other)
 
--- the same, where the disk tells its content
+-- The same, if the disk tells its content.
 abbrev pub OthersStay : Option Content → Files → Type 0
 OthersStay None image = Unit {0}
 OthersStay (Some k) image = Elsewhere k image
 
--- the gate of a slot: 1 is open, all else is shut
+-- The gate of a slot: 1 is open, any other byte is shut.
 abbrev pub gate : List ℕ → ℕ → ℕ
 gate file slot = get_or file slot 0
 
--- whether the gate of a slot is open, as reads give the root file
+-- Whether the gate of a slot is open, as reads give the root file.
 abbrev pub IsGateOpen : ℕ → Bool → Content → Type 0
 IsGateOpen slot true k = gate (bytes_of (k root_name).seen) slot ≡ 1
 IsGateOpen slot false k = gate (bytes_of (k root_name).seen) slot ≢ 1
 
--- where the body of a slot stands
+-- The offset of the body of a slot.
 abbrev pub body_place : ℕ → ℕ
 body_place slot = 1024 + 1536 * slot
 
--- the body of a slot
+-- The body of a slot.
 unfoldable pub body_at : List ℕ → ℕ → List ℕ
 body_at file slot = take 1536 (drop (body_place slot) file)
 
--- a body begins with its sequence
+-- The sequence of a body, its first 8 bytes.
 unfoldable pub sequence_of : List ℕ → ℕ
 sequence_of body = from_be_bytes w64 (take 8 body)
 
--- of two open slots the other one is older; of one sequence slot 0 counts as the newer
+-- Of two open slots the other one is older. Of equal sequences slot 0 counts as the newer.
 abbrev pub Precedes : List ℕ → List ℕ → ℕ → Type 0
 Precedes other body slot = (sequence_of other < sequence_of body) ⊎ ((sequence_of other ≡ sequence_of body) × (slot ≡ 0))
 
--- The current root of a file is this body, in this slot: the open slot, and of two open ones the newer.
+-- The current root of a file has this body and this slot: the open slot, and of two open ones the
+-- newer.
 pub record Current (slot : ℕ) (body file : List ℕ) : Type 0 where
   pub in_range : slot < 2
   pub size : length file ≡ 4096
@@ -58,105 +59,106 @@ pub record Current (slot : ℕ) (body file : List ℕ) : Type 0 where
   pub holds : body_at file slot ≡ body
   pub newest : gate file (1 - slot) ≡ 1 → Precedes (body_at file (1 - slot)) body slot
 
--- the current root is this body, in whichever slot
+-- The current root has this body, in either slot.
 abbrev pub HasRoot : List ℕ → List ℕ → Type 0
 HasRoot body file = (slot : ℕ) × Current slot body file
 
--- A commit into this slot is safe: the other slot has the current root, and this one is open, or has the body of the
--- current root, or one of a lesser sequence.
+-- A commit to this slot is safe: the other slot has the current root, and this slot is open, or has
+-- the body of the current root, or a body of a lesser sequence.
 pub record Ready (slot : ℕ) (old file : List ℕ) : Type 0 where
   pub current : Current (1 - slot) old file
   pub other : (gate file slot ≡ 1) ⊎ ((body_at file slot ≡ old) ⊎ (sequence_of (body_at file slot) < sequence_of old))
 
--- the old root or the new one, and all other files as a crash before might have left them
+-- The old root or the new one, and all other files as a crash before might have left them.
 pub record OldOrNew (old new : List ℕ) (k : Content) (image : Files) : Type 0 where
   pub root : IfThere (HasRoot old) (image root_name) ⊎ IfThere (HasRoot new) (image root_name)
   pub elsewhere : Elsewhere k image
 
--- the same, where the disk tells its content
+-- The same, if the disk tells its content.
 abbrev pub IsOldOrNew : List ℕ → List ℕ → Option Content → Files → Type 0
 IsOldOrNew old new None image = Unit {0}
 IsOldOrNew old new (Some k) image = OldOrNew old new k image
 
--- a root file with this body in a slot whose gate is open, and all else as it was
+-- A root file with this body in a slot whose gate is open, and otherwise as it was.
 abbrev pub with_root : ℕ → List ℕ → List ℕ → List ℕ
 with_root slot body file = overlay slot (1 ∷ []) (overlay (body_place slot) body file)
 
--- after a commit the root file reads so
+-- After a commit the root file reads so.
 abbrev pub HasNewRoot : ℕ → List ℕ → Content → Content → Type 0
 HasNewRoot slot body old new = (new root_name).seen ≡ Some (with_root slot body (bytes_of (old root_name).seen))
 
--- after a commit: what reads give is on the disk, and no other file reads otherwise
+-- After a commit what reads give is on the disk, and every other file reads as before.
 pub record IsCommitted (old new : Content) : Type 0 where
   pub elsewhere : (other : FileName) → other ≢ root_name → (new other).seen ≡ (old other).seen
   pub settled : IsSettled new
 
--- no slot is open
+-- No slot is open.
 abbrev pub IsShut : List ℕ → Type 0
 IsShut file = (length file ≢ 4096) ⊎ ((gate file 0 ≢ 1) × (gate file 1 ≢ 1))
 
--- the current root's body is the spelling of no root; the place is that of its slot
+-- The body of the current slot spells no root; the offset is that of the body.
 pub record IsDamaged (at : ℕ) (file : List ℕ) : Type 0 where
   pub slot : ℕ
   pub current : Current slot (body_at file slot) file
   pub place : at ≡ body_place slot
   pub none : (r : Root) → RootFits r → IsRoot r → body_at file slot ≢ spelling r
 
--- what is read of a root file of these bytes
+-- The results of reading a root file with these bytes.
 abbrev pub Answers : List ℕ → Result (Option (ℕ × Root)) RootRefusal → Type 0
 Answers file (Ok None) = IsShut file
 Answers file (Ok (Some found)) = Current found.0 (spelling found.1) file × IsRoot found.1
 Answers file (Err (Damaged at)) = IsDamaged at file
 Answers file (Err DiskFault) = Unit {0}
 
--- where the current root is the spelling of a root, this very root is read, unless the disk failed
+-- A current root that is spelled in the file is the one read, unless the disk failed.
 abbrev pub ReadsBack : List ℕ → Result (Option (ℕ × Root)) RootRefusal → Type 0
 ReadsBack file (Err DiskFault) = Unit {0}
 ReadsBack file (Err (Damaged at)) = (slot : ℕ) (r : Root) → RootFits r → IsRoot r → Current slot (spelling r) file → ⊥
 ReadsBack file (Ok found) = (slot : ℕ) (r : Root) → RootFits r → IsRoot r → Current slot (spelling r) file → found ≡ Some (slot, r)
 
--- no slot of this file is open
+-- No slot of this file is open.
 abbrev pub IsShutFile : File → Type 0
 IsShutFile None = Unit {0}
 IsShutFile (Some bytes) = IsShut bytes
 
--- no crash leaves an open slot
+-- No crash leaves an open slot.
 abbrev pub EachShut : Option Content → Type 0
 EachShut None = Unit {0}
 EachShut (Some k) = (file : File) → Fits (k root_name).sure file → IsShutFile file
 
--- no slot is open, and all other files are as a crash before might have left them
+-- No slot is open, and all other files are as a crash before might have left them.
 pub record StaysShut (k : Content) (image : Files) : Type 0 where
   pub root : IsShutFile (image root_name)
   pub elsewhere : Elsewhere k image
 
--- the same, where the disk tells its content
+-- The same, if the disk tells its content.
 abbrev pub LeavesShut : Option Content → Files → Type 0
 LeavesShut None image = Unit {0}
 LeavesShut (Some k) image = StaysShut k image
 
--- the root file is whole and all zeros, no other file reads otherwise, and all of it is on the disk
+-- The root file is whole and all zeros, every other file reads as before, and all of it is on the
+-- disk.
 pub record IsBegun (old new : Content) : Type 0 where
   pub root : (new root_name).seen ≡ Some (replicate 4096 0)
   pub elsewhere : (other : FileName) → other ≢ root_name → (new other).seen ≡ (old other).seen
   pub settled : IsSettled new
 
--- the bytes of a root file of the right size, or that it has another size
+-- The bytes of a root file of 4,096 bytes, or that it has another size.
 abbrev pub AreRootBytes : Bool → List ℕ → Content → Type 0
 AreRootBytes true file k = file ≡ bytes_of (k root_name).seen
 AreRootBytes false file k = length (bytes_of (k root_name).seen) ≢ 4096
 
--- while the root file is taken away
+-- What a crash leaves while the root file is removed.
 pub record IsClearing (k : Content) (image : Files) : Type 0 where
   pub root : Fits (remove_sure (k root_name).sure) (image root_name)
   pub elsewhere : Elsewhere k image
 
--- the same, where the disk tells its content
+-- The same, if the disk tells its content.
 abbrev pub Clearing : Option Content → Files → Type 0
 Clearing None image = Unit {0}
 Clearing (Some k) image = IsClearing k image
 
--- the root file is gone, no other file reads otherwise, and all of it is on the disk
+-- The root file is gone, every other file reads as before, and all of it is on the disk.
 pub record IsCleared (old new : Content) : Type 0 where
   pub root : (new root_name).seen ≡ None
   pub elsewhere : (other : FileName) → other ≢ root_name → (new other).seen ≡ (old other).seen

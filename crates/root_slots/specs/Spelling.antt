@@ -1,4 +1,4 @@
--- The bytes of a root in its slot.
+-- The bytes of a root in its slot, numbers with the highest byte first.
 use Rattle.std.specs.Prelude.{ℕ, ◌-◌, Bool, true, false, List, [], ◌∷◌, ◌++◌, length, replicate}
 use Rattle.std.specs.List.{flat_map}
 use Rattle.arch_base.specs.declared.config.Config.{Config}
@@ -6,27 +6,27 @@ use Rattle.disk_model.specs.BigEndian.{be32, be64}
 use Rattle.root_slots.specs.declared.root.Place.{Place}
 use Rattle.root_slots.specs.declared.root.Root.{Root}
 
--- a file's generation, then its length
+-- A file's generation, then its length.
 unfoldable pub place_bytes : Place → List ℕ
 place_bytes p = be64 p.gen_ ++ be64 p.length
 
--- 1 for yes, 0 for no
+-- 1 for yes, 0 for no.
 abbrev pub flag : Bool → ℕ
 flag true = 1
 flag false = 0
 
--- the length of a name, the name, and zeros up to 64 bytes
+-- The length of a name, the name, and zeros up to 64 bytes.
 unfoldable pub name_bytes : List ℕ → List ℕ
 name_bytes name = (length name ∷ []) ++ name ++ replicate (64 - length name) 0
 
--- the format, which is 1, and the settings
+-- The format, which is 1, and the settings.
 unfoldable pub config_bytes : Config → List ℕ
 config_bytes c = (1 ∷ flag c.mirror ∷ []) ++ name_bytes c.name ++ be64 c.limit ++ be32 c.slice ++ be32 c.max ++ be32 c.born
 
--- all fields of a root
+-- All fields of a root.
 unfoldable pub fields : Root → List ℕ
 fields r = be64 r.sequence ++ config_bytes r.config ++ be32 r.next ++ place_bytes r.map ++ flat_map place_bytes r.epochs ++ place_bytes r.cache
 
--- the fields, and zeros to the end of the slot of 1,536 bytes
+-- The fields, then zeros up to the 1,536 bytes of a slot's body.
 unfoldable pub spelling : Root → List ℕ
 spelling r = fields r ++ replicate (1536 - length (fields r)) 0

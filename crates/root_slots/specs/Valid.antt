@@ -1,4 +1,4 @@
--- Which roots there are.
+-- Which roots are valid.
 use Rattle.std.specs.Prelude.{◌≡◌, ◌<◌, ◌≤◌, ◌*◌, ◌-◌, ◌^◌, ℕ, length, get_or}
 use Rattle.std.specs.List.{All}
 use Rattle.arch_base.specs.Configs.{IsConfig}
@@ -6,16 +6,16 @@ use Rattle.arch_base.specs.Names.{IsName}
 use Rattle.root_slots.specs.declared.root.Place.{Place}
 use Rattle.root_slots.specs.declared.root.Root.{Root}
 
--- what stands past the end of a list
+-- The default for an index past the end of a list of places.
 abbrev pub no_place : Place
 no_place = record { gen_ = 0; length = 0 }
 
--- the numbers of a place fit their fields
+-- The numbers of a place fit their fields.
 pub record PlaceFits (p : Place) : Type 0 where
   pub gen_ : p.gen_ < 2 ^ 64
   pub length : p.length < 2 ^ 64
 
--- the values of a root fit their fields
+-- The values of a root fit their fields.
 pub record RootFits (r : Root) : Type 0 where
   pub name : IsName r.config.name
   pub sequence : r.sequence < 2 ^ 64
@@ -24,12 +24,12 @@ pub record RootFits (r : Root) : Type 0 where
   pub count : length r.epochs ≡ 64
   pub cache : PlaceFits r.cache
 
--- no generation is above the sequence, and what is empty has none
+-- The generation is at most the sequence, and 0 if the length is 0.
 pub record PlaceIsValid (sequence : ℕ) (p : Place) : Type 0 where
   pub gen_ : p.gen_ ≤ sequence
   pub empty : p.length ≡ 0 → p.gen_ ≡ 0
 
--- the ranges of a root: settings, next number, the map's length, and generations
+-- The ranges of a root: settings, next number, the map's length, and generations.
 pub record IsRoot (r : Root) : Type 0 where
   pub config : IsConfig r.config
   pub next_least : 1 ≤ r.next

@@ -8,7 +8,9 @@ use crate::root::{Place, Root};
 use arch_base::{Config, Name};
 use std::marker::Model;
 
-/// A body that is written from its front on. A contract sees it as what is written so far; zeros stand behind.
+/// A body that is written from its first byte on.
+///
+/// Its contract view is what is written so far; the rest is zeros.
 #[derive(Drop)]
 struct Body {
     bytes: [u8; 1536],
@@ -26,7 +28,7 @@ impl Model for Body {
 }
 
 impl Body {
-    /// Nothing is written yet.
+    /// Creates a body with nothing written.
     fn new() -> Self
         ensures { result ≡ [] }
     {
@@ -56,7 +58,7 @@ impl Body {
         self.at += count;
     }
 
-    /// Writes a number of 32 bits.
+    /// Writes a number of 32 bits, the highest byte first.
     #[tactic(auto, using(disk_model::specs::BigEndian::be32_length), unfolding(disk_model::specs::BigEndian::be32))]
     fn push_u32(&mut self, number: u32)
         requires { length self.old + 4 ≤ 1536 }
@@ -66,7 +68,7 @@ impl Body {
         self.push(&number.to_be_bytes());
     }
 
-    /// Writes a number of 64 bits.
+    /// Writes a number of 64 bits, the highest byte first.
     #[tactic(auto, using(disk_model::specs::BigEndian::be64_length), unfolding(disk_model::specs::BigEndian::be64))]
     fn push_u64(&mut self, number: u64)
         requires { length self.old + 8 ≤ 1536 }
@@ -76,7 +78,7 @@ impl Body {
         self.push(&number.to_be_bytes());
     }
 
-    /// Writes a place.
+    /// Writes a `Place`: the generation, then the length.
     #[tactic(auto, using(disk_model::specs::BigEndian::be64_length), unfolding(crate::specs::Spelling::place_bytes))]
     fn push_place(&mut self, place: &Place)
         requires { length self.old + 16 ≤ 1536 }
@@ -126,7 +128,7 @@ impl Body {
         }
     }
 
-    /// The body, with zeros behind what is written.
+    /// Returns the whole body, with zeros after what is written.
     fn finish(self) -> [u8; 1536]
         ensures { result ≡ self ++ replicate (1536 - length self) 0 }
     {
@@ -135,7 +137,7 @@ impl Body {
     }
 }
 
-/// The bytes of a root, 1,155 bytes of fields and zeros behind them.
+/// Returns the bytes of a root: 1,155 bytes of fields, then zeros.
 #[tactic(auto, unfolding(crate::specs::Spelling::fields, crate::specs::Spelling::spelling))]
 pub fn spell(root: &Root) -> [u8; 1536]
     ensures { result ≡ spelling root.now }

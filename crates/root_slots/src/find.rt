@@ -1,4 +1,4 @@
-//! The current root of a root file.
+//! Reads the current root of a root file.
 ghost use Rattle.std.specs.Prelude.{◌≡◌, ◌≢◌, ◌↔◌, ◌<◌, ◌≤◌, Ok, Err, Some, List, ℕ, length, IsTrue, IfOk, IfSome, IfNone};
 ghost use Rattle.arch_base.specs.Counts.{Rose, IsCaused};
 ghost use Rattle.arch_base.specs.Configs.{IsConfig};
@@ -17,7 +17,7 @@ use crate::slots::root_file;
 use arch_base::Config;
 use disk_model::{Disk, DiskFault};
 
-/// Whether settings are in their ranges.
+/// Returns whether settings are in their ranges.
 fn config_is_valid(config: &Config) -> bool
     ensures { IsTrue result ↔ IsConfig config.now }
 {
@@ -30,14 +30,14 @@ fn config_is_valid(config: &Config) -> bool
     config.max >= 1 && config.max <= 2_147_483_647
 }
 
-/// Whether a place may stand in a root of a sequence.
+/// Returns whether a root of a sequence may have this `Place`.
 fn place_is_valid(place: &Place, sequence: u64) -> bool
     ensures { IsTrue result ↔ PlaceIsValid sequence place.now }
 {
     place.gen_ <= sequence && (place.length != 0 || place.gen_ == 0)
 }
 
-/// Whether a root is in the ranges of its fields.
+/// Returns whether each field of a root is in its range.
 pub fn is_valid(root: &Root) -> bool
     ensures { IsTrue result ↔ IsRoot root.now }
 {
@@ -56,7 +56,7 @@ pub fn is_valid(root: &Root) -> bool
         .all(|place| place_is_valid(place, sequence))
 }
 
-/// The root that a body is the spelling of, where there is one.
+/// Returns the root that a body spells, if there is one.
 fn parse(body: &[u8]) -> Option<Root>
     requires { length body.now ≡ 1536 }
     ensures some { IfSome result (λ r. (body.now ≡ spelling r) × IsRoot r) }
@@ -70,7 +70,7 @@ fn parse(body: &[u8]) -> Option<Root>
     None
 }
 
-/// The sequence in the body of a slot.
+/// Returns the sequence in the body of a slot.
 fn sequence(file: &[u8], slot: u8) -> u64
     requires size { length file.now ≡ 4096 }
     requires slot { slot < 2 }
@@ -80,7 +80,9 @@ fn sequence(file: &[u8], slot: u8) -> u64
     number64(&file[start..start + 1536]).0
 }
 
-/// The open slot, and of two open ones that of greater sequence.
+/// Returns the open slot, and of two open ones that of greater sequence.
+///
+/// Of equal sequences slot 0 counts as the newer.
 fn newest_slot(file: &[u8]) -> Option<u8>
     requires { length file.now ≡ 4096 }
     ensures some { IfSome result (λ s. Current s (body_at file.now s) file.now) }
@@ -100,7 +102,7 @@ fn newest_slot(file: &[u8]) -> Option<u8>
     }
 }
 
-/// The current root of a root file of the right size, and its slot.
+/// Returns the current root of a root file of 4,096 bytes, and its slot.
 fn find(file: &[u8]) -> Result<Option<(u8, Root)>, RootRefusal>
     requires { length file.now ≡ 4096 }
     ensures exact { Answers file.now result }
@@ -118,7 +120,7 @@ fn find(file: &[u8]) -> Result<Option<(u8, Root)>, RootRefusal>
     }
 }
 
-/// The root file's bytes, or that it has another size.
+/// Reads the root file, and returns whether it has 4,096 bytes. With another size nothing is read.
 fn whole_file<D: Disk>(disk: &mut D, file: &mut [u8; 4096]) -> Result<bool, DiskFault>
     ensures whole { IfOk result (λ whole. WhereTold (AreRootBytes whole file.new) (D.content disk.old)) }
     ensures same { Told Unchanged (D.content disk.old) (D.content disk.new) }
@@ -132,13 +134,18 @@ fn whole_file<D: Disk>(disk: &mut D, file: &mut [u8; 4096]) -> Result<bool, Disk
     Ok(true)
 }
 
-/// The current root and its slot: the open slot, and of two open ones that of greater sequence. None exactly where no
-/// slot is open, and damaged exactly where the body of that slot is the spelling of no root.
+/// Returns the current root and its slot.
+///
+/// The current slot is the open one, and of two open ones that of greater sequence. Of equal
+/// sequences it is slot 0.
+///
+/// The result is `None` exactly if no slot is open, and `Damaged` exactly if the body of the
+/// current slot spells no root. A root file whose size isn't 4,096 bytes has no open slot.
 pub fn read<D: Disk>(disk: &mut D) -> Result<Option<(u8, Root)>, RootRefusal>
     ensures exact { WhereTold (λ k. Answers (bytes_of (k root_name).seen) result) (D.content disk.old) }
-    // The root that was spelled there is read back.
+    // A root that is spelled there is read back.
     ensures inverse { WhereTold (λ k. ReadsBack (bytes_of (k root_name).seen) result) (D.content disk.old) }
-    // What is read is a root in the ranges of its fields, whatever the disk tells.
+    // The result has each field in its range, whatever the disk tells.
     ensures valid { IfOk result (λ found. IfSome found (λ one. (one.0 < 2) × IsRoot one.1)) }
     ensures same { Told Unchanged (D.content disk.old) (D.content disk.new) }
     ensures any_moment { LeavesOnly D.moment D.left_since disk.old disk.new (Image (D.content disk.old)) }

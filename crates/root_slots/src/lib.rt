@@ -1,4 +1,6 @@
-//! The root of an archive: one file with two slots, of which a commit changes the other one.
+//! The root of an archive: one file with two slots.
+//!
+//! A commit writes the slot that isn't current.
 #![tactic(auto)]
 
 mod body;

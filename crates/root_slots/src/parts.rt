@@ -1,5 +1,7 @@
-//! The parts of a root, read from its bytes. Each function takes its part off the front, and gives the rest. Its
-//! contract says what is read where the front is the spelling of a value; else any value is read.
+//! Reads the parts of a root from its bytes.
+//!
+//! Each function reads its part from the front and returns the rest. Its contract says what is read
+//! if the bytes start with the spelling of a value; otherwise it may read any value.
 ghost use Rattle.std.specs.Prelude.{◌≡◌, ◌+◌, ◌<◌, ◌≤◌, ◌^◌, ◌++◌, ◌∷◌, Some, List, ℕ, length, get_or, take};
 ghost use Rattle.std.specs.List.{flat_map};
 ghost use Rattle.std.specs.Int.{from_be_bytes, w64};
@@ -15,7 +17,7 @@ ghost use Rattle.root_slots.specs.Valid.{no_place, PlaceFits, RootFits, IsRoot};
 use crate::root::{Place, Root};
 use arch_base::{Config, Name};
 
-/// A number of 64 bits.
+/// Reads a number of 64 bits, the highest byte first.
 pub fn number64(bytes: &[u8]) -> (u64, &[u8])
     requires { 8 ≤ length bytes.now }
     ensures value { result.0 ≡ from_be_bytes w64 (take 8 bytes.now) }
@@ -28,7 +30,7 @@ pub fn number64(bytes: &[u8]) -> (u64, &[u8])
     (u64::from_be_bytes(digits), rest)
 }
 
-/// A number of 32 bits.
+/// Reads a number of 32 bits, the highest byte first.
 fn number32(bytes: &[u8]) -> (u32, &[u8])
     requires { 4 ≤ length bytes.now }
     ensures read { (n : ℕ) (rest : List ℕ) → n < 2 ^ 32 → bytes.now ≡ be32 n ++ rest → (result.0 ≡ n) × (result.1.now ≡ rest) }
@@ -40,7 +42,7 @@ fn number32(bytes: &[u8]) -> (u32, &[u8])
     (u32::from_be_bytes(digits), rest)
 }
 
-/// A place.
+/// Reads a `Place`: the generation, then the length.
 fn place(bytes: &[u8]) -> (Place, &[u8])
     requires { 16 ≤ length bytes.now }
     ensures read { (p : Place) (rest : List ℕ) → PlaceFits p → bytes.now ≡ place_bytes p ++ rest → (result.0 ≡ p) × (result.1.now ≡ rest) }
@@ -51,7 +53,7 @@ fn place(bytes: &[u8]) -> (Place, &[u8])
     (Place { gen_, length }, rest)
 }
 
-/// A name, where there is one.
+/// Reads a name, if there is one.
 fn name(bytes: &[u8]) -> (Option<Name>, &[u8])
     requires { 65 ≤ length bytes.now }
     ensures read { (text rest : List ℕ) → IsName text → bytes.now ≡ name_bytes text ++ rest → (result.0 ≡ Some text) × (result.1.now ≡ rest) }
@@ -66,7 +68,7 @@ fn name(bytes: &[u8]) -> (Option<Name>, &[u8])
     (Name::read(&text[..length]), rest)
 }
 
-/// Settings, where there is a name.
+/// Reads settings, if they have a name.
 fn config(bytes: &[u8]) -> (Option<Config>, &[u8])
     requires { 87 ≤ length bytes.now }
     ensures read { (c : Config) (rest : List ℕ) → IsName c.name → IsConfig c → bytes.now ≡ config_bytes c ++ rest → (result.0 ≡ Some c) × (result.1.now ≡ rest) }
@@ -95,7 +97,7 @@ fn config(bytes: &[u8]) -> (Option<Config>, &[u8])
     }
 }
 
-/// The places of the epochs.
+/// Reads the places of the epochs.
 fn places(bytes: &[u8]) -> ([Place; 64], &[u8])
     requires { 1024 ≤ length bytes.now }
     ensures read { (ps : List Place) (rest : List ℕ) → ((i : ℕ) → i < 64 → PlaceFits (get_or ps i no_place)) → length ps ≡ 64
@@ -112,7 +114,9 @@ fn places(bytes: &[u8]) -> ([Place; 64], &[u8])
     (all, rest)
 }
 
-/// The root that the bytes are the spelling of, if there is one; else any or none.
+/// Returns the root that the bytes spell, if they spell one.
+///
+/// Otherwise it may return any root or none.
 pub fn root_of(body: &[u8]) -> Option<Root>
     requires { 1536 ≤ length body.now }
     ensures { (r : Root) → RootFits r → IsRoot r → body.now ≡ spelling r → result ≡ Some r }

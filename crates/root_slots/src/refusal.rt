@@ -1,4 +1,4 @@
-//! Why a root was not read.
+//! The errors of reading the root.
 use disk_model::DiskFault;
 use thiserror::Error;
 
@@ -8,10 +8,10 @@ pub enum RootRefusal {
     /// A call of the disk failed.
     #[error("the disk failed")]
     DiskFault,
-    /// The open slot of greater sequence is no root.
+    /// The body of the current slot spells no root.
     #[error("damaged root at {at}")]
     Damaged {
-        /// The place of the slot, 1024 or 2560.
+        /// The offset of the slot, 1024 or 2560.
         at: u64,
     },
 }

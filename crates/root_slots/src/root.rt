@@ -1,15 +1,15 @@
-//! What a root names.
+//! The root and what it names.
 ghost use Rattle.std.specs.Prelude.{◌≡◌};
 ghost use Rattle.root_slots.specs.Valid.{IsRoot, PlaceFits, RootFits};
 
 use arch_base::Config;
 
-/// A file that a root names, and how much of it counts.
+/// A file that a root names, and how many of its bytes count.
 #[derive(Clone, Copy, Debug, PartialEq, Eq)]
 pub struct Place {
     /// The file's generation.
     pub gen_: u64,
-    /// How many of its bytes count.
+    /// The number of its bytes that count.
     pub length: u64,
 }
 
@@ -18,11 +18,11 @@ pub struct Place {
 pub struct Root {
     /// The settings.
     pub config: Config,
-    /// How many roots there were: each later root has one more.
+    /// The sequence: 1 for the first root, and one more for each later root.
     pub sequence: u64,
     /// The number of the next message, 1 to 2,147,483,648.
     pub next: u32,
-    /// The file with the records of the numbers: 28 bytes for each number below `next`.
+    /// The map, with one record of 28 bytes for each number below `next`.
     pub map: Place,
     /// The files of the epochs.
     pub epochs: [Place; 64],
@@ -31,7 +31,7 @@ pub struct Root {
 }
 
 impl Root {
-    /// The same root once more, without memory.
+    /// Returns a copy of the root. Allocates nothing.
     pub fn copy(&self) -> Root
         ensures { result ≡ self.now }
     {
@@ -46,7 +46,7 @@ impl Root {
     }
 }
 
-/// The numbers of a place fit their fields.
+/// Brings the ranges of a `Place`'s fields into the proof around the call. Does nothing.
 fn place_fits(place: Place)
     ensures { PlaceFits place }
 {
@@ -54,7 +54,7 @@ fn place_fits(place: Place)
     let _length = place.length;
 }
 
-/// The values of a root fit their fields: a call brings that into the proof around it, and does nothing.
+/// Brings the ranges of a root's fields into the proof around the call. Does nothing.
 pub fn root_fits(root: &Root)
     requires { IsRoot root.now }
     ensures { RootFits root.now }

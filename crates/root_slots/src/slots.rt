@@ -1,4 +1,4 @@
-//! The two slots, and how a root takes the place of the current one.
+//! The two slots, and the commit of a new root.
 ghost use Rattle.std.specs.Prelude.{◌≡◌, ◌+◌, ◌-◌, ◌<◌, ◌∷◌, [], ℕ, List, length, OnOk, IfOk};
 ghost use Rattle.arch_base.specs.Counts.{IsCaused};
 ghost use Rattle.disk_model.specs.Disk.{Image, Told, WhereTold, Unchanged, LeavesOnly};
@@ -13,7 +13,7 @@ use crate::body::spell;
 use crate::root::Root;
 use disk_model::{Disk, DiskFault, FileKind, FileName, write_and_sync};
 
-/// The name of the root file.
+/// Returns the name of the root file.
 pub fn root_file() -> FileName
     ensures { result ≡ root_name }
 {
@@ -24,7 +24,7 @@ pub fn root_file() -> FileName
     }
 }
 
-/// Whether the gate of a slot is open. A root file that ends before the gate has none.
+/// Returns whether the gate of a slot is open. The gate isn't open if the root file ends before it.
 pub fn is_open<D: Disk>(disk: &mut D, slot: u8) -> Result<bool, DiskFault>
     requires slot { slot < 2 }
     ensures gate { IfOk result (λ open_. WhereTold (IsGateOpen slot open_) (D.content disk.old)) }
@@ -49,7 +49,7 @@ pub fn shut<D: Disk>(disk: &mut D, slot: u8) -> Result<(), DiskFault>
     write_and_sync(disk, root_file(), slot as u64, &[0])
 }
 
-/// Writes a root into the body of a slot, and syncs.
+/// Writes a root to the body of a slot, and syncs.
 pub fn fill<D: Disk>(disk: &mut D, slot: u8, root: &Root) -> Result<(), DiskFault>
     requires slot { slot < 2 }
     requires size { WhereTold HasRootSize (D.content disk.old) }
@@ -75,8 +75,9 @@ pub fn raise<D: Disk>(disk: &mut D, slot: u8) -> Result<(), DiskFault>
     write_and_sync(disk, root_file(), slot as u64, &[1])
 }
 
-/// Puts a new root in the place of the current one: shuts the gate of the slot that isn't the current one, writes its
-/// body, and opens its gate, with a sync after each.
+/// Replaces the current root by a new one, in the slot that isn't current.
+///
+/// Shuts the gate of that slot, writes its body and opens its gate, with a sync after each.
 pub fn commit<D: Disk>(disk: &mut D, slot: u8, root: &Root) -> Result<(), DiskFault>
     requires slot { slot < 2 }
     requires size { WhereTold HasRootSize (D.content disk.old) }
@@ -85,15 +86,16 @@ pub fn commit<D: Disk>(disk: &mut D, slot: u8, root: &Root) -> Result<(), DiskFa
     // At each moment a crash leaves the old root or the new one, and all other files as before.
     ensures any_moment { (old : List ℕ) → EachRoot (Ready slot old) (D.content disk.old) → sequence_of old < root.now.sequence
         → LeavesOnly D.moment D.left_since disk.old disk.new (IsOldOrNew old (spelling root.now) (D.content disk.old)) }
-    // After Ok it leaves the new one.
+    // After `Ok` a crash leaves the new one.
     ensures done { (old : List ℕ) → EachRoot (Ready slot old) (D.content disk.old) → sequence_of old < root.now.sequence
         → OnOk result (EachRoot (Current slot (spelling root.now)) (D.content disk.new)) }
-    // The slot of the root before is then ready for the next one.
+    // The slot of the old root is then ready for the next one.
     ensures again { (old : List ℕ) → EachRoot (Ready slot old) (D.content disk.old) → sequence_of old < root.now.sequence
         → OnOk result (EachRoot (Ready (1 - slot) (spelling root.now)) (D.content disk.new)) }
-    // No other file is touched, whatever the root file has.
+    // No other file changes, whatever the root file holds.
     ensures elsewhere { LeavesOnly D.moment D.left_since disk.old disk.new (OthersStay (D.content disk.old)) }
-    // After Ok the root file has the body in the slot, whose gate is open, and is else as it was.
+    // After `Ok` the slot has the body and an open gate, and the rest of the root file is as it
+    // was.
     ensures written { OnOk result (Told (HasNewRoot slot (spelling root.now)) (D.content disk.old) (D.content disk.new)) }
     ensures whole { OnOk result (length (spelling root.now) ≡ 1536) }
     ensures committed { OnOk result (Told IsCommitted (D.content disk.old) (D.content disk.new)) }

@@ -1,4 +1,4 @@
-//! A root file without an open slot.
+//! Creates a root file without an open slot.
 ghost use Rattle.std.specs.Prelude.{◌≡◌, OnOk};
 ghost use Rattle.arch_base.specs.Counts.{IsCaused};
 ghost use Rattle.disk_model.specs.Disk.{Told, LeavesOnly};
@@ -7,7 +7,7 @@ ghost use Rattle.root_slots.specs.Slots.{EachShut, LeavesShut, OthersStay, IsBeg
 use crate::slots::root_file;
 use disk_model::{Disk, DiskFault, write_and_sync};
 
-/// Takes the root file away, and syncs.
+/// Removes the root file, and syncs.
 fn clear<D: Disk>(disk: &mut D) -> Result<(), DiskFault>
     ensures any_moment { LeavesOnly D.moment D.left_since disk.old disk.new (Clearing (D.content disk.old)) }
     ensures cleared { OnOk result (Told IsCleared (D.content disk.old) (D.content disk.new)) }
@@ -18,12 +18,13 @@ fn clear<D: Disk>(disk: &mut D) -> Result<(), DiskFault>
     disk.sync()
 }
 
-/// Makes a root file of 4,096 zeros, in which no slot is open, in the place of one without an open slot: takes the file
-/// away, writes two zeros, writes the others, with a sync after each.
+/// Replaces a root file without an open slot by 4,096 zeros, in which no slot is open.
+///
+/// Removes the file, writes two zeros and writes the others, with a sync after each.
 pub fn begin<D: Disk>(disk: &mut D) -> Result<(), DiskFault>
-    // Where no crash leaves an open slot before, none does at any moment.
+    // If no crash leaves an open slot before, none does at any moment.
     ensures any_moment { EachShut (D.content disk.old) → LeavesOnly D.moment D.left_since disk.old disk.new (LeavesShut (D.content disk.old)) }
-    // No other file is touched, whatever the root file has.
+    // No other file changes, whatever the root file holds.
     ensures elsewhere { LeavesOnly D.moment D.left_since disk.old disk.new (OthersStay (D.content disk.old)) }
     ensures made { OnOk result (Told IsBegun (D.content disk.old) (D.content disk.new)) }
     ensures cause { IsCaused (D.faults disk.old) (D.faults disk.new) result }

@@ -5,6 +5,8 @@ use crate::slots::root_file;
 use crate::{Place, Root, RootRefusal, begin, commit, fill, law_of_spellings, raise, read, shut};
 use arch_base::{Config, Name, Numbers};
 use disk_model::{Disk, DiskFault, FileKind, FileName, FuseDisk, MemDisk};
+use std::alloc::Global;
+use std::process::Abort;
 use std::test::Fail;
 
 /// Another file of the disk.
@@ -212,100 +214,188 @@ fn a_root_has_these_bytes(rt: HostRuntime) -> Result<(), Fail> {
     Ok(())
 }
 
-#[test]
-fn each_field_out_of_its_range_is_damage(rt: HostRuntime) -> Result<(), Fail> {
-    let root = sample(1, 7).expect(&rt, "a root");
-    for (slot, body) in [(0, 1024), (1, 2560)] {
-        let mut disk = MemDisk::new(rt.alloc(), Numbers::new(rt.alloc()));
-        begin(&mut disk)?;
-        for (place, bytes, stands) in &FIELDS {
-            put(&mut disk, slot, &root, true)?;
-            assert_eq!(rt; slot_read(&mut disk), Ok(Some(slot)));
-            assert!(rt; body <= 2560 && *place < 1536);
-            write(&mut disk, body + *place, bytes)?;
-            let want = if *stands {
-                Ok(Some(slot))
-            } else {
-                Err(RootRefusal::Damaged { at: body })
-            };
-            assert_eq!(rt; slot_read(&mut disk), want, "slot {slot}, place {place}");
-        }
+/// Puts a root into a slot and bytes over those of its body, and says whether it is read before, and after where it should.
+fn is_field<D: Disk>(
+    disk: &mut D,
+    root: &Root,
+    slot: u8,
+    (place, bytes, stands): &(u64, &[u8], bool),
+) -> Result<bool, DiskFault> {
+    let body = if slot == 0 { 1024 } else { 2560 };
+    if *place >= 1536 {
+        return Err(DiskFault);
+    }
+    put(disk, slot, root, true)?;
+    let before = slot_read(disk) == Ok(Some(slot));
+    write(disk, body + *place, bytes)?;
+    let want = if *stands {
+        Ok(Some(slot))
+    } else {
+        Err(RootRefusal::Damaged { at: body })
+    };
+    Ok(before && slot_read(disk) == want)
+}
+
+/// Tries each field in a slot.
+fn try_fields(rt: &impl Abort, disk: &mut MemDisk, slot: u8) -> Result<(), DiskFault> {
+    let root = sample(1, 7).expect(rt, "a root");
+    for field in &FIELDS {
+        assert!(rt;
+            is_field(disk, &root, slot, field)?,
+            "slot {slot}, place {}",
+            field.0
+        );
     }
     Ok(())
+}
+
+#[test]
+fn each_field_out_of_its_range_is_damage(rt: HostRuntime) -> Result<(), Fail> {
+    for slot in [0, 1] {
+        let mut disk = MemDisk::new(rt.alloc(), Numbers::new(rt.alloc()));
+        begin(&mut disk)?;
+        try_fields(&rt, &mut disk, slot)?;
+    }
+    Ok(())
+}
+
+/// Whether no root is read of a disk, nor of the root file that is begun on it.
+fn begins_without<D: Disk>(disk: &mut D) -> Result<bool, DiskFault> {
+    let none = slot_read(disk) == Ok(None);
+    begin(disk)?;
+    Ok(none && slot_read(disk) == Ok(None))
+}
+
+/// Puts two roots of these sequences into the slots and sets the gates, and says whether the slot is read that should be.
+fn is_newest<D: Disk>(
+    disk: &mut D,
+    (gate0, sequence0, gate1, sequence1, want): &(u8, u64, u8, u64, Option<u8>),
+) -> Result<bool, DiskFault> {
+    let Some(first) = sample(*sequence0, 7) else {
+        return Err(DiskFault);
+    };
+    let Some(second) = sample(*sequence1, 8) else {
+        return Err(DiskFault);
+    };
+    put(disk, 0, &first, true)?;
+    put(disk, 1, &second, false)?;
+    write(disk, 0, &[*gate0, *gate1])?;
+    Ok(slot_read(disk) == Ok(*want))
+}
+
+/// Whether the body of slot 1 is damaged.
+fn is_second_damaged<D: Disk>(disk: &mut D) -> bool {
+    slot_read(disk) == Err(RootRefusal::Damaged { at: 2560 })
+}
+
+/// Whether no root is read of a root file of a byte more and of a byte less, and that of its size is damaged as before.
+fn has_one_size<D: Disk>(disk: &mut D) -> Result<bool, DiskFault> {
+    write(disk, 4096, &[0])?;
+    let more = slot_read(disk) == Ok(None);
+    trim(disk, 4096)?;
+    let same = is_second_damaged(disk);
+    trim(disk, 4095)?;
+    Ok(more && same && slot_read(disk) == Ok(None))
 }
 
 #[test]
 fn the_open_slot_of_greater_sequence_is_read(rt: HostRuntime) -> Result<(), Fail> {
     let mut disk = MemDisk::new(rt.alloc(), Numbers::new(rt.alloc()));
-    assert_eq!(rt; slot_read(&mut disk), Ok(None));
-    begin(&mut disk)?;
-    assert_eq!(rt; slot_read(&mut disk), Ok(None));
-    for (gate0, sequence0, gate1, sequence1, want) in &NEWEST {
-        let first = sample(*sequence0, 7).expect(&rt, "a root");
-        let second = sample(*sequence1, 8).expect(&rt, "a root");
-        put(&mut disk, 0, &first, true)?;
-        put(&mut disk, 1, &second, false)?;
-        write(&mut disk, 0, &[*gate0, *gate1])?;
-        assert_eq!(rt; slot_read(&mut disk), Ok(*want));
+    assert!(rt; begins_without(&mut disk)?);
+    for (index, roots) in NEWEST.iter().enumerate() {
+        assert!(rt; is_newest(&mut disk, roots)?, "{index}");
     }
     // The open slot of greater sequence is broken.
     write(&mut disk, 2568, &[9])?;
-    assert_eq!(rt;
-        slot_read(&mut disk),
-        Err(RootRefusal::Damaged { at: 2560 })
-    );
-    // A byte more than the root file has, and a byte less.
-    write(&mut disk, 4096, &[0])?;
-    assert_eq!(rt; slot_read(&mut disk), Ok(None));
-    trim(&mut disk, 4096)?;
-    assert_eq!(rt;
-        slot_read(&mut disk),
-        Err(RootRefusal::Damaged { at: 2560 })
-    );
-    trim(&mut disk, 4095)?;
-    assert_eq!(rt; slot_read(&mut disk), Ok(None));
+    assert!(rt; is_second_damaged(&mut disk));
+    assert!(rt; has_one_size(&mut disk)?);
     Ok(())
+}
+
+/// What is read of a root file that is begun, on a disk that stops after so many calls.
+fn slot_read_stopped(alloc: Global, passes: u64) -> Result<Option<u8>, RootRefusal> {
+    let mut disk = MemDisk::new(alloc, Numbers::new(alloc));
+    begin(&mut disk)?;
+    slot_read(&mut FuseDisk::new(disk, passes))
 }
 
 #[test]
 fn a_call_that_fails_is_no_answer(rt: HostRuntime) -> Result<(), Fail> {
     for passes in 0..3 {
-        let mut disk = MemDisk::new(rt.alloc(), Numbers::new(rt.alloc()));
-        begin(&mut disk)?;
-        let mut fuse = FuseDisk::new(disk, passes);
         // A look at the length, and a read.
         let want = if passes < 2 {
             Err(RootRefusal::DiskFault)
         } else {
             Ok(None)
         };
-        assert_eq!(rt; slot_read(&mut fuse), want);
+        assert_eq!(rt; slot_read_stopped(rt.alloc(), passes), want);
     }
+    Ok(())
+}
+
+/// A disk on which a call was stopped: how many changes it had before, and whether the call is done.
+#[derive(Drop)]
+struct Stopped {
+    disk: MemDisk,
+    start: u64,
+    done: bool,
+}
+
+/// Begins a root file over another file, and stops after so many calls.
+fn stop_begin(alloc: Global, passes: u64) -> Result<Stopped, DiskFault> {
+    let mut disk = MemDisk::new(alloc, Numbers::new(alloc));
+    write(&mut disk, 0, &[1; 4097])?;
+    disk.sync()?;
+    let start = disk.moments();
+    let mut fuse = FuseDisk::new(disk, passes);
+    let done = begin(&mut fuse).is_ok();
+    Ok(Stopped {
+        disk: fuse.into_inner(),
+        start,
+        done,
+    })
+}
+
+/// Whether a crash at a moment leaves no root.
+fn has_no_root(disk: &MemDisk, at: u64, pick: u64) -> Result<bool, Fail> {
+    if at > disk.moments() || pick > 3 {
+        return Ok(false);
+    }
+    let mut image = disk.image(at, pick)?;
+    Ok(slot_read(&mut image) == Ok(None))
+}
+
+/// Looks at each image since the root file was begun.
+fn look_at_begin(rt: &impl Abort, disk: &MemDisk, start: u64) -> Result<(), Fail> {
+    for at in start..=disk.moments() {
+        for pick in 0..4 {
+            assert!(rt; has_no_root(disk, at, pick)?, "moment {at}, pick {pick}");
+        }
+    }
+    Ok(())
+}
+
+/// Whether the root file has its size, and no byte but 0.
+fn has_zeros<D: Disk>(disk: &mut D) -> Result<bool, DiskFault> {
+    let mut file = [7; 4096];
+    let count = disk.read(root_file(), 0, &mut file)?;
+    Ok(count == 4096 && file.iter().all(|byte| *byte == 0))
+}
+
+/// Looks at each image since the root file was begun, and at the disk where that is done.
+fn look_at_begun(rt: &impl Abort, stopped: &mut Stopped, done: bool) -> Result<(), Fail> {
+    assert_eq!(rt; (stopped.done, stopped.start), (done, 2));
+    look_at_begin(rt, &stopped.disk, stopped.start)?;
+    assert!(rt; !done || has_zeros(&mut stopped.disk)?);
     Ok(())
 }
 
 #[test]
 fn a_stop_while_it_begins_opens_no_slot(rt: HostRuntime) -> Result<(), Fail> {
     for passes in 0..8 {
-        let mut disk = MemDisk::new(rt.alloc(), Numbers::new(rt.alloc()));
-        write(&mut disk, 0, &[1; 4097])?;
-        disk.sync()?;
-        let mut fuse = FuseDisk::new(disk, passes);
+        let mut stopped = stop_begin(rt.alloc(), passes)?;
         // A removal, two writes, and a sync after each.
-        let done = begin(&mut fuse).is_ok();
-        assert_eq!(rt; done, passes >= 6);
-        let mut disk = fuse.into_inner();
-        let end = disk.moments();
-        for at in 2..=end {
-            for pick in 0..4 {
-                assert!(rt; at <= disk.moments() && pick <= 3);
-                let mut image = disk.image(at, pick)?;
-                assert_eq!(rt; slot_read(&mut image), Ok(None));
-            }
-        }
-        let mut file = [7; 4096];
-        assert!(rt; !done || disk.read(root_file(), 0, &mut file)? == 4096);
-        assert!(rt; !done || file.iter().all(|byte| *byte == 0));
+        look_at_begun(&rt, &mut stopped, passes >= 6)?;
     }
     Ok(())
 }
@@ -332,32 +422,74 @@ fn has_root(disk: &mut MemDisk, slot: u8, root: &Root) -> Result<bool, RootRefus
     }
 }
 
+/// Commits a root of slot 1 behind one of slot 0, and stops after so many calls.
+fn stop_commit(alloc: Global, old: &Root, new: &Root, passes: u64) -> Result<Stopped, DiskFault> {
+    let mut disk = MemDisk::new(alloc, Numbers::new(alloc));
+    settle(&mut disk, old, passes % 2 == 0)?;
+    let start = disk.moments();
+    let mut fuse = FuseDisk::new(disk, passes);
+    let done = try_commit(&mut fuse, 1, new).is_ok();
+    Ok(Stopped {
+        disk: fuse.into_inner(),
+        start,
+        done,
+    })
+}
+
+/// Whether the other file of a disk is as it was.
+fn has_other(disk: &mut MemDisk) -> Result<bool, DiskFault> {
+    let mut other = [0; 6];
+    let count = disk.read(OTHER, 0, &mut other)?;
+    Ok(count == 5 && &other == b"other\0")
+}
+
+/// Whether the new root is there, or the old one where the commit isn't done, and the other file.
+fn is_old_or_new(image: &mut MemDisk, old: &Root, new: &Root, done: bool) -> Result<bool, Fail> {
+    let changed = has_root(image, 1, new)?;
+    let left = has_root(image, 0, old)?;
+    let other = has_other(image)?;
+    Ok(other && (changed || (left && !done)))
+}
+
+/// Whether a crash at a moment leaves the new root, or the old one where the commit isn't done.
+fn leaves_root(
+    disk: &MemDisk,
+    (at, pick): (u64, u64),
+    old: &Root,
+    new: &Root,
+    done: bool,
+) -> Result<bool, Fail> {
+    if at > disk.moments() || pick > 3 {
+        return Ok(false);
+    }
+    let mut image = disk.image(at, pick)?;
+    is_old_or_new(&mut image, old, new, done)
+}
+
+/// Looks at each image since the commit began. At the last moment it may be done.
+fn look_at_commit(rt: &impl Abort, stopped: &Stopped, old: &Root, new: &Root) -> Result<(), Fail> {
+    let end = stopped.disk.moments();
+    for at in stopped.start..=end {
+        let done = stopped.done && at == end;
+        for pick in 0..4 {
+            assert!(rt;
+                leaves_root(&stopped.disk, (at, pick), old, new, done)?,
+                "moment {at}, pick {pick}"
+            );
+        }
+    }
+    Ok(())
+}
+
 #[test]
 fn a_stop_leaves_the_old_root_or_the_new_one(rt: HostRuntime) -> Result<(), Fail> {
     let old = sample(1, 7).expect(&rt, "a root");
     let new = sample(2, 8).expect(&rt, "a root");
     for passes in 0..9 {
-        let mut disk = MemDisk::new(rt.alloc(), Numbers::new(rt.alloc()));
-        settle(&mut disk, &old, passes % 2 == 0)?;
-        let start = disk.moments();
-        let mut fuse = FuseDisk::new(disk, passes);
+        let stopped = stop_commit(rt.alloc(), &old, &new, passes)?;
         // A look at the length, three writes, and a sync after each.
-        let done = try_commit(&mut fuse, 1, &new).is_ok();
-        assert_eq!(rt; done, passes >= 7);
-        let disk = fuse.into_inner();
-        let end = disk.moments();
-        for at in start..=end {
-            for pick in 0..4 {
-                assert!(rt; at <= disk.moments() && pick <= 3);
-                let mut image = disk.image(at, pick)?;
-                let changed = has_root(&mut image, 1, &new)?;
-                assert!(rt; changed || has_root(&mut image, 0, &old)?);
-                assert!(rt; changed || !done || at < end);
-                let mut other = [0; 6];
-                assert_eq!(rt; image.read(OTHER, 0, &mut other)?, 5);
-                assert_eq!(rt; &other, b"other\0");
-            }
-        }
+        assert_eq!(rt; stopped.done, passes >= 7);
+        look_at_commit(&rt, &stopped, &old, &new)?;
     }
     Ok(())
 }

@@ -3,7 +3,7 @@ use Rattle.line_door.proofs.Acting.{Says-then, Says-first}
 use Rattle.archive_cli.specs.Frames.{line}
 use Rattle.archive_cli.proofs.outcome.say_checked.Goals as goal
 
--- the pieces of the line
+-- The parts of the line.
 pieces : (entries : ℕ) (rest : List ℕ) → line (codes "entries " ++ (decimal entries ++ rest)) ≡ codes "entries " ++ (decimal entries ++ line rest)
 pieces entries rest = ap (λ (t : List ℕ). codes "entries " ++ t) (append_assoc (decimal entries) rest (10 ∷ []))
 

@@ -3,7 +3,7 @@ use Rattle.line_door.proofs.Acting.{Says-then, Says-first}
 use Rattle.archive_cli.specs.Frames.{line}
 use Rattle.archive_cli.proofs.outcome.say_numbers.Goals as goal
 
--- the pieces of the line
+-- The parts of the line.
 pieces : (live : ℕ) (rest : List ℕ) → line (codes " live " ++ (decimal live ++ rest)) ≡ codes " live " ++ (decimal live ++ line rest)
 pieces live rest = ap (λ (t : List ℕ). codes " live " ++ t) (append_assoc (decimal live) rest (10 ∷ []))
 

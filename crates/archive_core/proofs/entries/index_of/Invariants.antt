@@ -1,4 +1,4 @@
--- The entries from one on are in the index.
+-- The entries from an index on are in the index of entries.
 use Rattle.std.specs.Prelude.{drop}
 use Rattle.archive_core.specs.Kept.{IndexesStored}
 use Rattle.archive_core.proofs.entries.index_of.Given as goal

@@ -1,4 +1,4 @@
--- The files have their sizes still.
+-- The files still have their sizes.
 use Rattle.disk_model.specs.Disk.{WhereTold}
 use Rattle.epoch_store.specs.Stores.{HasSizes}
 use Rattle.archive_core.proofs.tests.answers_alike.Given as goal

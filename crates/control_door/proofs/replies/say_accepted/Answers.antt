@@ -4,7 +4,7 @@ use Rattle.line_door.proofs.Acting.{Says-then, Says-first}
 use Rattle.control_door.specs.Door.{reply_line}
 use Rattle.control_door.proofs.replies.say_accepted.Goals as goal
 
--- the pieces of the line
+-- The parts of the line.
 pieces : (number : ℕ) (digits : List ℕ) → reply_line (codes "1 ok " ++ (decimal number ++ 32 ∷ digits)) ≡ codes "1 ok " ++ (decimal number ++ 32 ∷ (digits ++ 10 ∷ []))
 pieces number digits = append_assoc (codes "1 ok ") (decimal number ++ 32 ∷ digits) (10 ∷ []) ∙ ap (λ (t : List ℕ). codes "1 ok " ++ t) (append_assoc (decimal number) (32 ∷ digits) (10 ∷ []))
 

@@ -4,7 +4,7 @@ use Rattle.arch_model.specs.Delivery.{file_words}
 use Rattle.control_door.specs.Door.{reply_line}
 use Rattle.control_door.proofs.replies.say_damage.Goals as goal
 
--- the pieces of the line
+-- The parts of the line.
 pieces : (file digits : List ℕ) → reply_line (codes "damaged " ++ (file ++ 32 ∷ digits)) ≡ codes "damaged " ++ (file ++ 32 ∷ (digits ++ 10 ∷ []))
 pieces file digits = append_assoc (codes "damaged ") (file ++ 32 ∷ digits) (10 ∷ []) ∙ ap (λ (t : List ℕ). codes "damaged " ++ t) (append_assoc file (32 ∷ digits) (10 ∷ []))
 

@@ -4,7 +4,7 @@ use Rattle.line_door.proofs.Acting.{Says-then, Says-first}
 use Rattle.control_door.specs.Door.{reply_line}
 use Rattle.control_door.proofs.replies.say_other_text.Goals as goal
 
--- the pieces of the line
+-- The parts of the line.
 pieces : (named found : List ℕ) → reply_line (codes "11 damaged " ++ (named ++ 32 ∷ found)) ≡ codes "11 damaged " ++ (named ++ 32 ∷ (found ++ 10 ∷ []))
 pieces named found = append_assoc (codes "11 damaged ") (named ++ 32 ∷ found) (10 ∷ []) ∙ ap (λ (t : List ℕ). codes "11 damaged " ++ t) (append_assoc named (32 ∷ found) (10 ∷ []))
 

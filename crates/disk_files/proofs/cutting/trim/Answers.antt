@@ -1,4 +1,4 @@
--- One step for the look at the length, and one for the cut.
+-- One step for reading the length, and one for the cut.
 use Rattle.std.proofs.Common.{arith}
 use Rattle.disk_model.specs.Moments.{goes_on, started}
 use Rattle.disk_files.specs.Cutting.{Cutting}

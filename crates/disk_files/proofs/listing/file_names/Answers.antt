@@ -1,4 +1,4 @@
--- One name more.
+-- One more name.
 use Rattle.std.proofs.Common.{◌+◌, List, Some, subst, sym, arith}
 use Rattle.disk_model.specs.declared.name.FileName.{FileName}
 use Rattle.disk_model.specs.Disk.{Image, IsNameAt, WhereTold}

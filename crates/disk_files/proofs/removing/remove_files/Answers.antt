@@ -1,4 +1,4 @@
--- One removal more.
+-- One more removal.
 use Rattle.std.proofs.Common.{◌≡◌, ◌<◌, ℕ, length, subst, arith}
 use Rattle.std.proofs.lemmas.Option.{slice_get-get_or}
 use Rattle.disk_model.specs.Disk.{Told}

@@ -1,4 +1,4 @@
--- A write done again, with its bytes or with as many of the value 255.
+-- A write applied again, with its bytes or with as many of the value 255.
 use Rattle.std.proofs.Common.{◌∙◌, ap, sym}
 use Rattle.std.proofs.lemmas.Result.{on_ok_weaker}
 use Rattle.disk_model.specs.Applied.{apply_file}

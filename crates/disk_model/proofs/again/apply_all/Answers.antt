@@ -1,4 +1,4 @@
--- One change more.
+-- One more change.
 use Rattle.std.proofs.Common.{◌∙◌, ◌<◌, length, ap, sym, arith}
 use Rattle.disk_model.specs.Disk.{File}
 use Rattle.disk_model.specs.Applied.{apply_file}

@@ -1,4 +1,4 @@
--- The changes so far are done.
+-- The changes so far are applied.
 use Rattle.std.proofs.Common.{◌≡◌, take}
 use Rattle.disk_model.specs.declared.name.FileName.{FileName}
 use Rattle.disk_model.specs.Record.{file_at}

@@ -1,4 +1,4 @@
--- No sync stands behind the place that the search has come to.
+-- No sync is at or after the index that the search has reached.
 use Rattle.std.proofs.Common.{◌≤◌, length, drop}
 use Rattle.disk_model.specs.Applied.{AreUnsynced}
 use Rattle.disk_model.proofs.again.last_sync.Given as goal

@@ -1,4 +1,4 @@
--- Removing a key takes its file away.
+-- Removing a key removes its file.
 use Rattle.std.proofs.Common.{None, refl}
 use Rattle.disk_model.proofs.FileMaps.{sets_file}
 use Rattle.disk_model.proofs.files.drop_file.Goals as goal

@@ -1,4 +1,4 @@
--- A write to a file that is there, and one that makes it.
+-- A write to a file that is there, and one that creates it.
 use Rattle.std.proofs.lemmas.Result.{on_ok_weaker, on_err_weaker}
 use Rattle.disk_model.proofs.FileMaps.{put_found, put_same, put_missing}
 use Rattle.disk_model.proofs.files.put.Goals as goal

@@ -1,4 +1,4 @@
--- It is a root.
+-- The first root is valid.
 use Rattle.std.proofs.Common.{sym, subst}
 use Rattle.arch_base.specs.Configs.{IsConfig}
 use Rattle.epoch_store.proofs.Making.{first_is_root}

@@ -1,4 +1,4 @@
--- One step for the files that are taken away, one for the root file, and one for the root.
+-- One step for the files that are removed, one for the root file, and one for the root.
 use Rattle.disk_model.specs.Moments.{joined}
 use Rattle.root_slots.specs.Spelling.{spelling}
 use Rattle.epoch_store.specs.First.{MakesRoot}

@@ -1,4 +1,4 @@
--- One part more.
+-- One more part.
 use Rattle.std.proofs.Common.{◌∷◌, ◌++◌, [], ◌∙◌, List, sym, ap, arith}
 use Rattle.std.specs.Prelude.{map as mapped}
 use Rattle.std.specs.List.{range_with_len}

@@ -1,4 +1,4 @@
--- The gate is looked at, and the slot is filled where it is shut.
+-- The gate is read, and the slot is filled if it is shut.
 use Rattle.std.proofs.Common.{◌-◌, Bool, false, subst}
 use Rattle.std.proofs.lemmas.Result.{on_ok_weaker}
 use Rattle.disk_model.specs.Disk.{WhereTold, Told}

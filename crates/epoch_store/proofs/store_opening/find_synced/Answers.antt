@@ -1,4 +1,4 @@
--- What is found behind the sync.
+-- What is found after the sync.
 use Rattle.disk_model.specs.Disk.{Image}
 use Rattle.disk_model.specs.Laws.{sync_image}
 use Rattle.disk_model.specs.Moments.{goes_on, started, joined}

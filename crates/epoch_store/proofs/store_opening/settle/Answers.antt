@@ -1,12 +1,8 @@
--- What is left while the disk is brought to rest, and what stands then.
-use Rattle.std.proofs.Common.{sym, subst, List}
-use Rattle.disk_model.specs.declared.name.FileName.{FileName}
-use Rattle.disk_model.specs.Disk.{Image, WhereTold}
-use Rattle.disk_model.specs.Moments.{started, joined, weaker}
+-- What is left while the disk is settled, and what is there then.
+use Rattle.disk_model.specs.Disk.{Image}
+use Rattle.disk_model.specs.Moments.{started, weaker}
 use Rattle.epoch_store.specs.Files.{StandsFor}
-use Rattle.epoch_store.specs.Settling.{AreOthers}
-use Rattle.epoch_store.proofs.Reopening.{found_image}
-use Rattle.epoch_store.proofs.Unnamed.{to_sweep}
+use Rattle.epoch_store.proofs.Reopening.{found_image, listed_to_sweep, settling_leaves}
 use Rattle.epoch_store.proofs.store_opening.settle.Goals as goal
 
 pub returns-in_default-clause-any_moment : goal.returns-in_default-clause-any_moment
@@ -23,42 +19,29 @@ returns-clause-any_moment g c = λ map epochs found.
 pub returns-in-Ok-sweep-clause-any_moment : goal.returns-in-Ok-sweep-clause-any_moment
 returns-in-Ok-sweep-clause-any_moment g c = λ map epochs found.
     let disk = c.args.disk.now in
-    let d1 = c.other_files.new.disk in
+    let mid = c.other_files.new.disk in
     let k0 = g.D.Disk.content disk in
-    let k1 = g.D.Disk.content d1 in
+    let k1 = g.D.Disk.content mid in
     let root = c.args.root.now in
     let slot = c.args.slot in
-    let list = c.as_slice-in-Ok-other_files.result.now in
-    let others = subst (λ (l : List FileName). WhereTold (AreOthers root l) k0) (sym c.as_slice-in-Ok-other_files.ensures.value) c.in-Ok-other_files.ensures.others in
-    let todo = to_sweep root slot map epochs list k0 k1 found others c.other_files.ensures.reads.same in
-    let P = StandsFor root map epochs in
-    joined g.D.Disk.moment g.D.Disk.left_since disk d1 c.sweep.new.disk (Image k0) P P c.other_files.ensures.reads.any_moment (c.sweep.ensures.any_moment map epochs todo)
-    (λ image. found_image root slot map epochs k0 image found) (λ image stands. stands)
+    settling_leaves root slot map epochs k0 k1 found c.other_files.ensures.reads.same c.as_slice-in-Ok-other_files.result.now _ c.as_slice-in-Ok-other_files.ensures.value c.in-Ok-other_files.ensures.others g.D.Disk.moment g.D.Disk.left_since disk mid c.sweep.new.disk c.other_files.ensures.reads.any_moment
+    (c.sweep.ensures.any_moment map epochs (listed_to_sweep root slot map epochs k0 k1 found c.other_files.ensures.reads.same c.as_slice-in-Ok-other_files.result.now _ c.as_slice-in-Ok-other_files.ensures.value c.in-Ok-other_files.ensures.others))
 
 pub returns-in-Ok-other_files-clause-any_moment : goal.returns-in-Ok-other_files-clause-any_moment
 returns-in-Ok-other_files-clause-any_moment g c = λ map epochs found.
     let disk = c.args.disk.now in
-    let d1 = c.other_files.new.disk in
+    let mid = c.other_files.new.disk in
     let k0 = g.D.Disk.content disk in
-    let k1 = g.D.Disk.content d1 in
+    let k1 = g.D.Disk.content mid in
     let root = c.args.root.now in
     let slot = c.args.slot in
-    let list = c.as_slice-in-Ok-other_files.result.now in
-    let others = subst (λ (l : List FileName). WhereTold (AreOthers root l) k0) (sym c.as_slice-in-Ok-other_files.ensures.value) c.in-Ok-other_files.ensures.others in
-    let todo = to_sweep root slot map epochs list k0 k1 found others c.other_files.ensures.reads.same in
-    let P = StandsFor root map epochs in
-    joined g.D.Disk.moment g.D.Disk.left_since disk d1 c.sweep.new.disk (Image k0) P P c.other_files.ensures.reads.any_moment (c.sweep.ensures.any_moment map epochs todo)
-    (λ image. found_image root slot map epochs k0 image found) (λ image stands. stands)
+    settling_leaves root slot map epochs k0 k1 found c.other_files.ensures.reads.same c.as_slice-in-Ok-other_files.result.now _ c.as_slice-in-Ok-other_files.ensures.value c.in-Ok-other_files.ensures.others g.D.Disk.moment g.D.Disk.left_since disk mid c.sweep.new.disk c.other_files.ensures.reads.any_moment
+    (c.sweep.ensures.any_moment map epochs (listed_to_sweep root slot map epochs k0 k1 found c.other_files.ensures.reads.same c.as_slice-in-Ok-other_files.result.now _ c.as_slice-in-Ok-other_files.ensures.value c.in-Ok-other_files.ensures.others))
 
 pub returns-in-Ok-sweep-clause-done : goal.returns-in-Ok-sweep-clause-done
 returns-in-Ok-sweep-clause-done g c = λ map epochs found.
-    let disk = c.args.disk.now in
-    let d1 = c.other_files.new.disk in
-    let k0 = g.D.Disk.content disk in
-    let k1 = g.D.Disk.content d1 in
+    let k0 = g.D.Disk.content c.args.disk.now in
+    let k1 = g.D.Disk.content c.other_files.new.disk in
     let root = c.args.root.now in
     let slot = c.args.slot in
-    let list = c.as_slice-in-Ok-other_files.result.now in
-    let others = subst (λ (l : List FileName). WhereTold (AreOthers root l) k0) (sym c.as_slice-in-Ok-other_files.ensures.value) c.in-Ok-other_files.ensures.others in
-    let todo = to_sweep root slot map epochs list k0 k1 found others c.other_files.ensures.reads.same in
-    c.in-Ok-sweep.ensures.done map epochs todo
+    c.in-Ok-sweep.ensures.done map epochs (listed_to_sweep root slot map epochs k0 k1 found c.other_files.ensures.reads.same c.as_slice-in-Ok-other_files.result.now _ c.as_slice-in-Ok-other_files.ensures.value c.in-Ok-other_files.ensures.others)

@@ -1,4 +1,4 @@
--- What the line at the front is.
+-- The law of the line at the front.
 use Rattle.line_door.proofs.Fronts.{line_law}
 use Rattle.line_door.proofs.laws.line_law.Goals as goal
 

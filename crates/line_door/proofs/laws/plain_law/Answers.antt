@@ -1,4 +1,4 @@
--- The laws of all doors, at the small door.
+-- The law of plain courses, at the small door.
 use Rattle.std.proofs.Common.{length}
 use Rattle.line_door.specs.Echo.{echo_said, echo_request, echo_more}
 use Rattle.line_door.proofs.Cutting.{by_rules, is_course}

@@ -1,4 +1,4 @@
--- The scan of a piece by its first line feed.
+-- The scan of a piece up to its first line feed.
 use Rattle.std.proofs.Common.{◌≡◌, ◌<◌, ℕ, length, take, get_or, sym, ap, ◌∙◌, List, arith}
 use Rattle.std.proofs.lemmas.Bool.{eqb-true, eq-eqb}
 use Rattle.std.proofs.lemmas.List.{get_or-take}
@@ -18,7 +18,7 @@ returns-in-None c =
     let short = c.if-piece-room.true in
     front-more c.args.limit c.args.held.now c.args.piece.now c.requires (first_line-none c.args.piece.now (λ k l is. none k (omega arith) l (eq-eqb _ 10 is))) (omega arith)
 
--- the front of the piece has the piece's bytes
+-- The first bytes of the piece are those of the scanned part.
 same-byte : (room k : ℕ) (piece near : List ℕ) → near ≡ take room piece → length near ≡ room → k < length near → get_or near k 0 ≡ get_or piece k 0
 same-byte room k piece near e len l = ap (λ (x : List ℕ). get_or x k 0) e ∙ get_or-take room piece k 0 (omega arith)
 

@@ -1,4 +1,4 @@
--- Words and then a line feed.
+-- Words, and then a line feed.
 use Rattle.std.proofs.Common.{[], ◌∷◌}
 use Rattle.line_door.proofs.Acting.{Says-then, Says-first}
 use Rattle.line_door.proofs.phrase.say_line.Goals as goal

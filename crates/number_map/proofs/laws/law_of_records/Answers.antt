@@ -1,4 +1,4 @@
--- The laws that a tactic does not find by itself.
+-- The laws that a tactic doesn't find by itself.
 use Rattle.number_map.proofs.Apart.{damage_is_one, read_or_damaged}
 use Rattle.number_map.proofs.laws.law_of_records.Goals as goal
 

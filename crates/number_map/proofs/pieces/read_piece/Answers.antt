@@ -1,4 +1,4 @@
--- One record more, or the first that isn't there.
+-- One more record, or the first that isn't there.
 use Rattle.std.proofs.Common.{rules, arith, ◌≡◌, ◌++◌, drop}
 use Rattle.number_map.proofs.Standing.{one_more, piece_refused, begins_of}
 use Rattle.number_map.proofs.pieces.read_piece.Goals as goal

@@ -1,4 +1,4 @@
--- Three parts, one behind the other.
+-- Three parts, one after the other.
 use Rattle.std.proofs.Common.{rules, ◌≡◌, take, drop}
 use Rattle.disk_model.specs.BigEndian.{be32}
 use Rattle.number_map.proofs.Spelled.{parts_are}

@@ -1,4 +1,4 @@
--- No other record has the bytes in front.
+-- No other record has the first bytes.
 use Rattle.std.proofs.Common.{rules, ◌≡◌, ◌∙◌, sym, take}
 use Rattle.number_map.proofs.Spelled.{none_short, none_other, none_valid}
 use Rattle.number_map.proofs.reading.record_in_front.Goals as goal

@@ -1,4 +1,4 @@
--- Three parts, put over zeros.
+-- Three parts, written over zeros.
 use Rattle.std.proofs.Common.{rules, ◌≡◌, refl, length}
 use Rattle.std.specs.Int.{to_be_bytes, w32}
 use Rattle.disk_model.specs.BigEndian.{be32}

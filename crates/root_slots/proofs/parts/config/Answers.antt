@@ -1,4 +1,4 @@
--- One part behind the other.
+-- One part after the other.
 use Rattle.std.proofs.Common.{◌≡◌, ◌∙◌, ◌∷◌, [], ap, refl, Some, List, ℕ, nat_eq, get_or, arith}
 use Rattle.arch_base.specs.declared.config.Config.{Config}
 use Rattle.disk_model.specs.BigEndian.{rest_is}

@@ -1,4 +1,4 @@
--- The length, and so many bytes behind it.
+-- The length, and that many bytes after it.
 use Rattle.std.proofs.Common.{◌∙◌, ap, List, ℕ, take, drop, get_or, arith}
 use Rattle.root_slots.proofs.Reading.{name_parts, found_is, text_is}
 use Rattle.root_slots.proofs.parts.name.Goals as goal

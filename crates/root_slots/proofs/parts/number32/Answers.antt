@@ -1,4 +1,4 @@
--- The number is the front's, and the rest stands behind.
+-- The first bytes are the number's, and the rest follows.
 use Rattle.std.proofs.Common.{rules, ◌≡◌, ◌∙◌, take, drop}
 use Rattle.std.specs.Int.{from_be_bytes, w32}
 use Rattle.disk_model.specs.BigEndian.{be32, be32_length, read32, rest_is}

@@ -1,4 +1,4 @@
--- The number is the front's, and the rest stands behind.
+-- The first bytes are the number's, and the rest follows.
 use Rattle.std.proofs.Common.{rules, ◌≡◌, ◌∙◌, take, drop}
 use Rattle.std.specs.Int.{from_be_bytes, w64}
 use Rattle.disk_model.specs.BigEndian.{be64, be64_length, read64, rest_is}

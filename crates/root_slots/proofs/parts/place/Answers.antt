@@ -1,4 +1,4 @@
--- Two numbers, one behind the other.
+-- Two numbers, one after the other.
 use Rattle.std.proofs.Common.{◌++◌}
 use Rattle.disk_model.specs.BigEndian.{be64}
 use Rattle.root_slots.proofs.Reading.{place_parts, place_is}

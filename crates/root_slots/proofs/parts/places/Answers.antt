@@ -1,4 +1,4 @@
--- One place more.
+-- One more place.
 use Rattle.std.proofs.Common.{◌∙◌, arith, length-set}
 use Rattle.root_slots.proofs.Reading.{reads_on}
 use Rattle.root_slots.proofs.parts.places.Goals as goal

@@ -1,4 +1,4 @@
--- One part behind the other.
+-- One part after the other.
 use Rattle.std.proofs.Common.{ap, Some, arith}
 use Rattle.root_slots.specs.declared.root.Root.{Root}
 use Rattle.root_slots.proofs.Reading.{root_parts, root_is, some_is, none_isnt}

@@ -1,4 +1,4 @@
--- What is picked is one of the images.
+-- A pick is one of the images.
 use Rattle.std.proofs.Common.{◌∙◌, ◌≡◌, ◌-◌, length, take, List, Some, ap, subst, arith}
 use Rattle.std.proofs.lemmas.Result.{IfOk-weaker}
 use Rattle.disk_model.specs.declared.change.Change.{Change}

@@ -1,4 +1,4 @@
--- Files and record change in the same way.
+-- The files and the record change in the same way.
 use Rattle.std.proofs.Common.{◌∙◌, ◌++◌, ◌∷◌, [], List, ap, arith}
 use Rattle.std.specs.Result.{is_ok}
 use Rattle.disk_model.specs.declared.change.Change.{Change}

@@ -1,4 +1,4 @@
--- One change more on record, and time goes on by one.
+-- The record has one more change, and time advances by one.
 use Rattle.disk_model.specs.Disk.{OneFile, CutTo}
 use Rattle.disk_model.specs.Record.{file_at}
 use Rattle.disk_model.proofs.Steps.{moved, moved_time, one_cut}

@@ -1,4 +1,4 @@
--- One change more on record, and time goes on by one. A sync that fails changes nothing.
+-- The record has one more change, and time advances by one. A sync that fails changes nothing.
 use Rattle.std.proofs.Common.{Some}
 use Rattle.disk_model.specs.Disk.{Synced}
 use Rattle.disk_model.specs.Laws.{NotSynced-same}

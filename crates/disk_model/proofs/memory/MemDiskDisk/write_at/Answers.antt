@@ -1,4 +1,4 @@
--- One change more on record, and time goes on by one.
+-- The record has one more change, and time advances by one.
 use Rattle.disk_model.proofs.Steps.{moved_time, wrote_moved}
 use Rattle.disk_model.proofs.memory.MemDiskDisk.write_at.Goals as goal
 

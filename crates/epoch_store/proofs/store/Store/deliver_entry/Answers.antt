@@ -1,79 +1,66 @@
--- What is kept, and what stands on the disk.
+-- What is kept, and what is on the disk.
 use Rattle.std.proofs.Common.{◌≡◌, ◌∙◌, ◌-◌, ◌++◌, ◌∷◌, [], List, ℕ, sym, ap, subst, is_ok, ◌≤◌, arith}
 use Rattle.disk_model.specs.Disk.{LeavesOnly}
-use Rattle.disk_model.specs.Moments.{started}
 use Rattle.arch_model.specs.Archives.{with_entry}
 use Rattle.arch_model.specs.Delivery.{new_epoch}
 use Rattle.epoch_store.specs.declared.entries.StoredEntry.{StoredEntry}
-use Rattle.epoch_store.specs.Stores.{View, InEpochs, stored_at, IsNextPlace, next_sequence, IsStoreOf, RecoversEither, GoesNext}
-use Rattle.epoch_store.proofs.Kept.{stands_now, same_view, in_epochs_more, pushed}
+use Rattle.epoch_file.specs.declared.entry.NewEntry.{NewEntry}
+use Rattle.epoch_store.specs.Stores.{View, InEpochs, stored_at, IsNextPlace, next_sequence, IsStoreOf, RecoversEither}
+use Rattle.epoch_store.proofs.Kept.{in_epochs_more, pushed}
 use Rattle.epoch_store.proofs.Delivering.{store_keeps}
+use Rattle.epoch_store.proofs.EntryWriting.{has_room, waiting_leaves}
 use Rattle.epoch_store.proofs.store.Store.deliver_entry.Goals as goal
 
 pub returns-then-place-ge-MOST-clause-any_moment : goal.returns-then-place-ge-MOST-clause-any_moment
 returns-then-place-ge-MOST-clause-any_moment g c = λ a store room.
     let disk = c.args.disk.now in
-    let b = with_entry a (new_epoch a) c.args.text.now c.args.moment in
-    started g.D.Disk.moment g.D.Disk.left_since disk (RecoversEither a b) (λ image left. stands_now c.args.self.now a b (g.D.Disk.content disk) image store (g.met.D.Disk.only_now disk image left))
+    waiting_leaves g.D.Disk.moment g.D.Disk.left_since disk c.args.self.now a (with_entry a (new_epoch a) c.args.text.now c.args.moment) (g.D.Disk.content disk) store (λ image left. g.met.D.Disk.only_now disk image left)
 
 pub returns-in_err-id-clause-any_moment : goal.returns-in_err-id-clause-any_moment
 returns-in_err-id-clause-any_moment g c = λ a store room.
     let disk = c.args.disk.now in
-    let b = with_entry a (new_epoch a) c.args.text.now c.args.moment in
-    started g.D.Disk.moment g.D.Disk.left_since disk (RecoversEither a b) (λ image left. stands_now c.args.self.now a b (g.D.Disk.content disk) image store (g.met.D.Disk.only_now disk image left))
+    waiting_leaves g.D.Disk.moment g.D.Disk.left_since disk c.args.self.now a (with_entry a (new_epoch a) c.args.text.now c.args.moment) (g.D.Disk.content disk) store (λ image left. g.met.D.Disk.only_now disk image left)
 
 pub returns-in_default-clause-any_moment : goal.returns-in_default-clause-any_moment
 returns-in_default-clause-any_moment g c = λ a store room.
     let disk = c.args.disk.now in
-    let b = with_entry a (new_epoch a) c.args.text.now c.args.moment in
-    started g.D.Disk.moment g.D.Disk.left_since disk (RecoversEither a b) (λ image left. stands_now c.args.self.now a b (g.D.Disk.content disk) image store (g.met.D.Disk.only_now disk image left))
+    waiting_leaves g.D.Disk.moment g.D.Disk.left_since disk c.args.self.now a (with_entry a (new_epoch a) c.args.text.now c.args.moment) (g.D.Disk.content disk) store (λ image left. g.met.D.Disk.only_now disk image left)
 
 pub returns-in_err-root-clause-any_moment : goal.returns-in_err-root-clause-any_moment
 returns-in_err-root-clause-any_moment g c = λ a store room.
     let v = c.args.self.now in
     let p = c.next_place-place.result in
-    let k0 = g.D.Disk.content c.args.disk.now in
-    let keeps = store_keeps v a k0 store in
-    let next = c.next_place-place.ensures.next a keeps in
     let text = c.args.text.now in
     let moment = c.args.moment in
-    let same : v ≡ record { root = c.self.inside.root; slot = c.self.inside.slot; entries = c.reserve.new.self.items } = sym c.self.view_is ∙ same_view c.self.inside.root c.self.inside.slot c.reserve.new.self.items c.self.inside.entries.items (sym c.reserve.ensures.items) in
-    let w : View = record { root = c.self.inside.root; slot = c.self.inside.slot; entries = c.reserve.new.self.items } in
-    let goes : GoesNext w a p (record { name = 109; text = c.args.text; moment = moment; parent = p.parent }) = subst (λ (u : View). GoesNext u a p (record { name = 109; text = c.args.text; moment = moment; parent = p.parent })) same (record { place = next; accepts = c.requires.accepts; room = room }) in
-    let owns : IsStoreOf w a k0 = subst (λ (u : View). IsStoreOf u a k0) same store in
-    subst (λ (e : ℕ). LeavesOnly g.D.Disk.moment g.D.Disk.left_since c.args.disk.now c.write_entry.new.disk (RecoversEither a (with_entry a e text moment))) next.epoch (c.write_entry.ensures.any_moment a owns goes)
+    let e : NewEntry = record { name = 109; text = c.args.text; moment = moment; parent = p.parent } in
+    let k0 = g.D.Disk.content c.args.disk.now in
+    let has = has_room v a p e k0 c.self.inside.root c.self.inside.slot c.self.inside.entries.items c.reserve.new.self.items c.self.view_is c.reserve.ensures.items store room c.requires.accepts (c.next_place-place.ensures.next a) in
+    subst (λ (n : ℕ). LeavesOnly g.D.Disk.moment g.D.Disk.left_since c.args.disk.now c.write_entry.new.disk (RecoversEither a (with_entry a n text moment))) has.next.epoch (c.write_entry.ensures.any_moment a has.owns has.goes)
 
 pub returns-clause-any_moment : goal.returns-clause-any_moment
 returns-clause-any_moment g c = λ a store room.
     let v = c.args.self.now in
     let p = c.next_place-place.result in
-    let k0 = g.D.Disk.content c.args.disk.now in
-    let keeps = store_keeps v a k0 store in
-    let next = c.next_place-place.ensures.next a keeps in
     let text = c.args.text.now in
     let moment = c.args.moment in
-    let same : v ≡ record { root = c.self.inside.root; slot = c.self.inside.slot; entries = c.reserve.new.self.items } = sym c.self.view_is ∙ same_view c.self.inside.root c.self.inside.slot c.reserve.new.self.items c.self.inside.entries.items (sym c.reserve.ensures.items) in
-    let w : View = record { root = c.self.inside.root; slot = c.self.inside.slot; entries = c.reserve.new.self.items } in
-    let goes : GoesNext w a p (record { name = 109; text = c.args.text; moment = moment; parent = p.parent }) = subst (λ (u : View). GoesNext u a p (record { name = 109; text = c.args.text; moment = moment; parent = p.parent })) same (record { place = next; accepts = c.requires.accepts; room = room }) in
-    let owns : IsStoreOf w a k0 = subst (λ (u : View). IsStoreOf u a k0) same store in
-    subst (λ (e : ℕ). LeavesOnly g.D.Disk.moment g.D.Disk.left_since c.args.disk.now c.write_entry.new.disk (RecoversEither a (with_entry a e text moment))) next.epoch (c.write_entry.ensures.any_moment a owns goes)
+    let e : NewEntry = record { name = 109; text = c.args.text; moment = moment; parent = p.parent } in
+    let k0 = g.D.Disk.content c.args.disk.now in
+    let has = has_room v a p e k0 c.self.inside.root c.self.inside.slot c.self.inside.entries.items c.reserve.new.self.items c.self.view_is c.reserve.ensures.items store room c.requires.accepts (c.next_place-place.ensures.next a) in
+    subst (λ (n : ℕ). LeavesOnly g.D.Disk.moment g.D.Disk.left_since c.args.disk.now c.write_entry.new.disk (RecoversEither a (with_entry a n text moment))) has.next.epoch (c.write_entry.ensures.any_moment a has.owns has.goes)
 
 pub returns-clause-done : goal.returns-clause-done
 returns-clause-done g c = λ a store room.
     let v = c.args.self.now in
     let p = c.next_place-place.result in
-    let k0 = g.D.Disk.content c.args.disk.now in
-    let keeps = store_keeps v a k0 store in
-    let next = c.next_place-place.ensures.next a keeps in
     let text = c.args.text.now in
     let moment = c.args.moment in
-    let same : v ≡ record { root = c.self.inside.root; slot = c.self.inside.slot; entries = c.reserve.new.self.items } = sym c.self.view_is ∙ same_view c.self.inside.root c.self.inside.slot c.reserve.new.self.items c.self.inside.entries.items (sym c.reserve.ensures.items) in
+    let e : NewEntry = record { name = 109; text = c.args.text; moment = moment; parent = p.parent } in
+    let k0 = g.D.Disk.content c.args.disk.now in
+    let has = has_room v a p e k0 c.self.inside.root c.self.inside.slot c.self.inside.entries.items c.reserve.new.self.items c.self.view_is c.reserve.ensures.items store room c.requires.accepts (c.next_place-place.ensures.next a) in
     let w : View = record { root = c.self.inside.root; slot = c.self.inside.slot; entries = c.reserve.new.self.items } in
-    let goes : GoesNext w a p (record { name = 109; text = c.args.text; moment = moment; parent = p.parent }) = subst (λ (u : View). GoesNext u a p (record { name = 109; text = c.args.text; moment = moment; parent = p.parent })) same (record { place = next; accepts = c.requires.accepts; room = room }) in
-    let owns : IsStoreOf w a k0 = subst (λ (u : View). IsStoreOf u a k0) same store in
     let root = c.in_ok-root.root in
     let stored = c.new_entry-stored.result in
-    let kept = c.new_entry-stored.ensures.stored a (store_keeps w a k0 owns) (subst (λ (u : View). IsNextPlace u.root a (next_sequence u.root.sequence) p) same next) in
+    let kept = c.new_entry-stored.ensures.stored a (store_keeps w a k0 has.owns) (subst (λ (u : View). IsNextPlace u.root a (next_sequence u.root.sequence) p) has.same has.next) in
     let full = c.in-Ok.ensures.ok in
     let more = pushed (is_ok c.push.result) c.reserve.new.self.items c.push.new.self.items stored c.push.ensures.items (c.push.ensures.succeeds (omega (arith, full))) in
     let entries : List StoredEntry = w.entries ++ stored_at a.entries (record { number = a.next; epoch = p.epoch; text = text; moment = moment }) ∷ [] in
@@ -81,8 +68,8 @@ returns-clause-done g c = λ a store room.
     let k3 = g.D.Disk.content c.write_entry.new.disk in
     let b = with_entry a p.epoch text moment in
     let made : IsStoreOf (record { root = root; slot = 1 - c.self.inside.slot; entries = c.push.new.self.items }) b k3 =
-    subst (λ (es : List StoredEntry). IsStoreOf (record { root = root; slot = 1 - c.self.inside.slot; entries = es }) b k3) all (c.in_ok-root.ensures.done a owns goes) in
-    subst (λ (e : ℕ). IsStoreOf (record { root = root; slot = 1 - c.self.inside.slot; entries = c.push.new.self.items }) (with_entry a e text moment) k3) next.epoch made
+    subst (λ (es : List StoredEntry). IsStoreOf (record { root = root; slot = 1 - c.self.inside.slot; entries = es }) b k3) all (c.in_ok-root.ensures.done a has.owns has.goes) in
+    subst (λ (n : ℕ). IsStoreOf (record { root = root; slot = 1 - c.self.inside.slot; entries = c.push.new.self.items }) (with_entry a n text moment) k3) has.next.epoch made
 
 pub invariant_of-self-4 : goal.invariant_of-self-4
 invariant_of-self-4 g c =

@@ -1,4 +1,4 @@
--- What is left while the archive is opened, and what stands then.
+-- What is left while the archive is opened, and what is there then.
 use Rattle.disk_model.specs.Disk.{Image}
 use Rattle.disk_model.specs.Moments.{joined}
 use Rattle.epoch_store.specs.Files.{StandsFor}

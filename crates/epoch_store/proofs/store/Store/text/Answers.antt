@@ -1,4 +1,4 @@
--- The text that is read, and one that is another.
+-- The entry's text, and another text.
 use Rattle.std.proofs.Common.{◌≡◌, ◌≢◌, ◌∙◌, ◌++◌, ℕ, List, sym, ap, rules}
 use Rattle.git_objects.specs.Objects.{blob_id_of}
 use Rattle.epoch_store.proofs.Texts.{here_is, one_here, tells_damage, finds_damage, gives_text, finds_text, right_text_in}

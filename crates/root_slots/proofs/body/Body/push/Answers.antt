@@ -1,4 +1,4 @@
--- The zeros stay behind what is written.
+-- The bytes after what is written stay zeros.
 use Rattle.std.proofs.Common.{◌∙◌, sym, ◌+◌, ◌-◌, length, arith}
 use Rattle.std.proofs.lemmas.Slice.{drop-put_mid}
 use Rattle.root_slots.proofs.Zeros.{zeros_behind, written_length}

@@ -1,4 +1,4 @@
--- Zeros are taken from those behind what is written.
+-- Some of the zeros after what is written count as written.
 use Rattle.std.proofs.Common.{◌∙◌, sym, ap, List, ℕ, ◌++◌, replicate, arith}
 use Rattle.root_slots.proofs.Zeros.{zeros_behind, zeros_taken, written_length}
 use Rattle.root_slots.proofs.body.Body.skip.Goals as goal

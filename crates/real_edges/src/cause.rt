@@ -1,0 +1,103 @@
+//! Why a call on a folder failed, and how that is said.
+use crate::names::path_in;
+use disk_model::FileName;
+use std::alloc::{AllocError, AllocFailed, Global};
+use std::io;
+use std::path::Path;
+
+/// The name of the mark in a folder. No file of an archive is spelled so.
+pub(crate) const MARK: &str = "sync-failed";
+
+/// What the system refused to work on.
+#[derive(Clone, Copy)]
+pub(crate) enum Spot {
+    /// The folder itself.
+    Folder,
+    /// The folder above it.
+    Above,
+    /// A file in it.
+    File(FileName),
+    /// The mark in it.
+    Mark,
+}
+
+/// Why a call on a folder failed.
+#[derive(Clone, Copy)]
+pub(crate) enum Failure {
+    /// The system refused a call.
+    Refused { spot: Spot, error: io::Error },
+    /// Another run held the folder for longer than this one waits.
+    InUse,
+    /// Another run put files into the folder after this one had seen that it was missing.
+    MadeMeanwhile,
+    /// A sync failed earlier, after which none is answered.
+    SyncFailed,
+    /// There was no memory.
+    NoMemory,
+}
+
+impl Failure {
+    /// The failure that the system's error on a spot is.
+    pub(crate) fn on(spot: Spot, error: io::Error) -> Failure {
+        Failure::Refused { spot, error }
+    }
+
+    /// Returns the path and the words of the failure, as they are printed behind the program's name.
+    pub(crate) fn words(&self, alloc: Global, folder: &str) -> Result<String, AllocError> {
+        match self {
+            Failure::Refused { spot, error } => refused_words(alloc, folder, *spot, error),
+            Failure::InUse => format!(in alloc; "{folder} is in use by another run"),
+            Failure::MadeMeanwhile => format!(in alloc;
+                "{folder} was made by another run meanwhile"
+            ),
+            Failure::SyncFailed => format!(in alloc; "{folder}: an earlier sync failed"),
+            Failure::NoMemory => format!(in alloc; "{folder}: out of memory"),
+        }
+    }
+}
+
+impl From<AllocError> for Failure {
+    fn from(_error: AllocError) -> Failure {
+        Failure::NoMemory
+    }
+}
+
+impl<T: Drop> From<AllocFailed<T>> for Failure {
+    fn from(_error: AllocFailed<T>) -> Failure {
+        Failure::NoMemory
+    }
+}
+
+/// Returns the path of a spot, and the system's words behind it.
+fn refused_words(
+    alloc: Global,
+    folder: &str,
+    spot: Spot,
+    error: &io::Error,
+) -> Result<String, AllocError> {
+    let words = system_words(alloc, error)?;
+    match spot {
+        Spot::Folder => format!(in alloc; "{folder}: {words}"),
+        Spot::Above => format!(in alloc; "{}: {words}", above(folder).unwrap_or(folder)),
+        Spot::Mark => format!(in alloc; "{folder}/{MARK}: {words}"),
+        Spot::File(name) => {
+            let path = path_in(alloc, folder, name)?;
+            format!(in alloc; "{path}: {words}")
+        }
+    }
+}
+
+/// Returns the system's words for an error, without its number.
+pub(crate) fn system_words(alloc: Global, error: &io::Error) -> Result<String, AllocError> {
+    let text = format!(in alloc; "{error}")?;
+    if let Some((words, _number)) = text.as_str().split_once(" (os error ") {
+        return String::from_str(alloc, words);
+    }
+    Ok(text)
+}
+
+/// Returns the path of the folder above a folder, or None above the top.
+pub(crate) fn above(folder: &str) -> Option<&str> {
+    let above = Path::new(folder).parent()?.as_str();
+    Some(if above.is_empty() { "." } else { above })
+}

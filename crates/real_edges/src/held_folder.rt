@@ -1,0 +1,324 @@
+//! A folder whose lock this run holds.
+ghost use Rattle.std.specs.Prelude.{◌≤◌, length, IfOk};
+
+use crate::cause::{Failure, MARK, Spot, above};
+use crate::folder_lock::lock_folder;
+use crate::mark::{leave_mark, write_again};
+use crate::names::{name_of, path_in};
+use crate::open_file::OpenFile;
+use disk_model::FileName;
+use std::alloc::Global;
+use std::collections::{BTreeMap, BTreeSet};
+use std::fs;
+use std::fs::{File, OpenOptions};
+use std::io::{self, ErrorKind};
+use std::time::Duration;
+
+/// How many files are kept open at most.
+const MAX_OPEN: usize = 80;
+
+/// A folder whose lock this run holds, until this value ends. Its files are opened, listed, written, removed and synced
+/// here alone, so none is while another run has the lock.
+#[derive(Drop)]
+pub(crate) struct HeldFolder {
+    rt: HostRuntime,
+    alloc: Global,
+    path: String,
+    // The folder itself, open and locked.
+    folder: File,
+    open_files: BTreeMap<FileName, OpenFile>,
+    // Whether files of an archive stood in it when it was locked. The run that put the first one there had brought the
+    // folder's own name to the disk.
+    has_files: bool,
+    // Whether the folder above was synced by this run, behind the making of this one.
+    above_synced: bool,
+    // Whether all names in it are on the disk.
+    settled: bool,
+    // Whether a sync failed.
+    failed: bool,
+}
+
+/// What a folder holds.
+#[derive(Drop)]
+struct Listing {
+    // The names of the files of an archive.
+    names: BTreeSet<FileName>,
+    // Whether the mark of a failed sync is there.
+    marked: bool,
+}
+
+impl HeldFolder {
+    /// Opens a folder and takes its lock, for which it waits so long at most. None where there is no folder. Where an
+    /// earlier run left the mark of a failed sync, all files are brought to the disk anew before any of them is opened.
+    pub(crate) fn take(
+        rt: &HostRuntime,
+        alloc: Global,
+        path: &str,
+        wait: Duration,
+    ) -> Result<Option<HeldFolder>, Failure> {
+        let Some(folder) = lock_folder(rt, path, wait)? else {
+            return Ok(None);
+        };
+        let listing = list(rt, alloc, path)?;
+        if listing.marked {
+            write_again(rt, alloc, path, &folder, &listing.names)?;
+        }
+        Ok(Some(HeldFolder {
+            rt: *rt,
+            alloc,
+            path: String::from_str(alloc, path)?,
+            folder,
+            open_files: BTreeMap::new(alloc),
+            has_files: !listing.names.is_empty(),
+            above_synced: false,
+            settled: false,
+            failed: false,
+        }))
+    }
+
+    /// Says whether files of an archive stood in the folder when it was locked.
+    pub(crate) fn has_files(&self) -> bool {
+        self.has_files
+    }
+
+    /// Reads the bytes that there are from an offset on into the front of a buffer, and returns how many.
+    pub(crate) fn read(
+        &mut self,
+        name: FileName,
+        offset: u64,
+        into: &mut [u8],
+    ) -> Result<usize, Failure>
+        ensures { IfOk result (λ count. count ≤ length into.new) }
+    {
+        self.open(name, false)?;
+        let Some(file) = self.open_files.get(&name) else {
+            return Ok(0);
+        };
+        match file.read(offset, into) {
+            Ok(count) => Ok(count),
+            Err(refused) => Err(Failure::on(Spot::File(name), refused)),
+        }
+    }
+
+    /// Returns a file's length in bytes, 0 of a missing file.
+    pub(crate) fn length(&mut self, name: FileName) -> Result<u64, Failure> {
+        self.open(name, false)?;
+        let Some(file) = self.open_files.get(&name) else {
+            return Ok(0);
+        };
+        match file.length() {
+            Ok(length) => Ok(length),
+            Err(refused) => Err(Failure::on(Spot::File(name), refused)),
+        }
+    }
+
+    /// Writes bytes from an offset on. A missing file is made, once the folder's own name is on the disk.
+    pub(crate) fn write(
+        &mut self,
+        name: FileName,
+        offset: u64,
+        bytes: &[u8],
+    ) -> Result<(), Failure> {
+        self.keep_name()?;
+        self.open(name, true)?;
+        let Some(file) = self.open_files.get_mut(&name) else {
+            return Err(Failure::on(Spot::File(name), ErrorKind::NotFound.into()));
+        };
+        match file.write(offset, bytes) {
+            Ok(()) => Ok(()),
+            Err(refused) => Err(Failure::on(Spot::File(name), refused)),
+        }
+    }
+
+    /// Cuts a file to a length. A missing file stays missing.
+    pub(crate) fn cut(&mut self, name: FileName, length: u64) -> Result<(), Failure> {
+        self.open(name, false)?;
+        let Some(file) = self.open_files.get_mut(&name) else {
+            return Ok(());
+        };
+        match file.cut(length) {
+            Ok(()) => Ok(()),
+            Err(refused) => Err(Failure::on(Spot::File(name), refused)),
+        }
+    }
+
+    /// Removes a file, where it is there.
+    pub(crate) fn remove(&mut self, name: FileName) -> Result<(), Failure> {
+        let path = path_in(self.alloc, self.path.as_str(), name)?;
+        self.settled = false;
+        match fs::remove_file(&self.rt, path.as_str()) {
+            Ok(()) => {}
+            Err(refused) if refused.kind() == ErrorKind::NotFound => {}
+            Err(refused) => return Err(Failure::on(Spot::File(name), refused)),
+        }
+        self.open_files.remove(&name);
+        Ok(())
+    }
+
+    /// Returns the name at an index, from 0, among those of its files, in order.
+    pub(crate) fn name_at(&self, index: u64) -> Result<Option<FileName>, Failure> {
+        let listing = list(&self.rt, self.alloc, self.path.as_str())?;
+        Ok(listing.names.iter().nth(index as usize).copied())
+    }
+
+    /// Brings all files that changed to the disk, then the folder, if a name may have been made or removed, and once the
+    /// folder above. After a sync of one of these failed this always fails: the system may have dropped what it couldn't
+    /// write, and answer Ok to a second try. What can't be opened is asked for again at the next call.
+    pub(crate) fn sync(&mut self) -> Result<(), Failure> {
+        if self.failed {
+            return Err(Failure::SyncFailed);
+        }
+        if let Err(failure) = sync_all(&mut self.open_files) {
+            self.fail();
+            return Err(failure);
+        }
+        if !self.settled {
+            if let Err(refused) = self.folder.sync_all() {
+                self.fail();
+                return Err(Failure::on(Spot::Folder, refused));
+            }
+            self.settled = true;
+        }
+        self.sync_above()
+    }
+
+    /// Brings the folder's own name to the disk, where that isn't known to be there.
+    pub(crate) fn keep_name(&mut self) -> Result<(), Failure> {
+        if self.is_named() {
+            return Ok(());
+        }
+        self.sync_above()
+    }
+
+    /// Says whether the folder's own name is known to be on the disk.
+    fn is_named(&self) -> bool {
+        self.has_files || self.above_synced
+    }
+
+    /// Brings the folder above to the disk, once. One that may not be read is passed over, where the folder's own name
+    /// is known to be on the disk.
+    fn sync_above(&mut self) -> Result<(), Failure> {
+        if self.above_synced {
+            return Ok(());
+        }
+        let Some(path) = above(self.path.as_str()) else {
+            self.above_synced = true;
+            return Ok(());
+        };
+        let opened = File::open(&self.rt, path);
+        match opened {
+            Ok(above) => self.sync_opened(&above),
+            Err(refused) if refused.kind() == ErrorKind::PermissionDenied && self.is_named() => Ok(
+                (),
+            ),
+            Err(refused) => Err(Failure::on(Spot::Above, refused)),
+        }
+    }
+
+    /// Brings the folder above, which was opened, to the disk.
+    fn sync_opened(&mut self, above: &File) -> Result<(), Failure> {
+        if let Err(refused) = above.sync_all() {
+            self.fail();
+            return Err(Failure::on(Spot::Above, refused));
+        }
+        self.above_synced = true;
+        Ok(())
+    }
+
+    /// Remembers that a sync failed, and leaves the mark of that for later runs, where it can be left. A folder whose
+    /// own name isn't known to be on the disk has no file yet that the mark could speak of.
+    fn fail(&mut self) {
+        self.failed = true;
+        if self.is_named() {
+            let _ = leave_mark(&self.rt, self.alloc, self.path.as_str(), &self.folder);
+        }
+    }
+
+    /// Opens a file that isn't open, where it is there or is to be made.
+    fn open(&mut self, name: FileName, make: bool) -> Result<(), Failure> {
+        if self.open_files.contains_key(&name) {
+            return Ok(());
+        }
+        if make {
+            self.settled = false;
+        }
+        let path = path_in(self.alloc, self.path.as_str(), name)?;
+        let mut options = OpenOptions::new();
+        options.read(true).write(true).create(make);
+        match options.open(&self.rt, path.as_str()) {
+            Ok(file) => self.keep(name, file),
+            Err(refused) if refused.kind() == ErrorKind::NotFound && !make => Ok(()),
+            Err(refused) => Err(Failure::on(Spot::File(name), refused)),
+        }
+    }
+
+    /// Keeps a file open, and closes another one where there are too many.
+    fn keep(&mut self, name: FileName, file: File) -> Result<(), Failure> {
+        if self.open_files.len() >= MAX_OPEN {
+            if let Err(failure) = close_last(&mut self.open_files) {
+                self.fail();
+                return Err(failure);
+            }
+        }
+        match OpenFile::settled(file) {
+            Ok(file) => {
+                self.open_files.insert(name, file)?;
+                Ok(())
+            }
+            Err(refused) => {
+                self.fail();
+                Err(Failure::on(Spot::File(name), refused))
+            }
+        }
+    }
+}
+
+/// Closes the last of the open files in the order of names, after it was brought to the disk.
+fn close_last(files: &mut BTreeMap<FileName, OpenFile>) -> Result<(), Failure> {
+    let Some(mut last) = files.last_entry() else {
+        return Ok(());
+    };
+    if let Err(refused) = last.get_mut().sync() {
+        return Err(Failure::on(Spot::File(*last.key()), refused));
+    }
+    last.remove();
+    Ok(())
+}
+
+/// Brings all files that changed to the disk.
+fn sync_all(files: &mut BTreeMap<FileName, OpenFile>) -> Result<(), Failure> {
+    for (name, file) in files.iter_mut() {
+        if let Err(refused) = file.sync() {
+            return Err(Failure::on(Spot::File(*name), refused));
+        }
+    }
+    Ok(())
+}
+
+/// Lists a folder.
+fn list(rt: &HostRuntime, alloc: Global, path: &str) -> Result<Listing, Failure> {
+    match read_names(rt, alloc, path) {
+        Ok(listing) => Ok(listing),
+        Err(refused) => Err(Failure::on(Spot::Folder, refused)),
+    }
+}
+
+/// Lists a folder. Names that aren't spelled as those of files are passed over.
+fn read_names(rt: &HostRuntime, alloc: Global, path: &str) -> io::Result<Listing> {
+    let mut names = BTreeSet::new(alloc);
+    let mut marked = false;
+    for entry in fs::read_dir(rt, path)? {
+        match entry {
+            Ok(entry) => match name_of(entry.file_name()) {
+                Some(name) => {
+                    names.insert(name)?;
+                }
+                None => marked = marked || entry.file_name() == MARK,
+            },
+            // A name that isn't UTF-8 is none of a file here.
+            Err(refused) if refused.kind() == ErrorKind::InvalidFilename => {}
+            Err(refused) => return Err(refused),
+        }
+    }
+    Ok(Listing { names, marked })
+}

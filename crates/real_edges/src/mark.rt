@@ -1,0 +1,99 @@
+//! The mark that a failed sync leaves in a folder, and what the next run does about it.
+ghost use Rattle.std.specs.Prelude.{◌≡◌, IfOk, length};
+
+use crate::cause::{Failure, MARK, Spot};
+use crate::names::path_in;
+use disk_model::FileName;
+use std::alloc::{AllocError, Global};
+use std::collections::BTreeSet;
+use std::fs::{self, File, OpenOptions};
+use std::io;
+use std::os::unix::fs::FileExt;
+
+/// How many bytes are written again at once.
+const PIECE: u64 = 65_536;
+
+/// Leaves the mark in a folder that is held, on the disk where that can be.
+pub(crate) fn leave_mark(
+    rt: &HostRuntime,
+    alloc: Global,
+    path: &str,
+    folder: &File,
+) -> io::Result<()> {
+    let mark = format!(in alloc; "{path}/{MARK}")?;
+    File::create(rt, mark.as_str())?.sync_all()?;
+    folder.sync_all()
+}
+
+/// Brings all files of a folder that is held to the disk, though a sync of an earlier run failed, and then takes the
+/// mark of that away. After such a failure the system may take what it couldn't write for written, and answer Ok to the
+/// next sync: so all bytes are written again first. Where this fails, the mark stays.
+pub(crate) fn write_again(
+    rt: &HostRuntime,
+    alloc: Global,
+    path: &str,
+    folder: &File,
+    names: &BTreeSet<FileName>,
+) -> Result<(), Failure> {
+    write_files(rt, alloc, path, names)?;
+    if let Err(refused) = folder.sync_all() {
+        return Err(Failure::on(Spot::Folder, refused));
+    }
+    if let Err(refused) = remove_mark(rt, alloc, path, folder) {
+        // The mark may be away, and not yet on the disk.
+        let _ = leave_mark(rt, alloc, path, folder);
+        return Err(Failure::on(Spot::Mark, refused));
+    }
+    Ok(())
+}
+
+/// Takes the mark away, on the disk too.
+fn remove_mark(rt: &HostRuntime, alloc: Global, path: &str, folder: &File) -> io::Result<()> {
+    let mark = format!(in alloc; "{path}/{MARK}")?;
+    fs::remove_file(rt, mark.as_str())?;
+    folder.sync_all()
+}
+
+/// Writes all bytes of these files again, and brings each file to the disk.
+fn write_files(
+    rt: &HostRuntime,
+    alloc: Global,
+    path: &str,
+    names: &BTreeSet<FileName>,
+) -> Result<(), Failure> {
+    for name in names.iter() {
+        let file = path_in(alloc, path, *name)?;
+        if let Err(refused) = write_file(rt, alloc, file.as_str()) {
+            return Err(Failure::on(Spot::File(*name), refused));
+        }
+    }
+    Ok(())
+}
+
+/// Writes all bytes of a file again, each where it stands, and brings it to the disk.
+fn write_file(rt: &HostRuntime, alloc: Global, path: &str) -> io::Result<()> {
+    let mut buffer = new_buffer(alloc)?;
+    let file = OpenOptions::new().read(true).write(true).open(rt, path)?;
+    let length = file.metadata()?.len();
+    let mut offset = 0u64;
+    for _ in 0..length / PIECE + 1 {
+        write_piece(&file, length, offset, buffer.as_mut_slice())?;
+        offset = offset.saturating_add(PIECE);
+    }
+    file.sync_all()
+}
+
+/// Writes the bytes of a file of this length that stand from an offset on again, as many as a buffer has room for.
+fn write_piece(file: &File, length: u64, offset: u64, buffer: &mut [u8]) -> io::Result<()> {
+    let count = length.saturating_sub(offset).min(buffer.len() as u64) as usize;
+    let piece = &mut buffer[..count];
+    file.read_exact_at(piece, offset)?;
+    file.write_all_at(piece, offset)
+}
+
+/// A buffer for a piece of a file.
+fn new_buffer(alloc: Global) -> Result<Vec<u8>, AllocError>
+    ensures { IfOk result (λ buffer. length buffer.items ≡ PIECE) }
+{
+    vec![in alloc; 0u8; PIECE as usize]
+}
