@@ -151,7 +151,7 @@ impl Connection {
 }
 
 /// The call of a keeper that the disk fails.
-#[derive(Clone, Copy, Debug, PartialEq, Eq, Drop)]
+#[derive(Clone, Copy, PartialEq, Eq, Drop)]
 enum Failing {
     /// A command, which is done all the same or not.
     Command(bool),
