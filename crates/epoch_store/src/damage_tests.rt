@@ -5,9 +5,8 @@ use crate::tests::{MAP, ROOT, SECOND, append, epoch, put, write};
 use arch_base::Numbers;
 use arch_model::OpenRefusal;
 use disk_files::file_names;
-use disk_model::{Disk, FileKind, FileName, MemDisk};
+use disk_model::{Disk, DiskFault, FileKind, FileName, MemDisk};
 use std::alloc::Global;
-use std::process::Abort;
 use std::test::Fail;
 
 /// The file of the first epoch.
@@ -52,17 +51,27 @@ struct WholeFile {
     bytes: Vec<u8>,
 }
 
+/// A file of a disk.
+fn whole_file(alloc: Global, disk: &mut MemDisk, name: FileName) -> Result<WholeFile, Fail> {
+    let length = disk.length(name)?;
+    let mut bytes = vec![in alloc; 0; length as usize]?;
+    disk.read(name, 0, bytes.as_mut_slice())?;
+    Ok(WholeFile { name, bytes })
+}
+
 /// All files of a disk.
 fn all_files(alloc: Global, disk: &mut MemDisk) -> Result<Vec<WholeFile>, Fail> {
     let names = file_names(alloc, disk)?;
     let mut files = Vec::new(alloc);
     for name in names.as_slice() {
-        let length = disk.length(*name)?;
-        let mut bytes = vec![in alloc; 0; length as usize]?;
-        disk.read(*name, 0, bytes.as_mut_slice())?;
-        files.push(WholeFile { name: *name, bytes })?;
+        files.push(whole_file(alloc, disk, *name)?)?;
     }
     Ok(files)
+}
+
+/// Whether a disk has these files.
+fn has_files(alloc: Global, disk: &mut MemDisk, files: &Vec<WholeFile>) -> Result<bool, Fail> {
+    Ok(all_files(alloc, disk)? == *files)
 }
 
 /// The disk of an archive of one message: a root file of 4,096 bytes, a map of 28, and an epoch of 316.
@@ -72,41 +81,88 @@ fn one_message(alloc: Global) -> Result<MemDisk, Fail> {
     Ok(disk)
 }
 
-/// Opens a disk, which is refused as it should be and leaves each file as it was.
-fn refuse(
-    rt: &impl Abort,
-    alloc: Global,
-    disk: &mut MemDisk,
-    damage: Option<(FileName, u64)>,
-) -> Result<(), Fail> {
-    let before = all_files(alloc, disk)?;
+/// Whether a disk isn't opened: no archive is there, or the damage is found at its place.
+fn is_refusal(alloc: Global, disk: &mut MemDisk, damage: Option<(FileName, u64)>) -> bool {
     let want = match damage {
         None => OpenRefusal::NoArchive,
         Some((file, at)) => OpenRefusal::Damaged { file, at },
     };
     match Store::open(alloc, disk) {
-        Ok(_) => assert!(rt; false),
-        Err(refusal) => assert_eq!(rt; refusal, want),
+        Ok(_) => false,
+        Err(refusal) => refusal == want,
     }
-    assert!(rt; all_files(alloc, disk)? == before);
-    Ok(())
+}
+
+/// Opens a disk, and says whether that is refused as it should be and leaves each file as it was.
+fn is_refused(
+    alloc: Global,
+    disk: &mut MemDisk,
+    damage: Option<(FileName, u64)>,
+) -> Result<bool, Fail> {
+    let before = all_files(alloc, disk)?;
+    let refused = is_refusal(alloc, disk, damage);
+    let left = has_files(alloc, disk, &before)?;
+    Ok(refused && left)
+}
+
+/// Writes over bytes of a file, and opens the disk.
+fn is_refused_changed(
+    alloc: Global,
+    (file, place, bytes, damage): &(FileName, u64, &[u8], Option<(FileName, u64)>),
+) -> Result<bool, Fail> {
+    let mut disk = one_message(alloc)?;
+    write(&mut disk, *file, *place, bytes)?;
+    is_refused(alloc, &mut disk, *damage)
 }
 
 #[test]
 fn damage_is_found_at_its_first_place_and_left(rt: HostRuntime) -> Result<(), Fail> {
-    let alloc = rt.alloc();
-    for (file, place, bytes, damage) in &CHANGES {
-        let mut disk = one_message(alloc)?;
-        write(&mut disk, *file, *place, bytes)?;
-        refuse(&rt, alloc, &mut disk, *damage)?;
-    }
-    for (file, length, damage) in &CUTS {
-        let mut disk = one_message(alloc)?;
-        assert!(rt; *length <= disk.length(*file)?);
-        disk.cut(*file, *length)?;
-        refuse(&rt, alloc, &mut disk, *damage)?;
+    for change in &CHANGES {
+        assert!(rt;
+            is_refused_changed(rt.alloc(), change)?,
+            "{} {}",
+            change.0.number,
+            change.1
+        );
     }
     Ok(())
+}
+
+/// Cuts a file, and opens the disk.
+fn is_refused_cut(
+    alloc: Global,
+    (file, length, damage): &(FileName, u64, Option<(FileName, u64)>),
+) -> Result<bool, Fail> {
+    let mut disk = one_message(alloc)?;
+    if *length > disk.length(*file)? {
+        return Ok(false);
+    }
+    disk.cut(*file, *length)?;
+    is_refused(alloc, &mut disk, *damage)
+}
+
+#[test]
+fn a_file_cut_short_is_damage_at_its_first_place(rt: HostRuntime) -> Result<(), Fail> {
+    for cut in &CUTS {
+        assert!(rt; is_refused_cut(rt.alloc(), cut)?, "{}", cut.1);
+    }
+    Ok(())
+}
+
+/// Whether the archive on a disk is opened as that behind so many calls.
+fn is_opened(alloc: Global, disk: &mut MemDisk, calls: u64) -> Result<bool, Fail> {
+    let archive = listed_behind(alloc, 316, calls)?;
+    Ok(opened(alloc, disk)? == archive)
+}
+
+/// Appends bytes to a file of an archive of one message, and says whether its opening brings the files back.
+fn is_swept(alloc: Global, file: FileName, files: &Vec<WholeFile>) -> Result<bool, Fail> {
+    let mut disk = one_message(alloc)?;
+    append(&mut disk, file)?;
+    let appended = !has_files(alloc, &mut disk, files)?;
+    let opened = is_opened(alloc, &mut disk, 2)?;
+    let swept = has_files(alloc, &mut disk, files)?;
+    Ok(appended && opened && swept)
 }
 
 #[test]
@@ -114,16 +170,31 @@ fn what_no_root_names_is_taken_away(rt: HostRuntime) -> Result<(), Fail> {
     let alloc = rt.alloc();
     let files = all_files(alloc, &mut one_message(alloc)?)?;
     assert!(rt; files.len() == 3 && files[2].bytes.len() == 316);
-    let archive = listed_behind(alloc, 316, 2)?;
     // Tails of the epoch and of the map, an epoch of another generation, and one that the archive has not come to.
     for file in [EPOCH, MAP, epoch(0, 9), epoch(1, 3)] {
-        let mut disk = one_message(alloc)?;
-        append(&mut disk, file)?;
-        assert!(rt; all_files(alloc, &mut disk)? != files);
-        assert!(rt; opened(alloc, &mut disk)? == archive);
-        assert!(rt; all_files(alloc, &mut disk)? == files);
+        assert!(rt;
+            is_swept(alloc, file, &files)?,
+            "{} {}",
+            file.number,
+            file.gen_
+        );
     }
     Ok(())
+}
+
+/// Whether slot 0 is shut and slot 1 is open, and both have one root.
+fn has_one_root(disk: &mut MemDisk) -> Result<bool, DiskFault> {
+    let mut root = [0; 4096];
+    let count = disk.read(ROOT, 0, &mut root)?;
+    let gates = root[0] == 0 && root[1] == 1;
+    Ok(count == 4096 && gates && &root[1024..2560] == &root[2560..4096])
+}
+
+/// Puts the second message into the archive of one on a disk, and says whether both are found.
+fn goes_on(alloc: Global, disk: &mut MemDisk) -> Result<bool, Fail> {
+    let mut store = Store::open(alloc, disk)?;
+    put(alloc, disk, &mut store, SECOND)?;
+    is_opened(alloc, disk, 3)
 }
 
 #[test]
@@ -131,15 +202,9 @@ fn a_slot_that_was_shut_gets_the_current_root(rt: HostRuntime) -> Result<(), Fai
     let alloc = rt.alloc();
     let mut disk = one_message(alloc)?;
     write(&mut disk, ROOT, 0, b"\0")?;
-    let archive = listed_behind(alloc, 316, 2)?;
-    assert!(rt; opened(alloc, &mut disk)? == archive);
-    let mut root = [0; 4096];
-    assert!(rt; disk.read(ROOT, 0, &mut root)? == 4096);
-    assert!(rt; root[0] == 0 && root[1] == 1);
-    assert!(rt; &root[1024..2560] == &root[2560..4096]);
+    assert!(rt; is_opened(alloc, &mut disk, 2)?);
+    assert!(rt; has_one_root(&mut disk)?);
     // The archive goes on from there.
-    let mut store = Store::open(alloc, &mut disk)?;
-    put(alloc, &mut disk, &mut store, SECOND)?;
-    assert!(rt; opened(alloc, &mut disk)? == listed_behind(alloc, 316, 3)?);
+    assert!(rt; goes_on(alloc, &mut disk)?);
     Ok(())
 }

@@ -1,9 +1,67 @@
 //! Epochs that are read whole, by disks in memory.
-use crate::tests::{FIRST, MOMENT, SECOND, fill, settings};
-use arch_base::{Bytes, Numbers};
-use arch_model::{Command, MemArchive, TextRefusal};
-use disk_model::MemDisk;
+use crate::Store;
+use crate::fault_tests::failing;
+use crate::tests::{fill, in_memory};
+use arch_base::{Bytes, NoMemory, Numbers};
+use arch_model::{MemArchive, TextRefusal};
+use disk_model::{Disk, MemDisk};
+use std::alloc::Global;
+use std::process::Abort;
 use std::test::Fail;
+
+/// Whether an epoch has an entry, and its bytes after another byte, as the archive on a disk has it.
+fn on_disk<D: Disk>(
+    alloc: Global,
+    disk: &mut D,
+    store: &Store,
+    number: u32,
+) -> Result<(bool, Bytes), TextRefusal> {
+    let mut bytes = Bytes::new(alloc);
+    bytes.push(b'>')?;
+    let found = store.epoch(disk, number, &mut bytes)?;
+    Ok((found, bytes))
+}
+
+/// The same, as the archive in memory has it.
+fn in_model(alloc: Global, archive: &MemArchive, number: u32) -> Result<(bool, Bytes), NoMemory> {
+    let mut bytes = Bytes::new(alloc);
+    bytes.push(b'>')?;
+    let found = archive.push_epoch(number, &mut bytes)?;
+    Ok((found, bytes))
+}
+
+/// Whether an epoch is read as the archive in memory has it: the first two have 316 bytes each, and no other is there.
+fn is_read_alike<D: Disk>(
+    alloc: Global,
+    disk: &mut D,
+    store: &Store,
+    archive: &MemArchive,
+    number: u32,
+) -> Result<bool, TextRefusal> {
+    let (found, bytes) = on_disk(alloc, disk, store, number)?;
+    let (there, wanted) = in_model(alloc, archive, number)?;
+    let size = if found { 317 } else { 1 };
+    let there = there == found && found == (number < 2);
+    let alike = bytes.as_slice() == wanted.as_slice();
+    Ok(there && alike && bytes.as_slice().len() == size)
+}
+
+/// Whether each epoch is read as the archive in memory has it.
+fn are_read_alike<D: Disk>(
+    alloc: Global,
+    disk: &mut D,
+    store: &Store,
+) -> Result<bool, TextRefusal> {
+    let Some(archive) = in_memory(alloc, 1) else {
+        return Ok(false);
+    };
+    for number in 0..65 {
+        if !is_read_alike(alloc, disk, store, &archive, number)? {
+            return Ok(false);
+        }
+    }
+    Ok(true)
+}
 
 #[test]
 fn an_epoch_is_read_as_memory_has_it(rt: HostRuntime) -> Result<(), Fail> {
@@ -11,44 +69,47 @@ fn an_epoch_is_read_as_memory_has_it(rt: HostRuntime) -> Result<(), Fail> {
     let mut disk = MemDisk::new(alloc, Numbers::new(alloc));
     let store = fill(alloc, &mut disk, 1)?;
     assert!(rt; store.sequence() == 3);
-    let Some(config) = settings(1) else {
-        return Ok(assert!(rt; false));
-    };
-    let mut archive = MemArchive::new(alloc, config);
-    let _ = archive.command(&Command::Deliver(FIRST), MOMENT);
-    let _ = archive.command(&Command::Deliver(SECOND), MOMENT);
-    for number in 0..65 {
-        let mut bytes = Bytes::new(alloc);
-        bytes.push(b'>')?;
-        let mut wanted = bytes.copy()?;
-        let found = store.epoch(&mut disk, number, &mut bytes)?;
-        assert!(rt; archive.push_epoch(number, &mut wanted)? == found);
-        assert!(rt; found == (number < 2) && bytes.as_slice() == wanted.as_slice());
-        assert!(rt; bytes.as_slice().len() == if found { 317 } else { 1 });
-    }
+    assert!(rt; are_read_alike(alloc, &mut disk, &store)?);
     Ok(())
+}
+
+/// Reads the second epoch after another byte, and says whether the disk failed, which leaves the bytes.
+fn read_fails<D: Disk>(
+    rt: &impl Abort,
+    alloc: Global,
+    disk: &mut D,
+    store: &Store,
+) -> Result<bool, NoMemory> {
+    let mut bytes = Bytes::new(alloc);
+    bytes.push(b'>')?;
+    match store.epoch(disk, 1, &mut bytes) {
+        Ok(found) => {
+            assert!(rt; found && bytes.as_slice().len() == 317);
+            Ok(false)
+        }
+        Err(refusal) => {
+            assert!(rt; refusal == TextRefusal::DiskFault && bytes.as_slice() == b">".as_slice());
+            Ok(true)
+        }
+    }
+}
+
+/// Makes and fills an archive where one call of the disk fails, and says whether that call read the second epoch.
+fn fails_at(rt: &impl Abort, alloc: Global, ordinal: u64) -> Result<bool, NoMemory> {
+    let mut disk = failing(alloc, ordinal)?;
+    match fill(alloc, &mut disk, 1) {
+        Ok(store) => read_fails(rt, alloc, &mut disk, &store),
+        Err(_) => Ok(false),
+    }
 }
 
 #[test]
 fn a_fault_at_the_read_of_an_epoch_leaves_the_bytes(rt: HostRuntime) -> Result<(), Fail> {
-    let alloc = rt.alloc();
     let mut failed = false;
     for ordinal in 1..40 {
-        let mut faults = Numbers::new(alloc);
-        faults.push(ordinal)?;
-        let mut disk = MemDisk::new(alloc, faults);
-        let Ok(store) = fill(alloc, &mut disk, 1) else {
-            continue;
-        };
-        let mut bytes = Bytes::new(alloc);
-        bytes.push(b'>')?;
-        match store.epoch(&mut disk, 1, &mut bytes) {
-            Ok(found) => assert!(rt; found && bytes.as_slice().len() == 317),
-            Err(refusal) => {
-                assert!(rt; !failed && refusal == TextRefusal::DiskFault);
-                assert!(rt; bytes.as_slice() == b">".as_slice());
-                failed = true;
-            }
+        if fails_at(&rt, rt.alloc(), ordinal)? {
+            assert!(rt; !failed);
+            failed = true;
         }
     }
     assert!(rt; failed);

@@ -1,7 +1,7 @@
 //! Archives opened behind a call of the disk that failed, also one of an opening before.
 ghost use Rattle.std.specs.Prelude.{◌≤◌};
 
-use crate::opening_tests::{Change, Listing, open_moment, opened};
+use crate::opening_tests::{Change, Listing, open_since, opened};
 use crate::tests::{FIRST, MAP, ROOT, SECOND, append, epoch, make, put, write};
 use arch_base::{NoMemory, Numbers};
 use arch_model::OpenRefusal;
@@ -15,7 +15,7 @@ use std::test::Fail;
 const ENOUGH: u64 = 1000;
 
 /// A disk of which one call fails, by its ordinal from 1.
-fn failing(alloc: Global, ordinal: u64) -> Result<MemDisk, NoMemory> {
+pub(crate) fn failing(alloc: Global, ordinal: u64) -> Result<MemDisk, NoMemory> {
     let mut faults = Numbers::new(alloc);
     faults.push(ordinal)?;
     Ok(MemDisk::new(alloc, faults))
@@ -47,6 +47,29 @@ fn opened_at_last<D: Disk>(alloc: Global, disk: &mut D) -> Result<Option<Listing
     }
 }
 
+/// Whether so many of the three calls answered Ok, and after fewer than three the disk failed.
+fn is_answer(calls: u64, answer: &Result<(), StoreRefusal>) -> bool {
+    let done = answer.is_ok();
+    let known = done || *answer == Err(StoreRefusal::DiskFault);
+    known && calls <= 3 && done == (calls == 3)
+}
+
+/// Whether a disk of which one call at most is still to fail has the archive behind so many calls, or behind so many.
+fn is_between<D: Disk>(
+    alloc: Global,
+    disk: &mut D,
+    limit: u64,
+    before: u64,
+    after: u64,
+) -> Result<bool, Fail>
+    requires low { 1 ≤ limit }
+    requires high { limit ≤ 1099511627776 }
+{
+    let found = opened_at_last(alloc, disk)?;
+    let mut change = Change::between(alloc, limit, before, after)?;
+    Ok(change.finds(&found))
+}
+
 /// Lets a call of the disk fail while an archive is made and filled, and opens it. It says whether none of those calls failed.
 fn fail_at(rt: &impl Abort, alloc: Global, limit: u64, ordinal: u64) -> Result<bool, Fail>
     requires low { 1 ≤ limit }
@@ -54,12 +77,13 @@ fn fail_at(rt: &impl Abort, alloc: Global, limit: u64, ordinal: u64) -> Result<b
 {
     let mut disk = failing(alloc, ordinal)?;
     let (calls, answer) = advance(alloc, &mut disk, limit);
-    let found = opened_at_last(alloc, &mut disk)?;
+    assert!(rt; is_answer(calls, &answer));
     let done = answer.is_ok();
-    assert!(rt; done || answer == Err(StoreRefusal::DiskFault));
-    assert!(rt; calls <= 3 && done == (calls == 3));
-    let mut change = Change::between(alloc, limit, calls, if done { calls } else { calls + 1 })?;
-    assert!(rt; change.finds(&found), "ordinal {ordinal}");
+    let after = calls.saturating_add(if done { 0 } else { 1 });
+    assert!(rt;
+        is_between(alloc, &mut disk, limit, calls, after)?,
+        "ordinal {ordinal}"
+    );
     Ok(done)
 }
 
@@ -103,6 +127,51 @@ enum Fault {
     Nowhere,
 }
 
+/// Makes, fills and disturbs an archive, and says whether no call of the disk failed.
+fn prepare(alloc: Global, disk: &mut MemDisk) -> bool {
+    let (_calls, answer) = advance(alloc, disk, 316);
+    answer.is_ok() && disturb(disk).is_ok()
+}
+
+/// Opens an archive where a call of the disk may fail, and says where it did. What is found is the same archive.
+fn open_failing(rt: &impl Abort, alloc: Global, disk: &mut MemDisk, same: &mut Change) -> Fault {
+    match opened(alloc, disk) {
+        Err(refusal) => {
+            assert_eq!(rt; refusal, OpenRefusal::DiskFault);
+            Fault::Opening
+        }
+        Ok(found) => {
+            assert!(rt; same.finds(&found));
+            Fault::Nowhere
+        }
+    }
+}
+
+/// Opens an archive where a call of the disk may fail, and each image of it, which has the same archive.
+fn open_images(
+    rt: &impl Abort,
+    alloc: Global,
+    disk: &mut MemDisk,
+    same: &mut Change,
+) -> Result<Fault, Fail> {
+    let start = disk.moments();
+    let fault = open_failing(rt, alloc, disk, same);
+    // A call that fails changes nothing of this disk: the moments before are those of the opening without a fault.
+    let first = if fault == Fault::Opening {
+        disk.moments()
+    } else {
+        start
+    };
+    open_since(rt, alloc, disk, first, same, false)?;
+    Ok(fault)
+}
+
+/// Whether the same archive is found on a disk of which one call at most is still to fail.
+fn is_found<D: Disk>(alloc: Global, disk: &mut D, same: &mut Change) -> Result<bool, OpenRefusal> {
+    let found = opened_at_last(alloc, disk)?;
+    Ok(same.finds(&found))
+}
+
 /// Lets a call of the disk fail while an archive is made and filled, disturbed and then opened. The opening, each image of it
 /// and a second opening have the same archive.
 fn fail_opening(
@@ -112,27 +181,11 @@ fn fail_opening(
     same: &mut Change,
 ) -> Result<Fault, Fail> {
     let mut disk = failing(alloc, ordinal)?;
-    let (_calls, answer) = advance(alloc, &mut disk, 316);
-    if answer.is_err() || disturb(&mut disk).is_err() {
+    if !prepare(alloc, &mut disk) {
         return Ok(Fault::Before);
     }
-    let start = disk.moments();
-    let (fault, first) = match opened(alloc, &mut disk) {
-        Err(refusal) => {
-            assert_eq!(rt; refusal, OpenRefusal::DiskFault);
-            // A call that fails changes nothing of this disk: the moments before are those of the opening without a fault.
-            (Fault::Opening, disk.moments())
-        }
-        Ok(found) => {
-            assert!(rt; same.finds(&found));
-            (Fault::Nowhere, start)
-        }
-    };
-    for at in first..=disk.moments() {
-        open_moment(rt, alloc, &disk, at, same, false)?;
-    }
-    let found = opened_at_last(alloc, &mut disk)?;
-    assert!(rt; same.finds(&found));
+    let fault = open_images(rt, alloc, &mut disk, same)?;
+    assert!(rt; is_found(alloc, &mut disk, same)?);
     Ok(fault)
 }
 

@@ -1,4 +1,7 @@
 //! The entries of two epochs, joined to the records of a map by hand.
+ghost use Rattle.epoch_store.specs.Joined.{AreBefore};
+
+use crate::StoredEntry;
 use crate::joining::Joining;
 use crate::known::{JoinRefusal, Unmatched};
 use arch_base::{Bytes, Id20, NoMemory};
@@ -61,19 +64,19 @@ fn seen(alloc: Global, list: &[Entry]) -> Result<SeenList, NoMemory> {
     Ok(seen)
 }
 
-/// What comes of joining the entries of the epochs 0 and 1.
-fn joined_of(
-    alloc: Global,
-    list: &[(u32, u8)],
-    first: &[Entry],
-    second: &[Entry],
-) -> Result<Outcome, NoMemory> {
-    let joining = Joining::new(alloc, &records(alloc, list)?)?;
-    let joining = match joining.take_epoch(0, seen(alloc, first)?) {
-        Ok(joining) => joining,
-        Err(JoinRefusal::NoMemory) => return Err(NoMemory),
-        Err(JoinRefusal::Damaged { at }) => return Ok(Outcome::Damaged(0, at)),
-    };
+/// The records, the entries of the epochs 0 and 1, and what comes of joining them.
+#[derive(Drop)]
+struct Case(
+    &'static [(u32, u8)],
+    &'static [Entry],
+    &'static [Entry],
+    Outcome,
+);
+
+/// What comes of joining the entries of the epoch 1 behind those of the epoch 0.
+fn joined_second(alloc: Global, joining: Joining, second: &[Entry]) -> Result<Outcome, NoMemory>
+    requires before { AreBefore 1 joining.entries }
+{
     let joining = match joining.take_epoch(1, seen(alloc, second)?) {
         Ok(joining) => joining,
         Err(JoinRefusal::NoMemory) => return Err(NoMemory),
@@ -85,20 +88,47 @@ fn joined_of(
     }
 }
 
+/// What comes of joining the entries of the epochs 0 and 1.
+fn joined_of(
+    alloc: Global,
+    list: &[(u32, u8)],
+    first: &[Entry],
+    second: &[Entry],
+) -> Result<Outcome, NoMemory> {
+    let joining = Joining::new(alloc, &records(alloc, list)?)?;
+    match joining.take_epoch(0, seen(alloc, first)?) {
+        Ok(joining) => joined_second(alloc, joining, second),
+        Err(JoinRefusal::NoMemory) => Err(NoMemory),
+        Err(JoinRefusal::Damaged { at }) => Ok(Outcome::Damaged(0, at)),
+    }
+}
+
+/// Whether two epochs are joined as they should be.
+fn is_joined_so(
+    alloc: Global,
+    Case(records, first, second, outcome): &Case,
+) -> Result<bool, NoMemory> {
+    Ok(joined_of(alloc, records, first, second)? == *outcome)
+}
+
+/// The entries of the epochs 0 and 1, joined to records.
+fn joined(
+    alloc: Global,
+    list: &[(u32, u8)],
+    first: &[Entry],
+    second: &[Entry],
+) -> Result<Vec<StoredEntry>, Fail> {
+    let joining = Joining::new(alloc, &records(alloc, list)?)?;
+    let joining = joining.take_epoch(0, seen(alloc, first)?)?;
+    let joining = joining.take_epoch(1, seen(alloc, second)?)?;
+    Ok(joining.finish()?)
+}
+
 #[test]
 fn entries_get_the_numbers_of_the_records_that_have_a_message(rt: HostRuntime) -> Result<(), Fail> {
-    let alloc = rt.alloc();
     let list = [(0, 1), (NONE, 0), (0, 2), (1, 3), (NONE, 0)];
-    let joining = Joining::new(alloc, &records(alloc, &list)?)?;
-    let joining = joining.take_epoch(
-        0,
-        seen(
-            alloc,
-            &[Entry(b'm', 8, 1, b"<a@b>"), Entry(b'm', 320, 2, b"<c@d>")],
-        )?,
-    )?;
-    let joining = joining.take_epoch(1, seen(alloc, &[Entry(b'm', 8, 3, b"<e@f>")])?)?;
-    let entries = joining.finish()?;
+    let first = [Entry(b'm', 8, 1, b"<a@b>"), Entry(b'm', 320, 2, b"<c@d>")];
+    let entries = joined(rt.alloc(), &list, &first, &[Entry(b'm', 8, 3, b"<e@f>")])?;
     let want: [(u32, u32, u64); 3] = [(1, 0, 8), (3, 0, 320), (4, 1, 8)];
     assert_eq!(rt; entries.len(), 3);
     for (entry, (number, epoch, at)) in entries.as_slice().iter().zip(&want) {
@@ -110,96 +140,77 @@ fn entries_get_the_numbers_of_the_records_that_have_a_message(rt: HostRuntime) -
     Ok(())
 }
 
+/// An entry, alone and before another one.
+const ONE: &[Entry] = &[Entry(b'm', 8, 1, b"<a@b>")];
+
+const TWO: &[Entry] = &[Entry(b'm', 8, 1, b"<a@b>"), Entry(b'm', 320, 2, b"<c@d>")];
+
+/// Entries of which each should be wanted.
+const WANTED: [Case; 9] = [
+    // All is well: an epoch of no entry, and one.
+    Case(&[], &[], &[], Outcome::Joined(0)),
+    Case(&[(NONE, 0), (1, 1)], &[], ONE, Outcome::Joined(1)),
+    // Another epoch, another blob, a deletion, and no record.
+    Case(&[(1, 1)], ONE, &[], Outcome::Damaged(0, 8)),
+    Case(&[(0, 1)], &[], ONE, Outcome::Damaged(1, 8)),
+    Case(&[(0, 2)], ONE, &[], Outcome::Damaged(0, 8)),
+    Case(
+        &[(0, 1)],
+        &[Entry(b'd', 8, 1, b"<a@b>")],
+        &[],
+        Outcome::Damaged(0, 8),
+    ),
+    Case(&[], ONE, &[], Outcome::Damaged(0, 8)),
+    // The records in another order.
+    Case(&[(0, 2), (0, 1)], TWO, &[], Outcome::Damaged(0, 8)),
+    Case(&[(0, 1), (0, 3)], TWO, &[], Outcome::Damaged(0, 320)),
+];
+
 #[test]
 fn the_first_entry_that_does_not_belong_there_is_found(rt: HostRuntime) -> Result<(), Fail> {
-    let alloc = rt.alloc();
-    let one = [Entry(b'm', 8, 1, b"<a@b>")];
-    // All is well: an epoch of no entry, and one.
-    assert_eq!(rt; joined_of(alloc, &[], &[], &[])?, Outcome::Joined(0));
-    assert_eq!(rt;
-        joined_of(alloc, &[(NONE, 0), (1, 1)], &[], &one)?,
-        Outcome::Joined(1)
-    );
-    // Another epoch, another blob, a deletion, and no record.
-    assert_eq!(rt;
-        joined_of(alloc, &[(1, 1)], &one, &[])?,
-        Outcome::Damaged(0, 8)
-    );
-    assert_eq!(rt;
-        joined_of(alloc, &[(0, 1)], &[], &one)?,
-        Outcome::Damaged(1, 8)
-    );
-    assert_eq!(rt;
-        joined_of(alloc, &[(0, 2)], &one, &[])?,
-        Outcome::Damaged(0, 8)
-    );
-    assert_eq!(rt;
-        joined_of(alloc, &[(0, 1)], &[Entry(b'd', 8, 1, b"<a@b>")], &[])?,
-        Outcome::Damaged(0, 8)
-    );
-    assert_eq!(rt; joined_of(alloc, &[], &one, &[])?, Outcome::Damaged(0, 8));
-    // The records in another order.
-    let two = [Entry(b'm', 8, 1, b"<a@b>"), Entry(b'm', 320, 2, b"<c@d>")];
-    assert_eq!(rt;
-        joined_of(alloc, &[(0, 2), (0, 1)], &two, &[])?,
-        Outcome::Damaged(0, 8)
-    );
-    assert_eq!(rt;
-        joined_of(alloc, &[(0, 1), (0, 3)], &two, &[])?,
-        Outcome::Damaged(0, 320)
-    );
+    for (index, case) in WANTED.iter().enumerate() {
+        assert!(rt; is_joined_so(rt.alloc(), case)?, "{index}");
+    }
     Ok(())
 }
 
+/// Entries that should have ids of their own and be as many as the records.
+const OWN: [Case; 7] = [
+    // One own id in two epochs and in one, one blob id, and none of these.
+    Case(
+        &[(0, 1), (1, 2)],
+        ONE,
+        &[Entry(b'm', 8, 2, b"<a@b>")],
+        Outcome::Damaged(1, 8),
+    ),
+    Case(
+        &[(0, 1), (0, 2)],
+        &[Entry(b'm', 8, 1, b"<a@b>"), Entry(b'm', 320, 2, b"<a@b>")],
+        &[],
+        Outcome::Damaged(0, 320),
+    ),
+    Case(
+        &[(0, 1), (1, 1)],
+        ONE,
+        &[Entry(b'm', 8, 1, b"<c@d>")],
+        Outcome::Damaged(1, 8),
+    ),
+    Case(
+        &[(0, 1), (1, 2)],
+        ONE,
+        &[Entry(b'm', 8, 2, b"<c@d>")],
+        Outcome::Joined(2),
+    ),
+    // A record more than there are entries.
+    Case(&[(0, 1), (1, 2)], ONE, &[], Outcome::Missing(1)),
+    Case(&[(63, 1)], &[], &[], Outcome::Missing(63)),
+    Case(&[(1, 1), (0, 2)], &[], ONE, Outcome::Missing(0)),
+];
+
 #[test]
 fn an_id_stands_once_and_each_message_has_an_entry(rt: HostRuntime) -> Result<(), Fail> {
-    let alloc = rt.alloc();
-    let one = [Entry(b'm', 8, 1, b"<a@b>")];
-    // One own id in two epochs and in one, one blob id, and none of these.
-    assert_eq!(rt;
-        joined_of(
-            alloc,
-            &[(0, 1), (1, 2)],
-            &one,
-            &[Entry(b'm', 8, 2, b"<a@b>")]
-        )?,
-        Outcome::Damaged(1, 8)
-    );
-    let twice = [Entry(b'm', 8, 1, b"<a@b>"), Entry(b'm', 320, 2, b"<a@b>")];
-    assert_eq!(rt;
-        joined_of(alloc, &[(0, 1), (0, 2)], &twice, &[])?,
-        Outcome::Damaged(0, 320)
-    );
-    assert_eq!(rt;
-        joined_of(
-            alloc,
-            &[(0, 1), (1, 1)],
-            &one,
-            &[Entry(b'm', 8, 1, b"<c@d>")]
-        )?,
-        Outcome::Damaged(1, 8)
-    );
-    assert_eq!(rt;
-        joined_of(
-            alloc,
-            &[(0, 1), (1, 2)],
-            &one,
-            &[Entry(b'm', 8, 2, b"<c@d>")]
-        )?,
-        Outcome::Joined(2)
-    );
-    // A record more than there are entries.
-    assert_eq!(rt;
-        joined_of(alloc, &[(0, 1), (1, 2)], &one, &[])?,
-        Outcome::Missing(1)
-    );
-    assert_eq!(rt;
-        joined_of(alloc, &[(63, 1)], &[], &[])?,
-        Outcome::Missing(63)
-    );
-    assert_eq!(rt;
-        joined_of(alloc, &[(1, 1), (0, 2)], &[], &one)?,
-        Outcome::Missing(0)
-    );
+    for (index, case) in OWN.iter().enumerate() {
+        assert!(rt; is_joined_so(rt.alloc(), case)?, "{index}");
+    }
     Ok(())
 }

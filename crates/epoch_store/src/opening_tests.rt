@@ -1,5 +1,5 @@
 //! Archives opened behind a stop of the call before, behind a call of the disk that failed, and after an opening that failed.
-ghost use Rattle.std.specs.Prelude.{◌≤◌, IfSome, IfOk};
+ghost use Rattle.std.specs.Prelude.{◌≤◌, IfSome, IfOk, OnOk};
 ghost use Rattle.disk_model.specs.Disk.{WhereTold};
 ghost use Rattle.epoch_store.specs.Stores.{HasSizes};
 
@@ -46,6 +46,26 @@ pub(crate) fn opened<D: Disk>(alloc: Global, disk: &mut D) -> Result<Option<List
     }
 }
 
+/// Puts the first message into an archive, and where three calls are asked for the second one, too.
+fn put_first<D: Disk>(
+    alloc: Global,
+    disk: &mut D,
+    store: &mut Store,
+    calls: u64,
+) -> Result<(), StoreRefusal>
+    requires sizes { WhereTold (HasSizes store.old) (D.content disk.old) }
+    ensures sizes { OnOk result (WhereTold (HasSizes store.new) (D.content disk.new)) }
+{
+    if calls == 1 {
+        return Ok(());
+    }
+    put(alloc, disk, store, FIRST)?;
+    if calls == 2 {
+        return Ok(());
+    }
+    put(alloc, disk, store, SECOND)
+}
+
 /// Does the first ones of three calls: makes an archive, puts a message into it, and puts a second one into it.
 pub(crate) fn begin<D: Disk>(
     alloc: Global,
@@ -61,14 +81,7 @@ pub(crate) fn begin<D: Disk>(
         return Ok(None);
     }
     let mut store = make(alloc, disk, limit)?;
-    if calls == 1 {
-        return Ok(Some(store));
-    }
-    put(alloc, disk, &mut store, FIRST)?;
-    if calls == 2 {
-        return Ok(Some(store));
-    }
-    put(alloc, disk, &mut store, SECOND)?;
+    put_first(alloc, disk, &mut store, calls)?;
     Ok(Some(store))
 }
 
@@ -146,9 +159,27 @@ impl Change {
     }
 }
 
+/// Opens an image that a crash at a moment may leave, and says whether it is the archive before a call or after it, and where
+/// the call is done the latter.
+fn is_image(
+    alloc: Global,
+    disk: &MemDisk,
+    (at, pick): (u64, u64),
+    change: &mut Change,
+    done: bool,
+) -> Result<bool, Fail> {
+    if at > disk.moments() || pick > 3 {
+        return Ok(false);
+    }
+    let mut image = disk.image(at, pick)?;
+    let found = opened(alloc, &mut image)?;
+    let known = change.finds(&found);
+    Ok(known && (!done || found == change.after))
+}
+
 /// Opens each image that a crash at a moment may leave. It is the archive before a call or after it, and where the call is done
 /// the latter.
-pub(crate) fn open_moment(
+fn open_moment(
     rt: &impl Abort,
     alloc: Global,
     disk: &MemDisk,
@@ -157,13 +188,53 @@ pub(crate) fn open_moment(
     done: bool,
 ) -> Result<(), Fail> {
     for pick in 0..4 {
-        assert!(rt; at <= disk.moments() && pick <= 3);
-        let mut image = disk.image(at, pick)?;
-        let found = opened(alloc, &mut image)?;
-        assert!(rt; change.finds(&found), "moment {at}, pick {pick}");
-        assert!(rt; !done || found == change.after, "moment {at}, pick {pick}");
+        assert!(rt;
+            is_image(alloc, disk, (at, pick), change, done)?,
+            "moment {at}, pick {pick}"
+        );
     }
     Ok(())
+}
+
+/// Opens each image that a crash may leave at a moment or at a later one. At the last moment the call may be done.
+pub(crate) fn open_since(
+    rt: &impl Abort,
+    alloc: Global,
+    disk: &MemDisk,
+    start: u64,
+    change: &mut Change,
+    done: bool,
+) -> Result<(), Fail> {
+    let end = disk.moments();
+    for at in start..=end {
+        open_moment(rt, alloc, disk, at, change, done && at == end)?;
+    }
+    Ok(())
+}
+
+/// A disk after a call that was stopped: how many changes it had before the call, and what the call answered.
+#[derive(Drop)]
+struct Stopped {
+    disk: MemDisk,
+    start: u64,
+    answer: Result<(), StoreRefusal>,
+}
+
+/// Stops the call behind so many others after so many calls of the disk.
+fn stop(alloc: Global, limit: u64, calls: u64, passes: u64) -> Result<Stopped, StoreRefusal>
+    requires low { 1 ≤ limit }
+    requires high { limit ≤ 1099511627776 }
+{
+    let mut disk = MemDisk::new(alloc, Numbers::new(alloc));
+    let store = begin(alloc, &mut disk, limit, calls)?;
+    let start = disk.moments();
+    let mut fuse = FuseDisk::new(disk, passes);
+    let answer = go_on(alloc, &mut fuse, limit, store);
+    Ok(Stopped {
+        disk: fuse.into_inner(),
+        start,
+        answer,
+    })
 }
 
 /// Stops the call behind so many others after so many calls of the disk, and opens each image since it began. It says whether
@@ -179,18 +250,10 @@ fn stop_after(
     requires low { 1 ≤ limit }
     requires high { limit ≤ 1099511627776 }
 {
-    let mut disk = MemDisk::new(alloc, Numbers::new(alloc));
-    let store = begin(alloc, &mut disk, limit, calls)?;
-    let start = disk.moments();
-    let mut fuse = FuseDisk::new(disk, passes);
-    let answer = go_on(alloc, &mut fuse, limit, store);
-    let done = answer.is_ok();
-    assert!(rt; done || answer == Err(StoreRefusal::DiskFault));
-    let disk = fuse.into_inner();
-    let end = disk.moments();
-    for at in start..=end {
-        open_moment(rt, alloc, &disk, at, change, done && at == end)?;
-    }
+    let stopped = stop(alloc, limit, calls, passes)?;
+    let done = stopped.answer.is_ok();
+    assert!(rt; done || stopped.answer == Err(StoreRefusal::DiskFault));
+    open_since(rt, alloc, &stopped.disk, stopped.start, change, done)?;
     Ok(done)
 }
 

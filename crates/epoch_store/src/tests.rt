@@ -7,7 +7,7 @@ ghost use Rattle.mail_reader.specs.Ids.{own_id as own_id_in};
 ghost use Rattle.epoch_store.specs.Stores.{Accepts, HasSizes};
 
 use crate::{InitRefusal, Store, StoredEntry};
-use arch_base::{Bytes, Config, Name, Numbers, id_of_hex};
+use arch_base::{Bytes, Config, Name, NoMemory, Numbers, id_of_hex};
 use arch_model::{Command, MemArchive, TextRefusal};
 use disk_model::{Disk, DiskFault, FileKind, FileName, FuseDisk, MemDisk};
 use epoch_file::StoreRefusal;
@@ -142,17 +142,51 @@ pub(crate) fn fill<D: Disk>(alloc: Global, disk: &mut D, limit: u64) -> Result<S
     Ok(store)
 }
 
+/// Whether files have so many bytes.
+fn have_lengths<D: Disk>(disk: &mut D, wanted: &[(FileName, u64)]) -> Result<bool, DiskFault> {
+    for (file, length) in wanted {
+        if disk.length(*file)? != *length {
+            return Ok(false);
+        }
+    }
+    Ok(true)
+}
+
+/// Whether an archive has two messages, the second of them at the front of an epoch of its own.
+fn has_two_epochs(store: &Store) -> bool {
+    let next = store.next_number() == 3;
+    let none = store.entry(2).is_none() && store.place(2).is_none();
+    let place = store.place(1) == Some((epoch(1, 3), 8));
+    next && none && place
+}
+
 #[test]
 fn a_full_epoch_is_followed_by_the_next(rt: HostRuntime) -> Result<(), Fail> {
     let alloc = rt.alloc();
     let mut disk = MemDisk::new(alloc, Numbers::new(alloc));
     let store = fill(alloc, &mut disk, 316)?;
-    assert!(rt; disk.length(ROOT)? == 4096 && disk.length(MAP)? == 56);
-    assert!(rt; disk.length(epoch(0, 2))? == 316);
-    assert!(rt; disk.length(epoch(1, 3))? == 316);
-    assert!(rt; store.next_number() == 3 && store.entry(2).is_none());
-    assert!(rt; store.place(1) == Some((epoch(1, 3), 8)) && store.place(2).is_none());
+    let lengths = [
+        (ROOT, 4096),
+        (MAP, 56),
+        (epoch(0, 2), 316),
+        (epoch(1, 3), 316),
+    ];
+    assert!(rt; have_lengths(&mut disk, &lengths)?);
+    assert!(rt; has_two_epochs(&store));
     Ok(())
+}
+
+/// Whether an archive has the second mail in its first epoch, as another program spells it.
+fn has_second_entry(store: &Store) -> bool {
+    let Some(line) = store.entry(1) else {
+        return false;
+    };
+    let blob = Some(line.blob) == id_of_hex(b"71bad95e975640281da17cb561681235ca4c1f42");
+    let commit = Some(line.commit) == id_of_hex(b"8465c6e7dc37ed0249ed8b1434a73ffd13973fad");
+    let place = store.place(1) == Some((epoch(0, 2), 316));
+    let named = line.name == b'm' && line.number == 2 && line.epoch == 0;
+    let sized = line.secs == MOMENT && line.size == 103;
+    blob && commit && place && named && sized
 }
 
 #[test]
@@ -160,38 +194,66 @@ fn an_epoch_below_the_limit_takes_one_more(rt: HostRuntime) -> Result<(), Fail> 
     let alloc = rt.alloc();
     let mut disk = MemDisk::new(alloc, Numbers::new(alloc));
     let store = fill(alloc, &mut disk, 317)?;
-    let file = epoch(0, 2);
-    assert!(rt; disk.length(file)? == 672);
-    assert!(rt; store.place(1) == Some((file, 316)));
-    let Some(line) = store.entry(1) else {
-        return Ok(assert!(rt; false));
-    };
-    let blob = id_of_hex(b"71bad95e975640281da17cb561681235ca4c1f42");
-    let commit = id_of_hex(b"8465c6e7dc37ed0249ed8b1434a73ffd13973fad");
-    assert!(rt; Some(line.blob) == blob && Some(line.commit) == commit);
-    assert!(rt; line.name == b'm' && line.number == 2 && line.epoch == 0);
-    assert!(rt; line.secs == MOMENT && line.size == 103);
+    assert!(rt; have_lengths(&mut disk, &[(epoch(0, 2), 672)])?);
+    assert!(rt; has_second_entry(&store));
     Ok(())
+}
+
+/// Makes an archive whose epochs have at least 316 bytes. Exists where there is one.
+fn init<D: Disk>(alloc: Global, disk: &mut D) -> Result<Store, InitRefusal> {
+    let Some(config) = settings(316) else {
+        return Err(InitRefusal::NoMemory);
+    };
+    Store::init(alloc, disk, &config)
+}
+
+/// Makes an archive, and says whether it has these settings and no message.
+fn init_is_empty<D: Disk>(alloc: Global, disk: &mut D) -> Result<bool, InitRefusal> {
+    let store = init(alloc, disk)?;
+    Ok(store.config().limit == 316 && store.next_number() == 1 && store.entry(0).is_none())
+}
+
+/// Whether no archive is made since there is one.
+fn init_is_refused<D: Disk>(alloc: Global, disk: &mut D) -> bool {
+    match init(alloc, disk) {
+        Ok(_) => false,
+        Err(refusal) => refusal == InitRefusal::Exists,
+    }
 }
 
 #[test]
 fn an_archive_is_made_once(rt: HostRuntime) -> Result<(), Fail> {
     let alloc = rt.alloc();
     let mut disk = MemDisk::new(alloc, Numbers::new(alloc));
-    let Some(config) = settings(316) else {
-        return Ok(assert!(rt; false));
-    };
-    let store = Store::init(alloc, &mut disk, &config)?;
-    assert!(rt;
-        store.config().limit == 316 && store.next_number() == 1 && store.entry(0).is_none()
-    );
-    assert!(rt; disk.length(ROOT)? == 4096 && disk.length(MAP)? == 0);
+    assert!(rt; init_is_empty(alloc, &mut disk)?);
+    assert!(rt; have_lengths(&mut disk, &[(ROOT, 4096), (MAP, 0)])?);
     assert!(rt; disk.name_at(1)?.is_none());
-    match Store::init(alloc, &mut disk, &config) {
-        Ok(_) => assert!(rt; false),
-        Err(refusal) => assert_eq!(rt; refusal, InitRefusal::Exists),
-    }
+    assert!(rt; init_is_refused(alloc, &mut disk));
     Ok(())
+}
+
+/// The archive in memory that took both messages.
+pub(crate) fn in_memory(alloc: Global, limit: u64) -> Option<MemArchive>
+    requires low { 1 ≤ limit }
+    requires high { limit ≤ 1099511627776 }
+{
+    let mut archive = MemArchive::new(alloc, settings(limit)?);
+    let _ = archive.command(&Command::Deliver(FIRST), MOMENT);
+    let _ = archive.command(&Command::Deliver(SECOND), MOMENT);
+    Some(archive)
+}
+
+/// Whether bytes are those of the first epoch of the archive in memory.
+fn is_first_epoch(alloc: Global, limit: u64, bytes: &[u8]) -> Result<bool, NoMemory>
+    requires low { 1 ≤ limit }
+    requires high { limit ≤ 1099511627776 }
+{
+    let Some(archive) = in_memory(alloc, limit) else {
+        return Ok(false);
+    };
+    let mut same = Bytes::new(alloc);
+    let found = archive.push_epoch(0, &mut same)?;
+    Ok(found && same.as_slice() == bytes)
 }
 
 #[test]
@@ -201,15 +263,7 @@ fn the_file_of_an_epoch_has_the_bytes_of_the_epoch(rt: HostRuntime) -> Result<()
     fill(alloc, &mut disk, 317)?;
     let mut bytes = [0; 673];
     assert!(rt; disk.read(epoch(0, 2), 0, &mut bytes)? == 672);
-    let Some(config) = settings(317) else {
-        return Ok(assert!(rt; false));
-    };
-    let mut archive = MemArchive::new(alloc, config);
-    let _ = archive.command(&Command::Deliver(FIRST), MOMENT);
-    let _ = archive.command(&Command::Deliver(SECOND), MOMENT);
-    let mut same = Bytes::new(alloc);
-    assert!(rt; archive.push_epoch(0, &mut same)?);
-    assert!(rt; same.as_slice() == bytes.split_at(672).0);
+    assert!(rt; is_first_epoch(alloc, 317, bytes.split_at(672).0)?);
     Ok(())
 }
 
@@ -247,33 +301,53 @@ pub(crate) fn append(disk: &mut MemDisk, file: FileName) -> Result<(), DiskFault
     write(disk, file, place, b"0123456789")
 }
 
+/// Whether the text of an entry is the second mail.
+fn is_second_text<D: Disk>(
+    alloc: Global,
+    disk: &mut D,
+    store: &Store,
+    index: u64,
+) -> Result<bool, TextRefusal> {
+    let bytes = text_of(alloc, disk, store, index)?;
+    Ok(bytes.as_slice().len() == 104 && bytes.as_slice().ends_with(SECOND))
+}
+
+/// Whether the text of an entry isn't the first mail, whose id the entry has.
+fn is_damaged<D: Disk>(alloc: Global, disk: &mut D, store: &Store, index: u64) -> bool {
+    match text_of(alloc, disk, store, index) {
+        Err(TextRefusal::Damaged { named, found }) => {
+            let first = id_of_hex(b"1d023c572ccd6f3cc82ae855343346b043adaba5");
+            Some(named) == first && named != found
+        }
+        _ => false,
+    }
+}
+
 #[test]
 fn a_text_is_read_where_it_stands_unharmed(rt: HostRuntime) -> Result<(), Fail> {
     let alloc = rt.alloc();
     let mut disk = MemDisk::new(alloc, Numbers::new(alloc));
     let store = fill(alloc, &mut disk, 316)?;
-    let bytes = text_of(alloc, &mut disk, &store, 1)?;
-    assert!(rt; bytes.as_slice().len() == 104 && bytes.as_slice().ends_with(SECOND));
+    assert!(rt; is_second_text(alloc, &mut disk, &store, 1)?);
     // The subject of the first text becomes another one.
     write(&mut disk, epoch(0, 2), 91, b"F")?;
-    match text_of(alloc, &mut disk, &store, 0) {
-        Err(TextRefusal::Damaged { named, found }) => {
-            assert!(rt; Some(named) == id_of_hex(b"1d023c572ccd6f3cc82ae855343346b043adaba5"));
-            assert!(rt; named != found);
-        }
-        _ => assert!(rt; false),
-    }
+    assert!(rt; is_damaged(alloc, &mut disk, &store, 0));
+    Ok(())
+}
+
+/// Makes an archive and puts both messages into it, on a disk that stops after so many calls.
+fn fill_stopped(alloc: Global, passes: u64) -> Result<(), StoreRefusal> {
+    let mut fuse = FuseDisk::new(MemDisk::new(alloc, Numbers::new(alloc)), passes);
+    fill(alloc, &mut fuse, 316)?;
     Ok(())
 }
 
 #[test]
 fn a_disk_that_fails_at_any_call_is_answered_by_its_fault(rt: HostRuntime) -> Result<(), Fail> {
-    let alloc = rt.alloc();
     let mut done = false;
     for passes in 0..40 {
-        let mut fuse = FuseDisk::new(MemDisk::new(alloc, Numbers::new(alloc)), passes);
-        match fill(alloc, &mut fuse, 316) {
-            Ok(_) => done = true,
+        match fill_stopped(rt.alloc(), passes) {
+            Ok(()) => done = true,
             Err(refusal) => assert!(rt; !done && refusal == StoreRefusal::DiskFault),
         }
     }
