@@ -37,7 +37,7 @@ pub(crate) enum Failure {
 }
 
 impl Failure {
-    /// The failure that the system's error on a spot is.
+    /// Returns the failure that an error of the system on a spot is.
     pub(crate) fn on(spot: Spot, error: io::Error) -> Failure {
         Failure::Refused { spot, error }
     }

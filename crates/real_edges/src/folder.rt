@@ -34,7 +34,8 @@ enum Home {
 }
 
 impl Folder {
-    /// The folder of this path, or the current one where that is empty. Another run is waited for so long at most.
+    /// Returns the folder of this path, or the current one where that is empty, before its first call. Another run is waited
+    /// for so long at most.
     pub(crate) fn new(
         rt: &HostRuntime,
         alloc: Global,
@@ -149,7 +150,7 @@ impl Folder {
         Ok(())
     }
 
-    /// Opens the folder and takes its lock, or None where it is missing. Another run that was waited for in vain isn't
+    /// Opens the folder and takes its lock. Returns None where it is missing. Another run that was waited for in vain isn't
     /// waited for a second time.
     fn take(&mut self) -> Result<Option<HeldFolder>, Failure> {
         let taken = HeldFolder::take(&self.rt, self.alloc, self.path.as_str(), self.wait);
@@ -197,7 +198,7 @@ impl Folder {
     }
 }
 
-/// The failure of a folder that isn't there.
+/// Returns the failure of a folder that isn't there.
 fn missing() -> Failure {
     Failure::on(Spot::Folder, ErrorKind::NotFound.into())
 }

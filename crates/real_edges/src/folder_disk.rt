@@ -37,14 +37,14 @@ impl Model for FolderDisk {
 }
 
 impl FolderDisk {
-    /// The disk over the folder of this path, before its first call. The first write makes the folder.
+    /// Returns the disk over the folder of this path, before its first call. The first write makes the folder.
     pub fn open(rt: &HostRuntime, alloc: Global, path: &str) -> Result<FolderDisk, NoMemory>
         ensures { IfOk result (λ disk. disk ≡ record { faults = 0; reads = 0 }) }
     {
         FolderDisk::open_within(rt, alloc, path, Duration::from_secs(WAIT_SECONDS))
     }
 
-    /// The disk over the folder of this path, which waits so long at most for another run.
+    /// Returns the disk over the folder of this path, which waits so long at most for another run.
     pub(crate) fn open_within(
         rt: &HostRuntime,
         alloc: Global,

@@ -12,7 +12,8 @@ const PAUSE: u64 = 5;
 /// How often the lock is asked for at most: with the pauses, for longer than any run waits.
 const TURNS: u32 = 4_000;
 
-/// Opens a folder and takes its lock, which lasts as long as the file that this returns. None where there is no folder.
+/// Opens a folder and takes its lock, which lasts as long as the file that this returns. Returns None
+/// where there is no folder.
 /// The lock is the system's own advisory one, on the folder itself, so that it leaves nothing in it, and ends with the
 /// run however that ends. While another run has it, it is asked for again, until the time to wait is over.
 pub(crate) fn lock_folder(

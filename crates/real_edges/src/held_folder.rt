@@ -48,7 +48,7 @@ struct Listing {
 }
 
 impl HeldFolder {
-    /// Opens a folder and takes its lock, for which it waits so long at most. None where there is no folder. Where an
+    /// Opens a folder and takes its lock, for which it waits so long at most. Returns None where there is no folder. Where an
     /// earlier run left the mark of a failed sync, all files are brought to the disk anew before any of them is opened.
     pub(crate) fn take(
         rt: &HostRuntime,

@@ -40,14 +40,14 @@ pub(crate) fn write_again(
         return Err(Failure::on(Spot::Folder, refused));
     }
     if let Err(refused) = remove_mark(rt, alloc, path, folder) {
-        // The mark may be away, and not yet on the disk.
+        // Its removal may not have reached the disk, or has been undone there.
         let _ = leave_mark(rt, alloc, path, folder);
         return Err(Failure::on(Spot::Mark, refused));
     }
     Ok(())
 }
 
-/// Takes the mark away, on the disk too.
+/// Removes the mark, on the disk too.
 fn remove_mark(rt: &HostRuntime, alloc: Global, path: &str, folder: &File) -> io::Result<()> {
     let mark = format!(in alloc; "{path}/{MARK}")?;
     fs::remove_file(rt, mark.as_str())?;
@@ -91,7 +91,7 @@ fn write_piece(file: &File, length: u64, offset: u64, buffer: &mut [u8]) -> io::
     file.write_all_at(piece, offset)
 }
 
-/// A buffer for a piece of a file.
+/// Returns a buffer for a piece of a file.
 fn new_buffer(alloc: Global) -> Result<Vec<u8>, AllocError>
     ensures { IfOk result (λ buffer. length buffer.items ≡ PIECE) }
 {

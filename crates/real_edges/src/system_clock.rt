@@ -71,7 +71,7 @@ impl<C: Clock> edge_io::Clock for SystemClock<C> {
     }
 }
 
-/// The moment of a time, or an error where the time couldn't be read or is no moment.
+/// Returns the moment of a time, or an error where the time couldn't be read or is no moment.
 fn moment_of(time: io::Result<SystemTime>) -> io::Result<u64>
     ensures { IfOk result IsMoment }
 {
@@ -85,7 +85,7 @@ fn moment_of(time: io::Result<SystemTime>) -> io::Result<u64>
     Ok(moment)
 }
 
-/// The error of a time that is no moment.
+/// Returns the error of a time that is no moment.
 fn no_moment() -> io::Error {
     io::Error::new(
         ErrorKind::InvalidData,

@@ -1,4 +1,6 @@
 //! The edges on real folders, and on readers, printers and clocks that fail.
+ghost use Rattle.std.specs.Prelude.{◌≤◌, length};
+
 use crate::names::{name_of, path_in};
 use crate::{FolderDisk, StdSink, StdSource, SystemClock};
 use arch_base::NoMemory;
@@ -94,6 +96,7 @@ fn a_folder_keeps_files(rt: HostRuntime) -> Result<(), Fail> {
     assert!(rt; !fs::exists(&rt, "kept")?);
     assert_eq!(rt; is_written(&mut disk), Ok(true));
     assert_eq!(rt; is_cut(&mut disk), Ok(true));
+    fs::remove_dir_all(&rt, "kept")?;
     Ok(())
 }
 
@@ -104,11 +107,14 @@ fn a_folder_is_opened_again(rt: HostRuntime) -> Result<(), Fail> {
     let mut disk = FolderDisk::open(&rt, rt.alloc(), "again")?;
     assert_eq!(rt; is_removed(&mut disk), Ok(true));
     assert!(rt; !fs::exists(&rt, "again/root")?);
+    fs::remove_dir_all(&rt, "again")?;
     Ok(())
 }
 
 /// Writes three pieces of an epoch, and an end.
-fn write_long(disk: &mut FolderDisk, piece: &[u8]) -> Result<(), DiskFault> {
+fn write_long(disk: &mut FolderDisk, piece: &[u8]) -> Result<(), DiskFault>
+    requires { length piece.now ≤ 1000000 }
+{
     for index in 0..3 {
         disk.write_at(epoch(0, 1), index * 1_000_000, piece)?;
     }
@@ -130,6 +136,7 @@ fn a_long_file_is_read_whole(rt: HostRuntime) -> Result<(), Fail> {
     assert_eq!(rt; write_long(&mut disk, &piece), Ok(()));
     let mut into = vec![in rt.alloc(); b'.'; 4_000_000]?;
     assert_eq!(rt; is_long(&mut disk, &mut into), Ok(true));
+    fs::remove_dir_all(&rt, "long")?;
     Ok(())
 }
 
@@ -221,6 +228,7 @@ fn names_come_in_order(rt: HostRuntime) -> Result<(), Fail> {
         );
     }
     assert!(rt; is_named(&rt, &mut disk, 11, None)?);
+    fs::remove_dir_all(&rt, "names")?;
     Ok(())
 }
 
@@ -244,6 +252,7 @@ fn keeps_many(disk: &mut FolderDisk) -> Result<bool, DiskFault> {
 fn more_files_than_are_kept_open(rt: HostRuntime) -> Result<(), Fail> {
     let mut disk = FolderDisk::open(&rt, rt.alloc(), "many")?;
     assert_eq!(rt; keeps_many(&mut disk), Ok(true));
+    fs::remove_dir_all(&rt, "many")?;
     Ok(())
 }
 
@@ -287,6 +296,7 @@ fn what_the_system_refuses_is_a_fault(rt: HostRuntime) -> Result<(), Fail> {
     let mut disk = other(&rt, "missing/refused")?;
     assert_eq!(rt; disk.write_at(ROOT, 0, b"a"), Err(DiskFault));
     assert!(rt; is_told(disk.cause()?, "missing/refused: No such file or directory"));
+    fs::remove_file(&rt, "refused")?;
     Ok(())
 }
 
@@ -307,6 +317,7 @@ fn a_second_run_waits_and_gives_up(rt: HostRuntime) -> Result<(), Fail> {
     assert!(rt; is_refused(&rt, "locked", "locked is in use by another run")?);
     drop(first);
     assert_eq!(rt; length_for_other(&rt, "locked")?, Some(3));
+    fs::remove_dir_all(&rt, "locked")?;
     Ok(())
 }
 
@@ -328,6 +339,7 @@ fn a_folder_that_was_filled_meanwhile_is_refused(rt: HostRuntime) -> Result<(), 
     // One that was made meanwhile and has no file is fine.
     fs::remove_file(&rt, "filled/root")?;
     assert_eq!(rt; late.write_at(ROOT, 0, b"x"), Ok(()));
+    fs::remove_dir_all(&rt, "filled")?;
     Ok(())
 }
 
@@ -352,6 +364,7 @@ fn after_a_failed_sync_none_is_answered(rt: HostRuntime) -> Result<(), Fail> {
     assert!(rt; fails_to_sync(&rt, &mut disk)?);
     assert!(rt; is_told(disk.cause()?, "failed/epoch-0.1: Invalid argument"));
     assert!(rt; fs::exists(&rt, "failed/sync-failed")?);
+    fs::remove_dir_all(&rt, "failed")?;
     Ok(())
 }
 
@@ -371,8 +384,12 @@ fn mends(rt: &HostRuntime) -> io::Result<bool> {
 }
 
 /// Writes a few bytes of the root in a run of its own.
-fn writes(rt: &HostRuntime, path: &str, offset: u64) -> Result<bool, NoMemory> {
-    Ok(other(rt, path)?.write_at(ROOT, offset, b"tail").is_ok())
+fn writes(rt: &HostRuntime, path: &str, offset: u32) -> Result<bool, NoMemory> {
+    Ok(
+        other(rt, path)?
+            .write_at(ROOT, u64::from(offset), b"tail")
+            .is_ok(),
+    )
 }
 
 #[test]
@@ -383,6 +400,7 @@ fn behind_a_mark_all_is_written_again(rt: HostRuntime) -> Result<(), Fail> {
         assert!(rt; writes(&rt, "marked", offset)?);
         assert!(rt; mends(&rt)?, "at {offset}");
     }
+    fs::remove_dir_all(&rt, "marked")?;
     Ok(())
 }
 
@@ -400,6 +418,7 @@ fn a_mark_stays_where_a_file_cannot_be_synced(rt: HostRuntime) -> Result<(), Fai
     assert!(rt; stays(&rt, true)?);
     fs::remove_file(&rt, "stays/epoch-0.1")?;
     assert!(rt; stays(&rt, false)?);
+    fs::remove_dir_all(&rt, "stays")?;
     Ok(())
 }
 
@@ -437,6 +456,7 @@ fn a_folder_above_that_may_not_be_read(rt: HostRuntime) -> Result<(), Fail> {
     let used = File::open(&rt, "above").is_ok() || is_used_below(&rt)?;
     permit(&rt, "above", 0o700)?;
     assert!(rt; used);
+    fs::remove_dir_all(&rt, "above")?;
     Ok(())
 }
 
