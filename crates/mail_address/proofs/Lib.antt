@@ -3,3 +3,4 @@ pub mod Seeking
 pub mod Spacing
 pub mod Parting
 pub mod Plain
+pub mod Marks

@@ -4,4 +4,5 @@ pub mod Gaps
 pub mod Splits
 pub mod Items
 pub mod Addresses
+pub mod Grammar
 pub mod Laws
