@@ -4,3 +4,4 @@ pub mod Spacing
 pub mod Parting
 pub mod Plain
 pub mod Marks
+pub mod Mailboxes

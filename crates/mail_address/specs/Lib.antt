@@ -6,3 +6,4 @@ pub mod Items
 pub mod Addresses
 pub mod Grammar
 pub mod Laws
+pub mod Mailboxes
