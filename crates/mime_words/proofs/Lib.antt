@@ -6,3 +6,4 @@ mod Opening
 mod Plain
 mod Padded
 mod Spelling
+mod Said

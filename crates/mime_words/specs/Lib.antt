@@ -4,3 +4,4 @@ pub mod Words
 pub mod Decoding
 pub mod Writing
 pub mod Laws
+pub mod Spelled
