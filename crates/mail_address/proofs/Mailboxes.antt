@@ -1,23 +1,20 @@
 -- Lists of mailboxes and groups are read back.
-use Rattle.std.proofs.Common.{◌≡◌, ◌≢◌, ◌⊎◌, inl, inr, ℕ, zero, suc, ◌+◌, ◌<◌, Bool, true, false, cond, ◌==◌, nat_lt, ◌&&◌, ◌||◌, not, List, [], ◌∷◌, ◌++◌, map, Option, None, Some, length, take, drop, refl, sym, ◌∙◌, ap, append_assoc, append-nil, zero-add, arith}
+use Rattle.std.proofs.Common.{◌≡◌, ◌⊎◌, inl, inr, ℕ, suc, ◌+◌, Bool, true, false, cond, ◌==◌, ◌&&◌, ◌||◌, not, List, [], ◌∷◌, ◌++◌, map, Option, Some, length, drop, refl, sym, ◌∙◌, ap, append_assoc, append-nil, zero-add, arith}
 use Rattle.std.proofs.lemmas.Bool.{false_from_ne_true, eqb-true}
 use Rattle.std.proofs.lemmas.Bool.Decides.{nat_tests}
 use Rattle.std.proofs.lemmas.List.{take_at, drop_at, drop-drop, length-append}
-use Rattle.std.proofs.lemmas.List.Elements.{filter-append}
 use Rattle.std.specs.List.{AllPass, flat_map, filter, position_or_len}
 use Rattle.mail_address.specs.declared.place.Place.{Place}
-use Rattle.mail_address.specs.declared.place.Place.TheVariants.{Outside, Quoted, QuotedPair, Comment, CommentPair}
-use Rattle.mail_address.specs.declared.place.Sought.{Sought}
+use Rattle.mail_address.specs.declared.place.Place.TheVariants.{Outside, Quoted, Comment, CommentPair}
 use Rattle.mail_address.specs.declared.place.Sought.TheVariants.{OpenBracket, CloseBracket}
 use Rattle.mail_address.specs.declared.items.Ending.{Ending}
-use Rattle.mail_address.specs.declared.items.Ending.TheVariants.{Comma, Colon, Semicolon}
-use Rattle.mail_address.specs.declared.address.AddressKind.TheVariants.{Mailbox, GroupStart, GroupEnd}
+use Rattle.mail_address.specs.declared.address.AddressKind.TheVariants.{GroupStart, GroupEnd}
 use Rattle.mail_address.specs.declared.address.Address.{Address}
-use Rattle.mail_address.specs.Places.{next_place, next_name_place, marked, marked_by, bytes_of, is_outside, is_sought}
+use Rattle.mail_address.specs.Places.{next_place, next_name_place, marked, bytes_of, is_outside, is_sought}
 use Rattle.mail_address.specs.Splits.{split_last, is_this, part_behind}
-use Rattle.mail_address.specs.Words.{stays_in_name, stays_in_address, spoken_from, address_from, without_space, spaced, joined_words, name_text, address_text}
-use Rattle.mail_address.specs.Items.{cut, onto_item, items_of, ends_item, len_before, has_bracket, before_bracket, behind_bracket, up_to_bracket, name_bytes, address_bytes}
-use Rattle.mail_address.specs.Addresses.{told, mailbox_in, mailbox_with, without_route, group_start, group_end}
+use Rattle.mail_address.specs.Words.{stays_in_name, stays_in_address, joined_words, name_text, address_text}
+use Rattle.mail_address.specs.Items.{cut, onto_item, items_of, ends_item, len_before, has_bracket, behind_bracket, up_to_bracket, name_bytes, address_bytes}
+use Rattle.mail_address.specs.Addresses.{told, mailbox_in, mailbox_with, without_route, group_start}
 use Rattle.mail_address.specs.Grammar.{QuotedPart, Literal, Escaped, CommentInside, Empty, TextThen, EscapedThen, CommentThen, is_quoted_byte, AreQuoted, quoted_bytes, Piece, Byte, QuotedString, CommentText, piece_bytes, spelled_pieces, IsPiece, ArePieces}
 use Rattle.mail_address.specs.Laws.{is_plain}
 use Rattle.mail_address.specs.Mailboxes.{quoted_said, said_in_name, said_in_address, name_said, address_said, WrittenMailbox, is_route_byte, IsRoute, HasNo, IsWritten, written, written_list, Member, One, Group, AllWritten, IsMember, AreMembers, member_bytes, member_list, mailbox_said, member_said, MembersReadBack}
@@ -25,7 +22,7 @@ use Rattle.mail_address.proofs.Cutting.{put_before}
 use Rattle.mail_address.proofs.Seeking.{bytes_of-marked_by}
 use Rattle.mail_address.proofs.Spacing.{without_space-space}
 use Rattle.mail_address.proofs.Plain.{HasNo as Lacks, all_head, all_tail, put_before-nil, onto_item-put_before, put_before-line, nat_lt-true, mailbox_with-at, cond_same, has_no-append, split_last-no, split_last-this}
-use Rattle.mail_address.proofs.Marks.{Moves, moves, moves_in_name, quoted_marks, inside_marks, piece_marks, all_marks, marks_all, marks_whole}
+use Rattle.mail_address.proofs.Marks.{moves, moves_in_name, quoted_marks, inside_marks, piece_marks, all_marks, marks_all, marks_whole}
 
 -- marks that stand in a quoted string or a comment, or whose bytes pass
 abbrev Quiet : (ℕ → Bool) → List (ℕ × Place) → Type 0
@@ -55,14 +52,16 @@ passing false e = cc
 quiet_pieces : (p : ℕ → Bool) → p 34 ≡ true → p 40 ≡ true → (pieces : List Piece) → ArePieces p pieces → Quiet p (all_marks pieces)
 quiet_pieces p quote paren [] q = tt
 quiet_pieces p quote paren (Byte b ∷ pieces) q = (passing (p b) q.0, quiet_pieces p quote paren pieces q.1)
-quiet_pieces p quote paren (QuotedString parts ∷ pieces) q =
-    (passing (p 34) quote,
-    quiet_append p (quoted_marks parts ++ (34, Quoted) ∷ []) (all_marks pieces)
-    (quiet_append p (quoted_marks parts) ((34, Quoted) ∷ []) (quiet_quoted p parts) (refl, tt)) (quiet_pieces p quote paren pieces q.1))
-quiet_pieces p quote paren (CommentText inside ∷ pieces) q =
-    (passing (p 40) paren,
-    quiet_append p (inside_marks 1 inside ++ (41, Comment 1) ∷ []) (all_marks pieces)
-    (quiet_append p (inside_marks 1 inside) ((41, Comment 1) ∷ []) (quiet_inside p 1 inside) (refl, tt)) (quiet_pieces p quote paren pieces q.1))
+quiet_pieces p quote paren (QuotedString parts ∷ pieces) q = (
+  passing (p 34) quote,
+  quiet_append p (quoted_marks parts ++ (34, Quoted) ∷ []) (all_marks pieces)
+      (quiet_append p (quoted_marks parts) ((34, Quoted) ∷ []) (quiet_quoted p parts) (refl, tt)) (quiet_pieces p quote paren pieces q.1),
+)
+quiet_pieces p quote paren (CommentText inside ∷ pieces) q = (
+  passing (p 40) paren,
+  quiet_append p (inside_marks 1 inside ++ (41, Comment 1) ∷ []) (all_marks pieces)
+      (quiet_append p (inside_marks 1 inside) ((41, Comment 1) ∷ []) (quiet_inside p 1 inside) (refl, tt)) (quiet_pieces p quote paren pieces q.1),
+)
 
 -- pieces that pass one test pass a weaker one
 weaker : (p r : ℕ → Bool) → ((b : ℕ) → p b ≡ true → r b ≡ true) → (pieces : List Piece) → ArePieces p pieces → ArePieces r pieces

@@ -1,10 +1,10 @@
 -- The places of the bytes of quoted strings and comments.
-use Rattle.std.proofs.Common.{◌≡◌, ℕ, suc, ◌+◌, Bool, true, false, cond, ◌==◌, ◌&&◌, not, nat_le, List, [], ◌∷◌, ◌++◌, map, length, refl, sym, ◌∙◌, ap, append_assoc, append-nil, arith}
-use Rattle.std.specs.List.{flat_map, filter}
+use Rattle.std.proofs.Common.{◌≡◌, ℕ, suc, Bool, true, false, ◌==◌, nat_le, List, [], ◌∷◌, ◌++◌, map, refl, sym, ◌∙◌, ap, append_assoc, append-nil, arith}
+use Rattle.std.specs.List.{flat_map}
 use Rattle.std.proofs.lemmas.Bool.Decides.{nat_tests}
 use Rattle.mail_address.specs.declared.place.Place.{Place}
 use Rattle.mail_address.specs.declared.place.Place.TheVariants.{Outside, Pair, Quoted, QuotedPair, Comment, CommentPair}
-use Rattle.mail_address.specs.Places.{next_place, next_name_place, place_behind_comment, marked_by, marked, bytes_of, is_outside}
+use Rattle.mail_address.specs.Places.{next_place, next_name_place, place_behind_comment, marked_by, is_outside}
 use Rattle.mail_address.specs.Grammar.{QuotedPart, Literal, Escaped, CommentInside, Empty, TextThen, EscapedThen, CommentThen, is_quoted_byte, is_comment_byte, AreQuoted, IsInside, quoted_bytes, inside_bytes, Piece, Byte, QuotedString, CommentText, piece_bytes, spelled_pieces, IsPiece, ArePieces, is_outer_byte}
 use Rattle.mail_address.specs.Laws.{stands_outside, outside_flags, OutsideIsBetween}
 

@@ -1,5 +1,5 @@
 -- Lists of mailboxes with quoted names, comments, routes and groups are read back.
-use Rattle.std.specs.Prelude.{◌≡◌, ◌≢◌, ◌⊎◌, ℕ, Bool, true, ◌&&◌, not, ◌==◌, List, [], ◌∷◌, ◌++◌, codes, map, slice_index, if◌then◌else◌}
+use Rattle.std.specs.Prelude.{◌≡◌, ◌≢◌, ◌⊎◌, ℕ, Bool, ◌&&◌, not, ◌==◌, List, [], ◌∷◌, ◌++◌, codes, map, slice_index, if◌then◌else◌}
 use Rattle.std.specs.List.{AllPass, flat_map}
 use Rattle.mail_address.specs.declared.address.AddressKind.TheVariants.{Mailbox, GroupStart, GroupEnd}
 use Rattle.mail_address.specs.declared.address.Address.{Address}

@@ -5,7 +5,7 @@ use Rattle.mail_address.specs.declared.place.Place.{Place}
 use Rattle.mail_address.specs.declared.place.Place.TheVariants.{Outside, Pair, Quoted, QuotedPair, Comment, CommentPair}
 use Rattle.mail_address.specs.Places.{next_place, next_name_place, marked_by, bytes_of}
 
--- What stays of a name: quotes, comments and each backslash that takes a byte along go.
+-- What stays of a name: quotes and comments go, and so does each backslash that takes a byte along or is the last byte.
 abbrev pub stays_in_name : Place → ℕ → Bool
 stays_in_name Outside b = not (b == 34) && not (b == 40) && not (b == 92)
 stays_in_name Pair b = true

@@ -41,8 +41,8 @@ abbrev pub begins_with_day : List ℕ → Bool
 begins_with_day (a ∷ b ∷ c ∷ d ∷ rest) = d == 44 && is_day_name (a ∷ b ∷ c ∷ [])
 begins_with_day _ = false
 
--- What stands after a day's name and its comma, before which only white space may stand; a text that doesn't begin so
--- is as it was. The name isn't compared with the date.
+-- What stands after a day's name and its comma, before which only white space may stand. A text that doesn't begin so
+-- loses the white space at its front and no more. The name isn't compared with the date.
 abbrev pub without_day : List ℕ → List ℕ
 without_day text =
     let body = without_white text in if begins_with_day body then drop 4 body else body

@@ -7,7 +7,7 @@ use Rattle.mail_reader.specs.Stored.{storage_form, content_of, is_dropped}
 use Rattle.mail_reader.specs.Ids.{is_id_byte, ids_of, own_id}
 use Rattle.mail_reader.specs.Bodies.{body_of}
 
--- A storage form is its own storage form: storing it again changes nothing.
+-- A storage form is its own storage form.
 abbrev pub StoredOnce : Type 0
 StoredOnce = (bytes text : List ℕ) → storage_form bytes ≡ Some text → storage_form text ≡ Some text
 

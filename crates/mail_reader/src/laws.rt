@@ -1,7 +1,7 @@
 //! What holds of the storage form, and of the fields and ids of any text. Each call does nothing: its contract is the law.
 ghost use Rattle.mail_reader.specs.Laws.{StoredOnce, FormsAreClean, FieldsAreFront, FormIsParts, FieldInFront, FormsAreShort, OwnIdInFront, IdLineIsKept, IdsArePieces, IdsInOrder, PartsLieIn};
 
-/// Storing a storage form gives it back unchanged.
+/// The storage form of a storage form is that form. (Whether `stored` takes it goes by its length.)
 pub fn stored_once()
     ensures { StoredOnce }
 {}

@@ -1,21 +1,19 @@
 -- A value that is spelled from words and text is decoded as they say.
-use Rattle.std.proofs.Common.{◌≡◌, ◌≢◌, ◌⊎◌, inl, inr, ◌<◌, ◌+◌, ◌*◌, ◌∙◌, ℕ, zero, suc, Bool, true, false, cond, ◌&&◌, not, ◌==◌, List, [], ◌∷◌, ◌++◌, length, map, drop, get_or, replicate, codes, Option, Some, None, is_some, refl, ap, sym, subst, append_assoc, append-nil, length-append, arith}
+use Rattle.std.proofs.Common.{◌≡◌, inl, inr, ◌<◌, ◌+◌, ◌*◌, ◌∙◌, ℕ, zero, suc, Bool, true, false, cond, ◌&&◌, ◌==◌, List, [], ◌∷◌, ◌++◌, length, map, drop, get_or, replicate, Some, None, refl, ap, sym, subst, append_assoc, append-nil, length-append, arith}
 use Rattle.std.specs.List.{flat_map, list_all}
 use Rattle.std.specs.Str.Lossy.{utf8_lossy}
-use Rattle.std.proofs.lemmas.Bool.{false_from_ne_true, and_parts}
+use Rattle.std.proofs.lemmas.Bool.{false_from_ne_true}
 use Rattle.std.proofs.lemmas.Bool.Decides.{nat_tests}
 use Rattle.std.proofs.lemmas.List.{drop_at}
-use Rattle.base64.specs.Engines.{standard}
-use Rattle.base64.specs.GeneralPurpose.{encode_of, IsBytes}
 use Rattle.mime_words.specs.declared.charset.Charset.{Charset}
 use Rattle.mime_words.specs.declared.charset.Charset.TheVariants.{Utf8, UsAscii, Latin1}
 use Rattle.mime_words.specs.declared.encoding.Encoding.{Encoding}
 use Rattle.mime_words.specs.declared.encoding.Encoding.TheVariants.{Base64, Quoted}
-use Rattle.mime_words.specs.Quoted.{hex_value, escape, plain_byte, unquoted}
+use Rattle.mime_words.specs.Quoted.{hex_value, plain_byte, unquoted}
 use Rattle.mime_words.specs.Words.{EncodedText, charset_of, is_charset_byte, is_text_byte, encoding_of, word_at, word_len, bytes_of, Piece, plain, pieces}
 use Rattle.mime_words.specs.Decoding.{is_blank, same_charset, before, joined, without_gaps, text_of, decoded}
-use Rattle.mime_words.specs.Laws.{HasNoOpening, IsSpelled}
-use Rattle.mime_words.specs.Spelled.{QuotedPart, Itself, Underscore, Digits, is_itself, hex_digit, AreQuoted, quoted_bytes, quoted_said, Coded, InQ, InBase64, IsCoded, coded_bytes, coded_said, IsLetter, IsName, WrittenWord, IsWord, word_bytes, spaced_word, word_said, Run, Plain, Words, run_bytes, run_said, read_in, Before, Start, AfterText, AfterWords, is_all_spaces, AreRuns, AllWords, MayBeWords, IsNoGap, SpelledIsSaid}
+use Rattle.mime_words.specs.Laws.{HasNoOpening}
+use Rattle.mime_words.specs.Spelled.{QuotedPart, Itself, Underscore, Digits, is_itself, hex_digit, AreQuoted, quoted_bytes, quoted_said, Coded, InQ, InBase64, IsCoded, coded_bytes, coded_said, IsLetter, IsName, WrittenWord, IsWord, word_bytes, spaced_word, word_said, Run, Plain, Words, run_bytes, run_said, read_in, Before, Start, AfterText, AfterWords, AreRuns, AllWords, MayBeWords, IsNoGap, SpelledIsSaid}
 use Rattle.mime_words.proofs.Cutting.{pieces-no_word, pieces-read_word}
 use Rattle.mime_words.proofs.Joining.{piece, same-true, before_same, joined_plain}
 use Rattle.mime_words.proofs.Gaps.{text_by, without_gaps-end}
