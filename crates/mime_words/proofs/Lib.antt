@@ -7,3 +7,5 @@ mod Plain
 mod Padded
 mod Spelling
 mod Said
+mod Lenient
+mod Sextets

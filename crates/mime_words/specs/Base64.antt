@@ -1,5 +1,5 @@
 -- Base64 (RFC 4648, section 4), read from a text that may have other bytes in it.
-use Rattle.std.specs.Prelude.{◌≡◌, ◌<◌, ℕ, ◌+◌, ◌-◌, ◌*◌, ◌/◌, ◌%◌, ◌&&◌, ◌==◌, nat_le, List, [], ◌∷◌, Option, Some, None, MatchOption, if◌then◌else◌}
+use Rattle.std.specs.Prelude.{ℕ, ◌+◌, ◌-◌, ◌*◌, ◌/◌, ◌%◌, Bool, ◌&&◌, ◌==◌, nat_le, List, [], ◌∷◌, Option, Some, None, is_some, if◌then◌else◌}
 use Rattle.std.specs.List.{cons_option}
 
 -- the six bits that a byte of the alphabet stands for (RFC 4648, section 4, table 1)
@@ -10,6 +10,10 @@ six_bits b =
     else (if nat_le 48 b && nat_le b 57 then Some (b + 4)
     else (if b == 43 then Some 62
     else (if b == 47 then Some 63 else None))))
+
+-- a byte of the alphabet
+abbrev pub is_symbol : ℕ → Bool
+is_symbol b = is_some (six_bits b)
 
 -- the six bits of each byte of the alphabet before the first `=`; other bytes are passed over (RFC 2045, section 6.8)
 abbrev pub sextets : List ℕ → List ℕ
@@ -28,7 +32,3 @@ packed (a ∷ b ∷ c ∷ d ∷ rest) = (4 * a + b / 16) ∷ (b % 16 * 16 + c / 
 -- the bytes that a base64 text stands for
 unfoldable pub unbase64 : List ℕ → List ℕ
 unbase64 text = packed (sextets text)
-
--- the first of the six bits that are left, and what is left then
-abbrev pub TakesFirst : List ℕ → List ℕ → Option ℕ → Type 0
-TakesFirst old new taken = MatchOption taken ((old ≡ []) × (new ≡ [])) (λ bits. (bits < 64) × (old ≡ bits ∷ new))

@@ -1,4 +1,5 @@
 pub mod Base64
+pub mod Engine
 pub mod Quoted
 pub mod Words
 pub mod Decoding
