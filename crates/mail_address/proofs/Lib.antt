@@ -3,3 +3,5 @@ pub mod Seeking
 pub mod Spacing
 pub mod Parting
 pub mod Plain
+pub mod Marks
+pub mod Mailboxes

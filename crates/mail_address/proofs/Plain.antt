@@ -34,7 +34,7 @@ AllQuiet [] = Unit {0}
 AllQuiet (b ∷ bs) = IsQuiet b × AllQuiet bs
 
 -- None of the bytes is this one.
-abbrev HasNo : ℕ → List ℕ → Type 0
+abbrev pub HasNo : ℕ → List ℕ → Type 0
 HasNo c [] = Unit {0}
 HasNo c (b ∷ bs) = ((b == c) ≡ false) × HasNo c bs
 
@@ -75,10 +75,10 @@ quiet-at : IsQuiet 64
 quiet-at = record { quote = refl; paren = refl; comma = refl; colon = refl; semicolon = refl; less = refl; greater = refl; backslash = refl }
 
 -- The properties of all bytes, from those of each byte.
-all_tail : (p : ℕ → Bool) (b : ℕ) (bs : List ℕ) → AllPass p (b ∷ bs) → AllPass p bs
+pub all_tail : (p : ℕ → Bool) (b : ℕ) (bs : List ℕ) → AllPass p (b ∷ bs) → AllPass p bs
 all_tail p b bs all = λ k d h. let later : suc k < length (b ∷ bs) = omega arith in all (suc k) d later
 
-all_head : (p : ℕ → Bool) (b : ℕ) (bs : List ℕ) → AllPass p (b ∷ bs) → p b ≡ true
+pub all_head : (p : ℕ → Bool) (b : ℕ) (bs : List ℕ) → AllPass p (b ∷ bs) → p b ≡ true
 all_head p b bs all = let here : 0 < length (b ∷ bs) = omega arith in all 0 b here
 
 all_quiet-plain : (bs : List ℕ) → AllPass is_plain bs → AllQuiet bs
@@ -105,16 +105,16 @@ all_quiet-append : (xs ys : List ℕ) → AllQuiet xs → AllQuiet ys → AllQui
 all_quiet-append [] ys q r = r
 all_quiet-append (x ∷ xs) ys q r = (q.0, all_quiet-append xs ys q.1 r)
 
-has_no-append : (c : ℕ) (xs ys : List ℕ) → HasNo c xs → HasNo c ys → HasNo c (xs ++ ys)
+pub has_no-append : (c : ℕ) (xs ys : List ℕ) → HasNo c xs → HasNo c ys → HasNo c (xs ++ ys)
 has_no-append c [] ys q r = r
 has_no-append c (x ∷ xs) ys q r = (q.0, has_no-append c xs ys q.1 r)
 
 -- Quiet bytes belong to the item that follows them.
-put_before-nil : (items : List (List ℕ × Ending)) → items ≡ put_before [] items
+pub put_before-nil : (items : List (List ℕ × Ending)) → items ≡ put_before [] items
 put_before-nil [] = refl
 put_before-nil (item ∷ items) = refl
 
-onto_item-put_before : (b : ℕ) (xs : List ℕ) (items : List (List ℕ × Ending)) → onto_item b (put_before xs items) ≡ put_before (b ∷ xs) items
+pub onto_item-put_before : (b : ℕ) (xs : List ℕ) (items : List (List ℕ × Ending)) → onto_item b (put_before xs items) ≡ put_before (b ∷ xs) items
 onto_item-put_before b xs [] = refl
 onto_item-put_before b xs (item ∷ items) = refl
 
@@ -131,7 +131,7 @@ cut-quiet g false (b ∷ bs) ys q =
 abbrev line : List ℕ → List ℕ → List ℕ → List ℕ
 line name address ys = (name ++ 32 ∷ []) ++ (60 ∷ (address ++ (62 ∷ ys)))
 
-put_before-line : (front address : List ℕ) (items : List (List ℕ × Ending))
+pub put_before-line : (front address : List ℕ) (items : List (List ℕ × Ending))
     → put_before front (onto_item 60 (put_before address (onto_item 62 items))) ≡ put_before (front ++ (60 ∷ (address ++ (62 ∷ [])))) items
 put_before-line front address [] = refl
 put_before-line front address (item ∷ items) =
@@ -157,7 +157,7 @@ len_before-quiet sought (b ∷ bs) ys none q =
     let ih : len_before sought Outside (bs ++ ys) ≡ length bs + len_before sought Outside ys = len_before-quiet sought bs ys none q.1 in
     rw (none b q.0, q.0.quote, q.0.paren, ih) (omega arith)
 
-nat_lt-true : (n m : ℕ) → n < m → nat_lt n m ≡ true
+pub nat_lt-true : (n m : ℕ) → n < m → nat_lt n m ≡ true
 nat_lt-true n m h = grind (arith, nat_tests)
 
 -- The parts of such an item.
@@ -213,20 +213,20 @@ begins_word-push : (bs : List ℕ) → begins_word (bs ++ 32 ∷ []) ≡ begins_
 begins_word-push [] = refl
 begins_word-push (b ∷ bs) = refl
 
-spaced-push : (bs : List ℕ) → spaced (bs ++ 32 ∷ []) ≡ spaced bs
+pub spaced-push : (bs : List ℕ) → spaced (bs ++ 32 ∷ []) ≡ spaced bs
 spaced-push [] = refl
 spaced-push (b ∷ bs) = rw (begins_word-push bs, spaced-push bs) refl
 
 -- The address of such a mailbox.
-split_last-no : (c : ℕ) (xs : List ℕ) → HasNo c xs → split_last (is_this c) xs ≡ None
+pub split_last-no : (c : ℕ) (xs : List ℕ) → HasNo c xs → split_last (is_this c) xs ≡ None
 split_last-no c [] lacks = refl
 split_last-no c (x ∷ xs) lacks = rw (lacks.0, split_last-no c xs lacks.1) refl
 
-split_last-this : (c : ℕ) (xs ys : List ℕ) → (c == c) ≡ true → HasNo c ys → split_last (is_this c) (xs ++ (c ∷ ys)) ≡ Some (xs, ys)
+pub split_last-this : (c : ℕ) (xs ys : List ℕ) → (c == c) ≡ true → HasNo c ys → split_last (is_this c) (xs ++ (c ∷ ys)) ≡ Some (xs, ys)
 split_last-this c [] ys is lacks = rw (is, split_last-no c ys lacks) refl
 split_last-this c (x ∷ xs) ys is lacks = rw (split_last-this c xs ys is lacks) refl
 
-cond_same : (t : Bool) (xs : List ℕ) → cond t xs xs ≡ xs
+pub cond_same : (t : Bool) (xs : List ℕ) → cond t xs xs ≡ xs
 cond_same true xs = refl
 cond_same false xs = refl
 
@@ -247,7 +247,7 @@ and_false : (t : Bool) → (t && false) ≡ false
 and_false true = refl
 and_false false = refl
 
-mailbox_with-at : (name local_part host : List ℕ) → HasNo 64 host
+pub mailbox_with-at : (name local_part host : List ℕ) → HasNo 64 host
     → mailbox_with name (local_part ++ (64 ∷ host)) ≡ record { kind = Mailbox; name = name; mailbox = local_part; host = host } ∷ []
 mailbox_with-at name local_part host lacks =
     let some = some_length local_part host in

@@ -1,14 +1,33 @@
 -- What holds of the addresses of a list.
-use Rattle.std.specs.Prelude.{◌≡◌, ℕ, Bool, ◌&&◌, not, ◌==◌, List, [], ◌∷◌, ◌++◌, codes, map}
-use Rattle.std.specs.List.{All, AllPass}
+use Rattle.std.specs.Prelude.{◌≡◌, ℕ, Bool, true, false, ◌&&◌, not, ◌==◌, List, [], ◌∷◌, ◌++◌, codes, map}
+use Rattle.std.specs.List.{All, AllPass, flat_map}
+use Rattle.mail_address.specs.declared.place.Place.{Place}
 use Rattle.mail_address.specs.declared.address.AddressKind.TheVariants.{Mailbox}
 use Rattle.mail_address.specs.declared.address.Address.{Address}
+use Rattle.mail_address.specs.Places.{marked, is_outside}
+use Rattle.mail_address.specs.Grammar.{Piece, Byte, QuotedString, CommentText, piece_bytes, spelled_pieces, ArePieces, is_outer_byte}
 use Rattle.mail_address.specs.Words.{joined_words}
 use Rattle.mail_address.specs.Addresses.{addresses_of}
 
 -- A value without bytes has no addresses.
 abbrev pub EmptyValue : Type 0
 EmptyValue = addresses_of [] ≡ []
+
+-- whether a byte with its place stands outside, and begins neither a quoted string nor a comment
+abbrev pub stands_outside : ℕ × Place → Bool
+stands_outside mark = is_outside mark.1 && is_outer_byte mark.0
+
+-- for each byte of a piece, whether it stands outside of quoted strings and comments
+abbrev pub outside_flags : Piece → List Bool
+outside_flags (Byte b) = true ∷ []
+outside_flags (QuotedString parts) = map (λ (b : ℕ). false) (piece_bytes (QuotedString parts))
+outside_flags (CommentText inside) = map (λ (b : ℕ). false) (piece_bytes (CommentText inside))
+
+-- What is taken as outside is just what stands outside of the quoted strings and comments that a value is spelled with.
+abbrev pub OutsideIsBetween : Type 0
+OutsideIsBetween =
+    (pieces : List Piece) → ArePieces is_outer_byte pieces
+    → map stands_outside (marked (spelled_pieces pieces)) ≡ flat_map outside_flags pieces
 
 -- a byte without a meaning of its own in an address list: none of `"`, `(`, `)`, `,`, `:`, `;`, `<`, `>`, `@` and `\`
 -- (RFC 5322, section 3.2.3)

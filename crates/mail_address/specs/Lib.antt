@@ -4,4 +4,6 @@ pub mod Gaps
 pub mod Splits
 pub mod Items
 pub mod Addresses
+pub mod Grammar
 pub mod Laws
+pub mod Mailboxes

@@ -5,7 +5,8 @@ use Rattle.mail_address.specs.declared.place.Place.{Place}
 use Rattle.mail_address.specs.declared.place.Place.TheVariants.{Outside, Pair, Quoted, QuotedPair, Comment, CommentPair}
 use Rattle.mail_address.specs.Places.{next_place, next_name_place, marked_by, bytes_of}
 
--- The byte stays in a name: quotes, comments and each backslash that quotes a byte are removed.
+-- The byte stays in a name. Quotes and comments are removed, and so is each backslash that isn't
+-- itself quoted by one.
 abbrev pub stays_in_name : Place → ℕ → Bool
 stays_in_name Outside b = not (b == 34) && not (b == 40) && not (b == 92)
 stays_in_name Pair b = true

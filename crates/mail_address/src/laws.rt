@@ -1,5 +1,6 @@
 //! What holds of the addresses of a list, as contracts of calls that do nothing.
-ghost use Rattle.mail_address.specs.Laws.{EmptyValue, PlainReadBack};
+ghost use Rattle.mail_address.specs.Laws.{EmptyValue, OutsideIsBetween, PlainReadBack};
+ghost use Rattle.mail_address.specs.Mailboxes.{MembersReadBack};
 
 /// A value without bytes has no addresses.
 pub fn empty_value()
@@ -9,4 +10,15 @@ pub fn empty_value()
 /// A list that is spelled from plain mailboxes, each as `NAME <LOCAL@HOST>`, joined by `, `, is read back as they are.
 pub fn plain_read_back()
     ensures { PlainReadBack }
+{}
+
+/// What is taken as outside of quoted strings and comments is just what stands outside of those that a value is spelled with.
+pub fn outside_is_between()
+    ensures { OutsideIsBetween }
+{}
+
+/// A list of mailboxes and groups, with quoted strings and comments in names and addresses and with routes, is read back
+/// as they are.
+pub fn members_read_back()
+    ensures { MembersReadBack }
 {}

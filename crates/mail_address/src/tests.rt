@@ -42,7 +42,7 @@ const ADDRESSES: [Row; 12] = [
 ];
 
 /// Lists and groups, and items that tell nothing.
-const GROUPS: [Row; 15] = [
+const GROUPS: [Row; 16] = [
     (b"g: @x:a@b;", b"G g||;M |a|b;E ||;"),
     (b"Ann <a@b>: c", b"G Ann <a@b>||;M |c|;E ||;"),
     (b":;", b"G ||;E ||;"),
@@ -59,6 +59,10 @@ const GROUPS: [Row; 15] = [
     (b"g: a@b", b"G g||;M |a|b;E ||;"),
     (b"\"a,b\"@c, (x,y) d@e", b"M |\"a,b\"|c;M x,y|d|e;"),
     (b"<a@b> <c, d> \"e, f\" (g, h), i@j", b"M |a|b;M |i|j;"),
+    (
+        b"\"Lee, \\\"B\\\"\" (x (y)) <@r,@s:ann (c)@x>, g (n): <\"a;b\"@y>, <c@z>;, d <e@f>",
+        b"M Lee, \"B\"|ann|x;G g||;M |\"a;b\"|y;M |c|z;E ||;M d|e|f;",
+    ),
     (b", ,a@b,", b"M |a|b;"),
     (b"Ann Lee <ann@x>, Bo <bo@y>", b"M Ann Lee|ann|x;M Bo|bo|y;"),
 ];
@@ -85,7 +89,9 @@ fn reads_lists_and_groups(rt: HostRuntime) -> Result<(), Fail> {
         assert!(rt; is_read_as(rt.alloc(), value, want)?, "{value:?}");
     }
     empty_value();
+    outside_is_between();
     plain_read_back();
+    members_read_back();
     Ok(())
 }
 

@@ -1,5 +1,5 @@
 -- The line of a Message-ID field with a given id.
-use Rattle.std.proofs.Common.{◌≡◌, ℕ, ◌+◌, true, eqb, List, [], ◌∷◌, ◌++◌, Some, length, take, map, refl, sym, ap, ◌∙◌, append_assoc, arith, length-append, codes, add-zero, subst}
+use Rattle.std.proofs.Common.{◌≡◌, ℕ, ◌+◌, true, false, eqb, List, [], ◌∷◌, ◌++◌, Some, length, take, map, refl, sym, ap, ◌∙◌, append_assoc, arith, length-append, codes, add-zero, subst}
 use Rattle.std.specs.List.{AllPass, prefix_len, list_all}
 use Rattle.std.specs.Prelude.{option_and_then}
 use Rattle.std.proofs.lemmas.Bool.{eqb-true, and_parts, le-leb, eq-eqb, false_from_ne_true, both_ways}
@@ -26,15 +26,15 @@ passes (x ∷ xs) h =
     let both = and_parts (is_id_byte x) (list_all is_id_byte xs) h in
     rw both.0 (omega (arith, passes xs both.1))
 
--- No byte of an id is a line feed.
-free_of_feed : (xs : List ℕ) → list_all is_id_byte xs ≡ true → NoFeed xs
-free_of_feed [] h = tt
-free_of_feed (x ∷ xs) h =
+-- No byte of an id is one that ids can't have.
+pub free_of : (c : ℕ) → is_id_byte c ≡ false → (xs : List ℕ) → list_all is_id_byte xs ≡ true → NoByte c xs
+free_of c other [] h = tt
+free_of c other (x ∷ xs) h =
     let both = and_parts (is_id_byte x) (list_all is_id_byte xs) h in
-    (false_from_ne_true (eqb x 10) (λ e. both_ways (is_id_byte x) (ap is_id_byte (eqb-true x 10 e)) both.0), free_of_feed xs both.1)
+    (false_from_ne_true (eqb x c) (λ e. both_ways (is_id_byte x) (ap is_id_byte (eqb-true x c e) ∙ other) both.0), free_of c other xs both.1)
 
 -- The number of bytes of an id before its closing bracket.
-id_len-at : (xs more : List ℕ) → AllPass is_id_byte xs → id_len (xs ++ 62 ∷ more) ≡ length xs
+pub id_len-at : (xs more : List ℕ) → AllPass is_id_byte xs → id_len (xs ++ 62 ∷ more) ≡ length xs
 id_len-at xs more h =
     let all : prefix_len is_id_byte xs ≡ length xs = passes xs (list_all-from_AllPass is_id_byte xs h) in
     prefix_len-append is_id_byte xs (62 ∷ more) ∙ rw (all, eq-eqb (length xs) (length xs) refl) (add-zero (length xs))
@@ -61,7 +61,7 @@ without_feed-append (x ∷ w ∷ xs) y ys = ap (λ t. x ∷ t) (without_feed-app
 id_content : (id : List ℕ) → IsId id → NoFeed (codes "Message-ID: " ++ id)
 id_content id h =
     NoByte-append 10 (codes "Message-ID: ") id (refl, (refl, (refl, (refl, (refl, (refl, (refl, (refl, (refl, (refl, (refl, (refl, tt))))))))))))
-    (let free = free_of_feed h.inside (list_all-from_AllPass is_id_byte h.inside h.bytes) in
+    (let free = free_of 10 refl h.inside (list_all-from_AllPass is_id_byte h.inside h.bytes) in
     let P : List ℕ → Type 0 = λ t. NoFeed t in
     subst P (sym h.is) (refl, NoByte-append 10 h.inside (62 ∷ []) free (refl, tt)))
 

@@ -14,3 +14,5 @@ pub mod Blanks
 pub mod Squeezes
 pub mod Hashes
 pub mod Distincts
+pub mod PieceLaws
+pub mod PartLaws

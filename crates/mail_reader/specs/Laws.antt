@@ -1,13 +1,13 @@
--- What holds of the storage form, and of the fields of any text.
-use Rattle.std.specs.Prelude.{◌≡◌, ℕ, ◌+◌, ◌<◌, ◌≤◌, true, false, List, [], ◌∷◌, ◌++◌, Some, map, length, slice_index, codes}
-use Rattle.std.specs.List.{concat, AllPass}
+-- What holds of the storage form, and of the fields and ids of any text.
+use Rattle.std.specs.Prelude.{◌≡◌, ◌⊎◌, ◌↔◌, ℕ, ◌+◌, ◌<◌, ◌≤◌, true, false, List, [], ◌∷◌, ◌++◌, Some, map, length, slice_index, codes}
+use Rattle.std.specs.List.{concat, AllPass, Contains}
 use Rattle.mail_reader.specs.Lines.{is_field_line, lines_of, after_header}
 use Rattle.mail_reader.specs.Fields.{FieldText, fields_of}
 use Rattle.mail_reader.specs.Stored.{storage_form, content_of, is_dropped}
-use Rattle.mail_reader.specs.Ids.{is_id_byte, own_id}
+use Rattle.mail_reader.specs.Ids.{is_id_byte, ids_of, own_id}
 use Rattle.mail_reader.specs.Bodies.{body_of}
 
--- A storage form is its own storage form: storing it again changes nothing.
+-- A storage form is its own storage form.
 abbrev pub StoredOnce : Type 0
 StoredOnce = (bytes text : List ℕ) → storage_form bytes ≡ Some text → storage_form text ≡ Some text
 
@@ -69,3 +69,42 @@ OwnIdInFront = (text id : List ℕ) → IsId id → own_id (id_line id ++ text) 
 -- Such a line is a field on one line that is kept as it is.
 abbrev pub IdLineIsKept : Type 0
 IdLineIsKept = (id : List ℕ) → IsId id → IsKeptLine (id_line id)
+
+-- a piece that stands in a text
+pub record LiesIn (piece text : List ℕ) : Type 0 where
+  pub before : List ℕ
+  pub after : List ℕ
+  pub is : text ≡ before ++ (piece ++ after)
+
+-- The ids of a value are just its pieces that are ids.
+abbrev pub IdsArePieces : Type 0
+IdsArePieces = (value id : List ℕ) → Contains (ids_of value) id ↔ IsId id × LiesIn id value
+
+-- They stand in the order of these pieces, and as often: at each piece that is an id, the ids are those before it, it, and those after it.
+abbrev pub IdsInOrder : Type 0
+IdsInOrder = (before id after : List ℕ) → IsId id → ids_of (before ++ (id ++ after)) ≡ ids_of before ++ id ∷ ids_of after
+
+-- a line feed, or nothing
+abbrev pub IsFeedOrNone : List ℕ → Type 0
+IsFeedOrNone bytes = (bytes ≡ []) ⊎ (bytes ≡ 10 ∷ [])
+
+-- A field that stands in a text: its name, a colon, its value, and a line feed or nothing. So the name and the value stand in the text too.
+pub record IsFieldIn (text : List ℕ) (field : FieldText) : Type 0 where
+  pub end : List ℕ
+  pub ended : IsFeedOrNone end
+  pub whole : field.whole ≡ field.name ++ 58 ∷ (field.value ++ end)
+  pub lies : LiesIn field.whole text
+  pub name : LiesIn field.name text
+  pub value : LiesIn field.value text
+
+-- a text as its parts: the fields in order, an empty line or none, and the body; the own id stands in one of the fields
+pub record IsOfParts (text : List ℕ) : Type 0 where
+  pub empty_line : List ℕ
+  pub is_empty : IsFeedOrNone empty_line
+  pub whole : text ≡ wholes (fields_of text) ++ (empty_line ++ body_of text)
+  pub fields : (field : FieldText) → Contains (fields_of text) field → IsFieldIn text field
+  pub own_id : (id : List ℕ) → own_id text ≡ Some id → (field : FieldText) × Contains (fields_of text) field × LiesIn id field.value × LiesIn id text
+
+-- The fields, the body and the own id of any text are pieces that stand in it.
+abbrev pub PartsLieIn : Type 0
+PartsLieIn = (text : List ℕ) → IsOfParts text

@@ -1,7 +1,7 @@
-//! What holds of the storage form, and of the fields of any text. Each call does nothing: its contract is the law.
-ghost use Rattle.mail_reader.specs.Laws.{StoredOnce, FormsAreClean, FieldsAreFront, FormIsParts, FieldInFront, FormsAreShort, OwnIdInFront, IdLineIsKept};
+//! What holds of the storage form, and of the fields and ids of any text. Each call does nothing: its contract is the law.
+ghost use Rattle.mail_reader.specs.Laws.{StoredOnce, FormsAreClean, FieldsAreFront, FormIsParts, FieldInFront, FormsAreShort, OwnIdInFront, IdLineIsKept, IdsArePieces, IdsInOrder, PartsLieIn};
 
-/// Storing a storage form gives it back unchanged.
+/// The storage form of a storage form is that form. (Whether `stored` takes it goes by its length.)
 pub fn stored_once()
     ensures { StoredOnce }
 {}
@@ -39,4 +39,19 @@ pub fn own_id_in_front()
 /// The line of a Message-ID field with an id is a field on one line that is kept as it is.
 pub fn id_line_is_kept()
     ensures { IdLineIsKept }
+{}
+
+/// The ids of a value are just its pieces that are ids: each such piece is one of them, and each of them is such a piece.
+pub fn ids_are_pieces()
+    ensures { IdsArePieces }
+{}
+
+/// The ids of a value stand in the order of these pieces, and as often.
+pub fn ids_in_order()
+    ensures { IdsInOrder }
+{}
+
+/// The fields, the body and the own id of any text are pieces that stand in it.
+pub fn parts_lie_in()
+    ensures { PartsLieIn }
 {}

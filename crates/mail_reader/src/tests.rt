@@ -4,6 +4,7 @@ ghost use Rattle.std.specs.Prelude.{◌≡◌, ◌≤◌, IfOk, vec_len};
 use crate::{StoredRefusal, body, content_id, fields, flat, is_stored, own_id, refs_of, stored};
 use arch_base::{Bytes, NoMemory, decimal};
 use std::alloc::{AllocError, Global};
+use std::test::Fail;
 
 /// Whether the storage form of a mail is a text.
 fn has_form(alloc: Global, mail: &[u8], form: &[u8]) -> bool {
@@ -176,6 +177,23 @@ fn storage_texts_are_told(rt: HostRuntime) {
     }
 }
 
+/// Whether a text of so many bytes, of one field and a body of one line, is a storage text.
+fn is_long_stored(alloc: Global, len: usize) -> Result<bool, AllocError>
+    requires { 20 ≤ len }
+{
+    let mut text = vec![in alloc; b'x'; len]?;
+    text[..19].copy_from_slice(b"Message-ID: <a@x>\n\n");
+    text[len - 1] = b'\n';
+    Ok(is_stored(text.as_slice()))
+}
+
+#[test]
+fn storage_texts_have_up_to_8388800_bytes(rt: HostRuntime) {
+    for (len, stored) in [(8_388_800, true), (8_388_801, false)] {
+        assert!(rt; matches!(is_long_stored(rt.alloc(), len), Ok(told) if told == stored));
+    }
+}
+
 #[test]
 fn own_ids_are_found(rt: HostRuntime) {
     let texts: [(&[u8], Option<&[u8]>); 6] = [
@@ -189,6 +207,25 @@ fn own_ids_are_found(rt: HostRuntime) {
     for (text, id) in texts {
         assert!(rt; own_id(text) == id);
     }
+}
+
+/// Whether an id of so many bytes between its brackets is found.
+fn is_found(alloc: Global, len: usize) -> Result<bool, NoMemory> {
+    let mut text = Bytes::new(alloc);
+    text.push_slice(b"Message-ID: <")?;
+    for _ in 0..len {
+        text.push(b'x')?;
+    }
+    text.push_slice(b">\n\n")?;
+    Ok(own_id(text.as_slice()).is_some())
+}
+
+#[test]
+fn ids_have_up_to_248_bytes_between_their_brackets(rt: HostRuntime) -> Result<(), Fail> {
+    for (len, found) in [(0, false), (1, true), (248, true), (249, false)] {
+        assert!(rt; is_found(rt.alloc(), len)? == found);
+    }
+    Ok(())
 }
 
 #[test]
@@ -273,4 +310,17 @@ fn content_ids_are_those_of_another_program(rt: HostRuntime) {
     ];
     assert!(rt; content_id(b"To: x\nSubject: a \t b\n\nbody\n") != wanted);
     assert!(rt; content_id(b"To:\n x\nSubject: a \t b\nX: y\nsubject:\tc\n\nbody\n") == wanted);
+}
+
+// The digest of "subject:a", "from:b", "date:c", "references:<d>", "in-reply-to:<e>", "to:f", "cc:g", an empty line and
+// "x", by another program.
+#[test]
+fn content_ids_count_seven_fields(rt: HostRuntime) {
+    let text =
+        b"Cc: g\nTo: f\nIn-Reply-To: <e>\nReferences: <d>\nDate: c\nFrom: b\nSubject: a\n\nx\n";
+    let wanted = [
+        248, 119, 81, 113, 106, 120, 143, 64, 25, 31, 14, 89, 39, 117, 221, 209, 25, 253, 198, 45,
+        155, 55, 184, 68, 56, 64, 199, 244, 120, 128, 200, 255,
+    ];
+    assert!(rt; content_id(text) == wanted);
 }

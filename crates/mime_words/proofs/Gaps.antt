@@ -52,7 +52,7 @@ text_goes (b ∷ bs) k bytes ps =
     (ap (λ qs. piece None (b ∷ []) ∷ qs) (text_stays bs k bytes ps))
 
 -- The text before a word.
-text_by : (behind_word : Bool) (text : List ℕ) (k : Charset) (bytes : List ℕ) (ps : List Piece)
+pub text_by : (behind_word : Bool) (text : List ℕ) (k : Charset) (bytes : List ℕ) (ps : List Piece)
     → without_gaps behind_word (plain text ++ piece (Some k) bytes ∷ ps)
     ≡ cond (behind_word && is_blank text) (piece (Some k) bytes ∷ without_gaps true ps) (plain text ++ piece (Some k) bytes ∷ without_gaps true ps)
 text_by true text k bytes ps = text_goes text k bytes ps

@@ -45,7 +45,7 @@ before_by : (k : Option Charset) (a b : List ℕ) (q : Piece) (qs : List Piece) 
 before_by k a b q qs true = rw (same-refl k) (ap (λ bytes. piece k bytes ∷ qs) (sym (append_assoc a b q.bytes)))
 before_by k a b q qs false = rw (same-refl k) refl
 
-before_same : (k : Option Charset) (a b : List ℕ) (ps : List Piece) → before (piece k a) (before (piece k b) ps) ≡ before (piece k (a ++ b)) ps
+pub before_same : (k : Option Charset) (a b : List ℕ) (ps : List Piece) → before (piece k a) (before (piece k b) ps) ≡ before (piece k (a ++ b)) ps
 before_same k a b [] = rw (same-refl k) refl
 before_same k a b (q ∷ qs) = before_by k a b q qs (same_charset k q.charset)
 

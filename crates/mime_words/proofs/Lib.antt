@@ -6,3 +6,6 @@ mod Opening
 mod Plain
 mod Padded
 mod Spelling
+mod Said
+mod Lenient
+mod Sextets

@@ -15,7 +15,7 @@ not_both true true h = absurd (h refl refl)
 not_both true false h = refl
 not_both false y h = refl
 
-no_word : (b : ℕ) (bs : List ℕ) → (b ≡ 61 → get_or bs 0 0 ≡ 63 → ⊥) → word_at (b ∷ bs) ≡ None
+pub no_word : (b : ℕ) (bs : List ℕ) → (b ≡ 61 → get_or bs 0 0 ≡ 63 → ⊥) → word_at (b ∷ bs) ≡ None
 no_word b bs h =
     ap (λ t. option_and_then opened_word (cond t (Some (drop 2 (b ∷ bs))) None))
     (not_both (nat_eq b 61) (nat_eq (get_or bs 0 0) 63) (λ x y. h (eqb-true b 61 x) (eqb-true (get_or bs 0 0) 63 y)))

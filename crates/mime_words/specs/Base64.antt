@@ -1,5 +1,5 @@
 -- Base64 (RFC 4648, section 4), read from a text that may have other bytes in it.
-use Rattle.std.specs.Prelude.{◌≡◌, ◌<◌, ℕ, ◌+◌, ◌-◌, ◌*◌, ◌/◌, ◌%◌, ◌&&◌, ◌==◌, nat_le, List, [], ◌∷◌, Option, Some, None, MatchOption, if◌then◌else◌}
+use Rattle.std.specs.Prelude.{ℕ, ◌+◌, ◌-◌, ◌*◌, ◌/◌, ◌%◌, Bool, ◌&&◌, ◌==◌, nat_le, List, [], ◌∷◌, Option, Some, None, is_some, if◌then◌else◌}
 use Rattle.std.specs.List.{cons_option}
 
 -- The six bits that a byte of the alphabet encodes (RFC 4648, section 4, table 1).
@@ -10,6 +10,10 @@ six_bits b =
     else (if nat_le 48 b && nat_le b 57 then Some (b + 4)
     else (if b == 43 then Some 62
     else (if b == 47 then Some 63 else None))))
+
+-- Whether a byte is in the alphabet.
+abbrev pub is_symbol : ℕ → Bool
+is_symbol b = is_some (six_bits b)
 
 -- The six bits of each byte of the alphabet before the first `=`. Other bytes are skipped (RFC
 -- 2045, section 6.8).
@@ -30,7 +34,3 @@ packed (a ∷ b ∷ c ∷ d ∷ rest) = (4 * a + b / 16) ∷ (b % 16 * 16 + c / 
 -- The bytes that a base64 text encodes.
 unfoldable pub unbase64 : List ℕ → List ℕ
 unbase64 text = packed (sextets text)
-
--- The first of the remaining groups of six bits is taken, if there is one, and the others remain.
-abbrev pub TakesFirst : List ℕ → List ℕ → Option ℕ → Type 0
-TakesFirst old new taken = MatchOption taken ((old ≡ []) × (new ≡ [])) (λ bits. (bits < 64) × (old ≡ bits ∷ new))

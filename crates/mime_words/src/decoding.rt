@@ -112,7 +112,7 @@ impl Decoding {
     {
         self.turn(alloc, Some(word.charset))?;
         match word.encoding {
-            Encoding::Base64 => push_unbase64(word.text, &mut self.held),
+            Encoding::Base64 => push_unbase64(alloc, word.text, &mut self.held),
             Encoding::Quoted => push_unquoted(word.text, &mut self.held),
         }
     }

@@ -1,5 +1,6 @@
 //! What holds of decoding, for every value.
 ghost use Rattle.mime_words.specs.Laws.{ValueWithoutWords, EncodedBytes, WordsAreSpelled};
+ghost use Rattle.mime_words.specs.Spelled.{SpelledIsSaid};
 
 /// A value without `=?` is the UTF-8 that stands there, with U+FFFD for what is none.
 pub fn value_without_words()
@@ -14,4 +15,10 @@ pub fn encoded_bytes()
 /// An encoded word is found at the front of bytes exactly where they begin as RFC 2047, section 2, spells it.
 pub fn words_are_spelled()
     ensures { WordsAreSpelled }
+{}
+
+/// Decoding a value that is spelled from encoded words and text gives what they say: underscores are spaces, spaces between
+/// two words go, and neighbours of one charset are joined before they are read.
+pub fn spelled_is_said()
+    ensures { SpelledIsSaid }
 {}

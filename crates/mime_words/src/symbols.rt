@@ -1,100 +1,99 @@
-//! Decodes base64 that may have other bytes in it.
-ghost use Rattle.std.specs.Prelude.{◌≡◌, ◌++◌, IfOk, OnOk, List, ℕ};
-ghost use Rattle.mime_words.specs.Base64.{six_bits, sextets, unbase64, TakesFirst};
+//! Base64 that may have other bytes in it.
+ghost use Rattle.std.specs.Prelude.{◌≡◌, ◌≢◌, ◌++◌, ◌∷◌, [], ◌%◌, length, IfOk, OnOk, true, if◌then◌else◌};
+ghost use Rattle.std.specs.List.{list_all};
+ghost use Rattle.mime_words.specs.Base64.{is_symbol, sextets, packed, unbase64};
+ghost use Rattle.mime_words.specs.Engine.{IsLenient};
 
 use arch_base::{Bytes, NoMemory};
+use base64::engine::DecodePaddingMode;
+use base64::engine::general_purpose::{GeneralPurpose, GeneralPurposeConfig};
+use base64::{DecodeAllocError, alphabet};
 use std::alloc::Global;
-use std::marker::Model;
 
-/// Returns the bytes that a base64 text encodes (RFC 2045, section 6.8).
-///
-/// Bytes outside of the alphabet are skipped, the first `=` ends the text, and bits at its end that
-/// make no whole byte are dropped.
+/// The bytes that a base64 text stands for (RFC 2045, section 6.8). Bytes outside of the alphabet are passed over, the first
+/// `=` ends the text, and bits that make no whole byte at its end are dropped.
+#[tactic(auto, unfolding(crate::specs::Base64::unbase64))]
 pub fn unbase64(alloc: Global, text: &[u8]) -> Result<Bytes, NoMemory>
     ensures { IfOk result (λ bytes. bytes ≡ unbase64 text.now) }
 {
-    let mut bytes = Bytes::new(alloc);
-    push_unbase64(text, &mut bytes)?;
-    Ok(bytes)
+    let symbols = symbols_of(alloc, text)?;
+    decode_symbols(alloc, without_lone(symbols.as_slice()))
 }
 
-/// Decodes a base64 text, and appends its bytes.
-#[tactic(auto, unfolding(crate::specs::Base64::unbase64))]
-pub fn push_unbase64(text: &[u8], into: &mut Bytes) -> Result<(), NoMemory>
+/// Puts the bytes of a base64 text at the end of others.
+pub fn push_unbase64(alloc: Global, text: &[u8], into: &mut Bytes) -> Result<(), NoMemory>
     ensures { OnOk result (into.new ≡ into.old ++ unbase64 text.now) }
 {
-    let mut symbols = Symbols { rest: text };
-    while let Some(first) = symbols.take() {
-        let Some(second) = symbols.take() else {
-            return Ok(());
-        };
-        into.push(4 * first + second / 16)?;
-        let Some(third) = symbols.take() else {
-            return Ok(());
-        };
-        into.push(second % 16 * 16 + third / 4)?;
-        let Some(fourth) = symbols.take() else {
-            return Ok(());
-        };
-        into.push(third % 4 * 64 + fourth)?;
-    }
-    Ok(())
+    let bytes = unbase64(alloc, text)?;
+    into.push_slice(bytes.as_slice())
 }
 
-/// The remaining symbols of a base64 text.
-#[derive(Debug, Drop)]
-struct Symbols<'a> {
-    rest: &'a [u8],
-}
-
-// A clause sees the six bits of each remaining symbol.
-impl<'a> Model for Symbols<'a> {
-    ghost use Rattle.std.specs.Prelude.{List, ℕ};
-    ghost use Rattle.mime_words.specs.Base64.{sextets};
-
-    ghost Value = { List ℕ };
-
-    ghost view = { λ symbols. sextets symbols.rest.now };
-}
-
-impl<'a> Symbols<'a> {
-    /// Removes the next symbol, and returns its six bits.
-    fn take(&mut self) -> Option<u8>
-        ensures { TakesFirst self.old self.new result }
-    {
-        let (bits, rest) = split_symbol(self.rest);
-        self.rest = rest;
-        bits
-    }
-}
-
-/// Returns the six bits of the first symbol, and the bytes after it.
-fn split_symbol(text: &[u8]) -> (Option<u8>, &[u8])
-    ensures { TakesFirst (sextets text.now) (sextets result.1.now) result.0 }
+/// The symbols of a base64 text: its bytes of the alphabet before the first `=`.
+fn symbols_of(alloc: Global, text: &[u8]) -> Result<Bytes, NoMemory>
+    ensures value { IfOk result (λ symbols. sextets symbols ≡ sextets text.now) }
+    ensures symbols { IfOk result (λ symbols. list_all is_symbol symbols ≡ true) }
 {
-    let mut rest = text;
-    while let [first, others @ ..] = rest {
-        if *first == b'=' {
-            return (None, &[]);
+    let mut symbols = Bytes::new(alloc);
+    for byte in text {
+        if *byte == b'=' {
+            return Ok(symbols);
         }
-        if let Some(bits) = six_bits(*first) {
-            return (Some(bits), others);
-        }
-        rest = others;
+        push_symbol(&mut symbols, *byte)?;
     }
-    (None, &[])
+    Ok(symbols)
 }
 
-/// Returns the six bits that a byte of the alphabet encodes.
-fn six_bits(byte: u8) -> Option<u8>
-    ensures { result ≡ six_bits byte }
+/// Puts a byte at the end of symbols, if it is one.
+fn push_symbol(symbols: &mut Bytes, byte: u8) -> Result<(), NoMemory>
+    ensures { OnOk result (symbols.new ≡ (if is_symbol byte then symbols.old ++ byte ∷ [] else symbols.old)) }
 {
-    match byte {
-        b'A'..=b'Z' => Some(byte - b'A'),
-        b'a'..=b'z' => Some(byte - b'a' + 26),
-        b'0'..=b'9' => Some(byte - b'0' + 52),
-        b'+' => Some(62),
-        b'/' => Some(63),
-        _ => None,
+    if is_symbol(byte) {
+        symbols.push(byte)
+    } else {
+        Ok(())
     }
+}
+
+/// Whether a byte is of the alphabet.
+fn is_symbol(byte: u8) -> bool
+    ensures { result ≡ is_symbol byte }
+{
+    matches!(byte, b'A'..=b'Z' | b'a'..=b'z' | b'0'..=b'9' | b'+' | b'/')
+}
+
+/// Symbols without one that stands alone behind groups of four, since it makes no whole byte.
+fn without_lone(symbols: &[u8]) -> &[u8]
+    requires { list_all is_symbol symbols.now ≡ true }
+    ensures value { packed (sextets result.now) ≡ packed (sextets symbols.now) }
+    ensures symbols { list_all is_symbol result.now ≡ true }
+    ensures len { length result.now % 4 ≢ 1 }
+{
+    if symbols.len() % 4 == 1 {
+        &symbols[..symbols.len() - 1]
+    } else {
+        symbols
+    }
+}
+
+/// The bytes that symbols stand for.
+fn decode_symbols(alloc: Global, symbols: &[u8]) -> Result<Bytes, NoMemory>
+    requires symbols { list_all is_symbol symbols.now ≡ true }
+    requires len { length symbols.now % 4 ≢ 1 }
+    ensures { IfOk result (λ bytes. bytes ≡ packed (sextets symbols.now)) }
+{
+    match lenient().decode(alloc, symbols) {
+        Ok(bytes) => Ok(Bytes::from_vec(bytes)),
+        Err(DecodeAllocError::OutOfMemory) => Err(NoMemory),
+        Err(DecodeAllocError::DecodeError(_)) => unreachable!(),
+    }
+}
+
+/// The engine that takes texts without padding, whatever bits follow the last whole byte.
+fn lenient() -> GeneralPurpose
+    ensures { IsLenient result }
+{
+    let config = GeneralPurposeConfig::new()
+        .with_decode_allow_trailing_bits(true)
+        .with_decode_padding_mode(DecodePaddingMode::Indifferent);
+    GeneralPurpose::new(&alphabet::STANDARD, config)
 }

@@ -1,5 +1,7 @@
 //! Values worked out by hand from RFC 2047 and RFC 4648, with ample memory.
-use crate::{decode, encoded_bytes, unbase64, value_without_words, words_are_spelled};
+use crate::{
+    decode, encoded_bytes, spelled_is_said, unbase64, value_without_words, words_are_spelled,
+};
 
 #[test]
 fn words_are_decoded(rt: HostRuntime) {
@@ -78,6 +80,7 @@ fn base64_is_read(rt: HostRuntime) {
     value_without_words();
     encoded_bytes();
     words_are_spelled();
+    spelled_is_said();
     let cases: [(&[u8], &[u8]); 12] = [
         (b"", b""),
         (b"w6k=", b"\xC3\xA9"),

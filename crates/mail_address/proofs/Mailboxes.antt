@@ -1,0 +1,539 @@
+-- Lists of mailboxes and groups are read back.
+use Rattle.std.proofs.Common.{◌≡◌, ◌⊎◌, inl, inr, ℕ, suc, ◌+◌, Bool, true, false, cond, ◌==◌, ◌&&◌, ◌||◌, not, List, [], ◌∷◌, ◌++◌, map, Option, Some, length, drop, refl, sym, ◌∙◌, ap, append_assoc, append-nil, zero-add, arith}
+use Rattle.std.proofs.lemmas.Bool.{false_from_ne_true, eqb-true}
+use Rattle.std.proofs.lemmas.Bool.Decides.{nat_tests}
+use Rattle.std.proofs.lemmas.List.{take_at, drop_at, drop-drop, length-append}
+use Rattle.std.specs.List.{AllPass, flat_map, filter, position_or_len}
+use Rattle.mail_address.specs.declared.place.Place.{Place}
+use Rattle.mail_address.specs.declared.place.Place.TheVariants.{Outside, Quoted, Comment, CommentPair}
+use Rattle.mail_address.specs.declared.place.Sought.TheVariants.{OpenBracket, CloseBracket}
+use Rattle.mail_address.specs.declared.items.Ending.{Ending}
+use Rattle.mail_address.specs.declared.address.AddressKind.TheVariants.{GroupStart, GroupEnd}
+use Rattle.mail_address.specs.declared.address.Address.{Address}
+use Rattle.mail_address.specs.Places.{next_place, next_name_place, marked, bytes_of, is_outside, is_sought}
+use Rattle.mail_address.specs.Splits.{split_last, is_this, part_behind}
+use Rattle.mail_address.specs.Words.{stays_in_name, stays_in_address, joined_words, name_text, address_text}
+use Rattle.mail_address.specs.Items.{cut, onto_item, items_of, ends_item, len_before, has_bracket, behind_bracket, up_to_bracket, name_bytes, address_bytes}
+use Rattle.mail_address.specs.Addresses.{told, mailbox_in, mailbox_with, without_route, group_start}
+use Rattle.mail_address.specs.Grammar.{QuotedPart, Literal, Escaped, CommentInside, Empty, TextThen, EscapedThen, CommentThen, is_quoted_byte, AreQuoted, quoted_bytes, Piece, Byte, QuotedString, CommentText, piece_bytes, spelled_pieces, IsPiece, ArePieces}
+use Rattle.mail_address.specs.Laws.{is_plain}
+use Rattle.mail_address.specs.Mailboxes.{quoted_said, said_in_name, said_in_address, name_said, address_said, WrittenMailbox, is_route_byte, IsRoute, HasNo, IsWritten, written, written_list, Member, One, Group, AllWritten, IsMember, AreMembers, member_bytes, member_list, mailbox_said, member_said, MembersReadBack}
+use Rattle.mail_address.proofs.Cutting.{put_before}
+use Rattle.mail_address.proofs.Seeking.{bytes_of-marked_by}
+use Rattle.mail_address.proofs.Spacing.{without_space-space}
+use Rattle.mail_address.proofs.Plain.{HasNo as Lacks, all_head, all_tail, put_before-nil, onto_item-put_before, put_before-line, nat_lt-true, mailbox_with-at, cond_same, has_no-append, split_last-no, split_last-this}
+use Rattle.mail_address.proofs.Marks.{moves, moves_in_name, quoted_marks, inside_marks, piece_marks, all_marks, marks_all, marks_whole}
+
+-- marks that stand in a quoted string or a comment, or whose bytes pass
+abbrev Quiet : (ℕ → Bool) → List (ℕ × Place) → Type 0
+Quiet p [] = Unit {0}
+Quiet p (mark ∷ ms) = ((is_outside mark.1 && not (p mark.0)) ≡ false) × Quiet p ms
+
+quiet_append : (p : ℕ → Bool) (ms ns : List (ℕ × Place)) → Quiet p ms → Quiet p ns → Quiet p (ms ++ ns)
+quiet_append p [] ns q r = r
+quiet_append p (m ∷ ms) ns q r = (q.0, quiet_append p ms ns q.1 r)
+
+quiet_quoted : (p : ℕ → Bool) (parts : List QuotedPart) → Quiet p (quoted_marks parts)
+quiet_quoted p [] = tt
+quiet_quoted p (Literal b ∷ parts) = (refl, quiet_quoted p parts)
+quiet_quoted p (Escaped b ∷ parts) = (refl, (refl, quiet_quoted p parts))
+
+quiet_inside : (p : ℕ → Bool) (d : ℕ) (inside : CommentInside) → Quiet p (inside_marks d inside)
+quiet_inside p d Empty = tt
+quiet_inside p d (TextThen b more) = (refl, quiet_inside p d more)
+quiet_inside p d (EscapedThen b more) = (refl, (refl, quiet_inside p d more))
+quiet_inside p d (CommentThen inner more) =
+    (refl, quiet_append p (inside_marks (suc d) inner) ((41, Comment (suc d)) ∷ inside_marks d more) (quiet_inside p (suc d) inner) (refl, quiet_inside p d more))
+
+passing : (t : Bool) → t ≡ true → not t ≡ false
+passing true e = refl
+passing false e = cc
+
+quiet_pieces : (p : ℕ → Bool) → p 34 ≡ true → p 40 ≡ true → (pieces : List Piece) → ArePieces p pieces → Quiet p (all_marks pieces)
+quiet_pieces p quote paren [] q = tt
+quiet_pieces p quote paren (Byte b ∷ pieces) q = (passing (p b) q.0, quiet_pieces p quote paren pieces q.1)
+quiet_pieces p quote paren (QuotedString parts ∷ pieces) q = (
+  passing (p 34) quote,
+  quiet_append p (quoted_marks parts ++ (34, Quoted) ∷ []) (all_marks pieces)
+      (quiet_append p (quoted_marks parts) ((34, Quoted) ∷ []) (quiet_quoted p parts) (refl, tt)) (quiet_pieces p quote paren pieces q.1),
+)
+quiet_pieces p quote paren (CommentText inside ∷ pieces) q = (
+  passing (p 40) paren,
+  quiet_append p (inside_marks 1 inside ++ (41, Comment 1) ∷ []) (all_marks pieces)
+      (quiet_append p (inside_marks 1 inside) ((41, Comment 1) ∷ []) (quiet_inside p 1 inside) (refl, tt)) (quiet_pieces p quote paren pieces q.1),
+)
+
+-- pieces that pass one test pass a weaker one
+weaker : (p r : ℕ → Bool) → ((b : ℕ) → p b ≡ true → r b ≡ true) → (pieces : List Piece) → ArePieces p pieces → ArePieces r pieces
+weaker p r h [] q = tt
+weaker p r h (Byte b ∷ pieces) q = (h b q.0, weaker p r h pieces q.1)
+weaker p r h (QuotedString parts ∷ pieces) q = (q.0, weaker p r h pieces q.1)
+weaker p r h (CommentText inside ∷ pieces) q = (q.0, weaker p r h pieces q.1)
+
+-- bytes that end no item and open no bracket, and those that close none
+abbrev is_item_byte : ℕ → Bool
+is_item_byte b = not (b == 44) && not (b == 58) && not (b == 59) && not (b == 60)
+
+abbrev is_bracket_byte : ℕ → Bool
+is_bracket_byte b = not (b == 62)
+
+plain_item : (b : ℕ) → is_plain b ≡ true → is_item_byte b ≡ true
+plain_item b h = grind (arith, nat_tests)
+
+plain_stays : (b : ℕ) → is_plain b ≡ true → next_place Outside b ≡ Outside
+plain_stays b h =
+    let quote : (b == 34) ≡ false = grind (arith, nat_tests) in
+    let paren : (b == 40) ≡ false = grind (arith, nat_tests) in
+    rw (quote, paren) refl
+
+plain_stays_in_name : (b : ℕ) → is_plain b ≡ true → next_name_place Outside b ≡ Outside
+plain_stays_in_name b h =
+    let quote : (b == 34) ≡ false = grind (arith, nat_tests) in
+    let paren : (b == 40) ≡ false = grind (arith, nat_tests) in
+    let backslash : (b == 92) ≡ false = grind (arith, nat_tests) in
+    rw (backslash, quote, paren) refl
+
+-- a byte of an address as it is written: one of a route, of what says the mailbox, or a space
+abbrev is_address_byte : ℕ → Bool
+is_address_byte b = not (b == 34) && not (b == 40) && not (b == 62)
+
+plain_address : (b : ℕ) → is_plain b ≡ true → is_address_byte b ≡ true
+plain_address b h = grind (arith, nat_tests)
+
+route_address : (b : ℕ) → is_route_byte b ≡ true → is_address_byte b ≡ true
+route_address b h = grind (arith, nat_tests)
+
+address_stays : (b : ℕ) → is_address_byte b ≡ true → next_place Outside b ≡ Outside
+address_stays b h =
+    let quote : (b == 34) ≡ false = grind (arith, nat_tests) in
+    let paren : (b == 40) ≡ false = grind (arith, nat_tests) in
+    rw (quote, paren) refl
+
+address_bracket : (b : ℕ) → is_address_byte b ≡ true → is_bracket_byte b ≡ true
+address_bracket b h = grind (arith, nat_tests)
+
+-- quiet marks are of the item that follows them
+ends_quiet : (g : Bool) (place : Place) (b : ℕ) → (is_outside place && not (is_item_byte b)) ≡ false → ends_item g false (b, place) ≡ false
+ends_quiet g place b h = by (is_outside place) g h
+  where
+    by : (o g : Bool) → (o && not (is_item_byte b)) ≡ false → (true && o && (b == 44 || b == 59 || (b == 58 && not g))) ≡ false
+    by true true h = grind (arith, nat_tests)
+    by true false h = grind (arith, nat_tests)
+    by false g h = refl
+
+opens_quiet : (place : Place) (b : ℕ) → (is_outside place && not (is_item_byte b)) ≡ false → (is_outside place && b == 60) ≡ false
+opens_quiet place b h = by (is_outside place) h
+  where
+    by : (o : Bool) → (o && not (is_item_byte b)) ≡ false → (o && b == 60) ≡ false
+    by true h = grind (arith, nat_tests)
+    by false h = refl
+
+closes_quiet : (place : Place) (b : ℕ) → (is_outside place && not (is_bracket_byte b)) ≡ false → (is_outside place && b == 62) ≡ false
+closes_quiet place b h = by (is_outside place) h
+  where
+    by : (o : Bool) → (o && not (is_bracket_byte b)) ≡ false → (o && b == 62) ≡ false
+    by true h = grind (arith, nat_tests)
+    by false h = refl
+
+cut_outer : (g : Bool) (ms ns : List (ℕ × Place)) → Quiet is_item_byte ms → cut g false (ms ++ ns) ≡ put_before (bytes_of ms) (cut g false ns)
+cut_outer g [] ns q = put_before-nil (cut g false ns)
+cut_outer g (m ∷ ms) ns q =
+    let ends : ends_item g false m ≡ false = ends_quiet g m.1 m.0 q.0 in
+    let opens : (is_outside m.1 && m.0 == 60) ≡ false = opens_quiet m.1 m.0 q.0 in
+    rw (ends, opens, cut_outer g ms ns q.1) (onto_item-put_before m.0 (bytes_of ms) (cut g false ns))
+
+cut_inner : (g : Bool) (ms ns : List (ℕ × Place)) → Quiet is_bracket_byte ms → cut g true (ms ++ ns) ≡ put_before (bytes_of ms) (cut g true ns)
+cut_inner g [] ns q = put_before-nil (cut g true ns)
+cut_inner g (m ∷ ms) ns q =
+    let closes : (is_outside m.1 && m.0 == 62) ≡ false = closes_quiet m.1 m.0 q.0 in
+    rw (closes, cut_inner g ms ns q.1) (onto_item-put_before m.0 (bytes_of ms) (cut g true ns))
+
+-- what is looked for is not among them
+seek_outer : (ms ns : List (ℕ × Place)) → Quiet is_item_byte ms
+    → position_or_len (is_sought OpenBracket) (ms ++ ns) ≡ length (bytes_of ms) + position_or_len (is_sought OpenBracket) ns
+seek_outer [] ns q = sym (zero-add (position_or_len (is_sought OpenBracket) ns))
+seek_outer (m ∷ ms) ns q =
+    let opens : (is_outside m.1 && m.0 == 60) ≡ false = opens_quiet m.1 m.0 q.0 in
+    rw (opens, seek_outer ms ns q.1) (omega arith)
+
+seek_inner : (ms ns : List (ℕ × Place)) → Quiet is_bracket_byte ms
+    → position_or_len (is_sought CloseBracket) (ms ++ ns) ≡ length (bytes_of ms) + position_or_len (is_sought CloseBracket) ns
+seek_inner [] ns q = sym (zero-add (position_or_len (is_sought CloseBracket) ns))
+seek_inner (m ∷ ms) ns q =
+    let closes : (is_outside m.1 && m.0 == 62) ≡ false = closes_quiet m.1 m.0 q.0 in
+    rw (closes, seek_inner ms ns q.1) (omega arith)
+
+-- the bytes of the marks of pieces
+quoted_back : (parts : List QuotedPart) (ms : List (ℕ × Place)) → bytes_of (quoted_marks parts ++ ms) ≡ quoted_bytes parts ++ bytes_of ms
+quoted_back [] ms = refl
+quoted_back (Literal b ∷ parts) ms = ap (λ (xs : List ℕ). b ∷ xs) (quoted_back parts ms)
+quoted_back (Escaped b ∷ parts) ms = ap (λ (xs : List ℕ). 92 ∷ b ∷ xs) (quoted_back parts ms)
+
+bytes_back : (p : ℕ → Bool) → ((b : ℕ) → p b ≡ true → next_place Outside b ≡ Outside) → (pieces : List Piece) → ArePieces p pieces
+    → bytes_of (all_marks pieces) ≡ spelled_pieces pieces
+bytes_back p stays pieces q =
+    ap bytes_of (sym (marks_whole next_place moves p stays pieces q)) ∙ bytes_of-marked_by next_place Outside (spelled_pieces pieces)
+
+spelled_two : (ps qs : List Piece) → spelled_pieces (ps ++ qs) ≡ spelled_pieces ps ++ spelled_pieces qs
+spelled_two [] qs = refl
+spelled_two (p ∷ ps) qs = ap (λ (xs : List ℕ). piece_bytes p ++ xs) (spelled_two ps qs) ∙ sym (append_assoc (piece_bytes p) (spelled_pieces ps) (spelled_pieces qs))
+
+said_two : (said : Piece → List ℕ) (ps qs : List Piece) → flat_map said (ps ++ qs) ≡ flat_map said ps ++ flat_map said qs
+said_two said [] qs = refl
+said_two said (p ∷ ps) qs = ap (λ (xs : List ℕ). said p ++ xs) (said_two said ps qs) ∙ sym (append_assoc (said p) (flat_map said ps) (flat_map said qs))
+
+are_two : (p : ℕ → Bool) (ps qs : List Piece) → ArePieces p ps → ArePieces p qs → ArePieces p (ps ++ qs)
+are_two p [] qs q r = r
+are_two p (x ∷ ps) qs q r = (q.0, are_two p ps qs q.1 r)
+
+-- what the marks of pieces say in a name
+abbrev keep_name : ℕ × Place → Bool
+keep_name mark = stays_in_name mark.1 mark.0
+
+abbrev keep_address : ℕ × Place → Bool
+keep_address mark = stays_in_address mark.1 mark.0
+
+drop_inside : (keep : ℕ × Place → Bool) → ((d b : ℕ) → keep (b, Comment d) ≡ false) → ((d b : ℕ) → keep (b, CommentPair d) ≡ false)
+    → (d : ℕ) (inside : CommentInside) (ms : List (ℕ × Place)) → filter keep (inside_marks d inside ++ ms) ≡ filter keep ms
+drop_inside keep byte pair d Empty ms = refl
+drop_inside keep byte pair d (TextThen b more) ms = rw (byte d b) (drop_inside keep byte pair d more ms)
+drop_inside keep byte pair d (EscapedThen b more) ms = rw (byte d 92, pair d b) (drop_inside keep byte pair d more ms)
+drop_inside keep byte pair d (CommentThen inner more) ms =
+    let first : filter keep ((40, Comment d) ∷ ((inside_marks (suc d) inner ++ (41, Comment (suc d)) ∷ inside_marks d more) ++ ms)) ≡ filter keep ((inside_marks (suc d) inner ++ (41, Comment (suc d)) ∷ inside_marks d more) ++ ms) = rw (byte d 40) refl in
+    let last : filter keep ((41, Comment (suc d)) ∷ (inside_marks d more ++ ms)) ≡ filter keep (inside_marks d more ++ ms) = rw (byte (suc d) 41) refl in
+    first ∙ ap (filter keep) (append_assoc (inside_marks (suc d) inner) ((41, Comment (suc d)) ∷ inside_marks d more) ms)
+    ∙ drop_inside keep byte pair (suc d) inner ((41, Comment (suc d)) ∷ (inside_marks d more ++ ms)) ∙ last ∙ drop_inside keep byte pair d more ms
+
+name_quoted : (parts : List QuotedPart) → AreQuoted parts → (ms : List (ℕ × Place)) → bytes_of (filter keep_name (quoted_marks parts ++ ms)) ≡ quoted_said parts ++ bytes_of (filter keep_name ms)
+name_quoted [] q ms = refl
+name_quoted (Literal b ∷ parts) q ms =
+    let quote : (b == 34) ≡ false = no_quote b q.0 in
+    let backslash : (b == 92) ≡ false = no_backslash b q.0 in
+    rw (quote, backslash) (ap (λ (xs : List ℕ). b ∷ xs) (name_quoted parts q.1 ms))
+  where
+    no_quote : (b : ℕ) → is_quoted_byte b ≡ true → (b == 34) ≡ false
+    no_quote b h = grind (arith, nat_tests)
+
+    no_backslash : (b : ℕ) → is_quoted_byte b ≡ true → (b == 92) ≡ false
+    no_backslash b h = grind (arith, nat_tests)
+name_quoted (Escaped b ∷ parts) q ms = ap (λ (xs : List ℕ). b ∷ xs) (name_quoted parts q ms)
+
+name_piece : (piece : Piece) → IsPiece is_plain piece → (ms : List (ℕ × Place))
+    → bytes_of (filter keep_name (piece_marks piece ++ ms)) ≡ said_in_name piece ++ bytes_of (filter keep_name ms)
+name_piece (Byte b) q ms = rw (no_quote b q, no_paren b q, no_backslash b q) refl
+  where
+    no_quote : (b : ℕ) → is_plain b ≡ true → (b == 34) ≡ false
+    no_quote b h = grind (arith, nat_tests)
+
+    no_paren : (b : ℕ) → is_plain b ≡ true → (b == 40) ≡ false
+    no_paren b h = grind (arith, nat_tests)
+
+    no_backslash : (b : ℕ) → is_plain b ≡ true → (b == 92) ≡ false
+    no_backslash b h = grind (arith, nat_tests)
+name_piece (QuotedString parts) q ms =
+    ap (λ ns. bytes_of (filter keep_name ns)) (append_assoc (quoted_marks parts) ((34, Quoted) ∷ []) ms) ∙ name_quoted parts q ((34, Quoted) ∷ ms)
+name_piece (CommentText inside) q ms =
+    ap (λ ns. bytes_of (filter keep_name ns)) (append_assoc (inside_marks 1 inside) ((41, Comment 1) ∷ []) ms)
+    ∙ ap bytes_of (drop_inside keep_name (λ d b. refl) (λ d b. refl) 1 inside ((41, Comment 1) ∷ ms))
+
+name_pieces : (pieces : List Piece) → ArePieces is_plain pieces → bytes_of (filter keep_name (all_marks pieces)) ≡ flat_map said_in_name pieces
+name_pieces [] q = refl
+name_pieces (piece ∷ pieces) q = name_piece piece q.0 (all_marks pieces) ∙ ap (λ (xs : List ℕ). said_in_name piece ++ xs) (name_pieces pieces q.1)
+
+name_is : (pieces : List Piece) → ArePieces is_plain pieces → name_text (spelled_pieces pieces) ≡ name_said pieces
+name_is pieces q =
+    ap joined_words (ap (λ ms. bytes_of (filter keep_name ms)) (marks_whole next_name_place moves_in_name is_plain plain_stays_in_name pieces q) ∙ name_pieces pieces q)
+
+-- and in an address
+address_quoted : (parts : List QuotedPart) (ms : List (ℕ × Place)) → bytes_of (filter keep_address (quoted_marks parts ++ ms)) ≡ quoted_bytes parts ++ bytes_of (filter keep_address ms)
+address_quoted [] ms = refl
+address_quoted (Literal b ∷ parts) ms = ap (λ (xs : List ℕ). b ∷ xs) (address_quoted parts ms)
+address_quoted (Escaped b ∷ parts) ms = ap (λ (xs : List ℕ). 92 ∷ b ∷ xs) (address_quoted parts ms)
+
+address_piece : (piece : Piece) → IsPiece is_address_byte piece → (ms : List (ℕ × Place))
+    → bytes_of (filter keep_address (piece_marks piece ++ ms)) ≡ said_in_address piece ++ bytes_of (filter keep_address ms)
+address_piece (Byte b) q ms = rw (no_paren b q) (by (b == 32))
+  where
+    no_paren : (b : ℕ) → is_address_byte b ≡ true → (b == 40) ≡ false
+    no_paren b h = grind (arith, nat_tests)
+
+    by : (t : Bool) → bytes_of (cond (true && not t) ((b, Outside) ∷ filter keep_address ms) (filter keep_address ms)) ≡ cond t [] (b ∷ []) ++ bytes_of (filter keep_address ms)
+    by true = refl
+    by false = refl
+address_piece (QuotedString parts) q ms =
+    ap (λ ns. 34 ∷ bytes_of (filter keep_address ns)) (append_assoc (quoted_marks parts) ((34, Quoted) ∷ []) ms)
+    ∙ ap (λ (xs : List ℕ). 34 ∷ xs) (address_quoted parts ((34, Quoted) ∷ ms))
+    ∙ ap (λ (xs : List ℕ). 34 ∷ xs) (sym (append_assoc (quoted_bytes parts) (34 ∷ []) (bytes_of (filter keep_address ms))))
+address_piece (CommentText inside) q ms =
+    ap (λ ns. bytes_of (filter keep_address ns)) (append_assoc (inside_marks 1 inside) ((41, Comment 1) ∷ []) ms)
+    ∙ ap bytes_of (drop_inside keep_address (λ d b. refl) (λ d b. refl) 1 inside ((41, Comment 1) ∷ ms))
+
+address_pieces : (pieces : List Piece) → ArePieces is_address_byte pieces → bytes_of (filter keep_address (all_marks pieces)) ≡ address_said pieces
+address_pieces [] q = refl
+address_pieces (piece ∷ pieces) q = address_piece piece q.0 (all_marks pieces) ∙ ap (λ (xs : List ℕ). said_in_address piece ++ xs) (address_pieces pieces q.1)
+
+address_is : (pieces : List Piece) → ArePieces is_address_byte pieces → address_text (spelled_pieces pieces) ≡ address_said pieces
+address_is pieces q =
+    ap (λ ms. bytes_of (filter keep_address ms)) (marks_whole next_place moves is_address_byte address_stays pieces q) ∙ address_pieces pieces q
+
+-- a mailbox as it stands in a list: pieces of a name, pieces between brackets, and what follows
+abbrev line : List Piece → List Piece → List ℕ → List ℕ
+line front inner ys = spelled_pieces front ++ 60 ∷ (spelled_pieces inner ++ 62 ∷ ys)
+
+marks_front : (front : List Piece) (ys : List ℕ) → ArePieces is_plain front → marked (spelled_pieces front ++ ys) ≡ all_marks front ++ marked ys
+marks_front front ys q = marks_all next_place moves is_plain plain_stays front q ys
+
+marks_address : (inner : List Piece) (ys : List ℕ) → ArePieces is_address_byte inner → marked (spelled_pieces inner ++ ys) ≡ all_marks inner ++ marked ys
+marks_address inner ys q = marks_all next_place moves is_address_byte address_stays inner q ys
+
+front_quiet : (front : List Piece) → ArePieces is_plain front → Quiet is_item_byte (all_marks front)
+front_quiet front q = quiet_pieces is_item_byte refl refl front (weaker is_plain is_item_byte plain_item front q)
+
+inner_quiet : (inner : List Piece) → ArePieces is_address_byte inner → Quiet is_bracket_byte (all_marks inner)
+inner_quiet inner q = quiet_pieces is_bracket_byte refl refl inner (weaker is_address_byte is_bracket_byte address_bracket inner q)
+
+cut_front : (g : Bool) (front : List Piece) (ys : List ℕ) → ArePieces is_plain front
+    → cut g false (marked (spelled_pieces front ++ ys)) ≡ put_before (spelled_pieces front) (cut g false (marked ys))
+cut_front g front ys q =
+    ap (cut g false) (marks_front front ys q) ∙ cut_outer g (all_marks front) (marked ys) (front_quiet front q)
+    ∙ ap (λ (xs : List ℕ). put_before xs (cut g false (marked ys))) (bytes_back is_plain plain_stays front q)
+
+cut_line : (g : Bool) (front inner : List Piece) (ys : List ℕ) → ArePieces is_plain front → ArePieces is_address_byte inner
+    → cut g false (marked (line front inner ys)) ≡ put_before (line front inner []) (cut g false (marked ys))
+cut_line g front inner ys q r =
+    let within : cut g true (marked (spelled_pieces inner ++ 62 ∷ ys)) ≡ put_before (spelled_pieces inner) (onto_item 62 (cut g false (marked ys)))
+    = ap (cut g true) (marks_address inner (62 ∷ ys) r) ∙ cut_inner g (all_marks inner) (marked (62 ∷ ys)) (inner_quiet inner r)
+    ∙ ap (λ (xs : List ℕ). put_before xs (onto_item 62 (cut g false (marked ys)))) (bytes_back is_address_byte address_stays inner r) in
+    cut_front g front (60 ∷ (spelled_pieces inner ++ 62 ∷ ys)) q
+    ∙ ap (λ (items : List (List ℕ × Ending)). put_before (spelled_pieces front) (onto_item 60 items)) within
+    ∙ put_before-line (spelled_pieces front) (spelled_pieces inner) (cut g false (marked ys))
+
+-- its parts
+len_line : (front inner : List Piece) → ArePieces is_plain front → len_before OpenBracket Outside (line front inner []) ≡ length (spelled_pieces front)
+len_line front inner q =
+    let behind = 60 ∷ (spelled_pieces inner ++ 62 ∷ []) in
+    let found : position_or_len (is_sought OpenBracket) (marked (spelled_pieces front ++ behind)) ≡ length (bytes_of (all_marks front)) + 0
+    = ap (position_or_len (is_sought OpenBracket)) (marks_front front behind q) ∙ seek_outer (all_marks front) (marked behind) (front_quiet front q) in
+    let same : length (bytes_of (all_marks front)) ≡ length (spelled_pieces front) = ap length (bytes_back is_plain plain_stays front q) in
+    omega arith
+
+has_line : (front inner : List Piece) → ArePieces is_plain front → has_bracket (line front inner []) ≡ true
+has_line front inner q =
+    let behind = 60 ∷ (spelled_pieces inner ++ 62 ∷ []) in
+    let len : len_before OpenBracket Outside (line front inner []) ≡ length (spelled_pieces front) = len_line front inner q in
+    let all : length (spelled_pieces front ++ behind) ≡ length (spelled_pieces front) + length behind = length-append (spelled_pieces front) behind in
+    nat_lt-true (len_before OpenBracket Outside (line front inner [])) (length (spelled_pieces front ++ behind)) (omega arith)
+
+name_line : (front inner : List Piece) → ArePieces is_plain front → name_bytes (line front inner []) ≡ spelled_pieces front
+name_line front inner q =
+    let has = has_line front inner q in
+    let len = len_line front inner q in
+    rw (has, len) (take_at (spelled_pieces front) (60 ∷ (spelled_pieces inner ++ 62 ∷ [])) (length (spelled_pieces front)) refl)
+
+up_to_line : (inner : List Piece) → ArePieces is_address_byte inner → up_to_bracket (spelled_pieces inner ++ 62 ∷ []) ≡ spelled_pieces inner
+up_to_line inner r =
+    let found : position_or_len (is_sought CloseBracket) (marked (spelled_pieces inner ++ 62 ∷ [])) ≡ length (bytes_of (all_marks inner)) + 0
+    = ap (position_or_len (is_sought CloseBracket)) (marks_address inner (62 ∷ []) r) ∙ seek_inner (all_marks inner) (marked (62 ∷ [])) (inner_quiet inner r) in
+    let same : length (bytes_of (all_marks inner)) ≡ length (spelled_pieces inner) = ap length (bytes_back is_address_byte address_stays inner r) in
+    let len : len_before CloseBracket Outside (spelled_pieces inner ++ 62 ∷ []) ≡ length (spelled_pieces inner) = omega arith in
+    rw len (take_at (spelled_pieces inner) (62 ∷ []) (length (spelled_pieces inner)) refl)
+
+behind_line : (front inner : List Piece) → ArePieces is_plain front → behind_bracket (line front inner []) ≡ spelled_pieces inner ++ 62 ∷ []
+behind_line front inner q =
+    let behind = spelled_pieces inner ++ 62 ∷ [] in
+    let len = len_line front inner q in
+    let at : drop (length (spelled_pieces front)) (spelled_pieces front ++ (60 ∷ behind)) ≡ 60 ∷ behind = drop_at (spelled_pieces front) (60 ∷ behind) (length (spelled_pieces front)) refl in
+    rw len (sym (drop-drop 1 (length (spelled_pieces front)) (spelled_pieces front ++ (60 ∷ behind))) ∙ ap (drop 1) at)
+
+address_line : (front inner : List Piece) → ArePieces is_plain front → ArePieces is_address_byte inner → address_bytes (line front inner []) ≡ spelled_pieces inner
+address_line front inner q r =
+    let has = has_line front inner q in
+    rw has (ap up_to_bracket (behind_line front inner q) ∙ up_to_line inner r)
+
+-- the address between the brackets, with its route
+abbrev addressed : WrittenMailbox → List Piece
+addressed m = map Byte m.route ++ (m.local_part ++ Byte 64 ∷ m.host)
+
+spelled_bytes : (xs : List ℕ) → spelled_pieces (map Byte xs) ≡ xs
+spelled_bytes [] = refl
+spelled_bytes (x ∷ xs) = ap (λ (ys : List ℕ). x ∷ ys) (spelled_bytes xs)
+
+are_bytes : (p : ℕ → Bool) (xs : List ℕ) → AllPass p xs → ArePieces p (map Byte xs)
+are_bytes p [] all = tt
+are_bytes p (x ∷ xs) all = (all_head p x xs all, are_bytes p xs (all_tail p x xs all))
+
+said_bytes : (xs : List ℕ) → Lacks 32 xs → address_said (map Byte xs) ≡ xs
+said_bytes [] lacks = refl
+said_bytes (x ∷ xs) lacks = rw lacks.0 (ap (λ (ys : List ℕ). x ∷ ys) (said_bytes xs lacks.1))
+
+lacks : (c : ℕ) (xs : List ℕ) → HasNo c xs → Lacks c xs
+lacks c [] h = tt
+lacks c (x ∷ xs) h = (false_from_ne_true (x == c) (λ e. h 0 (eqb-true x c e)), lacks c xs (λ k. h (suc k)))
+
+lacks_space : (xs : List ℕ) → AllPass is_route_byte xs → Lacks 32 xs
+lacks_space [] all = tt
+lacks_space (x ∷ xs) all = (no_space x (all_head is_route_byte x xs all), lacks_space xs (all_tail is_route_byte x xs all))
+  where
+    no_space : (b : ℕ) → is_route_byte b ≡ true → (b == 32) ≡ false
+    no_space b h = grind (arith, nat_tests)
+
+route_lacks : (route : List ℕ) → (route ≡ []) ⊎ IsRoute route → Lacks 32 route
+route_lacks route (inl none) = rw none tt
+route_lacks route (inr r) = rw r.is (refl, has_no-append 32 r.domains (58 ∷ []) (lacks_space r.domains r.bytes) (refl, tt))
+
+route_are : (route : List ℕ) → (route ≡ []) ⊎ IsRoute route → ArePieces is_address_byte (map Byte route)
+route_are route (inl none) = rw none tt
+route_are route (inr r) =
+    let middle : ArePieces is_address_byte (map Byte (r.domains ++ 58 ∷ [])) = by r.domains r.bytes in
+    rw r.is (refl, middle)
+  where
+    by : (xs : List ℕ) → AllPass is_route_byte xs → ArePieces is_address_byte (map Byte (xs ++ 58 ∷ []))
+    by [] all = (refl, tt)
+    by (x ∷ xs) all = (route_address x (all_head is_route_byte x xs all), by xs (all_tail is_route_byte x xs all))
+
+-- what is left without the route
+route_goes : (route tail : List ℕ) → (route ≡ []) ⊎ IsRoute route → Lacks 58 tail → without_route (route ++ tail) ≡ tail
+route_goes route tail (inl none) free = rw none (whole tail free)
+  where
+    whole : (xs : List ℕ) → Lacks 58 xs → without_route xs ≡ xs
+    whole [] free = refl
+    whole (b ∷ bs) free =
+        ap (λ (parts : Option (List ℕ × List ℕ)). cond (b == 64) (part_behind (b ∷ bs) parts) (b ∷ bs)) (split_last-no 58 (b ∷ bs) free) ∙ cond_same (b == 64) (b ∷ bs)
+route_goes route tail (inr r) free =
+    let is : route ++ tail ≡ 64 ∷ (r.domains ++ 58 ∷ tail) = ap (λ (xs : List ℕ). xs ++ tail) r.is ∙ ap (λ (xs : List ℕ). 64 ∷ xs) (append_assoc r.domains (58 ∷ []) tail) in
+    let parts : split_last (is_this 58) (64 ∷ (r.domains ++ 58 ∷ tail)) ≡ Some (64 ∷ r.domains, tail) = split_last-this 58 (64 ∷ r.domains) tail refl free in
+    ap without_route is ∙ ap (part_behind (64 ∷ (r.domains ++ 58 ∷ tail))) parts
+
+inner_are : (m : WrittenMailbox) → IsWritten m → ArePieces is_address_byte (addressed m)
+inner_are m w =
+    are_two is_address_byte (map Byte m.route) (m.local_part ++ Byte 64 ∷ m.host) (route_are m.route w.route)
+    (are_two is_address_byte m.local_part (Byte 64 ∷ m.host) (weaker is_plain is_address_byte plain_address m.local_part w.local_part) (refl, weaker is_plain is_address_byte plain_address m.host w.host))
+
+address_of : (m : WrittenMailbox) → IsWritten m → without_route (address_text (spelled_pieces (addressed m))) ≡ address_said m.local_part ++ 64 ∷ address_said m.host
+address_of m w =
+    let tail = address_said m.local_part ++ 64 ∷ address_said m.host in
+    let said : address_said (addressed m) ≡ m.route ++ tail =
+    said_two said_in_address (map Byte m.route) (m.local_part ++ Byte 64 ∷ m.host)
+    ∙ (λ i. said_bytes m.route (route_lacks m.route w.route) i ++ said_two said_in_address m.local_part (Byte 64 ∷ m.host) i) in
+    let free : Lacks 58 tail = has_no-append 58 (address_said m.local_part) (64 ∷ address_said m.host) (lacks 58 (address_said m.local_part) w.no_colon) (refl, lacks 58 (address_said m.host) w.no_host_colon) in
+    ap without_route (address_is (addressed m) (inner_are m w) ∙ said) ∙ route_goes m.route tail w.route free
+
+-- pieces in front of a name that say nothing there
+record IsLead (lead : List Piece) : Type 0 where
+  plain : ArePieces is_plain lead
+  silent : (pieces : List Piece) → name_said (lead ++ pieces) ≡ name_said pieces
+
+no_lead : IsLead []
+no_lead = record { plain = tt; silent = λ pieces. refl }
+
+space_lead : IsLead (Byte 32 ∷ [])
+space_lead = record { plain = (refl, tt); silent = λ pieces. without_space-space (flat_map said_in_name pieces) }
+
+mailbox_line : (lead : List Piece) (m : WrittenMailbox) → IsLead lead → IsWritten m → mailbox_in (line (lead ++ m.name) (addressed m) []) ≡ mailbox_said m ∷ []
+mailbox_line lead m l w =
+    let front = lead ++ m.name in
+    let q : ArePieces is_plain front = are_two is_plain lead m.name l.plain w.name in
+    let r = inner_are m w in
+    let item = line front (addressed m) [] in
+    let name : name_text (name_bytes item) ≡ name_said m.name = ap name_text (name_line front (addressed m) q) ∙ name_is front q ∙ l.silent m.name in
+    let address : without_route (address_text (address_bytes item)) ≡ address_said m.local_part ++ 64 ∷ address_said m.host =
+    ap (λ (xs : List ℕ). without_route (address_text xs)) (address_line front (addressed m) q r) ∙ address_of m w in
+    ap (λ (xs : List ℕ). mailbox_with xs (without_route (address_text (address_bytes item)))) name ∙ ap (mailbox_with (name_said m.name)) address
+    ∙ mailbox_with-at (name_said m.name) (address_said m.local_part) (address_said m.host) (lacks 64 (address_said m.host) w.no_host_at)
+
+line_is : (lead : List Piece) (m : WrittenMailbox) (ys : List ℕ) → spelled_pieces lead ++ (written m ++ ys) ≡ line (lead ++ m.name) (addressed m) ys
+line_is lead m ys =
+    let L = spelled_pieces m.local_part in
+    let H = spelled_pieces m.host in
+    let inner : spelled_pieces (addressed m) ≡ m.route ++ (L ++ 64 ∷ H) =
+    spelled_two (map Byte m.route) (m.local_part ++ Byte 64 ∷ m.host) ∙ (λ i. spelled_bytes m.route i ++ spelled_two m.local_part (Byte 64 ∷ m.host) i) in
+    let all : spelled_pieces lead ++ (written m ++ ys) ≡ (spelled_pieces lead ++ spelled_pieces m.name) ++ 60 ∷ ((m.route ++ (L ++ 64 ∷ H)) ++ 62 ∷ ys) = simp append_assoc in
+    all ∙ (λ i. sym (spelled_two lead m.name) i ++ 60 ∷ (sym inner i ++ 62 ∷ ys))
+
+-- what items tell, by what ends them
+told_last : (item : List ℕ) (address : Address) → mailbox_in item ≡ address ∷ [] → told false (put_before item (cut false false (marked []))) ≡ address ∷ []
+told_last item address tells = rw (append-nil item, tells) refl
+
+told_comma : (g : Bool) (item rest : List ℕ) (address : Address) → mailbox_in item ≡ address ∷ []
+    → told g (put_before item (cut g false (marked (44 ∷ rest)))) ≡ address ∷ told g (items_of g rest)
+told_comma g item rest address tells = rw (append-nil item, tells) refl
+
+abbrev end : Address
+end = record { kind = GroupEnd; name = []; mailbox = []; host = [] }
+
+told_semicolon : (item rest : List ℕ) (address : Address) → mailbox_in item ≡ address ∷ []
+    → told true (put_before item (cut true false (marked (59 ∷ rest)))) ≡ address ∷ end ∷ told false (items_of false rest)
+told_semicolon item rest address tells = rw (append-nil item, tells) refl
+
+told_colon : (name rest : List ℕ) → told false (put_before name (cut false false (marked (58 ∷ rest)))) ≡ group_start name ∷ told true (items_of true rest)
+told_colon name rest = rw (append-nil name) refl
+
+told_nothing : (rest : List ℕ) → told false (items_of false (44 ∷ rest)) ≡ told false (items_of false rest)
+told_nothing rest = refl
+
+told_empty_group : (rest : List ℕ) → told true (items_of true (59 ∷ rest)) ≡ end ∷ told false (items_of false rest)
+told_empty_group rest = refl
+
+-- the mailboxes of a group, and its end
+in_group : (lead : List Piece) → IsLead lead → (m : WrittenMailbox) (ms : List WrittenMailbox) → IsWritten m → AllWritten ms → (rest : List ℕ)
+    → told true (items_of true (spelled_pieces lead ++ (written_list (m ∷ ms) ++ 59 ∷ rest))) ≡ mailbox_said m ∷ (map mailbox_said ms ++ end ∷ told false (items_of false rest))
+in_group lead l m [] w all rest =
+    let q : ArePieces is_plain (lead ++ m.name) = are_two is_plain lead m.name l.plain w.name in
+    ap (λ (xs : List ℕ). told true (items_of true xs)) (line_is lead m (59 ∷ rest))
+    ∙ ap (told true) (cut_line true (lead ++ m.name) (addressed m) (59 ∷ rest) q (inner_are m w))
+    ∙ told_semicolon (line (lead ++ m.name) (addressed m) []) rest (mailbox_said m) (mailbox_line lead m l w)
+in_group lead l m (n ∷ ms) w all rest =
+    let q : ArePieces is_plain (lead ++ m.name) = are_two is_plain lead m.name l.plain w.name in
+    let behind = 32 ∷ (written_list (n ∷ ms) ++ 59 ∷ rest) in
+    ap (λ (xs : List ℕ). told true (items_of true (spelled_pieces lead ++ xs))) (append_assoc (written m) (44 ∷ 32 ∷ written_list (n ∷ ms)) (59 ∷ rest))
+    ∙ ap (λ (xs : List ℕ). told true (items_of true xs)) (line_is lead m (44 ∷ behind))
+    ∙ ap (told true) (cut_line true (lead ++ m.name) (addressed m) (44 ∷ behind) q (inner_are m w))
+    ∙ told_comma true (line (lead ++ m.name) (addressed m) []) behind (mailbox_said m) (mailbox_line lead m l w)
+    ∙ ap (λ (addresses : List Address). mailbox_said m ∷ addresses) (in_group (Byte 32 ∷ []) space_lead n ms all.0 all.1 rest)
+
+whole_group : (ms : List WrittenMailbox) → AllWritten ms → (rest : List ℕ)
+    → told true (items_of true (written_list ms ++ 59 ∷ rest)) ≡ map mailbox_said ms ++ end ∷ told false (items_of false rest)
+whole_group [] all rest = told_empty_group rest
+whole_group (m ∷ ms) all rest = in_group [] no_lead m ms all.0 all.1 rest
+
+-- a group, and what follows it
+group : (lead : List Piece) → IsLead lead → (name : List Piece) (ms : List WrittenMailbox) → ArePieces is_plain name → AllWritten ms → (rest : List ℕ)
+    → told false (items_of false (spelled_pieces lead ++ (member_bytes (Group name ms) ++ rest))) ≡ member_said (Group name ms) ++ told false (items_of false rest)
+group lead l name ms q all rest =
+    let inside = written_list ms ++ 59 ∷ rest in
+    let front : ArePieces is_plain (lead ++ name) = are_two is_plain lead name l.plain q in
+    let is : spelled_pieces lead ++ (member_bytes (Group name ms) ++ rest) ≡ (spelled_pieces lead ++ spelled_pieces name) ++ 58 ∷ inside = simp append_assoc in
+    let said : name_text (spelled_pieces (lead ++ name)) ≡ name_said name = name_is (lead ++ name) front ∙ l.silent name in
+    let done : map mailbox_said ms ++ end ∷ told false (items_of false rest) ≡ (map mailbox_said ms ++ end ∷ []) ++ told false (items_of false rest) = sym (append_assoc (map mailbox_said ms) (end ∷ []) (told false (items_of false rest))) in
+    ap (λ (xs : List ℕ). told false (items_of false xs)) (is ∙ ap (λ (xs : List ℕ). xs ++ 58 ∷ inside) (sym (spelled_two lead name)))
+    ∙ ap (told false) (cut_front false (lead ++ name) (58 ∷ inside) front)
+    ∙ told_colon (spelled_pieces (lead ++ name)) inside
+    ∙ (λ i. record { kind = GroupStart; name = said i; mailbox = []; host = [] } ∷ (whole_group ms all rest ∙ done) i)
+
+-- members, one after another
+members_back : (lead : List Piece) → IsLead lead → (member : Member) (members : List Member) → IsMember member → AreMembers members
+    → told false (items_of false (spelled_pieces lead ++ member_list (member ∷ members))) ≡ member_said member ++ flat_map member_said members
+members_back lead l (One m) [] w all =
+    let q : ArePieces is_plain (lead ++ m.name) = are_two is_plain lead m.name l.plain w.name in
+    ap (λ (xs : List ℕ). told false (items_of false (spelled_pieces lead ++ xs))) (sym (append-nil (written m)))
+    ∙ ap (λ (xs : List ℕ). told false (items_of false xs)) (line_is lead m [])
+    ∙ ap (told false) (cut_line false (lead ++ m.name) (addressed m) [] q (inner_are m w))
+    ∙ told_last (line (lead ++ m.name) (addressed m) []) (mailbox_said m) (mailbox_line lead m l w)
+members_back lead l (One m) (next ∷ members) w all =
+    let q : ArePieces is_plain (lead ++ m.name) = are_two is_plain lead m.name l.plain w.name in
+    let behind = 32 ∷ member_list (next ∷ members) in
+    ap (λ (xs : List ℕ). told false (items_of false xs)) (line_is lead m (44 ∷ behind))
+    ∙ ap (told false) (cut_line false (lead ++ m.name) (addressed m) (44 ∷ behind) q (inner_are m w))
+    ∙ told_comma false (line (lead ++ m.name) (addressed m) []) behind (mailbox_said m) (mailbox_line lead m l w)
+    ∙ ap (λ (addresses : List Address). mailbox_said m ∷ addresses) (members_back (Byte 32 ∷ []) space_lead next members all.0 all.1)
+members_back lead l (Group name ms) [] w all =
+    ap (λ (xs : List ℕ). told false (items_of false (spelled_pieces lead ++ xs))) (sym (append-nil (member_bytes (Group name ms))))
+    ∙ group lead l name ms w.0 w.1 []
+members_back lead l (Group name ms) (next ∷ members) w all =
+    let behind = 32 ∷ member_list (next ∷ members) in
+    group lead l name ms w.0 w.1 (44 ∷ behind)
+    ∙ ap (λ (addresses : List Address). member_said (Group name ms) ++ addresses) (members_back (Byte 32 ∷ []) space_lead next members all.0 all.1)
+
+pub members_read_back : MembersReadBack
+members_read_back [] all = refl
+members_read_back (member ∷ members) all = members_back [] no_lead member members all.0 all.1

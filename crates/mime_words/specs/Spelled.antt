@@ -1,0 +1,160 @@
+-- Values that are spelled from encoded words and text (RFC 2047, sections 2 to 6), and what they say.
+use Rattle.std.specs.Prelude.{◌≡◌, ◌≢◌, ◌⊎◌, ◌<◌, ℕ, ◌+◌, ◌*◌, Bool, true, false, ◌&&◌, not, ◌==◌, nat_le, nat_lt, List, [], ◌∷◌, ◌++◌, length, replicate, codes, if◌then◌else◌}
+use Rattle.std.specs.List.{flat_map, list_all}
+use Rattle.std.specs.Str.{encode_utf8_all}
+use Rattle.std.specs.Str.Lossy.{utf8_lossy}
+use Rattle.base64.specs.Engines.{standard}
+use Rattle.base64.specs.GeneralPurpose.{encode_of, IsBytes}
+use Rattle.mime_words.specs.declared.charset.Charset.{Charset}
+use Rattle.mime_words.specs.declared.charset.Charset.TheVariants.{Utf8, UsAscii, Latin1}
+use Rattle.mime_words.specs.Decoding.{decoded}
+use Rattle.mime_words.specs.Laws.{HasNoOpening}
+
+-- a part of a text in Q: a byte as it is, an underscore, or `=` and the two hexadecimal digits of a byte
+pub data QuotedPart : Type 0 where
+  Itself : ℕ → QuotedPart
+  Underscore : QuotedPart
+  Digits : (high : ℕ) → (low : ℕ) → QuotedPart
+
+-- printable ASCII but a space, `=`, `?` and `_`
+abbrev pub is_itself : ℕ → Bool
+is_itself b = nat_le 33 b && nat_le b 126 && not (b == 61) && not (b == 63) && not (b == 95)
+
+-- the digit of a number below 16
+abbrev pub hex_digit : ℕ → ℕ
+hex_digit n = if nat_lt n 10 then 48 + n else 55 + n
+
+abbrev pub AreQuoted : List QuotedPart → Type 0
+AreQuoted [] = Unit {0}
+AreQuoted (Itself b ∷ parts) = (is_itself b ≡ true) × AreQuoted parts
+AreQuoted (Underscore ∷ parts) = AreQuoted parts
+AreQuoted (Digits high low ∷ parts) = (high < 16) × (low < 16) × AreQuoted parts
+
+abbrev pub quoted_bytes : List QuotedPart → List ℕ
+quoted_bytes [] = []
+quoted_bytes (Itself b ∷ parts) = b ∷ quoted_bytes parts
+quoted_bytes (Underscore ∷ parts) = 95 ∷ quoted_bytes parts
+quoted_bytes (Digits high low ∷ parts) = 61 ∷ hex_digit high ∷ hex_digit low ∷ quoted_bytes parts
+
+-- what they say: an underscore says a space
+abbrev pub quoted_said : List QuotedPart → List ℕ
+quoted_said [] = []
+quoted_said (Itself b ∷ parts) = b ∷ quoted_said parts
+quoted_said (Underscore ∷ parts) = 32 ∷ quoted_said parts
+quoted_said (Digits high low ∷ parts) = (16 * high + low) ∷ quoted_said parts
+
+-- the text of a word, in Q or in base64
+pub data Coded : Type 0 where
+  InQ : List QuotedPart → Coded
+  InBase64 : List ℕ → Coded
+
+abbrev pub IsCoded : Coded → Type 0
+IsCoded (InQ parts) = AreQuoted parts
+IsCoded (InBase64 bytes) = IsBytes bytes
+
+abbrev pub coded_bytes : Coded → List ℕ
+coded_bytes (InQ parts) = quoted_bytes parts
+coded_bytes (InBase64 bytes) = encode_of standard bytes
+
+abbrev pub coded_said : Coded → List ℕ
+coded_said (InQ parts) = quoted_said parts
+coded_said (InBase64 bytes) = bytes
+
+-- the letter of its encoding, in either case
+abbrev pub IsLetter : Coded → ℕ → Type 0
+IsLetter (InQ parts) letter = (letter ≡ 81) ⊎ (letter ≡ 113)
+IsLetter (InBase64 bytes) letter = (letter ≡ 66) ⊎ (letter ≡ 98)
+
+-- the name of a charset, in small or capital letters
+abbrev pub IsName : Charset → List ℕ → Type 0
+IsName Utf8 name = (name ≡ codes "utf-8") ⊎ (name ≡ codes "UTF-8")
+IsName UsAscii name = (name ≡ codes "us-ascii") ⊎ (name ≡ codes "US-ASCII")
+IsName Latin1 name = (name ≡ codes "iso-8859-1") ⊎ (name ≡ codes "ISO-8859-1")
+
+-- an encoded word, with so many spaces in front of it
+pub record WrittenWord : Type 0 where
+  pub gap : ℕ
+  pub name : List ℕ
+  pub letter : ℕ
+  pub coded : Coded
+
+pub record IsWord (charset : Charset) (word : WrittenWord) : Type 0 where
+  pub name : IsName charset word.name
+  pub letter : IsLetter word.coded word.letter
+  pub coded : IsCoded word.coded
+
+-- `=?NAME?LETTER?TEXT?=`, behind its spaces
+abbrev pub word_bytes : WrittenWord → List ℕ
+word_bytes word = 61 ∷ 63 ∷ (word.name ++ 63 ∷ word.letter ∷ 63 ∷ (coded_bytes word.coded ++ 63 ∷ 61 ∷ []))
+
+abbrev pub spaced_word : WrittenWord → List ℕ
+spaced_word word = replicate word.gap 32 ++ word_bytes word
+
+abbrev pub word_said : WrittenWord → List ℕ
+word_said word = coded_said word.coded
+
+-- a part of a value: text outside of words, or words of one charset
+pub data Run : Type 0 where
+  Plain : List ℕ → Run
+  Words : Charset → WrittenWord → List WrittenWord → Run
+
+abbrev pub run_bytes : Run → List ℕ
+run_bytes (Plain text) = text
+run_bytes (Words charset first more) = spaced_word first ++ flat_map spaced_word more
+
+-- the characters that bytes are in a charset
+abbrev pub read_in : Charset → List ℕ → List ℕ
+read_in Utf8 bytes = utf8_lossy bytes
+read_in UsAscii bytes = utf8_lossy bytes
+read_in Latin1 bytes = encode_utf8_all bytes
+
+-- What a part says: text is read for itself. Of words the bytes of all are joined and then read: the spaces in front of them say nothing.
+abbrev pub run_said : Run → List ℕ
+run_said (Plain text) = utf8_lossy text
+run_said (Words charset first more) = read_in charset (word_said first ++ flat_map word_said more)
+
+-- what stands in front of a part
+pub data Before : Type 0 where
+  Start : Before
+  AfterText : Before
+  AfterWords : Charset → Before
+
+-- only spaces stand in a text
+abbrev pub is_all_spaces : List ℕ → Bool
+is_all_spaces text = list_all (λ b. b == 32) text
+
+-- a text between words isn't spaces alone
+abbrev pub IsNoGap : Before → List ℕ → List Run → Type 0
+IsNoGap Start text later = Unit {0}
+IsNoGap AfterText text later = Unit {0}
+IsNoGap (AfterWords charset) text [] = Unit {0}
+IsNoGap (AfterWords charset) text (next ∷ later) = is_all_spaces text ≡ false
+
+-- no two texts stand side by side
+abbrev pub MayBeText : Before → Type 0
+MayBeText Start = Unit {0}
+MayBeText AfterText = ⊥
+MayBeText (AfterWords charset) = Unit {0}
+
+-- words have spaces in front of them only behind other words, and those have another charset
+abbrev pub MayBeWords : Before → Charset → ℕ → Type 0
+MayBeWords Start charset gap = gap ≡ 0
+MayBeWords AfterText charset gap = gap ≡ 0
+MayBeWords (AfterWords other) charset gap = other ≢ charset
+
+abbrev pub AllWords : Charset → List WrittenWord → Type 0
+AllWords charset [] = Unit {0}
+AllWords charset (word ∷ words) = IsWord charset word × AllWords charset words
+
+-- Parts as they may stand behind another: texts in which no `=?` stands, and words.
+abbrev pub AreRuns : Before → List Run → Type 0
+AreRuns before [] = Unit {0}
+AreRuns before (Plain text ∷ later) =
+    MayBeText before × (0 < length text) × HasNoOpening text × IsNoGap before text later × AreRuns AfterText later
+AreRuns before (Words charset first more ∷ later) =
+    MayBeWords before charset first.gap × IsWord charset first × AllWords charset more × AreRuns (AfterWords charset) later
+
+-- Decoding a value that is so spelled gives what its parts say: underscores are spaces, the spaces between two words go,
+-- neighbours of one charset are joined before they are read, and all other text stays.
+abbrev pub SpelledIsSaid : Type 0
+SpelledIsSaid = (runs : List Run) → AreRuns Start runs → decoded (flat_map run_bytes runs) ≡ flat_map run_said runs
