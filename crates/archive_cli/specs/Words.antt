@@ -83,7 +83,7 @@ pub record EachOnce (settings : List Setting) : Type 0 where
   pub one_mirror : length (mirrors settings) ≤ 1
 
 -- The limit that settings give, or the default: the length in bytes from which an epoch takes no
--- further entry.
+-- further entry, unless it is the last that there may be.
 abbrev pub limit_in : List Setting → ℕ
 limit_in settings = get_or (limits settings) 0 1073741824
 

@@ -37,7 +37,8 @@ pub enum Job {
 /// A setting of an archive, as an option gives it.
 #[derive(Debug, Drop)]
 pub enum Setting {
-    /// `limit=N`: the length in bytes from which an epoch takes no further entry.
+    /// `limit=N`: the length in bytes from which an epoch takes no further entry, unless it is the
+    /// last that there may be.
     Limit(u64),
     /// `slice=N`: the count of numbers in a mailbox.
     Slice(u32),
