@@ -1,7 +1,7 @@
--- What contracts see of a folder.
+-- What contracts see of a disk over a folder.
 use Rattle.std.specs.Prelude.{ℕ}
 
--- how many calls failed, and how many reads there were
+-- The number of failed calls and the number of reads.
 pub record Counted : Type 0 where
   pub faults : ℕ
   pub reads : ℕ

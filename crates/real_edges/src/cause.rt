@@ -1,48 +1,48 @@
-//! Why a call on a folder failed, and how that is said.
+//! The reasons why a call on a folder fails, and their words.
 use crate::names::path_in;
 use disk_model::FileName;
 use std::alloc::{AllocError, AllocFailed, Global};
 use std::io;
 use std::path::Path;
 
-/// The name of the mark in a folder. No file of an archive is spelled so.
+/// The file name of the mark that a failed sync leaves. No file of an archive has this name.
 pub(crate) const MARK: &str = "sync-failed";
 
-/// What the system refused to work on.
+/// The object of a call that the system refused.
 #[derive(Clone, Copy)]
 pub(crate) enum Spot {
-    /// The folder itself.
+    /// The folder.
     Folder,
-    /// The folder above it.
+    /// The folder's parent.
     Above,
-    /// A file in it.
+    /// A file of the archive in the folder.
     File(FileName),
-    /// The mark in it.
+    /// The mark in the folder.
     Mark,
 }
 
-/// Why a call on a folder failed.
+/// The reason why a call on a folder failed.
 #[derive(Clone, Copy)]
 pub(crate) enum Failure {
     /// The system refused a call.
     Refused { spot: Spot, error: io::Error },
-    /// Another run held the folder for longer than this one waits.
+    /// Another run held the lock for longer than this run waits.
     InUse,
-    /// Another run put files into the folder after this one had seen that it was missing.
+    /// Another run put files into the folder after this run had found the folder missing.
     MadeMeanwhile,
-    /// A sync failed earlier, after which none is answered.
+    /// An earlier sync failed. After that, every sync fails.
     SyncFailed,
-    /// There was no memory.
+    /// An allocation failed.
     NoMemory,
 }
 
 impl Failure {
-    /// Returns the failure that an error of the system on a spot is.
+    /// Returns the failure for an error of the system on a spot.
     pub(crate) fn on(spot: Spot, error: io::Error) -> Failure {
         Failure::Refused { spot, error }
     }
 
-    /// Returns the path and the words of the failure, as they are printed behind the program's name.
+    /// Returns the path and the words of the failure, as they are printed after the program's name.
     pub(crate) fn words(&self, alloc: Global, folder: &str) -> Result<String, AllocError> {
         match self {
             Failure::Refused { spot, error } => refused_words(alloc, folder, *spot, error),
@@ -68,7 +68,7 @@ impl<T: Drop> From<AllocFailed<T>> for Failure {
     }
 }
 
-/// Returns the path of a spot, and the system's words behind it.
+/// Returns the path of a spot, followed by the system's words.
 fn refused_words(
     alloc: Global,
     folder: &str,
@@ -96,7 +96,8 @@ pub(crate) fn system_words(alloc: Global, error: &io::Error) -> Result<String, A
     Ok(text)
 }
 
-/// Returns the path of the folder above a folder, or None above the top.
+/// Returns the path of a folder's parent, `.` for a name alone, or `None` if the path has no
+/// parent.
 pub(crate) fn above(folder: &str) -> Option<&str> {
     let above = Path::new(folder).parent()?.as_str();
     Some(if above.is_empty() { "." } else { above })

@@ -1,4 +1,4 @@
-//! A folder of files, of which some are kept open, and which one run at a time uses.
+//! A folder of files that one run at a time uses, before and after it is locked.
 ghost use Rattle.std.specs.Prelude.{◌≤◌, length, IfOk, OnOk};
 ghost use Rattle.real_edges.specs.Homes.{IsSeen, Keeps};
 
@@ -10,14 +10,16 @@ use std::fs;
 use std::io::ErrorKind;
 use std::time::Duration;
 
-/// A folder of files. The first call that needs it opens and locks it, and the lock lasts as long as this value. A missing
-/// folder is made by the first write.
+/// A folder of files.
+///
+/// The first call that needs the folder opens and locks it. The lock lasts as long as this value.
+/// The first write creates a missing folder.
 #[derive(Drop)]
 pub(crate) struct Folder {
     rt: HostRuntime,
     alloc: Global,
     path: String,
-    // How long another run is still waited for.
+    // The longest time to wait for another run.
     wait: Duration,
     home: Home,
 }
@@ -25,17 +27,19 @@ pub(crate) struct Folder {
 /// What is known of the folder.
 #[derive(Drop)]
 enum Home {
-    /// No call needed it so far.
+    /// No call has needed the folder.
     Unseen,
-    /// It was missing, so there was no file.
+    /// The folder was missing, so it had no file.
     Missing,
-    /// It is there, and this run holds its lock.
+    /// The folder exists, and this run holds its lock.
     Held(HeldFolder),
 }
 
 impl Folder {
-    /// Returns the folder of this path, or the current one where that is empty, before its first call. Another run is waited
-    /// for so long at most.
+    /// Creates the value for the folder at a path, without a call of the system.
+    ///
+    /// An empty path stands for the current folder. `wait` is the longest time to wait for another
+    /// run.
     pub(crate) fn new(
         rt: &HostRuntime,
         alloc: Global,
@@ -57,7 +61,7 @@ impl Folder {
         failure.words(self.alloc, self.path.as_str())
     }
 
-    /// Reads the bytes that there are from an offset on into the front of a buffer, and returns how many.
+    /// Reads from an offset into the front of a buffer, and returns the number of bytes read.
     pub(crate) fn read(
         &mut self,
         name: FileName,
@@ -72,7 +76,7 @@ impl Folder {
         }
     }
 
-    /// Returns a file's length in bytes, 0 of a missing file.
+    /// Returns a file's length in bytes, which is 0 for a missing file.
     pub(crate) fn length(&mut self, name: FileName) -> Result<u64, Failure> {
         match self.held()? {
             Some(held) => held.length(name),
@@ -80,7 +84,7 @@ impl Folder {
         }
     }
 
-    /// Writes bytes from an offset on. A missing file is made, and so is the folder.
+    /// Writes bytes at an offset. Creates a missing file and a missing folder.
     pub(crate) fn write(
         &mut self,
         name: FileName,
@@ -102,7 +106,7 @@ impl Folder {
         }
     }
 
-    /// Removes a file, where it is there.
+    /// Removes a file. A missing file stays missing.
     pub(crate) fn remove(&mut self, name: FileName) -> Result<(), Failure> {
         match self.held()? {
             Some(held) => held.remove(name),
@@ -110,7 +114,7 @@ impl Folder {
         }
     }
 
-    /// Returns the name at an index, from 0, among those of its files, in order.
+    /// Returns the name at an index, from 0, in the order of names.
     pub(crate) fn name_at(&mut self, index: u64) -> Result<Option<FileName>, Failure> {
         match self.held()? {
             Some(held) => held.name_at(index),
@@ -118,7 +122,7 @@ impl Folder {
         }
     }
 
-    /// Brings all that changed to the disk.
+    /// Syncs every changed file and the folder.
     pub(crate) fn sync(&mut self) -> Result<(), Failure> {
         match self.held()? {
             Some(held) => held.sync(),
@@ -126,7 +130,7 @@ impl Folder {
         }
     }
 
-    /// Returns the folder with its lock, which the first call takes, or None where there was no folder.
+    /// Returns the locked folder, or `None` if there was no folder. The first call takes the lock.
     fn held(&mut self) -> Result<Option<&mut HeldFolder>, Failure> {
         self.find()?;
         match &mut self.home {
@@ -136,7 +140,8 @@ impl Folder {
         }
     }
 
-    /// Looks whether the folder is there, and takes its lock, where no earlier call did so.
+    /// Opens the folder and takes its lock, unless an earlier call found the folder or found it
+    /// missing.
     fn find(&mut self) -> Result<(), Failure>
         ensures seen { OnOk result (IsSeen self.new.home) }
         ensures keeps { Keeps self.old.home self.new.home }
@@ -150,8 +155,9 @@ impl Folder {
         Ok(())
     }
 
-    /// Opens the folder and takes its lock. Returns None where it is missing. Another run that was waited for in vain isn't
-    /// waited for a second time.
+    /// Opens the folder and takes its lock, or returns `None` if the folder is missing.
+    ///
+    /// After one wait that ended with `InUse`, later calls don't wait.
     fn take(&mut self) -> Result<Option<HeldFolder>, Failure> {
         let taken = HeldFolder::take(&self.rt, self.alloc, self.path.as_str(), self.wait);
         if let Err(Failure::InUse) = taken {
@@ -160,7 +166,7 @@ impl Folder {
         taken
     }
 
-    /// Makes the folder, where it was missing, and takes its lock.
+    /// Creates the folder if it was missing, and takes its lock.
     fn find_or_make(&mut self) -> Result<(), Failure> {
         self.find()?;
         if let Home::Missing = self.home {
@@ -169,9 +175,11 @@ impl Folder {
         Ok(())
     }
 
-    /// Makes the folder that was missing, and takes its lock. Answers were given as if it had no file: where another run
-    /// has put files into it meanwhile, this is refused. Its name is brought to the disk before any file is made in it;
-    /// where that can't be done, a folder that was made here is removed again.
+    /// Creates the missing folder, and takes its lock.
+    ///
+    /// Earlier calls answered as if the folder had no file. `MadeMeanwhile` if another run has put
+    /// files into it since. The parent is synced before any file is created in the folder. If that
+    /// fails, a folder that this call created is removed again.
     fn make(&mut self) -> Result<(), Failure> {
         let made = self.create()?;
         let Some(mut held) = self.take()? else {
@@ -188,7 +196,7 @@ impl Folder {
         named
     }
 
-    /// Makes the folder, and says whether it did: it may be there already.
+    /// Creates the folder, and returns whether it did. `false` if the folder already exists.
     fn create(&self) -> Result<bool, Failure> {
         match fs::create_dir(&self.rt, self.path.as_str()) {
             Ok(()) => Ok(true),
@@ -198,7 +206,7 @@ impl Folder {
     }
 }
 
-/// Returns the failure of a folder that isn't there.
+/// Returns the failure for a folder that doesn't exist.
 fn missing() -> Failure {
     Failure::on(Spot::Folder, ErrorKind::NotFound.into())
 }

@@ -1,4 +1,4 @@
-//! A disk over a folder.
+//! A disk over a folder of the system.
 ghost use Rattle.std.specs.Prelude.{◌≡◌, ◌≤◌, None, IfOk};
 ghost use Rattle.arch_base.specs.Counts.{Rose};
 ghost use Rattle.disk_model.specs.Laws.{untold_fits};
@@ -12,22 +12,24 @@ use std::alloc::Global;
 use std::marker::Model;
 use std::time::Duration;
 
-/// How many seconds another run that uses the folder is waited for.
+/// The number of seconds to wait for another run that uses the folder.
 const WAIT_SECONDS: u64 = 10;
 
-/// A disk over a folder of the system, which doesn't tell what it holds. The first call that needs the folder takes its
-/// lock, and holds it as long as this disk is there: so another run can't use it. Where another one does, the lock is asked
-/// for again for ten seconds, and then the call is a fault that changed nothing.
+/// A disk over a folder of the system. It doesn't tell its content.
+///
+/// The first call that needs the folder takes its lock, and the disk holds the lock until it is
+/// dropped, so no other run can use the folder. While another run holds the lock, the disk asks for
+/// it again for ten seconds. After that the call is a fault that changed nothing.
 #[derive(Drop)]
 pub struct FolderDisk {
     folder: Folder,
     faults: u64,
     reads: u64,
-    // Why the first call that failed did so.
+    // The reason of the first call that failed.
     cause: Option<Failure>,
 }
 
-// A clause sees the two counts.
+// Contracts see the two counts.
 impl Model for FolderDisk {
     ghost use Rattle.real_edges.specs.Counted.{Counted};
 
@@ -37,14 +39,16 @@ impl Model for FolderDisk {
 }
 
 impl FolderDisk {
-    /// Returns the disk over the folder of this path, before its first call. The first write makes the folder.
+    /// Creates the disk over the folder at a path, before its first call. The first write creates a
+    /// missing folder.
     pub fn open(rt: &HostRuntime, alloc: Global, path: &str) -> Result<FolderDisk, NoMemory>
         ensures { IfOk result (λ disk. disk ≡ record { faults = 0; reads = 0 }) }
     {
         FolderDisk::open_within(rt, alloc, path, Duration::from_secs(WAIT_SECONDS))
     }
 
-    /// Returns the disk over the folder of this path, which waits so long at most for another run.
+    /// Creates the disk over the folder at a path. `wait` is the longest time to wait for another
+    /// run.
     pub(crate) fn open_within(
         rt: &HostRuntime,
         alloc: Global,
@@ -62,8 +66,9 @@ impl FolderDisk {
         })
     }
 
-    /// Returns why the first call that failed did so, or None where none has: a path and the system's words, as
-    /// `piv2-store/root: Permission denied`.
+    /// Returns the reason of the first call that failed, or `None` if no call has failed.
+    ///
+    /// The reason is a path and the system's words, as in `piv2-store/root: Permission denied`.
     pub fn cause(&self) -> Result<Option<String>, NoMemory> {
         match &self.cause {
             Some(failure) => Ok(Some(self.folder.words(failure)?)),
@@ -71,7 +76,7 @@ impl FolderDisk {
         }
     }
 
-    /// Counts a fault, and keeps why it came if it is the first one.
+    /// Counts a fault. Keeps its reason if it is the first.
     fn fault(&mut self, failure: Failure) -> DiskFault
         ensures rose { Rose self.old.faults self.new.faults }
         ensures later { self.old.faults ≤ self.new.faults }

@@ -6,16 +6,20 @@ use std::os::unix::fs::MetadataExt;
 use std::thread;
 use std::time::{Duration, Instant};
 
-/// How many milliseconds a run waits before it asks for the lock again.
+/// The number of milliseconds between two attempts to take the lock.
 const PAUSE: u64 = 5;
 
-/// How often the lock is asked for at most: with the pauses, for longer than any run waits.
+/// The largest number of attempts. With the pauses between them they last longer than any run
+/// waits.
 const TURNS: u32 = 4_000;
 
-/// Opens a folder and takes its lock, which lasts as long as the file that this returns. Returns None
-/// where there is no folder.
-/// The lock is the system's own advisory one, on the folder itself, so that it leaves nothing in it, and ends with the
-/// run however that ends. While another run has it, it is asked for again, until the time to wait is over.
+/// Opens a folder and takes its lock. The lock lasts as long as the returned file.
+///
+/// `None` if the folder is missing. `InUse` if another run held the lock until the time to wait was
+/// over.
+///
+/// The lock is the system's own advisory lock on the folder itself. It leaves nothing in the
+/// folder, and ends with the run however the run ends.
 pub(crate) fn lock_folder(
     rt: &HostRuntime,
     path: &str,
@@ -29,7 +33,7 @@ pub(crate) fn lock_folder(
     }
 }
 
-/// Opens a folder and takes its lock, or None where it wasn't to be had in the time.
+/// Opens a folder and takes its lock, or returns `None` if the time to wait is over.
 fn wait_for(rt: &HostRuntime, path: &str, wait: Duration) -> io::Result<Option<File>> {
     let pause = Duration::from_millis(PAUSE);
     let began = Instant::now(rt)?;
@@ -45,8 +49,10 @@ fn wait_for(rt: &HostRuntime, path: &str, wait: Duration) -> io::Result<Option<F
     Ok(None)
 }
 
-/// Opens a folder and takes its lock, or None where another run has it. None, too, where the folder that was opened no
-/// more stands at the path: another run may have removed it, and made it anew.
+/// Opens a folder and takes its lock, or returns `None` if another run holds it.
+///
+/// Also `None` if the opened folder is no longer the one at the path: another run may have removed
+/// the folder and created it anew.
 fn try_once(rt: &HostRuntime, path: &str) -> io::Result<Option<File>> {
     if !fs::metadata(rt, path)?.is_dir() {
         return Err(ErrorKind::NotADirectory.into());
@@ -64,7 +70,7 @@ fn try_once(rt: &HostRuntime, path: &str) -> io::Result<Option<File>> {
     }
 }
 
-/// Says whether a folder that is open is the one at a path.
+/// Returns whether an open folder is the one at a path.
 fn stands_at(rt: &HostRuntime, path: &str, folder: &File) -> io::Result<bool> {
     let held = folder.metadata()?;
     let found = fs::metadata(rt, path)?;

@@ -1,4 +1,4 @@
-//! A folder whose lock this run holds.
+//! A folder whose lock this run holds, and its open files.
 ghost use Rattle.std.specs.Prelude.{◌≤◌, length, IfOk};
 
 use crate::cause::{Failure, MARK, Spot, above};
@@ -14,11 +14,13 @@ use std::fs::{File, OpenOptions};
 use std::io::{self, ErrorKind};
 use std::time::Duration;
 
-/// How many files are kept open at most.
+/// The largest number of files kept open.
 const MAX_OPEN: usize = 80;
 
-/// A folder whose lock this run holds, until this value ends. Its files are opened, listed, written, removed and synced
-/// here alone, so none is while another run has the lock.
+/// A folder whose lock this run holds as long as this value lasts.
+///
+/// The folder's files are opened, listed, written, removed and synced only within that time, so
+/// never while another run holds the lock.
 #[derive(Drop)]
 pub(crate) struct HeldFolder {
     rt: HostRuntime,
@@ -27,12 +29,12 @@ pub(crate) struct HeldFolder {
     // The folder itself, open and locked.
     folder: File,
     open_files: BTreeMap<FileName, OpenFile>,
-    // Whether files of an archive stood in it when it was locked. The run that put the first one there had brought the
-    // folder's own name to the disk.
+    // Whether the folder had files of an archive when it was locked. The run that put the first one
+    // there had synced the folder's parent before.
     has_files: bool,
-    // Whether the folder above was synced by this run, behind the making of this one.
+    // Whether this run has synced the parent, after the folder was created.
     above_synced: bool,
-    // Whether all names in it are on the disk.
+    // Whether all names in the folder are on the disk.
     settled: bool,
     // Whether a sync failed.
     failed: bool,
@@ -48,8 +50,10 @@ struct Listing {
 }
 
 impl HeldFolder {
-    /// Opens a folder and takes its lock, for which it waits so long at most. Returns None where there is no folder. Where an
-    /// earlier run left the mark of a failed sync, all files are brought to the disk anew before any of them is opened.
+    /// Opens a folder and takes its lock, or returns `None` if the folder is missing.
+    ///
+    /// `wait` is the longest time to wait for the lock. If an earlier run left the mark of a failed
+    /// sync, every file is written again and synced before any of them is opened.
     pub(crate) fn take(
         rt: &HostRuntime,
         alloc: Global,
@@ -76,12 +80,12 @@ impl HeldFolder {
         }))
     }
 
-    /// Says whether files of an archive stood in the folder when it was locked.
+    /// Returns whether the folder had files of an archive when it was locked.
     pub(crate) fn has_files(&self) -> bool {
         self.has_files
     }
 
-    /// Reads the bytes that there are from an offset on into the front of a buffer, and returns how many.
+    /// Reads from an offset into the front of a buffer, and returns the number of bytes read.
     pub(crate) fn read(
         &mut self,
         name: FileName,
@@ -100,7 +104,7 @@ impl HeldFolder {
         }
     }
 
-    /// Returns a file's length in bytes, 0 of a missing file.
+    /// Returns a file's length in bytes, which is 0 for a missing file.
     pub(crate) fn length(&mut self, name: FileName) -> Result<u64, Failure> {
         self.open(name, false)?;
         let Some(file) = self.open_files.get(&name) else {
@@ -112,7 +116,8 @@ impl HeldFolder {
         }
     }
 
-    /// Writes bytes from an offset on. A missing file is made, once the folder's own name is on the disk.
+    /// Writes bytes at an offset. Creates a missing file, once the folder's own name is on the
+    /// disk.
     pub(crate) fn write(
         &mut self,
         name: FileName,
@@ -142,7 +147,7 @@ impl HeldFolder {
         }
     }
 
-    /// Removes a file, where it is there.
+    /// Removes a file. A missing file stays missing.
     pub(crate) fn remove(&mut self, name: FileName) -> Result<(), Failure> {
         let path = path_in(self.alloc, self.path.as_str(), name)?;
         self.settled = false;
@@ -155,15 +160,18 @@ impl HeldFolder {
         Ok(())
     }
 
-    /// Returns the name at an index, from 0, among those of its files, in order.
+    /// Returns the name at an index, from 0, in the order of names.
     pub(crate) fn name_at(&self, index: u64) -> Result<Option<FileName>, Failure> {
         let listing = list(&self.rt, self.alloc, self.path.as_str())?;
         Ok(listing.names.iter().nth(index as usize).copied())
     }
 
-    /// Brings all files that changed to the disk, then the folder, if a name may have been made or removed, and once the
-    /// folder above. After a sync of one of these failed this always fails: the system may have dropped what it couldn't
-    /// write, and answer Ok to a second try. What can't be opened is asked for again at the next call.
+    /// Syncs every changed file, then the folder if a name may have been created or removed, and
+    /// once the folder's parent.
+    ///
+    /// After a sync has failed, here or in another call, this always fails: the system may have
+    /// dropped what it couldn't write, and return `Ok` at a second attempt. A failure to open the
+    /// parent is not a failed sync: the next call tries again.
     pub(crate) fn sync(&mut self) -> Result<(), Failure> {
         if self.failed {
             return Err(Failure::SyncFailed);
@@ -182,7 +190,7 @@ impl HeldFolder {
         self.sync_above()
     }
 
-    /// Brings the folder's own name to the disk, where that isn't known to be there.
+    /// Syncs the folder's parent, unless the folder's own name is known to be on the disk.
     pub(crate) fn keep_name(&mut self) -> Result<(), Failure> {
         if self.is_named() {
             return Ok(());
@@ -190,13 +198,15 @@ impl HeldFolder {
         self.sync_above()
     }
 
-    /// Says whether the folder's own name is known to be on the disk.
+    /// Returns whether the folder's own name is known to be on the disk.
     fn is_named(&self) -> bool {
         self.has_files || self.above_synced
     }
 
-    /// Brings the folder above to the disk, once. One that may not be read is passed over, where the folder's own name
-    /// is known to be on the disk.
+    /// Syncs the folder's parent, once.
+    ///
+    /// Skips a parent that this run may not read if the folder's own name is known to be on the
+    /// disk.
     fn sync_above(&mut self) -> Result<(), Failure> {
         if self.above_synced {
             return Ok(());
@@ -215,7 +225,7 @@ impl HeldFolder {
         }
     }
 
-    /// Brings the folder above, which was opened, to the disk.
+    /// Syncs the folder's parent, which is open.
     fn sync_opened(&mut self, above: &File) -> Result<(), Failure> {
         if let Err(refused) = above.sync_all() {
             self.fail();
@@ -225,8 +235,9 @@ impl HeldFolder {
         Ok(())
     }
 
-    /// Remembers that a sync failed, and leaves the mark of that for later runs, where it can be left. A folder whose
-    /// own name isn't known to be on the disk has no file yet that the mark could speak of.
+    /// Records that a sync failed, and leaves the mark for later runs if it can.
+    ///
+    /// A folder whose own name isn't known to be on the disk gets no mark: it has no file yet.
     fn fail(&mut self) {
         self.failed = true;
         if self.is_named() {
@@ -234,7 +245,8 @@ impl HeldFolder {
         }
     }
 
-    /// Opens a file that isn't open, where it is there or is to be made.
+    /// Opens a file unless it is open. A missing file is created if `make` is set, and otherwise
+    /// stays missing.
     fn open(&mut self, name: FileName, make: bool) -> Result<(), Failure> {
         if self.open_files.contains_key(&name) {
             return Ok(());
@@ -252,7 +264,7 @@ impl HeldFolder {
         }
     }
 
-    /// Keeps a file open, and closes another one where there are too many.
+    /// Keeps a file open, and closes another one first if too many are open.
     fn keep(&mut self, name: FileName, file: File) -> Result<(), Failure> {
         if self.open_files.len() >= MAX_OPEN {
             if let Err(failure) = close_last(&mut self.open_files) {
@@ -273,7 +285,7 @@ impl HeldFolder {
     }
 }
 
-/// Closes the last of the open files in the order of names, after it was brought to the disk.
+/// Syncs and closes the last of the open files, in the order of names.
 fn close_last(files: &mut BTreeMap<FileName, OpenFile>) -> Result<(), Failure> {
     let Some(mut last) = files.last_entry() else {
         return Ok(());
@@ -285,7 +297,7 @@ fn close_last(files: &mut BTreeMap<FileName, OpenFile>) -> Result<(), Failure> {
     Ok(())
 }
 
-/// Brings all files that changed to the disk.
+/// Syncs every changed file.
 fn sync_all(files: &mut BTreeMap<FileName, OpenFile>) -> Result<(), Failure> {
     for (name, file) in files.iter_mut() {
         if let Err(refused) = file.sync() {
@@ -295,7 +307,7 @@ fn sync_all(files: &mut BTreeMap<FileName, OpenFile>) -> Result<(), Failure> {
     Ok(())
 }
 
-/// Lists a folder.
+/// Returns what a folder holds. An error names the folder.
 fn list(rt: &HostRuntime, alloc: Global, path: &str) -> Result<Listing, Failure> {
     match read_names(rt, alloc, path) {
         Ok(listing) => Ok(listing),
@@ -303,7 +315,7 @@ fn list(rt: &HostRuntime, alloc: Global, path: &str) -> Result<Listing, Failure>
     }
 }
 
-/// Lists a folder. Names that aren't spelled as those of files are passed over.
+/// Returns what a folder holds. Skips names that aren't spelled as those of files of an archive.
 fn read_names(rt: &HostRuntime, alloc: Global, path: &str) -> io::Result<Listing> {
     let mut names = BTreeSet::new(alloc);
     let mut marked = false;
@@ -315,7 +327,7 @@ fn read_names(rt: &HostRuntime, alloc: Global, path: &str) -> io::Result<Listing
                 }
                 None => marked = marked || entry.file_name() == MARK,
             },
-            // A name that isn't UTF-8 is none of a file here.
+            // Skips names that aren't UTF-8: they aren't ours.
             Err(refused) if refused.kind() == ErrorKind::InvalidFilename => {}
             Err(refused) => return Err(refused),
         }

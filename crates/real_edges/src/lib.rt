@@ -1,5 +1,5 @@
-//! The edge to the system: a disk over a folder, the standard input and output, and the system's clock. What these hold
-//! isn't known to any contract; their failures are counted.
+//! The edge to the system: a disk over a folder, the standard input and output, and the system's
+//! clock. Contracts don't know what these hold. Their faults are counted.
 #![tactic(auto)]
 
 mod cause;

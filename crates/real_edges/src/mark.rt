@@ -10,10 +10,10 @@ use std::fs::{self, File, OpenOptions};
 use std::io;
 use std::os::unix::fs::FileExt;
 
-/// How many bytes are written again at once.
+/// The number of bytes that are written again at once.
 const PIECE: u64 = 65_536;
 
-/// Leaves the mark in a folder that is held, on the disk where that can be.
+/// Creates the mark in a locked folder, and syncs the mark and the folder.
 pub(crate) fn leave_mark(
     rt: &HostRuntime,
     alloc: Global,
@@ -25,9 +25,10 @@ pub(crate) fn leave_mark(
     folder.sync_all()
 }
 
-/// Brings all files of a folder that is held to the disk, though a sync of an earlier run failed, and then takes the
-/// mark of that away. After such a failure the system may take what it couldn't write for written, and answer Ok to the
-/// next sync: so all bytes are written again first. Where this fails, the mark stays.
+/// Writes every file of a locked folder again, syncs it, and then removes the mark.
+///
+/// After a sync failed, the system may take what it couldn't write as written, and return `Ok` at
+/// the next sync. So all bytes are written again first. On an error the mark stays.
 pub(crate) fn write_again(
     rt: &HostRuntime,
     alloc: Global,
@@ -40,21 +41,21 @@ pub(crate) fn write_again(
         return Err(Failure::on(Spot::Folder, refused));
     }
     if let Err(refused) = remove_mark(rt, alloc, path, folder) {
-        // Its removal may not have reached the disk, or has been undone there.
+        // The removal may not have reached the disk, or may have been undone there.
         let _ = leave_mark(rt, alloc, path, folder);
         return Err(Failure::on(Spot::Mark, refused));
     }
     Ok(())
 }
 
-/// Removes the mark, on the disk too.
+/// Removes the mark, and syncs the folder.
 fn remove_mark(rt: &HostRuntime, alloc: Global, path: &str, folder: &File) -> io::Result<()> {
     let mark = format!(in alloc; "{path}/{MARK}")?;
     fs::remove_file(rt, mark.as_str())?;
     folder.sync_all()
 }
 
-/// Writes all bytes of these files again, and brings each file to the disk.
+/// Writes all bytes of these files again, and syncs each file.
 fn write_files(
     rt: &HostRuntime,
     alloc: Global,
@@ -70,7 +71,7 @@ fn write_files(
     Ok(())
 }
 
-/// Writes all bytes of a file again, each where it stands, and brings it to the disk.
+/// Writes all bytes of a file again, each at its offset, and syncs the file.
 fn write_file(rt: &HostRuntime, alloc: Global, path: &str) -> io::Result<()> {
     let mut buffer = new_buffer(alloc)?;
     let file = OpenOptions::new().read(true).write(true).open(rt, path)?;
@@ -83,7 +84,7 @@ fn write_file(rt: &HostRuntime, alloc: Global, path: &str) -> io::Result<()> {
     file.sync_all()
 }
 
-/// Writes the bytes of a file of this length that stand from an offset on again, as many as a buffer has room for.
+/// Writes the bytes of a file of this length from an offset again, as many as the buffer holds.
 fn write_piece(file: &File, length: u64, offset: u64, buffer: &mut [u8]) -> io::Result<()> {
     let count = length.saturating_sub(offset).min(buffer.len() as u64) as usize;
     let piece = &mut buffer[..count];

@@ -1,10 +1,12 @@
-//! How the names of files are spelled in a folder.
+//! The spelling of file names in a folder.
 use arch_base::read_decimal;
 use disk_model::{FileKind, FileName};
 use std::alloc::{AllocError, Global};
 
-/// The path of a file in a folder. Its last part shows kind, number and generation: `root`, `map.GEN`, `epoch-N.GEN` and
-/// `cache.GEN`, for the number 0 of a map or a cache and for that of a root with the generation 0; else `KIND-N.GEN`.
+/// Returns the path of a file in a folder.
+///
+/// The last part is `root` for the root of number 0 and generation 0, `map.GEN` and `cache.GEN` for
+/// a map and a cache of number 0, and `KIND-N.GEN` for every other file, as `epoch-N.GEN`.
 pub(crate) fn path_in(alloc: Global, folder: &str, name: FileName) -> Result<String, AllocError> {
     let word = word_of(name.kind);
     let FileName { number, gen_, .. } = name;
@@ -16,7 +18,7 @@ pub(crate) fn path_in(alloc: Global, folder: &str, name: FileName) -> Result<Str
     }
 }
 
-/// The word of a kind.
+/// Returns the word of a kind.
 fn word_of(kind: FileKind) -> &'static str {
     match kind {
         FileKind::Root => "root",
@@ -26,7 +28,7 @@ fn word_of(kind: FileKind) -> &'static str {
     }
 }
 
-/// The name that the last part of a path spells, or None where it spells none.
+/// Returns the name that the last part of a path spells, or `None` if it spells none.
 pub(crate) fn name_of(text: &str) -> Option<FileName> {
     if text == "root" {
         return Some(FileName {
@@ -52,7 +54,8 @@ pub(crate) fn name_of(text: &str) -> Option<FileName> {
     }
 }
 
-/// The name that a word with a number spells, with a generation.
+/// Returns the name that a word with a number spells, with a generation, or `None` if it spells
+/// none.
 fn numbered(front: &str, gen_: u64) -> Option<FileName> {
     let (word, number) = front.split_once('-')?;
     let number = read_decimal(number.as_bytes())?;

@@ -1,11 +1,11 @@
-//! A file that is open.
+//! An open file that knows whether it has to be synced.
 ghost use Rattle.std.specs.Prelude.{◌≤◌, length, IfOk};
 
 use std::fs::File;
 use std::io;
 use std::os::unix::fs::FileExt;
 
-/// An open file, and whether it changed since it was last brought to the disk.
+/// An open file, and whether it has changed since its last sync.
 #[derive(Drop)]
 pub(crate) struct OpenFile {
     file: File,
@@ -13,8 +13,10 @@ pub(crate) struct OpenFile {
 }
 
 impl OpenFile {
-    /// A file that was just opened. It is brought to the disk: an earlier run may have ended before it did so, and what is
-    /// read is to be what a crash leaves.
+    /// Syncs a file that was just opened, and returns it.
+    ///
+    /// An earlier run may have ended before it synced the file. What is read has to be what a crash
+    /// leaves.
     pub(crate) fn settled(file: File) -> io::Result<OpenFile> {
         file.sync_all()?;
         Ok(OpenFile {
@@ -23,13 +25,14 @@ impl OpenFile {
         })
     }
 
-    /// Its length in bytes.
+    /// Returns the file's length in bytes.
     pub(crate) fn length(&self) -> io::Result<u64> {
         Ok(self.file.metadata()?.len())
     }
 
-    /// Reads the bytes that there are from a place on into the front of a buffer, all that it has room for, and answers how
-    /// many.
+    /// Reads from an offset into the front of a buffer, and returns the number of bytes read.
+    ///
+    /// Fills the buffer, or reads fewer bytes at the file's end.
     pub(crate) fn read(&self, place: u64, into: &mut [u8]) -> io::Result<usize>
         ensures { IfOk result (λ count. count ≤ length into.new) }
     {
@@ -39,19 +42,19 @@ impl OpenFile {
         Ok(count)
     }
 
-    /// Writes all bytes from a place on.
+    /// Writes all bytes at an offset.
     pub(crate) fn write(&mut self, place: u64, bytes: &[u8]) -> io::Result<()> {
         self.changed = true;
         self.file.write_all_at(bytes, place)
     }
 
-    /// Cuts it to a length.
+    /// Cuts the file to a length.
     pub(crate) fn cut(&mut self, length: u64) -> io::Result<()> {
         self.changed = true;
         self.file.set_len(length)
     }
 
-    /// Brings it to the disk, if it changed. After a failure it still counts as changed.
+    /// Syncs the file if it has changed. After a failure it still counts as changed.
     pub(crate) fn sync(&mut self) -> io::Result<()> {
         if self.changed {
             self.file.sync_all()?;

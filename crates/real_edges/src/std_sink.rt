@@ -1,4 +1,4 @@
-//! The standard output.
+//! The standard output as a sink.
 ghost use Rattle.std.specs.Prelude.{◌≡◌, None, IfOk};
 
 use crate::cause::system_words;
@@ -8,16 +8,16 @@ use std::alloc::Global;
 use std::io::{self, Print};
 use std::marker::Model;
 
-/// The standard output, which doesn't tell what it took.
+/// The standard output. It doesn't tell what it took.
 #[derive(Drop)]
 pub struct StdSink<P> {
     printer: P,
     faults: u64,
-    // Why the first write that failed did so.
+    // The error of the first write that failed.
     cause: Option<io::Error>,
 }
 
-// A clause sees how many writes failed.
+// Contracts see the number of writes that failed.
 impl<P> Model for StdSink<P> {
     ghost use Rattle.std.specs.Prelude.{ℕ};
 
@@ -27,7 +27,7 @@ impl<P> Model for StdSink<P> {
 }
 
 impl<P: Print> StdSink<P> {
-    /// The standard output of a runtime, of which no write has failed.
+    /// Creates the sink for the standard output of a runtime. No write has failed yet.
     pub fn new(rt: P, _alloc: Global) -> Result<Self, NoMemory>
         ensures { IfOk result (λ sink. sink ≡ 0) }
     {
@@ -40,7 +40,8 @@ impl<P: Print> StdSink<P> {
 }
 
 impl<P> StdSink<P> {
-    /// Returns why the first write that failed did so, in the system's words, or None where none has.
+    /// Returns the system's words for the first write that failed, or `None` if no write has
+    /// failed.
     pub fn cause(&self, alloc: Global) -> Result<Option<String>, NoMemory> {
         match &self.cause {
             Some(error) => Ok(Some(system_words(alloc, error)?)),

@@ -1,4 +1,4 @@
-//! The standard input.
+//! The standard input as a source.
 ghost use Rattle.std.specs.Prelude.{◌≡◌, None, IfOk};
 
 use crate::cause::system_words;
@@ -8,16 +8,16 @@ use std::alloc::Global;
 use std::io::{self, Input, Read, StdinLock};
 use std::marker::Model;
 
-/// The standard input, which doesn't tell what it has left.
+/// The standard input. It doesn't tell what it has left.
 #[derive(Drop)]
 pub struct StdSource<R = StdinLock<'static>> {
     reader: R,
     faults: u64,
-    // Why the first read that failed did so.
+    // The error of the first read that failed.
     cause: Option<io::Error>,
 }
 
-// A clause sees how many reads failed.
+// Contracts see the number of reads that failed.
 impl<R> Model for StdSource<R> {
     ghost use Rattle.std.specs.Prelude.{ℕ};
 
@@ -27,7 +27,7 @@ impl<R> Model for StdSource<R> {
 }
 
 impl<R: Read> StdSource<R> {
-    /// The standard input of a runtime, of which no read has failed.
+    /// Creates the source for the standard input of a runtime. No read has failed yet.
     pub fn new(rt: &impl Input<Reader = R>, _alloc: Global) -> Result<Self, NoMemory>
         ensures { IfOk result (λ source. source ≡ 0) }
     {
@@ -40,7 +40,7 @@ impl<R: Read> StdSource<R> {
 }
 
 impl<R> StdSource<R> {
-    /// Returns why the first read that failed did so, in the system's words, or None where none has.
+    /// Returns the system's words for the first read that failed, or `None` if no read has failed.
     pub fn cause(&self, alloc: Global) -> Result<Option<String>, NoMemory> {
         match &self.cause {
             Some(error) => Ok(Some(system_words(alloc, error)?)),

@@ -1,4 +1,4 @@
-//! The system's clock.
+//! The system's clock as a clock of moments.
 ghost use Rattle.std.specs.Prelude.{◌≡◌, None, IfOk};
 ghost use Rattle.edge_io.specs.Events.{IsMoment};
 
@@ -10,19 +10,19 @@ use std::io::{self, ErrorKind};
 use std::marker::Model;
 use std::time::{Clock, SystemTime, UNIX_EPOCH};
 
-/// The end of the year 9999, in seconds since 1970 UTC.
+/// The last second of the year 9999, in seconds since 1970 UTC.
 const LAST_MOMENT: u64 = 253_402_300_799;
 
-/// The system's clock, which doesn't tell what moments are to come.
+/// The system's clock. It doesn't tell which moments are to come.
 #[derive(Drop)]
 pub struct SystemClock<C> {
     clock: C,
     faults: u64,
-    // Why the first call that failed did so.
+    // The error of the first call that failed.
     cause: Option<io::Error>,
 }
 
-// A clause sees how many calls failed.
+// Contracts see the number of calls that failed.
 impl<C> Model for SystemClock<C> {
     ghost use Rattle.std.specs.Prelude.{ℕ};
 
@@ -32,7 +32,7 @@ impl<C> Model for SystemClock<C> {
 }
 
 impl<C: Clock> SystemClock<C> {
-    /// The clock of a runtime, of which no call has failed.
+    /// Creates the clock over that of a runtime. No call has failed yet.
     pub fn new(rt: C, _alloc: Global) -> Result<Self, NoMemory>
         ensures { IfOk result (λ clock. clock ≡ 0) }
     {
@@ -45,7 +45,7 @@ impl<C: Clock> SystemClock<C> {
 }
 
 impl<C> SystemClock<C> {
-    /// Returns why the first call that failed did so, in words, or None where none has.
+    /// Returns the words for the first call that failed, or `None` if no call has failed.
     pub fn cause(&self, alloc: Global) -> Result<Option<String>, NoMemory> {
         match &self.cause {
             Some(error) => Ok(Some(system_words(alloc, error)?)),
@@ -71,7 +71,7 @@ impl<C: Clock> edge_io::Clock for SystemClock<C> {
     }
 }
 
-/// Returns the moment of a time, or an error where the time couldn't be read or is no moment.
+/// Returns the moment of a time, or an error if the time couldn't be read or is no moment.
 fn moment_of(time: io::Result<SystemTime>) -> io::Result<u64>
     ensures { IfOk result IsMoment }
 {
@@ -85,7 +85,7 @@ fn moment_of(time: io::Result<SystemTime>) -> io::Result<u64>
     Ok(moment)
 }
 
-/// Returns the error of a time that is no moment.
+/// Returns the error for a time that is no moment.
 fn no_moment() -> io::Error {
     io::Error::new(
         ErrorKind::InvalidData,

@@ -1,4 +1,4 @@
-//! The edges on real folders, and on readers, printers and clocks that fail.
+//! Tests of the edges on real folders, and on readers, printers and clocks that fail.
 ghost use Rattle.std.specs.Prelude.{◌≤◌, length};
 
 use crate::names::{name_of, path_in};
@@ -28,7 +28,8 @@ fn epoch(number: u32, gen_: u64) -> FileName {
     }
 }
 
-/// Says whether a read of the root from an offset on gives so many bytes, and leaves this in a buffer.
+/// Returns whether a read of the root from an offset returns `count` and leaves `wanted` in a
+/// buffer of eight dots.
 fn reads(
     disk: &mut FolderDisk,
     offset: u64,
@@ -40,7 +41,7 @@ fn reads(
     Ok(found == count && into == *wanted)
 }
 
-/// Says whether a disk has no file, and what changes none can be done.
+/// Returns whether a disk has no file. A sync, a cut and a removal must not fail.
 fn is_bare(disk: &mut FolderDisk) -> Result<bool, DiskFault> {
     let length = disk.length(ROOT)?;
     let nothing = reads(disk, 0, 0, b"........")?;
@@ -51,7 +52,7 @@ fn is_bare(disk: &mut FolderDisk) -> Result<bool, DiskFault> {
     Ok(length == 0 && nothing && name.is_none())
 }
 
-/// Writes the root, and says whether it is read so.
+/// Writes the root, and returns whether reads give what was written.
 fn is_written(disk: &mut FolderDisk) -> Result<bool, DiskFault> {
     disk.write_at(ROOT, 0, b"abcdef")?;
     disk.write_at(ROOT, 4, b"EFG")?;
@@ -62,7 +63,7 @@ fn is_written(disk: &mut FolderDisk) -> Result<bool, DiskFault> {
     Ok(length == 7 && middle && end && far)
 }
 
-/// Cuts the root and makes an empty file, and says whether both are there so.
+/// Cuts the root and creates an empty file, and returns whether both have their lengths and names.
 fn is_cut(disk: &mut FolderDisk) -> Result<bool, DiskFault> {
     disk.cut(ROOT, 5)?;
     let length = disk.length(ROOT)?;
@@ -73,7 +74,7 @@ fn is_cut(disk: &mut FolderDisk) -> Result<bool, DiskFault> {
     Ok(length == 5 && empty == 0 && name == Some(epoch(3, 9)))
 }
 
-/// Says whether the root is what was left by these, and removes it.
+/// Returns whether the root has the bytes `abcdE`, and removes it.
 fn is_removed(disk: &mut FolderDisk) -> Result<bool, DiskFault> {
     let kept = reads(disk, 0, 5, b"abcdE...")?;
     disk.remove(ROOT)?;
@@ -83,7 +84,7 @@ fn is_removed(disk: &mut FolderDisk) -> Result<bool, DiskFault> {
     Ok(kept && length == 0 && name.is_none())
 }
 
-/// Says whether a file has these bytes.
+/// Returns whether a file has these bytes.
 fn holds(rt: &HostRuntime, path: &str, wanted: &[u8]) -> io::Result<bool> {
     Ok(fs::read(rt, path)?.as_slice() == wanted)
 }
@@ -92,7 +93,7 @@ fn holds(rt: &HostRuntime, path: &str, wanted: &[u8]) -> io::Result<bool> {
 fn a_folder_keeps_files(rt: HostRuntime) -> Result<(), Fail> {
     let mut disk = FolderDisk::open(&rt, rt.alloc(), "kept")?;
     assert_eq!(rt; is_bare(&mut disk), Ok(true));
-    // Nothing so far needed the folder.
+    // None of these calls creates the folder.
     assert!(rt; !fs::exists(&rt, "kept")?);
     assert_eq!(rt; is_written(&mut disk), Ok(true));
     assert_eq!(rt; is_cut(&mut disk), Ok(true));
@@ -111,7 +112,7 @@ fn a_folder_is_opened_again(rt: HostRuntime) -> Result<(), Fail> {
     Ok(())
 }
 
-/// Writes three pieces of an epoch, and an end.
+/// Writes three pieces of an epoch, each at a multiple of 1,000,000 bytes, and three more bytes.
 fn write_long(disk: &mut FolderDisk, piece: &[u8]) -> Result<(), DiskFault>
     requires { length piece.now ≤ 1000000 }
 {
@@ -121,7 +122,7 @@ fn write_long(disk: &mut FolderDisk, piece: &[u8]) -> Result<(), DiskFault>
     disk.write_at(epoch(0, 1), 3_000_000, b"end")
 }
 
-/// Reads what was written so, and says whether it is all there.
+/// Reads the long epoch into a buffer of dots, and returns whether all its bytes are there.
 fn is_long(disk: &mut FolderDisk, into: &mut [u8]) -> Result<bool, DiskFault> {
     let count = disk.read(epoch(0, 1), 0, into)?;
     let written = into.iter().filter(|byte| **byte == b'x').count();
@@ -140,7 +141,7 @@ fn a_long_file_is_read_whole(rt: HostRuntime) -> Result<(), Fail> {
     Ok(())
 }
 
-/// Makes empty files of these names in a folder.
+/// Creates a folder with empty files of these names.
 fn make_files(rt: &HostRuntime, folder: &str, names: &[&str]) -> io::Result<()> {
     fs::create_dir(rt, folder)?;
     for name in names {
@@ -150,7 +151,7 @@ fn make_files(rt: &HostRuntime, folder: &str, names: &[&str]) -> io::Result<()> 
     Ok(())
 }
 
-/// Says whether the name at an index is this one, and is spelled as it is read.
+/// Returns whether the name at an index is `wanted`, and reads again as its spelling.
 fn is_named(
     rt: &HostRuntime,
     disk: &mut FolderDisk,
@@ -183,7 +184,7 @@ fn names_come_in_order(rt: HostRuntime) -> Result<(), Fail> {
             "map-4.0",
             "cache-4294967295.1",
             "epoch-0.0",
-            // Names of others.
+            // Names of no file of an archive.
             "root.0",
             "root-0.0",
             "map",
@@ -232,7 +233,7 @@ fn names_come_in_order(rt: HostRuntime) -> Result<(), Fail> {
     Ok(())
 }
 
-/// Writes a byte into each of ninety files, and says whether they are read so.
+/// Writes a byte to each of ninety files, and returns whether reads give them.
 fn keeps_many(disk: &mut FolderDisk) -> Result<bool, DiskFault> {
     for number in 0..90 {
         disk.write_at(epoch(number, 1), 0, &[b'a' + (number % 26) as u8])?;
@@ -256,7 +257,7 @@ fn more_files_than_are_kept_open(rt: HostRuntime) -> Result<(), Fail> {
     Ok(())
 }
 
-/// Says whether every call of a disk fails.
+/// Returns whether every call of a disk fails.
 fn all_fail(disk: &mut FolderDisk) -> bool {
     let read = disk.read(ROOT, 0, &mut [0]).is_err();
     let length = disk.length(ROOT).is_err();
@@ -268,12 +269,12 @@ fn all_fail(disk: &mut FolderDisk) -> bool {
     read && length && write && cut && remove && name && sync
 }
 
-/// The disk of another run, which waits for a short time only.
+/// Returns the disk of another run, which waits for 20 milliseconds.
 fn other(rt: &HostRuntime, path: &str) -> Result<FolderDisk, NoMemory> {
     FolderDisk::open_within(rt, rt.alloc(), path, Duration::from_millis(20))
 }
 
-/// Says whether a cause is told so.
+/// Returns whether a cause has these words.
 fn is_told(cause: Option<String>, words: &str) -> bool {
     match cause {
         Some(text) => text.as_str() == words,
@@ -281,7 +282,7 @@ fn is_told(cause: Option<String>, words: &str) -> bool {
     }
 }
 
-/// Says whether every call of another run fails, and for this reason.
+/// Returns whether every call of another run fails, with these words as its cause.
 fn is_refused(rt: &HostRuntime, path: &str, words: &str) -> Result<bool, NoMemory> {
     let mut disk = other(rt, path)?;
     let failed = all_fail(&mut disk);
@@ -290,7 +291,7 @@ fn is_refused(rt: &HostRuntime, path: &str, words: &str) -> Result<bool, NoMemor
 
 #[test]
 fn what_the_system_refuses_is_a_fault(rt: HostRuntime) -> Result<(), Fail> {
-    // A file stands where the folder is to be, and the folder above another one is missing.
+    // One path has a file instead of a folder, and the other's parent is missing.
     fs::write(&rt, "refused", b"".as_slice())?;
     assert!(rt; is_refused(&rt, "refused", "refused: not a directory")?);
     let mut disk = other(&rt, "missing/refused")?;
@@ -300,14 +301,14 @@ fn what_the_system_refuses_is_a_fault(rt: HostRuntime) -> Result<(), Fail> {
     Ok(())
 }
 
-/// Returns how long the root is for another run, or None where that fails.
+/// Returns the length of the root for another run, or `None` if the call fails.
 fn length_for_other(rt: &HostRuntime, path: &str) -> Result<Option<u64>, NoMemory> {
     Ok(other(rt, path)?.length(ROOT).ok())
 }
 
-// No contract can see the lock itself: that it is taken, and that no call lets it go, is shown by what another run gets
-// between two calls and after the last. That each call asks for the folder first, and that it isn't asked for anew, is
-// in the clauses of the call that finds it.
+// No contract can see the lock itself. That it is taken, and that no call releases it, shows in
+// what another run gets between two calls and after the last. That each call asks for the folder
+// first, and never asks anew, is in the clauses of the call that finds it.
 #[test]
 fn a_second_run_waits_and_gives_up(rt: HostRuntime) -> Result<(), Fail> {
     let mut first = FolderDisk::open(&rt, rt.alloc(), "locked")?;
@@ -321,7 +322,8 @@ fn a_second_run_waits_and_gives_up(rt: HostRuntime) -> Result<(), Fail> {
     Ok(())
 }
 
-/// Says whether a run that saw the folder missing is refused, now that it has a root, and sees no file as before.
+/// Returns whether a run that found the folder missing fails to write to it now that it has a root,
+/// and still sees no file.
 fn is_too_late(late: &mut FolderDisk) -> Result<bool, NoMemory> {
     let refused = late.write_at(ROOT, 0, b"x").is_err();
     let length = late.length(ROOT);
@@ -336,19 +338,19 @@ fn a_folder_that_was_filled_meanwhile_is_refused(rt: HostRuntime) -> Result<(), 
     make_files(&rt, "filled", &["root"])?;
     assert!(rt; is_too_late(&mut late)?);
     assert!(rt; holds(&rt, "filled/root", b"")?);
-    // One that was made meanwhile and has no file is fine.
+    // A folder that was made meanwhile without a file is accepted.
     fs::remove_file(&rt, "filled/root")?;
     assert_eq!(rt; late.write_at(ROOT, 0, b"x"), Ok(()));
     fs::remove_dir_all(&rt, "filled")?;
     Ok(())
 }
 
-/// Puts a device, which can't be synced, where an epoch is to be.
+/// Puts a device, which can't be synced, at the path of an epoch.
 fn plant_device(rt: &HostRuntime, path: &str) -> io::Result<()> {
     symlink(rt, "/dev/null", path)
 }
 
-/// Has a sync of the disk fail, and says whether it fails from then on.
+/// Makes a sync fail, and returns whether later syncs fail too, after the cause is gone.
 fn fails_to_sync(rt: &HostRuntime, disk: &mut FolderDisk) -> io::Result<bool> {
     plant_device(rt, "failed/epoch-0.1")?;
     let failed = disk.length(epoch(0, 1)).is_err();
@@ -368,12 +370,13 @@ fn after_a_failed_sync_none_is_answered(rt: HostRuntime) -> Result<(), Fail> {
     Ok(())
 }
 
-/// Plants the mark of a failed sync in a folder.
+/// Creates the mark of a failed sync at a path.
 fn plant_mark(rt: &HostRuntime, path: &str) -> io::Result<()> {
     fs::write(rt, path, b"".as_slice())
 }
 
-/// Plants the mark of a failed sync, and says whether a run leaves the root's bytes and removes the mark.
+/// Plants the mark of a failed sync, and returns whether a run keeps the root's bytes and removes
+/// the mark.
 fn mends(rt: &HostRuntime) -> io::Result<bool> {
     plant_mark(rt, "marked/sync-failed")?;
     let before = fs::read(rt, "marked/root")?;
@@ -383,7 +386,7 @@ fn mends(rt: &HostRuntime) -> io::Result<bool> {
     Ok(same && gone && found == Some(before.len() as u64))
 }
 
-/// Writes a few bytes of the root in a run of its own.
+/// Writes four bytes of the root in a run of its own, and returns whether it did.
 fn writes(rt: &HostRuntime, path: &str, offset: u32) -> Result<bool, NoMemory> {
     Ok(
         other(rt, path)?
@@ -404,7 +407,7 @@ fn behind_a_mark_all_is_written_again(rt: HostRuntime) -> Result<(), Fail> {
     Ok(())
 }
 
-/// Says whether the mark is in the folder, and a run's call on it fails or not.
+/// Returns whether the mark is in the folder and a run's call fails, or neither, as `stays` says.
 fn stays(rt: &HostRuntime, stays: bool) -> io::Result<bool> {
     let failed = length_for_other(rt, "stays").ok().flatten().is_none();
     let marked = fs::exists(rt, "stays/sync-failed")?;
@@ -422,12 +425,12 @@ fn a_mark_stays_where_a_file_cannot_be_synced(rt: HostRuntime) -> Result<(), Fai
     Ok(())
 }
 
-/// Says who may read a folder, in the system's words for permissions.
+/// Sets the mode of a folder.
 fn permit(rt: &HostRuntime, path: &str, mode: u32) -> io::Result<()> {
     fs::set_permissions(rt, path, Permissions::from_mode(mode))
 }
 
-/// Says whether a folder is made by the first write while the one above it may be read, and not before.
+/// Returns whether the first write creates a folder while its parent may be read, and not before.
 fn is_made_when_readable(rt: &HostRuntime, disk: &mut FolderDisk) -> io::Result<bool> {
     let refused = disk.write_at(ROOT, 0, b"a").is_err();
     let gone = !fs::exists(rt, "above/below")?;
@@ -438,7 +441,8 @@ fn is_made_when_readable(rt: &HostRuntime, disk: &mut FolderDisk) -> io::Result<
     Ok(refused && gone && made && synced)
 }
 
-/// Says whether a folder is used where the one above it may be searched but not read: not to make it, but from then on.
+/// Returns whether a folder below a parent that may be searched but not read is used, though it
+/// can't be created there.
 fn is_used_below(rt: &HostRuntime) -> Result<bool, Fail> {
     let mut disk = other(rt, "above/below")?;
     let made = is_made_when_readable(rt, &mut disk)?;
@@ -452,7 +456,7 @@ fn is_used_below(rt: &HostRuntime) -> Result<bool, Fail> {
 fn a_folder_above_that_may_not_be_read(rt: HostRuntime) -> Result<(), Fail> {
     fs::create_dir(&rt, "above")?;
     permit(&rt, "above", 0o300)?;
-    // Who may read everything sees nothing of this.
+    // A user who may read everything can't show this.
     let used = File::open(&rt, "above").is_ok() || is_used_below(&rt)?;
     permit(&rt, "above", 0o700)?;
     assert!(rt; used);
@@ -503,7 +507,7 @@ fn a_time_that_is_no_moment_is_a_fault(rt: HostRuntime) -> Result<(), Fail> {
     Ok(())
 }
 
-/// What can't be printed to any more.
+/// A printer whose every call fails.
 #[derive(Drop)]
 struct Closed;
 
@@ -521,7 +525,7 @@ impl Print for Closed {
     }
 }
 
-/// Says whether a sink that fails counts as one, and tells why.
+/// Returns whether a failed write is a fault with its cause told.
 fn is_fault_told(sink: &mut StdSink<&Closed>, alloc: Global) -> Result<bool, NoMemory> {
     let before = sink.cause(alloc)?.is_none();
     let failed = sink.write(b"a") == Err(SinkFault);
