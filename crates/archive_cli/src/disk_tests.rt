@@ -1,4 +1,5 @@
-//! Runs of the program over a disk in memory: an archive is made, messages are delivered, and it is checked.
+//! Runs of the program over a disk in memory: an archive is made, messages are delivered, and it is
+//! checked.
 use crate::program::run;
 use crate::tests::{bytes, numbers};
 use arch_base::Numbers;
@@ -58,7 +59,7 @@ impl Clock for Broken {
     }
 }
 
-/// The status of a run of words on an input over a disk, the disk, and what was printed.
+/// Returns the status of a run of words on an input over a disk, the disk, and the output.
 fn ran_on<D: Disk + Drop>(
     alloc: Global,
     disk: D,
@@ -76,9 +77,57 @@ fn empty(alloc: Global) -> MemDisk {
     MemDisk::new(alloc, Numbers::new(alloc))
 }
 
-#[test]
-fn an_archive_is_made_filled_and_checked(rt: HostRuntime) {
-    let rows: [(&[&str], &[u8], u8, &[u8]); 8] = [
+/// Runs words on an input over a disk. Returns the disk if the run ends with this status and prints
+/// this.
+fn printing<D: Disk + Drop>(
+    alloc: Global,
+    disk: D,
+    words: &[&str],
+    input: &[u8],
+    status: u8,
+    printed: &[u8],
+) -> Option<D> {
+    let (ended, disk, sink) = ran_on(alloc, disk, words, input)?;
+    if ended == status && sink.taken() == printed {
+        Some(disk)
+    } else {
+        None
+    }
+}
+
+/// Words, an input, a status and what is printed.
+type Row<'a> = (&'a [&'a str], &'a [u8], u8, &'a [u8]);
+
+/// Runs rows in turn over a disk. Returns the disk if each ends and prints as it should.
+fn printing_all(alloc: Global, disk: MemDisk, rows: &[Row<'_>]) -> Option<MemDisk> {
+    let mut disk = disk;
+    for (words, input, status, printed) in rows {
+        disk = printing(alloc, disk, words, input, *status, printed)?;
+    }
+    Some(disk)
+}
+
+/// Returns whether the file of a kind, of the number 0 and a generation, has this length.
+fn has_length(disk: &mut MemDisk, kind: FileKind, gen_: u64, len: u64) -> bool {
+    let file = FileName {
+        kind,
+        number: 0,
+        gen_,
+    };
+    disk.length(file) == Ok(len)
+}
+
+/// Returns whether a disk has the files of an archive with one message, by their lengths.
+fn has_files_of_one(disk: &mut MemDisk) -> bool {
+    let root = has_length(disk, FileKind::Root, 0, 4096);
+    let map = has_length(disk, FileKind::Map, 1, 28);
+    let epoch = has_length(disk, FileKind::Epoch, 2, 316);
+    root && map && epoch
+}
+
+/// Makes an archive and fills it, each way that a run may end. Returns the disk if each ends so.
+fn made_and_filled(alloc: Global) -> Option<MemDisk> {
+    let rows: [Row<'_>; 8] = [
         (&["check"], b"", 3, b"no archive\n"),
         (&["deliver"], MAIL, 3, b"no archive\n"),
         (&["init", "list"], b"", 0, b"made list\n"),
@@ -88,47 +137,51 @@ fn an_archive_is_made_filled_and_checked(rt: HostRuntime) {
         (&["deliver"], MAIL, 0, b"2 duplicate 1\n"),
         (&["check"], b"", 0, ONE),
     ];
-    let mut disk = empty(rt.alloc());
-    for (words, input, status, printed) in rows {
-        let Some((ended, left, sink)) = ran_on(rt.alloc(), disk, words, input) else {
-            return assert!(rt; false);
-        };
-        assert!(rt; ended == status);
-        assert!(rt; sink.taken() == printed);
-        disk = left;
-    }
-    for (kind, gen_, len) in [
-        (FileKind::Root, 0, 4096),
-        (FileKind::Map, 1, 28),
-        (FileKind::Epoch, 2, 316),
-    ] {
-        let file = FileName {
-            kind,
-            number: 0,
-            gen_,
-        };
-        assert!(rt; disk.length(file) == Ok(len));
-    }
+    printing_all(alloc, empty(alloc), &rows)
+}
+
+#[test]
+fn an_archive_is_made_filled_and_checked(rt: HostRuntime) {
+    let Some(mut disk) = made_and_filled(rt.alloc()) else {
+        return assert!(rt; false);
+    };
+    assert!(rt; has_files_of_one(&mut disk));
 }
 
 #[test]
 fn a_mirror_takes_no_message(rt: HostRuntime) {
-    let rows: [(&[&str], &[u8], u8, &[u8]); 2] = [
+    let rows: [Row<'_>; 2] = [
         (&["init", "list", "mirror"], b"", 0, b"made list\n"),
         (&["deliver"], MAIL, 1, b"9 is mirror\n"),
     ];
-    let mut disk = empty(rt.alloc());
-    for (words, input, status, printed) in rows {
-        let Some((ended, left, sink)) = ran_on(rt.alloc(), disk, words, input) else {
-            return assert!(rt; false);
-        };
-        assert!(rt; ended == status);
-        assert!(rt; sink.taken() == printed);
-        disk = left;
+    assert!(rt; printing_all(rt.alloc(), empty(rt.alloc()), &rows).is_some());
+}
+
+/// Makes an archive without messages on a new disk.
+fn with_archive(alloc: Global) -> Option<MemDisk> {
+    printing(
+        alloc,
+        empty(alloc),
+        &["init", "list"],
+        b"",
+        0,
+        b"made list\n",
+    )
+}
+
+/// Returns whether the archive on a disk has no message or one, and one where its delivery is done.
+fn has_one(alloc: Global, disk: MemDisk, done: bool) -> bool {
+    match ran_on(alloc, disk, &["check"], b"") {
+        None => false,
+        Some((status, _disk, sink)) => {
+            let one = sink.taken() == ONE;
+            let none = !done && sink.taken() == NONE;
+            status == 0 && (one || none)
+        }
     }
 }
 
-/// Checks each image that a crash at a moment may leave: it has no message or one, and where the delivery is done it has one.
+/// Checks each image that a crash at a moment may leave.
 fn check_moment(
     rt: &impl Abort,
     alloc: Global,
@@ -139,37 +192,60 @@ fn check_moment(
     for pick in 0..4 {
         assert!(rt; at <= disk.moments() && pick <= 3);
         let image = disk.image(at, pick)?;
-        let Some((status, _left, sink)) = ran_on(alloc, image, &["check"], b"") else {
-            return Ok(assert!(rt; false));
-        };
-        assert!(rt; status == 0);
-        assert!(rt; sink.taken() == ONE || (!done && sink.taken() == NONE));
+        assert!(rt; has_one(alloc, image, done));
     }
     Ok(())
 }
 
-/// Delivers a message to an archive without any, over a disk that stops behind so many calls, and checks each image since. It says
-/// whether there was no stop.
-fn deliver_stopped(rt: &impl Abort, alloc: Global, passes: u64) -> Result<bool, Fail> {
-    let Some((_made, disk, _line)) = ran_on(alloc, empty(alloc), &["init", "list"], b"") else {
-        assert!(rt; false);
-        return Ok(false);
-    };
-    let start = disk.moments();
-    let fuse = FuseDisk::new(disk, passes);
-    let Some((status, fuse, sink)) = ran_on(alloc, fuse, &["deliver"], MAIL) else {
-        assert!(rt; false);
-        return Ok(false);
-    };
-    let done = status == 0;
-    let printed = if done { TAKEN } else { b"10 disk fault\n" };
-    assert!(rt; done || status == 4);
-    assert!(rt; sink.taken() == printed);
-    let disk = fuse.into_inner();
+/// Checks each image since a moment; at the last moment the delivery is done, if it was answered so.
+fn check_since(
+    rt: &impl Abort,
+    alloc: Global,
+    disk: &MemDisk,
+    start: u64,
+    done: bool,
+) -> Result<(), Fail> {
     let end = disk.moments();
     for at in start..=end {
-        check_moment(rt, alloc, &disk, at, done && at == end)?;
+        check_moment(rt, alloc, disk, at, done && at == end)?;
     }
+    Ok(())
+}
+
+/// Returns whether a delivery ends with this status and this line: it is done, or the disk failed.
+fn ends_so(status: u8, printed: &[u8]) -> bool {
+    match status {
+        0 => printed == TAKEN,
+        4 => printed == b"10 disk fault\n".as_slice(),
+        _ => false,
+    }
+}
+
+/// Delivers a message over a disk that stops after so many calls. Returns the disk, and whether
+/// there was no stop, if the answer is right.
+fn delivered(alloc: Global, disk: MemDisk, passes: u64) -> Option<(MemDisk, bool)> {
+    let fuse = FuseDisk::new(disk, passes);
+    let (status, fuse, sink) = ran_on(alloc, fuse, &["deliver"], MAIL)?;
+    if ends_so(status, sink.taken()) {
+        Some((fuse.into_inner(), status == 0))
+    } else {
+        None
+    }
+}
+
+/// Delivers a message to an archive without any, over a disk that stops after so many calls, and
+/// checks each image since. Returns whether there was no stop.
+fn deliver_stopped(rt: &impl Abort, alloc: Global, passes: u64) -> Result<bool, Fail> {
+    let Some(made) = with_archive(alloc) else {
+        assert!(rt; false);
+        return Ok(false);
+    };
+    let start = made.moments();
+    let Some((disk, done)) = delivered(alloc, made, passes) else {
+        assert!(rt; false);
+        return Ok(false);
+    };
+    check_since(rt, alloc, &disk, start, done)?;
     Ok(done)
 }
 
@@ -184,43 +260,38 @@ fn a_stopped_delivery_is_done_or_not(rt: HostRuntime) -> Result<(), Fail> {
     Ok(assert!(rt; false, "no run without a stop"))
 }
 
+/// Delivers the message over a clock or an output that fails. Returns the disk if the run ends with
+/// 6 and prints nothing.
+fn failing<C: Clock>(
+    alloc: Global,
+    disk: MemDisk,
+    clock: &mut C,
+    sink: &mut MemSink,
+) -> Option<MemDisk> {
+    let mut source = MemSource::new(alloc, bytes(alloc, MAIL)?, Numbers::new(alloc));
+    let (status, disk) = run(alloc, &["deliver"], disk, &mut source, sink, clock);
+    if status == 6 && sink.taken().is_empty() {
+        Some(disk)
+    } else {
+        None
+    }
+}
+
+/// Delivers the message over a clock that fails, and then over an output that fails.
+fn failing_twice(alloc: Global, disk: MemDisk) -> Option<MemDisk> {
+    let mut sink = MemSink::new(alloc, numbers(alloc, &[1])?);
+    let disk = failing(alloc, disk, &mut Broken { faults: 0 }, &mut sink)?;
+    failing(alloc, disk, &mut Still, &mut sink)
+}
+
+/// Delivers the message so, and checks the archive: what was not printed was done all the same.
+fn failing_and_done(alloc: Global) -> Option<MemDisk> {
+    let made = with_archive(alloc)?;
+    let disk = failing_twice(alloc, made)?;
+    printing(alloc, disk, &["check"], b"", 0, ONE)
+}
+
 #[test]
 fn an_output_and_a_clock_that_fail(rt: HostRuntime) {
-    let alloc = rt.alloc();
-    let Some((_made, disk, _line)) = ran_on(alloc, empty(alloc), &["init", "list"], b"") else {
-        return assert!(rt; false);
-    };
-    let (Some(mail), Some(faults)) = (bytes(alloc, MAIL), numbers(alloc, &[1])) else {
-        return assert!(rt; false);
-    };
-    let mut source = MemSource::new(alloc, mail, Numbers::new(alloc));
-    let mut sink = MemSink::new(alloc, faults);
-    let mut broken = Broken { faults: 0 };
-    let (status, disk) = run(
-        alloc,
-        &["deliver"],
-        disk,
-        &mut source,
-        &mut sink,
-        &mut broken,
-    );
-    assert!(rt; status == 6 && sink.taken() == b"".as_slice());
-    let Some(mail) = bytes(alloc, MAIL) else {
-        return assert!(rt; false);
-    };
-    let mut source = MemSource::new(alloc, mail, Numbers::new(alloc));
-    let (status, disk) = run(
-        alloc,
-        &["deliver"],
-        disk,
-        &mut source,
-        &mut sink,
-        &mut Still,
-    );
-    assert!(rt; status == 6 && sink.taken() == b"".as_slice());
-    // What couldn't be printed was done all the same.
-    let Some((_status, _disk, sink)) = ran_on(alloc, disk, &["check"], b"") else {
-        return assert!(rt; false);
-    };
-    assert!(rt; sink.taken() == ONE);
+    assert!(rt; failing_and_done(rt.alloc()).is_some());
 }

@@ -1,4 +1,5 @@
-//! Scripts over a disk in memory, beside the same over the plain archive in memory, and over disks that fail.
+//! Scripts over a disk in memory, beside the same over the plain archive in memory, and over disks
+//! that fail.
 ghost use Rattle.std.specs.Prelude.{◌≤◌, IfSome};
 ghost use Rattle.arch_base.specs.Configs.{IsConfig};
 
@@ -18,7 +19,7 @@ impl CountedKeep for MemArchive {
     }
 }
 
-/// The settings of a script.
+/// Returns the settings of a script.
 fn settings(limit: u64, max: u32) -> Option<Config>
     requires limit { (1 ≤ limit) × (limit ≤ 1099511627776) }
     requires max { (1 ≤ max) × (max ≤ 2147483647) }
@@ -35,7 +36,7 @@ fn settings(limit: u64, max: u32) -> Option<Config>
     })
 }
 
-/// The status of a script over the plain archive in memory, and what it printed.
+/// Returns the status of a script over the plain archive in memory, and the output.
 fn plain(alloc: Global, config: Config, input: &[u8]) -> Option<(u8, MemSink)>
     requires { IsConfig config }
 {
@@ -47,7 +48,8 @@ fn plain(alloc: Global, config: Config, input: &[u8]) -> Option<(u8, MemSink)>
     Some((status, sink))
 }
 
-/// Whether words on an input print the same over a disk in memory as over the plain archive in memory.
+/// Returns whether words on an input print the same over a disk in memory as over the plain archive
+/// in memory.
 fn same(alloc: Global, words: &[&str], config: Config, input: &[u8]) -> Option<bool>
     requires { IsConfig config }
 {
@@ -56,7 +58,7 @@ fn same(alloc: Global, words: &[&str], config: Config, input: &[u8]) -> Option<b
     Some(status == plain_status && printed.taken() == plain_printed.taken())
 }
 
-/// Whether a worked run with these settings prints the same over both.
+/// Returns whether a worked run with these settings prints the same over both.
 fn agrees(alloc: Global, worked: Run, limit: u64, max: u32) -> bool
     requires limit { (1 ≤ limit) × (limit ≤ 1099511627776) }
     requires max { (1 ≤ max) × (max ≤ 2147483647) }
@@ -68,14 +70,20 @@ fn agrees(alloc: Global, worked: Run, limit: u64, max: u32) -> bool
     }
 }
 
+/// Returns whether each worked run prints the same over both.
+fn all_agree(alloc: Global) -> bool {
+    let [first, made, full, two, one] = WORKED;
+    let first = agrees(alloc, first, 1_073_741_824, 2_147_483_647);
+    let made = agrees(alloc, made, 1_073_741_824, 2_147_483_647);
+    let full = agrees(alloc, full, 1_073_741_824, 2);
+    let two = agrees(alloc, two, 316, 2_147_483_647);
+    let one = agrees(alloc, one, 317, 2_147_483_647);
+    first && made && full && two && one
+}
+
 #[test]
 fn a_disk_and_the_plain_archive_print_the_same(rt: HostRuntime) {
-    let [first, made, full, two, one] = WORKED;
-    assert!(rt; agrees(rt.alloc(), first, 1_073_741_824, 2_147_483_647));
-    assert!(rt; agrees(rt.alloc(), made, 1_073_741_824, 2_147_483_647));
-    assert!(rt; agrees(rt.alloc(), full, 1_073_741_824, 2));
-    assert!(rt; agrees(rt.alloc(), two, 316, 2_147_483_647));
-    assert!(rt; agrees(rt.alloc(), one, 317, 2_147_483_647));
+    assert!(rt; all_agree(rt.alloc()));
 }
 
 /// A script of two messages, each in a piece of its own, and a third piece that asks for both.
@@ -86,16 +94,52 @@ const THREE_PIECES: &[u8] =
 const THREE_FRAMES: &[u8] =
     b"1 48\n1 ok 1 df7a16e6b23ee491f39d84e89298f10b0d4ae4e0\n\n1 48\n1 ok 2 932aef3c2f53dcc65475837ae327c57b7d4d2fc6\n\n1 54\ntext 19\nMessage-ID: <a@x>\n\ntext 19\nMessage-ID: <b@x>\n\n\n";
 
-/// The line behind the frames where there was no memory.
+/// The line after the frames where the script was cut.
 const NO_MEMORY: &[u8] = b"12 no memory\n";
 
-/// The status of that script over a disk of which one call fails, and what it printed; None where no archive is made on it.
-fn over_a_failing_disk(alloc: Global, ordinal: u64) -> Option<(u8, MemSink)> {
-    let config = settings(1_073_741_824, 2_147_483_647)?;
-    let disk = MemDisk::new(alloc, numbers(alloc, &[ordinal])?);
-    let Ok(engine) = Engine::make(alloc, disk, &config) else {
-        return None;
-    };
+/// How that script ends over a disk of which one call fails.
+#[derive(Clone, Copy)]
+enum End {
+    /// No archive was made.
+    NotMade,
+    /// It printed all frames.
+    Whole,
+    /// It printed so many frames, and the line.
+    Cut(u8),
+    /// None of these.
+    Other,
+}
+
+/// Returns whether what is printed are the frames up to a length, and that line.
+fn is_cut_at(length: usize, printed: &[u8]) -> bool
+    requires { length ≤ 168 }
+{
+    printed.len() == length + NO_MEMORY.len()
+        && printed.starts_with(&THREE_FRAMES[..length])
+        && printed.ends_with(NO_MEMORY)
+}
+
+/// Returns how many frames were printed where the script was cut.
+fn cut_of(printed: &[u8]) -> End {
+    for (frames, length) in [(0, 0), (1, 54), (2, 108)] {
+        if is_cut_at(length, printed) {
+            return End::Cut(frames);
+        }
+    }
+    End::Other
+}
+
+/// Returns how that script ends by its status and what it printed.
+fn end_of(status: u8, printed: &[u8]) -> End {
+    match status {
+        0 if printed == THREE_FRAMES => End::Whole,
+        7 => cut_of(printed),
+        _ => End::Other,
+    }
+}
+
+/// Returns the status of that script over what keeps an archive, and the output.
+fn played(alloc: Global, engine: Engine<MemDisk>) -> Option<(u8, MemSink)> {
     let Ok(events) = script(alloc, THREE_PIECES) else {
         return None;
     };
@@ -104,13 +148,22 @@ fn over_a_failing_disk(alloc: Global, ordinal: u64) -> Option<(u8, MemSink)> {
     Some((status, sink))
 }
 
-/// Whether what is printed are the frames up to a length, and that line.
-fn is_cut_at(length: usize, printed: &[u8]) -> bool
-    requires { length ≤ 168 }
-{
-    printed.len() == length + NO_MEMORY.len()
-        && printed.starts_with(&THREE_FRAMES[..length])
-        && printed.ends_with(NO_MEMORY)
+/// Makes an archive on a disk of which one call fails, by its ordinal from 1.
+fn made_over_failing(alloc: Global, ordinal: u64) -> Option<Engine<MemDisk>> {
+    let config = settings(1_073_741_824, 2_147_483_647)?;
+    let disk = MemDisk::new(alloc, numbers(alloc, &[ordinal])?);
+    Engine::make(alloc, disk, &config).ok()
+}
+
+/// Runs that script over a disk of which one call fails, and returns how it ends.
+fn end_over_failing(alloc: Global, ordinal: u64) -> End {
+    match made_over_failing(alloc, ordinal) {
+        None => End::NotMade,
+        Some(engine) => match played(alloc, engine) {
+            None => End::Other,
+            Some((status, sink)) => end_of(status, sink.taken()),
+        },
+    }
 }
 
 #[test]
@@ -120,22 +173,13 @@ fn a_call_that_fails_ends_the_script_before_its_event(rt: HostRuntime) {
     let mut third = false;
     let mut whole = false;
     for ordinal in 1..120 {
-        match over_a_failing_disk(rt.alloc(), ordinal) {
-            None => {}
-            Some((0, sink)) => {
-                assert!(rt; sink.taken() == THREE_FRAMES);
-                whole = true;
-            }
-            Some((status, sink)) => {
-                assert!(rt; status == 7);
-                let before = is_cut_at(0, sink.taken());
-                let behind_first = is_cut_at(54, sink.taken());
-                let behind_second = is_cut_at(108, sink.taken());
-                assert!(rt; before || behind_first || behind_second);
-                first = first || before;
-                second = second || behind_first;
-                third = third || behind_second;
-            }
+        match end_over_failing(rt.alloc(), ordinal) {
+            End::NotMade => {}
+            End::Whole => whole = true,
+            End::Cut(0) => first = true,
+            End::Cut(1) => second = true,
+            End::Cut(_two) => third = true,
+            End::Other => assert!(rt; false),
         }
     }
     assert!(rt; first && second && third && whole);

@@ -15,7 +15,8 @@ const FIRST_SCRIPT: &[u8] =
 const FIRST_FRAME: &[u8] =
     b"1 160\n1 ok 1 1d023c572ccd6f3cc82ae855343346b043adaba5\ntext 103\nFrom: Ann <ann@example.org>\nDate: Thu, 1 Feb 2024 10:00:00 +0000\nSubject: first\nMessage-ID: <a@x>\n\none\n\n";
 
-/// The status of a run of words on an input, of which listed reads fail, and what it printed to an output, of which listed writes fail.
+/// Returns the status of a run of words on an input, of which listed reads fail, and the output, of
+/// which listed writes fail.
 pub(crate) fn ran(
     alloc: Global,
     words: &[&str],
@@ -28,6 +29,14 @@ pub(crate) fn ran(
     let disk = MemDisk::new(alloc, Numbers::new(alloc));
     let (status, _disk) = run(alloc, words, disk, &mut source, &mut sink, &mut Still);
     Some((status, sink))
+}
+
+/// Returns whether a run of words on an input ends with this status, and prints this.
+fn prints(alloc: Global, words: &[&str], input: &[u8], status: u8, printed: &[u8]) -> bool {
+    match ran(alloc, words, input, &[], &[]) {
+        None => false,
+        Some((found, sink)) => found == status && sink.taken() == printed,
+    }
 }
 
 pub(crate) fn bytes(alloc: Global, text: &[u8]) -> Option<Bytes> {
@@ -46,11 +55,15 @@ pub(crate) fn numbers(alloc: Global, listed: &[u64]) -> Option<Numbers> {
 
 #[test]
 fn one_message_in_and_the_same_out(rt: HostRuntime) {
-    let Some((status, sink)) = ran(rt.alloc(), &["replay", "list"], FIRST_SCRIPT, &[], &[]) else {
-        return assert!(rt; false);
-    };
-    assert!(rt; status == 0);
-    assert!(rt; sink.taken() == FIRST_FRAME);
+    assert!(rt;
+        prints(
+            rt.alloc(),
+            &["replay", "list"],
+            FIRST_SCRIPT,
+            0,
+            FIRST_FRAME
+        )
+    );
 }
 
 #[test]
@@ -64,53 +77,60 @@ fn words_and_scripts_that_are_refused(rt: HostRuntime) {
         (&["--version"], b"", 0, b"piv2 0.1.0\n"),
     ];
     for (words, input, status, printed) in rows {
-        let Some((found, sink)) = ran(rt.alloc(), words, input, &[], &[]) else {
-            return assert!(rt; false);
-        };
-        assert!(rt; found == status);
-        assert!(rt; sink.taken() == printed);
+        assert!(rt; prints(rt.alloc(), words, input, status, printed));
     }
 }
+
+/// Words of scripts with options.
+const GOOD_OPTIONS: [&[&str]; 4] = [
+    &["replay", "list", "limit=1", "slice=1", "max=1"],
+    &["replay", "list", "max=2147483647", "limit=1099511627776"],
+    &["replay", "list", "slice=1000000"],
+    &["replay", "list", "max=7", "slice=50"],
+];
 
 #[test]
 fn options_of_a_script(rt: HostRuntime) {
-    let good: [&[&str]; 4] = [
-        &["replay", "list", "limit=1", "slice=1", "max=1"],
-        &["replay", "list", "max=2147483647", "limit=1099511627776"],
-        &["replay", "list", "slice=1000000"],
-        &["replay", "list", "max=7", "slice=50"],
-    ];
-    for words in good {
-        let Some((status, sink)) = ran(rt.alloc(), words, b"", &[], &[]) else {
-            return assert!(rt; false);
-        };
-        assert!(rt; status == 0);
-        assert!(rt; sink.taken().is_empty());
-    }
-    let bad: [&[&str]; 12] = [
-        &["replay", "limit=1", "list"],
-        &["limit=1", "replay", "list"],
-        &["replay", "list", "max=1", "slice=2", "max=1"],
-        &["replay", "list", "limit="],
-        &["replay", "list", "limit"],
-        &["replay", "list", ""],
-        &["replay", "list", "Limit=1"],
-        &["replay", "list", "limit=0"],
-        &["replay", "list", "limit=1099511627777"],
-        &["replay", "list", "slice=1000001"],
-        &["replay", "list", "max=2147483648"],
-        &["replay", "list", "max=01"],
-    ];
-    for words in bad {
-        let Some((status, sink)) = ran(rt.alloc(), words, b"", &[], &[]) else {
-            return assert!(rt; false);
-        };
-        assert!(rt; status == 2);
-        assert!(rt; sink.taken() == b"words not read\n".as_slice());
+    for words in GOOD_OPTIONS {
+        assert!(rt; prints(rt.alloc(), words, b"", 0, b""));
     }
 }
 
-/// The job that words ask for.
+/// Words of scripts with options in front, twice, or out of form.
+const MALFORMED_OPTIONS: [&[&str]; 7] = [
+    &["replay", "limit=1", "list"],
+    &["limit=1", "replay", "list"],
+    &["replay", "list", "max=1", "slice=2", "max=1"],
+    &["replay", "list", "limit="],
+    &["replay", "list", "limit"],
+    &["replay", "list", ""],
+    &["replay", "list", "Limit=1"],
+];
+
+#[test]
+fn options_out_of_form_are_refused(rt: HostRuntime) {
+    for words in MALFORMED_OPTIONS {
+        assert!(rt; prints(rt.alloc(), words, b"", 2, b"words not read\n"));
+    }
+}
+
+/// Words of scripts with options whose numbers are out of range, or begin with a zero.
+const OPTIONS_OUT_OF_RANGE: [&[&str]; 5] = [
+    &["replay", "list", "limit=0"],
+    &["replay", "list", "limit=1099511627777"],
+    &["replay", "list", "slice=1000001"],
+    &["replay", "list", "max=2147483648"],
+    &["replay", "list", "max=01"],
+];
+
+#[test]
+fn options_out_of_range_are_refused(rt: HostRuntime) {
+    for words in OPTIONS_OUT_OF_RANGE {
+        assert!(rt; prints(rt.alloc(), words, b"", 2, b"words not read\n"));
+    }
+}
+
+/// Returns the name of the job that words ask for.
 fn asked(words: &[&str]) -> &'static str {
     match read_words(words) {
         None => "none",
@@ -123,50 +143,85 @@ fn asked(words: &[&str]) -> &'static str {
     }
 }
 
+/// Words in the grammar, each with the job that they ask for.
+const JOBS: [(&[&str], &str); 8] = [
+    (&["--help"], "help"),
+    (&["--version"], "version"),
+    (&["deliver"], "deliver"),
+    (&["check"], "check"),
+    (&["replay", "list"], "replay"),
+    (&["replay", "mirror"], "replay"),
+    (&["init", "list"], "init"),
+    (&["init", "replay"], "init"),
+];
+
 #[test]
-fn words_in_the_grammar_and_others(rt: HostRuntime) {
-    let rows: [(&[&str], &str); 34] = [
-        (&["--help"], "help"),
-        (&["--version"], "version"),
-        (&["deliver"], "deliver"),
-        (&["check"], "check"),
-        (&["replay", "list"], "replay"),
-        (&["replay", "mirror"], "replay"),
-        (&["init", "list"], "init"),
-        (&["init", "mirror"], "init"),
-        (&["init", "mirror", "mirror"], "init"),
-        (&["init", "replay"], "init"),
-        (&["init", "list", "mirror"], "init"),
-        (&["init", "list", "mirror", "max=7", "limit=1"], "init"),
-        (&["init", "list", "slice=1", "mirror", "max=7"], "init"),
-        (&[], "none"),
-        (&[""], "none"),
-        (&["init"], "none"),
-        (&["mirror"], "none"),
-        (&["Deliver"], "none"),
-        (&["deliver", "x"], "none"),
-        (&["deliver", ""], "none"),
-        (&["check", "x"], "none"),
-        (&["check", "list", "mirror"], "none"),
-        (&["init", "list", "list"], "none"),
-        (&["init", "List"], "none"),
-        (&["init", ""], "none"),
-        (&["init", "list", ""], "none"),
-        (&["init", "limit=1", "list"], "none"),
-        (&["mirror", "init", "list"], "none"),
-        (&["init", "list", "mirror", "max=7", "mirror"], "none"),
-        (&["init", "list", "max=7", "mirror", "max=7"], "none"),
-        (&["init", "list", "mirror="], "none"),
-        (&["init", "list", "mirror=1"], "none"),
-        (&["init", "list", "Mirror"], "none"),
-        (&["replay", "list", "mirror"], "none"),
-    ];
-    for (words, job) in rows {
+fn words_that_ask_for_a_job(rt: HostRuntime) {
+    for (words, job) in JOBS {
         assert!(rt; asked(words) == job);
     }
 }
 
-/// The settings of the archive that words ask for.
+/// Words with `mirror` that ask for an archive.
+const MIRRORS: [&[&str]; 5] = [
+    &["init", "mirror"],
+    &["init", "mirror", "mirror"],
+    &["init", "list", "mirror"],
+    &["init", "list", "mirror", "max=7", "limit=1"],
+    &["init", "list", "slice=1", "mirror", "max=7"],
+];
+
+#[test]
+fn words_that_ask_for_a_mirror(rt: HostRuntime) {
+    for words in MIRRORS {
+        assert!(rt; asked(words) == "init");
+    }
+}
+
+/// Words without the name of an archive, or with another word after a job that has none.
+const NO_JOBS: [&[&str]; 11] = [
+    &[],
+    &[""],
+    &["init"],
+    &["mirror"],
+    &["Deliver"],
+    &["deliver", "x"],
+    &["deliver", ""],
+    &["check", "x"],
+    &["check", "list", "mirror"],
+    &["mirror", "init", "list"],
+    &["replay", "list", "mirror"],
+];
+
+#[test]
+fn words_that_ask_for_nothing(rt: HostRuntime) {
+    for words in NO_JOBS {
+        assert!(rt; asked(words) == "none");
+    }
+}
+
+/// Words with `init` in front that are not in the grammar.
+const NO_ARCHIVES: [&[&str]; 10] = [
+    &["init", "list", "list"],
+    &["init", "List"],
+    &["init", ""],
+    &["init", "list", ""],
+    &["init", "limit=1", "list"],
+    &["init", "list", "mirror", "max=7", "mirror"],
+    &["init", "list", "max=7", "mirror", "max=7"],
+    &["init", "list", "mirror="],
+    &["init", "list", "mirror=1"],
+    &["init", "list", "Mirror"],
+];
+
+#[test]
+fn words_that_ask_for_no_archive(rt: HostRuntime) {
+    for words in NO_ARCHIVES {
+        assert!(rt; asked(words) == "none");
+    }
+}
+
+/// Returns the settings of the archive that words ask for.
 fn settings_of(words: &[&str]) -> Option<Config> {
     match read_words(words)? {
         Job::Init { config } | Job::Replay { config } => Some(config),
@@ -174,37 +229,27 @@ fn settings_of(words: &[&str]) -> Option<Config> {
     }
 }
 
+/// Returns whether words ask for an archive of the name `list` with these settings.
+fn asks_for(words: &[&str], limit: u64, slice: u32, max: u32, mirror: bool) -> bool {
+    match settings_of(words) {
+        None => false,
+        Some(config) => {
+            let named = config.name.as_slice() == b"list".as_slice() && config.born == 1;
+            let sized = config.limit == limit && config.slice == slice && config.max == max;
+            named && sized && config.mirror == mirror
+        }
+    }
+}
+
 #[test]
 fn settings_that_are_given_and_defaults(rt: HostRuntime) {
+    let limit = 1_073_741_824;
+    let max = 2_147_483_647;
     let rows: [(&[&str], u64, u32, u32, bool); 5] = [
-        (
-            &["replay", "list"],
-            1_073_741_824,
-            50_000,
-            2_147_483_647,
-            false,
-        ),
-        (
-            &["init", "list"],
-            1_073_741_824,
-            50_000,
-            2_147_483_647,
-            false,
-        ),
-        (
-            &["init", "list", "mirror"],
-            1_073_741_824,
-            50_000,
-            2_147_483_647,
-            true,
-        ),
-        (
-            &["init", "list", "slice=5", "max=7"],
-            1_073_741_824,
-            5,
-            7,
-            false,
-        ),
+        (&["replay", "list"], limit, 50_000, max, false),
+        (&["init", "list"], limit, 50_000, max, false),
+        (&["init", "list", "mirror"], limit, 50_000, max, true),
+        (&["init", "list", "slice=5", "max=7"], limit, 5, 7, false),
         (
             &["init", "list", "max=7", "mirror", "limit=3"],
             3,
@@ -214,15 +259,7 @@ fn settings_that_are_given_and_defaults(rt: HostRuntime) {
         ),
     ];
     for (words, limit, slice, max, mirror) in rows {
-        let Some(config) = settings_of(words) else {
-            return assert!(rt; false);
-        };
-        assert!(rt; config.name.as_slice() == b"list".as_slice());
-        assert!(rt; config.limit == limit);
-        assert!(rt; config.slice == slice);
-        assert!(rt; config.max == max);
-        assert!(rt; config.mirror == mirror);
-        assert!(rt; config.born == 1);
+        assert!(rt; asks_for(words, limit, slice, max, mirror));
     }
 }
 
@@ -232,45 +269,39 @@ const TWO_DELIVERIES: &[u8] =
 
 #[test]
 fn the_greatest_number_is_that_of_the_option(rt: HostRuntime) {
-    let Some((status, sink)) = ran(
-        rt.alloc(),
-        &["replay", "list", "max=1"],
-        TWO_DELIVERIES,
-        &[],
-        &[],
-    ) else {
-        return assert!(rt; false);
-    };
-    assert!(rt; status == 0);
+    let printed = b"1 57\n1 ok 1 df7a16e6b23ee491f39d84e89298f10b0d4ae4e0\n5 full 1\n\n";
     assert!(rt;
-        sink.taken()
-            == b"1 57\n1 ok 1 df7a16e6b23ee491f39d84e89298f10b0d4ae4e0\n5 full 1\n\n".as_slice()
+        prints(
+            rt.alloc(),
+            &["replay", "list", "max=1"],
+            TWO_DELIVERIES,
+            0,
+            printed
+        )
     );
+}
+
+/// Returns whether a script ends with 6 and prints nothing where listed reads and writes fail.
+fn gives_six(alloc: Global, unread: &[u64], unwritten: &[u64]) -> bool {
+    match ran(alloc, &["replay", "list"], FIRST_SCRIPT, unread, unwritten) {
+        None => false,
+        Some((status, sink)) => status == 6 && sink.taken().is_empty(),
+    }
 }
 
 #[test]
 fn a_failed_read_or_write_gives_six(rt: HostRuntime) {
     let rows: [(&[u64], &[u64]); 4] = [(&[1], &[]), (&[2], &[]), (&[], &[1]), (&[1], &[1])];
     for (unread, unwritten) in rows {
-        let Some((status, sink)) = ran(
-            rt.alloc(),
-            &["replay", "list"],
-            FIRST_SCRIPT,
-            unread,
-            unwritten,
-        ) else {
-            return assert!(rt; false);
-        };
-        assert!(rt; status == 6);
-        assert!(rt; sink.taken().is_empty());
+        assert!(rt; gives_six(rt.alloc(), unread, unwritten));
     }
 }
 
 /// Words, an input and what is printed.
 pub(crate) type Run = (&'static [&'static str], &'static [u8], &'static [u8]);
 
-/// Runs worked out by hand, each with its words, its input and what it prints: an id that is made, one that is taken, the greatest number,
-/// and two messages in two epochs and in one.
+/// Runs worked out by hand, each with its words, its input and what it prints: an id that is made, one
+/// that is taken, the greatest number, and two messages in two epochs and in one.
 pub(crate) const WORKED: [Run; 5] = [
     (
         &["replay", "list"],
@@ -302,11 +333,7 @@ pub(crate) const WORKED: [Run; 5] = [
 #[test]
 fn worked_runs(rt: HostRuntime) {
     for (words, input, printed) in WORKED {
-        let Some((status, sink)) = ran(rt.alloc(), words, input, &[], &[]) else {
-            return assert!(rt; false);
-        };
-        assert!(rt; status == 0);
-        assert!(rt; sink.taken() == printed);
+        assert!(rt; prints(rt.alloc(), words, input, 0, printed));
     }
 }
 
@@ -326,12 +353,18 @@ impl Source for Endless {
     }
 }
 
+/// Returns the status of a script without an end, and the output.
+fn ran_endless(alloc: Global) -> (u8, MemSink) {
+    let mut sink = MemSink::new(alloc, Numbers::new(alloc));
+    let disk = MemDisk::new(alloc, Numbers::new(alloc));
+    let words = &["replay", "list"];
+    let (status, _disk) = run(alloc, words, disk, &mut Endless, &mut sink, &mut Still);
+    (status, sink)
+}
+
 #[test]
 fn an_input_without_an_end_is_too_long(rt: HostRuntime) {
-    let mut sink = MemSink::new(rt.alloc(), Numbers::new(rt.alloc()));
-    let disk = MemDisk::new(rt.alloc(), Numbers::new(rt.alloc()));
-    let words = &["replay", "list"];
-    let (status, _disk) = run(rt.alloc(), words, disk, &mut Endless, &mut sink, &mut Still);
+    let (status, sink) = ran_endless(rt.alloc());
     assert!(rt; status == 9);
     assert!(rt; sink.taken() == b"script too long\n".as_slice());
 }
