@@ -1,5 +1,5 @@
 -- Lists of mailboxes and groups are read back.
-use Rattle.std.proofs.Common.{◌≡◌, ◌⊎◌, inl, inr, ℕ, suc, ◌+◌, Bool, true, false, cond, ◌==◌, ◌&&◌, ◌||◌, not, List, [], ◌∷◌, ◌++◌, map, Option, Some, length, drop, refl, sym, ◌∙◌, ap, append_assoc, append-nil, zero-add, arith}
+use Rattle.std.proofs.Common.{◌≡◌, ◌⊎◌, inl, inr, ℕ, suc, ◌+◌, ◌<◌, Bool, true, false, cond, ◌==◌, ◌&&◌, ◌||◌, not, List, [], ◌∷◌, ◌++◌, map, Option, Some, length, drop, refl, sym, ◌∙◌, ap, append_assoc, append-nil, zero-add, arith}
 use Rattle.std.proofs.lemmas.Bool.{false_from_ne_true, eqb-true}
 use Rattle.std.proofs.lemmas.Bool.Decides.{nat_tests}
 use Rattle.std.proofs.lemmas.List.{take_at, drop_at, drop-drop, length-append}
@@ -17,7 +17,7 @@ use Rattle.mail_address.specs.Items.{cut, onto_item, items_of, ends_item, len_be
 use Rattle.mail_address.specs.Addresses.{told, mailbox_in, mailbox_with, without_route, group_start}
 use Rattle.mail_address.specs.Grammar.{QuotedPart, Literal, Escaped, CommentInside, Empty, TextThen, EscapedThen, CommentThen, is_quoted_byte, AreQuoted, quoted_bytes, Piece, Byte, QuotedString, CommentText, piece_bytes, spelled_pieces, IsPiece, ArePieces}
 use Rattle.mail_address.specs.Laws.{is_plain}
-use Rattle.mail_address.specs.Mailboxes.{quoted_said, said_in_name, said_in_address, name_said, address_said, WrittenMailbox, is_route_byte, IsRoute, HasNo, IsWritten, written, written_list, Member, One, Group, AllWritten, IsMember, AreMembers, member_bytes, member_list, mailbox_said, member_said, MembersReadBack}
+use Rattle.mail_address.specs.Mailboxes.{quoted_said, said_in_name, said_in_address, name_said, address_said, WrittenMailbox, is_route_byte, IsRoute, HasNo, AreColonsFree, IsWritten, written, written_list, Member, One, Group, AllWritten, IsMember, AreMembers, member_bytes, member_list, mailbox_said, member_said, MembersReadBack}
 use Rattle.mail_address.proofs.Cutting.{put_before}
 use Rattle.mail_address.proofs.Seeking.{bytes_of-marked_by}
 use Rattle.mail_address.proofs.Spacing.{without_space-space}
@@ -409,14 +409,45 @@ inner_are m w =
     are_two is_address_byte (map Byte m.route) (m.local_part ++ Byte 64 ∷ m.host) (route_are m.route w.route)
     (are_two is_address_byte m.local_part (Byte 64 ∷ m.host) (weaker is_plain is_address_byte plain_address m.local_part w.local_part) (refl, weaker is_plain is_address_byte plain_address m.host w.host))
 
+-- an address that begins with another byte than `@` has no route
+abbrev BeginsElse : List ℕ → Type 0
+BeginsElse [] = ⊥
+BeginsElse (b ∷ bs) = (b == 64) ≡ false
+
+route_none : (xs tail : List ℕ) → BeginsElse xs → without_route (xs ++ tail) ≡ xs ++ tail
+route_none [] tail h = absurd h
+route_none (b ∷ bs) tail h = rw h refl
+
+begins_else : (pieces : List Piece) → ArePieces is_plain pieces → 0 < length (address_said pieces) → BeginsElse (address_said pieces)
+begins_else [] q some = absurd (omega arith)
+begins_else (Byte b ∷ pieces) q some = by (b == 32) b q.0 (address_said pieces) (begins_else pieces q.1) some
+  where
+    no_at : (b : ℕ) → is_plain b ≡ true → (b == 64) ≡ false
+    no_at b h = grind (arith, nat_tests)
+
+    by : (t : Bool) (b : ℕ) → is_plain b ≡ true → (xs : List ℕ) → (0 < length xs → BeginsElse xs)
+        → 0 < length (cond t [] (b ∷ []) ++ xs) → BeginsElse (cond t [] (b ∷ []) ++ xs)
+    by true b plain xs later some = later some
+    by false b plain xs later some = no_at b plain
+begins_else (QuotedString parts ∷ pieces) q some = refl
+begins_else (CommentText inside ∷ pieces) q some = begins_else pieces q.1 some
+
 address_of : (m : WrittenMailbox) → IsWritten m → without_route (address_text (spelled_pieces (addressed m))) ≡ address_said m.local_part ++ 64 ∷ address_said m.host
 address_of m w =
     let tail = address_said m.local_part ++ 64 ∷ address_said m.host in
     let said : address_said (addressed m) ≡ m.route ++ tail =
     said_two said_in_address (map Byte m.route) (m.local_part ++ Byte 64 ∷ m.host)
     ∙ (λ i. said_bytes m.route (route_lacks m.route w.route) i ++ said_two said_in_address m.local_part (Byte 64 ∷ m.host) i) in
-    let free : Lacks 58 tail = has_no-append 58 (address_said m.local_part) (64 ∷ address_said m.host) (lacks 58 (address_said m.local_part) w.no_colon) (refl, lacks 58 (address_said m.host) w.no_host_colon) in
-    ap without_route (address_is (addressed m) (inner_are m w) ∙ said) ∙ route_goes m.route tail w.route free
+    ap without_route (address_is (addressed m) (inner_are m w) ∙ said) ∙ goes m w.local_part w.route w.colons
+  where
+    goes : (m : WrittenMailbox) → ArePieces is_plain m.local_part → (m.route ≡ []) ⊎ IsRoute m.route → AreColonsFree m
+        → without_route (m.route ++ (address_said m.local_part ++ 64 ∷ address_said m.host)) ≡ address_said m.local_part ++ 64 ∷ address_said m.host
+    goes m plain route (inl none) =
+        ap (λ (xs : List ℕ). without_route (xs ++ (address_said m.local_part ++ 64 ∷ address_said m.host))) none.0
+        ∙ route_none (address_said m.local_part) (64 ∷ address_said m.host) (begins_else m.local_part plain none.1)
+    goes m plain route (inr free) =
+        route_goes m.route (address_said m.local_part ++ 64 ∷ address_said m.host) route
+        (has_no-append 58 (address_said m.local_part) (64 ∷ address_said m.host) (lacks 58 (address_said m.local_part) free.0) (refl, lacks 58 (address_said m.host) free.1))
 
 -- pieces in front of a name that say nothing there
 record IsLead (lead : List Piece) : Type 0 where
