@@ -1,5 +1,5 @@
 //! What holds of the addresses of a list, as contracts of calls that do nothing.
-ghost use Rattle.mail_address.specs.Laws.{EmptyValue, OutsideIsBetween, PlainReadBack};
+ghost use Rattle.mail_address.specs.Laws.{EmptyValue, EveryValueIsFront, OutsideIsBetween, PlainReadBack};
 ghost use Rattle.mail_address.specs.Mailboxes.{MembersReadBack};
 
 /// A value without bytes has no addresses.
@@ -12,7 +12,13 @@ pub fn plain_read_back()
     ensures { PlainReadBack }
 {}
 
-/// What is taken as outside of quoted strings and comments is just what stands outside of those that a value is spelled with.
+/// Every value is the front of a text that is spelled from bytes outside, whole quoted strings and whole comments.
+pub fn every_value_is_front()
+    ensures { EveryValueIsFront }
+{}
+
+/// What is taken as outside of quoted strings and comments is just what stands outside of those that a value, or a text
+/// that it is the front of, is spelled with.
 pub fn outside_is_between()
     ensures { OutsideIsBetween }
 {}
