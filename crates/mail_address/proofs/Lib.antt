@@ -6,3 +6,4 @@ pub mod Plain
 pub mod Marks
 pub mod Mailboxes
 pub mod Fronts
+pub mod Joining

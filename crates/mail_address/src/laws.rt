@@ -1,6 +1,7 @@
 //! What holds of the addresses of a list, as contracts of calls that do nothing.
 ghost use Rattle.mail_address.specs.Laws.{EmptyValue, EveryValueIsFront, OutsideIsBetween, PlainReadBack};
 ghost use Rattle.mail_address.specs.Mailboxes.{MembersReadBack};
+ghost use Rattle.mail_address.specs.Texts.{WordsAreJoined, SpacesAreNoWords};
 
 /// A value without bytes has no addresses.
 pub fn empty_value()
@@ -27,4 +28,10 @@ pub fn outside_is_between()
 /// as they are.
 pub fn members_read_back()
     ensures { MembersReadBack }
+{}
+
+/// The words of a name are joined by one space each, and spaces at its ends go.
+pub fn words_are_joined()
+    ensures words { WordsAreJoined }
+    ensures spaces { SpacesAreNoWords }
 {}
