@@ -7,3 +7,5 @@ pub mod Marks
 pub mod Mailboxes
 pub mod Fronts
 pub mod Joining
+pub mod Single
+pub mod Texts

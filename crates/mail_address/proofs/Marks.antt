@@ -104,7 +104,7 @@ marks_inside next m n (CommentThen inner more) q ys =
     (sym (append_assoc (inside_marks (suc (suc n)) inner) ((41, Comment (suc (suc n))) ∷ inside_marks (suc n) more) ((41, Comment (suc n)) ∷ marked_by next (place_behind_comment (suc n)) ys)))
 
 -- a piece, and pieces: behind each nothing is open
-marks_piece : (next : Place → ℕ → Place) → Moves next → (p : ℕ → Bool) → ((b : ℕ) → p b ≡ true → next Outside b ≡ Outside)
+pub marks_piece : (next : Place → ℕ → Place) → Moves next → (p : ℕ → Bool) → ((b : ℕ) → p b ≡ true → next Outside b ≡ Outside)
     → (piece : Piece) → IsPiece p piece → (ys : List ℕ) → marked_by next Outside (piece_bytes piece ++ ys) ≡ piece_marks piece ++ marked_by next Outside ys
 marks_piece next m p stays (Byte b) q ys = ap (λ place. (b, Outside) ∷ marked_by next place ys) (stays b q)
 marks_piece next m p stays (QuotedString parts) q ys =

@@ -8,3 +8,4 @@ pub mod Grammar
 pub mod Laws
 pub mod Mailboxes
 pub mod Texts
+pub mod Single

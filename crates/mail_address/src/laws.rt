@@ -1,7 +1,8 @@
 //! What holds of the addresses of a list, as contracts of calls that do nothing.
 ghost use Rattle.mail_address.specs.Laws.{EmptyValue, EveryValueIsFront, OutsideIsBetween, PlainReadBack};
 ghost use Rattle.mail_address.specs.Mailboxes.{MembersReadBack};
-ghost use Rattle.mail_address.specs.Texts.{WordsAreJoined, SpacesAreNoWords};
+ghost use Rattle.mail_address.specs.Texts.{WordsAreJoined, SpacesAreNoWords, NameTextIsSaid, AddressTextIsSaid};
+ghost use Rattle.mail_address.specs.Single.{BareReads, ItemReads, OpenItemReads, GroupReads};
 
 /// A value without bytes has no addresses.
 pub fn empty_value()
@@ -34,4 +35,30 @@ pub fn members_read_back()
 pub fn words_are_joined()
     ensures words { WordsAreJoined }
     ensures spaces { SpacesAreNoWords }
+{}
+
+/// A list of one item without `<` has its last comment as the name, and what stands outside of comments as the address.
+pub fn bare_reads()
+    ensures { BareReads }
+{}
+
+/// A list of one item with `<` has what stands up to `>`, or up to the end, as the address; what follows `>` is skipped.
+pub fn item_reads()
+    ensures closed { ItemReads }
+    ensures open_ended { OpenItemReads }
+{}
+
+/// The text of a name is what its parts say: a backslash goes, and the byte that it takes along stays.
+pub fn name_text_is_said()
+    ensures { NameTextIsSaid }
+{}
+
+/// The text of an address is what its pieces say.
+pub fn address_text_is_said()
+    ensures { AddressTextIsSaid }
+{}
+
+/// A group that is open at the end of a value ends there, and a colon in it ends no item.
+pub fn group_reads()
+    ensures { GroupReads }
 {}
