@@ -1,5 +1,5 @@
 -- The words of a text are joined.
-use Rattle.std.proofs.Common.{◌≡◌, ℕ, zero, suc, ◌<◌, Bool, true, false, ◌==◌, ◌&&◌, not, List, [], ◌∷◌, ◌++◌, length, replicate, refl, sym, ◌∙◌, ap, append_assoc, arith}
+use Rattle.std.proofs.Common.{◌≡◌, ℕ, zero, suc, ◌<◌, true, false, List, [], ◌∷◌, ◌++◌, length, replicate, refl, ◌∙◌, ap, append_assoc, arith}
 use Rattle.std.specs.List.{All, flat_map}
 use Rattle.mail_address.specs.Words.{begins_word, spaced, without_space, joined_words}
 use Rattle.mail_address.specs.Texts.{IsWord, spread, WordsAreJoined, SpacesAreNoWords}

@@ -1,11 +1,11 @@
 -- Lists of one item or one group are read.
-use Rattle.std.proofs.Common.{◌≡◌, ℕ, suc, ◌+◌, ◌<◌, Bool, true, false, cond, ◌==◌, ◌&&◌, not, nat_lt, nat_le, List, [], ◌∷◌, ◌++◌, length, refl, sym, ◌∙◌, ap, append_assoc, append-nil, arith}
+use Rattle.std.proofs.Common.{◌≡◌, ℕ, suc, ◌+◌, Bool, true, false, cond, ◌==◌, ◌&&◌, nat_lt, nat_le, List, [], ◌∷◌, ◌++◌, length, refl, sym, ◌∙◌, ap, append_assoc, append-nil, arith}
 use Rattle.std.proofs.Math.Numerals.{one-add}
 use Rattle.std.proofs.lemmas.Bool.Decides.{nat_tests}
 use Rattle.std.proofs.lemmas.List.{take_all}
 use Rattle.std.specs.List.{position_or_len, before_first}
 use Rattle.mail_address.specs.declared.place.Place.{Place}
-use Rattle.mail_address.specs.declared.place.Place.TheVariants.{Outside, Quoted, Comment, CommentPair}
+use Rattle.mail_address.specs.declared.place.Place.TheVariants.{Outside, Quoted, Comment}
 use Rattle.mail_address.specs.declared.place.Sought.TheVariants.{OpenBracket, CloseBracket, CommentEnd}
 use Rattle.mail_address.specs.declared.items.Ending.{Ending}
 use Rattle.mail_address.specs.declared.items.Ending.TheVariants.{Semicolon}
@@ -16,16 +16,15 @@ use Rattle.mail_address.specs.Splits.{split_last, part_behind}
 use Rattle.mail_address.specs.Words.{name_text, address_text}
 use Rattle.mail_address.specs.Items.{cut, onto_item, items_of, len_before, has_bracket, last_comment, name_bytes, address_bytes, up_to_bracket}
 use Rattle.mail_address.specs.Addresses.{told, mailbox_in, mailbox_with, without_route}
-use Rattle.mail_address.specs.Grammar.{QuotedPart, Literal, Escaped, CommentInside, Empty, TextThen, EscapedThen, CommentThen, is_comment_byte, IsInside, inside_bytes, Piece, Byte, QuotedString, CommentText, spelled_pieces, IsPiece, ArePieces, is_outer_byte}
+use Rattle.mail_address.specs.Grammar.{QuotedPart, Literal, Escaped, CommentInside, Empty, TextThen, EscapedThen, CommentThen, is_comment_byte, IsInside, inside_bytes, Piece, Byte, QuotedString, CommentText, spelled_pieces, ArePieces, is_outer_byte}
 use Rattle.mail_address.specs.Laws.{is_plain}
 use Rattle.mail_address.specs.Mailboxes.{name_said, address_said}
 use Rattle.mail_address.specs.Single.{last_inside, bare_said, is_bare_byte, BareReads, is_inner_byte, ItemReads, OpenItemReads, is_grouped_byte, GroupReads}
 use Rattle.mail_address.proofs.Cutting.{put_before}
 use Rattle.mail_address.proofs.Seeking.{part_behind-split_with}
-use Rattle.mail_address.proofs.Plain.{nat_lt-true}
 use Rattle.mail_address.proofs.Marks.{moves, quoted_marks, inside_marks, piece_marks, all_marks, marks_whole, outer_stays}
 use Rattle.mail_address.specs.Places.{next_place}
-use Rattle.mail_address.proofs.Mailboxes.{Quiet, quiet_pieces, weaker, is_item_byte, is_address_byte, plain_stays, plain_address, address_stays, cut_outer, cut_inner, seek_outer, seek_inner, bytes_back, name_is, address_is, line, inner_quiet, marks_address, cut_front, cut_line, name_line, address_line, up_to_line, end, told_colon}
+use Rattle.mail_address.proofs.Mailboxes.{Quiet, quiet_pieces, weaker, is_item_byte, is_address_byte, address_stays, cut_outer, cut_inner, seek_outer, seek_inner, bytes_back, name_is, address_is, line, inner_quiet, cut_front, cut_line, name_line, address_line, up_to_line, end, told_colon}
 
 -- marks of which none passes
 abbrev NoneOf : (ℕ × Place → Bool) → List (ℕ × Place) → Type 0
@@ -108,7 +107,7 @@ last_is (Byte b ∷ pieces) others found q e =
     no_start b h = grind (arith, nat_tests)
 last_is (QuotedString parts ∷ pieces) others found q e =
     ap (λ (ms : List (ℕ × Place)). bytes_of (before_first (is_sought CommentEnd) ms))
-        (starts_skipped (piece_marks (QuotedString parts)) (all_marks pieces) others (refl, none_append is_comment_start (quoted_marks parts) ((34, Quoted) ∷ []) (quoted_starts parts) (refl, tt)))
+    (starts_skipped (piece_marks (QuotedString parts)) (all_marks pieces) others (refl, none_append is_comment_start (quoted_marks parts) ((34, Quoted) ∷ []) (quoted_starts parts) (refl, tt)))
     ∙ last_is pieces others found q.1 e
 last_is (CommentText inside ∷ pieces) others found q e =
     let within = inside_marks 1 inside ++ (41, Comment 1) ∷ [] in

@@ -5,7 +5,6 @@ use Rattle.mail_address.specs.declared.place.Place.{Place}
 use Rattle.mail_address.specs.declared.place.Place.TheVariants.{Outside}
 use Rattle.mail_address.specs.Places.{next_name_place, marked_by, bytes_of}
 use Rattle.mail_address.specs.Words.{joined_words}
-use Rattle.mail_address.specs.Grammar.{Piece, piece_bytes}
 use Rattle.mail_address.specs.Mailboxes.{said_in_name}
 use Rattle.mail_address.specs.Texts.{NamePart, Whole, Taken, is_name_byte, AreNameParts, part_bytes, part_said, NameTextIsSaid, AddressTextIsSaid}
 use Rattle.mail_address.proofs.Marks.{moves_in_name, marks_piece}

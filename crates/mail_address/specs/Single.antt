@@ -19,7 +19,8 @@ last_inside (CommentText inside ∷ pieces) found = last_inside pieces (inside_b
 abbrev pub bare_said : List Piece → List Address
 bare_said pieces = mailbox_with (name_text (last_inside pieces [])) (without_route (address_said pieces))
 
--- a byte outside that neither ends an item nor begins an address between brackets: none of `,`, `:`, `;` and `<`
+-- a byte outside that neither ends an item nor begins an address between brackets: none of `,`, `:`,
+-- `;` and `<`
 abbrev pub is_bare_byte : ℕ → Bool
 is_bare_byte b = is_outer_byte b && not (b == 44) && not (b == 58) && not (b == 59) && not (b == 60)
 

@@ -14,13 +14,14 @@ pub fn plain_read_back()
     ensures { PlainReadBack }
 {}
 
-/// Every value is the front of a text that is spelled from bytes outside, whole quoted strings and whole comments.
+/// Every value is the front of a text that is spelled from bytes outside, whole quoted strings and
+/// whole comments.
 pub fn every_value_is_front()
     ensures { EveryValueIsFront }
 {}
 
-/// What is taken as outside of quoted strings and comments is just what stands outside of those that a value, or a text
-/// that it is the front of, is spelled with.
+/// What is taken as outside of quoted strings and comments is just what stands outside of those that
+/// a value, or a text that it is the front of, is spelled with.
 pub fn outside_is_between()
     ensures { OutsideIsBetween }
 {}
@@ -37,18 +38,23 @@ pub fn words_are_joined()
     ensures spaces { SpacesAreNoWords }
 {}
 
-/// A list of one item without `<` has its last comment as the name, and what stands outside of comments as the address.
+/// An item without `<` is a mailbox with its last comment as the name.
+///
+/// Its address is what stands outside of comments.
 pub fn bare_reads()
     ensures { BareReads }
 {}
 
-/// A list of one item with `<` has what stands up to `>`, or up to the end, as the address; what follows `>` is skipped.
+/// An item with `<` is a mailbox with the address that follows, up to `>` or up to the end.
+///
+/// What follows `>` is skipped.
 pub fn item_reads()
     ensures closed { ItemReads }
     ensures open_ended { OpenItemReads }
 {}
 
-/// The text of a name is what its parts say: a backslash goes, and the byte that it takes along stays.
+/// The text of a name is what its parts say: of a backslash and the byte that it takes along, the byte
+/// alone stays.
 pub fn name_text_is_said()
     ensures { NameTextIsSaid }
 {}
