@@ -5,3 +5,7 @@ pub mod Parting
 pub mod Plain
 pub mod Marks
 pub mod Mailboxes
+pub mod Fronts
+pub mod Joining
+pub mod Single
+pub mod Texts

@@ -1,5 +1,5 @@
 -- Lists of mailboxes and groups are read back.
-use Rattle.std.proofs.Common.{◌≡◌, ◌⊎◌, inl, inr, ℕ, suc, ◌+◌, Bool, true, false, cond, ◌==◌, ◌&&◌, ◌||◌, not, List, [], ◌∷◌, ◌++◌, map, Option, Some, length, drop, refl, sym, ◌∙◌, ap, append_assoc, append-nil, zero-add, arith}
+use Rattle.std.proofs.Common.{◌≡◌, ◌⊎◌, inl, inr, ℕ, suc, ◌+◌, ◌<◌, Bool, true, false, cond, ◌==◌, ◌&&◌, ◌||◌, not, List, [], ◌∷◌, ◌++◌, map, Option, Some, length, drop, refl, sym, ◌∙◌, ap, append_assoc, append-nil, zero-add, arith}
 use Rattle.std.proofs.lemmas.Bool.{false_from_ne_true, eqb-true}
 use Rattle.std.proofs.lemmas.Bool.Decides.{nat_tests}
 use Rattle.std.proofs.lemmas.List.{take_at, drop_at, drop-drop, length-append}
@@ -15,17 +15,18 @@ use Rattle.mail_address.specs.Splits.{split_last, is_this, part_behind}
 use Rattle.mail_address.specs.Words.{stays_in_name, stays_in_address, joined_words, name_text, address_text}
 use Rattle.mail_address.specs.Items.{cut, onto_item, items_of, ends_item, len_before, has_bracket, behind_bracket, up_to_bracket, name_bytes, address_bytes}
 use Rattle.mail_address.specs.Addresses.{told, mailbox_in, mailbox_with, without_route, group_start}
-use Rattle.mail_address.specs.Grammar.{QuotedPart, Literal, Escaped, CommentInside, Empty, TextThen, EscapedThen, CommentThen, is_quoted_byte, AreQuoted, quoted_bytes, Piece, Byte, QuotedString, CommentText, piece_bytes, spelled_pieces, IsPiece, ArePieces}
+use Rattle.mail_address.specs.Grammar.{QuotedPart, Literal, Escaped, CommentInside, Empty, TextThen, EscapedThen, CommentThen, is_quoted_byte, AreQuoted, quoted_bytes, Piece, Byte, QuotedString, CommentText, piece_bytes, spelled_pieces, IsPiece, ArePieces, is_outer_byte}
 use Rattle.mail_address.specs.Laws.{is_plain}
-use Rattle.mail_address.specs.Mailboxes.{quoted_said, said_in_name, said_in_address, name_said, address_said, WrittenMailbox, is_route_byte, IsRoute, HasNo, IsWritten, written, written_list, Member, One, Group, AllWritten, IsMember, AreMembers, member_bytes, member_list, mailbox_said, member_said, MembersReadBack}
+use Rattle.mail_address.specs.Texts.{is_name_byte}
+use Rattle.mail_address.specs.Mailboxes.{quoted_said, said_in_name, said_in_address, name_said, address_said, WrittenMailbox, is_route_byte, IsRoute, HasNo, AreColonsFree, IsWritten, written, written_list, Member, One, Group, AllWritten, IsMember, AreMembers, member_bytes, member_list, mailbox_said, member_said, MembersReadBack}
 use Rattle.mail_address.proofs.Cutting.{put_before}
 use Rattle.mail_address.proofs.Seeking.{bytes_of-marked_by}
 use Rattle.mail_address.proofs.Spacing.{without_space-space}
 use Rattle.mail_address.proofs.Plain.{HasNo as Lacks, all_head, all_tail, put_before-nil, onto_item-put_before, put_before-line, nat_lt-true, mailbox_with-at, cond_same, has_no-append, split_last-no, split_last-this}
-use Rattle.mail_address.proofs.Marks.{moves, moves_in_name, quoted_marks, inside_marks, piece_marks, all_marks, marks_all, marks_whole}
+use Rattle.mail_address.proofs.Marks.{moves, moves_in_name, quoted_marks, inside_marks, piece_marks, all_marks, marks_all, marks_whole, outer_stays}
 
 -- marks that stand in a quoted string or a comment, or whose bytes pass
-abbrev Quiet : (ℕ → Bool) → List (ℕ × Place) → Type 0
+abbrev pub Quiet : (ℕ → Bool) → List (ℕ × Place) → Type 0
 Quiet p [] = Unit {0}
 Quiet p (mark ∷ ms) = ((is_outside mark.1 && not (p mark.0)) ≡ false) × Quiet p ms
 
@@ -49,7 +50,7 @@ passing : (t : Bool) → t ≡ true → not t ≡ false
 passing true e = refl
 passing false e = cc
 
-quiet_pieces : (p : ℕ → Bool) → p 34 ≡ true → p 40 ≡ true → (pieces : List Piece) → ArePieces p pieces → Quiet p (all_marks pieces)
+pub quiet_pieces : (p : ℕ → Bool) → p 34 ≡ true → p 40 ≡ true → (pieces : List Piece) → ArePieces p pieces → Quiet p (all_marks pieces)
 quiet_pieces p quote paren [] q = tt
 quiet_pieces p quote paren (Byte b ∷ pieces) q = (passing (p b) q.0, quiet_pieces p quote paren pieces q.1)
 quiet_pieces p quote paren (QuotedString parts ∷ pieces) q = (
@@ -64,46 +65,40 @@ quiet_pieces p quote paren (CommentText inside ∷ pieces) q = (
 )
 
 -- pieces that pass one test pass a weaker one
-weaker : (p r : ℕ → Bool) → ((b : ℕ) → p b ≡ true → r b ≡ true) → (pieces : List Piece) → ArePieces p pieces → ArePieces r pieces
+pub weaker : (p r : ℕ → Bool) → ((b : ℕ) → p b ≡ true → r b ≡ true) → (pieces : List Piece) → ArePieces p pieces → ArePieces r pieces
 weaker p r h [] q = tt
 weaker p r h (Byte b ∷ pieces) q = (h b q.0, weaker p r h pieces q.1)
 weaker p r h (QuotedString parts ∷ pieces) q = (q.0, weaker p r h pieces q.1)
 weaker p r h (CommentText inside ∷ pieces) q = (q.0, weaker p r h pieces q.1)
 
--- bytes that end no item and open no bracket, and those that close none
-abbrev is_item_byte : ℕ → Bool
-is_item_byte b = not (b == 44) && not (b == 58) && not (b == 59) && not (b == 60)
+-- bytes that end no item, where a group is open or not, and open no bracket, and those that close none
+abbrev pub is_item_byte : Bool → ℕ → Bool
+is_item_byte g b = not (b == 44) && not (b == 58 && not g) && not (b == 59) && not (b == 60)
 
-abbrev is_bracket_byte : ℕ → Bool
+abbrev pub is_bracket_byte : ℕ → Bool
 is_bracket_byte b = not (b == 62)
 
-plain_item : (b : ℕ) → is_plain b ≡ true → is_item_byte b ≡ true
-plain_item b h = grind (arith, nat_tests)
+plain_item : (g : Bool) (b : ℕ) → is_plain b ≡ true → is_item_byte g b ≡ true
+plain_item true b h = grind (arith, nat_tests)
+plain_item false b h = grind (arith, nat_tests)
 
-plain_stays : (b : ℕ) → is_plain b ≡ true → next_place Outside b ≡ Outside
+pub plain_stays : (b : ℕ) → is_plain b ≡ true → next_place Outside b ≡ Outside
 plain_stays b h =
     let quote : (b == 34) ≡ false = grind (arith, nat_tests) in
     let paren : (b == 40) ≡ false = grind (arith, nat_tests) in
     rw (quote, paren) refl
 
-plain_stays_in_name : (b : ℕ) → is_plain b ≡ true → next_name_place Outside b ≡ Outside
-plain_stays_in_name b h =
-    let quote : (b == 34) ≡ false = grind (arith, nat_tests) in
-    let paren : (b == 40) ≡ false = grind (arith, nat_tests) in
-    let backslash : (b == 92) ≡ false = grind (arith, nat_tests) in
-    rw (backslash, quote, paren) refl
-
 -- a byte of an address as it is written: one of a route, of what says the mailbox, or a space
-abbrev is_address_byte : ℕ → Bool
+abbrev pub is_address_byte : ℕ → Bool
 is_address_byte b = not (b == 34) && not (b == 40) && not (b == 62)
 
-plain_address : (b : ℕ) → is_plain b ≡ true → is_address_byte b ≡ true
+pub plain_address : (b : ℕ) → is_plain b ≡ true → is_address_byte b ≡ true
 plain_address b h = grind (arith, nat_tests)
 
 route_address : (b : ℕ) → is_route_byte b ≡ true → is_address_byte b ≡ true
 route_address b h = grind (arith, nat_tests)
 
-address_stays : (b : ℕ) → is_address_byte b ≡ true → next_place Outside b ≡ Outside
+pub address_stays : (b : ℕ) → is_address_byte b ≡ true → next_place Outside b ≡ Outside
 address_stays b h =
     let quote : (b == 34) ≡ false = grind (arith, nat_tests) in
     let paren : (b == 40) ≡ false = grind (arith, nat_tests) in
@@ -112,21 +107,36 @@ address_stays b h =
 address_bracket : (b : ℕ) → is_address_byte b ≡ true → is_bracket_byte b ≡ true
 address_bracket b h = grind (arith, nat_tests)
 
+address_outer : (b : ℕ) → is_address_byte b ≡ true → is_outer_byte b ≡ true
+address_outer b h = grind (arith, nat_tests)
+
+-- the bytes of a name, where no backslash stands outside
+plain_name : (b : ℕ) → is_plain b ≡ true → is_name_byte b ≡ true
+plain_name b h = grind (arith, nat_tests)
+
+pub name_stays : (b : ℕ) → is_name_byte b ≡ true → next_name_place Outside b ≡ Outside
+name_stays b h =
+    let quote : (b == 34) ≡ false = grind (arith, nat_tests) in
+    let paren : (b == 40) ≡ false = grind (arith, nat_tests) in
+    let backslash : (b == 92) ≡ false = grind (arith, nat_tests) in
+    rw (backslash, quote, paren) refl
+
 -- quiet marks are of the item that follows them
-ends_quiet : (g : Bool) (place : Place) (b : ℕ) → (is_outside place && not (is_item_byte b)) ≡ false → ends_item g false (b, place) ≡ false
+ends_quiet : (g : Bool) (place : Place) (b : ℕ) → (is_outside place && not (is_item_byte g b)) ≡ false → ends_item g false (b, place) ≡ false
 ends_quiet g place b h = by (is_outside place) g h
   where
-    by : (o g : Bool) → (o && not (is_item_byte b)) ≡ false → (true && o && (b == 44 || b == 59 || (b == 58 && not g))) ≡ false
+    by : (o g : Bool) → (o && not (is_item_byte g b)) ≡ false → (true && o && (b == 44 || b == 59 || (b == 58 && not g))) ≡ false
     by true true h = grind (arith, nat_tests)
     by true false h = grind (arith, nat_tests)
     by false g h = refl
 
-opens_quiet : (place : Place) (b : ℕ) → (is_outside place && not (is_item_byte b)) ≡ false → (is_outside place && b == 60) ≡ false
-opens_quiet place b h = by (is_outside place) h
+opens_quiet : (g : Bool) (place : Place) (b : ℕ) → (is_outside place && not (is_item_byte g b)) ≡ false → (is_outside place && b == 60) ≡ false
+opens_quiet g place b h = by (is_outside place) g h
   where
-    by : (o : Bool) → (o && not (is_item_byte b)) ≡ false → (o && b == 60) ≡ false
-    by true h = grind (arith, nat_tests)
-    by false h = refl
+    by : (o g : Bool) → (o && not (is_item_byte g b)) ≡ false → (o && b == 60) ≡ false
+    by true true h = grind (arith, nat_tests)
+    by true false h = grind (arith, nat_tests)
+    by false g h = refl
 
 closes_quiet : (place : Place) (b : ℕ) → (is_outside place && not (is_bracket_byte b)) ≡ false → (is_outside place && b == 62) ≡ false
 closes_quiet place b h = by (is_outside place) h
@@ -135,28 +145,28 @@ closes_quiet place b h = by (is_outside place) h
     by true h = grind (arith, nat_tests)
     by false h = refl
 
-cut_outer : (g : Bool) (ms ns : List (ℕ × Place)) → Quiet is_item_byte ms → cut g false (ms ++ ns) ≡ put_before (bytes_of ms) (cut g false ns)
+pub cut_outer : (g : Bool) (ms ns : List (ℕ × Place)) → Quiet (is_item_byte g) ms → cut g false (ms ++ ns) ≡ put_before (bytes_of ms) (cut g false ns)
 cut_outer g [] ns q = put_before-nil (cut g false ns)
 cut_outer g (m ∷ ms) ns q =
     let ends : ends_item g false m ≡ false = ends_quiet g m.1 m.0 q.0 in
-    let opens : (is_outside m.1 && m.0 == 60) ≡ false = opens_quiet m.1 m.0 q.0 in
+    let opens : (is_outside m.1 && m.0 == 60) ≡ false = opens_quiet g m.1 m.0 q.0 in
     rw (ends, opens, cut_outer g ms ns q.1) (onto_item-put_before m.0 (bytes_of ms) (cut g false ns))
 
-cut_inner : (g : Bool) (ms ns : List (ℕ × Place)) → Quiet is_bracket_byte ms → cut g true (ms ++ ns) ≡ put_before (bytes_of ms) (cut g true ns)
+pub cut_inner : (g : Bool) (ms ns : List (ℕ × Place)) → Quiet is_bracket_byte ms → cut g true (ms ++ ns) ≡ put_before (bytes_of ms) (cut g true ns)
 cut_inner g [] ns q = put_before-nil (cut g true ns)
 cut_inner g (m ∷ ms) ns q =
     let closes : (is_outside m.1 && m.0 == 62) ≡ false = closes_quiet m.1 m.0 q.0 in
     rw (closes, cut_inner g ms ns q.1) (onto_item-put_before m.0 (bytes_of ms) (cut g true ns))
 
 -- what is looked for is not among them
-seek_outer : (ms ns : List (ℕ × Place)) → Quiet is_item_byte ms
+pub seek_outer : (g : Bool) (ms ns : List (ℕ × Place)) → Quiet (is_item_byte g) ms
     → position_or_len (is_sought OpenBracket) (ms ++ ns) ≡ length (bytes_of ms) + position_or_len (is_sought OpenBracket) ns
-seek_outer [] ns q = sym (zero-add (position_or_len (is_sought OpenBracket) ns))
-seek_outer (m ∷ ms) ns q =
-    let opens : (is_outside m.1 && m.0 == 60) ≡ false = opens_quiet m.1 m.0 q.0 in
-    rw (opens, seek_outer ms ns q.1) (omega arith)
+seek_outer g [] ns q = sym (zero-add (position_or_len (is_sought OpenBracket) ns))
+seek_outer g (m ∷ ms) ns q =
+    let opens : (is_outside m.1 && m.0 == 60) ≡ false = opens_quiet g m.1 m.0 q.0 in
+    rw (opens, seek_outer g ms ns q.1) (omega arith)
 
-seek_inner : (ms ns : List (ℕ × Place)) → Quiet is_bracket_byte ms
+pub seek_inner : (ms ns : List (ℕ × Place)) → Quiet is_bracket_byte ms
     → position_or_len (is_sought CloseBracket) (ms ++ ns) ≡ length (bytes_of ms) + position_or_len (is_sought CloseBracket) ns
 seek_inner [] ns q = sym (zero-add (position_or_len (is_sought CloseBracket) ns))
 seek_inner (m ∷ ms) ns q =
@@ -169,7 +179,7 @@ quoted_back [] ms = refl
 quoted_back (Literal b ∷ parts) ms = ap (λ (xs : List ℕ). b ∷ xs) (quoted_back parts ms)
 quoted_back (Escaped b ∷ parts) ms = ap (λ (xs : List ℕ). 92 ∷ b ∷ xs) (quoted_back parts ms)
 
-bytes_back : (p : ℕ → Bool) → ((b : ℕ) → p b ≡ true → next_place Outside b ≡ Outside) → (pieces : List Piece) → ArePieces p pieces
+pub bytes_back : (p : ℕ → Bool) → ((b : ℕ) → p b ≡ true → next_place Outside b ≡ Outside) → (pieces : List Piece) → ArePieces p pieces
     → bytes_of (all_marks pieces) ≡ spelled_pieces pieces
 bytes_back p stays pieces q =
     ap bytes_of (sym (marks_whole next_place moves p stays pieces q)) ∙ bytes_of-marked_by next_place Outside (spelled_pieces pieces)
@@ -187,7 +197,7 @@ are_two p [] qs q r = r
 are_two p (x ∷ ps) qs q r = (q.0, are_two p ps qs q.1 r)
 
 -- what the marks of pieces say in a name
-abbrev keep_name : ℕ × Place → Bool
+abbrev pub keep_name : ℕ × Place → Bool
 keep_name mark = stays_in_name mark.1 mark.0
 
 abbrev keep_address : ℕ × Place → Bool
@@ -218,17 +228,17 @@ name_quoted (Literal b ∷ parts) q ms =
     no_backslash b h = grind (arith, nat_tests)
 name_quoted (Escaped b ∷ parts) q ms = ap (λ (xs : List ℕ). b ∷ xs) (name_quoted parts q ms)
 
-name_piece : (piece : Piece) → IsPiece is_plain piece → (ms : List (ℕ × Place))
+pub name_piece : (piece : Piece) → IsPiece is_name_byte piece → (ms : List (ℕ × Place))
     → bytes_of (filter keep_name (piece_marks piece ++ ms)) ≡ said_in_name piece ++ bytes_of (filter keep_name ms)
 name_piece (Byte b) q ms = rw (no_quote b q, no_paren b q, no_backslash b q) refl
   where
-    no_quote : (b : ℕ) → is_plain b ≡ true → (b == 34) ≡ false
+    no_quote : (b : ℕ) → is_name_byte b ≡ true → (b == 34) ≡ false
     no_quote b h = grind (arith, nat_tests)
 
-    no_paren : (b : ℕ) → is_plain b ≡ true → (b == 40) ≡ false
+    no_paren : (b : ℕ) → is_name_byte b ≡ true → (b == 40) ≡ false
     no_paren b h = grind (arith, nat_tests)
 
-    no_backslash : (b : ℕ) → is_plain b ≡ true → (b == 92) ≡ false
+    no_backslash : (b : ℕ) → is_name_byte b ≡ true → (b == 92) ≡ false
     no_backslash b h = grind (arith, nat_tests)
 name_piece (QuotedString parts) q ms =
     ap (λ ns. bytes_of (filter keep_name ns)) (append_assoc (quoted_marks parts) ((34, Quoted) ∷ []) ms) ∙ name_quoted parts q ((34, Quoted) ∷ ms)
@@ -236,13 +246,14 @@ name_piece (CommentText inside) q ms =
     ap (λ ns. bytes_of (filter keep_name ns)) (append_assoc (inside_marks 1 inside) ((41, Comment 1) ∷ []) ms)
     ∙ ap bytes_of (drop_inside keep_name (λ d b. refl) (λ d b. refl) 1 inside ((41, Comment 1) ∷ ms))
 
-name_pieces : (pieces : List Piece) → ArePieces is_plain pieces → bytes_of (filter keep_name (all_marks pieces)) ≡ flat_map said_in_name pieces
+name_pieces : (pieces : List Piece) → ArePieces is_name_byte pieces → bytes_of (filter keep_name (all_marks pieces)) ≡ flat_map said_in_name pieces
 name_pieces [] q = refl
 name_pieces (piece ∷ pieces) q = name_piece piece q.0 (all_marks pieces) ∙ ap (λ (xs : List ℕ). said_in_name piece ++ xs) (name_pieces pieces q.1)
 
-name_is : (pieces : List Piece) → ArePieces is_plain pieces → name_text (spelled_pieces pieces) ≡ name_said pieces
+pub name_is : (pieces : List Piece) → ArePieces is_plain pieces → name_text (spelled_pieces pieces) ≡ name_said pieces
 name_is pieces q =
-    ap joined_words (ap (λ ms. bytes_of (filter keep_name ms)) (marks_whole next_name_place moves_in_name is_plain plain_stays_in_name pieces q) ∙ name_pieces pieces q)
+    let named = weaker is_plain is_name_byte plain_name pieces q in
+    ap joined_words (ap (λ ms. bytes_of (filter keep_name ms)) (marks_whole next_name_place moves_in_name is_name_byte name_stays pieces named) ∙ name_pieces pieces named)
 
 -- and in an address
 address_quoted : (parts : List QuotedPart) (ms : List (ℕ × Place)) → bytes_of (filter keep_address (quoted_marks parts ++ ms)) ≡ quoted_bytes parts ++ bytes_of (filter keep_address ms)
@@ -250,11 +261,11 @@ address_quoted [] ms = refl
 address_quoted (Literal b ∷ parts) ms = ap (λ (xs : List ℕ). b ∷ xs) (address_quoted parts ms)
 address_quoted (Escaped b ∷ parts) ms = ap (λ (xs : List ℕ). 92 ∷ b ∷ xs) (address_quoted parts ms)
 
-address_piece : (piece : Piece) → IsPiece is_address_byte piece → (ms : List (ℕ × Place))
+address_piece : (piece : Piece) → IsPiece is_outer_byte piece → (ms : List (ℕ × Place))
     → bytes_of (filter keep_address (piece_marks piece ++ ms)) ≡ said_in_address piece ++ bytes_of (filter keep_address ms)
 address_piece (Byte b) q ms = rw (no_paren b q) (by (b == 32))
   where
-    no_paren : (b : ℕ) → is_address_byte b ≡ true → (b == 40) ≡ false
+    no_paren : (b : ℕ) → is_outer_byte b ≡ true → (b == 40) ≡ false
     no_paren b h = grind (arith, nat_tests)
 
     by : (t : Bool) → bytes_of (cond (true && not t) ((b, Outside) ∷ filter keep_address ms) (filter keep_address ms)) ≡ cond t [] (b ∷ []) ++ bytes_of (filter keep_address ms)
@@ -268,37 +279,37 @@ address_piece (CommentText inside) q ms =
     ap (λ ns. bytes_of (filter keep_address ns)) (append_assoc (inside_marks 1 inside) ((41, Comment 1) ∷ []) ms)
     ∙ ap bytes_of (drop_inside keep_address (λ d b. refl) (λ d b. refl) 1 inside ((41, Comment 1) ∷ ms))
 
-address_pieces : (pieces : List Piece) → ArePieces is_address_byte pieces → bytes_of (filter keep_address (all_marks pieces)) ≡ address_said pieces
+address_pieces : (pieces : List Piece) → ArePieces is_outer_byte pieces → bytes_of (filter keep_address (all_marks pieces)) ≡ address_said pieces
 address_pieces [] q = refl
 address_pieces (piece ∷ pieces) q = address_piece piece q.0 (all_marks pieces) ∙ ap (λ (xs : List ℕ). said_in_address piece ++ xs) (address_pieces pieces q.1)
 
-address_is : (pieces : List Piece) → ArePieces is_address_byte pieces → address_text (spelled_pieces pieces) ≡ address_said pieces
+pub address_is : (pieces : List Piece) → ArePieces is_outer_byte pieces → address_text (spelled_pieces pieces) ≡ address_said pieces
 address_is pieces q =
-    ap (λ ms. bytes_of (filter keep_address ms)) (marks_whole next_place moves is_address_byte address_stays pieces q) ∙ address_pieces pieces q
+    ap (λ ms. bytes_of (filter keep_address ms)) (marks_whole next_place moves is_outer_byte outer_stays pieces q) ∙ address_pieces pieces q
 
 -- a mailbox as it stands in a list: pieces of a name, pieces between brackets, and what follows
-abbrev line : List Piece → List Piece → List ℕ → List ℕ
+abbrev pub line : List Piece → List Piece → List ℕ → List ℕ
 line front inner ys = spelled_pieces front ++ 60 ∷ (spelled_pieces inner ++ 62 ∷ ys)
 
 marks_front : (front : List Piece) (ys : List ℕ) → ArePieces is_plain front → marked (spelled_pieces front ++ ys) ≡ all_marks front ++ marked ys
 marks_front front ys q = marks_all next_place moves is_plain plain_stays front q ys
 
-marks_address : (inner : List Piece) (ys : List ℕ) → ArePieces is_address_byte inner → marked (spelled_pieces inner ++ ys) ≡ all_marks inner ++ marked ys
+pub marks_address : (inner : List Piece) (ys : List ℕ) → ArePieces is_address_byte inner → marked (spelled_pieces inner ++ ys) ≡ all_marks inner ++ marked ys
 marks_address inner ys q = marks_all next_place moves is_address_byte address_stays inner q ys
 
-front_quiet : (front : List Piece) → ArePieces is_plain front → Quiet is_item_byte (all_marks front)
-front_quiet front q = quiet_pieces is_item_byte refl refl front (weaker is_plain is_item_byte plain_item front q)
+front_quiet : (g : Bool) (front : List Piece) → ArePieces is_plain front → Quiet (is_item_byte g) (all_marks front)
+front_quiet g front q = quiet_pieces (is_item_byte g) refl refl front (weaker is_plain (is_item_byte g) (plain_item g) front q)
 
-inner_quiet : (inner : List Piece) → ArePieces is_address_byte inner → Quiet is_bracket_byte (all_marks inner)
+pub inner_quiet : (inner : List Piece) → ArePieces is_address_byte inner → Quiet is_bracket_byte (all_marks inner)
 inner_quiet inner q = quiet_pieces is_bracket_byte refl refl inner (weaker is_address_byte is_bracket_byte address_bracket inner q)
 
-cut_front : (g : Bool) (front : List Piece) (ys : List ℕ) → ArePieces is_plain front
+pub cut_front : (g : Bool) (front : List Piece) (ys : List ℕ) → ArePieces is_plain front
     → cut g false (marked (spelled_pieces front ++ ys)) ≡ put_before (spelled_pieces front) (cut g false (marked ys))
 cut_front g front ys q =
-    ap (cut g false) (marks_front front ys q) ∙ cut_outer g (all_marks front) (marked ys) (front_quiet front q)
+    ap (cut g false) (marks_front front ys q) ∙ cut_outer g (all_marks front) (marked ys) (front_quiet g front q)
     ∙ ap (λ (xs : List ℕ). put_before xs (cut g false (marked ys))) (bytes_back is_plain plain_stays front q)
 
-cut_line : (g : Bool) (front inner : List Piece) (ys : List ℕ) → ArePieces is_plain front → ArePieces is_address_byte inner
+pub cut_line : (g : Bool) (front inner : List Piece) (ys : List ℕ) → ArePieces is_plain front → ArePieces is_address_byte inner
     → cut g false (marked (line front inner ys)) ≡ put_before (line front inner []) (cut g false (marked ys))
 cut_line g front inner ys q r =
     let within : cut g true (marked (spelled_pieces inner ++ 62 ∷ ys)) ≡ put_before (spelled_pieces inner) (onto_item 62 (cut g false (marked ys)))
@@ -308,47 +319,44 @@ cut_line g front inner ys q r =
     ∙ ap (λ (items : List (List ℕ × Ending)). put_before (spelled_pieces front) (onto_item 60 items)) within
     ∙ put_before-line (spelled_pieces front) (spelled_pieces inner) (cut g false (marked ys))
 
--- its parts
-len_line : (front inner : List Piece) → ArePieces is_plain front → len_before OpenBracket Outside (line front inner []) ≡ length (spelled_pieces front)
-len_line front inner q =
-    let behind = 60 ∷ (spelled_pieces inner ++ 62 ∷ []) in
-    let found : position_or_len (is_sought OpenBracket) (marked (spelled_pieces front ++ behind)) ≡ length (bytes_of (all_marks front)) + 0
-    = ap (position_or_len (is_sought OpenBracket)) (marks_front front behind q) ∙ seek_outer (all_marks front) (marked behind) (front_quiet front q) in
+-- its parts, whatever follows the bracket
+len_line : (front : List Piece) (more : List ℕ) → ArePieces is_plain front → len_before OpenBracket Outside (spelled_pieces front ++ 60 ∷ more) ≡ length (spelled_pieces front)
+len_line front more q =
+    let found : position_or_len (is_sought OpenBracket) (marked (spelled_pieces front ++ 60 ∷ more)) ≡ length (bytes_of (all_marks front)) + 0
+    = ap (position_or_len (is_sought OpenBracket)) (marks_front front (60 ∷ more) q) ∙ seek_outer false (all_marks front) (marked (60 ∷ more)) (front_quiet false front q) in
     let same : length (bytes_of (all_marks front)) ≡ length (spelled_pieces front) = ap length (bytes_back is_plain plain_stays front q) in
     omega arith
 
-has_line : (front inner : List Piece) → ArePieces is_plain front → has_bracket (line front inner []) ≡ true
-has_line front inner q =
-    let behind = 60 ∷ (spelled_pieces inner ++ 62 ∷ []) in
-    let len : len_before OpenBracket Outside (line front inner []) ≡ length (spelled_pieces front) = len_line front inner q in
-    let all : length (spelled_pieces front ++ behind) ≡ length (spelled_pieces front) + length behind = length-append (spelled_pieces front) behind in
-    nat_lt-true (len_before OpenBracket Outside (line front inner [])) (length (spelled_pieces front ++ behind)) (omega arith)
+has_line : (front : List Piece) (more : List ℕ) → ArePieces is_plain front → has_bracket (spelled_pieces front ++ 60 ∷ more) ≡ true
+has_line front more q =
+    let len : len_before OpenBracket Outside (spelled_pieces front ++ 60 ∷ more) ≡ length (spelled_pieces front) = len_line front more q in
+    let all : length (spelled_pieces front ++ 60 ∷ more) ≡ length (spelled_pieces front) + length (60 ∷ more) = length-append (spelled_pieces front) (60 ∷ more) in
+    nat_lt-true (len_before OpenBracket Outside (spelled_pieces front ++ 60 ∷ more)) (length (spelled_pieces front ++ 60 ∷ more)) (omega arith)
 
-name_line : (front inner : List Piece) → ArePieces is_plain front → name_bytes (line front inner []) ≡ spelled_pieces front
-name_line front inner q =
-    let has = has_line front inner q in
-    let len = len_line front inner q in
-    rw (has, len) (take_at (spelled_pieces front) (60 ∷ (spelled_pieces inner ++ 62 ∷ [])) (length (spelled_pieces front)) refl)
+pub name_line : (front : List Piece) (more : List ℕ) → ArePieces is_plain front → name_bytes (spelled_pieces front ++ 60 ∷ more) ≡ spelled_pieces front
+name_line front more q =
+    let has = has_line front more q in
+    let len = len_line front more q in
+    rw (has, len) (take_at (spelled_pieces front) (60 ∷ more) (length (spelled_pieces front)) refl)
 
-up_to_line : (inner : List Piece) → ArePieces is_address_byte inner → up_to_bracket (spelled_pieces inner ++ 62 ∷ []) ≡ spelled_pieces inner
-up_to_line inner r =
-    let found : position_or_len (is_sought CloseBracket) (marked (spelled_pieces inner ++ 62 ∷ [])) ≡ length (bytes_of (all_marks inner)) + 0
-    = ap (position_or_len (is_sought CloseBracket)) (marks_address inner (62 ∷ []) r) ∙ seek_inner (all_marks inner) (marked (62 ∷ [])) (inner_quiet inner r) in
+behind_line : (front : List Piece) (more : List ℕ) → ArePieces is_plain front → behind_bracket (spelled_pieces front ++ 60 ∷ more) ≡ more
+behind_line front more q =
+    let len = len_line front more q in
+    let at : drop (length (spelled_pieces front)) (spelled_pieces front ++ (60 ∷ more)) ≡ 60 ∷ more = drop_at (spelled_pieces front) (60 ∷ more) (length (spelled_pieces front)) refl in
+    rw len (sym (drop-drop 1 (length (spelled_pieces front)) (spelled_pieces front ++ (60 ∷ more))) ∙ ap (drop 1) at)
+
+pub address_line : (front : List Piece) (more : List ℕ) → ArePieces is_plain front → address_bytes (spelled_pieces front ++ 60 ∷ more) ≡ up_to_bracket more
+address_line front more q =
+    let has = has_line front more q in
+    rw has (ap up_to_bracket (behind_line front more q))
+
+pub up_to_line : (inner : List Piece) (ys : List ℕ) → ArePieces is_address_byte inner → up_to_bracket (spelled_pieces inner ++ 62 ∷ ys) ≡ spelled_pieces inner
+up_to_line inner ys r =
+    let found : position_or_len (is_sought CloseBracket) (marked (spelled_pieces inner ++ 62 ∷ ys)) ≡ length (bytes_of (all_marks inner)) + 0
+    = ap (position_or_len (is_sought CloseBracket)) (marks_address inner (62 ∷ ys) r) ∙ seek_inner (all_marks inner) (marked (62 ∷ ys)) (inner_quiet inner r) in
     let same : length (bytes_of (all_marks inner)) ≡ length (spelled_pieces inner) = ap length (bytes_back is_address_byte address_stays inner r) in
-    let len : len_before CloseBracket Outside (spelled_pieces inner ++ 62 ∷ []) ≡ length (spelled_pieces inner) = omega arith in
-    rw len (take_at (spelled_pieces inner) (62 ∷ []) (length (spelled_pieces inner)) refl)
-
-behind_line : (front inner : List Piece) → ArePieces is_plain front → behind_bracket (line front inner []) ≡ spelled_pieces inner ++ 62 ∷ []
-behind_line front inner q =
-    let behind = spelled_pieces inner ++ 62 ∷ [] in
-    let len = len_line front inner q in
-    let at : drop (length (spelled_pieces front)) (spelled_pieces front ++ (60 ∷ behind)) ≡ 60 ∷ behind = drop_at (spelled_pieces front) (60 ∷ behind) (length (spelled_pieces front)) refl in
-    rw len (sym (drop-drop 1 (length (spelled_pieces front)) (spelled_pieces front ++ (60 ∷ behind))) ∙ ap (drop 1) at)
-
-address_line : (front inner : List Piece) → ArePieces is_plain front → ArePieces is_address_byte inner → address_bytes (line front inner []) ≡ spelled_pieces inner
-address_line front inner q r =
-    let has = has_line front inner q in
-    rw has (ap up_to_bracket (behind_line front inner q) ∙ up_to_line inner r)
+    let len : len_before CloseBracket Outside (spelled_pieces inner ++ 62 ∷ ys) ≡ length (spelled_pieces inner) = omega arith in
+    rw len (take_at (spelled_pieces inner) (62 ∷ ys) (length (spelled_pieces inner)) refl)
 
 -- the address between the brackets, with its route
 abbrev addressed : WrittenMailbox → List Piece
@@ -366,7 +374,7 @@ said_bytes : (xs : List ℕ) → Lacks 32 xs → address_said (map Byte xs) ≡ 
 said_bytes [] lacks = refl
 said_bytes (x ∷ xs) lacks = rw lacks.0 (ap (λ (ys : List ℕ). x ∷ ys) (said_bytes xs lacks.1))
 
-lacks : (c : ℕ) (xs : List ℕ) → HasNo c xs → Lacks c xs
+pub lacks : (c : ℕ) (xs : List ℕ) → HasNo c xs → Lacks c xs
 lacks c [] h = tt
 lacks c (x ∷ xs) h = (false_from_ne_true (x == c) (λ e. h 0 (eqb-true x c e)), lacks c xs (λ k. h (suc k)))
 
@@ -409,14 +417,45 @@ inner_are m w =
     are_two is_address_byte (map Byte m.route) (m.local_part ++ Byte 64 ∷ m.host) (route_are m.route w.route)
     (are_two is_address_byte m.local_part (Byte 64 ∷ m.host) (weaker is_plain is_address_byte plain_address m.local_part w.local_part) (refl, weaker is_plain is_address_byte plain_address m.host w.host))
 
+-- an address that begins with another byte than `@` has no route
+abbrev BeginsElse : List ℕ → Type 0
+BeginsElse [] = ⊥
+BeginsElse (b ∷ bs) = (b == 64) ≡ false
+
+route_none : (xs tail : List ℕ) → BeginsElse xs → without_route (xs ++ tail) ≡ xs ++ tail
+route_none [] tail h = absurd h
+route_none (b ∷ bs) tail h = rw h refl
+
+begins_else : (pieces : List Piece) → ArePieces is_plain pieces → 0 < length (address_said pieces) → BeginsElse (address_said pieces)
+begins_else [] q some = absurd (omega arith)
+begins_else (Byte b ∷ pieces) q some = by (b == 32) b q.0 (address_said pieces) (begins_else pieces q.1) some
+  where
+    no_at : (b : ℕ) → is_plain b ≡ true → (b == 64) ≡ false
+    no_at b h = grind (arith, nat_tests)
+
+    by : (t : Bool) (b : ℕ) → is_plain b ≡ true → (xs : List ℕ) → (0 < length xs → BeginsElse xs)
+        → 0 < length (cond t [] (b ∷ []) ++ xs) → BeginsElse (cond t [] (b ∷ []) ++ xs)
+    by true b plain xs later some = later some
+    by false b plain xs later some = no_at b plain
+begins_else (QuotedString parts ∷ pieces) q some = refl
+begins_else (CommentText inside ∷ pieces) q some = begins_else pieces q.1 some
+
 address_of : (m : WrittenMailbox) → IsWritten m → without_route (address_text (spelled_pieces (addressed m))) ≡ address_said m.local_part ++ 64 ∷ address_said m.host
 address_of m w =
     let tail = address_said m.local_part ++ 64 ∷ address_said m.host in
     let said : address_said (addressed m) ≡ m.route ++ tail =
     said_two said_in_address (map Byte m.route) (m.local_part ++ Byte 64 ∷ m.host)
     ∙ (λ i. said_bytes m.route (route_lacks m.route w.route) i ++ said_two said_in_address m.local_part (Byte 64 ∷ m.host) i) in
-    let free : Lacks 58 tail = has_no-append 58 (address_said m.local_part) (64 ∷ address_said m.host) (lacks 58 (address_said m.local_part) w.no_colon) (refl, lacks 58 (address_said m.host) w.no_host_colon) in
-    ap without_route (address_is (addressed m) (inner_are m w) ∙ said) ∙ route_goes m.route tail w.route free
+    ap without_route (address_is (addressed m) (weaker is_address_byte is_outer_byte address_outer (addressed m) (inner_are m w)) ∙ said) ∙ goes m w.local_part w.route w.colons
+  where
+    goes : (m : WrittenMailbox) → ArePieces is_plain m.local_part → (m.route ≡ []) ⊎ IsRoute m.route → AreColonsFree m
+        → without_route (m.route ++ (address_said m.local_part ++ 64 ∷ address_said m.host)) ≡ address_said m.local_part ++ 64 ∷ address_said m.host
+    goes m plain route (inl none) =
+        ap (λ (xs : List ℕ). without_route (xs ++ (address_said m.local_part ++ 64 ∷ address_said m.host))) none.0
+        ∙ route_none (address_said m.local_part) (64 ∷ address_said m.host) (begins_else m.local_part plain none.1)
+    goes m plain route (inr free) =
+        route_goes m.route (address_said m.local_part ++ 64 ∷ address_said m.host) route
+        (has_no-append 58 (address_said m.local_part) (64 ∷ address_said m.host) (lacks 58 (address_said m.local_part) free.0) (refl, lacks 58 (address_said m.host) free.1))
 
 -- pieces in front of a name that say nothing there
 record IsLead (lead : List Piece) : Type 0 where
@@ -434,10 +473,11 @@ mailbox_line lead m l w =
     let front = lead ++ m.name in
     let q : ArePieces is_plain front = are_two is_plain lead m.name l.plain w.name in
     let r = inner_are m w in
+    let more = spelled_pieces (addressed m) ++ 62 ∷ [] in
     let item = line front (addressed m) [] in
-    let name : name_text (name_bytes item) ≡ name_said m.name = ap name_text (name_line front (addressed m) q) ∙ name_is front q ∙ l.silent m.name in
+    let name : name_text (name_bytes item) ≡ name_said m.name = ap name_text (name_line front more q) ∙ name_is front q ∙ l.silent m.name in
     let address : without_route (address_text (address_bytes item)) ≡ address_said m.local_part ++ 64 ∷ address_said m.host =
-    ap (λ (xs : List ℕ). without_route (address_text xs)) (address_line front (addressed m) q r) ∙ address_of m w in
+    ap (λ (xs : List ℕ). without_route (address_text xs)) (address_line front more q ∙ up_to_line (addressed m) [] r) ∙ address_of m w in
     ap (λ (xs : List ℕ). mailbox_with xs (without_route (address_text (address_bytes item)))) name ∙ ap (mailbox_with (name_said m.name)) address
     ∙ mailbox_with-at (name_said m.name) (address_said m.local_part) (address_said m.host) (lacks 64 (address_said m.host) w.no_host_at)
 
@@ -458,14 +498,14 @@ told_comma : (g : Bool) (item rest : List ℕ) (address : Address) → mailbox_i
     → told g (put_before item (cut g false (marked (44 ∷ rest)))) ≡ address ∷ told g (items_of g rest)
 told_comma g item rest address tells = rw (append-nil item, tells) refl
 
-abbrev end : Address
+abbrev pub end : Address
 end = record { kind = GroupEnd; name = []; mailbox = []; host = [] }
 
 told_semicolon : (item rest : List ℕ) (address : Address) → mailbox_in item ≡ address ∷ []
     → told true (put_before item (cut true false (marked (59 ∷ rest)))) ≡ address ∷ end ∷ told false (items_of false rest)
 told_semicolon item rest address tells = rw (append-nil item, tells) refl
 
-told_colon : (name rest : List ℕ) → told false (put_before name (cut false false (marked (58 ∷ rest)))) ≡ group_start name ∷ told true (items_of true rest)
+pub told_colon : (name rest : List ℕ) → told false (put_before name (cut false false (marked (58 ∷ rest)))) ≡ group_start name ∷ told true (items_of true rest)
 told_colon name rest = rw (append-nil name) refl
 
 told_nothing : (rest : List ℕ) → told false (items_of false (44 ∷ rest)) ≡ told false (items_of false rest)

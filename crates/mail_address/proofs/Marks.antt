@@ -1,10 +1,10 @@
 -- The places of the bytes of quoted strings and comments.
-use Rattle.std.proofs.Common.{◌≡◌, ℕ, suc, Bool, true, false, ◌==◌, nat_le, List, [], ◌∷◌, ◌++◌, map, refl, sym, ◌∙◌, ap, append_assoc, append-nil, arith}
+use Rattle.std.proofs.Common.{◌≡◌, ℕ, suc, Bool, true, false, ◌==◌, nat_le, List, [], ◌∷◌, ◌++◌, length, map, take, refl, sym, ◌∙◌, ap, append_assoc, append-nil, arith}
 use Rattle.std.specs.List.{flat_map}
 use Rattle.std.proofs.lemmas.Bool.Decides.{nat_tests}
 use Rattle.mail_address.specs.declared.place.Place.{Place}
 use Rattle.mail_address.specs.declared.place.Place.TheVariants.{Outside, Pair, Quoted, QuotedPair, Comment, CommentPair}
-use Rattle.mail_address.specs.Places.{next_place, next_name_place, place_behind_comment, marked_by, is_outside}
+use Rattle.mail_address.specs.Places.{next_place, next_name_place, place_behind_comment, marked_by, marked, is_outside}
 use Rattle.mail_address.specs.Grammar.{QuotedPart, Literal, Escaped, CommentInside, Empty, TextThen, EscapedThen, CommentThen, is_quoted_byte, is_comment_byte, AreQuoted, IsInside, quoted_bytes, inside_bytes, Piece, Byte, QuotedString, CommentText, piece_bytes, spelled_pieces, IsPiece, ArePieces, is_outer_byte}
 use Rattle.mail_address.specs.Laws.{stands_outside, outside_flags, OutsideIsBetween}
 
@@ -104,7 +104,7 @@ marks_inside next m n (CommentThen inner more) q ys =
     (sym (append_assoc (inside_marks (suc (suc n)) inner) ((41, Comment (suc (suc n))) ∷ inside_marks (suc n) more) ((41, Comment (suc n)) ∷ marked_by next (place_behind_comment (suc n)) ys)))
 
 -- a piece, and pieces: behind each nothing is open
-marks_piece : (next : Place → ℕ → Place) → Moves next → (p : ℕ → Bool) → ((b : ℕ) → p b ≡ true → next Outside b ≡ Outside)
+pub marks_piece : (next : Place → ℕ → Place) → Moves next → (p : ℕ → Bool) → ((b : ℕ) → p b ≡ true → next Outside b ≡ Outside)
     → (piece : Piece) → IsPiece p piece → (ys : List ℕ) → marked_by next Outside (piece_bytes piece ++ ys) ≡ piece_marks piece ++ marked_by next Outside ys
 marks_piece next m p stays (Byte b) q ys = ap (λ place. (b, Outside) ∷ marked_by next place ys) (stays b q)
 marks_piece next m p stays (QuotedString parts) q ys =
@@ -170,6 +170,15 @@ flags_all [] q = refl
 flags_all (piece ∷ pieces) q =
     map_two stands_outside (piece_marks piece) (all_marks pieces) ∙ (λ i. flags_piece piece q.0 i ++ flags_all pieces q.1 i)
 
+flags_front : (f : ℕ × Place → Bool) (place : Place) (value more : List ℕ)
+    → map f (marked_by next_place place value) ≡ take (length value) (map f (marked_by next_place place (value ++ more)))
+flags_front f place [] more = refl
+flags_front f place (b ∷ bs) more = ap (λ (fs : List Bool). f (b, place) ∷ fs) (flags_front f (next_place place b) bs more)
+
 pub outside_is_between : OutsideIsBetween
-outside_is_between pieces q =
-    ap (map stands_outside) (marks_whole next_place moves is_outer_byte outer_stays pieces q) ∙ flags_all pieces q
+outside_is_between pieces value more q e =
+    let whole : map stands_outside (marked (spelled_pieces pieces)) ≡ flat_map outside_flags pieces =
+    ap (map stands_outside) (marks_whole next_place moves is_outer_byte outer_stays pieces q) ∙ flags_all pieces q in
+    flags_front stands_outside Outside value more
+    ∙ ap (λ (xs : List ℕ). take (length value) (map stands_outside (marked xs))) (sym e)
+    ∙ ap (take (length value)) whole

@@ -40,7 +40,7 @@ pub len_from-all : (sought : Sought) (place : Place) (xs : List ℕ) (i : ℕ) �
 len_from-all sought place xs i h = rw (drop_all i xs h) (omega arith)
 
 -- One byte before others, in the search for the last comment.
-part_behind-split_with : (t : Bool) (x : ℕ × Place) (xs others : List (ℕ × Place)) (parts : Option (List (ℕ × Place) × List (ℕ × Place)))
+pub part_behind-split_with : (t : Bool) (x : ℕ × Place) (xs others : List (ℕ × Place)) (parts : Option (List (ℕ × Place) × List (ℕ × Place)))
     → part_behind others (split_with t x xs parts) ≡ part_behind (cond t xs others) parts
 part_behind-split_with t x xs others (Some parts) = refl
 part_behind-split_with true x xs others None = refl

@@ -1,5 +1,5 @@
 -- What holds of the addresses of a list.
-use Rattle.std.specs.Prelude.{◌≡◌, ℕ, Bool, true, false, ◌&&◌, not, ◌==◌, List, [], ◌∷◌, ◌++◌, codes, map}
+use Rattle.std.specs.Prelude.{◌≡◌, ℕ, Bool, true, false, ◌&&◌, not, ◌==◌, List, [], ◌∷◌, ◌++◌, codes, length, map, take}
 use Rattle.std.specs.List.{All, AllPass, flat_map}
 use Rattle.mail_address.specs.declared.place.Place.{Place}
 use Rattle.mail_address.specs.declared.address.AddressKind.TheVariants.{Mailbox}
@@ -23,11 +23,19 @@ outside_flags (Byte b) = true ∷ []
 outside_flags (QuotedString parts) = map (λ (b : ℕ). false) (piece_bytes (QuotedString parts))
 outside_flags (CommentText inside) = map (λ (b : ℕ). false) (piece_bytes (CommentText inside))
 
--- What is taken as outside is just what stands outside of the quoted strings and comments that a value is spelled with.
+-- Every value is the front of a text that is spelled from such pieces: what is open at its end is
+-- closed there.
+abbrev pub EveryValueIsFront : Type 0
+EveryValueIsFront =
+    (value : List ℕ) → (pieces : List Piece) × (more : List ℕ) × ArePieces is_outer_byte pieces × (spelled_pieces pieces ≡ value ++ more)
+
+-- What is taken as outside is just what stands outside of the quoted strings and comments that a
+-- value, or a text that it is the front of, is spelled with.
 abbrev pub OutsideIsBetween : Type 0
 OutsideIsBetween =
-    (pieces : List Piece) → ArePieces is_outer_byte pieces
-    → map stands_outside (marked (spelled_pieces pieces)) ≡ flat_map outside_flags pieces
+    (pieces : List Piece) (value more : List ℕ) → ArePieces is_outer_byte pieces
+    → spelled_pieces pieces ≡ value ++ more
+    → map stands_outside (marked value) ≡ take (length value) (flat_map outside_flags pieces)
 
 -- a byte without a meaning of its own in an address list: none of `"`, `(`, `)`, `,`, `:`, `;`, `<`, `>`, `@` and `\`
 -- (RFC 5322, section 3.2.3)

@@ -7,3 +7,5 @@ pub mod Addresses
 pub mod Grammar
 pub mod Laws
 pub mod Mailboxes
+pub mod Texts
+pub mod Single

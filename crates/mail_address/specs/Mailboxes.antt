@@ -1,5 +1,5 @@
 -- Lists of mailboxes with quoted names, comments, routes and groups are read back.
-use Rattle.std.specs.Prelude.{◌≡◌, ◌≢◌, ◌⊎◌, ℕ, Bool, ◌&&◌, not, ◌==◌, List, [], ◌∷◌, ◌++◌, codes, map, slice_index, if◌then◌else◌}
+use Rattle.std.specs.Prelude.{◌≡◌, ◌≢◌, ◌⊎◌, ◌<◌, ℕ, Bool, ◌&&◌, not, ◌==◌, List, [], ◌∷◌, ◌++◌, codes, length, map, slice_index, if◌then◌else◌}
 use Rattle.std.specs.List.{AllPass, flat_map}
 use Rattle.mail_address.specs.declared.address.AddressKind.TheVariants.{Mailbox, GroupStart, GroupEnd}
 use Rattle.mail_address.specs.declared.address.Address.{Address}
@@ -54,14 +54,20 @@ pub record IsRoute (route : List ℕ) : Type 0 where
 abbrev pub HasNo : ℕ → List ℕ → Type 0
 HasNo c bytes = (k : ℕ) → slice_index bytes k ≢ c
 
+-- Colons in the address don't end a route: there is none, and the address begins with another byte
+-- than `@`, or the address has no colon.
+abbrev pub AreColonsFree : WrittenMailbox → Type 0
+AreColonsFree mailbox =
+    ((mailbox.route ≡ []) × (0 < length (address_said mailbox.local_part)))
+    ⊎ (HasNo 58 (address_said mailbox.local_part) × HasNo 58 (address_said mailbox.host))
+
 -- a mailbox that is written with plain bytes, quoted strings and comments
 pub record IsWritten (mailbox : WrittenMailbox) : Type 0 where
   pub name : ArePieces is_plain mailbox.name
   pub route : (mailbox.route ≡ []) ⊎ IsRoute mailbox.route
   pub local_part : ArePieces is_plain mailbox.local_part
-  pub no_colon : HasNo 58 (address_said mailbox.local_part)
   pub host : ArePieces is_plain mailbox.host
-  pub no_host_colon : HasNo 58 (address_said mailbox.host)
+  pub colons : AreColonsFree mailbox
   pub no_host_at : HasNo 64 (address_said mailbox.host)
 
 -- `NAME<ROUTE LOCAL@HOST>`

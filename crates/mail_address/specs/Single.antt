@@ -1,0 +1,58 @@
+-- Lists of one item or one group, whatever stands in them, and those that are open at their end.
+use Rattle.std.specs.Prelude.{◌≡◌, ℕ, Bool, ◌&&◌, not, ◌==◌, List, [], ◌∷◌, ◌++◌}
+use Rattle.mail_address.specs.declared.address.AddressKind.TheVariants.{GroupStart, GroupEnd}
+use Rattle.mail_address.specs.declared.address.Address.{Address}
+use Rattle.mail_address.specs.Words.{name_text}
+use Rattle.mail_address.specs.Addresses.{addresses_of, mailbox_with, without_route}
+use Rattle.mail_address.specs.Grammar.{Piece, Byte, QuotedString, CommentText, inside_bytes, spelled_pieces, ArePieces, is_outer_byte}
+use Rattle.mail_address.specs.Laws.{is_plain}
+use Rattle.mail_address.specs.Mailboxes.{name_said, address_said}
+
+-- the inside of the last comment among pieces, or `found` where they have none
+abbrev pub last_inside : List Piece → List ℕ → List ℕ
+last_inside [] found = found
+last_inside (Byte b ∷ pieces) found = last_inside pieces found
+last_inside (QuotedString parts ∷ pieces) found = last_inside pieces found
+last_inside (CommentText inside ∷ pieces) found = last_inside pieces (inside_bytes inside)
+
+-- What an item without `<` says: the last comment is the name, and all outside of comments the address.
+abbrev pub bare_said : List Piece → List Address
+bare_said pieces = mailbox_with (name_text (last_inside pieces [])) (without_route (address_said pieces))
+
+-- a byte outside that neither ends an item nor begins an address between brackets: none of `,`, `:`,
+-- `;` and `<`
+abbrev pub is_bare_byte : ℕ → Bool
+is_bare_byte b = is_outer_byte b && not (b == 44) && not (b == 58) && not (b == 59) && not (b == 60)
+
+-- An item without `<` is read as it says.
+abbrev pub BareReads : Type 0
+BareReads = (pieces : List Piece) → ArePieces is_bare_byte pieces → addresses_of (spelled_pieces pieces) ≡ bare_said pieces
+
+-- a byte between brackets: any outside but `>`
+abbrev pub is_inner_byte : ℕ → Bool
+is_inner_byte b = is_outer_byte b && not (b == 62)
+
+-- Of `NAME<INSIDE>REST` the rest says nothing.
+abbrev pub ItemReads : Type 0
+ItemReads =
+    (name inside rest : List Piece) → ArePieces is_plain name → ArePieces is_inner_byte inside → ArePieces is_plain rest
+    → addresses_of (spelled_pieces name ++ 60 ∷ (spelled_pieces inside ++ 62 ∷ spelled_pieces rest))
+    ≡ mailbox_with (name_said name) (without_route (address_said inside))
+
+-- The address of `NAME<INSIDE`, where no `>` follows, is all that is left.
+abbrev pub OpenItemReads : Type 0
+OpenItemReads =
+    (name inside : List Piece) → ArePieces is_plain name → ArePieces is_inner_byte inside
+    → addresses_of (spelled_pieces name ++ 60 ∷ spelled_pieces inside) ≡ mailbox_with (name_said name) (without_route (address_said inside))
+
+-- a byte of a bare item in a group, where a colon ends none: none of `,`, `;` and `<`
+abbrev pub is_grouped_byte : ℕ → Bool
+is_grouped_byte b = is_outer_byte b && not (b == 44) && not (b == 59) && not (b == 60)
+
+-- A group that is open at the end of the value ends there, and a colon in it ends no item.
+abbrev pub GroupReads : Type 0
+GroupReads =
+    (name pieces : List Piece) → ArePieces is_plain name → ArePieces is_grouped_byte pieces
+    → addresses_of (spelled_pieces name ++ 58 ∷ spelled_pieces pieces)
+    ≡ record { kind = GroupStart; name = name_said name; mailbox = []; host = [] }
+    ∷ (bare_said pieces ++ record { kind = GroupEnd; name = []; mailbox = []; host = [] } ∷ [])

@@ -1,0 +1,57 @@
+-- The texts of names and addresses, by the words and pieces that spell them.
+use Rattle.std.specs.Prelude.{◌≡◌, ◌<◌, ℕ, Bool, ◌&&◌, not, ◌==◌, List, [], ◌∷◌, ◌++◌, length, replicate}
+use Rattle.std.specs.List.{All, flat_map}
+use Rattle.mail_address.specs.Words.{joined_words, name_text, address_text}
+use Rattle.mail_address.specs.Grammar.{Piece, piece_bytes, spelled_pieces, IsPiece, ArePieces, is_outer_byte}
+use Rattle.mail_address.specs.Mailboxes.{HasNo, said_in_name, address_said}
+
+-- a word: one byte or more, and no space
+abbrev pub IsWord : List ℕ → Type 0
+IsWord word = (0 < length word) × HasNo 32 word
+
+-- a word after one space and so many more
+abbrev pub spread : ℕ × List ℕ → List ℕ
+spread part = 32 ∷ (replicate part.0 32 ++ part.1)
+
+-- Words that stand any number of spaces apart are joined by one space, and spaces at both ends go.
+abbrev pub WordsAreJoined : Type 0
+WordsAreJoined =
+    (first : List ℕ) (more : List (ℕ × List ℕ)) (front end : ℕ) → IsWord first → All (λ (part : ℕ × List ℕ). IsWord part.1) more
+    → joined_words (replicate front 32 ++ (first ++ (flat_map spread more ++ replicate end 32)))
+    ≡ first ++ flat_map (λ (part : ℕ × List ℕ). 32 ∷ part.1) more
+
+-- Spaces alone are no words.
+abbrev pub SpacesAreNoWords : Type 0
+SpacesAreNoWords = (n : ℕ) → joined_words (replicate n 32) ≡ []
+
+-- a part of a name: a piece, or a backslash outside and the byte that it takes along
+pub data NamePart : Type 0 where
+  Whole : Piece → NamePart
+  Taken : ℕ → NamePart
+
+-- a byte that stands in a name by itself, outside: any but `"`, `(` and a backslash
+abbrev pub is_name_byte : ℕ → Bool
+is_name_byte b = is_outer_byte b && not (b == 92)
+
+abbrev pub AreNameParts : List NamePart → Type 0
+AreNameParts [] = Unit {0}
+AreNameParts (Whole piece ∷ parts) = IsPiece is_name_byte piece × AreNameParts parts
+AreNameParts (Taken b ∷ parts) = AreNameParts parts
+
+-- the bytes of such a part, and what it says
+abbrev pub part_bytes : NamePart → List ℕ
+part_bytes (Whole piece) = piece_bytes piece
+part_bytes (Taken b) = 92 ∷ b ∷ []
+
+abbrev pub part_said : NamePart → List ℕ
+part_said (Whole piece) = said_in_name piece
+part_said (Taken b) = b ∷ []
+
+-- The text of a name is what its parts say, its words joined.
+abbrev pub NameTextIsSaid : Type 0
+NameTextIsSaid =
+    (parts : List NamePart) → AreNameParts parts → name_text (flat_map part_bytes parts) ≡ joined_words (flat_map part_said parts)
+
+-- The text of an address is what its pieces say.
+abbrev pub AddressTextIsSaid : Type 0
+AddressTextIsSaid = (pieces : List Piece) → ArePieces is_outer_byte pieces → address_text (spelled_pieces pieces) ≡ address_said pieces
