@@ -1,10 +1,10 @@
 -- What holds of the storage form, and of the fields and ids of any text.
-use Rattle.std.specs.Prelude.{◌≡◌, ◌⊎◌, ◌↔◌, ℕ, ◌+◌, ◌<◌, ◌≤◌, true, false, List, [], ◌∷◌, ◌++◌, Some, map, length, slice_index, codes}
-use Rattle.std.specs.List.{concat, AllPass, Contains}
+use Rattle.std.specs.Prelude.{◌≡◌, ◌≢◌, ◌⊎◌, ◌↔◌, ℕ, ◌+◌, ◌<◌, ◌≤◌, true, false, List, [], ◌∷◌, ◌++◌, Some, map, length, slice_index, codes}
+use Rattle.std.specs.List.{concat, All, Contains}
 use Rattle.mail_reader.specs.Lines.{is_field_line, lines_of, after_header}
 use Rattle.mail_reader.specs.Fields.{FieldText, fields_of}
 use Rattle.mail_reader.specs.Stored.{storage_form, content_of, is_dropped}
-use Rattle.mail_reader.specs.Ids.{is_id_byte, ids_of, own_id}
+use Rattle.mail_reader.specs.Ids.{ids_of, own_id}
 use Rattle.mail_reader.specs.Bodies.{body_of}
 
 -- A storage form is its own storage form.
@@ -50,13 +50,17 @@ FieldInFront = (bytes text line : List ℕ) → storage_form bytes ≡ Some text
 abbrev pub FormsAreShort : Type 0
 FormsAreShort = (bytes text : List ℕ) → storage_form bytes ≡ Some text → length text ≤ length bytes + 2
 
+-- a byte of an id between its brackets: printable ASCII other than a space, `<` and `>`
+abbrev pub IsIdByte : ℕ → Type 0
+IsIdByte b = (33 ≤ b) × (b ≤ 126) × (b ≢ 60) × (b ≢ 62)
+
 -- a piece of 1 to 248 bytes of an id between brackets
 pub record IsId (id : List ℕ) : Type 0 where
   pub inside : List ℕ
   pub is : id ≡ 60 ∷ (inside ++ 62 ∷ [])
   pub some : 1 ≤ length inside
   pub short : length inside ≤ 248
-  pub bytes : AllPass is_id_byte inside
+  pub bytes : All IsIdByte inside
 
 -- the line of a Message-ID field
 abbrev pub id_line : List ℕ → List ℕ
@@ -88,11 +92,19 @@ IdsInOrder = (before id after : List ℕ) → IsId id → ids_of (before ++ (id 
 abbrev pub IsFeedOrNone : List ℕ → Type 0
 IsFeedOrNone bytes = (bytes ≡ []) ⊎ (bytes ≡ 10 ∷ [])
 
+-- a byte of a field's name: printable ASCII other than a space and a colon
+abbrev pub IsNameByte : ℕ → Type 0
+IsNameByte b = (33 ≤ b) × (b ≤ 126) × (b ≢ 58)
+
 -- A field that stands in a text: its name, a colon, its value, and a line feed or nothing. So the name and the value stand in the text too.
+-- The name has a byte or more. Each line feed in the value has a space or a tab after it, so none is the value's last byte.
 pub record IsFieldIn (text : List ℕ) (field : FieldText) : Type 0 where
   pub end : List ℕ
   pub ended : IsFeedOrNone end
   pub whole : field.whole ≡ field.name ++ 58 ∷ (field.value ++ end)
+  pub some_name : 0 < length field.name
+  pub name_bytes : All IsNameByte field.name
+  pub continued : (k : ℕ) → slice_index field.value k ≡ 10 → (slice_index field.value (k + 1) ≡ 32) ⊎ (slice_index field.value (k + 1) ≡ 9)
   pub lies : LiesIn field.whole text
   pub name : LiesIn field.name text
   pub value : LiesIn field.value text
