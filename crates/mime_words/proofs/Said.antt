@@ -1,10 +1,12 @@
 -- A value that is spelled from words and text is decoded as they say.
-use Rattle.std.proofs.Common.{◌≡◌, inl, inr, ◌<◌, ◌+◌, ◌*◌, ◌∙◌, ℕ, zero, suc, Bool, true, false, cond, ◌&&◌, ◌==◌, List, [], ◌∷◌, ◌++◌, length, map, drop, get_or, replicate, Some, None, refl, ap, sym, subst, append_assoc, append-nil, length-append, arith}
+use Rattle.std.proofs.Common.{◌≡◌, inl, inr, ◌<◌, ◌≤◌, ◌+◌, ◌-◌, ◌*◌, ◌∙◌, ℕ, zero, suc, Bool, true, false, cond, not, nat_le, ◌&&◌, ◌==◌, codes, Option, List, [], ◌∷◌, ◌++◌, length, map, drop, get_or, replicate, Some, None, refl, ap, sym, subst, append_assoc, append-nil, length-append, arith}
 use Rattle.std.specs.List.{flat_map, list_all}
 use Rattle.std.specs.Str.Lossy.{utf8_lossy}
-use Rattle.std.proofs.lemmas.Bool.{false_from_ne_true}
+use Rattle.std.proofs.lemmas.Bool.{false_from_ne_true, both_ways, eqb-true, and_parts}
 use Rattle.std.proofs.lemmas.Bool.Decides.{nat_tests}
-use Rattle.std.proofs.lemmas.List.{drop_at}
+use Rattle.std.proofs.lemmas.List.{drop_at, length-map}
+use Rattle.std.specs.Char.{to_ascii_lowercase}
+use Rattle.std.specs.Str.{str_to_ascii_lowercase, bytes_eq}
 use Rattle.mime_words.specs.declared.charset.Charset.{Charset}
 use Rattle.mime_words.specs.declared.charset.Charset.TheVariants.{Utf8, UsAscii, Latin1}
 use Rattle.mime_words.specs.declared.encoding.Encoding.{Encoding}
@@ -13,7 +15,7 @@ use Rattle.mime_words.specs.Quoted.{hex_value, plain_byte, unquoted}
 use Rattle.mime_words.specs.Words.{EncodedText, charset_of, is_charset_byte, is_text_byte, encoding_of, word_at, word_len, bytes_of, Piece, plain, pieces}
 use Rattle.mime_words.specs.Decoding.{is_blank, same_charset, before, joined, without_gaps, text_of, decoded}
 use Rattle.mime_words.specs.Laws.{HasNoOpening}
-use Rattle.mime_words.specs.Spelled.{QuotedPart, Itself, Underscore, Digits, is_itself, hex_digit, AreQuoted, quoted_bytes, quoted_said, Coded, InQ, InBase64, IsCoded, coded_bytes, coded_said, IsLetter, IsName, WrittenWord, IsWord, word_bytes, spaced_word, word_said, Run, Plain, Words, run_bytes, run_said, read_in, Before, Start, AfterText, AfterWords, AreRuns, AllWords, MayBeWords, IsNoGap, SpelledIsSaid}
+use Rattle.mime_words.specs.Spelled.{QuotedPart, Itself, Underscore, Digits, is_itself, IsDigit, AreQuoted, quoted_bytes, quoted_said, Coded, InQ, InBase64, IsCoded, coded_bytes, coded_said, IsLetter, IsName, WrittenWord, IsWord, word_bytes, spaced_word, word_said, Run, Plain, Words, run_bytes, run_said, read_in, Before, Start, AfterText, AfterWords, AreRuns, AllWords, MayBeWords, IsNoGap, SpelledIsSaid}
 use Rattle.mime_words.proofs.Cutting.{pieces-no_word, pieces-read_word}
 use Rattle.mime_words.proofs.Joining.{piece, same-true, before_same, joined_plain}
 use Rattle.mime_words.proofs.Gaps.{text_by, without_gaps-end}
@@ -38,33 +40,33 @@ itself_said b h =
 itself_text : (b : ℕ) → is_itself b ≡ true → is_text_byte b ≡ true
 itself_text b h = grind (arith, nat_tests)
 
-digit_by : (n : ℕ) → n < 16 → (hex_value (hex_digit n) ≡ Some n) × (is_text_byte (hex_digit n) ≡ true)
-digit_by zero l = (refl, refl)
-digit_by (suc zero) l = (refl, refl)
-digit_by (suc (suc zero)) l = (refl, refl)
-digit_by (suc (suc (suc zero))) l = (refl, refl)
-digit_by (suc (suc (suc (suc zero)))) l = (refl, refl)
-digit_by (suc (suc (suc (suc (suc zero))))) l = (refl, refl)
-digit_by (suc (suc (suc (suc (suc (suc zero)))))) l = (refl, refl)
-digit_by (suc (suc (suc (suc (suc (suc (suc zero))))))) l = (refl, refl)
-digit_by (suc (suc (suc (suc (suc (suc (suc (suc zero)))))))) l = (refl, refl)
-digit_by (suc (suc (suc (suc (suc (suc (suc (suc (suc zero))))))))) l = (refl, refl)
-digit_by (suc (suc (suc (suc (suc (suc (suc (suc (suc (suc zero)))))))))) l = (refl, refl)
-digit_by (suc (suc (suc (suc (suc (suc (suc (suc (suc (suc (suc zero))))))))))) l = (refl, refl)
-digit_by (suc (suc (suc (suc (suc (suc (suc (suc (suc (suc (suc (suc zero)))))))))))) l = (refl, refl)
-digit_by (suc (suc (suc (suc (suc (suc (suc (suc (suc (suc (suc (suc (suc zero))))))))))))) l = (refl, refl)
-digit_by (suc (suc (suc (suc (suc (suc (suc (suc (suc (suc (suc (suc (suc (suc zero)))))))))))))) l = (refl, refl)
-digit_by (suc (suc (suc (suc (suc (suc (suc (suc (suc (suc (suc (suc (suc (suc (suc zero))))))))))))))) l = (refl, refl)
-digit_by (suc (suc (suc (suc (suc (suc (suc (suc (suc (suc (suc (suc (suc (suc (suc (suc n)))))))))))))))) l = absurd (omega arith)
+digit_by : (n c : ℕ) → IsDigit n c → (hex_value c ≡ Some n) × (is_text_byte c ≡ true)
+digit_by n c (inl h) =
+    let below : n < 10 = h.0 in
+    let is : c ≡ 48 + n = h.1 in
+    let figure : (nat_le 48 c && nat_le c 57) ≡ true = grind (arith, nat_tests) in
+    let value : c - 48 ≡ n = omega arith in
+    (rw figure (ap Some value), grind (arith, nat_tests))
+digit_by n c (inr (high, low, inl is)) =
+    let figure : (nat_le 48 c && nat_le c 57) ≡ false = grind (arith, nat_tests) in
+    let letter : (nat_le 65 c && nat_le c 70) ≡ true = grind (arith, nat_tests) in
+    let value : c - 55 ≡ n = omega arith in
+    (rw (figure, letter) (ap Some value), grind (arith, nat_tests))
+digit_by n c (inr (high, low, inr is)) =
+    let figure : (nat_le 48 c && nat_le c 57) ≡ false = grind (arith, nat_tests) in
+    let capital : (nat_le 65 c && nat_le c 70) ≡ false = grind (arith, nat_tests) in
+    let letter : (nat_le 97 c && nat_le c 102) ≡ true = grind (arith, nat_tests) in
+    let value : c - 87 ≡ n = omega arith in
+    (rw (figure, capital, letter) (ap Some value), grind (arith, nat_tests))
 
 quoted_is : (parts : List QuotedPart) → AreQuoted parts → unquoted (quoted_bytes parts) ≡ quoted_said parts
 quoted_is [] q = refl
 quoted_is (Itself b ∷ parts) q =
     unquoted-plain b (quoted_bytes parts) (itself_plain b q.0) ∙ (λ i. itself_said b q.0 i ∷ quoted_is parts q.1 i)
 quoted_is (Underscore ∷ parts) q = unquoted-plain 95 (quoted_bytes parts) refl ∙ ap (λ xs. 32 ∷ xs) (quoted_is parts q)
-quoted_is (Digits high low ∷ parts) q =
-    let h = digit_by high q.0 in
-    let l = digit_by low q.1 in
+quoted_is (Digits high low first second ∷ parts) q =
+    let h = digit_by high first q.0 in
+    let l = digit_by low second q.1 in
     rw (h.0, l.0) (ap (λ xs. (16 * high + low) ∷ xs) (quoted_is parts q.2))
 
 and_true : (t u : Bool) → t ≡ true → u ≡ true → (t && u) ≡ true
@@ -75,8 +77,8 @@ quoted_text : (parts : List QuotedPart) → AreQuoted parts → list_all is_text
 quoted_text [] q = refl
 quoted_text (Itself b ∷ parts) q = and_true (is_text_byte b) _ (itself_text b q.0) (quoted_text parts q.1)
 quoted_text (Underscore ∷ parts) q = quoted_text parts q
-quoted_text (Digits high low ∷ parts) q =
-    and_true (is_text_byte (hex_digit high)) _ (digit_by high q.0).1 (and_true (is_text_byte (hex_digit low)) _ (digit_by low q.1).1 (quoted_text parts q.2))
+quoted_text (Digits high low first second ∷ parts) q =
+    and_true (is_text_byte first) _ (digit_by high first q.0).1 (and_true (is_text_byte second) _ (digit_by low second q.1).1 (quoted_text parts q.2))
 
 -- a word, as it is found
 abbrev encoding : Coded → Encoding
@@ -103,13 +105,40 @@ record IsCharsetName (charset : Charset) (name : List ℕ) : Type 0 where
   bytes : list_all is_charset_byte name ≡ true
   is : charset_of name ≡ Some charset
 
+-- a byte that is one of a name in small letters is one of a name
+small_byte : (b : ℕ) → is_charset_byte (to_ascii_lowercase b) ≡ true → is_charset_byte b ≡ true
+small_byte b h = step (b == 63) (b == 32) refl refl
+  where
+    step : (t u : Bool) → (b == 63) ≡ t → (b == 32) ≡ u → (not t && not u) ≡ true
+    step true u e f = absurd (both_ways (is_charset_byte (to_ascii_lowercase b)) (ap (λ c. is_charset_byte (to_ascii_lowercase c)) (eqb-true b 63 e)) h)
+    step false true e f = absurd (both_ways (is_charset_byte (to_ascii_lowercase b)) (ap (λ c. is_charset_byte (to_ascii_lowercase c)) (eqb-true b 32 f)) h)
+    step false false e f = refl
+
+small_bytes : (name : List ℕ) → list_all is_charset_byte (str_to_ascii_lowercase name) ≡ true → list_all is_charset_byte name ≡ true
+small_bytes [] h = refl
+small_bytes (b ∷ bs) h =
+    let both = and_parts (is_charset_byte (to_ascii_lowercase b)) (list_all is_charset_byte (str_to_ascii_lowercase bs)) h in
+    and_true (is_charset_byte b) _ (small_byte b both.0) (small_bytes bs both.1)
+
+-- the charset of a name in small letters
+abbrev small_charset : List ℕ → Option Charset
+small_charset small =
+    cond (bytes_eq small (str_to_ascii_lowercase (codes "utf-8"))) (Some Utf8)
+    (cond (bytes_eq small (str_to_ascii_lowercase (codes "us-ascii"))) (Some UsAscii)
+    (cond (bytes_eq small (str_to_ascii_lowercase (codes "iso-8859-1"))) (Some Latin1) None))
+
+named_by : (charset : Charset) (name small : List ℕ) → str_to_ascii_lowercase name ≡ small → 0 < length small
+    → list_all is_charset_byte small ≡ true → small_charset small ≡ Some charset → IsCharsetName charset name
+named_by charset name small e some bytes is = record {
+  some = let same : length (str_to_ascii_lowercase name) ≡ length small = ap length e in omega (arith, length-map name to_ascii_lowercase);
+  bytes = small_bytes name (ap (list_all is_charset_byte) e ∙ bytes);
+  is = ap small_charset e ∙ is;
+}
+
 named : (charset : Charset) (name : List ℕ) → IsName charset name → IsCharsetName charset name
-named Utf8 name (inl e) = subst (λ (n : List ℕ). IsCharsetName Utf8 n) (sym e) (record { some = omega arith; bytes = refl; is = refl })
-named Utf8 name (inr e) = subst (λ (n : List ℕ). IsCharsetName Utf8 n) (sym e) (record { some = omega arith; bytes = refl; is = refl })
-named UsAscii name (inl e) = subst (λ (n : List ℕ). IsCharsetName UsAscii n) (sym e) (record { some = omega arith; bytes = refl; is = refl })
-named UsAscii name (inr e) = subst (λ (n : List ℕ). IsCharsetName UsAscii n) (sym e) (record { some = omega arith; bytes = refl; is = refl })
-named Latin1 name (inl e) = subst (λ (n : List ℕ). IsCharsetName Latin1 n) (sym e) (record { some = omega arith; bytes = refl; is = refl })
-named Latin1 name (inr e) = subst (λ (n : List ℕ). IsCharsetName Latin1 n) (sym e) (record { some = omega arith; bytes = refl; is = refl })
+named Utf8 name e = named_by Utf8 name (codes "utf-8") e (omega arith) refl refl
+named UsAscii name e = named_by UsAscii name (codes "us-ascii") e (omega arith) refl refl
+named Latin1 name e = named_by Latin1 name (codes "iso-8859-1") e (omega arith) refl refl
 
 abbrev shown : WrittenWord → EncodedText
 shown word = record { charset = word.name; encoding = encoding word.coded; text = coded_bytes word.coded }

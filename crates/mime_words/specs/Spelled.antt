@@ -1,7 +1,7 @@
 -- Values that are spelled from encoded words and text (RFC 2047, sections 2 to 6), and what they say.
-use Rattle.std.specs.Prelude.{◌≡◌, ◌≢◌, ◌⊎◌, ◌<◌, ℕ, ◌+◌, ◌*◌, Bool, true, false, ◌&&◌, not, ◌==◌, nat_le, nat_lt, List, [], ◌∷◌, ◌++◌, length, replicate, codes, if◌then◌else◌}
+use Rattle.std.specs.Prelude.{◌≡◌, ◌≢◌, ◌⊎◌, ◌<◌, ◌≤◌, ℕ, ◌+◌, ◌*◌, Bool, true, false, ◌&&◌, not, ◌==◌, nat_le, List, [], ◌∷◌, ◌++◌, length, replicate, codes}
 use Rattle.std.specs.List.{flat_map, list_all}
-use Rattle.std.specs.Str.{encode_utf8_all}
+use Rattle.std.specs.Str.{encode_utf8_all, str_to_ascii_lowercase}
 use Rattle.std.specs.Str.Lossy.{utf8_lossy}
 use Rattle.base64.specs.Engines.{standard}
 use Rattle.base64.specs.GeneralPurpose.{encode_of, IsBytes}
@@ -14,34 +14,34 @@ use Rattle.mime_words.specs.Laws.{HasNoOpening}
 pub data QuotedPart : Type 0 where
   Itself : ℕ → QuotedPart
   Underscore : QuotedPart
-  Digits : (high : ℕ) → (low : ℕ) → QuotedPart
+  Digits : (high : ℕ) → (low : ℕ) → (first : ℕ) → (second : ℕ) → QuotedPart
 
 -- printable ASCII but a space, `=`, `?` and `_`
 abbrev pub is_itself : ℕ → Bool
 is_itself b = nat_le 33 b && nat_le b 126 && not (b == 61) && not (b == 63) && not (b == 95)
 
--- the digit of a number below 16
-abbrev pub hex_digit : ℕ → ℕ
-hex_digit n = if nat_lt n 10 then 48 + n else 55 + n
+-- a hexadecimal digit of a number, a letter in either case
+abbrev pub IsDigit : ℕ → ℕ → Type 0
+IsDigit n c = ((n < 10) × (c ≡ 48 + n)) ⊎ ((10 ≤ n) × (n < 16) × ((c ≡ 55 + n) ⊎ (c ≡ 87 + n)))
 
 abbrev pub AreQuoted : List QuotedPart → Type 0
 AreQuoted [] = Unit {0}
 AreQuoted (Itself b ∷ parts) = (is_itself b ≡ true) × AreQuoted parts
 AreQuoted (Underscore ∷ parts) = AreQuoted parts
-AreQuoted (Digits high low ∷ parts) = (high < 16) × (low < 16) × AreQuoted parts
+AreQuoted (Digits high low first second ∷ parts) = IsDigit high first × IsDigit low second × AreQuoted parts
 
 abbrev pub quoted_bytes : List QuotedPart → List ℕ
 quoted_bytes [] = []
 quoted_bytes (Itself b ∷ parts) = b ∷ quoted_bytes parts
 quoted_bytes (Underscore ∷ parts) = 95 ∷ quoted_bytes parts
-quoted_bytes (Digits high low ∷ parts) = 61 ∷ hex_digit high ∷ hex_digit low ∷ quoted_bytes parts
+quoted_bytes (Digits high low first second ∷ parts) = 61 ∷ first ∷ second ∷ quoted_bytes parts
 
 -- what they say: an underscore says a space
 abbrev pub quoted_said : List QuotedPart → List ℕ
 quoted_said [] = []
 quoted_said (Itself b ∷ parts) = b ∷ quoted_said parts
 quoted_said (Underscore ∷ parts) = 32 ∷ quoted_said parts
-quoted_said (Digits high low ∷ parts) = (16 * high + low) ∷ quoted_said parts
+quoted_said (Digits high low first second ∷ parts) = (16 * high + low) ∷ quoted_said parts
 
 -- the text of a word, in Q or in base64
 pub data Coded : Type 0 where
@@ -65,11 +65,11 @@ abbrev pub IsLetter : Coded → ℕ → Type 0
 IsLetter (InQ parts) letter = (letter ≡ 81) ⊎ (letter ≡ 113)
 IsLetter (InBase64 bytes) letter = (letter ≡ 66) ⊎ (letter ≡ 98)
 
--- the name of a charset, in small or capital letters
+-- the name of a charset, its letters in any case
 abbrev pub IsName : Charset → List ℕ → Type 0
-IsName Utf8 name = (name ≡ codes "utf-8") ⊎ (name ≡ codes "UTF-8")
-IsName UsAscii name = (name ≡ codes "us-ascii") ⊎ (name ≡ codes "US-ASCII")
-IsName Latin1 name = (name ≡ codes "iso-8859-1") ⊎ (name ≡ codes "ISO-8859-1")
+IsName Utf8 name = str_to_ascii_lowercase name ≡ codes "utf-8"
+IsName UsAscii name = str_to_ascii_lowercase name ≡ codes "us-ascii"
+IsName Latin1 name = str_to_ascii_lowercase name ≡ codes "iso-8859-1"
 
 -- an encoded word, with so many spaces in front of it
 pub record WrittenWord : Type 0 where
