@@ -1,5 +1,5 @@
 -- Values that are spelled from encoded words and text (RFC 2047, sections 2 to 6), and what they say.
-use Rattle.std.specs.Prelude.{◌≡◌, ◌≢◌, ◌⊎◌, ◌<◌, ◌≤◌, ℕ, ◌+◌, ◌*◌, Bool, true, false, ◌&&◌, not, ◌==◌, nat_le, List, [], ◌∷◌, ◌++◌, length, replicate, codes}
+use Rattle.std.specs.Prelude.{◌≡◌, ◌≢◌, ◌⊎◌, ◌<◌, ◌≤◌, ℕ, ◌+◌, ◌*◌, Bool, true, false, ◌&&◌, not, ◌==◌, nat_le, List, [], ◌∷◌, ◌++◌, length, drop, map, slice_index, replicate, codes, if◌then◌else◌}
 use Rattle.std.specs.List.{flat_map, list_all}
 use Rattle.std.specs.Str.{encode_utf8_all, str_to_ascii_lowercase}
 use Rattle.std.specs.Str.Lossy.{utf8_lossy}
@@ -7,14 +7,16 @@ use Rattle.base64.specs.Engines.{standard}
 use Rattle.base64.specs.GeneralPurpose.{encode_of, IsBytes}
 use Rattle.mime_words.specs.declared.charset.Charset.{Charset}
 use Rattle.mime_words.specs.declared.charset.Charset.TheVariants.{Utf8, UsAscii, Latin1}
+use Rattle.mime_words.specs.Quoted.{unquoted}
 use Rattle.mime_words.specs.Decoding.{decoded}
 use Rattle.mime_words.specs.Laws.{HasNoOpening}
 
--- a part of a text in Q: a byte as it is, an underscore, or `=` and the two hexadecimal digits of a byte
+-- a part of a text in Q: a byte as it is, an underscore, `=` and the two hexadecimal digits of a byte, or `=` alone
 pub data QuotedPart : Type 0 where
   Itself : ℕ → QuotedPart
   Underscore : QuotedPart
   Digits : (high : ℕ) → (low : ℕ) → (first : ℕ) → (second : ℕ) → QuotedPart
+  Equals : QuotedPart
 
 -- printable ASCII but a space, `=`, `?` and `_`
 abbrev pub is_itself : ℕ → Bool
@@ -24,17 +26,24 @@ is_itself b = nat_le 33 b && nat_le b 126 && not (b == 61) && not (b == 63) && n
 abbrev pub IsDigit : ℕ → ℕ → Type 0
 IsDigit n c = ((n < 10) × (c ≡ 48 + n)) ⊎ ((10 ≤ n) × (n < 16) × ((c ≡ 55 + n) ⊎ (c ≡ 87 + n)))
 
-abbrev pub AreQuoted : List QuotedPart → Type 0
-AreQuoted [] = Unit {0}
-AreQuoted (Itself b ∷ parts) = (is_itself b ≡ true) × AreQuoted parts
-AreQuoted (Underscore ∷ parts) = AreQuoted parts
-AreQuoted (Digits high low first second ∷ parts) = IsDigit high first × IsDigit low second × AreQuoted parts
-
 abbrev pub quoted_bytes : List QuotedPart → List ℕ
 quoted_bytes [] = []
 quoted_bytes (Itself b ∷ parts) = b ∷ quoted_bytes parts
 quoted_bytes (Underscore ∷ parts) = 95 ∷ quoted_bytes parts
 quoted_bytes (Digits high low first second ∷ parts) = 61 ∷ first ∷ second ∷ quoted_bytes parts
+quoted_bytes (Equals ∷ parts) = 61 ∷ quoted_bytes parts
+
+-- bytes begin with two hexadecimal digits
+abbrev pub BeginsWithDigits : List ℕ → Type 0
+BeginsWithDigits bytes = (high : ℕ) × (low : ℕ) × IsDigit high (slice_index bytes 0) × IsDigit low (slice_index bytes 1)
+
+-- Parts of a text in Q. A lone `=` has no two digits after it.
+abbrev pub AreQuoted : List QuotedPart → Type 0
+AreQuoted [] = Unit {0}
+AreQuoted (Itself b ∷ parts) = (is_itself b ≡ true) × AreQuoted parts
+AreQuoted (Underscore ∷ parts) = AreQuoted parts
+AreQuoted (Digits high low first second ∷ parts) = IsDigit high first × IsDigit low second × AreQuoted parts
+AreQuoted (Equals ∷ parts) = (BeginsWithDigits (quoted_bytes parts) → ⊥) × AreQuoted parts
 
 -- what they say: an underscore says a space
 abbrev pub quoted_said : List QuotedPart → List ℕ
@@ -42,6 +51,15 @@ quoted_said [] = []
 quoted_said (Itself b ∷ parts) = b ∷ quoted_said parts
 quoted_said (Underscore ∷ parts) = 32 ∷ quoted_said parts
 quoted_said (Digits high low first second ∷ parts) = (16 * high + low) ∷ quoted_said parts
+quoted_said (Equals ∷ parts) = 61 ∷ quoted_said parts
+
+-- no `=` in a text has two digits after it
+abbrev pub HasNoDigits : List ℕ → Type 0
+HasNoDigits text = (k : ℕ) → slice_index text k ≡ 61 → BeginsWithDigits (drop (k + 1) text) → ⊥
+
+-- Each `=` stays in a text in Q in which none has two digits after it. Underscores are spaces, and all other bytes stay too.
+abbrev pub LoneEqualsStays : Type 0
+LoneEqualsStays = (text : List ℕ) → HasNoDigits text → unquoted text ≡ map (λ b. if b == 95 then 32 else b) text
 
 -- the text of a word, in Q or in base64
 pub data Coded : Type 0 where

@@ -1,6 +1,6 @@
 //! What holds of decoding, for every value.
 ghost use Rattle.mime_words.specs.Laws.{ValueWithoutWords, EncodedBytes, WordsAreSpelled};
-ghost use Rattle.mime_words.specs.Spelled.{SpelledIsSaid};
+ghost use Rattle.mime_words.specs.Spelled.{LoneEqualsStays, SpelledIsSaid};
 
 /// A value without `=?` is the UTF-8 that stands there, with U+FFFD for what is none.
 pub fn value_without_words()
@@ -21,4 +21,9 @@ pub fn words_are_spelled()
 /// two words go, and neighbours of one charset are joined before they are read.
 pub fn spelled_is_said()
     ensures { SpelledIsSaid }
+{}
+
+/// In a text in Q each `=` stays, where none has two hexadecimal digits after it.
+pub fn lone_equals_stays()
+    ensures { LoneEqualsStays }
 {}
