@@ -15,123 +15,15 @@ use Rattle.mime_words.specs.Quoted.{hex_value, spelled as spelled_by, escape_or_
 use Rattle.mime_words.specs.Words.{EncodedText, charset_of, is_charset_byte, is_text_byte, encoding_of, word_at, word_len, bytes_of, Piece, plain, pieces}
 use Rattle.mime_words.specs.Decoding.{is_blank, same_charset, before, joined, without_gaps, text_of, decoded}
 use Rattle.mime_words.specs.Laws.{HasNoOpening}
-use Rattle.mime_words.specs.Spelled.{QuotedPart, Itself, Underscore, Digits, Equals, is_itself, IsDigit, BeginsWithDigits, HasNoDigits, LoneEqualsStays, AreQuoted, quoted_bytes, quoted_said, Coded, InQ, InBase64, IsCoded, coded_bytes, coded_said, IsLetter, IsName, WrittenWord, IsWord, word_bytes, spaced_word, word_said, Run, Plain, Words, run_bytes, run_said, read_in, Before, Start, AfterText, AfterWords, AreRuns, AllWords, MayBeWords, IsNoGap, SpelledIsSaid}
+use Rattle.mime_words.specs.Spelled.{QuotedPart, Itself, Underscore, Digits, Equals, is_itself, IsDigit, BeginsWithDigits, HasNoDigits, LoneEqualsStays, AreQuoted, quoted_bytes, quoted_said, Coded, InQ, InBase64, IsCoded, coded_bytes, coded_said, IsLetter, IsName, WrittenWord, IsWord, word_bytes, spaced_word, word_said, outer_text, Run, Plain, Words, run_bytes, run_said, read_in, Before, Start, AfterText, AfterWords, AreRuns, AllWords, MayBeWords, IsNoGap, SpelledIsSaid}
 use Rattle.mime_words.proofs.Cutting.{pieces-no_word, pieces-read_word}
 use Rattle.mime_words.proofs.Joining.{piece, same-true, before_same, joined_plain}
 use Rattle.mime_words.proofs.Gaps.{text_by, without_gaps-end}
 use Rattle.mime_words.proofs.Plain.{no_word}
 use Rattle.mime_words.proofs.Padded.{encoded, encoded_text}
 use Rattle.mime_words.proofs.Spelling.{spelled}
-
--- Q, part by part
-unquoted-plain : (b : ℕ) (bs : List ℕ) → (b == 61) ≡ false → unquoted (b ∷ bs) ≡ plain_byte b ∷ unquoted bs
-unquoted-plain b [] e = refl
-unquoted-plain b (x ∷ []) e = refl
-unquoted-plain b (x ∷ y ∷ bs) e = rw e refl
-
-itself_plain : (b : ℕ) → is_itself b ≡ true → (b == 61) ≡ false
-itself_plain b h = grind (arith, nat_tests)
-
-itself_said : (b : ℕ) → is_itself b ≡ true → plain_byte b ≡ b
-itself_said b h =
-    let other : (b == 95) ≡ false = grind (arith, nat_tests) in
-    rw other refl
-
-itself_text : (b : ℕ) → is_itself b ≡ true → is_text_byte b ≡ true
-itself_text b h = grind (arith, nat_tests)
-
-digit_by : (n c : ℕ) → IsDigit n c → (hex_value c ≡ Some n) × (is_text_byte c ≡ true)
-digit_by n c (inl h) =
-    let below : n < 10 = h.0 in
-    let is : c ≡ 48 + n = h.1 in
-    let figure : (nat_le 48 c && nat_le c 57) ≡ true = grind (arith, nat_tests) in
-    let value : c - 48 ≡ n = omega arith in
-    (rw figure (ap Some value), grind (arith, nat_tests))
-digit_by n c (inr (high, low, inl is)) =
-    let figure : (nat_le 48 c && nat_le c 57) ≡ false = grind (arith, nat_tests) in
-    let letter : (nat_le 65 c && nat_le c 70) ≡ true = grind (arith, nat_tests) in
-    let value : c - 55 ≡ n = omega arith in
-    (rw (figure, letter) (ap Some value), grind (arith, nat_tests))
-digit_by n c (inr (high, low, inr is)) =
-    let figure : (nat_le 48 c && nat_le c 57) ≡ false = grind (arith, nat_tests) in
-    let capital : (nat_le 65 c && nat_le c 70) ≡ false = grind (arith, nat_tests) in
-    let letter : (nat_le 97 c && nat_le c 102) ≡ true = grind (arith, nat_tests) in
-    let value : c - 87 ≡ n = omega arith in
-    (rw (figure, capital, letter) (ap Some value), grind (arith, nat_tests))
-
--- what is read as a digit is one
-digit_read : (c n : ℕ) → hex_value c ≡ Some n → IsDigit n c
-digit_read c n e = step (nat_le 48 c && nat_le c 57) (nat_le 65 c && nat_le c 70) (nat_le 97 c && nat_le c 102) refl refl refl e
-  where
-    inside : (m : ℕ) → Some m ≡ Some n → m ≡ n
-    inside m q = cc
-
-    step : (t u v : Bool) → (nat_le 48 c && nat_le c 57) ≡ t → (nat_le 65 c && nat_le c 70) ≡ u → (nat_le 97 c && nat_le c 102) ≡ v
-        → cond t (Some (c - 48)) (cond u (Some (c - 55)) (cond v (Some (c - 87)) None)) ≡ Some n → IsDigit n c
-    step true u v f g h q =
-        let value : c - 48 ≡ n = inside (c - 48) q in
-        let low : 48 ≤ c = grind (arith, nat_tests) in
-        let high : c ≤ 57 = grind (arith, nat_tests) in
-        inl (omega arith, omega arith)
-    step false true v f g h q =
-        let value : c - 55 ≡ n = inside (c - 55) q in
-        let low : 65 ≤ c = grind (arith, nat_tests) in
-        let high : c ≤ 70 = grind (arith, nat_tests) in
-        inr (omega arith, omega arith, inl (omega arith))
-    step false false true f g h q =
-        let value : c - 87 ≡ n = inside (c - 87) q in
-        let low : 97 ≤ c = grind (arith, nat_tests) in
-        let high : c ≤ 102 = grind (arith, nat_tests) in
-        inr (omega arith, omega arith, inr (omega arith))
-    step false false false f g h q = cc
-
--- `=` without two digits stays
-lone : (bs : List ℕ) → (BeginsWithDigits bs → ⊥) → unquoted (61 ∷ bs) ≡ 61 ∷ unquoted bs
-lone [] h = refl
-lone (x ∷ []) h = refl
-lone (x ∷ y ∷ bs) h = step (hex_value x) (hex_value y) refl refl
-  where
-    step : (m n : Option ℕ) → hex_value x ≡ m → hex_value y ≡ n
-        → escape_or_plain (spelled_by m n) 61 (unquoted (x ∷ y ∷ bs)) (unquoted bs) ≡ 61 ∷ unquoted (x ∷ y ∷ bs)
-    step None n e f = refl
-    step (Some m) None e f = refl
-    step (Some m) (Some n) e f = absurd (h (m, n, digit_read x m e, digit_read y n f))
-
-quoted_is : (parts : List QuotedPart) → AreQuoted parts → unquoted (quoted_bytes parts) ≡ quoted_said parts
-quoted_is [] q = refl
-quoted_is (Itself b ∷ parts) q =
-    unquoted-plain b (quoted_bytes parts) (itself_plain b q.0) ∙ (λ i. itself_said b q.0 i ∷ quoted_is parts q.1 i)
-quoted_is (Underscore ∷ parts) q = unquoted-plain 95 (quoted_bytes parts) refl ∙ ap (λ xs. 32 ∷ xs) (quoted_is parts q)
-quoted_is (Digits high low first second ∷ parts) q =
-    let h = digit_by high first q.0 in
-    let l = digit_by low second q.1 in
-    rw (h.0, l.0) (ap (λ xs. (16 * high + low) ∷ xs) (quoted_is parts q.2))
-quoted_is (Equals ∷ parts) q = lone (quoted_bytes parts) q.0 ∙ ap (λ xs. 61 ∷ xs) (quoted_is parts q.1)
-
-and_true : (t u : Bool) → t ≡ true → u ≡ true → (t && u) ≡ true
-and_true true u a b = b
-and_true false u a b = cc
-
-quoted_text : (parts : List QuotedPart) → AreQuoted parts → list_all is_text_byte (quoted_bytes parts) ≡ true
-quoted_text [] q = refl
-quoted_text (Itself b ∷ parts) q = and_true (is_text_byte b) _ (itself_text b q.0) (quoted_text parts q.1)
-quoted_text (Underscore ∷ parts) q = quoted_text parts q
-quoted_text (Digits high low first second ∷ parts) q =
-    and_true (is_text_byte first) _ (digit_by high first q.0).1 (and_true (is_text_byte second) _ (digit_by low second q.1).1 (quoted_text parts q.2))
-quoted_text (Equals ∷ parts) q = quoted_text parts q.1
-
--- a text in which each `=` is alone
-pub lone_stays : LoneEqualsStays
-lone_stays [] h = refl
-lone_stays (b ∷ bs) h =
-    let later : HasNoDigits bs = λ k e d. h (suc k) e (let next : suc k + 1 ≡ suc (k + 1) = omega arith in rw next d) in
-    step (b == 61) refl (lone_stays bs later)
-  where
-    step : (t : Bool) → (b == 61) ≡ t → unquoted bs ≡ map plain_byte bs → unquoted (b ∷ bs) ≡ plain_byte b ∷ map plain_byte bs
-    step true e stays =
-        let is : b ≡ 61 = eqb-true b 61 e in
-        ap (λ c. unquoted (c ∷ bs)) is ∙ lone bs (h 0 is) ∙ ap (λ t. 61 ∷ t) stays ∙ ap (λ c. plain_byte c ∷ map plain_byte bs) (sym is)
-    step false e stays = unquoted-plain b bs e ∙ ap (λ t. plain_byte b ∷ t) stays
+use Rattle.mime_words.proofs.Quoting.{and_true, quoted_is, quoted_text}
+use Rattle.mime_words.proofs.Outer.{small_bytes, small_charset, pieces_outer}
 
 -- a word, as it is found
 abbrev encoding : Coded → Encoding
@@ -157,28 +49,6 @@ record IsCharsetName (charset : Charset) (name : List ℕ) : Type 0 where
   some : 0 < length name
   bytes : list_all is_charset_byte name ≡ true
   is : charset_of name ≡ Some charset
-
--- a byte that is one of a name in small letters is one of a name
-small_byte : (b : ℕ) → is_charset_byte (to_ascii_lowercase b) ≡ true → is_charset_byte b ≡ true
-small_byte b h = step (b == 63) (b == 32) refl refl
-  where
-    step : (t u : Bool) → (b == 63) ≡ t → (b == 32) ≡ u → (not t && not u) ≡ true
-    step true u e f = absurd (both_ways (is_charset_byte (to_ascii_lowercase b)) (ap (λ c. is_charset_byte (to_ascii_lowercase c)) (eqb-true b 63 e)) h)
-    step false true e f = absurd (both_ways (is_charset_byte (to_ascii_lowercase b)) (ap (λ c. is_charset_byte (to_ascii_lowercase c)) (eqb-true b 32 f)) h)
-    step false false e f = refl
-
-small_bytes : (name : List ℕ) → list_all is_charset_byte (str_to_ascii_lowercase name) ≡ true → list_all is_charset_byte name ≡ true
-small_bytes [] h = refl
-small_bytes (b ∷ bs) h =
-    let both = and_parts (is_charset_byte (to_ascii_lowercase b)) (list_all is_charset_byte (str_to_ascii_lowercase bs)) h in
-    and_true (is_charset_byte b) _ (small_byte b both.0) (small_bytes bs both.1)
-
--- the charset of a name in small letters
-abbrev small_charset : List ℕ → Option Charset
-small_charset small =
-    cond (bytes_eq small (str_to_ascii_lowercase (codes "utf-8"))) (Some Utf8)
-    (cond (bytes_eq small (str_to_ascii_lowercase (codes "us-ascii"))) (Some UsAscii)
-    (cond (bytes_eq small (str_to_ascii_lowercase (codes "iso-8859-1"))) (Some Latin1) None))
 
 named_by : (charset : Charset) (name small : List ℕ) → str_to_ascii_lowercase name ≡ small → 0 < length small
     → list_all is_charset_byte small ≡ true → small_charset small ≡ Some charset → IsCharsetName charset name
@@ -228,17 +98,7 @@ pieces_word charset word w ys =
     pieces-read_word (word_bytes word ++ ys) (shown word) charset (omega arith) (word_is charset word w ys) name.is
     ∙ (λ i. piece (Some charset) (said_is word.coded w.coded i) ∷ pieces (behind i))
 
--- text, and spaces, in front of others
-pieces_text : (text ys : List ℕ) → HasNoOpening text → (get_or ys 0 0 ≡ 63 → ⊥) → pieces (text ++ ys) ≡ plain text ++ pieces ys
-pieces_text [] ys h e = refl
-pieces_text (b ∷ bs) ys h e =
-    let later : HasNoOpening bs = λ k x y. h (suc k) x (let f : suc k + 1 ≡ suc (k + 1) = omega arith in rw f y) in
-    pieces-no_word (b ∷ (bs ++ ys)) (omega arith) (no_word b (bs ++ ys) (next bs (h 0))) ∙ ap (λ ps. piece None (b ∷ []) ∷ ps) (pieces_text bs ys later e)
-  where
-    next : (cs : List ℕ) → (get_or (b ∷ cs) 0 0 ≡ 61 → get_or (b ∷ cs) (0 + 1) 0 ≡ 63 → ⊥) → b ≡ 61 → get_or (cs ++ ys) 0 0 ≡ 63 → ⊥
-    next [] f x y = e y
-    next (c ∷ cs) f x y = f x y
-
+-- spaces in front of others
 pieces_spaces : (n : ℕ) (ys : List ℕ) → pieces (replicate n 32 ++ ys) ≡ plain (replicate n 32) ++ pieces ys
 pieces_spaces zero ys = refl
 pieces_spaces (suc n) ys = ap (λ ps. piece None (32 ∷ []) ∷ ps) (pieces_spaces n ys)
@@ -279,7 +139,7 @@ join_words charset bytes (word ∷ words) ps =
 
 -- the piece that a part is
 abbrev run_piece : Run → Piece
-run_piece (Plain text) = piece None text
+run_piece (Plain outer) = piece None (outer_text outer)
 run_piece (Words charset first more) = piece (Some charset) (word_said first ++ flat_map word_said more)
 
 abbrev is_behind : Before → Bool
@@ -291,7 +151,7 @@ is_behind (AfterWords charset) = true
 apart : (charset : Charset) (bytes : List ℕ) (runs : List Run) → AreRuns (AfterWords charset) runs
     → before (piece (Some charset) bytes) (map run_piece runs) ≡ piece (Some charset) bytes ∷ map run_piece runs
 apart charset bytes [] all = refl
-apart charset bytes (Plain text ∷ runs) all = refl
+apart charset bytes (Plain outer ∷ runs) all = refl
 apart charset bytes (Words other first more ∷ runs) all =
     let differ : same_charset (Some charset) (Some other) ≡ false = false_from_ne_true (same_charset (Some charset) (Some other)) (λ e. all.0 (inside (same-true (Some charset) (Some other) e))) in
     rw differ refl
@@ -325,12 +185,14 @@ begins_word word ys none = ap (λ n. get_or ((replicate n 32 ++ word_bytes word)
 parts : (behind : Before) (runs : List Run) → AreRuns behind runs
     → joined (without_gaps (is_behind behind) (pieces (flat_map run_bytes runs))) ≡ map run_piece runs
 parts behind [] all = refl
-parts behind (Plain text ∷ []) all =
-    ap (λ ps. joined (without_gaps (is_behind behind) ps)) (pieces_text text [] all.2 (λ e. let no_byte : 0 ≡ 63 = e in omega arith) ∙ append-nil (plain text))
+parts behind (Plain outer ∷ []) all =
+    let text = outer_text outer in
+    ap (λ ps. joined (without_gaps (is_behind behind) ps)) (pieces_outer outer [] all.2 (λ e. let no_byte : 0 ≡ 63 = e in omega arith) ∙ append-nil (plain text))
     ∙ ap joined (without_gaps-end (is_behind behind) text ∙ sym (append-nil (plain text)))
     ∙ text_piece text [] all.1
-parts behind (Plain text ∷ Plain other ∷ later) all = absurd all.4.0
-parts behind (Plain text ∷ Words charset first more ∷ later) all =
+parts behind (Plain outer ∷ Plain other ∷ later) all = absurd all.4.0
+parts behind (Plain outer ∷ Words charset first more ∷ later) all =
+    let text = outer_text outer in
     let rest = flat_map run_bytes (Words charset first more ∷ later) in
     let tail = flat_map spaced_word more ++ flat_map run_bytes later in
     let split : rest ≡ spaced_word first ++ tail = append_assoc (spaced_word first) (flat_map spaced_word more) (flat_map run_bytes later) in
@@ -338,7 +200,7 @@ parts behind (Plain text ∷ Words charset first more ∷ later) all =
     let cut : pieces rest ≡ word_piece charset first ∷ pieces tail =
     ap pieces split ∙ pieces_spaced charset first all.4.1 tail ∙ ap (λ n. plain (replicate n 32) ++ word_piece charset first ∷ pieces tail) all.4.0 in
     let stays : without_gaps (is_behind behind) (pieces (text ++ rest)) ≡ plain text ++ without_gaps false (pieces rest) =
-    ap (without_gaps (is_behind behind)) (pieces_text text rest all.2 (λ e. omega arith) ∙ ap (λ ps. plain text ++ ps) cut)
+    ap (without_gaps (is_behind behind)) (pieces_outer outer rest all.2 (λ e. omega arith) ∙ ap (λ ps. plain text ++ ps) cut)
     ∙ text_by (is_behind behind) text charset (word_said first) (pieces tail)
     ∙ ap (λ t. cond t (word_piece charset first ∷ without_gaps true (pieces tail)) (plain text ++ word_piece charset first ∷ without_gaps true (pieces tail))) (no_gap behind text (Words charset first more) later all.3)
     ∙ ap (λ ps. plain text ++ without_gaps false ps) (sym cut) in
@@ -362,7 +224,7 @@ read_is Latin1 bytes = refl
 
 texts : (runs : List Run) → flat_map text_of (map run_piece runs) ≡ flat_map run_said runs
 texts [] = refl
-texts (Plain text ∷ runs) = ap (λ xs. utf8_lossy text ++ xs) (texts runs)
+texts (Plain outer ∷ runs) = ap (λ xs. utf8_lossy (outer_text outer) ++ xs) (texts runs)
 texts (Words charset first more ∷ runs) =
     (λ i. read_is charset (word_said first ++ flat_map word_said more) i ++ texts runs i)
 

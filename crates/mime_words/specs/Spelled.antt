@@ -1,6 +1,6 @@
 -- Values that are spelled from encoded words and text (RFC 2047, sections 2 to 6), and what they say.
 use Rattle.std.specs.Prelude.{◌≡◌, ◌≢◌, ◌⊎◌, ◌<◌, ◌≤◌, ℕ, ◌+◌, ◌*◌, Bool, true, false, ◌&&◌, not, ◌==◌, nat_le, List, [], ◌∷◌, ◌++◌, length, drop, map, slice_index, replicate, codes, if◌then◌else◌}
-use Rattle.std.specs.List.{flat_map, list_all}
+use Rattle.std.specs.List.{flat_map, list_all, All}
 use Rattle.std.specs.Str.{encode_utf8_all, str_to_ascii_lowercase}
 use Rattle.std.specs.Str.Lossy.{utf8_lossy}
 use Rattle.base64.specs.Engines.{standard}
@@ -111,13 +111,69 @@ spaced_word word = replicate word.gap 32 ++ word_bytes word
 abbrev pub word_said : WrittenWord → List ℕ
 word_said word = coded_said word.coded
 
--- a part of a value: text outside of words, or words of one charset
+-- an encoded word of any charset: the charset's name, the encoding's letter and the encoded text
+pub record AnyWord : Type 0 where
+  pub name : List ℕ
+  pub letter : ℕ
+  pub text : List ℕ
+
+abbrev pub any_bytes : AnyWord → List ℕ
+any_bytes word = 61 ∷ 63 ∷ (word.name ++ 63 ∷ word.letter ∷ 63 ∷ (word.text ++ 63 ∷ 61 ∷ []))
+
+-- a byte of a charset's name: any but a space and `?`
+abbrev pub IsNameByte : ℕ → Type 0
+IsNameByte b = (b ≢ 32) × (b ≢ 63)
+
+-- a byte of an encoded text: printable ASCII but a space and `?`
+abbrev pub IsTextByte : ℕ → Type 0
+IsTextByte b = (33 ≤ b) × (b ≤ 126) × (b ≢ 63)
+
+pub record IsAnyWord (word : AnyWord) : Type 0 where
+  pub some : 0 < length word.name
+  pub name : All IsNameByte word.name
+  pub letter : ((word.letter ≡ 66) ⊎ (word.letter ≡ 98)) ⊎ ((word.letter ≡ 81) ⊎ (word.letter ≡ 113))
+  pub text : All IsTextByte word.text
+
+-- no word begins bytes
+abbrev pub BeginsNoWord : List ℕ → Type 0
+BeginsNoWord bytes = (word : AnyWord) (more : List ℕ) → IsAnyWord word → bytes ≡ any_bytes word ++ more → ⊥
+
+-- A part of the text outside of words that are read: bytes in which no `=?` stands, a word of a charset that isn't read, or `=` alone
+-- that begins no word.
+pub data OuterPart : Type 0 where
+  Stretch : List ℕ → OuterPart
+  Foreign : AnyWord → OuterPart
+  Stray : OuterPart
+
+abbrev pub outer_bytes : OuterPart → List ℕ
+outer_bytes (Stretch text) = text
+outer_bytes (Foreign word) = any_bytes word
+outer_bytes Stray = 61 ∷ []
+
+abbrev pub outer_text : List OuterPart → List ℕ
+outer_text parts = flat_map outer_bytes parts
+
+-- no stretch stands first
+abbrev pub IsNoStretch : List OuterPart → Type 0
+IsNoStretch [] = Unit {0}
+IsNoStretch (Stretch text ∷ later) = ⊥
+IsNoStretch (Foreign word ∷ later) = Unit {0}
+IsNoStretch (Stray ∷ later) = Unit {0}
+
+-- Parts of such a text with bytes after them. No two stretches stand side by side.
+abbrev pub AreOuter : List OuterPart → List ℕ → Type 0
+AreOuter [] behind = Unit {0}
+AreOuter (Stretch text ∷ later) behind = HasNoOpening text × IsNoStretch later × AreOuter later behind
+AreOuter (Foreign word ∷ later) behind = IsAnyWord word × ((charset : Charset) → IsName charset word.name → ⊥) × AreOuter later behind
+AreOuter (Stray ∷ later) behind = BeginsNoWord (61 ∷ (outer_text later ++ behind)) × AreOuter later behind
+
+-- a part of a value: text outside of words that are read, or words of one charset
 pub data Run : Type 0 where
-  Plain : List ℕ → Run
+  Plain : List OuterPart → Run
   Words : Charset → WrittenWord → List WrittenWord → Run
 
 abbrev pub run_bytes : Run → List ℕ
-run_bytes (Plain text) = text
+run_bytes (Plain outer) = outer_text outer
 run_bytes (Words charset first more) = spaced_word first ++ flat_map spaced_word more
 
 -- the characters that bytes are in a charset
@@ -128,7 +184,7 @@ read_in Latin1 bytes = encode_utf8_all bytes
 
 -- What a part says: text is read for itself. Of words the bytes of all are joined and then read: the spaces in front of them say nothing.
 abbrev pub run_said : Run → List ℕ
-run_said (Plain text) = utf8_lossy text
+run_said (Plain outer) = utf8_lossy (outer_text outer)
 run_said (Words charset first more) = read_in charset (word_said first ++ flat_map word_said more)
 
 -- what stands in front of a part
@@ -164,15 +220,16 @@ abbrev pub AllWords : Charset → List WrittenWord → Type 0
 AllWords charset [] = Unit {0}
 AllWords charset (word ∷ words) = IsWord charset word × AllWords charset words
 
--- Parts as they may stand behind another: texts in which no `=?` stands, and words.
+-- Parts as they may stand behind another: texts outside of words that are read, and words.
 abbrev pub AreRuns : Before → List Run → Type 0
 AreRuns before [] = Unit {0}
-AreRuns before (Plain text ∷ later) =
-    MayBeText before × (0 < length text) × HasNoOpening text × IsNoGap before text later × AreRuns AfterText later
+AreRuns before (Plain outer ∷ later) =
+    MayBeText before × (0 < length (outer_text outer)) × AreOuter outer (flat_map run_bytes later) × IsNoGap before (outer_text outer) later
+    × AreRuns AfterText later
 AreRuns before (Words charset first more ∷ later) =
     MayBeWords before charset first.gap × IsWord charset first × AllWords charset more × AreRuns (AfterWords charset) later
 
 -- Decoding a value that is so spelled gives what its parts say: underscores are spaces, the spaces between two words go,
--- neighbours of one charset are joined before they are read, and all other text stays.
+-- neighbours of one charset are joined before they are read, and all other text stays, with the words of other charsets in it.
 abbrev pub SpelledIsSaid : Type 0
 SpelledIsSaid = (runs : List Run) → AreRuns Start runs → decoded (flat_map run_bytes runs) ≡ flat_map run_said runs

@@ -18,7 +18,8 @@ pub fn words_are_spelled()
 {}
 
 /// Decoding a value that is spelled from encoded words and text gives what they say: underscores are spaces, spaces between
-/// two words go, and neighbours of one charset are joined before they are read.
+/// two words go, and neighbours of one charset are joined before they are read. Words of other charsets stay as text, and so does
+/// `=?` that begins no word.
 pub fn spelled_is_said()
     ensures { SpelledIsSaid }
 {}

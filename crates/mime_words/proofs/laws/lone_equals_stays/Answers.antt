@@ -1,4 +1,4 @@
-use Rattle.mime_words.proofs.Said.{lone_stays}
+use Rattle.mime_words.proofs.Quoting.{lone_stays}
 use Rattle.mime_words.proofs.laws.lone_equals_stays.Goals as goal
 
 pub returns : goal.returns
