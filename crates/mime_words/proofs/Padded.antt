@@ -1,12 +1,13 @@
 -- The symbols of bytes, read again.
-use Rattle.std.proofs.Common.{◌≡◌, ◌<◌, ◌+◌, ◌*◌, ◌/◌, ◌%◌, ◌∙◌, ℕ, suc, zero, Bool, true, false, cond, not, ◌&&◌, nat_eq, List, [], ◌∷◌, ◌++◌, replicate, length, get_or, Option, Some, None, refl, ap, arith, eqb-true}
-use Rattle.std.specs.List.{cons_option, list_all}
+use Rattle.std.proofs.Common.{◌≡◌, ◌<◌, ◌+◌, ◌*◌, ◌/◌, ◌%◌, ◌∙◌, ℕ, suc, zero, Bool, true, false, cond, not, ◌&&◌, ◌||◌, nat_eq, nat_le, List, [], ◌∷◌, ◌++◌, replicate, length, get_or, Option, Some, None, refl, ap, arith, eqb-true}
+use Rattle.std.specs.List.{cons_option, list_all, filter}
 use Rattle.std.proofs.lemmas.Bool.{agree_below_at}
 use Rattle.base64.specs.Rfc4648.{encode_symbols, padding_len}
 use Rattle.base64.specs.Engines.{standard}
 use Rattle.base64.specs.GeneralPurpose.{encode_of, IsBytes}
 use Rattle.mime_words.specs.Words.{is_text_byte}
 use Rattle.mime_words.specs.Base64.{six_bits, sextets, packed, unbase64}
+use Rattle.mime_words.specs.Laws.{is_base64_byte, IsPadding, LooseBase64}
 
 -- a number that is found
 abbrev is_found : Option ℕ → ℕ → Bool
@@ -71,32 +72,67 @@ four_symbols t h i j k l rest later li lj lk ll e =
     onto t h i (get_or t j 0 ∷ get_or t k 0 ∷ get_or t l 0 ∷ rest) (j ∷ k ∷ l ∷ later) li (three_symbols t h j k l rest later lj lk ll e)
 
 -- symbols of bytes and any padding
-symbols : (t : List ℕ) → Stand t → (k : ℕ) (m : List ℕ) → IsBytes m → packed (sextets (encode_symbols t m ++ replicate k 61)) ≡ m
+symbols : (t : List ℕ) → Stand t → (end : List ℕ) → sextets end ≡ [] → (m : List ℕ) → IsBytes m → packed (sextets (encode_symbols t m ++ end)) ≡ m
 unfolding encode_symbols
-symbols t h k [] bytes = ap packed (no_symbols k)
-symbols t h k (a ∷ []) bytes =
+symbols t h end none [] bytes = ap packed none
+symbols t h end none (a ∷ []) bytes =
     let la : a < 256 = bytes 0 in
-    ap packed (two_symbols t h (a / 4) (a % 4 * 16) (replicate k 61) [] (omega arith) (omega arith) (no_symbols k)) ∙ one a la
-symbols t h k (a ∷ b ∷ []) bytes =
+    ap packed (two_symbols t h (a / 4) (a % 4 * 16) (end) [] (omega arith) (omega arith) none) ∙ one a la
+symbols t h end none (a ∷ b ∷ []) bytes =
     let la : a < 256 = bytes 0 in
     let lb : b < 256 = bytes 1 in
-    ap packed (three_symbols t h (a / 4) (a % 4 * 16 + b / 16) (b % 16 * 4) (replicate k 61) [] (omega arith) (omega arith) (omega arith) (no_symbols k))
+    ap packed (three_symbols t h (a / 4) (a % 4 * 16 + b / 16) (b % 16 * 4) (end) [] (omega arith) (omega arith) (omega arith) none)
     ∙ two a b la lb
-symbols t h k (a ∷ b ∷ c ∷ rest) bytes =
+symbols t h end none (a ∷ b ∷ c ∷ rest) bytes =
     let la : a < 256 = bytes 0 in
     let lb : b < 256 = bytes 1 in
     let lc : c < 256 = bytes 2 in
-    ap packed (four_symbols t h (a / 4) (a % 4 * 16 + b / 16) (b % 16 * 4 + c / 64) (c % 64) (encode_symbols t rest ++ replicate k 61)
-    (sextets (encode_symbols t rest ++ replicate k 61)) (omega arith) (omega arith) (omega arith) (omega arith) refl)
-    ∙ three a b c (sextets (encode_symbols t rest ++ replicate k 61)) la lb lc
-    ∙ ap (λ xs. a ∷ b ∷ c ∷ xs) (symbols t h k rest (λ i. bytes (suc (suc (suc i)))))
+    ap packed (four_symbols t h (a / 4) (a % 4 * 16 + b / 16) (b % 16 * 4 + c / 64) (c % 64) (encode_symbols t rest ++ end)
+    (sextets (encode_symbols t rest ++ end)) (omega arith) (omega arith) (omega arith) (omega arith) refl)
+    ∙ three a b c (sextets (encode_symbols t rest ++ end)) la lb lc
+    ∙ ap (λ xs. a ∷ b ∷ c ∷ xs) (symbols t h end none rest (λ i. bytes (suc (suc (suc i)))))
 
 standard_stands : Stand standard.encode_table
 standard_stands i l = agree_below_at (stands_for standard.encode_table) (λ _. true) 64 i refl l
 
 pub encoded : (m : List ℕ) → IsBytes m → unbase64 (encode_of standard m) ≡ m
 unfolding unbase64
-encoded m bytes = symbols standard.encode_table standard_stands (padding_len (length m)) m bytes
+encoded m bytes = symbols standard.encode_table standard_stands (replicate (padding_len (length m)) 61) (no_symbols (padding_len (length m))) m bytes
+
+-- bytes that are none of base64 are skipped
+or_false : (t u : Bool) → (t || u) ≡ false → (t ≡ false) × (u ≡ false)
+or_false true u e = cc
+or_false false u e = (refl, e)
+
+skipped : (b : ℕ) → is_base64_byte b ≡ false → (six_bits b ≡ None) × (nat_eq b 61 ≡ false)
+skipped b e =
+    let capital = or_false (nat_le 65 b && nat_le b 90) _ e in
+    let small = or_false (nat_le 97 b && nat_le b 122) _ capital.1 in
+    let figure = or_false (nat_le 48 b && nat_le b 57) _ small.1 in
+    let plus = or_false (nat_eq b 43) _ figure.1 in
+    let slash = or_false (nat_eq b 47) (nat_eq b 61) plus.1 in
+    (rw (capital.0, small.0, figure.0, plus.0, slash.0) refl, slash.1)
+
+sextets_filter : (text : List ℕ) → sextets text ≡ sextets (filter is_base64_byte text)
+sextets_filter [] = refl
+sextets_filter (b ∷ bs) = step (is_base64_byte b) refl (sextets_filter bs)
+  where
+    step : (t : Bool) → is_base64_byte b ≡ t → sextets bs ≡ sextets (filter is_base64_byte bs)
+        → sextets (b ∷ bs) ≡ sextets (cond t (b ∷ filter is_base64_byte bs) (filter is_base64_byte bs))
+    step true e later = ap (λ xs. cond (nat_eq b 61) [] (cons_option (six_bits b) xs)) later
+    step false e later =
+        let none = skipped b e in
+        rw (none.1, none.0) later
+
+no_more : (padding : List ℕ) → IsPadding padding → sextets padding ≡ []
+no_more [] h = refl
+no_more (b ∷ bs) h = ap (λ c. cond (nat_eq c 61) [] (cons_option (six_bits c) (sextets bs))) h
+
+pub loose : LooseBase64
+unfolding unbase64
+loose bytes text h =
+    ap packed (sextets_filter text ∙ ap sextets h.symbols)
+    ∙ symbols standard.encode_table standard_stands h.padding (no_more h.padding h.is_padding) bytes h.are_bytes
 
 -- a symbol, or the padding, is a byte of an encoded text
 text_symbols : (t : List ℕ) → ((i : ℕ) → i < 64 → is_text_byte (get_or t i 0) ≡ true) → (m : List ℕ) → IsBytes m → (more : List ℕ)

@@ -1,5 +1,5 @@
 //! What holds of decoding, for every value.
-ghost use Rattle.mime_words.specs.Laws.{ValueWithoutWords, EncodedBytes, WordsAreSpelled};
+ghost use Rattle.mime_words.specs.Laws.{ValueWithoutWords, EncodedBytes, LooseBase64, WordsAreSpelled};
 ghost use Rattle.mime_words.specs.Spelled.{LoneEqualsStays, SpelledIsSaid};
 
 /// A value without `=?` is the UTF-8 that stands there, with U+FFFD for what is none.
@@ -10,6 +10,12 @@ pub fn value_without_words()
 /// Base64 as it is written by RFC 4648, section 4, stands for the bytes that it was made of.
 pub fn encoded_bytes()
     ensures { EncodedBytes }
+{}
+
+/// Base64 stands for the bytes that it was made of when other bytes stand between its symbols, when its padding is missing, and
+/// whatever follows its first `=`.
+pub fn loose_base64()
+    ensures { LooseBase64 }
 {}
 
 /// An encoded word is found at the front of bytes exactly where they begin as RFC 2047, section 2, spells it.
