@@ -77,7 +77,7 @@ passed_text_byte b h =
 name_passes : (name : List ℕ) → All IsNameByte name → list_all is_charset_byte name ≡ true
 name_passes name h = list_all-from_AllPass is_charset_byte name (λ k d l. name_byte_passes (get_or name k d) (h k d l))
 
-text_passes : (text : List ℕ) → All IsTextByte text → list_all is_text_byte text ≡ true
+pub text_passes : (text : List ℕ) → All IsTextByte text → list_all is_text_byte text ≡ true
 text_passes text h = list_all-from_AllPass is_text_byte text (λ k d l. text_byte_passes (get_or text k d) (h k d l))
 
 passed_name : (name : List ℕ) → list_all is_charset_byte name ≡ true → All IsNameByte name

@@ -5,7 +5,6 @@ use Rattle.std.proofs.lemmas.Bool.{agree_below_at}
 use Rattle.base64.specs.Rfc4648.{encode_symbols, padding_len}
 use Rattle.base64.specs.Engines.{standard}
 use Rattle.base64.specs.GeneralPurpose.{encode_of, IsBytes}
-use Rattle.mime_words.specs.Words.{is_text_byte}
 use Rattle.mime_words.specs.Base64.{six_bits, sextets, packed, unbase64}
 use Rattle.mime_words.specs.Laws.{is_base64_byte, IsPadding, LooseBase64}
 
@@ -133,31 +132,3 @@ unfolding unbase64
 loose bytes text h =
     ap packed (sextets_filter text ∙ ap sextets h.symbols)
     ∙ symbols standard.encode_table standard_stands h.padding (no_more h.padding h.is_padding) bytes h.are_bytes
-
--- a symbol, or the padding, is a byte of an encoded text
-text_symbols : (t : List ℕ) → ((i : ℕ) → i < 64 → is_text_byte (get_or t i 0) ≡ true) → (m : List ℕ) → IsBytes m → (more : List ℕ)
-    → list_all is_text_byte more ≡ true → list_all is_text_byte (encode_symbols t m ++ more) ≡ true
-unfolding encode_symbols
-text_symbols t h [] bytes more all = all
-text_symbols t h (a ∷ []) bytes more all =
-    let la : a < 256 = bytes 0 in
-    rw (h (a / 4) (omega arith), h (a % 4 * 16) (omega arith)) all
-text_symbols t h (a ∷ b ∷ []) bytes more all =
-    let la : a < 256 = bytes 0 in
-    let lb : b < 256 = bytes 1 in
-    rw (h (a / 4) (omega arith), h (a % 4 * 16 + b / 16) (omega arith), h (b % 16 * 4) (omega arith)) all
-text_symbols t h (a ∷ b ∷ c ∷ rest) bytes more all =
-    let la : a < 256 = bytes 0 in
-    let lb : b < 256 = bytes 1 in
-    let lc : c < 256 = bytes 2 in
-    rw (h (a / 4) (omega arith), h (a % 4 * 16 + b / 16) (omega arith), h (b % 16 * 4 + c / 64) (omega arith), h (c % 64) (omega arith))
-    (text_symbols t h rest (λ i. bytes (suc (suc (suc i)))) more all)
-
-text_padding : (k : ℕ) → list_all is_text_byte (replicate k 61) ≡ true
-text_padding zero = refl
-text_padding (suc k) = text_padding k
-
-pub encoded_text : (m : List ℕ) → IsBytes m → list_all is_text_byte (encode_of standard m) ≡ true
-encoded_text m bytes =
-    text_symbols standard.encode_table (λ i l. agree_below_at (λ n. is_text_byte (get_or standard.encode_table n 0)) (λ _. true) 64 i refl l) m bytes
-    (replicate (padding_len (length m)) 61) (text_padding (padding_len (length m)))

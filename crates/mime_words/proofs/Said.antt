@@ -20,29 +20,29 @@ use Rattle.mime_words.proofs.Cutting.{pieces-no_word, pieces-read_word}
 use Rattle.mime_words.proofs.Joining.{piece, same-true, before_same, joined_plain}
 use Rattle.mime_words.proofs.Gaps.{text_by, without_gaps-end}
 use Rattle.mime_words.proofs.Plain.{no_word}
-use Rattle.mime_words.proofs.Padded.{encoded, encoded_text}
+use Rattle.mime_words.proofs.Padded.{loose}
 use Rattle.mime_words.proofs.Spelling.{spelled}
 use Rattle.mime_words.proofs.Quoting.{and_true, quoted_is, quoted_text}
-use Rattle.mime_words.proofs.Outer.{small_bytes, small_charset, pieces_outer}
+use Rattle.mime_words.proofs.Outer.{small_bytes, small_charset, text_passes, pieces_outer}
 
 -- a word, as it is found
 abbrev encoding : Coded → Encoding
 encoding (InQ parts) = Quoted
-encoding (InBase64 bytes) = Base64
+encoding (InBase64 bytes text) = Base64
 
 letter_is : (coded : Coded) (letter : ℕ) → IsLetter coded letter → encoding_of letter ≡ Some (encoding coded)
 letter_is (InQ parts) letter (inl e) = ap encoding_of e
 letter_is (InQ parts) letter (inr e) = ap encoding_of e
-letter_is (InBase64 bytes) letter (inl e) = ap encoding_of e
-letter_is (InBase64 bytes) letter (inr e) = ap encoding_of e
+letter_is (InBase64 bytes text) letter (inl e) = ap encoding_of e
+letter_is (InBase64 bytes text) letter (inr e) = ap encoding_of e
 
 text_is : (coded : Coded) → IsCoded coded → list_all is_text_byte (coded_bytes coded) ≡ true
 text_is (InQ parts) q = quoted_text parts q
-text_is (InBase64 bytes) q = encoded_text bytes q
+text_is (InBase64 bytes text) q = text_passes text q.1
 
 said_is : (coded : Coded) → IsCoded coded → bytes_of (encoding coded) (coded_bytes coded) ≡ coded_said coded
 said_is (InQ parts) q = quoted_is parts q
-said_is (InBase64 bytes) q = encoded bytes q
+said_is (InBase64 bytes text) q = loose bytes text q.0
 
 -- what holds of a charset's name
 record IsCharsetName (charset : Charset) (name : List ℕ) : Type 0 where

@@ -3,13 +3,11 @@ use Rattle.std.specs.Prelude.{◌≡◌, ◌≢◌, ◌⊎◌, ◌<◌, ◌≤�
 use Rattle.std.specs.List.{flat_map, list_all, All}
 use Rattle.std.specs.Str.{encode_utf8_all, str_to_ascii_lowercase}
 use Rattle.std.specs.Str.Lossy.{utf8_lossy}
-use Rattle.base64.specs.Engines.{standard}
-use Rattle.base64.specs.GeneralPurpose.{encode_of, IsBytes}
 use Rattle.mime_words.specs.declared.charset.Charset.{Charset}
 use Rattle.mime_words.specs.declared.charset.Charset.TheVariants.{Utf8, UsAscii, Latin1}
 use Rattle.mime_words.specs.Quoted.{unquoted}
 use Rattle.mime_words.specs.Decoding.{decoded}
-use Rattle.mime_words.specs.Laws.{HasNoOpening}
+use Rattle.mime_words.specs.Laws.{HasNoOpening, IsBase64Of}
 
 -- a part of a text in Q: a byte as it is, an underscore, `=` and the two hexadecimal digits of a byte, or `=` alone
 pub data QuotedPart : Type 0 where
@@ -61,27 +59,31 @@ HasNoDigits text = (k : ℕ) → slice_index text k ≡ 61 → BeginsWithDigits 
 abbrev pub LoneEqualsStays : Type 0
 LoneEqualsStays = (text : List ℕ) → HasNoDigits text → unquoted text ≡ map (λ b. if b == 95 then 32 else b) text
 
+-- a byte of an encoded text: printable ASCII but a space and `?`
+abbrev pub IsTextByte : ℕ → Type 0
+IsTextByte b = (33 ≤ b) × (b ≤ 126) × (b ≢ 63)
+
 -- the text of a word, in Q or in base64
 pub data Coded : Type 0 where
   InQ : List QuotedPart → Coded
-  InBase64 : List ℕ → Coded
+  InBase64 : (bytes : List ℕ) → (text : List ℕ) → Coded
 
 abbrev pub IsCoded : Coded → Type 0
 IsCoded (InQ parts) = AreQuoted parts
-IsCoded (InBase64 bytes) = IsBytes bytes
+IsCoded (InBase64 bytes text) = IsBase64Of bytes text × All IsTextByte text
 
 abbrev pub coded_bytes : Coded → List ℕ
 coded_bytes (InQ parts) = quoted_bytes parts
-coded_bytes (InBase64 bytes) = encode_of standard bytes
+coded_bytes (InBase64 bytes text) = text
 
 abbrev pub coded_said : Coded → List ℕ
 coded_said (InQ parts) = quoted_said parts
-coded_said (InBase64 bytes) = bytes
+coded_said (InBase64 bytes text) = bytes
 
 -- the letter of its encoding, in either case
 abbrev pub IsLetter : Coded → ℕ → Type 0
 IsLetter (InQ parts) letter = (letter ≡ 81) ⊎ (letter ≡ 113)
-IsLetter (InBase64 bytes) letter = (letter ≡ 66) ⊎ (letter ≡ 98)
+IsLetter (InBase64 bytes text) letter = (letter ≡ 66) ⊎ (letter ≡ 98)
 
 -- the name of a charset, its letters in any case
 abbrev pub IsName : Charset → List ℕ → Type 0
@@ -123,10 +125,6 @@ any_bytes word = 61 ∷ 63 ∷ (word.name ++ 63 ∷ word.letter ∷ 63 ∷ (word
 -- a byte of a charset's name: any but a space and `?`
 abbrev pub IsNameByte : ℕ → Type 0
 IsNameByte b = (b ≢ 32) × (b ≢ 63)
-
--- a byte of an encoded text: printable ASCII but a space and `?`
-abbrev pub IsTextByte : ℕ → Type 0
-IsTextByte b = (33 ≤ b) × (b ≤ 126) × (b ≢ 63)
 
 pub record IsAnyWord (word : AnyWord) : Type 0 where
   pub some : 0 < length word.name
