@@ -63,11 +63,11 @@ field_is w text e folded lies =
       ended = cut.1.0;
       whole = all;
       some_name =
-      let some : 0 < n = ltb-true 0 n (and_parts (ltb 0 n) _ e).0 in
-      omega (arith, length-take-le n w (omega arith));
+          let some : 0 < n = ltb-true 0 n (and_parts (ltb 0 n) _ e).0 in
+          omega (arith, length-take-le n w (omega arith));
       name_bytes = λ k d l.
-      let below : k < n = omega (arith, length-take-le n w (omega arith)) in
-      passed_name_byte (get_or (take n w) k d) (ap is_name_byte (get_or-take n w k d below) ∙ prefix_len_passes is_name_byte w k d below);
+          let below : k < n = omega (arith, length-take-le n w (omega arith)) in
+          passed_name_byte (get_or (take n w) k d) (ap is_name_byte (get_or-take n w k d below) ∙ prefix_len_passes is_name_byte w k d below);
       continued = value_goes_on (drop (n + 1) w) (folded-drop (n + 1) w folded);
       lies = lies;
       name = lies_in (take n w) w text (record { before = []; after = 58 ∷ (value ++ cut.0); is = all }) lies;

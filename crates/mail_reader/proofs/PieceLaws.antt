@@ -38,8 +38,8 @@ closed_is bs e =
         some = let low : 1 ≤ n = leb-true 1 n len.0 in omega arith;
         short = let high : n ≤ 248 = leb-true n 248 len.1 in omega arith;
         bytes = λ k d l.
-        let below : k < n = omega arith in
-        passed_id_byte (get_or (take n bs) k d) (ap is_id_byte (get_or-take n bs k d below) ∙ prefix_len_passes is_id_byte bs k d below);
+            let below : k < n = omega arith in
+            passed_id_byte (get_or (take n bs) k d) (ap is_id_byte (get_or-take n bs k d below) ∙ prefix_len_passes is_id_byte bs k d below);
       },
       record { before = []; after = drop (n + 1) bs; is = ap (λ t. 60 ∷ t) (sym (take-append-drop (n + 1) bs)) },
     )

@@ -97,7 +97,7 @@ abbrev pub IsNameByte : ℕ → Type 0
 IsNameByte b = (33 ≤ b) × (b ≤ 126) × (b ≢ 58)
 
 -- A field that stands in a text: its name, a colon, its value, and a line feed or nothing. So the name and the value stand in the text too.
--- The name has a byte or more. Each line feed in the value has a space or a tab after it, so none is the value's last byte.
+-- The name has one or more bytes. Each line feed in the value has a space or a tab after it, so the value doesn't end with one.
 pub record IsFieldIn (text : List ℕ) (field : FieldText) : Type 0 where
   pub end : List ℕ
   pub ended : IsFeedOrNone end

@@ -51,7 +51,8 @@ pub fn ids_in_order()
     ensures { IdsInOrder }
 {}
 
-/// The fields, the body and the own id of any text are pieces that stand in it.
+/// The fields, the body and the own id of any text are pieces that stand in it. A field's name is one or more printable bytes, and
+/// each line feed in its value has a space or a tab after it.
 pub fn parts_lie_in()
     ensures { PartsLieIn }
 {}
