@@ -1,5 +1,5 @@
 -- The symbols of bytes, read again.
-use Rattle.std.proofs.Common.{◌≡◌, ◌<◌, ◌+◌, ◌*◌, ◌/◌, ◌%◌, ◌∙◌, ℕ, suc, zero, Bool, true, false, cond, not, ◌&&◌, ◌||◌, nat_eq, nat_le, List, [], ◌∷◌, ◌++◌, replicate, length, get_or, Option, Some, None, refl, ap, arith, eqb-true}
+use Rattle.std.proofs.Common.{◌≡◌, ◌<◌, ◌+◌, ◌*◌, ◌/◌, ◌%◌, ◌∙◌, ℕ, suc, zero, Bool, true, false, cond, not, ◌&&◌, ◌||◌, nat_eq, nat_le, List, [], ◌∷◌, ◌++◌, replicate, length, take, get_or, Option, Some, None, refl, ap, arith, eqb-true}
 use Rattle.std.specs.List.{cons_option, list_all, filter}
 use Rattle.std.proofs.lemmas.Bool.{agree_below_at}
 use Rattle.base64.specs.Rfc4648.{encode_symbols, padding_len}
@@ -52,6 +52,18 @@ one a la =
     let x : 4 * (a / 4) + (a % 4 * 16) / 16 ≡ a = omega arith in
     λ i. x i ∷ []
 
+-- whole bytes in symbols whose last bits are of another byte
+one_of : (a b : ℕ) → a < 256 → b < 256 → packed ((a / 4) ∷ (a % 4 * 16 + b / 16) ∷ []) ≡ a ∷ []
+one_of a b la lb =
+    let x : 4 * (a / 4) + (a % 4 * 16 + b / 16) / 16 ≡ a = omega arith in
+    λ i. x i ∷ []
+
+two_of : (a b c : ℕ) → a < 256 → b < 256 → c < 256 → packed ((a / 4) ∷ (a % 4 * 16 + b / 16) ∷ (b % 16 * 4 + c / 64) ∷ []) ≡ a ∷ b ∷ []
+two_of a b c la lb lc =
+    let x : 4 * (a / 4) + (a % 4 * 16 + b / 16) / 16 ≡ a = omega arith in
+    let y : (a % 4 * 16 + b / 16) % 16 * 16 + (b % 16 * 4 + c / 64) / 4 ≡ b = omega arith in
+    λ i. x i ∷ y i ∷ []
+
 onto : (t : List ℕ) → Stand t → (i : ℕ) (rest later : List ℕ) → i < 64 → sextets rest ≡ later → sextets (get_or t i 0 ∷ rest) ≡ i ∷ later
 onto t h i rest later l e = symbol t h i rest l ∙ ap (λ xs. i ∷ xs) e
 
@@ -98,6 +110,64 @@ pub encoded : (m : List ℕ) → IsBytes m → unbase64 (encode_of standard m) �
 unfolding unbase64
 encoded m bytes = symbols standard.encode_table standard_stands (replicate (padding_len (length m)) 61) (no_symbols (padding_len (length m))) m bytes
 
+-- so many symbols of bytes and more bytes
+cut : (t : List ℕ) → Stand t → (end : List ℕ) → sextets end ≡ [] → (m more : List ℕ) (n : ℕ) → IsBytes (m ++ more) → 6 * n / 8 ≡ length m
+    → packed (sextets (take n (encode_symbols t (m ++ more)) ++ end)) ≡ m
+unfolding encode_symbols
+cut t h end none [] more zero bytes w = ap packed none
+cut t h end none [] [] (suc zero) bytes w = ap packed none
+cut t h end none [] (a ∷ []) (suc zero) bytes w =
+    let la : a < 256 = bytes 0 in
+    ap packed (onto t h (a / 4) end [] (omega arith) none)
+cut t h end none [] (a ∷ b ∷ []) (suc zero) bytes w =
+    let la : a < 256 = bytes 0 in
+    ap packed (onto t h (a / 4) end [] (omega arith) none)
+cut t h end none [] (a ∷ b ∷ c ∷ more) (suc zero) bytes w =
+    let la : a < 256 = bytes 0 in
+    ap packed (onto t h (a / 4) end [] (omega arith) none)
+cut t h end none [] more (suc (suc n)) bytes w = absurd (omega arith)
+cut t h end none (a ∷ []) more zero bytes w = absurd (omega arith)
+cut t h end none (a ∷ []) more (suc zero) bytes w = absurd (omega arith)
+cut t h end none (a ∷ []) [] (suc (suc zero)) bytes w =
+    let la : a < 256 = bytes 0 in
+    ap packed (two_symbols t h (a / 4) (a % 4 * 16) end [] (omega arith) (omega arith) none) ∙ one a la
+cut t h end none (a ∷ []) (b ∷ []) (suc (suc zero)) bytes w =
+    let la : a < 256 = bytes 0 in
+    let lb : b < 256 = bytes 1 in
+    ap packed (two_symbols t h (a / 4) (a % 4 * 16 + b / 16) end [] (omega arith) (omega arith) none) ∙ one_of a b la lb
+cut t h end none (a ∷ []) (b ∷ c ∷ more) (suc (suc zero)) bytes w =
+    let la : a < 256 = bytes 0 in
+    let lb : b < 256 = bytes 1 in
+    ap packed (two_symbols t h (a / 4) (a % 4 * 16 + b / 16) end [] (omega arith) (omega arith) none) ∙ one_of a b la lb
+cut t h end none (a ∷ []) more (suc (suc (suc n))) bytes w = absurd (omega arith)
+cut t h end none (a ∷ b ∷ []) more zero bytes w = absurd (omega arith)
+cut t h end none (a ∷ b ∷ []) more (suc zero) bytes w = absurd (omega arith)
+cut t h end none (a ∷ b ∷ []) more (suc (suc zero)) bytes w = absurd (omega arith)
+cut t h end none (a ∷ b ∷ []) [] (suc (suc (suc zero))) bytes w =
+    let la : a < 256 = bytes 0 in
+    let lb : b < 256 = bytes 1 in
+    ap packed (three_symbols t h (a / 4) (a % 4 * 16 + b / 16) (b % 16 * 4) end [] (omega arith) (omega arith) (omega arith) none) ∙ two a b la lb
+cut t h end none (a ∷ b ∷ []) (c ∷ more) (suc (suc (suc zero))) bytes w =
+    let la : a < 256 = bytes 0 in
+    let lb : b < 256 = bytes 1 in
+    let lc : c < 256 = bytes 2 in
+    ap packed (three_symbols t h (a / 4) (a % 4 * 16 + b / 16) (b % 16 * 4 + c / 64) end [] (omega arith) (omega arith) (omega arith) none)
+    ∙ two_of a b c la lb lc
+cut t h end none (a ∷ b ∷ []) more (suc (suc (suc (suc n)))) bytes w = absurd (omega arith)
+cut t h end none (a ∷ b ∷ c ∷ m) more zero bytes w = absurd (omega arith)
+cut t h end none (a ∷ b ∷ c ∷ m) more (suc zero) bytes w = absurd (omega arith)
+cut t h end none (a ∷ b ∷ c ∷ m) more (suc (suc zero)) bytes w = absurd (omega arith)
+cut t h end none (a ∷ b ∷ c ∷ m) more (suc (suc (suc zero))) bytes w = absurd (omega arith)
+cut t h end none (a ∷ b ∷ c ∷ m) more (suc (suc (suc (suc n)))) bytes w =
+    let la : a < 256 = bytes 0 in
+    let lb : b < 256 = bytes 1 in
+    let lc : c < 256 = bytes 2 in
+    let later = take n (encode_symbols t (m ++ more)) ++ end in
+    let fewer : 6 * n / 8 ≡ length m = omega arith in
+    ap packed (four_symbols t h (a / 4) (a % 4 * 16 + b / 16) (b % 16 * 4 + c / 64) (c % 64) later (sextets later) (omega arith) (omega arith) (omega arith) (omega arith) refl)
+    ∙ three a b c (sextets later) la lb lc
+    ∙ ap (λ xs. a ∷ b ∷ c ∷ xs) (cut t h end none m more n (λ i. bytes (suc (suc (suc i)))) fewer)
+
 -- bytes that are none of base64 are skipped
 or_false : (t u : Bool) → (t || u) ≡ false → (t ≡ false) × (u ≡ false)
 or_false true u e = cc
@@ -131,4 +201,4 @@ pub loose : LooseBase64
 unfolding unbase64
 loose bytes text h =
     ap packed (sextets_filter text ∙ ap sextets h.symbols)
-    ∙ symbols standard.encode_table standard_stands h.padding (no_more h.padding h.is_padding) bytes h.are_bytes
+    ∙ cut standard.encode_table standard_stands h.padding (no_more h.padding h.is_padding) bytes h.more h.count h.are_bytes h.whole_bytes

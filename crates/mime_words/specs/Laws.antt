@@ -1,5 +1,5 @@
 -- What holds of decoding.
-use Rattle.std.specs.Prelude.{◌≡◌, ◌<◌, ◌+◌, ◌↔◌, ℕ, Bool, true, ◌&&◌, ◌||◌, ◌==◌, nat_le, List, [], ◌∷◌, ◌++◌, length, slice_index, Some}
+use Rattle.std.specs.Prelude.{◌≡◌, ◌<◌, ◌+◌, ◌*◌, ◌/◌, ◌↔◌, ℕ, Bool, true, ◌&&◌, ◌||◌, ◌==◌, nat_le, List, [], ◌∷◌, ◌++◌, length, take, slice_index, Some}
 use Rattle.std.specs.List.{list_all, filter}
 use Rattle.std.specs.Str.Lossy.{utf8_lossy}
 use Rattle.base64.specs.Rfc4648.{encode_symbols}
@@ -31,13 +31,17 @@ abbrev pub IsPadding : List ℕ → Type 0
 IsPadding [] = Unit {0}
 IsPadding (b ∷ bs) = b ≡ 61
 
--- A base64 text of bytes. Without the bytes that are none of base64 it is the symbols of the bytes (RFC 4648, section 4), and then nothing,
--- or `=` and any bytes: so other bytes may stand between the symbols, and padding may be missing.
+-- A base64 text of bytes (RFC 4648, section 4). Without the bytes that are none of base64 it is symbols, and then nothing, or `=` and any
+-- bytes. The symbols are the first ones of these bytes with any bytes after them, so many that their bits hold just these bytes whole. So
+-- other bytes may stand between the symbols, padding may be missing, and bits at the end that make no whole byte say nothing.
 pub record IsBase64Of (bytes text : List ℕ) : Type 0 where
-  pub are_bytes : IsBytes bytes
+  pub more : List ℕ
+  pub are_bytes : IsBytes (bytes ++ more)
+  pub count : ℕ
+  pub whole_bytes : 6 * count / 8 ≡ length bytes
   pub padding : List ℕ
   pub is_padding : IsPadding padding
-  pub symbols : filter is_base64_byte text ≡ encode_symbols standard.encode_table bytes ++ padding
+  pub symbols : filter is_base64_byte text ≡ take count (encode_symbols standard.encode_table (bytes ++ more)) ++ padding
 
 -- Such a text stands for the bytes.
 abbrev pub LooseBase64 : Type 0

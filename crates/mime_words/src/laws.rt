@@ -12,8 +12,8 @@ pub fn encoded_bytes()
     ensures { EncodedBytes }
 {}
 
-/// Base64 stands for the bytes that it was made of when other bytes stand between its symbols, when its padding is missing, and
-/// whatever follows its first `=`.
+/// Base64 stands for the whole bytes in its symbols: other bytes between them, missing padding, what follows the first `=`, and bits
+/// at the end that make no whole byte change nothing.
 pub fn loose_base64()
     ensures { LooseBase64 }
 {}
