@@ -17,3 +17,4 @@ pub mod Distincts
 pub mod PieceLaws
 pub mod Folding
 pub mod PartLaws
+pub mod OwnIds

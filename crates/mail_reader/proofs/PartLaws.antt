@@ -134,7 +134,7 @@ first_of-contains (x ∷ xs) id e =
     let P : List ℕ → Type 0 = λ y. Contains (x ∷ xs) y in
     subst P same (0, omega arith, refl)
 
-then_some : {X Y : Type 0} (o : Option X) (f : X → Option Y) (y : Y) → option_and_then f o ≡ Some y → (x : X) × ((o ≡ Some x) × (f x ≡ Some y))
+pub then_some : {X Y : Type 0} (o : Option X) (f : X → Option Y) (y : Y) → option_and_then f o ≡ Some y → (x : X) × ((o ≡ Some x) × (f x ≡ Some y))
 then_some None f y e = absurd (none e)
   where
     none : None ≡ Some y → ⊥

@@ -1,6 +1,7 @@
 -- What holds of the storage form, and of the fields and ids of any text.
 use Rattle.std.specs.Prelude.{◌≡◌, ◌≢◌, ◌⊎◌, ◌↔◌, ℕ, ◌+◌, ◌<◌, ◌≤◌, true, false, List, [], ◌∷◌, ◌++◌, Some, map, length, slice_index, codes}
 use Rattle.std.specs.List.{concat, All, Contains}
+use Rattle.std.specs.Str.{str_to_ascii_lowercase}
 use Rattle.mail_reader.specs.Lines.{is_field_line, lines_of, after_header}
 use Rattle.mail_reader.specs.Fields.{FieldText, fields_of}
 use Rattle.mail_reader.specs.Stored.{storage_form, content_of, is_dropped}
@@ -120,3 +121,22 @@ pub record IsOfParts (text : List ℕ) : Type 0 where
 -- The fields, the body and the own id of any text are pieces that stand in it.
 abbrev pub PartsLieIn : Type 0
 PartsLieIn = (text : List ℕ) → IsOfParts text
+
+-- the first field of a list that is named `Message-ID`, in letters of any case
+pub record IsFirstMessageId (fields : List FieldText) (field : FieldText) : Type 0 where
+  pub front : List FieldText
+  pub later : List FieldText
+  pub split : fields ≡ front ++ field ∷ later
+  pub others : (other : FieldText) → Contains front other → str_to_ascii_lowercase other.name ≢ codes "message-id"
+  pub name : str_to_ascii_lowercase field.name ≡ codes "message-id"
+
+-- the first id of that field of a text
+pub record IsOwnId (text id : List ℕ) : Type 0 where
+  pub field : FieldText
+  pub first : IsFirstMessageId (fields_of text) field
+  pub later_ids : List (List ℕ)
+  pub ids : ids_of field.value ≡ id ∷ later_ids
+
+-- The own id of a text is just the first id of its first Message-ID field. Where that field has none, the text has no own id.
+abbrev pub OwnIdIsFirst : Type 0
+OwnIdIsFirst = (text id : List ℕ) → (own_id text ≡ Some id) ↔ IsOwnId text id
