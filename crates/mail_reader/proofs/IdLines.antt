@@ -1,8 +1,9 @@
 -- The line of a Message-ID field with a given id.
-use Rattle.std.proofs.Common.{◌≡◌, ℕ, ◌+◌, true, false, eqb, List, [], ◌∷◌, ◌++◌, Some, length, take, map, refl, sym, ap, ◌∙◌, append_assoc, arith, length-append, codes, add-zero, subst}
-use Rattle.std.specs.List.{AllPass, prefix_len, list_all}
+use Rattle.std.proofs.Common.{◌≡◌, ℕ, ◌+◌, ◌≤◌, true, false, eqb, List, [], ◌∷◌, ◌++◌, Some, length, take, map, get_or, refl, sym, ap, ◌∙◌, append_assoc, arith, length-append, codes, add-zero, subst}
+use Rattle.std.specs.List.{All, prefix_len, list_all}
 use Rattle.std.specs.Prelude.{option_and_then}
 use Rattle.std.proofs.lemmas.Bool.{eqb-true, and_parts, le-leb, eq-eqb, false_from_ne_true, both_ways}
+use Rattle.std.proofs.lemmas.Bool.Decides.{nat_tests}
 use Rattle.std.proofs.lemmas.List.{get_or_at, take_at}
 use Rattle.std.proofs.lemmas.List.Folds.{prefix_len-append}
 use Rattle.std.proofs.lemmas.List.Sums.{list_all-from_AllPass}
@@ -10,7 +11,7 @@ use Rattle.mail_reader.specs.Lines.{is_field_line, lines_of, header_lines, front
 use Rattle.mail_reader.specs.Fields.{FieldText, parts_of, field_of, fields_of, is_named, without_feed, first_named}
 use Rattle.mail_reader.specs.Stored.{content_of, is_dropped}
 use Rattle.mail_reader.specs.Ids.{is_id_byte, id_len, closes_id, ids_of, first_of, own_id}
-use Rattle.mail_reader.specs.Laws.{IsId, id_line, OwnIdInFront, IdLineIsKept}
+use Rattle.mail_reader.specs.Laws.{IsIdByte, IsId, id_line, OwnIdInFront, IdLineIsKept}
 use Rattle.mail_reader.proofs.Trims.{NoByte, NoFeed, without_end-push_other}
 use Rattle.mail_reader.proofs.LineEnds.{lines_of-at}
 use Rattle.mail_reader.proofs.CleanLines.{no_feed_at}
@@ -19,7 +20,20 @@ NoByte-append : (c : ℕ) (xs ys : List ℕ) → NoByte c xs → NoByte c ys →
 NoByte-append c [] ys h k = k
 NoByte-append c (x ∷ xs) ys h k = (h.0, NoByte-append c xs ys h.1 k)
 
--- A prefix of which all passes ends at the first byte that doesn't.
+-- the bytes of an id pass the test on them, and those that pass are such bytes
+id_byte_passes : (b : ℕ) → IsIdByte b → is_id_byte b ≡ true
+id_byte_passes b h = grind (arith, nat_tests)
+
+pub passed_id_byte : (b : ℕ) → is_id_byte b ≡ true → IsIdByte b
+passed_id_byte b h =
+    let low : 33 ≤ b = grind (arith, nat_tests) in
+    let high : b ≤ 126 = grind (arith, nat_tests) in
+    (low, high, (λ e. both_ways (is_id_byte b) (ap is_id_byte e) h), (λ e. both_ways (is_id_byte b) (ap is_id_byte e) h))
+
+pub id_bytes : (inside : List ℕ) → All IsIdByte inside → list_all is_id_byte inside ≡ true
+id_bytes inside h = list_all-from_AllPass is_id_byte inside (λ k d l. id_byte_passes (get_or inside k d) (h k d l))
+
+-- a front that passes whole ends at the first byte that doesn't
 passes : (xs : List ℕ) → list_all is_id_byte xs ≡ true → prefix_len is_id_byte xs ≡ length xs
 passes [] h = refl
 passes (x ∷ xs) h =
@@ -34,9 +48,9 @@ free_of c other (x ∷ xs) h =
     (false_from_ne_true (eqb x c) (λ e. both_ways (is_id_byte x) (ap is_id_byte (eqb-true x c e) ∙ other) both.0), free_of c other xs both.1)
 
 -- The number of bytes of an id before its closing bracket.
-pub id_len-at : (xs more : List ℕ) → AllPass is_id_byte xs → id_len (xs ++ 62 ∷ more) ≡ length xs
+pub id_len-at : (xs more : List ℕ) → All IsIdByte xs → id_len (xs ++ 62 ∷ more) ≡ length xs
 id_len-at xs more h =
-    let all : prefix_len is_id_byte xs ≡ length xs = passes xs (list_all-from_AllPass is_id_byte xs h) in
+    let all : prefix_len is_id_byte xs ≡ length xs = passes xs (id_bytes xs h) in
     prefix_len-append is_id_byte xs (62 ∷ more) ∙ rw (all, eq-eqb (length xs) (length xs) refl) (add-zero (length xs))
 
 -- An id is the first id of a value that starts with it.
@@ -61,7 +75,7 @@ without_feed-append (x ∷ w ∷ xs) y ys = ap (λ t. x ∷ t) (without_feed-app
 id_content : (id : List ℕ) → IsId id → NoFeed (codes "Message-ID: " ++ id)
 id_content id h =
     NoByte-append 10 (codes "Message-ID: ") id (refl, (refl, (refl, (refl, (refl, (refl, (refl, (refl, (refl, (refl, (refl, (refl, tt))))))))))))
-    (let free = free_of 10 refl h.inside (list_all-from_AllPass is_id_byte h.inside h.bytes) in
+    (let free = free_of 10 refl h.inside (id_bytes h.inside h.bytes) in
     let P : List ℕ → Type 0 = λ t. NoFeed t in
     subst P (sym h.is) (refl, NoByte-append 10 h.inside (62 ∷ []) free (refl, tt)))
 

@@ -15,4 +15,6 @@ pub mod Squeezes
 pub mod Hashes
 pub mod Distincts
 pub mod PieceLaws
+pub mod Folding
 pub mod PartLaws
+pub mod OwnIds

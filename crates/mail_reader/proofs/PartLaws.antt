@@ -1,32 +1,28 @@
 -- The fields, the body and the own id of a text stand in it.
-use Rattle.std.proofs.Common.{◌≡◌, inl, inr, ℕ, suc, ◌+◌, ◌<◌, Bool, true, false, cond, eqb, ltb, List, [], ◌∷◌, ◌++◌, length, take, drop, map, get_or, Option, None, Some, refl, sym, ap, ◌∙◌, append_assoc, arith, subst, codes}
+use Rattle.std.proofs.Common.{◌≡◌, inl, inr, ℕ, suc, ◌+◌, ◌<◌, ◌≤◌, Bool, true, false, cond, eqb, ltb, List, [], ◌∷◌, ◌++◌, length, take, drop, map, get_or, Option, None, Some, refl, sym, ap, ◌∙◌, append_assoc, arith, subst, codes}
 use Rattle.std.specs.Prelude.{option_and_then}
 use Rattle.std.specs.List.{concat, Contains, prefix_len}
 use Rattle.std.specs.Str.{str_eq_ignore_ascii_case}
-use Rattle.std.proofs.lemmas.Bool.{eqb-true, and_parts}
-use Rattle.std.proofs.lemmas.List.{drop_more, take-append-drop}
+use Rattle.std.proofs.lemmas.Bool.{eqb-true, and_parts, both_ways, ltb-true}
+use Rattle.std.proofs.lemmas.Bool.Decides.{nat_tests}
+use Rattle.std.proofs.lemmas.List.{drop_more, take-append-drop, length-take-le, get_or-take}
+use Rattle.std.proofs.lemmas.List.Sums.{prefix_len_passes}
 use Rattle.mail_reader.specs.Lines.{lines_of, is_name_byte, is_field_line, header_lines, after_header, after_empty}
 use Rattle.mail_reader.specs.Fields.{FieldText, parts_of, field_of, fields_of, without_feed, first_named}
 use Rattle.mail_reader.specs.Bodies.{body_of}
 use Rattle.mail_reader.specs.Ids.{ids_of, first_of, own_id}
-use Rattle.mail_reader.specs.Laws.{IsId, LiesIn, IsFeedOrNone, IsFieldIn, PartsLieIn, wholes}
-use Rattle.mail_reader.proofs.FieldNames.{name_within, is_field_line-within}
-use Rattle.mail_reader.proofs.FirstFields.{parts_by}
+use Rattle.mail_reader.specs.Laws.{IsId, LiesIn, IsFeedOrNone, IsNameByte, IsFieldIn, PartsLieIn, wholes}
+use Rattle.mail_reader.proofs.FieldNames.{name_within}
+use Rattle.mail_reader.proofs.Folding.{Folded, AllFields, all_fields, folded-drop, value_goes_on}
 use Rattle.mail_reader.proofs.FormLaws.{fields_front}
 use Rattle.mail_reader.proofs.PieceLaws.{contains_cases, are_pieces}
 
--- each is a field line, and what goes on with it
-abbrev AllFields : List (List ℕ) → Type 0
-AllFields [] = Unit {0}
-AllFields (w ∷ ws) = (is_field_line w ≡ true) × AllFields ws
-
-all_fields : (ls : List (List ℕ)) → AllFields (parts_of ls).1
-all_fields [] = tt
-all_fields (l ∷ ls) = step (is_field_line l) l (parts_of ls) refl (all_fields ls)
-  where
-    step : (f : Bool) (l : List ℕ) (p : List ℕ × List (List ℕ)) → is_field_line l ≡ f → AllFields p.1 → AllFields (parts_by f l p).1
-    step true l p e h = (is_field_line-within l p.0 (name_within l e) ∙ e, h)
-    step false l p e h = h
+-- a byte that passes is one of a name
+passed_name_byte : (b : ℕ) → is_name_byte b ≡ true → IsNameByte b
+passed_name_byte b h =
+    let low : 33 ≤ b = grind (arith, nat_tests) in
+    let high : b ≤ 126 = grind (arith, nat_tests) in
+    (low, high, λ e. both_ways (is_name_byte b) (ap is_name_byte e) h)
 
 -- a line feed at the end, or none
 feed_cut : (bs : List ℕ) → (end : List ℕ) × (IsFeedOrNone end × (bs ≡ without_feed bs ++ end))
@@ -51,9 +47,9 @@ lies_in piece whole text inner outer =
     }
 
 -- a field by its bytes
-field_is : (w text : List ℕ) → is_field_line w ≡ true → LiesIn w text → IsFieldIn text (field_of w)
+field_is : (w text : List ℕ) → is_field_line w ≡ true → Folded w → LiesIn w text → IsFieldIn text (field_of w)
 unfolding field_of is_field_line
-field_is w text e lies =
+field_is w text e folded lies =
     let n = prefix_len is_name_byte w in
     let value = without_feed (drop (n + 1) w) in
     let within : n < length w = name_within w e in
@@ -66,6 +62,13 @@ field_is w text e lies =
       end = cut.0;
       ended = cut.1.0;
       whole = all;
+      some_name =
+          let some : 0 < n = ltb-true 0 n (and_parts (ltb 0 n) _ e).0 in
+          omega (arith, length-take-le n w (omega arith));
+      name_bytes = λ k d l.
+          let below : k < n = omega (arith, length-take-le n w (omega arith)) in
+          passed_name_byte (get_or (take n w) k d) (ap is_name_byte (get_or-take n w k d below) ∙ prefix_len_passes is_name_byte w k d below);
+      continued = value_goes_on (drop (n + 1) w) (folded-drop (n + 1) w folded);
       lies = lies;
       name = lies_in (take n w) w text (record { before = []; after = 58 ∷ (value ++ cut.0); is = all }) lies;
       value = lies_in value w text (record { before = take n w ++ 58 ∷ []; after = cut.0; is = all ∙ shift }) lies;
@@ -86,14 +89,14 @@ each_field front (w ∷ ws) after text all is field h =
     let later : front ++ ((w ++ wholes (map field_of ws)) ++ after) ≡ (front ++ w) ++ (wholes (map field_of ws) ++ after) = simp append_assoc in
     let P : FieldText → Type 0 = λ f. IsFieldIn text f in
     elim (contains_cases (field_of w) (map field_of ws) field h) as (λ _. IsFieldIn text field) [
-      | inl same ↦ subst P same (field_is w text all.0 (record { before = front; after = wholes (map field_of ws) ++ after; is = split ∙ here }))
-      | inr others ↦ each_field (front ++ w) ws after text all.1 (split ∙ later) field others
+      | inl same ↦ subst P same (field_is w text all.0 all.1 (record { before = front; after = wholes (map field_of ws) ++ after; is = split ∙ here }))
+      | inr others ↦ each_field (front ++ w) ws after text all.2 (split ∙ later) field others
     ]
 
 fields_lie : (text : List ℕ) (field : FieldText) → Contains (fields_of text) field → IsFieldIn text field
 unfolding fields_of
 fields_lie text field h =
-    each_field [] (parts_of (header_lines (lines_of text))).1 (concat (after_header (lines_of text))) text (all_fields (header_lines (lines_of text))) (fields_front text) field h
+    each_field [] (parts_of (header_lines (lines_of text))).1 (concat (after_header (lines_of text))) text (all_fields text) (fields_front text) field h
 
 -- an empty line that goes
 empty_cut : (ls : List (List ℕ)) → (line : List ℕ) × (IsFeedOrNone line × (concat ls ≡ line ++ concat (after_empty ls)))
@@ -131,7 +134,7 @@ first_of-contains (x ∷ xs) id e =
     let P : List ℕ → Type 0 = λ y. Contains (x ∷ xs) y in
     subst P same (0, omega arith, refl)
 
-then_some : {X Y : Type 0} (o : Option X) (f : X → Option Y) (y : Y) → option_and_then f o ≡ Some y → (x : X) × ((o ≡ Some x) × (f x ≡ Some y))
+pub then_some : {X Y : Type 0} (o : Option X) (f : X → Option Y) (y : Y) → option_and_then f o ≡ Some y → (x : X) × ((o ≡ Some x) × (f x ≡ Some y))
 then_some None f y e = absurd (none e)
   where
     none : None ≡ Some y → ⊥

@@ -5,12 +5,12 @@ use Rattle.std.proofs.lemmas.Bool.{eqb-true, and_parts, le-leb, leb-true}
 use Rattle.std.proofs.lemmas.List.{take_at, take-append-drop, get_or-take, get_or_at, take_more, get_or_past}
 use Rattle.std.proofs.lemmas.List.Elements.{Contains-append_right}
 use Rattle.std.proofs.lemmas.List.Folds.{length-prefix_len}
-use Rattle.std.proofs.lemmas.List.Sums.{prefix_len_passes, prefix_len-le-length, list_all-from_AllPass}
+use Rattle.std.proofs.lemmas.List.Sums.{prefix_len_passes, prefix_len-le-length}
 use Rattle.mail_reader.specs.Ids.{is_id_byte, id_len, closes_id, ids_of}
 use Rattle.mail_reader.specs.Laws.{IsId, LiesIn, IdsArePieces, IdsInOrder}
 use Rattle.mail_reader.proofs.Trims.{NoByte}
 use Rattle.mail_reader.proofs.IdPieces.{ids_of-behind}
-use Rattle.mail_reader.proofs.IdLines.{id_len-at, free_of}
+use Rattle.mail_reader.proofs.IdLines.{passed_id_byte, id_bytes, id_len-at, free_of}
 
 -- an element of a list is its first, or one of the others
 pub contains_cases : {X : Type 0} (x : X) (xs : List X) (y : X) → Contains (x ∷ xs) y → (x ≡ y) ⊎ Contains xs y
@@ -37,7 +37,9 @@ closed_is bs e =
         is = ap (λ t. 60 ∷ t) piece;
         some = let low : 1 ≤ n = leb-true 1 n len.0 in omega arith;
         short = let high : n ≤ 248 = leb-true n 248 len.1 in omega arith;
-        bytes = λ k d l. let below : k < n = omega arith in ap is_id_byte (get_or-take n bs k d below) ∙ prefix_len_passes is_id_byte bs k d below;
+        bytes = λ k d l.
+            let below : k < n = omega arith in
+            passed_id_byte (get_or (take n bs) k d) (ap is_id_byte (get_or-take n bs k d below) ∙ prefix_len_passes is_id_byte bs k d below);
       },
       record { before = []; after = drop (n + 1) bs; is = ap (λ t. 60 ∷ t) (sym (take-append-drop (n + 1) bs)) },
     )
@@ -116,7 +118,7 @@ ids_here id after h =
     let is : id ++ after ≡ 60 ∷ (inside ++ 62 ∷ after) = ap (λ t. t ++ after) h.is ∙ ap (λ t. 60 ∷ t) (append_assoc inside (62 ∷ []) after) in
     let piece : take (id_len (inside ++ 62 ∷ after) + 1) (inside ++ 62 ∷ after) ≡ inside ++ 62 ∷ [] =
     ap (λ n. take (n + 1) (inside ++ 62 ∷ after)) len ∙ ap (take (length inside + 1)) (sym (append_assoc inside (62 ∷ []) after)) ∙ take_at (inside ++ 62 ∷ []) after (length inside + 1) (length-append inside (62 ∷ [])) in
-    let free : NoByte 60 inside = free_of 60 refl inside (list_all-from_AllPass is_id_byte inside h.bytes) in
+    let free : NoByte 60 inside = free_of 60 refl inside (id_bytes inside h.bytes) in
     let rest : ids_of (inside ++ 62 ∷ after) ≡ ids_of after = ids_of-behind inside (62 ∷ after) free in
     ap ids_of is ∙ rw closed ((λ i. (60 ∷ piece i) ∷ rest i) ∙ ap (λ t. t ∷ ids_of after) (sym h.is))
 

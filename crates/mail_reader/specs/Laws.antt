@@ -1,10 +1,11 @@
 -- What holds of the storage form, and of the fields and ids of any text.
-use Rattle.std.specs.Prelude.{◌≡◌, ◌⊎◌, ◌↔◌, ℕ, ◌+◌, ◌<◌, ◌≤◌, true, false, List, [], ◌∷◌, ◌++◌, Some, map, length, slice_index, codes}
-use Rattle.std.specs.List.{concat, AllPass, Contains}
+use Rattle.std.specs.Prelude.{◌≡◌, ◌≢◌, ◌⊎◌, ◌↔◌, ℕ, ◌+◌, ◌<◌, ◌≤◌, true, false, List, [], ◌∷◌, ◌++◌, Some, map, length, slice_index, codes}
+use Rattle.std.specs.List.{concat, All, Contains}
+use Rattle.std.specs.Str.{str_to_ascii_lowercase}
 use Rattle.mail_reader.specs.Lines.{is_field_line, lines_of, after_header}
 use Rattle.mail_reader.specs.Fields.{FieldText, fields_of}
 use Rattle.mail_reader.specs.Stored.{storage_form, content_of, is_dropped}
-use Rattle.mail_reader.specs.Ids.{is_id_byte, ids_of, own_id}
+use Rattle.mail_reader.specs.Ids.{ids_of, own_id}
 use Rattle.mail_reader.specs.Bodies.{body_of}
 
 -- A storage form is its own storage form.
@@ -50,13 +51,17 @@ FieldInFront = (bytes text line : List ℕ) → storage_form bytes ≡ Some text
 abbrev pub FormsAreShort : Type 0
 FormsAreShort = (bytes text : List ℕ) → storage_form bytes ≡ Some text → length text ≤ length bytes + 2
 
+-- a byte of an id between its brackets: printable ASCII other than a space, `<` and `>`
+abbrev pub IsIdByte : ℕ → Type 0
+IsIdByte b = (33 ≤ b) × (b ≤ 126) × (b ≢ 60) × (b ≢ 62)
+
 -- a piece of 1 to 248 bytes of an id between brackets
 pub record IsId (id : List ℕ) : Type 0 where
   pub inside : List ℕ
   pub is : id ≡ 60 ∷ (inside ++ 62 ∷ [])
   pub some : 1 ≤ length inside
   pub short : length inside ≤ 248
-  pub bytes : AllPass is_id_byte inside
+  pub bytes : All IsIdByte inside
 
 -- the line of a Message-ID field
 abbrev pub id_line : List ℕ → List ℕ
@@ -88,11 +93,19 @@ IdsInOrder = (before id after : List ℕ) → IsId id → ids_of (before ++ (id 
 abbrev pub IsFeedOrNone : List ℕ → Type 0
 IsFeedOrNone bytes = (bytes ≡ []) ⊎ (bytes ≡ 10 ∷ [])
 
+-- a byte of a field's name: printable ASCII other than a space and a colon
+abbrev pub IsNameByte : ℕ → Type 0
+IsNameByte b = (33 ≤ b) × (b ≤ 126) × (b ≢ 58)
+
 -- A field that stands in a text: its name, a colon, its value, and a line feed or nothing. So the name and the value stand in the text too.
+-- The name has one or more bytes. Each line feed in the value has a space or a tab after it, so the value doesn't end with one.
 pub record IsFieldIn (text : List ℕ) (field : FieldText) : Type 0 where
   pub end : List ℕ
   pub ended : IsFeedOrNone end
   pub whole : field.whole ≡ field.name ++ 58 ∷ (field.value ++ end)
+  pub some_name : 0 < length field.name
+  pub name_bytes : All IsNameByte field.name
+  pub continued : (k : ℕ) → slice_index field.value k ≡ 10 → (slice_index field.value (k + 1) ≡ 32) ⊎ (slice_index field.value (k + 1) ≡ 9)
   pub lies : LiesIn field.whole text
   pub name : LiesIn field.name text
   pub value : LiesIn field.value text
@@ -108,3 +121,22 @@ pub record IsOfParts (text : List ℕ) : Type 0 where
 -- The fields, the body and the own id of any text are pieces that stand in it.
 abbrev pub PartsLieIn : Type 0
 PartsLieIn = (text : List ℕ) → IsOfParts text
+
+-- the first field of a list that is named `Message-ID`, in letters of any case
+pub record IsFirstMessageId (fields : List FieldText) (field : FieldText) : Type 0 where
+  pub front : List FieldText
+  pub later : List FieldText
+  pub split : fields ≡ front ++ field ∷ later
+  pub others : (other : FieldText) → Contains front other → str_to_ascii_lowercase other.name ≢ codes "message-id"
+  pub name : str_to_ascii_lowercase field.name ≡ codes "message-id"
+
+-- the first id of that field of a text
+pub record IsOwnId (text id : List ℕ) : Type 0 where
+  pub field : FieldText
+  pub first : IsFirstMessageId (fields_of text) field
+  pub later_ids : List (List ℕ)
+  pub ids : ids_of field.value ≡ id ∷ later_ids
+
+-- The own id of a text is just the first id of its first Message-ID field. Where that field has none, the text has no own id.
+abbrev pub OwnIdIsFirst : Type 0
+OwnIdIsFirst = (text id : List ℕ) → (own_id text ≡ Some id) ↔ IsOwnId text id

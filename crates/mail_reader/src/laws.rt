@@ -1,5 +1,5 @@
 //! What holds of the storage form, and of the fields and ids of any text. Each call does nothing: its contract is the law.
-ghost use Rattle.mail_reader.specs.Laws.{StoredOnce, FormsAreClean, FieldsAreFront, FormIsParts, FieldInFront, FormsAreShort, OwnIdInFront, IdLineIsKept, IdsArePieces, IdsInOrder, PartsLieIn};
+ghost use Rattle.mail_reader.specs.Laws.{StoredOnce, FormsAreClean, FieldsAreFront, FormIsParts, FieldInFront, FormsAreShort, OwnIdInFront, IdLineIsKept, IdsArePieces, IdsInOrder, PartsLieIn, OwnIdIsFirst};
 
 /// The storage form of a storage form is that form. (Whether `stored` takes it goes by its length.)
 pub fn stored_once()
@@ -51,7 +51,13 @@ pub fn ids_in_order()
     ensures { IdsInOrder }
 {}
 
-/// The fields, the body and the own id of any text are pieces that stand in it.
+/// The fields, the body and the own id of any text are pieces that stand in it. A field's name is one or more printable bytes, and
+/// each line feed in its value has a space or a tab after it.
 pub fn parts_lie_in()
     ensures { PartsLieIn }
+{}
+
+/// The own id of a text is just the first id of its first Message-ID field, whose name is in letters of any case.
+pub fn own_id_is_first()
+    ensures { OwnIdIsFirst }
 {}

@@ -19,7 +19,8 @@ pub use header::{Field, Fields};
 pub use ids::Ids;
 pub use laws::{
     field_in_front, fields_are_front, form_is_parts, forms_are_clean, forms_are_short,
-    id_line_is_kept, ids_are_pieces, ids_in_order, own_id_in_front, parts_lie_in, stored_once,
+    id_line_is_kept, ids_are_pieces, ids_in_order, own_id_in_front, own_id_is_first, parts_lie_in,
+    stored_once,
 };
 pub use reading::{body, fields, own_id};
 pub use references::refs_of;

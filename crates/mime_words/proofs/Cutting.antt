@@ -42,7 +42,7 @@ pub pieces-read_word : (bytes : List ℕ) (word : EncodedText) (charset : Charse
 pieces-read_word bytes word charset h e some =
     pieces-word bytes word h e ∙ ap (λ k. pieces_of_word k word (take (word_len word) bytes) ++ pieces (drop (word_len word) bytes)) some
 
-plain-append : (xs ys : List ℕ) → plain (xs ++ ys) ≡ plain xs ++ plain ys
+pub plain-append : (xs ys : List ℕ) → plain (xs ++ ys) ≡ plain xs ++ plain ys
 plain-append [] ys = refl
 plain-append (x ∷ xs) ys = ap (λ ps. record { charset = None; bytes = x ∷ [] } ∷ ps) (plain-append xs ys)
 

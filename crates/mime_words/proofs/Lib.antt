@@ -6,6 +6,8 @@ mod Opening
 mod Plain
 mod Padded
 mod Spelling
+mod Quoting
+mod Outer
 mod Said
 mod Lenient
 mod Sextets

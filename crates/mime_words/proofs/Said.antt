@@ -1,101 +1,48 @@
 -- A value that is spelled from words and text is decoded as they say.
-use Rattle.std.proofs.Common.{◌≡◌, inl, inr, ◌<◌, ◌+◌, ◌*◌, ◌∙◌, ℕ, zero, suc, Bool, true, false, cond, ◌&&◌, ◌==◌, List, [], ◌∷◌, ◌++◌, length, map, drop, get_or, replicate, Some, None, refl, ap, sym, subst, append_assoc, append-nil, length-append, arith}
+use Rattle.std.proofs.Common.{◌≡◌, inl, inr, ◌<◌, ◌≤◌, ◌+◌, ◌-◌, ◌*◌, ◌∙◌, ℕ, zero, suc, Bool, true, false, cond, not, nat_le, ◌&&◌, ◌==◌, codes, Option, List, [], ◌∷◌, ◌++◌, length, map, drop, get_or, replicate, Some, None, refl, ap, sym, subst, append_assoc, append-nil, length-append, arith}
 use Rattle.std.specs.List.{flat_map, list_all}
 use Rattle.std.specs.Str.Lossy.{utf8_lossy}
-use Rattle.std.proofs.lemmas.Bool.{false_from_ne_true}
+use Rattle.std.proofs.lemmas.Bool.{false_from_ne_true, both_ways, eqb-true, and_parts}
 use Rattle.std.proofs.lemmas.Bool.Decides.{nat_tests}
-use Rattle.std.proofs.lemmas.List.{drop_at}
+use Rattle.std.proofs.lemmas.List.{drop_at, length-map}
+use Rattle.std.specs.Char.{to_ascii_lowercase}
+use Rattle.std.specs.Str.{str_to_ascii_lowercase, bytes_eq}
 use Rattle.mime_words.specs.declared.charset.Charset.{Charset}
 use Rattle.mime_words.specs.declared.charset.Charset.TheVariants.{Utf8, UsAscii, Latin1}
 use Rattle.mime_words.specs.declared.encoding.Encoding.{Encoding}
 use Rattle.mime_words.specs.declared.encoding.Encoding.TheVariants.{Base64, Quoted}
-use Rattle.mime_words.specs.Quoted.{hex_value, plain_byte, unquoted}
+use Rattle.mime_words.specs.Quoted.{hex_value, spelled as spelled_by, escape_or_plain, plain_byte, unquoted}
 use Rattle.mime_words.specs.Words.{EncodedText, charset_of, is_charset_byte, is_text_byte, encoding_of, word_at, word_len, bytes_of, Piece, plain, pieces}
 use Rattle.mime_words.specs.Decoding.{is_blank, same_charset, before, joined, without_gaps, text_of, decoded}
 use Rattle.mime_words.specs.Laws.{HasNoOpening}
-use Rattle.mime_words.specs.Spelled.{QuotedPart, Itself, Underscore, Digits, is_itself, hex_digit, AreQuoted, quoted_bytes, quoted_said, Coded, InQ, InBase64, IsCoded, coded_bytes, coded_said, IsLetter, IsName, WrittenWord, IsWord, word_bytes, spaced_word, word_said, Run, Plain, Words, run_bytes, run_said, read_in, Before, Start, AfterText, AfterWords, AreRuns, AllWords, MayBeWords, IsNoGap, SpelledIsSaid}
+use Rattle.mime_words.specs.Spelled.{QuotedPart, Itself, Underscore, Digits, Equals, is_itself, IsDigit, BeginsWithDigits, HasNoDigits, LoneEqualsStays, AreQuoted, quoted_bytes, quoted_said, Coded, InQ, InBase64, IsCoded, coded_bytes, coded_said, IsLetter, IsName, WrittenWord, IsWord, word_bytes, spaced_word, word_said, outer_text, Run, Plain, Words, run_bytes, run_said, read_in, Before, Start, AfterText, AfterWords, AreRuns, AllWords, MayBeWords, IsNoGap, SpelledIsSaid}
 use Rattle.mime_words.proofs.Cutting.{pieces-no_word, pieces-read_word}
 use Rattle.mime_words.proofs.Joining.{piece, same-true, before_same, joined_plain}
 use Rattle.mime_words.proofs.Gaps.{text_by, without_gaps-end}
 use Rattle.mime_words.proofs.Plain.{no_word}
-use Rattle.mime_words.proofs.Padded.{encoded, encoded_text}
+use Rattle.mime_words.proofs.Padded.{loose}
 use Rattle.mime_words.proofs.Spelling.{spelled}
-
--- Q, part by part
-unquoted-plain : (b : ℕ) (bs : List ℕ) → (b == 61) ≡ false → unquoted (b ∷ bs) ≡ plain_byte b ∷ unquoted bs
-unquoted-plain b [] e = refl
-unquoted-plain b (x ∷ []) e = refl
-unquoted-plain b (x ∷ y ∷ bs) e = rw e refl
-
-itself_plain : (b : ℕ) → is_itself b ≡ true → (b == 61) ≡ false
-itself_plain b h = grind (arith, nat_tests)
-
-itself_said : (b : ℕ) → is_itself b ≡ true → plain_byte b ≡ b
-itself_said b h =
-    let other : (b == 95) ≡ false = grind (arith, nat_tests) in
-    rw other refl
-
-itself_text : (b : ℕ) → is_itself b ≡ true → is_text_byte b ≡ true
-itself_text b h = grind (arith, nat_tests)
-
-digit_by : (n : ℕ) → n < 16 → (hex_value (hex_digit n) ≡ Some n) × (is_text_byte (hex_digit n) ≡ true)
-digit_by zero l = (refl, refl)
-digit_by (suc zero) l = (refl, refl)
-digit_by (suc (suc zero)) l = (refl, refl)
-digit_by (suc (suc (suc zero))) l = (refl, refl)
-digit_by (suc (suc (suc (suc zero)))) l = (refl, refl)
-digit_by (suc (suc (suc (suc (suc zero))))) l = (refl, refl)
-digit_by (suc (suc (suc (suc (suc (suc zero)))))) l = (refl, refl)
-digit_by (suc (suc (suc (suc (suc (suc (suc zero))))))) l = (refl, refl)
-digit_by (suc (suc (suc (suc (suc (suc (suc (suc zero)))))))) l = (refl, refl)
-digit_by (suc (suc (suc (suc (suc (suc (suc (suc (suc zero))))))))) l = (refl, refl)
-digit_by (suc (suc (suc (suc (suc (suc (suc (suc (suc (suc zero)))))))))) l = (refl, refl)
-digit_by (suc (suc (suc (suc (suc (suc (suc (suc (suc (suc (suc zero))))))))))) l = (refl, refl)
-digit_by (suc (suc (suc (suc (suc (suc (suc (suc (suc (suc (suc (suc zero)))))))))))) l = (refl, refl)
-digit_by (suc (suc (suc (suc (suc (suc (suc (suc (suc (suc (suc (suc (suc zero))))))))))))) l = (refl, refl)
-digit_by (suc (suc (suc (suc (suc (suc (suc (suc (suc (suc (suc (suc (suc (suc zero)))))))))))))) l = (refl, refl)
-digit_by (suc (suc (suc (suc (suc (suc (suc (suc (suc (suc (suc (suc (suc (suc (suc zero))))))))))))))) l = (refl, refl)
-digit_by (suc (suc (suc (suc (suc (suc (suc (suc (suc (suc (suc (suc (suc (suc (suc (suc n)))))))))))))))) l = absurd (omega arith)
-
-quoted_is : (parts : List QuotedPart) → AreQuoted parts → unquoted (quoted_bytes parts) ≡ quoted_said parts
-quoted_is [] q = refl
-quoted_is (Itself b ∷ parts) q =
-    unquoted-plain b (quoted_bytes parts) (itself_plain b q.0) ∙ (λ i. itself_said b q.0 i ∷ quoted_is parts q.1 i)
-quoted_is (Underscore ∷ parts) q = unquoted-plain 95 (quoted_bytes parts) refl ∙ ap (λ xs. 32 ∷ xs) (quoted_is parts q)
-quoted_is (Digits high low ∷ parts) q =
-    let h = digit_by high q.0 in
-    let l = digit_by low q.1 in
-    rw (h.0, l.0) (ap (λ xs. (16 * high + low) ∷ xs) (quoted_is parts q.2))
-
-and_true : (t u : Bool) → t ≡ true → u ≡ true → (t && u) ≡ true
-and_true true u a b = b
-and_true false u a b = cc
-
-quoted_text : (parts : List QuotedPart) → AreQuoted parts → list_all is_text_byte (quoted_bytes parts) ≡ true
-quoted_text [] q = refl
-quoted_text (Itself b ∷ parts) q = and_true (is_text_byte b) _ (itself_text b q.0) (quoted_text parts q.1)
-quoted_text (Underscore ∷ parts) q = quoted_text parts q
-quoted_text (Digits high low ∷ parts) q =
-    and_true (is_text_byte (hex_digit high)) _ (digit_by high q.0).1 (and_true (is_text_byte (hex_digit low)) _ (digit_by low q.1).1 (quoted_text parts q.2))
+use Rattle.mime_words.proofs.Quoting.{and_true, quoted_is, quoted_text}
+use Rattle.mime_words.proofs.Outer.{small_bytes, small_charset, text_passes, pieces_outer}
 
 -- a word, as it is found
 abbrev encoding : Coded → Encoding
 encoding (InQ parts) = Quoted
-encoding (InBase64 bytes) = Base64
+encoding (InBase64 bytes text) = Base64
 
 letter_is : (coded : Coded) (letter : ℕ) → IsLetter coded letter → encoding_of letter ≡ Some (encoding coded)
 letter_is (InQ parts) letter (inl e) = ap encoding_of e
 letter_is (InQ parts) letter (inr e) = ap encoding_of e
-letter_is (InBase64 bytes) letter (inl e) = ap encoding_of e
-letter_is (InBase64 bytes) letter (inr e) = ap encoding_of e
+letter_is (InBase64 bytes text) letter (inl e) = ap encoding_of e
+letter_is (InBase64 bytes text) letter (inr e) = ap encoding_of e
 
 text_is : (coded : Coded) → IsCoded coded → list_all is_text_byte (coded_bytes coded) ≡ true
 text_is (InQ parts) q = quoted_text parts q
-text_is (InBase64 bytes) q = encoded_text bytes q
+text_is (InBase64 bytes text) q = text_passes text q.1
 
 said_is : (coded : Coded) → IsCoded coded → bytes_of (encoding coded) (coded_bytes coded) ≡ coded_said coded
 said_is (InQ parts) q = quoted_is parts q
-said_is (InBase64 bytes) q = encoded bytes q
+said_is (InBase64 bytes text) q = loose bytes text q.0
 
 -- what holds of a charset's name
 record IsCharsetName (charset : Charset) (name : List ℕ) : Type 0 where
@@ -103,13 +50,18 @@ record IsCharsetName (charset : Charset) (name : List ℕ) : Type 0 where
   bytes : list_all is_charset_byte name ≡ true
   is : charset_of name ≡ Some charset
 
+named_by : (charset : Charset) (name small : List ℕ) → str_to_ascii_lowercase name ≡ small → 0 < length small
+    → list_all is_charset_byte small ≡ true → small_charset small ≡ Some charset → IsCharsetName charset name
+named_by charset name small e some bytes is = record {
+  some = let same : length (str_to_ascii_lowercase name) ≡ length small = ap length e in omega (arith, length-map name to_ascii_lowercase);
+  bytes = small_bytes name (ap (list_all is_charset_byte) e ∙ bytes);
+  is = ap small_charset e ∙ is;
+}
+
 named : (charset : Charset) (name : List ℕ) → IsName charset name → IsCharsetName charset name
-named Utf8 name (inl e) = subst (λ (n : List ℕ). IsCharsetName Utf8 n) (sym e) (record { some = omega arith; bytes = refl; is = refl })
-named Utf8 name (inr e) = subst (λ (n : List ℕ). IsCharsetName Utf8 n) (sym e) (record { some = omega arith; bytes = refl; is = refl })
-named UsAscii name (inl e) = subst (λ (n : List ℕ). IsCharsetName UsAscii n) (sym e) (record { some = omega arith; bytes = refl; is = refl })
-named UsAscii name (inr e) = subst (λ (n : List ℕ). IsCharsetName UsAscii n) (sym e) (record { some = omega arith; bytes = refl; is = refl })
-named Latin1 name (inl e) = subst (λ (n : List ℕ). IsCharsetName Latin1 n) (sym e) (record { some = omega arith; bytes = refl; is = refl })
-named Latin1 name (inr e) = subst (λ (n : List ℕ). IsCharsetName Latin1 n) (sym e) (record { some = omega arith; bytes = refl; is = refl })
+named Utf8 name e = named_by Utf8 name (codes "utf-8") e (omega arith) refl refl
+named UsAscii name e = named_by UsAscii name (codes "us-ascii") e (omega arith) refl refl
+named Latin1 name e = named_by Latin1 name (codes "iso-8859-1") e (omega arith) refl refl
 
 abbrev shown : WrittenWord → EncodedText
 shown word = record { charset = word.name; encoding = encoding word.coded; text = coded_bytes word.coded }
@@ -146,17 +98,7 @@ pieces_word charset word w ys =
     pieces-read_word (word_bytes word ++ ys) (shown word) charset (omega arith) (word_is charset word w ys) name.is
     ∙ (λ i. piece (Some charset) (said_is word.coded w.coded i) ∷ pieces (behind i))
 
--- text, and spaces, in front of others
-pieces_text : (text ys : List ℕ) → HasNoOpening text → (get_or ys 0 0 ≡ 63 → ⊥) → pieces (text ++ ys) ≡ plain text ++ pieces ys
-pieces_text [] ys h e = refl
-pieces_text (b ∷ bs) ys h e =
-    let later : HasNoOpening bs = λ k x y. h (suc k) x (let f : suc k + 1 ≡ suc (k + 1) = omega arith in rw f y) in
-    pieces-no_word (b ∷ (bs ++ ys)) (omega arith) (no_word b (bs ++ ys) (next bs (h 0))) ∙ ap (λ ps. piece None (b ∷ []) ∷ ps) (pieces_text bs ys later e)
-  where
-    next : (cs : List ℕ) → (get_or (b ∷ cs) 0 0 ≡ 61 → get_or (b ∷ cs) (0 + 1) 0 ≡ 63 → ⊥) → b ≡ 61 → get_or (cs ++ ys) 0 0 ≡ 63 → ⊥
-    next [] f x y = e y
-    next (c ∷ cs) f x y = f x y
-
+-- spaces in front of others
 pieces_spaces : (n : ℕ) (ys : List ℕ) → pieces (replicate n 32 ++ ys) ≡ plain (replicate n 32) ++ pieces ys
 pieces_spaces zero ys = refl
 pieces_spaces (suc n) ys = ap (λ ps. piece None (32 ∷ []) ∷ ps) (pieces_spaces n ys)
@@ -197,7 +139,7 @@ join_words charset bytes (word ∷ words) ps =
 
 -- the piece that a part is
 abbrev run_piece : Run → Piece
-run_piece (Plain text) = piece None text
+run_piece (Plain outer) = piece None (outer_text outer)
 run_piece (Words charset first more) = piece (Some charset) (word_said first ++ flat_map word_said more)
 
 abbrev is_behind : Before → Bool
@@ -209,7 +151,7 @@ is_behind (AfterWords charset) = true
 apart : (charset : Charset) (bytes : List ℕ) (runs : List Run) → AreRuns (AfterWords charset) runs
     → before (piece (Some charset) bytes) (map run_piece runs) ≡ piece (Some charset) bytes ∷ map run_piece runs
 apart charset bytes [] all = refl
-apart charset bytes (Plain text ∷ runs) all = refl
+apart charset bytes (Plain outer ∷ runs) all = refl
 apart charset bytes (Words other first more ∷ runs) all =
     let differ : same_charset (Some charset) (Some other) ≡ false = false_from_ne_true (same_charset (Some charset) (Some other)) (λ e. all.0 (inside (same-true (Some charset) (Some other) e))) in
     rw differ refl
@@ -243,12 +185,14 @@ begins_word word ys none = ap (λ n. get_or ((replicate n 32 ++ word_bytes word)
 parts : (behind : Before) (runs : List Run) → AreRuns behind runs
     → joined (without_gaps (is_behind behind) (pieces (flat_map run_bytes runs))) ≡ map run_piece runs
 parts behind [] all = refl
-parts behind (Plain text ∷ []) all =
-    ap (λ ps. joined (without_gaps (is_behind behind) ps)) (pieces_text text [] all.2 (λ e. let no_byte : 0 ≡ 63 = e in omega arith) ∙ append-nil (plain text))
+parts behind (Plain outer ∷ []) all =
+    let text = outer_text outer in
+    ap (λ ps. joined (without_gaps (is_behind behind) ps)) (pieces_outer outer [] all.2 (λ e. let no_byte : 0 ≡ 63 = e in omega arith) ∙ append-nil (plain text))
     ∙ ap joined (without_gaps-end (is_behind behind) text ∙ sym (append-nil (plain text)))
     ∙ text_piece text [] all.1
-parts behind (Plain text ∷ Plain other ∷ later) all = absurd all.4.0
-parts behind (Plain text ∷ Words charset first more ∷ later) all =
+parts behind (Plain outer ∷ Plain other ∷ later) all = absurd all.4.0
+parts behind (Plain outer ∷ Words charset first more ∷ later) all =
+    let text = outer_text outer in
     let rest = flat_map run_bytes (Words charset first more ∷ later) in
     let tail = flat_map spaced_word more ++ flat_map run_bytes later in
     let split : rest ≡ spaced_word first ++ tail = append_assoc (spaced_word first) (flat_map spaced_word more) (flat_map run_bytes later) in
@@ -256,7 +200,7 @@ parts behind (Plain text ∷ Words charset first more ∷ later) all =
     let cut : pieces rest ≡ word_piece charset first ∷ pieces tail =
     ap pieces split ∙ pieces_spaced charset first all.4.1 tail ∙ ap (λ n. plain (replicate n 32) ++ word_piece charset first ∷ pieces tail) all.4.0 in
     let stays : without_gaps (is_behind behind) (pieces (text ++ rest)) ≡ plain text ++ without_gaps false (pieces rest) =
-    ap (without_gaps (is_behind behind)) (pieces_text text rest all.2 (λ e. omega arith) ∙ ap (λ ps. plain text ++ ps) cut)
+    ap (without_gaps (is_behind behind)) (pieces_outer outer rest all.2 (λ e. omega arith) ∙ ap (λ ps. plain text ++ ps) cut)
     ∙ text_by (is_behind behind) text charset (word_said first) (pieces tail)
     ∙ ap (λ t. cond t (word_piece charset first ∷ without_gaps true (pieces tail)) (plain text ++ word_piece charset first ∷ without_gaps true (pieces tail))) (no_gap behind text (Words charset first more) later all.3)
     ∙ ap (λ ps. plain text ++ without_gaps false ps) (sym cut) in
@@ -280,7 +224,7 @@ read_is Latin1 bytes = refl
 
 texts : (runs : List Run) → flat_map text_of (map run_piece runs) ≡ flat_map run_said runs
 texts [] = refl
-texts (Plain text ∷ runs) = ap (λ xs. utf8_lossy text ++ xs) (texts runs)
+texts (Plain outer ∷ runs) = ap (λ xs. utf8_lossy (outer_text outer) ++ xs) (texts runs)
 texts (Words charset first more ∷ runs) =
     (λ i. read_is charset (word_said first ++ flat_map word_said more) i ++ texts runs i)
 

@@ -1,7 +1,8 @@
 -- What holds of decoding.
-use Rattle.std.specs.Prelude.{◌≡◌, ◌<◌, ◌+◌, ◌↔◌, ℕ, true, List, ◌∷◌, ◌++◌, length, slice_index, Some}
-use Rattle.std.specs.List.{list_all}
+use Rattle.std.specs.Prelude.{◌≡◌, ◌<◌, ◌+◌, ◌*◌, ◌/◌, ◌↔◌, ℕ, Bool, true, ◌&&◌, ◌||◌, ◌==◌, nat_le, List, [], ◌∷◌, ◌++◌, length, take, slice_index, Some}
+use Rattle.std.specs.List.{list_all, filter}
 use Rattle.std.specs.Str.Lossy.{utf8_lossy}
+use Rattle.base64.specs.Rfc4648.{encode_symbols}
 use Rattle.base64.specs.Engines.{standard}
 use Rattle.base64.specs.GeneralPurpose.{encode_of, IsBytes}
 use Rattle.mime_words.specs.Base64.{unbase64}
@@ -19,6 +20,32 @@ ValueWithoutWords = (value : List ℕ) → HasNoOpening value → decoded value 
 -- Base64 with its padding (RFC 4648, section 4) stands for the bytes that it was made of.
 abbrev pub EncodedBytes : Type 0
 EncodedBytes = (bytes : List ℕ) → IsBytes bytes → unbase64 (encode_of standard bytes) ≡ bytes
+
+-- a byte of base64: a capital letter, a small one, a figure, `+`, `/` or `=`
+abbrev pub is_base64_byte : ℕ → Bool
+is_base64_byte b =
+    (nat_le 65 b && nat_le b 90) || ((nat_le 97 b && nat_le b 122) || ((nat_le 48 b && nat_le b 57) || (b == 43 || (b == 47 || b == 61))))
+
+-- nothing, or `=` and any bytes after it
+abbrev pub IsPadding : List ℕ → Type 0
+IsPadding [] = Unit {0}
+IsPadding (b ∷ bs) = b ≡ 61
+
+-- A base64 text of bytes (RFC 4648, section 4). Without the bytes that are none of base64 it is symbols, and then nothing, or `=` and any
+-- bytes. The symbols are the first ones of these bytes with any bytes after them, so many that their bits hold just these bytes whole. So
+-- other bytes may stand between the symbols, padding may be missing, and bits at the end that make no whole byte say nothing.
+pub record IsBase64Of (bytes text : List ℕ) : Type 0 where
+  pub more : List ℕ
+  pub are_bytes : IsBytes (bytes ++ more)
+  pub count : ℕ
+  pub whole_bytes : 6 * count / 8 ≡ length bytes
+  pub padding : List ℕ
+  pub is_padding : IsPadding padding
+  pub symbols : filter is_base64_byte text ≡ take count (encode_symbols standard.encode_table (bytes ++ more)) ++ padding
+
+-- Such a text stands for the bytes.
+abbrev pub LooseBase64 : Type 0
+LooseBase64 = (bytes text : List ℕ) → IsBase64Of bytes text → unbase64 text ≡ bytes
 
 -- Bytes that begin with a word (RFC 2047, section 2): `=?`, one or more bytes of a charset's name, `?`, the encoding's letter, `?`,
 -- bytes of an encoded text, `?=`, and whatever is behind.

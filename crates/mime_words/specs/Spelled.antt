@@ -1,75 +1,95 @@
 -- Values that are spelled from encoded words and text (RFC 2047, sections 2 to 6), and what they say.
-use Rattle.std.specs.Prelude.{◌≡◌, ◌≢◌, ◌⊎◌, ◌<◌, ℕ, ◌+◌, ◌*◌, Bool, true, false, ◌&&◌, not, ◌==◌, nat_le, nat_lt, List, [], ◌∷◌, ◌++◌, length, replicate, codes, if◌then◌else◌}
-use Rattle.std.specs.List.{flat_map, list_all}
-use Rattle.std.specs.Str.{encode_utf8_all}
+use Rattle.std.specs.Prelude.{◌≡◌, ◌≢◌, ◌⊎◌, ◌<◌, ◌≤◌, ℕ, ◌+◌, ◌*◌, Bool, true, false, ◌&&◌, not, ◌==◌, nat_le, List, [], ◌∷◌, ◌++◌, length, drop, map, slice_index, replicate, codes, if◌then◌else◌}
+use Rattle.std.specs.List.{flat_map, list_all, All}
+use Rattle.std.specs.Str.{encode_utf8_all, str_to_ascii_lowercase}
 use Rattle.std.specs.Str.Lossy.{utf8_lossy}
-use Rattle.base64.specs.Engines.{standard}
-use Rattle.base64.specs.GeneralPurpose.{encode_of, IsBytes}
 use Rattle.mime_words.specs.declared.charset.Charset.{Charset}
 use Rattle.mime_words.specs.declared.charset.Charset.TheVariants.{Utf8, UsAscii, Latin1}
+use Rattle.mime_words.specs.Quoted.{unquoted}
 use Rattle.mime_words.specs.Decoding.{decoded}
-use Rattle.mime_words.specs.Laws.{HasNoOpening}
+use Rattle.mime_words.specs.Laws.{HasNoOpening, IsBase64Of}
 
--- a part of a text in Q: a byte as it is, an underscore, or `=` and the two hexadecimal digits of a byte
+-- a part of a text in Q: a byte as it is, an underscore, `=` and the two hexadecimal digits of a byte, or `=` alone
 pub data QuotedPart : Type 0 where
   Itself : ℕ → QuotedPart
   Underscore : QuotedPart
-  Digits : (high : ℕ) → (low : ℕ) → QuotedPart
+  Digits : (high : ℕ) → (low : ℕ) → (first : ℕ) → (second : ℕ) → QuotedPart
+  Equals : QuotedPart
 
 -- printable ASCII but a space, `=`, `?` and `_`
 abbrev pub is_itself : ℕ → Bool
 is_itself b = nat_le 33 b && nat_le b 126 && not (b == 61) && not (b == 63) && not (b == 95)
 
--- the digit of a number below 16
-abbrev pub hex_digit : ℕ → ℕ
-hex_digit n = if nat_lt n 10 then 48 + n else 55 + n
-
-abbrev pub AreQuoted : List QuotedPart → Type 0
-AreQuoted [] = Unit {0}
-AreQuoted (Itself b ∷ parts) = (is_itself b ≡ true) × AreQuoted parts
-AreQuoted (Underscore ∷ parts) = AreQuoted parts
-AreQuoted (Digits high low ∷ parts) = (high < 16) × (low < 16) × AreQuoted parts
+-- a hexadecimal digit of a number, a letter in either case
+abbrev pub IsDigit : ℕ → ℕ → Type 0
+IsDigit n c = ((n < 10) × (c ≡ 48 + n)) ⊎ ((10 ≤ n) × (n < 16) × ((c ≡ 55 + n) ⊎ (c ≡ 87 + n)))
 
 abbrev pub quoted_bytes : List QuotedPart → List ℕ
 quoted_bytes [] = []
 quoted_bytes (Itself b ∷ parts) = b ∷ quoted_bytes parts
 quoted_bytes (Underscore ∷ parts) = 95 ∷ quoted_bytes parts
-quoted_bytes (Digits high low ∷ parts) = 61 ∷ hex_digit high ∷ hex_digit low ∷ quoted_bytes parts
+quoted_bytes (Digits high low first second ∷ parts) = 61 ∷ first ∷ second ∷ quoted_bytes parts
+quoted_bytes (Equals ∷ parts) = 61 ∷ quoted_bytes parts
+
+-- bytes begin with two hexadecimal digits
+abbrev pub BeginsWithDigits : List ℕ → Type 0
+BeginsWithDigits bytes = (high : ℕ) × (low : ℕ) × IsDigit high (slice_index bytes 0) × IsDigit low (slice_index bytes 1)
+
+-- Parts of a text in Q. A lone `=` has no two digits after it.
+abbrev pub AreQuoted : List QuotedPart → Type 0
+AreQuoted [] = Unit {0}
+AreQuoted (Itself b ∷ parts) = (is_itself b ≡ true) × AreQuoted parts
+AreQuoted (Underscore ∷ parts) = AreQuoted parts
+AreQuoted (Digits high low first second ∷ parts) = IsDigit high first × IsDigit low second × AreQuoted parts
+AreQuoted (Equals ∷ parts) = (BeginsWithDigits (quoted_bytes parts) → ⊥) × AreQuoted parts
 
 -- what they say: an underscore says a space
 abbrev pub quoted_said : List QuotedPart → List ℕ
 quoted_said [] = []
 quoted_said (Itself b ∷ parts) = b ∷ quoted_said parts
 quoted_said (Underscore ∷ parts) = 32 ∷ quoted_said parts
-quoted_said (Digits high low ∷ parts) = (16 * high + low) ∷ quoted_said parts
+quoted_said (Digits high low first second ∷ parts) = (16 * high + low) ∷ quoted_said parts
+quoted_said (Equals ∷ parts) = 61 ∷ quoted_said parts
+
+-- no `=` in a text has two digits after it
+abbrev pub HasNoDigits : List ℕ → Type 0
+HasNoDigits text = (k : ℕ) → slice_index text k ≡ 61 → BeginsWithDigits (drop (k + 1) text) → ⊥
+
+-- Each `=` stays in a text in Q in which none has two digits after it. Underscores are spaces, and all other bytes stay too.
+abbrev pub LoneEqualsStays : Type 0
+LoneEqualsStays = (text : List ℕ) → HasNoDigits text → unquoted text ≡ map (λ b. if b == 95 then 32 else b) text
+
+-- a byte of an encoded text: printable ASCII but a space and `?`
+abbrev pub IsTextByte : ℕ → Type 0
+IsTextByte b = (33 ≤ b) × (b ≤ 126) × (b ≢ 63)
 
 -- the text of a word, in Q or in base64
 pub data Coded : Type 0 where
   InQ : List QuotedPart → Coded
-  InBase64 : List ℕ → Coded
+  InBase64 : (bytes : List ℕ) → (text : List ℕ) → Coded
 
 abbrev pub IsCoded : Coded → Type 0
 IsCoded (InQ parts) = AreQuoted parts
-IsCoded (InBase64 bytes) = IsBytes bytes
+IsCoded (InBase64 bytes text) = IsBase64Of bytes text × All IsTextByte text
 
 abbrev pub coded_bytes : Coded → List ℕ
 coded_bytes (InQ parts) = quoted_bytes parts
-coded_bytes (InBase64 bytes) = encode_of standard bytes
+coded_bytes (InBase64 bytes text) = text
 
 abbrev pub coded_said : Coded → List ℕ
 coded_said (InQ parts) = quoted_said parts
-coded_said (InBase64 bytes) = bytes
+coded_said (InBase64 bytes text) = bytes
 
 -- the letter of its encoding, in either case
 abbrev pub IsLetter : Coded → ℕ → Type 0
 IsLetter (InQ parts) letter = (letter ≡ 81) ⊎ (letter ≡ 113)
-IsLetter (InBase64 bytes) letter = (letter ≡ 66) ⊎ (letter ≡ 98)
+IsLetter (InBase64 bytes text) letter = (letter ≡ 66) ⊎ (letter ≡ 98)
 
--- the name of a charset, in small or capital letters
+-- the name of a charset, its letters in any case
 abbrev pub IsName : Charset → List ℕ → Type 0
-IsName Utf8 name = (name ≡ codes "utf-8") ⊎ (name ≡ codes "UTF-8")
-IsName UsAscii name = (name ≡ codes "us-ascii") ⊎ (name ≡ codes "US-ASCII")
-IsName Latin1 name = (name ≡ codes "iso-8859-1") ⊎ (name ≡ codes "ISO-8859-1")
+IsName Utf8 name = str_to_ascii_lowercase name ≡ codes "utf-8"
+IsName UsAscii name = str_to_ascii_lowercase name ≡ codes "us-ascii"
+IsName Latin1 name = str_to_ascii_lowercase name ≡ codes "iso-8859-1"
 
 -- an encoded word, with so many spaces in front of it
 pub record WrittenWord : Type 0 where
@@ -93,13 +113,65 @@ spaced_word word = replicate word.gap 32 ++ word_bytes word
 abbrev pub word_said : WrittenWord → List ℕ
 word_said word = coded_said word.coded
 
--- a part of a value: text outside of words, or words of one charset
+-- an encoded word of any charset: the charset's name, the encoding's letter and the encoded text
+pub record AnyWord : Type 0 where
+  pub name : List ℕ
+  pub letter : ℕ
+  pub text : List ℕ
+
+abbrev pub any_bytes : AnyWord → List ℕ
+any_bytes word = 61 ∷ 63 ∷ (word.name ++ 63 ∷ word.letter ∷ 63 ∷ (word.text ++ 63 ∷ 61 ∷ []))
+
+-- a byte of a charset's name: any but a space and `?`
+abbrev pub IsNameByte : ℕ → Type 0
+IsNameByte b = (b ≢ 32) × (b ≢ 63)
+
+pub record IsAnyWord (word : AnyWord) : Type 0 where
+  pub some : 0 < length word.name
+  pub name : All IsNameByte word.name
+  pub letter : ((word.letter ≡ 66) ⊎ (word.letter ≡ 98)) ⊎ ((word.letter ≡ 81) ⊎ (word.letter ≡ 113))
+  pub text : All IsTextByte word.text
+
+-- no word begins bytes
+abbrev pub BeginsNoWord : List ℕ → Type 0
+BeginsNoWord bytes = (word : AnyWord) (more : List ℕ) → IsAnyWord word → bytes ≡ any_bytes word ++ more → ⊥
+
+-- A part of the text outside of words that are read: bytes in which no `=?` stands, a word of a charset that isn't read, or `=` alone
+-- that begins no word.
+pub data OuterPart : Type 0 where
+  Stretch : List ℕ → OuterPart
+  Foreign : AnyWord → OuterPart
+  Stray : OuterPart
+
+abbrev pub outer_bytes : OuterPart → List ℕ
+outer_bytes (Stretch text) = text
+outer_bytes (Foreign word) = any_bytes word
+outer_bytes Stray = 61 ∷ []
+
+abbrev pub outer_text : List OuterPart → List ℕ
+outer_text parts = flat_map outer_bytes parts
+
+-- no stretch stands first
+abbrev pub IsNoStretch : List OuterPart → Type 0
+IsNoStretch [] = Unit {0}
+IsNoStretch (Stretch text ∷ later) = ⊥
+IsNoStretch (Foreign word ∷ later) = Unit {0}
+IsNoStretch (Stray ∷ later) = Unit {0}
+
+-- Parts of such a text with bytes after them. No two stretches stand side by side.
+abbrev pub AreOuter : List OuterPart → List ℕ → Type 0
+AreOuter [] behind = Unit {0}
+AreOuter (Stretch text ∷ later) behind = HasNoOpening text × IsNoStretch later × AreOuter later behind
+AreOuter (Foreign word ∷ later) behind = IsAnyWord word × ((charset : Charset) → IsName charset word.name → ⊥) × AreOuter later behind
+AreOuter (Stray ∷ later) behind = BeginsNoWord (61 ∷ (outer_text later ++ behind)) × AreOuter later behind
+
+-- a part of a value: text outside of words that are read, or words of one charset
 pub data Run : Type 0 where
-  Plain : List ℕ → Run
+  Plain : List OuterPart → Run
   Words : Charset → WrittenWord → List WrittenWord → Run
 
 abbrev pub run_bytes : Run → List ℕ
-run_bytes (Plain text) = text
+run_bytes (Plain outer) = outer_text outer
 run_bytes (Words charset first more) = spaced_word first ++ flat_map spaced_word more
 
 -- the characters that bytes are in a charset
@@ -110,7 +182,7 @@ read_in Latin1 bytes = encode_utf8_all bytes
 
 -- What a part says: text is read for itself. Of words the bytes of all are joined and then read: the spaces in front of them say nothing.
 abbrev pub run_said : Run → List ℕ
-run_said (Plain text) = utf8_lossy text
+run_said (Plain outer) = utf8_lossy (outer_text outer)
 run_said (Words charset first more) = read_in charset (word_said first ++ flat_map word_said more)
 
 -- what stands in front of a part
@@ -146,15 +218,16 @@ abbrev pub AllWords : Charset → List WrittenWord → Type 0
 AllWords charset [] = Unit {0}
 AllWords charset (word ∷ words) = IsWord charset word × AllWords charset words
 
--- Parts as they may stand behind another: texts in which no `=?` stands, and words.
+-- Parts as they may stand behind another: texts outside of words that are read, and words.
 abbrev pub AreRuns : Before → List Run → Type 0
 AreRuns before [] = Unit {0}
-AreRuns before (Plain text ∷ later) =
-    MayBeText before × (0 < length text) × HasNoOpening text × IsNoGap before text later × AreRuns AfterText later
+AreRuns before (Plain outer ∷ later) =
+    MayBeText before × (0 < length (outer_text outer)) × AreOuter outer (flat_map run_bytes later) × IsNoGap before (outer_text outer) later
+    × AreRuns AfterText later
 AreRuns before (Words charset first more ∷ later) =
     MayBeWords before charset first.gap × IsWord charset first × AllWords charset more × AreRuns (AfterWords charset) later
 
 -- Decoding a value that is so spelled gives what its parts say: underscores are spaces, the spaces between two words go,
--- neighbours of one charset are joined before they are read, and all other text stays.
+-- neighbours of one charset are joined before they are read, and all other text stays, with the words of other charsets in it.
 abbrev pub SpelledIsSaid : Type 0
 SpelledIsSaid = (runs : List Run) → AreRuns Start runs → decoded (flat_map run_bytes runs) ≡ flat_map run_said runs
