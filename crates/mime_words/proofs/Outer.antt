@@ -112,17 +112,19 @@ any_found : (word : AnyWord) → IsAnyWord word → (ys : List ℕ)
     → (encoding : Encoding) × (word_at (any_bytes word ++ ys) ≡ Some (record { charset = word.name; encoding = encoding; text = word.text }))
 any_found word w ys =
     let letter = letter_read word.letter w.letter in
-    let all : any_bytes word ++ ys ≡ 61 ∷ 63 ∷ (word.name ++ (63 ∷ word.letter ∷ 63 ∷ (word.text ++ (63 ∷ 61 ∷ ys)))) = simp append_assoc in
-    (letter.0, spelled (any_bytes word ++ ys) (record { charset = word.name; encoding = letter.0; text = word.text })
-    (record {
-      letter = word.letter;
-      behind = ys;
-      spelling = all;
-      named = w.some;
-      name = name_passes word.name w.name;
-      encoding = letter.1;
-      text = text_passes word.text w.text;
-    }))
+    let all : any_bytes word ++ ys ≡ 61 ∷ 63 ∷ (word.name ++ (63 ∷ word.letter ∷ 63 ∷ (word.text ++ (63 ∷ 61 ∷ ys)))) = simp append_assoc in (
+      letter.0,
+      spelled (any_bytes word ++ ys) (record { charset = word.name; encoding = letter.0; text = word.text })
+          (record {
+            letter = word.letter;
+            behind = ys;
+            spelling = all;
+            named = w.some;
+            name = name_passes word.name w.name;
+            encoding = letter.1;
+            text = text_passes word.text w.text;
+          }),
+    )
 
 -- what is found is a word of some charset
 found_any : (bytes : List ℕ) (word : EncodedText) → word_at bytes ≡ Some word → BeginsNoWord bytes → ⊥
