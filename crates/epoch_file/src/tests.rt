@@ -103,24 +103,55 @@ fn is_entry(seen: &Seen, name: u8, at: u64, moment: u64, id: &[u8], written: &Wr
         && seen.content == CONTENT
 }
 
+/// Whether the entries end where they should and have the ids that another program gives them.
+fn are_written(first: &Written, second: &Written, third: &Written) -> bool {
+    let ends = first.end == 316 && second.end == 672 && third.end == LENGTH;
+    let blob = id_of_hex(b"1d023c572ccd6f3cc82ae855343346b043adaba5");
+    let blobs = Some(first.blob) == blob
+        && Some(second.blob) == id_of_hex(b"71bad95e975640281da17cb561681235ca4c1f42")
+        && Some(third.blob) == blob;
+    let commits = Some(first.commit) == id_of_hex(b"d621b450ae1fbf27a31c9879d84eb9de5473a8b9")
+        && Some(second.commit) == id_of_hex(b"8465c6e7dc37ed0249ed8b1434a73ffd13973fad")
+        && Some(third.commit) == id_of_hex(b"0226d8ce5d3c8b5696c8160864001653bc08f512");
+    ends && blobs && commits
+}
+
+/// Whether the file has as many bytes as it should, of the hash that another program gives them.
+fn has_bytes<D: Disk>(disk: &mut D) -> Result<bool, DiskFault> {
+    let mut bytes = [0; 1029];
+    let count = disk.read(FILE, 0, &mut bytes)?;
+    let all = object_id(bytes.split_at(1028).0);
+    let same = Some(all) == id_of_hex(b"f2f5ceb1c17aa3c6cc89683f80cf518e10584467");
+    Ok(count == 1028 && same)
+}
+
 #[test]
 fn an_epoch_has_the_bytes_of_another_program(rt: HostRuntime) -> Result<(), Fail> {
     law_of_epochs();
     let alloc = rt.alloc();
     let mut disk = MemDisk::new(alloc, Numbers::new(alloc));
     let (first, second, third) = fill(alloc, &mut disk)?;
-    assert!(rt; first.end == 316 && second.end == 672 && third.end == LENGTH);
-    let blob = id_of_hex(b"1d023c572ccd6f3cc82ae855343346b043adaba5");
-    assert!(rt; Some(first.blob) == blob && Some(third.blob) == blob);
-    assert!(rt; Some(second.blob) == id_of_hex(b"71bad95e975640281da17cb561681235ca4c1f42"));
-    assert!(rt; Some(first.commit) == id_of_hex(b"d621b450ae1fbf27a31c9879d84eb9de5473a8b9"));
-    assert!(rt; Some(second.commit) == id_of_hex(b"8465c6e7dc37ed0249ed8b1434a73ffd13973fad"));
-    assert!(rt; Some(third.commit) == id_of_hex(b"0226d8ce5d3c8b5696c8160864001653bc08f512"));
-    let mut bytes = [0; 1029];
-    assert!(rt; disk.read(FILE, 0, &mut bytes)? == 1028);
-    let all = object_id(bytes.split_at(1028).0);
-    assert!(rt; Some(all) == id_of_hex(b"f2f5ceb1c17aa3c6cc89683f80cf518e10584467"));
+    assert!(rt; are_written(&first, &second, &third));
+    assert!(rt; has_bytes(&mut disk)?);
     Ok(())
+}
+
+/// Whether a walk sees the three entries that were written.
+fn sees_entries<D: Disk>(
+    alloc: Global,
+    disk: &mut D,
+    first: &Written,
+    second: &Written,
+    third: &Written,
+) -> Result<bool, WalkRefusal> {
+    let found = walk(alloc, disk, FILE, LENGTH)?;
+    let [one, two, three] = found.as_slice() else {
+        return Ok(false);
+    };
+    let one = is_entry(one, b'm', 8, 1_706_781_700, b"<a@x>", first);
+    let two = is_entry(two, b'm', 316, 1_706_781_700, b"<b@x>", second);
+    let three = is_entry(three, b'd', 672, 1_706_781_800, b"<a@x>", third);
+    Ok(one && two && three)
 }
 
 #[test]
@@ -128,12 +159,7 @@ fn a_walk_sees_each_entry(rt: HostRuntime) -> Result<(), Fail> {
     let alloc = rt.alloc();
     let mut disk = MemDisk::new(alloc, Numbers::new(alloc));
     let (first, second, third) = fill(alloc, &mut disk)?;
-    let found = walk(alloc, &mut disk, FILE, LENGTH)?;
-    let seen = found.as_slice();
-    assert!(rt; seen.len() == 3);
-    assert!(rt; is_entry(&seen[0], b'm', 8, 1_706_781_700, b"<a@x>", &first));
-    assert!(rt; is_entry(&seen[1], b'm', 316, 1_706_781_700, b"<b@x>", &second));
-    assert!(rt; is_entry(&seen[2], b'd', 672, 1_706_781_800, b"<a@x>", &third));
+    assert!(rt; sees_entries(alloc, &mut disk, &first, &second, &third)?);
     Ok(())
 }
 
@@ -149,21 +175,23 @@ fn broken(place: u64) -> Result<usize, WalkRefusal> {
     }
 }
 
+/// Makes a byte another one and back, and says whether a walk in between finds what it should.
+fn is_broken<D: Disk>(alloc: Global, disk: &mut D, place: u64) -> Result<bool, DiskFault> {
+    let mut byte = [0];
+    let read = disk.read(FILE, place, &mut byte)?;
+    write(disk, place, &[byte[0] ^ 1])?;
+    let same = count(alloc, disk, LENGTH) == broken(place);
+    write(disk, place, &byte)?;
+    Ok(read == 1 && same)
+}
+
 #[test]
 fn each_byte_that_is_another_one_is_damage_at_its_entry(rt: HostRuntime) -> Result<(), Fail> {
     let alloc = rt.alloc();
     let mut disk = MemDisk::new(alloc, Numbers::new(alloc));
     fill(alloc, &mut disk)?;
     for place in 0..LENGTH {
-        let mut byte = [0];
-        assert!(rt; disk.read(FILE, place, &mut byte)? == 1);
-        write(&mut disk, place, &[byte[0] ^ 1])?;
-        assert_eq!(rt;
-            count(alloc, &mut disk, LENGTH),
-            broken(place),
-            "place {place}"
-        );
-        write(&mut disk, place, &byte)?;
+        assert!(rt; is_broken(alloc, &mut disk, place)?, "place {place}");
     }
     assert_eq!(rt; count(alloc, &mut disk, LENGTH), Ok(3));
     Ok(())
@@ -229,30 +257,37 @@ fn a_file_that_ends_early_is_damaged_where_it_ends(rt: HostRuntime) -> Result<()
     Ok(())
 }
 
+/// Whether the epoch is walked by two calls of the disk, and with fewer the fault is answered.
+fn is_walked_in_two_calls(alloc: Global, passes: u64) -> Result<bool, StoreRefusal> {
+    let mut disk = MemDisk::new(alloc, Numbers::new(alloc));
+    fill(alloc, &mut disk)?;
+    // A look at the length, and a read.
+    let want = if passes < 2 {
+        Err(WalkRefusal::DiskFault)
+    } else {
+        Ok(3)
+    };
+    Ok(count(alloc, &mut FuseDisk::new(disk, passes), LENGTH) == want)
+}
+
+/// Whether an entry is put by two calls of the disk, and with fewer the fault is answered.
+fn is_put_in_two_calls(alloc: Global, passes: u64) -> bool {
+    let mut fuse = FuseDisk::new(MemDisk::new(alloc, Numbers::new(alloc)), passes);
+    // A look at the length, and a write.
+    let new = entry(b'm', FIRST, 1_706_781_700, None);
+    match append(alloc, &mut fuse, 0, &new) {
+        Ok(written) => passes == 2 && written.end == 316,
+        Err(refusal) => passes < 2 && refusal == StoreRefusal::DiskFault,
+    }
+}
+
 #[test]
 fn a_call_that_fails_is_no_answer(rt: HostRuntime) -> Result<(), Fail> {
-    let alloc = rt.alloc();
     for passes in 0..4 {
-        let mut disk = MemDisk::new(alloc, Numbers::new(alloc));
-        fill(alloc, &mut disk)?;
-        let mut fuse = FuseDisk::new(disk, passes);
-        // A look at the length, and a read.
-        let want = if passes < 2 {
-            Err(WalkRefusal::DiskFault)
-        } else {
-            Ok(3)
-        };
-        assert_eq!(rt; count(alloc, &mut fuse, LENGTH), want);
+        assert!(rt; is_walked_in_two_calls(rt.alloc(), passes)?, "{passes}");
     }
     for passes in 0..3 {
-        let disk = MemDisk::new(alloc, Numbers::new(alloc));
-        let mut fuse = FuseDisk::new(disk, passes);
-        // A look at the length, and a write.
-        let new = entry(b'm', FIRST, 1_706_781_700, None);
-        match append(alloc, &mut fuse, 0, &new) {
-            Ok(written) => assert!(rt; passes == 2 && written.end == 316),
-            Err(refusal) => assert!(rt; passes < 2 && refusal == StoreRefusal::DiskFault),
-        }
+        assert!(rt; is_put_in_two_calls(rt.alloc(), passes), "{passes}");
     }
     Ok(())
 }
@@ -272,41 +307,52 @@ fn count_in(alloc: Global, bytes: &[u8]) -> Result<usize, WalkRefusal> {
     count(alloc, &mut disk, bytes.len() as u64)
 }
 
+/// How many entries a walk finds of an epoch of one entry.
+fn count_one(alloc: Global, text: &[u8], moment: u64) -> Result<usize, WalkRefusal> {
+    let bytes = epoch_of(alloc, text, moment)?;
+    count_in(alloc, bytes.as_slice())
+}
+
 #[test]
 fn what_no_archive_keeps_is_damage(rt: HostRuntime) -> Result<(), Fail> {
-    let alloc = rt.alloc();
     let late = 253_402_300_799;
-    assert_eq!(rt;
-        count_in(alloc, epoch_of(alloc, FIRST, late)?.as_slice()),
-        Ok(1)
-    );
-    let damaged = Err(WalkRefusal::Damaged { at: 8 });
-    assert_eq!(rt;
-        count_in(alloc, epoch_of(alloc, FIRST, late + 1)?.as_slice()),
-        damaged
-    );
-    // A text without an id, and one that isn't as it is kept.
-    let damaged = Err(WalkRefusal::Damaged { at: 8 });
-    assert_eq!(rt;
-        count_in(alloc, epoch_of(alloc, b"Subject: s\n\n", 5)?.as_slice()),
-        damaged
-    );
-    let damaged = Err(WalkRefusal::Damaged { at: 8 });
-    assert_eq!(rt;
-        count_in(
-            alloc,
-            epoch_of(alloc, b"Message-ID: <a@x>\r\n\r\n", 5)?.as_slice()
+    let texts: [(&[u8], u64, Result<usize, WalkRefusal>); 5] = [
+        (FIRST, late, Ok(1)),
+        (FIRST, late + 1, Err(WalkRefusal::Damaged { at: 8 })),
+        // A text without an id, and one that isn't as it is kept.
+        (b"Subject: s\n\n", 5, Err(WalkRefusal::Damaged { at: 8 })),
+        (
+            b"Message-ID: <a@x>\r\n\r\n",
+            5,
+            Err(WalkRefusal::Damaged { at: 8 }),
         ),
-        damaged
-    );
-    assert_eq!(rt;
-        count_in(
-            alloc,
-            epoch_of(alloc, b"Message-ID: <a@x>\n\n", 5)?.as_slice()
-        ),
-        Ok(1)
-    );
+        (b"Message-ID: <a@x>\n\n", 5, Ok(1)),
+    ];
+    for (text, moment, want) in texts {
+        assert_eq!(rt; count_one(rt.alloc(), text, moment), want);
+    }
     Ok(())
+}
+
+/// Puts the second entry behind the first with this parent, and gives what a walk finds.
+fn count_behind<D: Disk>(
+    alloc: Global,
+    disk: &mut D,
+    parent: Option<ObjectId>,
+) -> Result<Result<usize, WalkRefusal>, StoreRefusal> {
+    let second = append(alloc, disk, 316, &entry(b'm', SECOND, 5, parent))?;
+    Ok(count(alloc, disk, second.end))
+}
+
+/// Whether a walk finds damage at the second entry where it has this parent. The file is cut to the first one again.
+fn is_wrong_parent<D: Disk>(
+    alloc: Global,
+    disk: &mut D,
+    parent: Option<ObjectId>,
+) -> Result<bool, StoreRefusal> {
+    let found = count_behind(alloc, disk, parent)?;
+    trim(disk, 316)?;
+    Ok(found == Err(WalkRefusal::Damaged { at: 316 }))
 }
 
 #[test]
@@ -320,18 +366,9 @@ fn a_commit_behind_another_one_is_damage(rt: HostRuntime) -> Result<(), Fail> {
         &entry(b'm', FIRST, 1_706_781_700, None),
     )?;
     for parent in [None, Some(first.blob)] {
-        let wrong = append(alloc, &mut disk, 316, &entry(b'm', SECOND, 5, parent))?;
-        let want = Err(WalkRefusal::Damaged { at: 316 });
-        assert_eq!(rt; count(alloc, &mut disk, wrong.end), want);
-        trim(&mut disk, 316)?;
+        assert!(rt; is_wrong_parent(alloc, &mut disk, parent)?);
     }
-    let right = append(
-        alloc,
-        &mut disk,
-        316,
-        &entry(b'm', SECOND, 5, Some(first.commit)),
-    )?;
-    assert_eq!(rt; count(alloc, &mut disk, right.end), Ok(2));
+    assert_eq!(rt; count_behind(alloc, &mut disk, Some(first.commit))?, Ok(2));
     Ok(())
 }
 
@@ -346,32 +383,49 @@ fn long_text(alloc: Global) -> Result<Bytes, NoMemory> {
     Ok(text)
 }
 
+/// Puts an entry of a long text and the first mail into the file.
+fn put_long<D: Disk>(alloc: Global, disk: &mut D) -> Result<(Written, Written), StoreRefusal> {
+    let text = long_text(alloc)?;
+    let long = append(alloc, disk, 0, &entry(b'm', text.as_slice(), 5, None))?;
+    let new = entry(b'm', FIRST, 5, Some(long.commit));
+    let last = append(alloc, disk, long.end, &new)?;
+    Ok((long, last))
+}
+
+/// Whether a walk sees the long entry and the last one.
+fn sees_long<D: Disk>(
+    alloc: Global,
+    disk: &mut D,
+    long: &Written,
+    last: &Written,
+) -> Result<bool, WalkRefusal> {
+    let found = walk(alloc, disk, FILE, last.end)?;
+    let [one, two] = found.as_slice() else {
+        return Ok(false);
+    };
+    let sized = one.size == 3_000_019 && two.at == long.end;
+    Ok(sized && two.commit == last.commit && two.id.as_slice() == b"<a@x>".as_slice())
+}
+
+/// Puts a size before the text of the first entry, and says whether that is damage there.
+fn is_wrong_size<D: Disk>(
+    alloc: Global,
+    disk: &mut D,
+    size: &[u8],
+    length: u64,
+) -> Result<bool, DiskFault> {
+    write(disk, 8, size)?;
+    Ok(count(alloc, disk, length) == Err(WalkRefusal::Damaged { at: 8 }))
+}
+
 #[test]
 fn an_entry_may_be_longer_than_what_is_read_at_once(rt: HostRuntime) -> Result<(), Fail> {
     let alloc = rt.alloc();
-    let text = long_text(alloc)?;
     let mut disk = MemDisk::new(alloc, Numbers::new(alloc));
-    let long = append(alloc, &mut disk, 0, &entry(b'm', text.as_slice(), 5, None))?;
-    let last = append(
-        alloc,
-        &mut disk,
-        long.end,
-        &entry(b'm', FIRST, 5, Some(long.commit)),
-    )?;
-    let found = walk(alloc, &mut disk, FILE, last.end)?;
-    let seen = found.as_slice();
-    assert!(rt; seen.len() == 2 && seen[0].size == 3_000_019 && seen[1].at == long.end);
-    assert!(rt; seen[1].commit == last.commit && seen[1].id.as_slice() == b"<a@x>".as_slice());
+    let (long, last) = put_long(alloc, &mut disk)?;
+    assert!(rt; sees_long(alloc, &mut disk, &long, &last)?);
     // A size that a text can't have, and one that runs past the end.
-    write(&mut disk, 8, b"blob 9000000\0")?;
-    assert_eq!(rt;
-        count(alloc, &mut disk, last.end),
-        Err(WalkRefusal::Damaged { at: 8 })
-    );
-    write(&mut disk, 8, b"blob 3900019\0")?;
-    assert_eq!(rt;
-        count(alloc, &mut disk, last.end),
-        Err(WalkRefusal::Damaged { at: 8 })
-    );
+    assert!(rt; is_wrong_size(alloc, &mut disk, b"blob 9000000\0", last.end)?);
+    assert!(rt; is_wrong_size(alloc, &mut disk, b"blob 3900019\0", last.end)?);
     Ok(())
 }
