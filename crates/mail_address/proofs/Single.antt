@@ -1,5 +1,5 @@
 -- Lists of one item or one group are read.
-use Rattle.std.proofs.Common.{◌≡◌, ℕ, suc, ◌+◌, Bool, true, false, cond, ◌==◌, ◌&&◌, nat_lt, nat_le, List, [], ◌∷◌, ◌++◌, length, refl, sym, ◌∙◌, ap, append_assoc, append-nil, arith}
+use Rattle.std.proofs.Common.{◌≡◌, ◌<◌, ℕ, suc, ◌+◌, Bool, true, false, cond, ◌==◌, ◌&&◌, nat_lt, nat_le, List, [], ◌∷◌, ◌++◌, None, length, refl, sym, ◌∙◌, ap, append_assoc, append-nil, arith}
 use Rattle.std.proofs.Math.Numerals.{one-add}
 use Rattle.std.proofs.lemmas.Bool.Decides.{nat_tests}
 use Rattle.std.proofs.lemmas.List.{take_all}
@@ -12,19 +12,20 @@ use Rattle.mail_address.specs.declared.items.Ending.TheVariants.{Semicolon}
 use Rattle.mail_address.specs.declared.address.AddressKind.TheVariants.{GroupStart}
 use Rattle.mail_address.specs.declared.address.Address.{Address}
 use Rattle.mail_address.specs.Places.{marked, bytes_of, is_sought, is_comment_start}
-use Rattle.mail_address.specs.Splits.{split_last, part_behind}
+use Rattle.mail_address.specs.Splits.{split_last, is_this, part_behind}
 use Rattle.mail_address.specs.Words.{name_text, address_text}
 use Rattle.mail_address.specs.Items.{cut, onto_item, items_of, len_before, has_bracket, last_comment, name_bytes, address_bytes, up_to_bracket}
 use Rattle.mail_address.specs.Addresses.{told, mailbox_in, mailbox_with, without_route}
 use Rattle.mail_address.specs.Grammar.{QuotedPart, Literal, Escaped, CommentInside, Empty, TextThen, EscapedThen, CommentThen, is_comment_byte, IsInside, inside_bytes, Piece, Byte, QuotedString, CommentText, spelled_pieces, ArePieces, is_outer_byte}
 use Rattle.mail_address.specs.Laws.{is_plain}
 use Rattle.mail_address.specs.Mailboxes.{name_said, address_said}
-use Rattle.mail_address.specs.Single.{last_inside, bare_said, is_bare_byte, BareReads, is_inner_byte, ItemReads, OpenItemReads, is_grouped_byte, GroupReads}
+use Rattle.mail_address.specs.Single.{last_inside, bare_said, is_bare_byte, BareReads, is_inner_byte, ItemReads, OpenItemReads, is_grouped_byte, GroupReads, AddressIsSplit, AloneIsMailbox, NothingIsNoMailbox}
 use Rattle.mail_address.proofs.Cutting.{put_before}
 use Rattle.mail_address.proofs.Seeking.{part_behind-split_with}
+use Rattle.mail_address.proofs.Plain.{mailbox_with-at, split_last-no}
 use Rattle.mail_address.proofs.Marks.{moves, quoted_marks, inside_marks, piece_marks, all_marks, marks_whole, outer_stays}
 use Rattle.mail_address.specs.Places.{next_place}
-use Rattle.mail_address.proofs.Mailboxes.{Quiet, quiet_pieces, weaker, is_item_byte, is_address_byte, address_stays, cut_outer, cut_inner, seek_outer, seek_inner, bytes_back, name_is, address_is, line, inner_quiet, cut_front, cut_line, name_line, address_line, up_to_line, end, told_colon}
+use Rattle.mail_address.proofs.Mailboxes.{Quiet, quiet_pieces, weaker, is_item_byte, is_address_byte, address_stays, cut_outer, cut_inner, seek_outer, seek_inner, bytes_back, name_is, address_is, line, inner_quiet, cut_front, cut_line, name_line, address_line, up_to_line, end, told_colon, lacks}
 
 -- marks of which none passes
 abbrev NoneOf : (ℕ × Place → Bool) → List (ℕ × Place) → Type 0
@@ -242,3 +243,19 @@ group_reads name pieces q r =
     ap (told false) (cut_front false name (58 ∷ spelled_pieces pieces) q)
     ∙ told_colon (spelled_pieces name) (spelled_pieces pieces)
     ∙ (λ i. record { kind = GroupStart; name = name_is name q i; mailbox = []; host = [] } ∷ inside i)
+
+-- the parts of a mailbox
+pub address_is_split : AddressIsSplit
+address_is_split name local_part host free = mailbox_with-at name local_part host (lacks 64 host free)
+
+some : (n m : ℕ) → 0 < n + m → (n == 0 && m == 0) ≡ false
+some n m h = grind (arith, nat_tests)
+
+pub alone_is_mailbox : AloneIsMailbox
+alone_is_mailbox name address free h =
+    let none : split_last (is_this 64) address ≡ None = split_last-no 64 address (lacks 64 address free) in
+    let there = some (length name) (length address) h in
+    rw (there, none) refl
+
+pub nothing_is_no_mailbox : NothingIsNoMailbox
+nothing_is_no_mailbox = refl

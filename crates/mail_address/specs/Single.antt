@@ -1,12 +1,12 @@
 -- Lists of one item or one group, whatever stands in them, and those that are open at their end.
-use Rattle.std.specs.Prelude.{◌≡◌, ℕ, Bool, ◌&&◌, not, ◌==◌, List, [], ◌∷◌, ◌++◌}
-use Rattle.mail_address.specs.declared.address.AddressKind.TheVariants.{GroupStart, GroupEnd}
+use Rattle.std.specs.Prelude.{◌≡◌, ◌<◌, ℕ, ◌+◌, Bool, ◌&&◌, not, ◌==◌, List, [], ◌∷◌, ◌++◌, length}
+use Rattle.mail_address.specs.declared.address.AddressKind.TheVariants.{Mailbox, GroupStart, GroupEnd}
 use Rattle.mail_address.specs.declared.address.Address.{Address}
 use Rattle.mail_address.specs.Words.{name_text}
 use Rattle.mail_address.specs.Addresses.{addresses_of, mailbox_with, without_route}
 use Rattle.mail_address.specs.Grammar.{Piece, Byte, QuotedString, CommentText, inside_bytes, spelled_pieces, ArePieces, is_outer_byte}
 use Rattle.mail_address.specs.Laws.{is_plain}
-use Rattle.mail_address.specs.Mailboxes.{name_said, address_said}
+use Rattle.mail_address.specs.Mailboxes.{name_said, address_said, HasNo}
 
 -- the inside of the last comment among pieces, or `found` where they have none
 abbrev pub last_inside : List Piece → List ℕ → List ℕ
@@ -56,3 +56,19 @@ GroupReads =
     → addresses_of (spelled_pieces name ++ 58 ∷ spelled_pieces pieces)
     ≡ record { kind = GroupStart; name = name_said name; mailbox = []; host = [] }
     ∷ (bare_said pieces ++ record { kind = GroupEnd; name = []; mailbox = []; host = [] } ∷ [])
+
+-- An address is split at its last `@`.
+abbrev pub AddressIsSplit : Type 0
+AddressIsSplit =
+    (name local_part host : List ℕ) → HasNo 64 host
+    → mailbox_with name (local_part ++ 64 ∷ host) ≡ record { kind = Mailbox; name = name; mailbox = local_part; host = host } ∷ []
+
+-- An address without `@` has no host, and a name or an address alone is a mailbox.
+abbrev pub AloneIsMailbox : Type 0
+AloneIsMailbox =
+    (name address : List ℕ) → HasNo 64 address → 0 < length name + length address
+    → mailbox_with name address ≡ record { kind = Mailbox; name = name; mailbox = address; host = [] } ∷ []
+
+-- Neither is none.
+abbrev pub NothingIsNoMailbox : Type 0
+NothingIsNoMailbox = mailbox_with [] [] ≡ []

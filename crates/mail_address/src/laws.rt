@@ -2,7 +2,7 @@
 ghost use Rattle.mail_address.specs.Laws.{EmptyValue, EveryValueIsFront, OutsideIsBetween, PlainReadBack};
 ghost use Rattle.mail_address.specs.Mailboxes.{MembersReadBack};
 ghost use Rattle.mail_address.specs.Texts.{WordsAreJoined, SpacesAreNoWords, NameTextIsSaid, AddressTextIsSaid};
-ghost use Rattle.mail_address.specs.Single.{BareReads, ItemReads, OpenItemReads, GroupReads};
+ghost use Rattle.mail_address.specs.Single.{BareReads, ItemReads, OpenItemReads, GroupReads, AddressIsSplit, AloneIsMailbox, NothingIsNoMailbox};
 
 /// A value without bytes has no addresses.
 pub fn empty_value()
@@ -67,4 +67,13 @@ pub fn address_text_is_said()
 /// A group that is open at the end of a value ends there, and a colon in it ends no item.
 pub fn group_reads()
     ensures { GroupReads }
+{}
+
+/// A mailbox has its address split at the last `@`.
+///
+/// Without an `@` there is no host. A name or an address alone is a mailbox, and neither is none.
+pub fn mailbox_is_split()
+    ensures split { AddressIsSplit }
+    ensures alone { AloneIsMailbox }
+    ensures nothing { NothingIsNoMailbox }
 {}

@@ -12,7 +12,8 @@ mod words;
 pub use address::{Address, AddressKind, Addresses};
 pub use laws::{
     address_text_is_said, bare_reads, empty_value, every_value_is_front, group_reads, item_reads,
-    members_read_back, name_text_is_said, outside_is_between, plain_read_back, words_are_joined,
+    mailbox_is_split, members_read_back, name_text_is_said, outside_is_between, plain_read_back,
+    words_are_joined,
 };
 pub use reading::list;
 
