@@ -1,10 +1,10 @@
-//! Each call once with ample memory, and values worked out outside.
+//! Tests of each call with ample memory, against values worked out elsewhere.
 use crate::{
     Bytes, Config, Id20, Name, NoMemory, Numbers, Texts, decimal, hex_of, id_of_hex, read_decimal,
 };
 use std::alloc::Global;
 
-/// Bytes that grew by one and by three, and were shortened by one.
+/// Returns bytes that grew by one and by three, and were then cut to three.
 fn grown(alloc: Global) -> Result<Bytes, NoMemory> {
     let mut bytes = Bytes::new(alloc);
     bytes.push(b'a')?;
@@ -13,14 +13,14 @@ fn grown(alloc: Global) -> Result<Bytes, NoMemory> {
     Ok(bytes)
 }
 
-/// Whether such bytes, and their copy, are `abc`.
+/// Returns whether these bytes and their copy are `abc`.
 fn copies_bytes(alloc: Global) -> Result<bool, NoMemory> {
     let bytes = grown(alloc)?;
     let same = bytes.copy()?;
     Ok(bytes.as_slice() == b"abc".as_slice() && same.as_slice() == b"abc".as_slice())
 }
 
-/// Whether a copy of a list of one text has that text alone.
+/// Returns whether a copy of a list of one text has that text alone.
 fn copies_texts(alloc: Global) -> Result<bool, NoMemory> {
     let mut texts = Texts::new(alloc);
     texts.push(grown(alloc)?)?;
@@ -29,7 +29,7 @@ fn copies_texts(alloc: Global) -> Result<bool, NoMemory> {
     Ok(same.len() == 1 && same[0].as_slice() == b"abc".as_slice())
 }
 
-/// Whether a copy of a list of one number is a vector of that number.
+/// Returns whether a copy of a list of one number becomes a vector of that number.
 fn copies_numbers(alloc: Global) -> Result<bool, NoMemory> {
     let mut numbers = Numbers::new(alloc);
     numbers.push(7)?;
@@ -44,7 +44,7 @@ fn lists_grow_shrink_and_are_copied(rt: HostRuntime) {
     assert!(rt; matches!(copies_numbers(rt.alloc()), Ok(true)));
 }
 
-/// Whether a text is read as a name, whose copy has that text.
+/// Returns whether a text is read as a name whose copy has that text.
 fn reads_name(text: &[u8]) -> bool {
     match Name::read(text) {
         Some(name) => name.copy().as_slice() == text,
@@ -52,7 +52,7 @@ fn reads_name(text: &[u8]) -> bool {
     }
 }
 
-/// Names.
+/// Texts that are names.
 const NAMES: [&[u8]; 5] = [b"list", b"0", b"a.b-c_d", b"lists.example.org", &[b'a'; 64]];
 
 /// Texts that are no names.
@@ -68,13 +68,13 @@ fn names_are_read(rt: HostRuntime) {
     }
 }
 
-/// Whether a number is printed as this text.
+/// Returns whether a number is printed as this text.
 fn prints(alloc: Global, number: u64, text: &[u8]) -> Result<bool, NoMemory> {
     let printed = decimal(alloc, number)?;
     Ok(printed.as_slice() == text)
 }
 
-/// Decimals, and their values.
+/// Decimals and their values.
 const DECIMALS: [(&[u8], u64); 3] = [
     (b"0", 0),
     (b"10", 10),
@@ -117,7 +117,7 @@ fn ids_are_spelled_and_read(rt: HostRuntime) {
     }
 }
 
-/// Whether a copy of settings has their name, limit, greatest number and no mirror.
+/// Returns whether a copy of settings keeps the name, the limit, the largest number and `mirror`.
 fn copies_settings(name: Name) -> bool {
     let config = Config {
         name,

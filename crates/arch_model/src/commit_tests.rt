@@ -1,4 +1,4 @@
-//! Commits and epochs against what git gives, and who a mail is from by the rules.
+//! Tests of commits and epochs against git, and of authors against the rules.
 use crate::{EntryIds, entry_commit, push_entry};
 use arch_base::{Bytes, NoMemory, ObjectId, id_of_hex};
 use git_objects::{Commit, blob_id, commit_bytes, object_id, tree_bytes};
@@ -15,13 +15,13 @@ const FIRST: &[u8] =
 const SECOND: &[u8] =
     b"From: Ann <ann@example.org>\nDate: Thu, 1 Feb 2024 10:00:00 +0000\nSubject: first\nMessage-ID: <b@x>\n\none\n";
 
-/// The commit of a text without a parent, with the tree that has the text.
+/// Returns the commit of a text without a parent, with the tree that has the text.
 fn commit_alone(alloc: Global, text: &[u8], moment: u64) -> Result<Commit, NoMemory> {
     let tree = object_id(&tree_bytes(b'm', &blob_id(text)));
     entry_commit(alloc, text, &tree, None, moment)
 }
 
-/// The id of the commit of a mail's storage form.
+/// Returns the id of the commit of `MAIL` in its storage form, or `None` out of memory.
 fn commit_id_of_mail(alloc: Global) -> Option<ObjectId> {
     let text = stored(alloc, MAIL).ok()?;
     let tree = object_id(&tree_bytes(b'm', &blob_id(text.as_slice())));
@@ -36,7 +36,8 @@ fn a_mail_has_the_commit_of_git(rt: HostRuntime) {
     assert!(rt; commit_id_of_mail(rt.alloc()) == wanted);
 }
 
-/// The ids of the commits of two entries of an epoch, and its lengths behind each.
+/// Returns the ids of the commits of two entries of an epoch, each with the epoch's length after
+/// it.
 fn two_entries(alloc: Global) -> Result<(ObjectId, usize, ObjectId, usize), NoMemory> {
     let mut epoch = Bytes::new(alloc);
     epoch.push_slice(b"PIV2EP1\n")?;
@@ -58,7 +59,7 @@ fn an_epoch_has_the_objects_of_git(rt: HostRuntime) {
     }
 }
 
-/// The ids of the entry of a deletion that stands behind the message's, and the length of both.
+/// Returns the ids of a deletion's entry after a message's, and the length of both entries.
 fn deletion(alloc: Global) -> Result<(EntryIds, usize), NoMemory> {
     let mut epoch = Bytes::new(alloc);
     let message = push_entry(alloc, b'm', FIRST, 1_706_781_700, None, &mut epoch)?;
@@ -85,7 +86,7 @@ fn a_deletion_has_the_objects_of_git(rt: HostRuntime) {
     }
 }
 
-/// Headers, and the name and the address of the author by them.
+/// Headers, and the name and the address of the author that the rules give.
 const AUTHORS: [(&[u8], &[u8], &[u8]); 17] = [
     (b"From: Ann <a@b>\n", b"Ann", b"a@b"),
     (b"FROM: Ann\n\tLee <a@b>\n", b"Ann Lee", b"a@b"),
@@ -106,7 +107,7 @@ const AUTHORS: [(&[u8], &[u8], &[u8]); 17] = [
     (b"Subject: s\n", b"unknown", b""),
 ];
 
-/// Whether a text's commit has this author.
+/// Returns whether a text's commit has this author.
 fn has_author(alloc: Global, text: &[u8], name: &[u8], email: &[u8]) -> Result<bool, NoMemory> {
     let commit = commit_alone(alloc, text, 5)?;
     Ok(commit.author.as_slice() == name && commit.email.as_slice() == email)
@@ -119,7 +120,7 @@ fn authors_are_named_by_the_rules(rt: HostRuntime) {
     }
 }
 
-/// Headers, and the subject, seconds and zone of the commit that was made at second 5.
+/// Headers, and the subject, the seconds and the zone of the commit made at second 5.
 const SUBJECTS: [(&[u8], &[u8], u64, i16); 8] = [
     (b"Subject:  one \nSubject: two\n", b"one", 5, 0),
     (b"Subject: =?utf-8?Q?a=0Ab?=\n", b"ab", 5, 0),
@@ -151,7 +152,7 @@ const SUBJECTS: [(&[u8], &[u8], u64, i16); 8] = [
     ),
 ];
 
-/// Whether a text's commit has this subject and this time.
+/// Returns whether a text's commit has this subject and this time.
 fn has_subject(
     alloc: Global,
     text: &[u8],

@@ -1,4 +1,4 @@
-//! Deliveries, answer by answer, against texts and ids that were worked out by hand and by git.
+//! Tests of deliveries, answer by answer, against texts and ids worked out by hand and by git.
 ghost use Rattle.std.specs.Prelude.{◌≤◌, IfSome};
 ghost use Rattle.arch_base.specs.Configs.{IsConfig};
 
@@ -11,16 +11,17 @@ use std::alloc::Global;
 const FIRST: &[u8] =
     b"From: Ann <ann@example.org>\nDate: Thu, 1 Feb 2024 10:00:00 +0000\nSubject: first\nMessage-ID: <a@x>\n\none\n";
 
-/// The same mail with another id, and with another body.
+/// The mail `FIRST` with another id.
 const RENAMED: &[u8] =
     b"From: Ann <ann@example.org>\nDate: Thu, 1 Feb 2024 10:00:00 +0000\nSubject: first\nMessage-ID: <b@x>\n\none\n";
 
+/// The mail `FIRST` with another body.
 const OTHER: &[u8] =
     b"From: Ann <ann@example.org>\nDate: Thu, 1 Feb 2024 10:00:00 +0000\nSubject: first\nMessage-ID: <a@x>\n\ntwo\n";
 
 const MOMENT: u64 = 1_706_781_700;
 
-/// Settings of an archive of the name `list`.
+/// Returns the settings of an archive of the name `list`.
 fn settings(limit: u64, max: u32, mirror: bool) -> Option<Config>
     requires low { 1 ≤ limit }
     requires high { limit ≤ 1099511627776 }
@@ -39,23 +40,23 @@ fn settings(limit: u64, max: u32, mirror: bool) -> Option<Config>
     })
 }
 
-/// The answer that a delivery of this blob id under this number gets.
+/// Returns the answer to a delivery kept under this number with this blob id.
 fn accepted(number: u32, hex: &[u8]) -> Option<Answer> {
     let id = id_of_hex(hex)?;
     Some(Answer::Ok { number, id })
 }
 
-/// The answer to the delivery of a message.
+/// Delivers a message, and returns the answer.
 fn deliver(archive: &mut MemArchive, bytes: &[u8]) -> Answer {
     archive.command(&Command::Deliver(bytes), MOMENT)
 }
 
-/// Whether the delivery of a message gets this answer.
+/// Returns whether the delivery of a message gets this answer.
 fn answers_so(archive: &mut MemArchive, bytes: &[u8], wanted: Option<Answer>) -> bool {
     Some(deliver(archive, bytes)) == wanted
 }
 
-/// An archive without messages.
+/// Creates an archive without messages.
 fn made(alloc: Global, limit: u64, max: u32, mirror: bool) -> Option<MemArchive>
     requires low { 1 ≤ limit }
     requires high { limit ≤ 1099511627776 }
@@ -65,7 +66,8 @@ fn made(alloc: Global, limit: u64, max: u32, mirror: bool) -> Option<MemArchive>
     Some(MemArchive::new(alloc, settings(limit, max, mirror)?))
 }
 
-/// Whether another mail with a taken id is kept under a made one, and both are known again.
+/// Returns whether another mail with a taken id is kept under a made id, and both are then
+/// duplicates.
 fn takes_two_of_an_id(archive: &mut MemArchive) -> bool {
     let first = accepted(1, b"1d023c572ccd6f3cc82ae855343346b043adaba5");
     let other = accepted(2, b"39f92e6e43521b9650c2c71e47523846b2ecc47a");
@@ -84,15 +86,15 @@ fn a_taken_id_gives_way_to_a_made_one(rt: HostRuntime) {
     assert!(rt; takes_two_of_an_id(&mut archive));
 }
 
-/// A mail with the first id that would be made for another mail.
+/// A mail whose id is the first id made for another mail.
 const TAKEN: &[u8] =
     b"Subject: v\nMessage-ID: <a8f4aef97c4217e79c7ac7c8d9fa4cba3317bffd.0@list.invalid>\n\nx\n";
 
-/// The text of that other mail, with the second id that is made for it.
+/// The text of that other mail, with the second id made for it.
 const MADE: &[u8] =
     b"Message-ID: <a8f4aef97c4217e79c7ac7c8d9fa4cba3317bffd.1@list.invalid>\nSubject: u\n\nx\n";
 
-/// Whether a mail without an id, whose first made id is taken, is kept under the next one.
+/// Returns whether a mail without an id, whose first made id is taken, is kept under the next one.
 fn takes_the_next_made_id(archive: &mut MemArchive) -> bool {
     let taken = accepted(1, b"2fd7988ae8d54e85a7b575f5ccd453aec2207364");
     let made = accepted(2, b"e30b50cddbd8790b5f73f4eb6fe526a4c7f12274");
@@ -109,7 +111,7 @@ fn a_taken_made_id_gives_way_to_the_next(rt: HostRuntime) {
     assert!(rt; takes_the_next_made_id(&mut archive));
 }
 
-/// An index of one message, FIRST, which has the number 1.
+/// Creates an index of one message, `FIRST`, under the number 1.
 fn index_of_first(alloc: Global) -> Option<Index> {
     let mut index = Index::new(alloc);
     let id = Vec::from_slice(alloc, b"<a@x>").ok()?;
@@ -121,7 +123,7 @@ fn index_of_first(alloc: Global) -> Option<Index> {
     Some(index)
 }
 
-/// Whether an index finds FIRST, and no other message.
+/// Returns whether an index finds `FIRST`, and not `RENAMED`.
 fn finds_first_alone(index: &Index) -> bool {
     let by_id = matches!(index.owner(b"<a@x>"), Some(Owner { number: 1, .. }));
     let other_id = index.owner(b"<b@x>").is_none();
@@ -130,7 +132,7 @@ fn finds_first_alone(index: &Index) -> bool {
     by_id && other_id && by_blob && other_blob
 }
 
-/// The refusal of a message, where it is refused.
+/// Returns the refusal of a message, or `None` if it is to be kept.
 fn refusal(
     alloc: Global,
     config: &Config,
@@ -144,7 +146,7 @@ fn refusal(
     }
 }
 
-/// Whether RENAMED is to be kept as it stands, under the number 2.
+/// Returns whether `RENAMED` is to be kept unchanged under the number 2.
 fn takes_renamed(alloc: Global, config: &Config, index: &Index) -> bool {
     match judge(alloc, config, index, 1, 2, RENAMED) {
         Verdict::Refuse(_) => false,
@@ -154,7 +156,7 @@ fn takes_renamed(alloc: Global, config: &Config, index: &Index) -> bool {
     }
 }
 
-/// Whether messages are judged by an index of FIRST.
+/// Returns whether messages are judged by an index of `FIRST`.
 fn judges_by(alloc: Global, config: &Config, index: &Index) -> bool {
     let again = refusal(alloc, config, index, 2, FIRST) == Some(Answer::Duplicate(1));
     let full = refusal(alloc, config, index, 3, RENAMED) == Some(Answer::Full(2));
@@ -174,7 +176,8 @@ fn a_delivery_is_judged_by_an_index(rt: HostRuntime) {
     assert!(rt; judges_by(rt.alloc(), &settings, &index));
 }
 
-/// Whether an archive that has room for one message refuses others, each by its first cause, and keeps the one.
+/// Returns whether an archive with room for one message refuses others, each for its first cause,
+/// and keeps the one.
 fn refuses_in_order(archive: &mut MemArchive) -> bool {
     let _ = deliver(archive, FIRST);
     let empty = answers_so(archive, b"", Some(Answer::NoFields));
@@ -200,7 +203,7 @@ fn a_mirror_takes_no_delivery(rt: HostRuntime) {
     assert!(rt; answers_so(&mut archive, FIRST, Some(Answer::IsMirror)));
 }
 
-/// An archive to which FIRST and RENAMED were delivered.
+/// Creates an archive to which `FIRST` and `RENAMED` were delivered.
 fn with_two(alloc: Global, limit: u64) -> Option<MemArchive>
     requires low { 1 ≤ limit }
     requires high { limit ≤ 1099511627776 }
@@ -211,7 +214,7 @@ fn with_two(alloc: Global, limit: u64) -> Option<MemArchive>
     Some(archive)
 }
 
-/// Whether an epoch has so many bytes, or no entry where None are asked.
+/// Returns whether an epoch has `len` bytes, or no entry if `len` is `None`.
 fn has_epoch(alloc: Global, archive: &MemArchive, epoch: u32, len: Option<usize>) -> bool {
     let mut bytes = Bytes::new(alloc);
     match archive.push_epoch(epoch, &mut bytes) {

@@ -1,4 +1,5 @@
-//! Streams worked out by hand from the rules of the control door, each fed in every way that its length allows.
+//! Streams worked out by hand from the rules of the control door, each fed in every way that its
+//! length allows.
 ghost use Rattle.std.specs.Prelude.{true};
 ghost use Rattle.arch_base.specs.Configs.{IsConfig};
 
@@ -8,7 +9,7 @@ use arch_model::{Answer, Command, Keep, MemArchive, OpenRefusal, TextRefusal};
 use edge_io::MemSink;
 use std::alloc::Global;
 
-/// What is sent, what is answered, and whether the connection is then still open.
+/// A stream, its answers, and whether the connection is then still open.
 type Row = (&'static [u8], &'static [u8], bool);
 
 /// Lines of every kind.
@@ -114,7 +115,7 @@ const DELIVERIES: [Row; 19] = [
     ),
 ];
 
-/// One connection, and an archive of its own.
+/// A connection with an archive of its own.
 #[derive(Drop)]
 struct Connection {
     session: Session,
@@ -124,7 +125,7 @@ struct Connection {
 }
 
 impl Connection {
-    /// An open connection, to an archive without messages.
+    /// Opens a connection to an archive without messages.
     fn new(alloc: Global) -> Option<Self> {
         let archive = archive(alloc)?;
         Some(Connection {
@@ -135,7 +136,7 @@ impl Connection {
         })
     }
 
-    /// Feeds a piece where the connection is still open.
+    /// Feeds a piece if the connection is still open.
     fn hear(&mut self, piece: &[u8]) {
         if self.open {
             self.open = self
@@ -144,28 +145,29 @@ impl Connection {
         }
     }
 
-    /// Whether the answers are these bytes, and the connection is open or not.
+    /// Returns whether the answers are these bytes and the connection is open, or closed, as `open`
+    /// says.
     fn was_answered(&self, words: &[u8], open: bool) -> bool {
         self.out.taken() == words && self.open == open
     }
 }
 
-/// The call of a keeper that the disk fails.
+/// The call of a keeper that fails.
 #[derive(Clone, Copy, PartialEq, Eq, Drop)]
 enum Failing {
-    /// A command, which is done all the same or not.
+    /// A command, which is carried out or not, as the flag says.
     Command(bool),
-    /// A command, which isn't done, and the opening behind it.
+    /// A command, which isn't carried out, and the reopening after it.
     Opening,
-    /// The same, where there is no memory for the opening.
+    /// A command, which isn't carried out, and the reopening after it, which runs out of memory.
     OpeningWithoutMemory,
-    /// The reading of a text.
+    /// A read of a text.
     Text,
-    /// The reading of an epoch.
+    /// A read of an epoch.
     Epoch,
 }
 
-/// An archive in memory, of which one call is failed again and again. It tells nothing of what it holds.
+/// An archive in memory of which one kind of call always fails. It tells nothing of what it holds.
 #[derive(Drop)]
 struct FailingKeep {
     archive: MemArchive,
@@ -257,7 +259,7 @@ impl Keep for FailingKeep {
     ghost holds_left = { λ k a no. no };
 }
 
-/// The settings of an archive of this name.
+/// Returns the settings of an archive of this name.
 fn config(name: Name) -> Config
     ensures { IsConfig result }
 {
@@ -271,13 +273,13 @@ fn config(name: Name) -> Config
     }
 }
 
-/// An archive without messages, of the name `list`.
+/// Creates an archive without messages of the name `list`.
 fn archive(alloc: Global) -> Option<MemArchive> {
     let name = Name::read(b"list")?;
     Some(MemArchive::new(alloc, config(name)))
 }
 
-/// Whether a stream that is cut in two after so many bytes is answered so.
+/// Returns whether a stream cut in two at an offset gets the row's answers.
 fn is_answered_cut(alloc: Global, row: Row, place: usize) -> bool {
     let (stream, words, open) = row;
     let (front, back) = stream.split_at(place.min(stream.len()));
@@ -289,7 +291,7 @@ fn is_answered_cut(alloc: Global, row: Row, place: usize) -> bool {
     connection.was_answered(words, open)
 }
 
-/// Whether a stream that comes byte by byte is answered so.
+/// Returns whether a stream that comes byte by byte gets the row's answers.
 fn is_answered_by_bytes(alloc: Global, row: Row) -> bool {
     let (stream, words, open) = row;
     let Some(mut connection) = Connection::new(alloc) else {
@@ -301,7 +303,8 @@ fn is_answered_by_bytes(alloc: Global, row: Row) -> bool {
     connection.was_answered(words, open)
 }
 
-/// Whether a stream is answered so, whole, byte by byte and cut at every place in two.
+/// Returns whether a stream gets the row's answers whole, byte by byte and cut in two at every
+/// offset.
 fn is_answered(alloc: Global, row: Row) -> bool {
     for place in 0..row.0.len() + 1 {
         if !is_answered_cut(alloc, row, place) {
@@ -326,7 +329,7 @@ fn deliveries_are_answered_however_cut(rt: HostRuntime) {
     }
 }
 
-/// Lines without their line end, and what they order.
+/// Lines without their line end, and their orders.
 const ORDERS: [(&[u8], Order); 10] = [
     (b"deliver 0", Order::Deliver(0)),
     (b"dELIVER 9000000", Order::Deliver(9_000_000)),
@@ -347,10 +350,11 @@ fn orders_are_read(rt: HostRuntime) {
     }
 }
 
-/// The answer to two lines that are no order.
+/// The answer to two lines that are no orders.
 const TWO_BAD_LINES: &[u8] = b"13 bad line\n13 bad line\n";
 
-/// Whether a line of so many bytes with its line feed, cut in two at a place, and a line feed after it are answered so.
+/// Returns whether a line of `len` bytes with its line feed, cut in two at an offset, and a line
+/// feed after it get these answers.
 fn long_line_is_answered(
     alloc: Global,
     len: usize,
@@ -373,7 +377,8 @@ fn long_line_is_answered(
     connection.was_answered(words, open)
 }
 
-/// Whether lines of 511 and of 512 bytes are read, and one of 513 closes, each cut in two at a place.
+/// Returns whether lines of 511 and of 512 bytes are read and a line of 513 bytes closes the
+/// connection, each cut in two at an offset.
 fn long_lines_are_answered(alloc: Global, place: usize) -> bool {
     let shorter = long_line_is_answered(alloc, 511, place, TWO_BAD_LINES, true);
     let longest = long_line_is_answered(alloc, 512, place, TWO_BAD_LINES, true);
@@ -391,7 +396,8 @@ fn lines_have_at_most_512_bytes(rt: HostRuntime) {
     }
 }
 
-/// Whether 511 bytes without a line feed, cut in two at a place, get no answer, and one byte more closes.
+/// Returns whether 511 bytes without a line feed, cut in two at an offset, get no answer, and one
+/// byte more closes the connection.
 fn closes_at_512_bytes(alloc: Global, place: usize) -> bool {
     let stream = [b'a'; 511];
     let (front, back) = stream.split_at(place.min(stream.len()));
@@ -412,10 +418,11 @@ fn a_line_is_too_long_at_512_bytes(rt: HostRuntime) {
     }
 }
 
-/// What is sent, which call the disk fails, what is answered, and whether the connection is then still open.
+/// A stream, the call that fails, the answers, and whether the connection is then still open.
 type FailingRow = (&'static [u8], Failing, &'static [u8], bool);
 
-/// Streams at a disk that fails. What is in doubt is looked for before the next whole request, and not before a part of one.
+/// Streams to a disk that fails. A stale keeper is reopened before the next whole request, and not
+/// before a part of one.
 const FAILURES: [FailingRow; 12] = [
     (
         b"deliver 18\nMessage-ID: <a@x>\nshow 1\n",
@@ -491,7 +498,7 @@ const FAILURES: [FailingRow; 12] = [
     ),
 ];
 
-/// Whether a stream that comes in one piece is answered so where the disk fails.
+/// Returns whether a stream that comes in one piece gets the row's answers from a disk that fails.
 fn is_answered_failing(alloc: Global, row: FailingRow) -> bool {
     let (stream, failing, words, open) = row;
     let Some(archive) = archive(alloc) else {

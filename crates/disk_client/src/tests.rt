@@ -1,4 +1,5 @@
-//! A fixed list of calls on a disk in memory, and the files that a crash leaves at each moment.
+//! Tests of a fixed list of calls on a disk in memory, and of the files that a crash leaves at each
+//! moment.
 use crate::change_text;
 use arch_base::{Bytes, NoMemory, Numbers};
 use disk_model::{Disk, DiskFault, FileKind, FileName, FuseDisk, MemDisk, WalkRefusal};
@@ -36,8 +37,8 @@ enum Call {
     NameAt(u64),
 }
 
-/// The calls, and whether each answers Ok. A write and a cut ask for the file's length first, so each of them is two
-/// calls.
+/// The calls, and whether each returns `Ok`. A write and a cut ask for the file's length first, so
+/// each of them is two calls.
 const CALLS: [(Call, bool); 30] = [
     (Call::Write(A, 0, b"abcdef"), true), // calls 1 and 2
     (Call::Write(B, 0, b"xy"), true), // 3, 4
@@ -188,7 +189,7 @@ const IMAGES: [&[u8]; 88] = [
     b"a=ABC;b=newer;",
 ];
 
-/// Makes a call. A place or a length beyond the file is no call.
+/// Makes a call. A write or a cut beyond the file's end only asks for the length.
 fn make(disk: &mut MemDisk, call: &Call) -> Result<(), DiskFault> {
     match call {
         Call::Write(name, place, bytes) => write(disk, *name, *place, bytes),
@@ -211,7 +212,7 @@ fn make(disk: &mut MemDisk, call: &Call) -> Result<(), DiskFault> {
     }
 }
 
-/// Writes where the place is in the file or at its end.
+/// Writes bytes if the offset is in the file or at its end.
 fn write<D: Disk>(disk: &mut D, name: FileName, place: u64, bytes: &[u8]) -> Result<(), DiskFault> {
     let length = disk.length(name)?;
     if place > length || place > 64 || bytes.len() > 64 {
@@ -220,7 +221,7 @@ fn write<D: Disk>(disk: &mut D, name: FileName, place: u64, bytes: &[u8]) -> Res
     disk.write_at(name, place, bytes)
 }
 
-/// Cuts where the file is as long.
+/// Cuts a file if it is at least as long as the new length.
 fn cut<D: Disk>(disk: &mut D, name: FileName, to: u64) -> Result<(), DiskFault> {
     let length = disk.length(name)?;
     if to > length {
@@ -229,7 +230,7 @@ fn cut<D: Disk>(disk: &mut D, name: FileName, to: u64) -> Result<(), DiskFault> 
     disk.cut(name, to)
 }
 
-/// The letter of a file.
+/// Returns the letter of a file.
 fn letter(name: FileName) -> u8 {
     if name == M {
         b'm'
@@ -240,7 +241,7 @@ fn letter(name: FileName) -> u8 {
     }
 }
 
-/// Puts a file behind a text.
+/// Appends a file to a text.
 fn show(disk: &mut MemDisk, name: FileName, text: &mut Bytes) -> Result<(), WalkRefusal> {
     let mut buffer = [0; 16];
     let count = disk.read(name, 0, &mut buffer)?;
@@ -251,7 +252,7 @@ fn show(disk: &mut MemDisk, name: FileName, text: &mut Bytes) -> Result<(), Walk
     Ok(())
 }
 
-/// All files, in the order of their names.
+/// Returns all files as a text, in the order of their names.
 fn shown(alloc: Global, disk: &mut MemDisk) -> Result<Bytes, WalkRefusal> {
     let mut text = Bytes::new(alloc);
     for index in 0..4 {
@@ -263,7 +264,7 @@ fn shown(alloc: Global, disk: &mut MemDisk) -> Result<Bytes, WalkRefusal> {
     Ok(text)
 }
 
-/// A disk whose listed calls fail.
+/// Creates a disk whose listed calls fail.
 fn failing(alloc: Global) -> Result<MemDisk, NoMemory> {
     let mut faults = Numbers::new(alloc);
     for ordinal in FAULTS {
@@ -272,7 +273,7 @@ fn failing(alloc: Global) -> Result<MemDisk, NoMemory> {
     Ok(MemDisk::new(alloc, faults))
 }
 
-/// Makes all calls, and says whether each answers as it should.
+/// Makes all calls, and returns whether each succeeds or fails as listed.
 fn make_all(disk: &mut MemDisk) -> bool {
     for (step, works) in &CALLS {
         if make(disk, step).is_ok() != *works {
@@ -282,7 +283,7 @@ fn make_all(disk: &mut MemDisk) -> bool {
     true
 }
 
-/// Whether the files that a crash leaves at a moment are shown as this text.
+/// Returns whether the files that a crash leaves at a moment are shown as this text.
 fn is_image(
     alloc: Global,
     disk: &MemDisk,
@@ -323,7 +324,7 @@ fn try_change<D: Disk>(disk: &mut D, text: &[u8; 8]) -> Result<(), DiskFault> {
     change_text(disk, A, text)
 }
 
-/// Whether a file is of the one text or of the other.
+/// Returns whether a file stands for a text.
 fn stands_for(file: &[u8; 17], text: &[u8]) -> bool {
     if file[0] == 1 {
         &file[9..] == text
@@ -332,7 +333,8 @@ fn stands_for(file: &[u8; 17], text: &[u8]) -> bool {
     }
 }
 
-/// A disk on which the change of a text was stopped after so many calls, and whether the change is done.
+/// Returns a disk on which the change of a text was stopped after `passes` calls, and whether the
+/// change is done.
 fn changed(alloc: Global, passes: u64) -> Result<(MemDisk, bool), DiskFault> {
     let mut disk = MemDisk::new(alloc, Numbers::new(alloc));
     disk.write_at(A, 0, b"\x00old textqqqqqqqq")?;
@@ -342,7 +344,8 @@ fn changed(alloc: Global, passes: u64) -> Result<(MemDisk, bool), DiskFault> {
     Ok((fuse.into_inner(), done))
 }
 
-/// Whether a crash at a moment leaves the new text, or the old one where the change isn't done.
+/// Returns whether a crash at a moment leaves the new text, or the old one if the change isn't
+/// done.
 fn is_whole(disk: &MemDisk, at: u64, pick: u64, done: bool) -> Result<bool, WalkRefusal> {
     if at > disk.moments() || pick > 3 {
         return Ok(false);
@@ -354,7 +357,7 @@ fn is_whole(disk: &MemDisk, at: u64, pick: u64, done: bool) -> Result<bool, Walk
     Ok(count == 17 && (old || stands_for(&file, b"new text")))
 }
 
-/// Looks at each image since the old text was there. At the last moment the change may be done.
+/// Checks each image since the old text was there. At the last moment the change may be done.
 fn look_at_images(rt: &impl Abort, disk: &MemDisk, done: bool) -> Result<(), WalkRefusal> {
     let end = disk.moments();
     for at in 2..=end {
@@ -372,7 +375,7 @@ fn look_at_images(rt: &impl Abort, disk: &MemDisk, done: bool) -> Result<(), Wal
 fn a_stop_leaves_one_text_or_the_other(rt: HostRuntime) -> Result<(), Fail> {
     for passes in 0..7 {
         let (disk, done) = changed(rt.alloc(), passes)?;
-        // A look at the length, two writes and two syncs.
+        // The calls are a look at the length, two writes and two syncs.
         assert_eq!(rt; done, passes >= 5);
         look_at_images(&rt, &disk, done)?;
     }

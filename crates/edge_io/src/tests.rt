@@ -1,4 +1,4 @@
-//! Scripts, sources and sinks by examples worked out by hand.
+//! Tests of scripts, sources, sinks and clocks, by examples worked out by hand.
 ghost use Rattle.std.specs.Prelude.{◌<◌, length};
 
 use crate::{
@@ -23,7 +23,7 @@ fn now_through<C: Clock>(clock: &mut C) -> Result<u64, ClockFault> {
     clock.now()
 }
 
-/// The script of one piece of so many bytes.
+/// Returns the script with one piece of `len` bytes.
 fn script_of_piece(alloc: Global, line: &str, len: usize) -> Result<Vec<u8>, AllocError> {
     let mut text = Vec::from_slice(alloc, line.as_bytes())?;
     text.extend_from_slice(&vec![in alloc; b'a'; len]?)?;
@@ -31,7 +31,7 @@ fn script_of_piece(alloc: Global, line: &str, len: usize) -> Result<Vec<u8>, All
     Ok(text)
 }
 
-/// Whether bytes are a script of so many events.
+/// Returns whether a text is a script of `count` events.
 fn has_events(alloc: Global, text: &str, count: u64) -> Result<bool, ScriptRefusal> {
     let made = script(alloc, text.as_bytes())?;
     let ends = made.event(count).is_none();
@@ -39,25 +39,25 @@ fn has_events(alloc: Global, text: &str, count: u64) -> Result<bool, ScriptRefus
     Ok(ends && reaches)
 }
 
-/// The length of the piece of the script of one piece.
+/// Returns the length of the piece that is read from the script with one piece.
 fn piece_len(alloc: Global, line: &str, len: usize) -> Result<usize, Fail> {
     let text = script_of_piece(alloc, line, len)?;
     let made = script(alloc, &text)?;
     Ok(made.piece(0).len())
 }
 
-/// Whether bytes are no script, and this event, from 1, is the first that is bad.
+/// Returns whether bytes are no script, and this event, from 1, is the first bad one.
 fn is_bad_at(alloc: Global, bytes: &[u8], event: u64) -> bool {
     script(alloc, bytes).err() == Some(ScriptRefusal::Bad { event })
 }
 
-/// Whether the script of one piece is bad at that piece.
+/// Returns whether the script with one piece is bad at that piece.
 fn is_bad_piece(alloc: Global, line: &str, len: usize) -> Result<bool, AllocError> {
     let text = script_of_piece(alloc, line, len)?;
     Ok(is_bad_at(alloc, &text, 1))
 }
 
-/// Scripts, and how many events each has.
+/// Scripts and their numbers of events.
 const WHOLE: [(&str, u64); 9] = [
     ("", 0),
     ("0 q\n", 1),
@@ -116,12 +116,12 @@ fn the_first_bad_event_is_named(rt: HostRuntime) -> Result<(), Fail> {
     Ok(())
 }
 
-/// An event.
+/// Returns an event.
 fn event(moment: u64, what: What) -> Event {
     Event { moment, what }
 }
 
-/// Whether a script's event of this number, from 0, is this one, with this piece.
+/// Returns whether the script's event of this index, from 0, is `event` with `piece`.
 fn has_arrival(made: &Script, i: u64, event: &Event, piece: &str) -> bool {
     let same = made.event(i) == Some(event);
     let carries = made.piece(i) == piece.as_bytes();
@@ -134,7 +134,7 @@ const OPENED: What = What::Opened {
     door: Door::Control,
 };
 
-/// The numbers, from 0, the moments and the pieces of six events.
+/// The indices, from 0, the moments, the events and the pieces of a script.
 const ARRIVALS: [(u64, u64, What, &str); 6] = [
     (0, 0, OPENED, ""),
     (1, 5, What::Bytes { conn: 1, len: 3 }, "a\nb"),
@@ -158,21 +158,21 @@ fn events_have_their_pieces(rt: HostRuntime) -> Result<(), Fail> {
     Ok(())
 }
 
-/// The list of the second call.
+/// Returns the list of ordinals that names the second call.
 fn second_call(alloc: Global) -> Result<Numbers, NoMemory> {
     let mut listed = Numbers::new(alloc);
     listed.push(2)?;
     Ok(listed)
 }
 
-/// A source of five bytes, whose second read fails.
+/// Creates a source of five bytes whose second read fails.
 fn failing_source(alloc: Global) -> Result<MemSource, NoMemory> {
     let mut bytes = Bytes::new(alloc);
     bytes.push_slice(b"abcde")?;
     Ok(MemSource::new(alloc, bytes, second_call(alloc)?))
 }
 
-/// Whether its bytes come at the first and the third of four reads of three bytes.
+/// Returns whether the source's bytes come at the first and the third of four reads of three bytes.
 fn gives_its_bytes(source: &mut MemSource) -> bool {
     let mut into = *b"...";
     let first = read_through(source, &mut into);
@@ -193,7 +193,7 @@ fn listed_reads_fail(rt: HostRuntime) -> Result<(), Fail> {
     Ok(())
 }
 
-/// Whether the first and the third of three writes are taken, where the second fails.
+/// Returns whether the first and the third of three writes are taken, and the second fails.
 fn takes_two_of_three(sink: &mut MemSink) -> bool {
     let first = write_through(sink, b"ab");
     let second = write_through(sink, b"cd");
@@ -202,7 +202,7 @@ fn takes_two_of_three(sink: &mut MemSink) -> bool {
     answers && sink.taken() == b"abef".as_slice()
 }
 
-/// Whether a sink that was emptied takes what comes then.
+/// Returns whether an emptied sink takes the bytes that follow.
 fn takes_after_clear(sink: &mut MemSink) -> bool {
     sink.clear();
     let emptied = sink.taken().is_empty();
@@ -219,7 +219,7 @@ fn listed_writes_fail(rt: HostRuntime) -> Result<(), Fail> {
     Ok(())
 }
 
-/// A clock of three moments, whose second call fails.
+/// Creates a clock of three moments whose second call fails.
 fn failing_clock(alloc: Global) -> Result<MemClock, NoMemory> {
     let mut moments = Numbers::new(alloc);
     moments.push(7)?;
@@ -228,7 +228,7 @@ fn failing_clock(alloc: Global) -> Result<MemClock, NoMemory> {
     Ok(MemClock::new(alloc, moments, second_call(alloc)?))
 }
 
-/// Whether its moments come one by one, and the last again.
+/// Returns whether the clock's moments come one after another, and the last one again.
 fn gives_its_moments(clock: &mut MemClock) -> bool {
     let first = now_through(clock);
     let second = now_through(clock);

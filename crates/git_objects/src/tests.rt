@@ -1,4 +1,4 @@
-//! Ids and spellings as git gives them, and bytes that spell nothing.
+//! Tests of ids and spellings against git, and of bytes that spell nothing.
 use crate::{
     Commit, Object, blob_id, commit_bytes, object_id, read_commit, read_object, tree_bytes,
 };
@@ -11,7 +11,7 @@ const TREE: &[u8] = b"ff904aaaf3647f5d5e49c759a67194e6c0ea3fa7";
 
 const FIRST: &[u8] = b"76063a3a91ab738c9e5856b47d2659e12609e101";
 
-/// Whether an id is spelled so in hexadecimal.
+/// Returns whether an id has these hexadecimal digits.
 fn has_digits(id: &ObjectId, digits: &[u8]) -> bool {
     Some(*id) == id_of_hex(digits)
 }
@@ -31,7 +31,7 @@ fn trees_have_the_ids_of_git(rt: HostRuntime) {
     assert!(rt; has_digits(&object_id(&tree_bytes(b'd', &blob)), deletion));
 }
 
-/// Whether the blob of a content stands at the front of bytes, and takes so many.
+/// Returns whether bytes start with the blob of a content whose spelling has `taken` bytes.
 fn begins_with_blob(bytes: &[u8], wanted: &[u8], taken: usize) -> bool {
     match read_object(bytes) {
         Some((Object::Blob(content), len)) => content == wanted && len == taken,
@@ -39,7 +39,7 @@ fn begins_with_blob(bytes: &[u8], wanted: &[u8], taken: usize) -> bool {
     }
 }
 
-/// Whether the spelling of the tree of a deletion is read as that tree, and is taken whole.
+/// Returns whether the spelling of a deletion's tree is read as that tree, all of it.
 fn reads_deletion_again(blob: &ObjectId) -> bool {
     match read_object(&tree_bytes(b'd', blob)) {
         Some((Object::Tree { name, id }, 37)) => name == b'd' && id == *blob,
@@ -74,7 +74,7 @@ fn other_bytes_are_no_object(rt: HostRuntime) {
     }
 }
 
-/// A commit's content and its id, as git gives them, and the commit's fields.
+/// A commit's content and id, as git gives them, and the commit's fields.
 #[derive(Drop)]
 struct Row<'a> {
     content: &'a [u8],
@@ -88,7 +88,7 @@ struct Row<'a> {
     subject: &'a [u8],
 }
 
-/// Whether a content is read as the fields say, and is spelled again with the id of git.
+/// Returns whether a content is read as the row's fields, and their spelling has the id of git.
 fn agrees(alloc: Global, row: &Row<'_>) -> Result<bool, NoMemory> {
     let Some(commit) = read_commit(alloc, row.content)? else {
         return Ok(false);
@@ -100,12 +100,12 @@ fn agrees(alloc: Global, row: &Row<'_>) -> Result<bool, NoMemory> {
     Ok(Some(object_id(spelling.as_slice())) == id_of_hex(row.id))
 }
 
-/// The id of the parent of a row's commit.
+/// Returns the id of the parent of a row's commit.
 fn parent_of(row: &Row<'_>) -> Option<ObjectId> {
     id_of_hex(row.parent?)
 }
 
-/// Whether a commit has the fields of a row.
+/// Returns whether a commit has the fields of a row.
 fn has_fields(commit: &Commit, row: &Row<'_>) -> bool {
     Some(commit.tree) == id_of_hex(TREE)
         && commit.parent == parent_of(row)
@@ -173,10 +173,10 @@ fn commits_have_the_ids_of_git(rt: HostRuntime) {
     }
 }
 
-/// What follows the line of a tree in a commit.
+/// The bytes of a commit after the line of the tree.
 const REST: &[u8] = b"author A <e> 5 +0000\ncommitter piv2 <piv2@localhost> 0 +0000\n\ns\n";
 
-/// What doesn't follow it in any commit.
+/// Bytes that follow the line of the tree in no commit.
 const OTHER_RESTS: [&[u8]; 12] = [
     b"author A <e> 5 -0000\ncommitter piv2 <piv2@localhost> 0 +0000\n\ns\n",
     b"author A <e> 5 +2400\ncommitter piv2 <piv2@localhost> 0 +0000\n\ns\n",
@@ -200,7 +200,7 @@ fn other_contents_are_no_commit(rt: HostRuntime) {
     }
 }
 
-/// Whether bytes behind the line of a tree are a commit's; None where memory is wanted.
+/// Returns whether the line of a tree and these bytes are a commit, or `None` out of memory.
 fn is_commit(alloc: Global, rest: &[u8]) -> Option<bool> {
     let mut content = Bytes::new(alloc);
     content

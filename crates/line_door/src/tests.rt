@@ -1,4 +1,5 @@
-//! Tables worked out by hand: where lines end, what is dropped of them, and what a failing sink leaves.
+//! Tables worked out by hand: where lines end, what is dropped of them, and what a failing sink
+//! leaves.
 ghost use Rattle.std.specs.Prelude.{Some, refl};
 ghost use Rattle.std.proofs.Common.{◌∙◌};
 
@@ -9,7 +10,7 @@ use arch_base::Bytes;
 use edge_io::{Sink, SinkFault};
 use std::alloc::Global;
 
-/// A sink in memory that takes so many writes, and fails after them.
+/// A sink in memory that takes `left` writes, and then fails.
 #[derive(Drop)]
 struct Taker {
     bytes: Bytes,
@@ -26,7 +27,7 @@ impl Taker {
         }
     }
 
-    /// Whether it took these bytes, and one write failed.
+    /// Returns whether the sink took these bytes and one write failed.
     fn holds(&self, bytes: &[u8]) -> bool {
         self.bytes.as_slice() == bytes && self.faults == 1
     }
@@ -53,7 +54,7 @@ impl Sink for Taker {
     }
 }
 
-/// Pieces, and what stands at their front where lines have at most 8 bytes.
+/// Pieces, and what starts each where lines have at most 8 bytes.
 const FIRST: [(&[u8], Ahead); 9] = [
     (b"", Ahead::More),
     (b"\n", Ahead::Line(0)),
@@ -66,7 +67,7 @@ const FIRST: [(&[u8], Ahead); 9] = [
     (b"a\0b\r", Ahead::More),
 ];
 
-/// The same after three bytes of a line.
+/// Pieces, and what starts each after three bytes of a line.
 const AFTER_THREE: [(&[u8], Ahead); 6] = [
     (b"\n", Ahead::Line(0)),
     (b"d\ne\n", Ahead::Line(1)),
@@ -97,7 +98,7 @@ fn a_line_of_512_bytes_is_read(rt: HostRuntime) {
     assert!(rt; next_in(b"", &piece, 512) == Ahead::Line(511));
 }
 
-/// Lines, and their contents.
+/// Lines and their contents.
 const CONTENTS: [(&[u8], &[u8]); 6] = [
     (b"", b""),
     (b"\r", b""),
@@ -114,7 +115,7 @@ fn one_carriage_return_is_dropped(rt: HostRuntime) {
     }
 }
 
-/// Whether a sink that takes three writes takes words and a line, and no word after them.
+/// Returns whether a sink that takes three writes takes words and a line, and no word after them.
 fn takes_three_writes(sink: &mut Taker) -> bool {
     let words = say(b"ab", sink);
     let line = say_line(b"cd", sink);
@@ -122,7 +123,7 @@ fn takes_three_writes(sink: &mut Taker) -> bool {
     words && line && lost && sink.holds(b"abcd\n")
 }
 
-/// Whether a sink that takes one write takes the words of a line without its line feed.
+/// Returns whether a sink that takes one write takes the words of a line without its line feed.
 fn takes_one_write(sink: &mut Taker) -> bool {
     let lost = !say_line(b"cd", sink);
     lost && sink.holds(b"cd")

@@ -19,8 +19,8 @@ const MAX_OPEN: usize = 80;
 
 /// A folder whose lock this run holds as long as this value lasts.
 ///
-/// The folder's files are opened, listed, written, removed and synced only within that time, so
-/// never while another run holds the lock.
+/// The folder's files are opened, listed, written, removed and synced only under the lock, so never
+/// while another run holds it.
 #[derive(Drop)]
 pub(crate) struct HeldFolder {
     rt: HostRuntime,
@@ -53,7 +53,7 @@ impl HeldFolder {
     /// Opens a folder and takes its lock, or returns `None` if the folder is missing.
     ///
     /// `wait` is the longest time to wait for the lock. If an earlier run left the mark of a failed
-    /// sync, every file is written again and synced before any of them is opened.
+    /// sync, every file of the archive is written again and synced before any of them is read.
     pub(crate) fn take(
         rt: &HostRuntime,
         alloc: Global,

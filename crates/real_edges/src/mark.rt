@@ -25,10 +25,11 @@ pub(crate) fn leave_mark(
     folder.sync_all()
 }
 
-/// Writes every file of a locked folder again, syncs it, and then removes the mark.
+/// Writes these files of a locked folder again, syncs them and the folder, and removes the mark.
 ///
 /// After a sync failed, the system may take what it couldn't write as written, and return `Ok` at
-/// the next sync. So all bytes are written again first. On an error the mark stays.
+/// the next sync. So all bytes are written again first. On an error the mark stays, or is left
+/// again if it can be.
 pub(crate) fn write_again(
     rt: &HostRuntime,
     alloc: Global,

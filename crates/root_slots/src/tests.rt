@@ -1,4 +1,5 @@
-//! Roots on a disk in memory: their bytes, what is read of a root file, and what a crash leaves.
+//! Tests of roots on a disk in memory: their bytes, what is read of a root file, and what a crash
+//! leaves.
 use crate::body::spell;
 use crate::find::is_valid;
 use crate::slots::root_file;
@@ -16,7 +17,8 @@ const OTHER: FileName = FileName {
     gen_: 1,
 };
 
-/// The fields of the sample of sequence 1 and most number 7: their places in the body and their bytes.
+/// The fields of the sample of sequence 1 and largest number 7: their offsets in the body and their
+/// bytes.
 const LAYOUT: [(usize, &[u8]); 14] = [
     (0, b"\x00\x00\x00\x00\x00\x00\x00\x01"),
     (8, b"\x01"),
@@ -49,7 +51,8 @@ const LAYOUT: [(usize, &[u8]); 14] = [
     ),
 ];
 
-/// Bytes put over the sample's body, and whether a root stands there still.
+/// Bytes written over the sample's body at an offset, and whether the body is then still that of a
+/// root.
 const FIELDS: [(u64, &[u8], bool); 38] = [
     (0, b"\x00\x00\x00\x00\x00\x00\x00\x00", false),
     (8, b"\x00", false),
@@ -107,7 +110,7 @@ const FIELDS: [(u64, &[u8], bool); 38] = [
     (1535, b"\x01", false),
 ];
 
-/// Two gates, the sequences of two bodies, and the slot that is read.
+/// The gate and the sequence of slot 0, those of slot 1, and the slot that is read.
 const NEWEST: [(u8, u64, u8, u64, Option<u8>); 9] = [
     (0, 1, 0, 2, None),
     (2, 1, 255, 2, None),
@@ -120,7 +123,7 @@ const NEWEST: [(u8, u64, u8, u64, Option<u8>); 9] = [
     (1, 255, 1, 256, Some(1)),
 ];
 
-/// A root whose fields differ from one another.
+/// Returns a root whose fields differ from one another.
 fn sample(sequence: u64, max: u32) -> Option<Root> {
     let name = Name::read(b"list-1.x")?;
     let mut epochs = [Place { gen_: 0, length: 0 }; 64];
@@ -152,7 +155,7 @@ fn sample(sequence: u64, max: u32) -> Option<Root> {
     })
 }
 
-/// Commits a root where the root file has its size, after one look at that.
+/// Commits a root if the root file has its size, which one call looks up.
 fn try_commit<D: Disk>(disk: &mut D, slot: u8, root: &Root) -> Result<(), DiskFault> {
     if slot > 1 || !is_valid(root) || disk.length(root_file())? != 4096 {
         return Err(DiskFault);
@@ -160,7 +163,7 @@ fn try_commit<D: Disk>(disk: &mut D, slot: u8, root: &Root) -> Result<(), DiskFa
     commit(disk, slot, root)
 }
 
-/// Puts a root into a slot, and opens or shuts its gate.
+/// Writes a root to a slot, and opens or shuts the slot's gate.
 fn put<D: Disk>(disk: &mut D, slot: u8, root: &Root, open: bool) -> Result<(), DiskFault> {
     if slot > 1 || !is_valid(root) || disk.length(root_file())? != 4096 {
         return Err(DiskFault);
@@ -176,7 +179,7 @@ fn put<D: Disk>(disk: &mut D, slot: u8, root: &Root, open: bool) -> Result<(), D
     }
 }
 
-/// Writes into the root file.
+/// Writes bytes to the root file.
 fn write<D: Disk>(disk: &mut D, place: u64, bytes: &[u8]) -> Result<(), DiskFault> {
     if place > disk.length(root_file())? || place > 4096 || bytes.len() > 4097 {
         return Err(DiskFault);
@@ -192,7 +195,7 @@ fn trim<D: Disk>(disk: &mut D, length: u64) -> Result<(), DiskFault> {
     disk.cut(root_file(), length)
 }
 
-/// The slot of the current root.
+/// Returns the slot of the current root.
 fn slot_read<D: Disk>(disk: &mut D) -> Result<Option<u8>, RootRefusal> {
     match read(disk)? {
         Some((slot, _)) => Ok(Some(slot)),
@@ -214,7 +217,10 @@ fn a_root_has_these_bytes(rt: HostRuntime) -> Result<(), Fail> {
     Ok(())
 }
 
-/// Puts a root into a slot and bytes over those of its body, and says whether it is read before, and after where it should.
+/// Writes a root to a slot and then bytes over its body.
+///
+/// Returns whether the root is read before those bytes, and after them is read if `stands` is set
+/// and damaged otherwise.
 fn is_field<D: Disk>(
     disk: &mut D,
     root: &Root,
@@ -259,14 +265,15 @@ fn each_field_out_of_its_range_is_damage(rt: HostRuntime) -> Result<(), Fail> {
     Ok(())
 }
 
-/// Whether no root is read of a disk, nor of the root file that is begun on it.
+/// Returns whether no root is read from a disk, before and after a root file is begun on it.
 fn begins_without<D: Disk>(disk: &mut D) -> Result<bool, DiskFault> {
     let none = slot_read(disk) == Ok(None);
     begin(disk)?;
     Ok(none && slot_read(disk) == Ok(None))
 }
 
-/// Puts two roots of these sequences into the slots and sets the gates, and says whether the slot is read that should be.
+/// Writes two roots of these sequences to the slots and sets the gates, and returns whether the
+/// wanted slot is read.
 fn is_newest<D: Disk>(
     disk: &mut D,
     (gate0, sequence0, gate1, sequence1, want): &(u8, u64, u8, u64, Option<u8>),
@@ -283,12 +290,13 @@ fn is_newest<D: Disk>(
     Ok(slot_read(disk) == Ok(*want))
 }
 
-/// Whether the body of slot 1 is damaged.
+/// Returns whether the body of slot 1 is damaged.
 fn is_second_damaged<D: Disk>(disk: &mut D) -> bool {
     slot_read(disk) == Err(RootRefusal::Damaged { at: 2560 })
 }
 
-/// Whether no root is read of a root file of a byte more and of a byte less, and that of its size is damaged as before.
+/// Returns whether no root is read if the root file is a byte longer or shorter, and slot 1 is
+/// damaged at its size.
 fn has_one_size<D: Disk>(disk: &mut D) -> Result<bool, DiskFault> {
     write(disk, 4096, &[0])?;
     let more = slot_read(disk) == Ok(None);
@@ -305,14 +313,14 @@ fn the_open_slot_of_greater_sequence_is_read(rt: HostRuntime) -> Result<(), Fail
     for (index, roots) in NEWEST.iter().enumerate() {
         assert!(rt; is_newest(&mut disk, roots)?, "{index}");
     }
-    // The open slot of greater sequence is broken.
+    // The open slot of greater sequence is damaged.
     write(&mut disk, 2568, &[9])?;
     assert!(rt; is_second_damaged(&mut disk));
     assert!(rt; has_one_size(&mut disk)?);
     Ok(())
 }
 
-/// What is read of a root file that is begun, on a disk that stops after so many calls.
+/// Returns the slot that is read of a new root file, on a disk that stops after `passes` calls.
 fn slot_read_stopped(alloc: Global, passes: u64) -> Result<Option<u8>, RootRefusal> {
     let mut disk = MemDisk::new(alloc, Numbers::new(alloc));
     begin(&mut disk)?;
@@ -322,7 +330,7 @@ fn slot_read_stopped(alloc: Global, passes: u64) -> Result<Option<u8>, RootRefus
 #[test]
 fn a_call_that_fails_is_no_answer(rt: HostRuntime) -> Result<(), Fail> {
     for passes in 0..3 {
-        // A look at the length, and a read.
+        // The calls are a look at the length and a read.
         let want = if passes < 2 {
             Err(RootRefusal::DiskFault)
         } else {
@@ -333,7 +341,8 @@ fn a_call_that_fails_is_no_answer(rt: HostRuntime) -> Result<(), Fail> {
     Ok(())
 }
 
-/// A disk on which a call was stopped: how many changes it had before, and whether the call is done.
+/// A disk on which a call was stopped, its number of moments before that call, and whether the call
+/// finished.
 #[derive(Drop)]
 struct Stopped {
     disk: MemDisk,
@@ -341,7 +350,7 @@ struct Stopped {
     done: bool,
 }
 
-/// Begins a root file over another file, and stops after so many calls.
+/// Begins a root file in place of a file of 4,097 bytes, and stops after `passes` calls.
 fn stop_begin(alloc: Global, passes: u64) -> Result<Stopped, DiskFault> {
     let mut disk = MemDisk::new(alloc, Numbers::new(alloc));
     write(&mut disk, 0, &[1; 4097])?;
@@ -356,7 +365,7 @@ fn stop_begin(alloc: Global, passes: u64) -> Result<Stopped, DiskFault> {
     })
 }
 
-/// Whether a crash at a moment leaves no root.
+/// Returns whether a crash at a moment leaves no root.
 fn has_no_root(disk: &MemDisk, at: u64, pick: u64) -> Result<bool, Fail> {
     if at > disk.moments() || pick > 3 {
         return Ok(false);
@@ -365,7 +374,7 @@ fn has_no_root(disk: &MemDisk, at: u64, pick: u64) -> Result<bool, Fail> {
     Ok(slot_read(&mut image) == Ok(None))
 }
 
-/// Looks at each image since the root file was begun.
+/// Checks each image since the root file was begun.
 fn look_at_begin(rt: &impl Abort, disk: &MemDisk, start: u64) -> Result<(), Fail> {
     for at in start..=disk.moments() {
         for pick in 0..4 {
@@ -375,14 +384,14 @@ fn look_at_begin(rt: &impl Abort, disk: &MemDisk, start: u64) -> Result<(), Fail
     Ok(())
 }
 
-/// Whether the root file has its size, and no byte but 0.
+/// Returns whether the root file has its size and all its bytes are 0.
 fn has_zeros<D: Disk>(disk: &mut D) -> Result<bool, DiskFault> {
     let mut file = [7; 4096];
     let count = disk.read(root_file(), 0, &mut file)?;
     Ok(count == 4096 && file.iter().all(|byte| *byte == 0))
 }
 
-/// Looks at each image since the root file was begun, and at the disk where that is done.
+/// Checks each image since the root file was begun, and the disk itself if that is done.
 fn look_at_begun(rt: &impl Abort, stopped: &mut Stopped, done: bool) -> Result<(), Fail> {
     assert_eq!(rt; (stopped.done, stopped.start), (done, 2));
     look_at_begin(rt, &stopped.disk, stopped.start)?;
@@ -394,13 +403,14 @@ fn look_at_begun(rt: &impl Abort, stopped: &mut Stopped, done: bool) -> Result<(
 fn a_stop_while_it_begins_opens_no_slot(rt: HostRuntime) -> Result<(), Fail> {
     for passes in 0..8 {
         let mut stopped = stop_begin(rt.alloc(), passes)?;
-        // A removal, two writes, and a sync after each.
+        // The calls are a removal and two writes, with a sync after each.
         look_at_begun(&rt, &mut stopped, passes >= 6)?;
     }
     Ok(())
 }
 
-/// A disk with a current root in slot 0, a twin of it in slot 1 where that is asked for, and another file.
+/// Writes a current root to slot 0, its copy to slot 1 with the gate shut if `twin` is set, and
+/// another file.
 fn settle(disk: &mut MemDisk, root: &Root, twin: bool) -> Result<(), DiskFault> {
     begin(disk)?;
     put(disk, 0, root, true)?;
@@ -414,7 +424,7 @@ fn settle(disk: &mut MemDisk, root: &Root, twin: bool) -> Result<(), DiskFault> 
     disk.sync()
 }
 
-/// Whether the current root of a disk is this one, in this slot.
+/// Returns whether the current root of a disk is this one, in this slot.
 fn has_root(disk: &mut MemDisk, slot: u8, root: &Root) -> Result<bool, RootRefusal> {
     match read(disk)? {
         Some((found, current)) => Ok(found == slot && spell(&current) == spell(root)),
@@ -422,7 +432,7 @@ fn has_root(disk: &mut MemDisk, slot: u8, root: &Root) -> Result<bool, RootRefus
     }
 }
 
-/// Commits a root of slot 1 behind one of slot 0, and stops after so many calls.
+/// Commits a root to slot 1 after one in slot 0, and stops after `passes` calls.
 fn stop_commit(alloc: Global, old: &Root, new: &Root, passes: u64) -> Result<Stopped, DiskFault> {
     let mut disk = MemDisk::new(alloc, Numbers::new(alloc));
     settle(&mut disk, old, passes % 2 == 0)?;
@@ -436,14 +446,15 @@ fn stop_commit(alloc: Global, old: &Root, new: &Root, passes: u64) -> Result<Sto
     })
 }
 
-/// Whether the other file of a disk is as it was.
+/// Returns whether the other file of a disk is unchanged.
 fn has_other(disk: &mut MemDisk) -> Result<bool, DiskFault> {
     let mut other = [0; 6];
     let count = disk.read(OTHER, 0, &mut other)?;
     Ok(count == 5 && &other == b"other\0")
 }
 
-/// Whether the new root is there, or the old one where the commit isn't done, and the other file.
+/// Returns whether the other file is there, and the new root, or the old one if the commit isn't
+/// done.
 fn is_old_or_new(image: &mut MemDisk, old: &Root, new: &Root, done: bool) -> Result<bool, Fail> {
     let changed = has_root(image, 1, new)?;
     let left = has_root(image, 0, old)?;
@@ -451,7 +462,8 @@ fn is_old_or_new(image: &mut MemDisk, old: &Root, new: &Root, done: bool) -> Res
     Ok(other && (changed || (left && !done)))
 }
 
-/// Whether a crash at a moment leaves the new root, or the old one where the commit isn't done.
+/// Returns whether a crash at a moment leaves the new root, or the old one if the commit isn't
+/// done.
 fn leaves_root(
     disk: &MemDisk,
     (at, pick): (u64, u64),
@@ -466,7 +478,7 @@ fn leaves_root(
     is_old_or_new(&mut image, old, new, done)
 }
 
-/// Looks at each image since the commit began. At the last moment it may be done.
+/// Checks each image since the commit began. At the last moment the commit may be done.
 fn look_at_commit(rt: &impl Abort, stopped: &Stopped, old: &Root, new: &Root) -> Result<(), Fail> {
     let end = stopped.disk.moments();
     for at in stopped.start..=end {
@@ -487,7 +499,7 @@ fn a_stop_leaves_the_old_root_or_the_new_one(rt: HostRuntime) -> Result<(), Fail
     let new = sample(2, 8).expect(&rt, "a root");
     for passes in 0..9 {
         let stopped = stop_commit(rt.alloc(), &old, &new, passes)?;
-        // A look at the length, three writes, and a sync after each.
+        // The calls are a look at the length and three writes, with a sync after each write.
         assert_eq!(rt; stopped.done, passes >= 7);
         look_at_commit(&rt, &stopped, &old, &new)?;
     }
