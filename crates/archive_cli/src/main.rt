@@ -16,9 +16,8 @@ use arch_base::NoMemory;
 use arguments::run_arguments;
 use program::print_no_memory;
 use real_edges::{FolderDisk, StdSink, StdSource, SystemClock};
-use std::env;
-use std::io;
 use std::process::ExitCode;
+use std::{env, io};
 
 /// The folder that keeps the archive, in the current one.
 const FOLDER: &str = "piv2-store";

@@ -12,8 +12,9 @@ const PAUSE: u64 = 5;
 /// How often the lock is asked for at most: with the pauses, for longer than any run waits.
 const TURNS: u32 = 4_000;
 
-/// Opens a folder and takes its lock, which lasts as long as the file that this returns. Returns None
-/// where there is no folder.
+/// Opens a folder and takes its lock, which lasts as long as the file that this returns. Returns None where there is no
+/// folder.
+///
 /// The lock is the system's own advisory one, on the folder itself, so that it leaves nothing in it, and ends with the
 /// run however that ends. While another run has it, it is asked for again, until the time to wait is over.
 pub(crate) fn lock_folder(
@@ -29,7 +30,7 @@ pub(crate) fn lock_folder(
     }
 }
 
-/// Opens a folder and takes its lock, or None where it wasn't to be had in the time.
+/// Opens a folder and takes its lock, or returns None where it wasn't to be had in the time.
 fn wait_for(rt: &HostRuntime, path: &str, wait: Duration) -> io::Result<Option<File>> {
     let pause = Duration::from_millis(PAUSE);
     let began = Instant::now(rt)?;
@@ -45,8 +46,8 @@ fn wait_for(rt: &HostRuntime, path: &str, wait: Duration) -> io::Result<Option<F
     Ok(None)
 }
 
-/// Opens a folder and takes its lock, or None where another run has it. None, too, where the folder that was opened no
-/// more stands at the path: another run may have removed it, and made it anew.
+/// Opens a folder and takes its lock, or returns None where another run has it. None, too, where the folder that was
+/// opened no more stands at the path: another run may have removed it, and made it anew.
 fn try_once(rt: &HostRuntime, path: &str) -> io::Result<Option<File>> {
     if !fs::metadata(rt, path)?.is_dir() {
         return Err(ErrorKind::NotADirectory.into());

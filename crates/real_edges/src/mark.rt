@@ -25,8 +25,8 @@ pub(crate) fn leave_mark(
     folder.sync_all()
 }
 
-/// Brings all files of a folder that is held to the disk, though a sync of an earlier run failed, and then takes the
-/// mark of that away. After such a failure the system may take what it couldn't write for written, and answer Ok to the
+/// Brings all files of a folder that is held to the disk, though a sync of an earlier run failed, and then removes the
+/// mark of that. After such a failure the system may take what it couldn't write for written, and answer Ok to the
 /// next sync: so all bytes are written again first. Where this fails, the mark stays.
 pub(crate) fn write_again(
     rt: &HostRuntime,
@@ -54,14 +54,15 @@ fn remove_mark(rt: &HostRuntime, alloc: Global, path: &str, folder: &File) -> io
     folder.sync_all()
 }
 
-/// Writes all bytes of these files again, and brings each file to the disk.
+/// Writes all bytes of these files again, and brings each file to the disk: a root, which says what of the others counts,
+/// after them.
 fn write_files(
     rt: &HostRuntime,
     alloc: Global,
     path: &str,
     names: &BTreeSet<FileName>,
 ) -> Result<(), Failure> {
-    for name in names.iter() {
+    for name in names.iter().rev() {
         let file = path_in(alloc, path, *name)?;
         if let Err(refused) = write_file(rt, alloc, file.as_str()) {
             return Err(Failure::on(Spot::File(*name), refused));
