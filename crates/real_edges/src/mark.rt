@@ -56,14 +56,15 @@ fn remove_mark(rt: &HostRuntime, alloc: Global, path: &str, folder: &File) -> io
     folder.sync_all()
 }
 
-/// Writes all bytes of these files again, and syncs each file.
+/// Writes all bytes of these files again, and syncs each file. The root, which says how much of the
+/// others counts, comes last.
 fn write_files(
     rt: &HostRuntime,
     alloc: Global,
     path: &str,
     names: &BTreeSet<FileName>,
 ) -> Result<(), Failure> {
-    for name in names.iter() {
+    for name in names.iter().rev() {
         let file = path_in(alloc, path, *name)?;
         if let Err(refused) = write_file(rt, alloc, file.as_str()) {
             return Err(Failure::on(Spot::File(*name), refused));
