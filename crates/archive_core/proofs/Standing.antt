@@ -1,8 +1,10 @@
 -- What a store keeps, and what its own disk leaves while nothing is done.
-use Rattle.std.specs.Prelude.{Option, Some, None}
-use Rattle.std.proofs.Common.{inl}
+use Rattle.std.specs.Prelude.{◌≡◌, ℕ, List, Option, Some, None}
+use Rattle.std.proofs.Common.{◌∙◌, sym, ap, inl}
 use Rattle.disk_model.specs.Disk.{Files, Content, Image}
-use Rattle.arch_model.specs.Archives.{Archive}
+use Rattle.arch_model.specs.Archives.{Archive, with_entry}
+use Rattle.arch_model.specs.Delivery.{Done, new_epoch}
+use Rattle.arch_model.specs.declared.answer.Answer.{Answer}
 use Rattle.epoch_store.specs.Laws.{StoreRecovers}
 use Rattle.epoch_store.specs.Stores.{View, Keeps, IsStoreOf, RecoversEither}
 
@@ -15,3 +17,8 @@ store_keeps v a (Some k) store = store.keeps
 pub stands : StoreRecovers → (v : View) (a b : Archive) (k : Option Content) (image : Files) → IsStoreOf v a k → Image k image → RecoversEither a b image
 stands law v a b None image store now = absurd store
 stands law v a b (Some k) image store now = inl ((law v a k store).0 image now)
+
+-- where a delivery is judged to take a text, the archive with that text is the one that it comes to
+pub archive_taken : (a : Archive) (text slice : List ℕ) (moment : ℕ) (wanted : Done) (reply : Answer) → slice ≡ text
+    → wanted ≡ record { archive = with_entry a (new_epoch a) text moment; answer = reply } → with_entry a (new_epoch a) slice moment ≡ wanted.archive
+archive_taken a text slice moment wanted reply is judged = ap (λ (t : List ℕ). with_entry a (new_epoch a) t moment) is ∙ sym (ap (λ (d : Done). d.archive) judged)

@@ -1,23 +1,21 @@
-use Rattle.std.proofs.Common.{◌∙◌, ◌≡◌, sym, ap, subst, List, ℕ}
+use Rattle.std.proofs.Common.{ap, subst}
 use Rattle.disk_model.specs.Disk.{LeavesOnly}
-use Rattle.arch_model.specs.Archives.{Archive, with_entry}
-use Rattle.arch_model.specs.Delivery.{Done, delivered, new_epoch}
+use Rattle.arch_model.specs.Archives.{Archive}
+use Rattle.arch_model.specs.Delivery.{Done, delivered}
 use Rattle.epoch_store.specs.Stores.{IsStoreOf, RecoversEither}
-use Rattle.archive_core.proofs.Standing.{store_keeps}
+use Rattle.archive_core.proofs.Standing.{archive_taken, store_keeps}
 use Rattle.archive_core.proofs.archive.DiskArchive.deliver.Goals as goal
 
 pub returns-in-Ok-clause-any_moment : goal.returns-in-Ok-clause-any_moment
 returns-in-Ok-clause-any_moment g c = λ a store room.
     let judged = c.in-Take.ensures.judged a (store_keeps c.args.self.now a (g.D.Disk.content c.args.disk.now) store) c.args.moment in
-    let same : with_entry a (new_epoch a) c.as_slice.result.now c.args.moment ≡ (delivered a c.args.bytes.now c.args.moment).archive =
-    ap (λ (t : List ℕ). with_entry a (new_epoch a) t c.args.moment) c.as_slice.ensures ∙ sym (ap (λ (d : Done). d.archive) judged) in
+    let same = archive_taken a _ c.as_slice.result.now c.args.moment (delivered a c.args.bytes.now c.args.moment) _ c.as_slice.ensures judged in
     subst (λ (b : Archive). LeavesOnly g.D.Disk.moment g.D.Disk.left_since c.args.disk.now c.keep.new.disk (RecoversEither a b)) same (c.keep.ensures.any_moment a store room)
 
 pub returns-in-Ok-clause-done : goal.returns-in-Ok-clause-done
 returns-in-Ok-clause-done g c = λ a store room.
     let judged = c.in-Take.ensures.judged a (store_keeps c.args.self.now a (g.D.Disk.content c.args.disk.now) store) c.args.moment in
-    let same : with_entry a (new_epoch a) c.as_slice.result.now c.args.moment ≡ (delivered a c.args.bytes.now c.args.moment).archive =
-    ap (λ (t : List ℕ). with_entry a (new_epoch a) t c.args.moment) c.as_slice.ensures ∙ sym (ap (λ (d : Done). d.archive) judged) in
+    let same = archive_taken a _ c.as_slice.result.now c.args.moment (delivered a c.args.bytes.now c.args.moment) _ c.as_slice.ensures judged in
     record {
       answer_is = ap (λ (d : Done). d.answer) judged;
       store = subst (λ (b : Archive). IsStoreOf c.keep.new.self b (g.D.Disk.content c.keep.new.disk)) same (c.in-Ok.ensures.done a store room);
@@ -26,6 +24,5 @@ returns-in-Ok-clause-done g c = λ a store room.
 pub returns-clause-any_moment : goal.returns-clause-any_moment
 returns-clause-any_moment g c = λ a store room.
     let judged = c.in-Take.ensures.judged a (store_keeps c.args.self.now a (g.D.Disk.content c.args.disk.now) store) c.args.moment in
-    let same : with_entry a (new_epoch a) c.as_slice.result.now c.args.moment ≡ (delivered a c.args.bytes.now c.args.moment).archive =
-    ap (λ (t : List ℕ). with_entry a (new_epoch a) t c.args.moment) c.as_slice.ensures ∙ sym (ap (λ (d : Done). d.archive) judged) in
+    let same = archive_taken a _ c.as_slice.result.now c.args.moment (delivered a c.args.bytes.now c.args.moment) _ c.as_slice.ensures judged in
     subst (λ (b : Archive). LeavesOnly g.D.Disk.moment g.D.Disk.left_since c.args.disk.now c.keep.new.disk (RecoversEither a b)) same (c.keep.ensures.any_moment a store room)

@@ -1,1 +1,0 @@
-use Rattle.archive_cli.proofs.program.replay_script.Goals as goal
