@@ -3,6 +3,7 @@ use crate::{FilePart, cut_files, file_names, law_of_fronts, remove_files};
 use arch_base::Numbers;
 use disk_model::{Disk, DiskFault, FileKind, FileName, FuseDisk, MemDisk, WalkRefusal};
 use std::alloc::Global;
+use std::process::Abort;
 use std::test::Fail;
 
 const M: FileName = FileName {
@@ -29,9 +30,8 @@ const C: FileName = FileName {
     gen_: 0,
 };
 
-/// A disk with three files: of the one, some bytes are not on the disk yet.
-fn filled(alloc: Global) -> Result<MemDisk, DiskFault> {
-    let mut disk = MemDisk::new(alloc, Numbers::new(alloc));
+/// Puts three files onto a disk: of the one, some bytes are not on the disk yet.
+fn fill<D: Disk>(disk: &mut D) -> Result<(), DiskFault> {
     disk.write_at(C, 0, b"cc")?;
     disk.write_at(A, 0, b"abcdef")?;
     disk.write_at(B, 0, b"xyz")?;
@@ -39,7 +39,13 @@ fn filled(alloc: Global) -> Result<MemDisk, DiskFault> {
     if disk.length(A)? != 6 {
         return Err(DiskFault);
     }
-    disk.write_at(A, 4, b"PQRS")?;
+    disk.write_at(A, 4, b"PQRS")
+}
+
+/// A disk with three files.
+fn filled(alloc: Global) -> Result<MemDisk, DiskFault> {
+    let mut disk = MemDisk::new(alloc, Numbers::new(alloc));
+    fill(&mut disk)?;
     Ok(disk)
 }
 
@@ -57,93 +63,199 @@ fn begins_with(disk: &mut MemDisk, name: FileName, bytes: &[u8]) -> Result<bool,
     Ok(buffer[..count].starts_with(bytes))
 }
 
+/// Whether a file reads as these bytes or as none.
+fn reads_as_or_nothing(
+    disk: &mut MemDisk,
+    name: FileName,
+    bytes: &[u8],
+) -> Result<bool, DiskFault> {
+    let whole = reads_as(disk, name, bytes)?;
+    let nothing = reads_as(disk, name, b"")?;
+    Ok(whole || nothing)
+}
+
+/// Whether a disk lists these names.
+fn lists<D: Disk>(alloc: Global, disk: &mut D, names: &[FileName]) -> Result<bool, WalkRefusal> {
+    Ok(file_names(alloc, disk)?.as_slice() == names)
+}
+
+/// Whether the names of three files are listed by four calls of the disk, and with fewer the fault is answered.
+fn lists_in_four_calls(alloc: Global, passes: u64) -> Result<bool, DiskFault> {
+    let mut fuse = FuseDisk::new(filled(alloc)?, passes);
+    // A look at each of three names, and one behind them.
+    match lists(alloc, &mut fuse, &[A, B, C]) {
+        Ok(listed) => Ok(passes >= 4 && listed),
+        Err(refusal) => Ok(passes < 4 && refusal == WalkRefusal::DiskFault),
+    }
+}
+
 #[test]
 fn all_names_are_listed_in_order(rt: HostRuntime) -> Result<(), Fail> {
     let alloc = rt.alloc();
-    let mut empty = MemDisk::new(alloc, Numbers::new(alloc));
-    assert!(rt; file_names(alloc, &mut empty)?.as_slice().is_empty());
+    assert!(rt; lists(alloc, &mut MemDisk::new(alloc, Numbers::new(alloc)), &[])?);
     for passes in 0..6 {
-        let mut fuse = FuseDisk::new(filled(alloc)?, passes);
-        // A look at each of three names, and one behind them.
-        match file_names(alloc, &mut fuse) {
-            Ok(names) => {
-                assert!(rt; passes >= 4);
-                assert_eq!(rt; names.as_slice(), [A, B, C].as_slice());
-            }
-            Err(refusal) => {
-                assert!(rt; passes < 4);
-                assert_eq!(rt; refusal, WalkRefusal::DiskFault);
-            }
+        assert!(rt; lists_in_four_calls(alloc, passes)?, "{passes}");
+    }
+    Ok(())
+}
+
+/// A disk on which a call was stopped: how many changes it had before, and whether the call is done.
+#[derive(Drop)]
+struct Stopped {
+    disk: MemDisk,
+    start: u64,
+    done: bool,
+}
+
+/// Stops three removals after so many calls.
+fn stop_removals(alloc: Global, passes: u64) -> Result<Stopped, DiskFault> {
+    let disk = filled(alloc)?;
+    let start = disk.moments();
+    let mut fuse = FuseDisk::new(disk, passes);
+    let done = remove_files(&mut fuse, &[B, M, C]).is_ok();
+    Ok(Stopped {
+        disk: fuse.into_inner(),
+        start,
+        done,
+    })
+}
+
+/// Whether each of two files is there or nothing of it, and of the third what was synced.
+fn is_removed_or_whole(image: &mut MemDisk) -> Result<bool, DiskFault> {
+    let first = begins_with(image, A, b"abcd")?;
+    let second = reads_as_or_nothing(image, B, b"xyz")?;
+    let third = reads_as_or_nothing(image, C, b"cc")?;
+    Ok(first && second && third)
+}
+
+/// Whether a crash at a moment leaves each file removed or whole.
+fn leaves_whole_files(disk: &MemDisk, at: u64, pick: u64) -> Result<bool, WalkRefusal> {
+    if at > disk.moments() || pick > 3 {
+        return Ok(false);
+    }
+    let mut image = disk.image(at, pick)?;
+    Ok(is_removed_or_whole(&mut image)?)
+}
+
+/// Looks at each image since the removals began.
+fn look_at_removals(rt: &impl Abort, disk: &MemDisk, start: u64) -> Result<(), WalkRefusal> {
+    for at in start..=disk.moments() {
+        for pick in 0..4 {
+            assert!(rt;
+                leaves_whole_files(disk, at, pick)?,
+                "moment {at}, pick {pick}"
+            );
         }
     }
+    Ok(())
+}
+
+/// Whether one file of the three is left, whole.
+fn has_one_file(alloc: Global, disk: &mut MemDisk) -> Result<bool, WalkRefusal> {
+    let listed = lists(alloc, disk, &[A])?;
+    let whole = reads_as(disk, A, b"abcdPQRS")?;
+    Ok(listed && whole)
+}
+
+/// Looks at each image since the removals began, and at the disk where they are done.
+fn look_at_removed(
+    rt: &impl Abort,
+    alloc: Global,
+    stopped: &mut Stopped,
+    done: bool,
+) -> Result<(), WalkRefusal> {
+    assert_eq!(rt; stopped.done, done);
+    look_at_removals(rt, &stopped.disk, stopped.start)?;
+    assert!(rt; !done || has_one_file(alloc, &mut stopped.disk)?);
     Ok(())
 }
 
 #[test]
 fn each_file_is_removed_or_as_before(rt: HostRuntime) -> Result<(), Fail> {
-    let alloc = rt.alloc();
     for passes in 0..5 {
-        let disk = filled(alloc)?;
-        let start = disk.moments();
-        let mut fuse = FuseDisk::new(disk, passes);
+        let mut stopped = stop_removals(rt.alloc(), passes)?;
         // Three removals.
-        let done = remove_files(&mut fuse, &[B, M, C]).is_ok();
-        assert_eq!(rt; done, passes >= 3);
-        let mut disk = fuse.into_inner();
-        for at in start..=disk.moments() {
-            for pick in 0..4 {
-                assert!(rt; at <= disk.moments() && pick <= 3);
-                let mut image = disk.image(at, pick)?;
-                assert!(rt; reads_as(&mut image, B, b"xyz")? || reads_as(&mut image, B, b"")?);
-                assert!(rt; reads_as(&mut image, C, b"cc")? || reads_as(&mut image, C, b"")?);
-                assert!(rt; begins_with(&mut image, A, b"abcd")?);
-            }
-        }
-        if done {
-            assert_eq!(rt; file_names(alloc, &mut disk)?.as_slice(), [A].as_slice());
-            assert!(rt; reads_as(&mut disk, A, b"abcdPQRS")?);
-        }
+        look_at_removed(&rt, rt.alloc(), &mut stopped, passes >= 3)?;
     }
     Ok(())
 }
 
-#[test]
-fn each_file_keeps_its_part(rt: HostRuntime) -> Result<(), Fail> {
-    law_of_fronts();
-    let alloc = rt.alloc();
+/// Stops the cuts of four files after so many calls.
+fn stop_cuts(alloc: Global, passes: u64) -> Result<Stopped, DiskFault> {
     let parts = [
         FilePart { file: A, length: 3 },
         FilePart { file: M, length: 5 },
         FilePart { file: B, length: 3 },
         FilePart { file: C, length: 0 },
     ];
+    let disk = filled(alloc)?;
+    let start = disk.moments();
+    let mut fuse = FuseDisk::new(disk, passes);
+    let done = cut_files(&mut fuse, &parts).is_ok();
+    Ok(Stopped {
+        disk: fuse.into_inner(),
+        start,
+        done,
+    })
+}
+
+/// Whether each file has its part, and no file more is there.
+fn has_parts(image: &mut MemDisk) -> Result<bool, DiskFault> {
+    let first = begins_with(image, A, b"abc")?;
+    let second = reads_as(image, B, b"xyz")?;
+    let third = reads_as_or_nothing(image, C, b"cc")?;
+    let more = image.name_at(3)?;
+    Ok(first && second && third && more.is_none())
+}
+
+/// Whether a crash at a moment leaves each file its part.
+fn leaves_parts(disk: &MemDisk, at: u64, pick: u64) -> Result<bool, WalkRefusal> {
+    if at > disk.moments() || pick > 3 {
+        return Ok(false);
+    }
+    let mut image = disk.image(at, pick)?;
+    Ok(has_parts(&mut image)?)
+}
+
+/// Looks at each image since the cuts began.
+fn look_at_cuts(rt: &impl Abort, disk: &MemDisk, start: u64) -> Result<(), WalkRefusal> {
+    for at in start..=disk.moments() {
+        for pick in 0..4 {
+            assert!(rt; leaves_parts(disk, at, pick)?, "moment {at}, pick {pick}");
+        }
+    }
+    Ok(())
+}
+
+/// Whether all three files are cut to their parts.
+fn is_cut(alloc: Global, disk: &mut MemDisk) -> Result<bool, WalkRefusal> {
+    let first = reads_as(disk, A, b"abc")?;
+    let second = reads_as(disk, B, b"xyz")?;
+    let listed = lists(alloc, disk, &[A, B, C])?;
+    let third = disk.length(C)?;
+    Ok(first && second && listed && third == 0)
+}
+
+/// Looks at each image since the cuts began, and at the disk where they are done.
+fn look_at_parts(
+    rt: &impl Abort,
+    alloc: Global,
+    stopped: &mut Stopped,
+    done: bool,
+) -> Result<(), WalkRefusal> {
+    assert_eq!(rt; stopped.done, done);
+    look_at_cuts(rt, &stopped.disk, stopped.start)?;
+    assert!(rt; !done || is_cut(alloc, &mut stopped.disk)?);
+    Ok(())
+}
+
+#[test]
+fn each_file_keeps_its_part(rt: HostRuntime) -> Result<(), Fail> {
+    law_of_fronts();
     for passes in 0..8 {
-        let disk = filled(alloc)?;
-        let start = disk.moments();
-        let mut fuse = FuseDisk::new(disk, passes);
+        let mut stopped = stop_cuts(rt.alloc(), passes)?;
         // Four looks at a length, and two cuts.
-        let done = cut_files(&mut fuse, &parts).is_ok();
-        assert_eq!(rt; done, passes >= 6);
-        let mut disk = fuse.into_inner();
-        for at in start..=disk.moments() {
-            for pick in 0..4 {
-                assert!(rt; at <= disk.moments() && pick <= 3);
-                let mut image = disk.image(at, pick)?;
-                assert!(rt; begins_with(&mut image, A, b"abc")?);
-                assert!(rt; reads_as(&mut image, B, b"xyz")?);
-                assert!(rt; reads_as(&mut image, C, b"cc")? || reads_as(&mut image, C, b"")?);
-                assert_eq!(rt; image.name_at(3)?, None);
-            }
-        }
-        if done {
-            assert!(rt; reads_as(&mut disk, A, b"abc")?);
-            assert!(rt; reads_as(&mut disk, B, b"xyz")?);
-            assert_eq!(rt;
-                file_names(alloc, &mut disk)?.as_slice(),
-                [A, B, C].as_slice()
-            );
-            assert_eq!(rt; disk.length(C)?, 0);
-        }
+        look_at_parts(&rt, rt.alloc(), &mut stopped, passes >= 6)?;
     }
     Ok(())
 }

@@ -3,6 +3,7 @@ use crate::{Record, Records, append, law_of_records, walk};
 use arch_base::{Id20, Numbers};
 use disk_model::{Disk, DiskFault, FileKind, FileName, FuseDisk, MemDisk, WalkRefusal};
 use std::alloc::Global;
+use std::process::Abort;
 use std::test::Fail;
 
 /// A map.
@@ -96,35 +97,86 @@ fn damage<D: Disk>(alloc: Global, disk: &mut D, count: u32) -> Result<Option<u64
     }
 }
 
+/// Whether no record is read of a map that isn't there.
+fn has_no_record<D: Disk>(alloc: Global, disk: &mut D) -> bool {
+    let none = damage(alloc, disk, 0) == Ok(None);
+    let one = damage(alloc, disk, 1) == Ok(Some(0));
+    none && one
+}
+
+/// Whether the map has the bytes of the three records.
+fn has_bytes<D: Disk>(disk: &mut D) -> Result<bool, DiskFault> {
+    let length = disk.length(MAP)?;
+    let mut bytes = [7; 84];
+    let count = disk.read(MAP, 0, &mut bytes)?;
+    Ok(length == 84 && count == 84 && bytes.as_slice() == BYTES)
+}
+
+/// Whether the three records are read, and copied.
+fn has_records<D: Disk>(alloc: Global, disk: &mut D) -> Result<bool, WalkRefusal> {
+    let lines: Records = walk(alloc, disk, MAP, 3)?;
+    let copied = lines.copy()?;
+    Ok(lines.as_slice() == LINES.as_slice() && copied.as_slice() == LINES.as_slice())
+}
+
+/// Puts the three records onto a disk without files, and reads them.
+fn append_and_read<D: Disk>(
+    rt: &impl Abort,
+    alloc: Global,
+    disk: &mut D,
+) -> Result<(), WalkRefusal> {
+    assert!(rt; has_no_record(alloc, disk));
+    put_three(disk)?;
+    assert!(rt; has_bytes(disk)?);
+    assert!(rt; has_records(alloc, disk)?);
+    assert_eq!(rt; damage(alloc, disk, 4), Ok(Some(84)));
+    Ok(())
+}
+
 #[test]
 fn what_was_appended_is_read(rt: HostRuntime) -> Result<(), Fail> {
     law_of_records();
     let mut disk = MemDisk::new(rt.alloc(), Numbers::new(rt.alloc()));
-    assert_eq!(rt; damage(rt.alloc(), &mut disk, 0), Ok(None));
-    assert_eq!(rt; damage(rt.alloc(), &mut disk, 1), Ok(Some(0)));
-    put_three(&mut disk)?;
-    assert_eq!(rt; disk.length(MAP)?, 84);
-    let mut bytes = [7; 84];
-    assert_eq!(rt; disk.read(MAP, 0, &mut bytes)?, 84);
-    assert!(rt; bytes.as_slice() == BYTES);
-    let lines: Records = walk(rt.alloc(), &mut disk, MAP, 3)?;
-    assert!(rt; lines.as_slice() == LINES.as_slice());
-    assert!(rt; lines.copy()?.as_slice() == LINES.as_slice());
-    assert_eq!(rt; damage(rt.alloc(), &mut disk, 4), Ok(Some(84)));
+    append_and_read(&rt, rt.alloc(), &mut disk)?;
     Ok(())
+}
+
+/// Where the three records are damaged when bytes are put over theirs.
+fn damage_of(alloc: Global, place: u64, bytes: &[u8]) -> Result<Option<u64>, WalkRefusal> {
+    let mut disk = MemDisk::new(alloc, Numbers::new(alloc));
+    put_three(&mut disk)?;
+    write(&mut disk, place, bytes)?;
+    damage(alloc, &mut disk, 3)
 }
 
 #[test]
 fn damage_is_at_the_first_bad_record(rt: HostRuntime) -> Result<(), Fail> {
     for (place, bytes, want) in &PATCHES {
-        let mut disk = MemDisk::new(rt.alloc(), Numbers::new(rt.alloc()));
-        put_three(&mut disk)?;
-        write(&mut disk, *place, bytes)?;
         assert_eq!(rt;
-            damage(rt.alloc(), &mut disk, 3),
+            damage_of(rt.alloc(), *place, bytes),
             Ok(*want),
             "place {place}"
         );
+    }
+    Ok(())
+}
+
+/// Where a map of so many bytes is damaged when three records are read of it.
+fn last_record(length: u64) -> u64 {
+    match length {
+        0..28 => 0,
+        28..56 => 28,
+        _ => 56,
+    }
+}
+
+/// Cuts a map of three records to each length below its own, from the greatest on, and reads it.
+fn cut_and_read<D: Disk>(rt: &impl Abort, alloc: Global, disk: &mut D) -> Result<(), DiskFault> {
+    for cut in 0..84u64 {
+        let length = 83 - cut;
+        trim(disk, length)?;
+        let want = Ok(Some(last_record(length)));
+        assert_eq!(rt; damage(alloc, disk, 3), want, "length {length}");
     }
     Ok(())
 }
@@ -133,69 +185,79 @@ fn damage_is_at_the_first_bad_record(rt: HostRuntime) -> Result<(), Fail> {
 fn a_map_cut_short_is_damaged_at_its_last_record(rt: HostRuntime) -> Result<(), Fail> {
     let mut disk = MemDisk::new(rt.alloc(), Numbers::new(rt.alloc()));
     put_three(&mut disk)?;
-    for cut in 0..84u64 {
-        let length = 83 - cut;
-        trim(&mut disk, length)?;
-        let want = if length < 28 {
-            0
-        } else if length < 56 {
-            28
-        } else {
-            56
+    cut_and_read(&rt, rt.alloc(), &mut disk)?;
+    Ok(())
+}
+
+/// Puts so many records onto a disk.
+fn put_many<D: Disk>(disk: &mut D, count: u32) -> Result<(), DiskFault> {
+    let blob = Id20(*b"abcdefghijklmnopqrst");
+    for before in 0..count {
+        let number = before.saturating_add(1);
+        let line = Record {
+            number,
+            epoch: number % 64,
+            blob,
         };
-        assert_eq!(rt;
-            damage(rt.alloc(), &mut disk, 3),
-            Ok(Some(want)),
-            "length {length}"
-        );
+        put(disk, 28 * u64::from(before), &line)?;
     }
+    Ok(())
+}
+
+/// Whether so many records are read, and the last of them is that of its number.
+fn has_many<D: Disk>(alloc: Global, disk: &mut D, count: u32) -> Result<bool, WalkRefusal> {
+    let lines = walk(alloc, disk, MAP, count)?;
+    let Some(last) = lines.as_slice().last() else {
+        return Ok(false);
+    };
+    let placed = last.number == count && last.epoch == count % 64;
+    Ok(placed && lines.as_slice().len() == count as usize)
+}
+
+/// Whether a number of the second piece that is another one is found, and not where it isn't read.
+fn is_found_in_second<D: Disk>(alloc: Global, disk: &mut D) -> bool {
+    let before = damage(alloc, disk, 2_340) == Ok(None);
+    let there = damage(alloc, disk, 4_681) == Ok(Some(65_520));
+    before && there
+}
+
+/// Reads a map of 4,681 records up to the ends of its pieces, and damages the second one.
+fn read_pieces<D: Disk>(rt: &impl Abort, alloc: Global, disk: &mut D) -> Result<(), WalkRefusal> {
+    for count in [2_339, 2_340, 2_341, 4_679, 4_680, 4_681] {
+        assert!(rt; has_many(alloc, disk, count)?, "{count}");
+    }
+    assert_eq!(rt; damage(alloc, disk, 4_682), Ok(Some(131_068)));
+    // The first number of the second piece.
+    write(disk, 65_523, b"\x00")?;
+    assert!(rt; is_found_in_second(alloc, disk));
     Ok(())
 }
 
 #[test]
 fn a_map_of_many_pieces_is_read(rt: HostRuntime) -> Result<(), Fail> {
     let mut disk = MemDisk::new(rt.alloc(), Numbers::new(rt.alloc()));
-    let blob = Id20(*b"abcdefghijklmnopqrst");
-    for number in 1..4_682u32 {
-        let at = 28 * (u64::from(number) - 1);
-        let epoch = number % 64;
-        put(
-            &mut disk,
-            at,
-            &Record {
-                number,
-                epoch,
-                blob,
-            },
-        )?;
-    }
-    for count in [2_339, 2_340, 2_341, 4_679, 4_680, 4_681] {
-        let lines = walk(rt.alloc(), &mut disk, MAP, count)?;
-        assert_eq!(rt; lines.as_slice().len(), count as usize);
-        let last = lines.as_slice().last().expect(&rt, "a record");
-        assert_eq!(rt; (last.number, last.epoch), (count, count % 64));
-    }
-    assert_eq!(rt; damage(rt.alloc(), &mut disk, 4_682), Ok(Some(131_068)));
-    // The first number of the second piece.
-    write(&mut disk, 65_523, b"\x00")?;
-    assert_eq!(rt; damage(rt.alloc(), &mut disk, 2_340), Ok(None));
-    assert_eq!(rt; damage(rt.alloc(), &mut disk, 4_681), Ok(Some(65_520)));
+    put_many(&mut disk, 4_681)?;
+    read_pieces(&rt, rt.alloc(), &mut disk)?;
     Ok(())
+}
+
+/// Whether a disk that stops after so many calls answers its fault, and with seven the map.
+fn is_read_in_seven_calls(alloc: Global, passes: u64) -> bool {
+    let mut fuse = FuseDisk::new(MemDisk::new(alloc, Numbers::new(alloc)), passes);
+    // A look at the length and a write for each record, and one read.
+    let put = put_three(&mut fuse).is_ok();
+    let want = if passes >= 7 {
+        Ok(None)
+    } else {
+        Err(WalkRefusal::DiskFault)
+    };
+    put == (passes >= 6) && damage(alloc, &mut fuse, 3) == want
 }
 
 #[test]
 fn a_call_that_fails_is_no_answer(rt: HostRuntime) -> Result<(), Fail> {
     for passes in 0..8 {
-        let disk = MemDisk::new(rt.alloc(), Numbers::new(rt.alloc()));
-        let mut fuse = FuseDisk::new(disk, passes);
-        // A look at the length and a write for each record, and one read.
-        assert_eq!(rt; put_three(&mut fuse).is_ok(), passes >= 6);
-        let want = if passes == 7 {
-            Ok(None)
-        } else {
-            Err(WalkRefusal::DiskFault)
-        };
-        assert_eq!(rt; damage(rt.alloc(), &mut fuse, 3), want, "{passes}");
+        assert!(rt; is_read_in_seven_calls(rt.alloc(), passes), "{passes}");
     }
     Ok(())
 }

@@ -306,17 +306,23 @@ fn has_one_size<D: Disk>(disk: &mut D) -> Result<bool, DiskFault> {
     Ok(more && same && slot_read(disk) == Ok(None))
 }
 
+/// Looks at the roots of all pairs of slots, and at root files that are broken.
+fn look_at_newest<D: Disk>(rt: &impl Abort, disk: &mut D) -> Result<(), DiskFault> {
+    assert!(rt; begins_without(disk)?);
+    for (index, roots) in NEWEST.iter().enumerate() {
+        assert!(rt; is_newest(disk, roots)?, "{index}");
+    }
+    // The open slot of greater sequence is broken.
+    write(disk, 2568, &[9])?;
+    assert!(rt; is_second_damaged(disk));
+    assert!(rt; has_one_size(disk)?);
+    Ok(())
+}
+
 #[test]
 fn the_open_slot_of_greater_sequence_is_read(rt: HostRuntime) -> Result<(), Fail> {
     let mut disk = MemDisk::new(rt.alloc(), Numbers::new(rt.alloc()));
-    assert!(rt; begins_without(&mut disk)?);
-    for (index, roots) in NEWEST.iter().enumerate() {
-        assert!(rt; is_newest(&mut disk, roots)?, "{index}");
-    }
-    // The open slot of greater sequence is damaged.
-    write(&mut disk, 2568, &[9])?;
-    assert!(rt; is_second_damaged(&mut disk));
-    assert!(rt; has_one_size(&mut disk)?);
+    look_at_newest(&rt, &mut disk)?;
     Ok(())
 }
 
