@@ -5,3 +5,4 @@ pub mod Parting
 pub mod Plain
 pub mod Marks
 pub mod Mailboxes
+pub mod Joined

@@ -366,7 +366,7 @@ said_bytes : (xs : List ℕ) → Lacks 32 xs → address_said (map Byte xs) ≡ 
 said_bytes [] lacks = refl
 said_bytes (x ∷ xs) lacks = rw lacks.0 (ap (λ (ys : List ℕ). x ∷ ys) (said_bytes xs lacks.1))
 
-lacks : (c : ℕ) (xs : List ℕ) → HasNo c xs → Lacks c xs
+pub lacks : (c : ℕ) (xs : List ℕ) → HasNo c xs → Lacks c xs
 lacks c [] h = tt
 lacks c (x ∷ xs) h = (false_from_ne_true (x == c) (λ e. h 0 (eqb-true x c e)), lacks c xs (λ k. h (suc k)))
 

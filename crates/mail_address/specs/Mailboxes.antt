@@ -1,5 +1,5 @@
 -- Lists of mailboxes with quoted names, comments, routes and groups are read back.
-use Rattle.std.specs.Prelude.{◌≡◌, ◌≢◌, ◌⊎◌, ℕ, Bool, ◌&&◌, not, ◌==◌, List, [], ◌∷◌, ◌++◌, codes, map, slice_index, if◌then◌else◌}
+use Rattle.std.specs.Prelude.{◌≡◌, ◌≢◌, ◌⊎◌, ◌<◌, ℕ, Bool, ◌&&◌, not, ◌==◌, List, [], ◌∷◌, ◌++◌, codes, map, length, replicate, slice_index, if◌then◌else◌}
 use Rattle.std.specs.List.{AllPass, flat_map}
 use Rattle.mail_address.specs.declared.address.AddressKind.TheVariants.{Mailbox, GroupStart, GroupEnd}
 use Rattle.mail_address.specs.declared.address.Address.{Address}
@@ -119,3 +119,36 @@ member_said (Group name mailboxes) =
 -- comments, spaces and routes, and groups with their mailboxes.
 abbrev pub MembersReadBack : Type 0
 MembersReadBack = (members : List Member) → AreMembers members → addresses_of (member_list members) ≡ flat_map member_said members
+
+-- a word with so many spaces in front of it
+pub record SpacedWord : Type 0 where
+  pub gap : ℕ
+  pub word : List ℕ
+
+-- a word isn't empty and has no space
+pub record IsWord (word : List ℕ) : Type 0 where
+  pub some : 0 < length word
+  pub solid : HasNo 32 word
+
+-- words that may follow another: each has a space in front of it at least
+abbrev pub AreLater : List SpacedWord → Type 0
+AreLater [] = Unit {0}
+AreLater (w ∷ words) = IsWord w.word × (0 < w.gap) × AreLater words
+
+abbrev pub AreWords : List SpacedWord → Type 0
+AreWords [] = Unit {0}
+AreWords (w ∷ words) = IsWord w.word × AreLater words
+
+-- the words with their spaces
+abbrev pub spaced_bytes : SpacedWord → List ℕ
+spaced_bytes w = replicate w.gap 32 ++ w.word
+
+-- the words one space apart
+abbrev pub one_apart : List SpacedWord → List ℕ
+one_apart [] = []
+one_apart (w ∷ words) = w.word ++ flat_map (λ (v : SpacedWord). 32 ∷ v.word) words
+
+-- What words say in a name, with whatever spaces in front of them, between them and behind them, are the words one space apart.
+abbrev pub WordsAreJoined : Type 0
+WordsAreJoined =
+    (words : List SpacedWord) (behind : ℕ) → AreWords words → joined_words (flat_map spaced_bytes words ++ replicate behind 32) ≡ one_apart words

@@ -1,6 +1,6 @@
 //! What holds of the addresses of a list, as contracts of calls that do nothing.
 ghost use Rattle.mail_address.specs.Laws.{EmptyValue, OutsideIsBetween, PlainReadBack};
-ghost use Rattle.mail_address.specs.Mailboxes.{MembersReadBack};
+ghost use Rattle.mail_address.specs.Mailboxes.{MembersReadBack, WordsAreJoined};
 
 /// A value without bytes has no addresses.
 pub fn empty_value()
@@ -21,4 +21,9 @@ pub fn outside_is_between()
 /// as they are.
 pub fn members_read_back()
     ensures { MembersReadBack }
+{}
+
+/// Words in a name, with whatever spaces in front of them, between them and behind them, are told one space apart.
+pub fn words_are_joined()
+    ensures { WordsAreJoined }
 {}

@@ -10,7 +10,9 @@ mod reading;
 mod words;
 
 pub use address::{Address, AddressKind, Addresses};
-pub use laws::{empty_value, members_read_back, outside_is_between, plain_read_back};
+pub use laws::{
+    empty_value, members_read_back, outside_is_between, plain_read_back, words_are_joined,
+};
 pub use reading::list;
 
 #[cfg(test)]
