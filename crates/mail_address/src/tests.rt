@@ -70,7 +70,7 @@ const GROUPS: [Row; 16] = [
 #[test]
 fn reads_names(rt: HostRuntime) -> Result<(), Fail> {
     for (value, want) in NAMES {
-        assert!(rt; is_read_as(rt.alloc(), value, want)?, "{value:?}");
+        assert!(rt; is_read_as(rt.alloc(), value, want)?);
     }
     Ok(())
 }
@@ -78,7 +78,7 @@ fn reads_names(rt: HostRuntime) -> Result<(), Fail> {
 #[test]
 fn reads_addresses(rt: HostRuntime) -> Result<(), Fail> {
     for (value, want) in ADDRESSES {
-        assert!(rt; is_read_as(rt.alloc(), value, want)?, "{value:?}");
+        assert!(rt; is_read_as(rt.alloc(), value, want)?);
     }
     Ok(())
 }
@@ -86,12 +86,13 @@ fn reads_addresses(rt: HostRuntime) -> Result<(), Fail> {
 #[test]
 fn reads_lists_and_groups(rt: HostRuntime) -> Result<(), Fail> {
     for (value, want) in GROUPS {
-        assert!(rt; is_read_as(rt.alloc(), value, want)?, "{value:?}");
+        assert!(rt; is_read_as(rt.alloc(), value, want)?);
     }
     empty_value();
     outside_is_between();
     plain_read_back();
     members_read_back();
+    words_are_joined();
     Ok(())
 }
 
@@ -106,17 +107,25 @@ fn is_read_as(alloc: Global, value: &[u8], want: &[u8]) -> Result<bool, NoMemory
 fn shown(alloc: Global, addresses: &Addresses) -> Result<Bytes, NoMemory> {
     let mut text = Bytes::new(alloc);
     for address in addresses.as_slice() {
-        text.push_slice(match address.kind {
-            AddressKind::Mailbox => b"M ",
-            AddressKind::GroupStart => b"G ",
-            AddressKind::GroupEnd => b"E ",
-        })?;
-        text.push_slice(address.name.as_slice())?;
-        text.push(b'|')?;
-        text.push_slice(address.mailbox.as_slice())?;
-        text.push(b'|')?;
-        text.push_slice(address.host.as_slice())?;
-        text.push(b';')?;
+        push_address(&mut text, address)?;
     }
     Ok(text)
+}
+
+/// Puts an address so shown at the end of a text.
+fn push_address(text: &mut Bytes, address: &Address) -> Result<(), NoMemory> {
+    text.push_slice(match address.kind {
+        AddressKind::Mailbox => b"M ",
+        AddressKind::GroupStart => b"G ",
+        AddressKind::GroupEnd => b"E ",
+    })?;
+    push_part(text, &address.name, b'|')?;
+    push_part(text, &address.mailbox, b'|')?;
+    push_part(text, &address.host, b';')
+}
+
+/// Puts a part of an address and a byte behind it at the end of a text.
+fn push_part(text: &mut Bytes, part: &Bytes, end: u8) -> Result<(), NoMemory> {
+    text.push_slice(part.as_slice())?;
+    text.push(end)
 }

@@ -1,7 +1,9 @@
 //! Forms worked out by hand from the rules, and each call once with ample memory.
 ghost use Rattle.std.specs.Prelude.{◌≡◌, ◌≤◌, IfOk, vec_len};
 
-use crate::{StoredRefusal, body, content_id, fields, flat, is_stored, own_id, refs_of, stored};
+use crate::{
+    Fields, StoredRefusal, body, content_id, fields, flat, is_stored, own_id, refs_of, stored,
+};
 use arch_base::{Bytes, NoMemory, decimal};
 use std::alloc::{AllocError, Global};
 use std::test::Fail;
@@ -141,6 +143,11 @@ fn mails_are_taken_up_to_8388608_bytes(rt: HostRuntime) {
         };
         assert!(rt; form_len(alloc, mail.as_slice()) == Ok(form));
     }
+}
+
+#[test]
+fn longer_mails_are_refused(rt: HostRuntime) {
+    let alloc = rt.alloc();
     let Ok(mut mail) = long_mail(alloc, 8_388_609) else {
         return assert!(rt; false);
     };
@@ -228,19 +235,20 @@ fn ids_have_up_to_248_bytes_between_their_brackets(rt: HostRuntime) -> Result<()
     Ok(())
 }
 
+/// Whether the next of the fields that are left has this name, this value and these bytes.
+fn is_next(left: &mut Fields<'_>, name: &[u8], value: &[u8], whole: &[u8]) -> bool {
+    match left.next() {
+        Some(field) => field.name == name && field.value == value && field.whole == whole,
+        None => false,
+    }
+}
+
 #[test]
 fn fields_are_lent(rt: HostRuntime) {
     let text = b"A: b\n c\nD:e\n\nf\n";
     let mut left = fields(text);
-    let Some(first) = left.next() else {
-        return assert!(rt; false);
-    };
-    assert!(rt; first.name == b"A".as_slice() && first.value == b" b\n c".as_slice());
-    assert!(rt; first.whole == b"A: b\n c\n".as_slice());
-    let Some(second) = left.next() else {
-        return assert!(rt; false);
-    };
-    assert!(rt; second.name == b"D".as_slice() && second.value == b"e".as_slice());
+    assert!(rt; is_next(&mut left, b"A", b" b\n c", b"A: b\n c\n"));
+    assert!(rt; is_next(&mut left, b"D", b"e", b"D:e\n"));
     assert!(rt; left.next().is_none());
 }
 
