@@ -1,6 +1,6 @@
 -- Text outside of words that are read.
-use Rattle.std.proofs.Common.{◌≡◌, ◌⊎◌, inl, inr, ◌<◌, ◌≤◌, ◌+◌, ◌∙◌, ℕ, zero, suc, Bool, true, false, cond, not, nat_le, ◌&&◌, ◌||◌, ◌==◌, codes, Option, List, [], ◌∷◌, ◌++◌, length, take, drop, get_or, Some, None, refl, ap, sym, append_assoc, length-append, arith}
-use Rattle.std.specs.List.{flat_map, list_all, All}
+use Rattle.std.proofs.Common.{◌≡◌, ◌⊎◌, inl, inr, ◌≤◌, ◌+◌, ◌∙◌, ℕ, suc, Bool, true, false, cond, not, ◌&&◌, ◌||◌, ◌==◌, codes, Option, List, [], ◌∷◌, ◌++◌, length, take, drop, get_or, Some, None, refl, ap, sym, append_assoc, length-append, arith}
+use Rattle.std.specs.List.{list_all, All}
 use Rattle.std.specs.Char.{to_ascii_lowercase}
 use Rattle.std.specs.Str.{str_to_ascii_lowercase, bytes_eq}
 use Rattle.std.proofs.lemmas.Bool.{false_from_ne_true, both_ways, eqb-true, and_parts}
@@ -14,7 +14,7 @@ use Rattle.mime_words.specs.declared.encoding.Encoding.{Encoding}
 use Rattle.mime_words.specs.declared.encoding.Encoding.TheVariants.{Base64, Quoted}
 use Rattle.mime_words.specs.Words.{EncodedText, charset_of, is_charset_byte, is_text_byte, encoding_of, word_at, word_len, plain, pieces}
 use Rattle.mime_words.specs.Laws.{HasNoOpening, IsSpelled}
-use Rattle.mime_words.specs.Spelled.{IsName, AnyWord, any_bytes, IsNameByte, IsTextByte, IsAnyWord, BeginsNoWord, OuterPart, Stretch, Foreign, Stray, outer_bytes, outer_text, IsNoStretch, AreOuter}
+use Rattle.mime_words.specs.Spelled.{IsName, AnyWord, any_bytes, IsNameByte, IsTextByte, IsAnyWord, BeginsNoWord, OuterPart, Stretch, Foreign, Stray, outer_text, IsNoStretch, AreOuter}
 use Rattle.mime_words.proofs.Cutting.{pieces-no_word, pieces-text_word, plain-append}
 use Rattle.mime_words.proofs.Joining.{piece}
 use Rattle.mime_words.proofs.Plain.{no_word}
@@ -112,17 +112,19 @@ any_found : (word : AnyWord) → IsAnyWord word → (ys : List ℕ)
     → (encoding : Encoding) × (word_at (any_bytes word ++ ys) ≡ Some (record { charset = word.name; encoding = encoding; text = word.text }))
 any_found word w ys =
     let letter = letter_read word.letter w.letter in
-    let all : any_bytes word ++ ys ≡ 61 ∷ 63 ∷ (word.name ++ (63 ∷ word.letter ∷ 63 ∷ (word.text ++ (63 ∷ 61 ∷ ys)))) = simp append_assoc in
-    (letter.0, spelled (any_bytes word ++ ys) (record { charset = word.name; encoding = letter.0; text = word.text })
-    (record {
-      letter = word.letter;
-      behind = ys;
-      spelling = all;
-      named = w.some;
-      name = name_passes word.name w.name;
-      encoding = letter.1;
-      text = text_passes word.text w.text;
-    }))
+    let all : any_bytes word ++ ys ≡ 61 ∷ 63 ∷ (word.name ++ (63 ∷ word.letter ∷ 63 ∷ (word.text ++ (63 ∷ 61 ∷ ys)))) = simp append_assoc in (
+      letter.0,
+      spelled (any_bytes word ++ ys) (record { charset = word.name; encoding = letter.0; text = word.text })
+          (record {
+            letter = word.letter;
+            behind = ys;
+            spelling = all;
+            named = w.some;
+            name = name_passes word.name w.name;
+            encoding = letter.1;
+            text = text_passes word.text w.text;
+          }),
+    )
 
 -- what is found is a word of some charset
 found_any : (bytes : List ℕ) (word : EncodedText) → word_at bytes ≡ Some word → BeginsNoWord bytes → ⊥

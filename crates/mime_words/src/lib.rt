@@ -12,5 +12,8 @@ mod tests;
 mod words;
 
 pub use decoding::decode;
-pub use laws::{encoded_bytes, lone_equals_stays, loose_base64, spelled_is_said, value_without_words, words_are_spelled};
+pub use laws::{
+    encoded_bytes, lone_equals_stays, loose_base64, spelled_is_said, value_without_words,
+    words_are_spelled,
+};
 pub use symbols::unbase64;
