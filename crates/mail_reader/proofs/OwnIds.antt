@@ -39,10 +39,10 @@ first_found (f ∷ fs) field e = step (str_eq_ignore_ascii_case f.name (codes "M
           later = found.later;
           split = ap (λ xs. f ∷ xs) found.split;
           others = λ other c. elim (contains_cases f found.front other c) as (λ _. str_to_ascii_lowercase other.name ≢ codes "message-id") [
-              | inl same ↦ subst (λ (g : FieldText). str_to_ascii_lowercase g.name ≢ codes "message-id") same
-                  (λ e. both_ways (str_eq_ignore_ascii_case f.name (codes "Message-ID")) is (is_same_name f.name e))
-              | inr among ↦ found.others other among
-            ];
+            | inl same ↦ subst (λ (g : FieldText). str_to_ascii_lowercase g.name ≢ codes "message-id") same
+                (λ e. both_ways (str_eq_ignore_ascii_case f.name (codes "Message-ID")) is (is_same_name f.name e))
+            | inr among ↦ found.others other among
+          ];
           name = found.name;
         }
 
