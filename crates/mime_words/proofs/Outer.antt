@@ -1,6 +1,6 @@
 -- Text outside of words that are read.
-use Rattle.std.proofs.Common.{◌≡◌, ◌⊎◌, inl, inr, ◌<◌, ◌≤◌, ◌+◌, ◌∙◌, ℕ, zero, suc, Bool, true, false, cond, not, nat_le, ◌&&◌, ◌||◌, ◌==◌, codes, Option, List, [], ◌∷◌, ◌++◌, length, take, drop, get_or, Some, None, refl, ap, sym, append_assoc, length-append, arith}
-use Rattle.std.specs.List.{flat_map, list_all, All}
+use Rattle.std.proofs.Common.{◌≡◌, ◌⊎◌, inl, inr, ◌≤◌, ◌+◌, ◌∙◌, ℕ, suc, Bool, true, false, cond, not, ◌&&◌, ◌||◌, ◌==◌, codes, Option, List, [], ◌∷◌, ◌++◌, length, take, drop, get_or, Some, None, refl, ap, sym, append_assoc, length-append, arith}
+use Rattle.std.specs.List.{list_all, All}
 use Rattle.std.specs.Char.{to_ascii_lowercase}
 use Rattle.std.specs.Str.{str_to_ascii_lowercase, bytes_eq}
 use Rattle.std.proofs.lemmas.Bool.{false_from_ne_true, both_ways, eqb-true, and_parts}
@@ -14,7 +14,7 @@ use Rattle.mime_words.specs.declared.encoding.Encoding.{Encoding}
 use Rattle.mime_words.specs.declared.encoding.Encoding.TheVariants.{Base64, Quoted}
 use Rattle.mime_words.specs.Words.{EncodedText, charset_of, is_charset_byte, is_text_byte, encoding_of, word_at, word_len, plain, pieces}
 use Rattle.mime_words.specs.Laws.{HasNoOpening, IsSpelled}
-use Rattle.mime_words.specs.Spelled.{IsName, AnyWord, any_bytes, IsNameByte, IsTextByte, IsAnyWord, BeginsNoWord, OuterPart, Stretch, Foreign, Stray, outer_bytes, outer_text, IsNoStretch, AreOuter}
+use Rattle.mime_words.specs.Spelled.{IsName, AnyWord, any_bytes, IsNameByte, IsTextByte, IsAnyWord, BeginsNoWord, OuterPart, Stretch, Foreign, Stray, outer_text, IsNoStretch, AreOuter}
 use Rattle.mime_words.proofs.Cutting.{pieces-no_word, pieces-text_word, plain-append}
 use Rattle.mime_words.proofs.Joining.{piece}
 use Rattle.mime_words.proofs.Plain.{no_word}

@@ -1,28 +1,24 @@
 -- A value that is spelled from words and text is decoded as they say.
-use Rattle.std.proofs.Common.{◌≡◌, inl, inr, ◌<◌, ◌≤◌, ◌+◌, ◌-◌, ◌*◌, ◌∙◌, ℕ, zero, suc, Bool, true, false, cond, not, nat_le, ◌&&◌, ◌==◌, codes, Option, List, [], ◌∷◌, ◌++◌, length, map, drop, get_or, replicate, Some, None, refl, ap, sym, subst, append_assoc, append-nil, length-append, arith}
+use Rattle.std.proofs.Common.{◌≡◌, inl, inr, ◌<◌, ◌+◌, ◌∙◌, ℕ, zero, suc, Bool, true, false, cond, ◌&&◌, codes, List, [], ◌∷◌, ◌++◌, length, map, drop, get_or, replicate, Some, None, refl, ap, sym, append_assoc, append-nil, length-append, arith}
 use Rattle.std.specs.List.{flat_map, list_all}
 use Rattle.std.specs.Str.Lossy.{utf8_lossy}
-use Rattle.std.proofs.lemmas.Bool.{false_from_ne_true, both_ways, eqb-true, and_parts}
-use Rattle.std.proofs.lemmas.Bool.Decides.{nat_tests}
+use Rattle.std.proofs.lemmas.Bool.{false_from_ne_true}
 use Rattle.std.proofs.lemmas.List.{drop_at, length-map}
 use Rattle.std.specs.Char.{to_ascii_lowercase}
-use Rattle.std.specs.Str.{str_to_ascii_lowercase, bytes_eq}
+use Rattle.std.specs.Str.{str_to_ascii_lowercase}
 use Rattle.mime_words.specs.declared.charset.Charset.{Charset}
 use Rattle.mime_words.specs.declared.charset.Charset.TheVariants.{Utf8, UsAscii, Latin1}
 use Rattle.mime_words.specs.declared.encoding.Encoding.{Encoding}
 use Rattle.mime_words.specs.declared.encoding.Encoding.TheVariants.{Base64, Quoted}
-use Rattle.mime_words.specs.Quoted.{hex_value, spelled as spelled_by, escape_or_plain, plain_byte, unquoted}
 use Rattle.mime_words.specs.Words.{EncodedText, charset_of, is_charset_byte, is_text_byte, encoding_of, word_at, word_len, bytes_of, Piece, plain, pieces}
 use Rattle.mime_words.specs.Decoding.{is_blank, same_charset, before, joined, without_gaps, text_of, decoded}
-use Rattle.mime_words.specs.Laws.{HasNoOpening}
-use Rattle.mime_words.specs.Spelled.{QuotedPart, Itself, Underscore, Digits, Equals, is_itself, IsDigit, BeginsWithDigits, HasNoDigits, LoneEqualsStays, AreQuoted, quoted_bytes, quoted_said, Coded, InQ, InBase64, IsCoded, coded_bytes, coded_said, IsLetter, IsName, WrittenWord, IsWord, word_bytes, spaced_word, word_said, outer_text, Run, Plain, Words, run_bytes, run_said, read_in, Before, Start, AfterText, AfterWords, AreRuns, AllWords, MayBeWords, IsNoGap, SpelledIsSaid}
-use Rattle.mime_words.proofs.Cutting.{pieces-no_word, pieces-read_word}
+use Rattle.mime_words.specs.Spelled.{Coded, InQ, InBase64, IsCoded, coded_bytes, coded_said, IsLetter, IsName, WrittenWord, IsWord, word_bytes, spaced_word, word_said, outer_text, Run, Plain, Words, run_bytes, run_said, read_in, Before, Start, AfterText, AfterWords, AreRuns, AllWords, MayBeWords, IsNoGap, SpelledIsSaid}
+use Rattle.mime_words.proofs.Cutting.{pieces-read_word}
 use Rattle.mime_words.proofs.Joining.{piece, same-true, before_same, joined_plain}
 use Rattle.mime_words.proofs.Gaps.{text_by, without_gaps-end}
-use Rattle.mime_words.proofs.Plain.{no_word}
 use Rattle.mime_words.proofs.Padded.{loose}
 use Rattle.mime_words.proofs.Spelling.{spelled}
-use Rattle.mime_words.proofs.Quoting.{and_true, quoted_is, quoted_text}
+use Rattle.mime_words.proofs.Quoting.{quoted_is, quoted_text}
 use Rattle.mime_words.proofs.Outer.{small_bytes, small_charset, text_passes, pieces_outer}
 
 -- a word, as it is found
