@@ -1,11 +1,12 @@
 //! Epochs of three entries whose bytes were made by another program: what is written, what is seen of them, and where they
 //! are damaged.
-use crate::{NewEntry, Seen, SeenList, StoreRefusal, Written, append_entry, law_of_epochs, walk};
+use crate::{NewEntry, Seen, StoreRefusal, Written, append_entry, law_of_epochs, walk};
 use arch_base::{Bytes, NoMemory, Numbers, ObjectId, id_of_hex};
 use arch_model::push_entry;
 use disk_model::{Disk, DiskFault, FileKind, FileName, FuseDisk, MemDisk, WalkRefusal};
 use git_objects::object_id;
 use std::alloc::Global;
+use std::process::Abort;
 use std::test::Fail;
 
 const FIRST: &[u8] =
@@ -185,15 +186,20 @@ fn is_broken<D: Disk>(alloc: Global, disk: &mut D, place: u64) -> Result<bool, D
     Ok(read == 1 && same)
 }
 
+/// Makes each byte of the epoch another one and back, and walks it.
+fn break_each<D: Disk>(rt: &impl Abort, alloc: Global, disk: &mut D) -> Result<(), DiskFault> {
+    for place in 0..LENGTH {
+        assert!(rt; is_broken(alloc, disk, place)?, "place {place}");
+    }
+    assert_eq!(rt; count(alloc, disk, LENGTH), Ok(3));
+    Ok(())
+}
+
 #[test]
 fn each_byte_that_is_another_one_is_damage_at_its_entry(rt: HostRuntime) -> Result<(), Fail> {
-    let alloc = rt.alloc();
-    let mut disk = MemDisk::new(alloc, Numbers::new(alloc));
-    fill(alloc, &mut disk)?;
-    for place in 0..LENGTH {
-        assert!(rt; is_broken(alloc, &mut disk, place)?, "place {place}");
-    }
-    assert_eq!(rt; count(alloc, &mut disk, LENGTH), Ok(3));
+    let mut disk = MemDisk::new(rt.alloc(), Numbers::new(rt.alloc()));
+    fill(rt.alloc(), &mut disk)?;
+    break_each(&rt, rt.alloc(), &mut disk)?;
     Ok(())
 }
 
@@ -210,12 +216,9 @@ fn found_in(length: u64) -> Result<usize, WalkRefusal> {
     }
 }
 
-#[test]
-fn only_the_named_bytes_count(rt: HostRuntime) -> Result<(), Fail> {
-    let alloc = rt.alloc();
-    let mut disk = MemDisk::new(alloc, Numbers::new(alloc));
-    fill(alloc, &mut disk)?;
-    write(&mut disk, LENGTH, b"more")?;
+/// Walks the epoch up to each length below 1,033.
+fn walk_to_each<D: Disk>(rt: &impl Abort, alloc: Global, disk: &mut D) -> Result<(), DiskFault> {
+    write(disk, LENGTH, b"more")?;
     for length in 0..1033 {
         // Behind the epoch stands no entry.
         let want = if length > LENGTH {
@@ -223,8 +226,16 @@ fn only_the_named_bytes_count(rt: HostRuntime) -> Result<(), Fail> {
         } else {
             found_in(length)
         };
-        assert_eq!(rt; count(alloc, &mut disk, length), want, "length {length}");
+        assert_eq!(rt; count(alloc, disk, length), want, "length {length}");
     }
+    Ok(())
+}
+
+#[test]
+fn only_the_named_bytes_count(rt: HostRuntime) -> Result<(), Fail> {
+    let mut disk = MemDisk::new(rt.alloc(), Numbers::new(rt.alloc()));
+    fill(rt.alloc(), &mut disk)?;
+    walk_to_each(&rt, rt.alloc(), &mut disk)?;
     Ok(())
 }
 
@@ -238,22 +249,25 @@ fn cut_at(length: u64) -> u64 {
     }
 }
 
-#[test]
-fn a_file_that_ends_early_is_damaged_where_it_ends(rt: HostRuntime) -> Result<(), Fail> {
-    let alloc = rt.alloc();
-    let mut disk = MemDisk::new(alloc, Numbers::new(alloc));
-    fill(alloc, &mut disk)?;
+/// Cuts the epoch's file to each length below its own, from the greatest on, removes it, and walks the epoch.
+fn cut_each<D: Disk>(rt: &impl Abort, alloc: Global, disk: &mut D) -> Result<(), DiskFault> {
     for gone in 1..1029 {
         let length = LENGTH - gone;
-        trim(&mut disk, length)?;
+        trim(disk, length)?;
         let want = Err(WalkRefusal::Damaged { at: cut_at(length) });
-        assert_eq!(rt; count(alloc, &mut disk, LENGTH), want, "length {length}");
+        assert_eq!(rt; count(alloc, disk, LENGTH), want, "length {length}");
     }
     disk.remove(FILE)?;
-    assert_eq!(rt;
-        count(alloc, &mut disk, LENGTH),
-        Err(WalkRefusal::Damaged { at: 0 })
-    );
+    let want = Err(WalkRefusal::Damaged { at: 0 });
+    assert_eq!(rt; count(alloc, disk, LENGTH), want);
+    Ok(())
+}
+
+#[test]
+fn a_file_that_ends_early_is_damaged_where_it_ends(rt: HostRuntime) -> Result<(), Fail> {
+    let mut disk = MemDisk::new(rt.alloc(), Numbers::new(rt.alloc()));
+    fill(rt.alloc(), &mut disk)?;
+    cut_each(&rt, rt.alloc(), &mut disk)?;
     Ok(())
 }
 
@@ -355,20 +369,21 @@ fn is_wrong_parent<D: Disk>(
     Ok(found == Err(WalkRefusal::Damaged { at: 316 }))
 }
 
+/// Puts the second entry after the first one with two wrong parents and with the right one, and walks the epoch.
+fn try_parents<D: Disk>(rt: &impl Abort, alloc: Global, disk: &mut D) -> Result<(), StoreRefusal> {
+    let new = entry(b'm', FIRST, 1_706_781_700, None);
+    let first = append(alloc, disk, 0, &new)?;
+    for parent in [None, Some(first.blob)] {
+        assert!(rt; is_wrong_parent(alloc, disk, parent)?);
+    }
+    assert_eq!(rt; count_behind(alloc, disk, Some(first.commit))?, Ok(2));
+    Ok(())
+}
+
 #[test]
 fn a_commit_behind_another_one_is_damage(rt: HostRuntime) -> Result<(), Fail> {
-    let alloc = rt.alloc();
-    let mut disk = MemDisk::new(alloc, Numbers::new(alloc));
-    let first = append(
-        alloc,
-        &mut disk,
-        0,
-        &entry(b'm', FIRST, 1_706_781_700, None),
-    )?;
-    for parent in [None, Some(first.blob)] {
-        assert!(rt; is_wrong_parent(alloc, &mut disk, parent)?);
-    }
-    assert_eq!(rt; count_behind(alloc, &mut disk, Some(first.commit))?, Ok(2));
+    let mut disk = MemDisk::new(rt.alloc(), Numbers::new(rt.alloc()));
+    try_parents(&rt, rt.alloc(), &mut disk)?;
     Ok(())
 }
 
@@ -418,14 +433,18 @@ fn is_wrong_size<D: Disk>(
     Ok(count(alloc, disk, length) == Err(WalkRefusal::Damaged { at: 8 }))
 }
 
+/// Puts a long entry and another one onto a disk, and walks them, also with wrong sizes.
+fn walk_long<D: Disk>(rt: &impl Abort, alloc: Global, disk: &mut D) -> Result<(), Fail> {
+    let (long, last) = put_long(alloc, disk)?;
+    assert!(rt; sees_long(alloc, disk, &long, &last)?);
+    // A size that a text can't have, and one that runs past the end.
+    assert!(rt; is_wrong_size(alloc, disk, b"blob 9000000\0", last.end)?);
+    assert!(rt; is_wrong_size(alloc, disk, b"blob 3900019\0", last.end)?);
+    Ok(())
+}
+
 #[test]
 fn an_entry_may_be_longer_than_what_is_read_at_once(rt: HostRuntime) -> Result<(), Fail> {
-    let alloc = rt.alloc();
-    let mut disk = MemDisk::new(alloc, Numbers::new(alloc));
-    let (long, last) = put_long(alloc, &mut disk)?;
-    assert!(rt; sees_long(alloc, &mut disk, &long, &last)?);
-    // A size that a text can't have, and one that runs past the end.
-    assert!(rt; is_wrong_size(alloc, &mut disk, b"blob 9000000\0", last.end)?);
-    assert!(rt; is_wrong_size(alloc, &mut disk, b"blob 3900019\0", last.end)?);
-    Ok(())
+    let mut disk = MemDisk::new(rt.alloc(), Numbers::new(rt.alloc()));
+    walk_long(&rt, rt.alloc(), &mut disk)
 }
