@@ -7,6 +7,7 @@ use arch_model::OpenRefusal;
 use disk_files::file_names;
 use disk_model::{Disk, DiskFault, FileKind, FileName, MemDisk};
 use std::alloc::Global;
+use std::process::Abort;
 use std::test::Fail;
 
 /// The file of the first epoch.
@@ -149,37 +150,47 @@ fn a_file_cut_short_is_damage_at_its_first_place(rt: HostRuntime) -> Result<(), 
     Ok(())
 }
 
-/// Whether the archive on a disk is opened as that behind so many calls.
+/// Whether the archive on a disk is opened as that after so many calls.
 fn is_opened(alloc: Global, disk: &mut MemDisk, calls: u64) -> Result<bool, Fail> {
     let archive = listed_behind(alloc, 316, calls)?;
     Ok(opened(alloc, disk)? == archive)
 }
 
-/// Appends bytes to a file of an archive of one message, and says whether its opening brings the files back.
-fn is_swept(alloc: Global, file: FileName, files: &Vec<WholeFile>) -> Result<bool, Fail> {
-    let mut disk = one_message(alloc)?;
-    append(&mut disk, file)?;
-    let appended = !has_files(alloc, &mut disk, files)?;
-    let opened = is_opened(alloc, &mut disk, 2)?;
-    let swept = has_files(alloc, &mut disk, files)?;
+/// Appends bytes to a file of an archive of one message, and says whether its opening brings the files
+/// back.
+fn is_swept(
+    alloc: Global,
+    disk: &mut MemDisk,
+    file: FileName,
+    files: &Vec<WholeFile>,
+) -> Result<bool, Fail> {
+    append(disk, file)?;
+    let appended = !has_files(alloc, disk, files)?;
+    let opened = is_opened(alloc, disk, 2)?;
+    let swept = has_files(alloc, disk, files)?;
     Ok(appended && opened && swept)
 }
 
-#[test]
-fn what_no_root_names_is_taken_away(rt: HostRuntime) -> Result<(), Fail> {
-    let alloc = rt.alloc();
-    let files = all_files(alloc, &mut one_message(alloc)?)?;
+/// Appends bytes to each file that an opening looks at, one after the other.
+fn sweep_each(rt: &impl Abort, alloc: Global, files: &Vec<WholeFile>) -> Result<(), Fail> {
     assert!(rt; files.len() == 3 && files[2].bytes.len() == 316);
     // Tails of the epoch and of the map, an epoch of another generation, and one that the archive has not come to.
     for file in [EPOCH, MAP, epoch(0, 9), epoch(1, 3)] {
+        let mut disk = one_message(alloc)?;
         assert!(rt;
-            is_swept(alloc, file, &files)?,
+            is_swept(alloc, &mut disk, file, files)?,
             "{} {}",
             file.number,
             file.gen_
         );
     }
     Ok(())
+}
+
+#[test]
+fn what_no_root_names_is_taken_away(rt: HostRuntime) -> Result<(), Fail> {
+    let files = all_files(rt.alloc(), &mut one_message(rt.alloc())?)?;
+    sweep_each(&rt, rt.alloc(), &files)
 }
 
 /// Whether slot 0 is shut and slot 1 is open, and both have one root.
@@ -197,14 +208,18 @@ fn goes_on(alloc: Global, disk: &mut MemDisk) -> Result<bool, Fail> {
     is_opened(alloc, disk, 3)
 }
 
+/// Shuts the slot that isn't the current one in an archive of one message, and opens it.
+fn open_shut(rt: &impl Abort, alloc: Global, disk: &mut MemDisk) -> Result<(), Fail> {
+    write(disk, ROOT, 0, b"\0")?;
+    assert!(rt; is_opened(alloc, disk, 2)?);
+    assert!(rt; has_one_root(disk)?);
+    // The archive goes on from there.
+    assert!(rt; goes_on(alloc, disk)?);
+    Ok(())
+}
+
 #[test]
 fn a_slot_that_was_shut_gets_the_current_root(rt: HostRuntime) -> Result<(), Fail> {
-    let alloc = rt.alloc();
-    let mut disk = one_message(alloc)?;
-    write(&mut disk, ROOT, 0, b"\0")?;
-    assert!(rt; is_opened(alloc, &mut disk, 2)?);
-    assert!(rt; has_one_root(&mut disk)?);
-    // The archive goes on from there.
-    assert!(rt; goes_on(alloc, &mut disk)?);
-    Ok(())
+    let mut disk = one_message(rt.alloc())?;
+    open_shut(&rt, rt.alloc(), &mut disk)
 }

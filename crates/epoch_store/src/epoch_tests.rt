@@ -63,13 +63,18 @@ fn are_read_alike<D: Disk>(
     Ok(true)
 }
 
+/// Fills an archive of which each epoch has one message, and says whether its epochs are read as the
+/// archive in memory has them.
+fn fill_and_read<D: Disk>(alloc: Global, disk: &mut D) -> Result<bool, Fail> {
+    let store = fill(alloc, disk, 1)?;
+    let alike = are_read_alike(alloc, disk, &store)?;
+    Ok(alike && store.sequence() == 3)
+}
+
 #[test]
 fn an_epoch_is_read_as_memory_has_it(rt: HostRuntime) -> Result<(), Fail> {
-    let alloc = rt.alloc();
-    let mut disk = MemDisk::new(alloc, Numbers::new(alloc));
-    let store = fill(alloc, &mut disk, 1)?;
-    assert!(rt; store.sequence() == 3);
-    assert!(rt; are_read_alike(alloc, &mut disk, &store)?);
+    let mut disk = MemDisk::new(rt.alloc(), Numbers::new(rt.alloc()));
+    assert!(rt; fill_and_read(rt.alloc(), &mut disk)?);
     Ok(())
 }
 

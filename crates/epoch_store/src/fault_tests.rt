@@ -54,7 +54,8 @@ fn is_answer(calls: u64, answer: &Result<(), StoreRefusal>) -> bool {
     known && calls <= 3 && done == (calls == 3)
 }
 
-/// Whether a disk of which one call at most is still to fail has the archive behind so many calls, or behind so many.
+/// Whether a disk of which one call at most is still to fail has the archive after one count of calls
+/// or after another.
 fn is_between<D: Disk>(
     alloc: Global,
     disk: &mut D,
@@ -70,21 +71,36 @@ fn is_between<D: Disk>(
     Ok(change.finds(&found))
 }
 
+/// Makes and fills an archive where the call of the disk of an ordinal fails, and opens it. It says whether
+/// none of the calls that fill it failed.
+fn fill_and_open<D: Disk>(
+    rt: &impl Abort,
+    alloc: Global,
+    disk: &mut D,
+    limit: u64,
+    ordinal: u64,
+) -> Result<bool, Fail>
+    requires low { 1 ≤ limit }
+    requires high { limit ≤ 1099511627776 }
+{
+    let (calls, answer) = advance(alloc, disk, limit);
+    assert!(rt; is_answer(calls, &answer));
+    let done = answer.is_ok();
+    let after = calls.saturating_add(if done { 0 } else { 1 });
+    assert!(rt;
+        is_between(alloc, disk, limit, calls, after)?,
+        "ordinal {ordinal}"
+    );
+    Ok(done)
+}
+
 /// Lets a call of the disk fail while an archive is made and filled, and opens it. It says whether none of those calls failed.
 fn fail_at(rt: &impl Abort, alloc: Global, limit: u64, ordinal: u64) -> Result<bool, Fail>
     requires low { 1 ≤ limit }
     requires high { limit ≤ 1099511627776 }
 {
     let mut disk = failing(alloc, ordinal)?;
-    let (calls, answer) = advance(alloc, &mut disk, limit);
-    assert!(rt; is_answer(calls, &answer));
-    let done = answer.is_ok();
-    let after = calls.saturating_add(if done { 0 } else { 1 });
-    assert!(rt;
-        is_between(alloc, &mut disk, limit, calls, after)?,
-        "ordinal {ordinal}"
-    );
-    Ok(done)
+    fill_and_open(rt, alloc, &mut disk, limit, ordinal)
 }
 
 /// Lets each call of the disk fail in turn while an archive is made and filled, up to the first run in which none does.
@@ -172,8 +188,23 @@ fn is_found<D: Disk>(alloc: Global, disk: &mut D, same: &mut Change) -> Result<b
     Ok(same.finds(&found))
 }
 
-/// Lets a call of the disk fail while an archive is made and filled, disturbed and then opened. The opening, each image of it
-/// and a second opening have the same archive.
+/// Makes, fills and disturbs an archive where a call of the disk may fail, and opens it. The opening, each image of it and a
+/// second opening have the same archive.
+fn disturb_and_open(
+    rt: &impl Abort,
+    alloc: Global,
+    disk: &mut MemDisk,
+    same: &mut Change,
+) -> Result<Fault, Fail> {
+    if !prepare(alloc, disk) {
+        return Ok(Fault::Before);
+    }
+    let fault = open_images(rt, alloc, disk, same)?;
+    assert!(rt; is_found(alloc, disk, same)?);
+    Ok(fault)
+}
+
+/// Lets a call of the disk fail while an archive is made and filled, disturbed and then opened, and says where it did.
 fn fail_opening(
     rt: &impl Abort,
     alloc: Global,
@@ -181,20 +212,14 @@ fn fail_opening(
     same: &mut Change,
 ) -> Result<Fault, Fail> {
     let mut disk = failing(alloc, ordinal)?;
-    if !prepare(alloc, &mut disk) {
-        return Ok(Fault::Before);
-    }
-    let fault = open_images(rt, alloc, &mut disk, same)?;
-    assert!(rt; is_found(alloc, &mut disk, same)?);
-    Ok(fault)
+    disturb_and_open(rt, alloc, &mut disk, same)
 }
 
-#[test]
-fn an_opening_that_fails_leaves_the_archive(rt: HostRuntime) -> Result<(), Fail> {
-    let mut same = Change::between(rt.alloc(), 316, 3, 3)?;
+/// Lets each call of the disk fail in turn, up to the first run in which none does.
+fn fail_each_opening(rt: &impl Abort, alloc: Global, same: &mut Change) -> Result<(), Fail> {
     let mut faults = 0;
     for ordinal in 1..ENOUGH {
-        match fail_opening(&rt, rt.alloc(), ordinal, &mut same)? {
+        match fail_opening(rt, alloc, ordinal, same)? {
             Fault::Before => assert!(rt; faults == 0),
             Fault::Opening => faults = ordinal,
             Fault::Nowhere => {
@@ -205,4 +230,10 @@ fn an_opening_that_fails_leaves_the_archive(rt: HostRuntime) -> Result<(), Fail>
         }
     }
     Ok(assert!(rt; false, "no run without a fault"))
+}
+
+#[test]
+fn an_opening_that_fails_leaves_the_archive(rt: HostRuntime) -> Result<(), Fail> {
+    let mut same = Change::between(rt.alloc(), 316, 3, 3)?;
+    fail_each_opening(&rt, rt.alloc(), &mut same)
 }

@@ -258,15 +258,19 @@ fn stop_after(
 }
 
 /// Stops the call behind so many others after 0, 1, 2 .. calls of the disk, up to the first run without a stop.
-fn stop_each(rt: &impl Abort, alloc: Global, limit: u64, calls: u64) -> Result<(), Fail>
+fn stop_each(
+    rt: &impl Abort,
+    alloc: Global,
+    limit: u64,
+    calls: u64,
+    change: &mut Change,
+) -> Result<(), Fail>
     requires low { 1 ≤ limit }
     requires high { limit ≤ 1099511627776 }
-    requires calls { calls ≤ 2 }
 {
-    let mut change = Change::between(alloc, limit, calls, calls + 1)?;
     assert!(rt; change.before != change.after);
     for passes in 0..ENOUGH {
-        if stop_after(rt, alloc, limit, calls, passes, &mut change)? {
+        if stop_after(rt, alloc, limit, calls, passes, change)? {
             assert!(rt; change.found_before && change.found_after && passes > 0);
             return Ok(());
         }
@@ -274,12 +278,22 @@ fn stop_each(rt: &impl Abort, alloc: Global, limit: u64, calls: u64) -> Result<(
     Ok(assert!(rt; false, "no run without a stop"))
 }
 
+/// Stops the call behind so many others after each call of the disk, where epochs have this least length.
+fn stop_call(rt: &impl Abort, alloc: Global, limit: u64, calls: u64) -> Result<(), Fail>
+    requires low { 1 ≤ limit }
+    requires high { limit ≤ 1099511627776 }
+    requires calls { calls ≤ 2 }
+{
+    let mut change = Change::between(alloc, limit, calls, calls + 1)?;
+    stop_each(rt, alloc, limit, calls, &mut change)
+}
+
 #[test]
 fn a_stop_leaves_the_archive_before_or_after(rt: HostRuntime) -> Result<(), Fail> {
     for calls in 0..3 {
         // Both messages in one epoch, and each in its own.
-        stop_each(&rt, rt.alloc(), 1_073_741_824, calls)?;
-        stop_each(&rt, rt.alloc(), 316, calls)?;
+        stop_call(&rt, rt.alloc(), 1_073_741_824, calls)?;
+        stop_call(&rt, rt.alloc(), 316, calls)?;
     }
     Ok(())
 }

@@ -14,6 +14,7 @@ use epoch_file::StoreRefusal;
 use git_objects::blob_id;
 use mail_reader::{is_stored, own_id};
 use std::alloc::Global;
+use std::process::Abort;
 use std::test::Fail;
 
 /// A mail.
@@ -160,19 +161,24 @@ fn has_two_epochs(store: &Store) -> bool {
     next && none && place
 }
 
-#[test]
-fn a_full_epoch_is_followed_by_the_next(rt: HostRuntime) -> Result<(), Fail> {
-    let alloc = rt.alloc();
-    let mut disk = MemDisk::new(alloc, Numbers::new(alloc));
-    let store = fill(alloc, &mut disk, 316)?;
+/// Fills an archive of which each epoch is full with one message, and says whether its files are as long
+/// as they should be.
+fn fill_two_epochs<D: Disk>(alloc: Global, disk: &mut D) -> Result<bool, StoreRefusal> {
+    let store = fill(alloc, disk, 316)?;
     let lengths = [
         (ROOT, 4096),
         (MAP, 56),
         (epoch(0, 2), 316),
         (epoch(1, 3), 316),
     ];
-    assert!(rt; have_lengths(&mut disk, &lengths)?);
-    assert!(rt; has_two_epochs(&store));
+    let are_long = have_lengths(disk, &lengths)?;
+    Ok(are_long && has_two_epochs(&store))
+}
+
+#[test]
+fn a_full_epoch_is_followed_by_the_next(rt: HostRuntime) -> Result<(), Fail> {
+    let mut disk = MemDisk::new(rt.alloc(), Numbers::new(rt.alloc()));
+    assert!(rt; fill_two_epochs(rt.alloc(), &mut disk)?);
     Ok(())
 }
 
@@ -189,13 +195,18 @@ fn has_second_entry(store: &Store) -> bool {
     blob && commit && place && named && sized
 }
 
+/// Fills an archive whose first epoch takes both messages, and says whether that is as long as it should
+/// be.
+fn fill_one_epoch<D: Disk>(alloc: Global, disk: &mut D) -> Result<bool, StoreRefusal> {
+    let store = fill(alloc, disk, 317)?;
+    let is_long = have_lengths(disk, &[(epoch(0, 2), 672)])?;
+    Ok(is_long && has_second_entry(&store))
+}
+
 #[test]
 fn an_epoch_below_the_limit_takes_one_more(rt: HostRuntime) -> Result<(), Fail> {
-    let alloc = rt.alloc();
-    let mut disk = MemDisk::new(alloc, Numbers::new(alloc));
-    let store = fill(alloc, &mut disk, 317)?;
-    assert!(rt; have_lengths(&mut disk, &[(epoch(0, 2), 672)])?);
-    assert!(rt; has_second_entry(&store));
+    let mut disk = MemDisk::new(rt.alloc(), Numbers::new(rt.alloc()));
+    assert!(rt; fill_one_epoch(rt.alloc(), &mut disk)?);
     Ok(())
 }
 
@@ -221,15 +232,19 @@ fn init_is_refused<D: Disk>(alloc: Global, disk: &mut D) -> bool {
     }
 }
 
+/// Makes an archive twice, of which the first time alone is one.
+fn init_twice<D: Disk>(rt: &impl Abort, alloc: Global, disk: &mut D) -> Result<(), Fail> {
+    assert!(rt; init_is_empty(alloc, disk)?);
+    assert!(rt; have_lengths(disk, &[(ROOT, 4096), (MAP, 0)])?);
+    assert!(rt; disk.name_at(1)?.is_none());
+    assert!(rt; init_is_refused(alloc, disk));
+    Ok(())
+}
+
 #[test]
 fn an_archive_is_made_once(rt: HostRuntime) -> Result<(), Fail> {
-    let alloc = rt.alloc();
-    let mut disk = MemDisk::new(alloc, Numbers::new(alloc));
-    assert!(rt; init_is_empty(alloc, &mut disk)?);
-    assert!(rt; have_lengths(&mut disk, &[(ROOT, 4096), (MAP, 0)])?);
-    assert!(rt; disk.name_at(1)?.is_none());
-    assert!(rt; init_is_refused(alloc, &mut disk));
-    Ok(())
+    let mut disk = MemDisk::new(rt.alloc(), Numbers::new(rt.alloc()));
+    init_twice(&rt, rt.alloc(), &mut disk)
 }
 
 /// The archive in memory that took both messages.
@@ -256,14 +271,20 @@ fn is_first_epoch(alloc: Global, limit: u64, bytes: &[u8]) -> Result<bool, NoMem
     Ok(found && same.as_slice() == bytes)
 }
 
+/// Whether the file of the first epoch has the bytes of the archive in memory.
+fn is_epoch_file<D: Disk>(alloc: Global, disk: &mut D) -> Result<bool, TextRefusal> {
+    let mut bytes = [0; 673];
+    let count = disk.read(epoch(0, 2), 0, &mut bytes)?;
+    let same = is_first_epoch(alloc, 317, bytes.split_at(672).0)?;
+    Ok(count == 672 && same)
+}
+
 #[test]
 fn the_file_of_an_epoch_has_the_bytes_of_the_epoch(rt: HostRuntime) -> Result<(), Fail> {
     let alloc = rt.alloc();
     let mut disk = MemDisk::new(alloc, Numbers::new(alloc));
     fill(alloc, &mut disk, 317)?;
-    let mut bytes = [0; 673];
-    assert!(rt; disk.read(epoch(0, 2), 0, &mut bytes)? == 672);
-    assert!(rt; is_first_epoch(alloc, 317, bytes.split_at(672).0)?);
+    assert!(rt; is_epoch_file(alloc, &mut disk)?);
     Ok(())
 }
 
@@ -323,16 +344,25 @@ fn is_damaged<D: Disk>(alloc: Global, disk: &mut D, store: &Store, index: u64) -
     }
 }
 
+/// Reads both texts of an archive, of which the first is harmed.
+fn read_texts(
+    rt: &impl Abort,
+    alloc: Global,
+    disk: &mut MemDisk,
+    store: &Store,
+) -> Result<(), Fail> {
+    assert!(rt; is_second_text(alloc, disk, store, 1)?);
+    // The subject of the first text becomes another one.
+    write(disk, epoch(0, 2), 91, b"F")?;
+    assert!(rt; is_damaged(alloc, disk, store, 0));
+    Ok(())
+}
+
 #[test]
 fn a_text_is_read_where_it_stands_unharmed(rt: HostRuntime) -> Result<(), Fail> {
-    let alloc = rt.alloc();
-    let mut disk = MemDisk::new(alloc, Numbers::new(alloc));
-    let store = fill(alloc, &mut disk, 316)?;
-    assert!(rt; is_second_text(alloc, &mut disk, &store, 1)?);
-    // The subject of the first text becomes another one.
-    write(&mut disk, epoch(0, 2), 91, b"F")?;
-    assert!(rt; is_damaged(alloc, &mut disk, &store, 0));
-    Ok(())
+    let mut disk = MemDisk::new(rt.alloc(), Numbers::new(rt.alloc()));
+    let store = fill(rt.alloc(), &mut disk, 316)?;
+    read_texts(&rt, rt.alloc(), &mut disk, &store)
 }
 
 /// Makes an archive and puts both messages into it, on a disk that stops after so many calls.
