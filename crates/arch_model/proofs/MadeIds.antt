@@ -11,7 +11,7 @@ use Rattle.hex.specs.Hex.{encode_lower, encode_with, lower_digits}
 use Rattle.arch_base.specs.Names.{IsName, is_name_byte}
 use Rattle.mail_reader.specs.Ids.{is_id_byte, own_id}
 use Rattle.mail_reader.specs.Laws.{IsId}
-use Rattle.mail_reader.proofs.IdLines.{id_in_front}
+use Rattle.mail_reader.proofs.IdLines.{id_in_front, passed_id_byte}
 use Rattle.git_objects.proofs.ObjectIds.{IsId-id_of}
 use Rattle.arch_model.specs.Candidates.{made_inside, id_with, made_id, with_made}
 
@@ -83,14 +83,16 @@ made-IsId name text k is small =
     let some : length digits ≡ 2 * length (sha1 text) = digits_length (sha1 text) in
     let twenty : length (sha1 text) ≡ 20 = id.len in
     let whole : length (made_inside digits k name) ≡ length digits + length (decimal k) + length name + 10 = inside_length digits k name in
+    let passes : IdBytes (made_inside digits k name) =
+        All-append P digits ((46 ∷ decimal k) ++ ((64 ∷ name) ++ end_word)) (digits_pass (sha1 text) id.bytes)
+        (All-append P (46 ∷ decimal k) ((64 ∷ name) ++ end_word) (All-cons P 46 (decimal k) refl (decimal_passes k small))
+        (All-append P (64 ∷ name) end_word (All-cons P 64 name refl (name_passes name is)) end_passes)) in
     record {
       inside = made_inside digits k name;
       is = refl;
       some = omega (arith, whole, some, twenty);
       short = omega (arith, inside-short name text k is small);
-      bytes = All-append P digits ((46 ∷ decimal k) ++ ((64 ∷ name) ++ end_word)) (digits_pass (sha1 text) id.bytes)
-          (All-append P (46 ∷ decimal k) ((64 ∷ name) ++ end_word) (All-cons P 46 (decimal k) refl (decimal_passes k small))
-          (All-append P (64 ∷ name) end_word (All-cons P 64 name refl (name_passes name is)) end_passes));
+      bytes = λ i d within. passed_id_byte (get_or (made_inside digits k name) i d) (passes i d within);
     }
 
 -- The own id of a text with a made id at the front is that id.
