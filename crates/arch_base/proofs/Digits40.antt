@@ -1,4 +1,4 @@
--- Ids and their hexadecimal digits.
+-- Decoding encoded bytes gives them back; equal bytes compare as equal.
 use Rattle.std.proofs.Common.{◌∷◌, [], true, eq-eqb, ◌≡◌, ℕ, List, length, Result, Ok, Err, MatchResult, refl, ◌∙◌, ap}
 use Rattle.std.specs.Str.{bytes_eq}
 use Rattle.hex.specs.Hex.{encode_lower, decode_sized, IsBytes}

@@ -10,8 +10,8 @@ use crate::name::Name;
 pub struct Config {
     /// The name of the list.
     pub name: Name,
-    /// The length in bytes from which an epoch takes no further entry, unless it is the last that there
-    /// may be: 1 to 1,099,511,627,776.
+    /// The length in bytes from which an epoch takes no further entry, unless it is the last that
+    /// there may be: 1 to 1,099,511,627,776.
     pub limit: u64,
     /// The count of numbers in a mailbox: 1 to 1,000,000.
     pub slice: u32,

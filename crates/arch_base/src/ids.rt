@@ -10,6 +10,9 @@ use hex::{decode_to_slice, encode_to_slice};
 pub struct Id20(pub [u8; 20]);
 
 /// The id of a git object.
+///
+/// Signatures say `ObjectId`, so that ids of another length may come later. `Id20` says that it is
+/// twenty bytes, where an id is made or taken apart.
 pub type ObjectId = Id20;
 
 /// Returns the 40 lower-case hexadecimal digits of an id.

@@ -74,7 +74,8 @@ module _ (config : Config) (ks : List Kept) (index new : Index) (end_ next : End
       ∙ ap (λ (n : ℕ). record { config = config; entries = entries_from 1 ks ++ record { number = length ks + 1; epoch = n; text = text; moment = moment } ∷ []; next = length (ks ++ message ∷ []) + 1 }) epoch_is
       ∙ ap (λ (n : ℕ). record { config = config; entries = entries_from 1 ks ++ record { number = length ks + 1; epoch = new_epoch (archive_of config ks); text = text; moment = moment } ∷ []; next = n }) more
 
--- The same of an archive that these stand for, where what was read of the text and the message that was made are as they should be.
+-- The same of an archive that these stand for, where what was read of the text and the message that
+-- was made are as they should be.
 pub keeps : (config : Config) (ks : List Kept) (index new : Index) (end_ next : End) (text read spelled digested : List ℕ) (moment : ℕ) (blob : Id20) (id : List ℕ) (made : Owner) (a : Archive)
     → archive_of config ks ≡ a → IsKept config ks index end_ → a.next ≤ a.config.max → IsFree a.entries text → blob ≡ blob_id_of text → blob_number a.entries blob.0 ≡ None
     → next ≡ end_after (end_for_new config.limit end_) read moment → read ≡ text → own_id spelled ≡ Some id → spelled ≡ text

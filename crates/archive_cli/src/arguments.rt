@@ -6,8 +6,10 @@ use std::alloc::Global;
 use std::env::Args;
 use std::io::{self, ErrorKind};
 
-/// Runs the program with the arguments behind its name, and returns the status to end with and the disk. Arguments that
-/// aren't all UTF-8 are no words of the grammar.
+/// Runs the program with the arguments after its name, and returns the status to end with and the
+/// disk.
+///
+/// Arguments that aren't all UTF-8 are no words of the grammar.
 pub(crate) fn run_arguments<D: Disk, S: Source, O: Sink, C: Clock>(
     alloc: Global,
     arguments: io::Result<Args>,

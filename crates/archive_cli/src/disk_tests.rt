@@ -72,7 +72,7 @@ fn ran_on<D: Disk + Drop>(
     Some((status, disk, sink))
 }
 
-/// An empty disk.
+/// Returns an empty disk.
 fn empty(alloc: Global) -> MemDisk {
     MemDisk::new(alloc, Numbers::new(alloc))
 }
@@ -197,7 +197,8 @@ fn check_moment(
     Ok(())
 }
 
-/// Checks each image since a moment; at the last moment the delivery is done, if it was answered so.
+/// Checks each image since a moment; at the last moment the delivery is done, if it was answered
+/// so.
 fn check_since(
     rt: &impl Abort,
     alloc: Global,
@@ -221,7 +222,7 @@ fn ends_so(status: u8, printed: &[u8]) -> bool {
     }
 }
 
-/// Delivers a message over a disk that stops after so many calls. Returns the disk, and whether
+/// Delivers a message over a disk that stops after this many calls. Returns the disk, and whether
 /// there was no stop, if the answer is right.
 fn delivered(alloc: Global, disk: MemDisk, passes: u64) -> Option<(MemDisk, bool)> {
     let fuse = FuseDisk::new(disk, passes);
@@ -233,7 +234,7 @@ fn delivered(alloc: Global, disk: MemDisk, passes: u64) -> Option<(MemDisk, bool
     }
 }
 
-/// Delivers a message to an archive without any, over a disk that stops after so many calls, and
+/// Delivers a message to an archive without any, over a disk that stops after this many calls, and
 /// checks each image since. Returns whether there was no stop.
 fn deliver_stopped(rt: &impl Abort, alloc: Global, passes: u64) -> Result<bool, Fail> {
     let Some(made) = with_archive(alloc) else {

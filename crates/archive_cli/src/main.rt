@@ -22,8 +22,11 @@ use std::{env, io};
 /// The folder that keeps the archive, in the current one.
 const FOLDER: &str = "piv2-store";
 
-/// Does what the command line's words say over this folder, the standard input and output and the system's clock, and ends
-/// with the status of that. Where the disk, the input, the clock or the output failed, a line on standard error says why.
+/// Does what the words of the command line ask for, over the folder, the standard input and output,
+/// and the system's clock, and ends with its status.
+///
+/// At status 4 a line on standard error says what failed first on the disk. At status 6 it says
+/// which of input, clock and output failed, and nothing of the disk.
 fn main(rt: HostRuntime) -> ExitCode {
     let alloc = rt.alloc();
     let Ok(mut output) = StdSink::new(&rt, alloc) else {

@@ -104,7 +104,7 @@ enum End {
     NotMade,
     /// It printed all frames.
     Whole,
-    /// It printed so many frames, and the line.
+    /// It printed this many frames, and the line.
     Cut(u8),
     /// None of these.
     Other,
@@ -138,7 +138,7 @@ fn end_of(status: u8, printed: &[u8]) -> End {
     }
 }
 
-/// Returns the status of that script over what keeps an archive, and the output.
+/// Returns the status of that script over a keeper of an archive, and the output.
 fn played(alloc: Global, engine: Engine<MemDisk>) -> Option<(u8, MemSink)> {
     let Ok(events) = script(alloc, THREE_PIECES) else {
         return None;

@@ -96,7 +96,7 @@ fn options_of_a_script(rt: HostRuntime) {
     }
 }
 
-/// Words of scripts with options in front, twice, or out of form.
+/// Words of scripts with options before the name, twice, or out of form.
 const MALFORMED_OPTIONS: [&[&str]; 7] = [
     &["replay", "limit=1", "list"],
     &["limit=1", "replay", "list"],
@@ -200,7 +200,7 @@ fn words_that_ask_for_nothing(rt: HostRuntime) {
     }
 }
 
-/// Words with `init` in front that are not in the grammar.
+/// Words that start with `init` and are not in the grammar.
 const NO_ARCHIVES: [&[&str]; 10] = [
     &["init", "list", "list"],
     &["init", "List"],
@@ -300,8 +300,8 @@ fn a_failed_read_or_write_gives_six(rt: HostRuntime) {
 /// Words, an input and what is printed.
 pub(crate) type Run = (&'static [&'static str], &'static [u8], &'static [u8]);
 
-/// Runs worked out by hand, each with its words, its input and what it prints: an id that is made, one
-/// that is taken, the greatest number, and two messages in two epochs and in one.
+/// Runs worked out by hand, each with its words, its input and what it prints: an id that is made,
+/// one that is taken, the greatest number, and two messages in two epochs and in one.
 pub(crate) const WORKED: [Run; 5] = [
     (
         &["replay", "list"],

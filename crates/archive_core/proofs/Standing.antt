@@ -18,7 +18,7 @@ pub stands : StoreRecovers → (v : View) (a b : Archive) (k : Option Content) (
 stands law v a b None image store now = absurd store
 stands law v a b (Some k) image store now = inl ((law v a k store).0 image now)
 
--- where a delivery is judged to take a text, the archive with that text is the one that it comes to
+-- If a delivery is judged to take a text, the archive after it is the one with that text.
 pub archive_taken : (a : Archive) (text slice : List ℕ) (moment : ℕ) (wanted : Done) (reply : Answer) → slice ≡ text
     → wanted ≡ record { archive = with_entry a (new_epoch a) text moment; answer = reply } → with_entry a (new_epoch a) slice moment ≡ wanted.archive
 archive_taken a text slice moment wanted reply is judged = ap (λ (t : List ℕ). with_entry a (new_epoch a) t moment) is ∙ sym (ap (λ (d : Done). d.archive) judged)

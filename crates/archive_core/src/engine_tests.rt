@@ -1,5 +1,5 @@
-//! An archive that owns its disk, by the trait of what keeps one: what it gives, and what it does
-//! after a fault.
+//! An archive that owns its disk, by the trait of keepers: what it gives, and what it does after a
+//! fault.
 use crate::tests::{FIRST, FIRST_ID, MOMENT, SECOND, SECOND_ID, accepted, settings};
 use crate::{Engine, NotMade, NotOpened};
 use arch_base::{Bytes, NoMemory, Numbers};
@@ -218,7 +218,7 @@ fn a_disk_on_which_nothing_is_made_is_handed_back(rt: HostRuntime) -> Result<(),
     Ok(())
 }
 
-/// A disk of which two calls in a row fail, by the first one's ordinal from 1.
+/// Returns a disk of which two calls in a row fail, by the first one's ordinal from 1.
 fn failing(alloc: Global, ordinal: u64) -> Result<MemDisk, NoMemory> {
     let mut faults = Numbers::new(alloc);
     faults.push(ordinal)?;
@@ -233,8 +233,8 @@ fn is_in_doubt(rt: &impl Abort, engine: &mut Engine<MemDisk>) -> Result<bool, Op
     Ok(failed)
 }
 
-/// Opens an archive in doubt again, where the first try fails. Returns what is found then, and what
-/// the message is answered.
+/// Reopens an archive in doubt, where the first try fails. Returns what is found then, and what the
+/// message is answered.
 fn found_after(
     rt: &impl Abort,
     engine: &mut Engine<MemDisk>,
@@ -260,7 +260,7 @@ fn found_if_in_doubt(
     Ok(Some(found))
 }
 
-/// Makes an archive on a disk that fails, and delivers a message to it so. Returns None where the
+/// Makes an archive on a disk that fails, and delivers a message to it so. Returns `None` if the
 /// making already fails.
 fn found_over(
     rt: &impl Abort,
@@ -276,7 +276,8 @@ fn found_over(
     }
 }
 
-/// Does so over a disk of which two calls in a row fail, by the first one's ordinal from 1.
+/// Makes an archive and delivers a message to it, over a disk of which two calls in a row fail, by
+/// the first one's ordinal from 1.
 fn found_over_failing(
     rt: &impl Abort,
     alloc: Global,

@@ -165,7 +165,7 @@ fn epochs_are_read_as_memory_has_them(rt: HostRuntime) -> Result<(), Fail> {
     Ok(())
 }
 
-/// A disk of which one call fails, by its ordinal from 1.
+/// Returns a disk of which one call fails, by its ordinal from 1.
 fn failing(alloc: Global, ordinal: u64) -> Result<MemDisk, NoMemory> {
     let mut faults = Numbers::new(alloc);
     faults.push(ordinal)?;
@@ -173,7 +173,7 @@ fn failing(alloc: Global, ordinal: u64) -> Result<MemDisk, NoMemory> {
 }
 
 /// Makes an archive of two messages on a disk, and returns whether the second one is read right.
-/// Returns None where the disk fails before the reading.
+/// Returns `None` if the disk fails before the reading.
 fn second_is_read(alloc: Global, disk: MemDisk) -> Option<Result<bool, TextRefusal>> {
     let mut disk = disk;
     match filled(alloc, &mut disk) {

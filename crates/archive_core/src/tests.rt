@@ -1,5 +1,5 @@
-//! Archives on disks in memory: what commands are answered, what a fault leaves, and what is opened
-//! again. The ids were worked out by git.
+//! Archives on disks in memory: what commands are answered, what a fault leaves, and what is
+//! reopened. The ids were worked out by git.
 ghost use Rattle.std.specs.Prelude.{◌≤◌, length, IfSome, IfOk, OnOk};
 ghost use Rattle.arch_base.specs.Configs.{IsConfig};
 ghost use Rattle.disk_model.specs.Disk.{WhereTold};
@@ -246,7 +246,7 @@ fn filled<D: Disk>(alloc: Global, disk: &mut D) -> Result<u64, InitRefusal> {
     Ok(archive.entry_count())
 }
 
-/// Puts a new message into an archive.
+/// Appends a new message to an archive.
 pub(crate) fn put<D: Disk>(
     archive: &mut DiskArchive,
     disk: &mut D,
@@ -270,7 +270,7 @@ fn opened_count<D: Disk>(alloc: Global, disk: &mut D) -> Result<u64, OpenRefusal
     }
 }
 
-/// Makes an archive of two messages over a disk that stops after so many calls, and opens what is
+/// Makes an archive of two messages over a disk that stops after this many calls, and opens what is
 /// left there. Returns how many messages each of the two finds.
 fn filled_and_left(
     alloc: Global,

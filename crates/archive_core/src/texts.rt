@@ -1,4 +1,4 @@
-//! Puts the own id and the blob id of a text into an index, and removes them.
+//! Adds the own id and the blob id of a text to an index, and removes them.
 ghost use Rattle.std.specs.Prelude.{◌≡◌, IsSome, Some, None, IfOk, OnOk, OnErr};
 ghost use Rattle.mail_reader.specs.Ids.{own_id as own_id_in};
 ghost use Rattle.arch_model.specs.Memory.{HasSame, number_in};
@@ -9,7 +9,7 @@ use arch_model::{Index, Owner};
 use mail_reader::{content_id, own_id};
 use std::alloc::Global;
 
-/// Puts a text with a new blob id into an index. An error leaves the index unchanged.
+/// Adds a text with a new blob id to an index. An error leaves the index unchanged.
 pub(crate) fn put_text(
     alloc: Global,
     index: &mut Index,

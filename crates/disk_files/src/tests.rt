@@ -79,10 +79,11 @@ fn lists<D: Disk>(alloc: Global, disk: &mut D, names: &[FileName]) -> Result<boo
     Ok(file_names(alloc, disk)?.as_slice() == names)
 }
 
-/// Whether the names of three files are listed by four calls of the disk, and with fewer the fault is answered.
+/// Returns whether the names of three files are listed by four calls of the disk, and with fewer
+/// the fault is answered.
 fn lists_in_four_calls(alloc: Global, passes: u64) -> Result<bool, DiskFault> {
     let mut fuse = FuseDisk::new(filled(alloc)?, passes);
-    // A look at each of three names, and one behind them.
+    // A look at each of three names, and one after them.
     match lists(alloc, &mut fuse, &[A, B, C]) {
         Ok(listed) => Ok(passes >= 4 && listed),
         Err(refusal) => Ok(passes < 4 && refusal == WalkRefusal::DiskFault),
@@ -99,7 +100,8 @@ fn all_names_are_listed_in_order(rt: HostRuntime) -> Result<(), Fail> {
     Ok(())
 }
 
-/// A disk on which a call was stopped: how many changes it had before, and whether the call is done.
+/// A disk on which a call was stopped: how many changes it had before, and whether the call is
+/// done.
 #[derive(Drop)]
 struct Stopped {
     disk: MemDisk,

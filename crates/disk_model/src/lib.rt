@@ -1,4 +1,5 @@
-//! A disk of named files that says what a crash may leave, and two disks for tests.
+//! A disk of named files that says what a crash may leave; a disk in memory, and one that fails
+//! from a call on.
 #![tactic(auto)]
 
 mod again;

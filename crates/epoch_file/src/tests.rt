@@ -1,5 +1,5 @@
-//! Epochs of three entries whose bytes were made by another program: what is written, what is seen of them, and where they
-//! are damaged.
+//! Epochs of three entries whose bytes were made by another program: what is written, what is seen
+//! of them, and where they are damaged.
 use crate::{NewEntry, Seen, StoreRefusal, Written, append_entry, law_of_epochs, walk};
 use arch_base::{Bytes, NoMemory, Numbers, ObjectId, id_of_hex};
 use arch_model::push_entry;
@@ -164,8 +164,9 @@ fn a_walk_sees_each_entry(rt: HostRuntime) -> Result<(), Fail> {
     Ok(())
 }
 
-/// Where a walk of the epoch ends where the byte at this place is another one, or that it sees three entries still. A
-/// digit of a commit's moment makes another commit, which the next one doesn't name.
+/// Returns where a walk of the epoch ends if the byte at this offset is another one, or that the
+/// walk still sees three entries. A digit of a commit's moment makes another commit, which the next
+/// one doesn't name.
 fn broken(place: u64) -> Result<usize, WalkRefusal> {
     match place {
         1005..1014 => Ok(3),
@@ -249,7 +250,8 @@ fn cut_at(length: u64) -> u64 {
     }
 }
 
-/// Cuts the epoch's file to each length below its own, from the greatest on, removes it, and walks the epoch.
+/// Cuts the epoch's file to each length below its own, from the greatest on, removes it, and walks
+/// the epoch.
 fn cut_each<D: Disk>(rt: &impl Abort, alloc: Global, disk: &mut D) -> Result<(), DiskFault> {
     for gone in 1..1029 {
         let length = LENGTH - gone;
@@ -348,7 +350,7 @@ fn what_no_archive_keeps_is_damage(rt: HostRuntime) -> Result<(), Fail> {
     Ok(())
 }
 
-/// Puts the second entry behind the first with this parent, and gives what a walk finds.
+/// Appends the second entry to the first one with this parent, and returns what a walk finds.
 fn count_behind<D: Disk>(
     alloc: Global,
     disk: &mut D,
@@ -358,7 +360,8 @@ fn count_behind<D: Disk>(
     Ok(count(alloc, disk, second.end))
 }
 
-/// Whether a walk finds damage at the second entry where it has this parent. The file is cut to the first one again.
+/// Returns whether a walk finds damage at the second entry where it has this parent. The file is
+/// cut to the first one again.
 fn is_wrong_parent<D: Disk>(
     alloc: Global,
     disk: &mut D,
@@ -369,7 +372,8 @@ fn is_wrong_parent<D: Disk>(
     Ok(found == Err(WalkRefusal::Damaged { at: 316 }))
 }
 
-/// Puts the second entry after the first one with two wrong parents and with the right one, and walks the epoch.
+/// Appends the second entry to the first one with two wrong parents and with the right one, and
+/// walks the epoch.
 fn try_parents<D: Disk>(rt: &impl Abort, alloc: Global, disk: &mut D) -> Result<(), StoreRefusal> {
     let new = entry(b'm', FIRST, 1_706_781_700, None);
     let first = append(alloc, disk, 0, &new)?;

@@ -1,4 +1,5 @@
--- An entry that is put, and the root that is committed behind it: what the two calls leave, from the clauses of each.
+-- An entry that is written, and the root that is committed after it: what the two calls leave, from
+-- the clauses of each.
 use Rattle.std.proofs.Common.{◌≡◌, ◌<◌, ◌≤◌, ◌+◌, ◌-◌, ◌^◌, ◌∙◌, ℕ, List, length, sym, ap, subst, arith}
 use Rattle.std.specs.Prelude.{Option}
 use Rattle.disk_model.specs.Disk.{Files, Content, Image, Told, ReadsFit, LeavesOnly}
@@ -27,7 +28,8 @@ use Rattle.epoch_store.proofs.Appends.{map_part, epoch_isnt_root, map_isnt_root}
 use Rattle.epoch_store.proofs.Kept.{same_view, stands_now}
 use Rattle.epoch_store.proofs.Delivering.{new_piece, new_line, epoch_part, during_put, during_commit, store_keeps, roots_stay, map_part_is, epoch_part_is, piece_is, line_is}
 
--- What is known once the entry is put: what stands where it ends, and that the other slot is ready for the next root, a later one.
+-- What is known once the entry is written: what is found where it ends, and that the other slot is
+-- ready for the next root, a later one.
 pub record IsPut (v : View) (a : Archive) (p : NextPlace) (e : NewEntry) (k0 k2 : Option Content) (slot : ℕ) (next : Root) (written : Written) : Type 0 where
   pub did : Told (AreAppended (epoch_part p) (new_piece a p e.text.now e.moment) (map_part v.root (map_bytes a)) (new_line a p e.text.now e.moment)) k0 k2
   pub ends : written.end ≡ p.length + length (new_piece a p e.text.now e.moment)
@@ -35,7 +37,7 @@ pub record IsPut (v : View) (a : Archive) (p : NextPlace) (e : NewEntry) (k0 k2 
   pub later : sequence_of (spelling v.root) < next.sequence
 
 module _ (v : View) (a : Archive) (p : NextPlace) (e : NewEntry) (k0 : Option Content) (store : IsStoreOf v a k0) (goes : GoesNext v a p e) where
-  -- by what was put into the files of these names
+  -- From what was written to the files of these names.
   pub is_put : (k2 : Option Content) (root next : Root) (slot : ℕ) (entries : List StoredEntry) (epoch map : FileName) (written : Written) → record { root = root; slot = slot; entries = entries } ≡ v → epoch ≡ epoch_name p.epoch p.gen_ → map ≡ map_name root.map.gen_
       → IsMessage p e → ReadsFit k0 → written ≡ written_of p.length e → next ≡ root_after v.root p written.end
       → Told (AreAppended (record { file = epoch; place = p.length }) (appended p.length e) (record { file = map; place = root.map.length }) (record_bytes (record { number = root.next; epoch = epoch.number; blob = blob_id_of e.text.now }))) k0 k2
@@ -64,7 +66,7 @@ module _ (v : View) (a : Archive) (p : NextPlace) (e : NewEntry) (k0 : Option Co
       }
 
   module _ {D : Type 0} (moment : D → ℕ) (left_since : D → ℕ → Files → Type 0) (disk mid : D) (small : p.epoch ≤ 63) (in_time : e.moment ≤ last_moment) (fit : ReadsFit k0) where
-    -- what a crash leaves while the entry is put
+    -- What a crash leaves while the entry is written.
     pub putting_leaves : (root : Root) (slot : ℕ) (entries : List StoredEntry) (epoch map : FileName) → record { root = root; slot = slot; entries = entries } ≡ v → epoch ≡ epoch_name p.epoch p.gen_ → map ≡ map_name root.map.gen_
         → LeavesOnly moment left_since disk mid (Appending (record { file = epoch; place = p.length }) (record { file = map; place = root.map.length }) k0)
         → LeavesOnly moment left_since disk mid (RecoversEither a (with_message a p e))
@@ -78,7 +80,7 @@ module _ (v : View) (a : Archive) (p : NextPlace) (e : NewEntry) (k0 : Option Co
         weaker moment left_since disk mid (Appending (epoch_part p) (map_part v.root (map_bytes a)) k0) (RecoversEither a (with_message a p e)) named
         (λ image. during_put v a p e.text.now e.moment keeps goes.place small goes.room goes.accepts in_time k0 image fit store)
 
-    -- and while the next root is committed
+    -- What a crash leaves while the next root is committed.
     pub committing_leaves : (new : D) (k2 : Option Content) (next : Root) (slot : ℕ) (written : Written) → IsPut v a p e k0 k2 slot next written → next ≡ root_after v.root p written.end → p ≡ place_of v.root p.epoch p.parent → written.end < 2 ^ 64 → ReadsFit k2
         → LeavesOnly moment left_since disk mid (RecoversEither a (with_message a p e)) → LeavesOnly moment left_since mid new (IsOldOrNew (spelling v.root) (spelling next) k2)
         → LeavesOnly moment left_since disk new (RecoversEither a (with_message a p e))
@@ -91,14 +93,15 @@ module _ (v : View) (a : Archive) (p : NextPlace) (e : NewEntry) (k0 : Option Co
         (λ image recovers. recovers)
         (λ image. during_commit v a p e.text.now e.moment keeps goes.place small goes.room goes.accepts in_time place written.end put.ends long k0 k2 image fit2 store put.did)
 
--- A store that got room for one more entry keeps its archive still, and the entry goes next in it.
+-- A store that got room for one more entry still keeps its archive, and the entry is the next one
+-- in it.
 pub record HasRoom (v w : View) (a : Archive) (p : NextPlace) (e : NewEntry) (k : Option Content) : Type 0 where
   pub same : v ≡ w
   pub next : IsNextPlace v.root a (next_sequence v.root.sequence) p
   pub goes : GoesNext w a p e
   pub owns : IsStoreOf w a k
 
--- by the clauses of the calls before
+-- From the clauses of the calls before.
 pub has_room : (v : View) (a : Archive) (p : NextPlace) (e : NewEntry) (k : Option Content) (root : Root) (slot : ℕ) (entries more : List StoredEntry) → record { root = root; slot = slot; entries = entries } ≡ v → more ≡ entries → IsStoreOf v a k → v.root.sequence + 1 < 2 ^ 64 → Accepts v e.text.now
     → (Keeps v a → IsNextPlace v.root a (next_sequence v.root.sequence) p) → HasRoom v (record { root = root; slot = slot; entries = more }) a p e k
 has_room v a p e k root slot entries more view_is more_is store room accepts next_is =
@@ -112,6 +115,6 @@ has_room v a p e k root slot entries more view_is more_is store room accepts nex
       owns = subst (λ (u : View). IsStoreOf u a k) same store;
     }
 
--- before anything is written the archive is there
+-- Before anything is written the archive is there.
 pub waiting_leaves : {D : Type 0} (moment : D → ℕ) (left_since : D → ℕ → Files → Type 0) (disk : D) (v : View) (a b : Archive) (k : Option Content) → IsStoreOf v a k → ((image : Files) → left_since disk (moment disk) image → Image k image) → LeavesOnly moment left_since disk disk (RecoversEither a b)
 waiting_leaves moment left_since disk v a b k store now = started moment left_since disk (RecoversEither a b) (λ image left. stands_now v a b k image store (now image left))

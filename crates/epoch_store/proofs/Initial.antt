@@ -143,9 +143,9 @@ none_before (Some k) None n synced same none = absurd synced
 none_before (Some k) (Some m) None synced same none = absurd same
 none_before (Some k) (Some m) (Some n) synced same none = let wrong : Some n ≡ None = none in cc
 
--- an archive is made on a disk on which there is none, by the clauses of the calls
+-- An archive is made on a disk on which there is none, from the clauses of the calls.
 module _ (config : Config) (name : IsName config.name) (valid : IsConfig config) (root : Root) (root_is : root ≡ first_root_of config) (k0 k1 k2 : Option Content) (synced : Told Synced k0 k1) (same : Told Unchanged k1 k2) (shut : WhereTold (λ k. IsShutFile (k root_name).seen) k0) where
-  -- what a crash leaves at each moment of it
+  -- What a crash leaves at each moment of it.
   pub making_leaves : {D : Type 0} (moment : D → ℕ) (left_since : D → ℕ → Files → Type 0) (disk d1 d2 new : D) → ReadsFit k0 → LeavesOnly moment left_since disk d1 (Image k0) → LeavesOnly moment left_since d1 d2 (Image k1)
       → (EachShut k2 → LeavesOnly moment left_since d2 new (MakesRoot (spelling root) k2)) → LeavesOnly moment left_since disk new (MakingLeaves (empty_archive config) k0)
   making_leaves moment left_since disk d1 d2 new fit looks lists makes =
@@ -156,14 +156,14 @@ module _ (config : Config) (name : IsName config.name) (valid : IsConfig config)
       subst (λ (r : Root). LeavesOnly moment left_since d2 new (MakesRoot (spelling r) k2)) root_is (makes (shut_unchanged k1 k2 same (shut_synced k0 k1 synced shut))) in
       joined moment left_since disk d2 new P (MakesRoot body k2) P first made (λ image leaves. leaves) (λ image. makes_empty config k0 k2 image name valid (none_before k0 k1 k2 synced same) shut)
 
--- and the root alone is there in the end
+-- At the end only the root is there.
 pub makes_only : (config : Config) (root : Root) → root ≡ first_root_of config → (names listed : List FileName) → names ≡ listed → (k1 k2 k3 : Option Content) → Told Unchanged k1 k2 → WhereTold (AreAllNames listed) k1
     → (WhereTold (AreAllNames names) k2 → 0 < root.sequence → WhereTold (HasOnly (spelling root)) k3) → WhereTold (HasOnly (spelling (first_root_of config))) k3
 makes_only config root root_is names listed names_are k1 k2 k3 same all done =
     let named = names_unchanged names k1 k2 same (subst (λ (l : List FileName). WhereTold (AreAllNames l) k1) (sym names_are) all) in
     subst (λ (r : Root). WhereTold (HasOnly (spelling r)) k3) root_is (done named (subst (λ (r : Root). 0 < r.sequence) (sym root_is) (omega arith)))
 
--- a sync and a look behind it leave what a crash before might have left
+-- A sync and a read after it leave what a crash before might have left.
 pub looking_leaves : {D : Type 0} (moment : D → ℕ) (left_since : D → ℕ → Files → Type 0) (disk mid new : D) (k0 k1 : Option Content) → ((image : Files) → left_since disk (moment disk) image → Image k0 image) → Elapses (moment disk) (moment mid) (left_since disk) (left_since mid) k1
     → ((image : Files) → Image k1 image → Image k0 image) → LeavesOnly moment left_since mid new (Image k1) → LeavesOnly moment left_since disk new (Image k0)
 looking_leaves moment left_since disk mid new k0 k1 now time fewer looks =

@@ -304,11 +304,11 @@ rest_refuses U DiskFault k m n well synced same = tt
 rest_refuses U NoMemory k m n well synced same = still_synced k m n synced (same refl)
 
 module _ (root : Root) (slot : ℕ) (map : List ℕ) (epochs : ℕ → List ℕ) (k0 k1 : Option Content) (found : FoundOn root slot map epochs k0) (same : Told Unchanged k0 k1) (names others : List FileName) (names_are : names ≡ others) (unnamed : WhereTold (AreOthers root others) k0) where
-  -- the files that are listed are to be swept
+  -- The files that are listed are to be swept.
   pub listed_to_sweep : ToSweep root slot map epochs names k1
   listed_to_sweep = to_sweep root slot map epochs names k0 k1 found (subst (λ (l : List FileName). WhereTold (AreOthers root l) k0) (sym names_are) unnamed) same
 
-  -- what a crash leaves while files are listed and the disk is then swept
+  -- What a crash leaves while files are listed and the disk is then swept.
   pub settling_leaves : {D : Type 0} (moment : D → ℕ) (left_since : D → ℕ → Files → Type 0) (disk mid new : D) → LeavesOnly moment left_since disk mid (Image k0) → LeavesOnly moment left_since mid new (StandsFor root map epochs) → LeavesOnly moment left_since disk new (StandsFor root map epochs)
   settling_leaves moment left_since disk mid new lists sweeps =
       joined moment left_since disk mid new (Image k0) (StandsFor root map epochs) (StandsFor root map epochs) lists sweeps (λ image. found_image root slot map epochs k0 image found) (λ image stands. stands)

@@ -67,9 +67,9 @@ module _ (root : Root) (slot : ℕ) (map : List ℕ) (epochs : ℕ → List ℕ)
   at_rest_then (Some k0) (Some k1) (Some k2) (Some k3) (Some k4) sweep readied cut removed fit synced =
       swept root slot map epochs sweep.found.map_long sweep.found.epochs_long others k0 k1 k2 sweep readied cut k3 k4 (stands_ready root slot map epochs others k0 k1 sweep readied) removed synced fit
 
-  -- what a crash leaves at each moment of these steps, by the clauses of their calls
+  -- What a crash leaves at each moment of these steps, by the clauses of their calls.
   module _ {D : Type 0} (moment : D → ℕ) (left_since : D → ℕ → Files → Type 0) (k0 : Option Content) (todo : ToSweep root slot map epochs others k0) (disk d1 : D) (readying : LeavesOnly moment left_since disk d1 (StaysCurrent slot (spelling root) k0)) where
-    -- the first
+    -- What a crash leaves at each moment of the first.
     pub readying_leaves : LeavesOnly moment left_since disk d1 (StandsFor root map epochs)
     readying_leaves = weaker moment left_since disk d1 (StaysCurrent slot (spelling root) k0) (StandsFor root map epochs) readying (λ image. during_ready k0 image todo)
 
@@ -77,7 +77,7 @@ module _ (root : Root) (slot : ℕ) (map : List ℕ) (epochs : ℕ → List ℕ)
       fronts : LeavesOnly moment left_since d1 d2 (HasFronts (named_parts_of root) k1)
       fronts = subst (λ (l : List FilePart). LeavesOnly moment left_since d1 d2 (HasFronts l k1)) named cuts
 
-      -- the first two
+      -- What a crash leaves at each moment of the first two.
       pub cutting_leaves : LeavesOnly moment left_since disk d2 (StandsFor root map epochs)
       cutting_leaves = joined moment left_since disk d1 d2 (StandsFor root map epochs) (HasFronts (named_parts_of root) k1) (StandsFor root map epochs) readying_leaves fronts (λ image stands. stands) (λ image. during_cut k0 k1 image todo readied)
 
@@ -85,11 +85,11 @@ module _ (root : Root) (slot : ℕ) (map : List ℕ) (epochs : ℕ → List ℕ)
         removal : (image : Files) → Fewer others k2 image → StandsFor root map epochs image
         removal image = during_removal k0 k1 k2 image todo readied (subst (λ (l : List FilePart). Told (AreCut l) k1 k2) named cut) fit (λ i left. fronts.each i (counts (moment d1) i fronts.later left))
 
-        -- the first three
+        -- What a crash leaves at each moment of the first three.
         pub removing_leaves : LeavesOnly moment left_since disk d3 (StandsFor root map epochs)
         removing_leaves = joined moment left_since disk d2 d3 (StandsFor root map epochs) (Fewer others k2) (StandsFor root map epochs) cutting_leaves removes (λ image stands. stands) removal
 
-        -- and all four
+        -- What a crash leaves at each moment of all four.
         pub syncing_leaves : (k3 k4 : Option Content) (d4 : D) → Elapses (moment d3) (moment d4) (left_since d3) (left_since d4) k4 → ((t : ℕ) (image : Files) → t ≤ moment d3 → Image k3 image → left_since d3 t image) → ((image : Files) → Image k4 image → Image k3 image)
             → LeavesOnly moment left_since disk d4 (StandsFor root map epochs)
         syncing_leaves k3 k4 d4 time counts3 earlier = goes_on moment left_since disk d3 d4 (StandsFor root map epochs) k4 removing_leaves time (λ image left. removal image (removes.each image (counts3 (moment d2) image removes.later (earlier image left))))

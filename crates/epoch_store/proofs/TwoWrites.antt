@@ -112,14 +112,14 @@ module _ (first second : Part) (apart : first.file ≢ second.file) where
   inside_after n (Some k) None inside told = absurd told
   inside_after n (Some k) (Some m) inside told = subst (λ (kept : Kept). second.place ≤ length (bytes_of kept.seen)) (sym (told.elsewhere second.file (λ is. apart (sym is)))) inside
 
--- what a crash leaves at each moment of both writes and a sync, by the clauses of these calls
+-- What a crash leaves at each moment of both writes and a sync, by the clauses of these calls.
 module _ {D : Type 0} (moment : D → ℕ) (left_since : D → ℕ → Files → Type 0) (first second : Part) (apart : first.file ≢ second.file) (k0 k1 : Option Content) (fit : ReadsFit k0) (inside : WhereTold (IsAtMostLength first.file first.place) k0) (disk mid : D)
     (now : (image : Files) → left_since disk (moment disk) image → Image k0 image) (time : Elapses (moment disk) (moment mid) (left_since disk) (left_since mid) k1) (n p : ℕ) (one : Told (OneFile first.file (Touched first.place n)) k0 k1)
     (inside_second : WhereTold (IsAtMostLength second.file second.place) k0) (new : D) (k2 : Option Content) (time_second : Elapses (moment mid) (moment new) (left_since mid) (left_since new) k2) (two : Told (OneFile second.file (Touched second.place p)) k1 k2) where
   after_both : (image : Files) → Image k2 image → Appending first second k0 image
   after_both image = appending_two first second apart n p k0 k1 k2 image fit inside inside_second one two
 
-  -- of both writes
+  -- What a crash leaves at each moment of both writes.
   pub both_leave : LeavesOnly moment left_since disk new (Appending first second k0)
   both_leave =
       let P = Appending first second k0 in
@@ -127,6 +127,6 @@ module _ {D : Type 0} (moment : D → ℕ) (left_since : D → ℕ → Files →
       let wrote = goes_on moment left_since disk disk mid P k1 start time (λ image. appending_one first second apart n k0 k1 image fit inside one) in
       goes_on moment left_since disk mid new P k2 wrote time_second after_both
 
-  -- and of the sync
+  -- What a crash leaves at each moment of the sync.
   pub synced_leave : (last : D) (k3 : Option Content) → Elapses (moment new) (moment last) (left_since new) (left_since last) k3 → ((image : Files) → Image k3 image → Image k2 image) → LeavesOnly moment left_since disk last (Appending first second k0)
   synced_leave last k3 time_last earlier = goes_on moment left_since disk new last (Appending first second k0) k3 both_leave time_last (λ image left. after_both image (earlier image left))

@@ -1,4 +1,5 @@
-//! The disk of an archive of one message, damaged, or left with more than its root names, and what is found when it is opened.
+//! Tests of the disk of an archive of one message, damaged or with more than its root names: what
+//! is found when it is opened.
 use crate::Store;
 use crate::opening_tests::{begin, listed_behind, opened};
 use crate::tests::{MAP, ROOT, SECOND, append, epoch, put, write};
@@ -17,7 +18,8 @@ const EPOCH: FileName = FileName {
     gen_: 2,
 };
 
-/// Bytes that are written over those at a place of a file, and the file and the place of the damage. None where no archive is found.
+/// A file, the offset at which bytes are written over its own, these bytes, and the file and the
+/// offset of the damage. `None` if no archive is found.
 const CHANGES: [(FileName, u64, &[u8], Option<(FileName, u64)>); 9] = [
     // Both slots are shut.
     (ROOT, 0, b"\0\0", None),
@@ -36,7 +38,8 @@ const CHANGES: [(FileName, u64, &[u8], Option<(FileName, u64)>); 9] = [
     (EPOCH, 119, b"!", Some((EPOCH, 8))),
 ];
 
-/// Lengths that files are cut to, and the file and the place of the damage. None where no archive is found.
+/// A file, the length that it is cut to, and the file and the offset of the damage. `None` if no
+/// archive is found.
 const CUTS: [(FileName, u64, Option<(FileName, u64)>); 5] = [
     (ROOT, 4095, None),
     (MAP, 27, Some((MAP, 0))),
@@ -52,7 +55,7 @@ struct WholeFile {
     bytes: Vec<u8>,
 }
 
-/// A file of a disk.
+/// Returns a file of a disk.
 fn whole_file(alloc: Global, disk: &mut MemDisk, name: FileName) -> Result<WholeFile, Fail> {
     let length = disk.length(name)?;
     let mut bytes = vec![in alloc; 0; length as usize]?;
@@ -70,19 +73,20 @@ fn all_files(alloc: Global, disk: &mut MemDisk) -> Result<Vec<WholeFile>, Fail> 
     Ok(files)
 }
 
-/// Whether a disk has these files.
+/// Returns whether a disk has these files.
 fn has_files(alloc: Global, disk: &mut MemDisk, files: &Vec<WholeFile>) -> Result<bool, Fail> {
     Ok(all_files(alloc, disk)? == *files)
 }
 
-/// The disk of an archive of one message: a root file of 4,096 bytes, a map of 28, and an epoch of 316.
+/// Returns the disk of an archive of one message: a root file of 4,096 bytes, a map of 28, and an
+/// epoch of 316.
 fn one_message(alloc: Global) -> Result<MemDisk, Fail> {
     let mut disk = MemDisk::new(alloc, Numbers::new(alloc));
     begin(alloc, &mut disk, 316, 2)?;
     Ok(disk)
 }
 
-/// Whether a disk isn't opened: no archive is there, or the damage is found at its place.
+/// Returns whether a disk isn't opened: no archive is there, or the damage is found at its offset.
 fn is_refusal(alloc: Global, disk: &mut MemDisk, damage: Option<(FileName, u64)>) -> bool {
     let want = match damage {
         None => OpenRefusal::NoArchive,
@@ -94,7 +98,8 @@ fn is_refusal(alloc: Global, disk: &mut MemDisk, damage: Option<(FileName, u64)>
     }
 }
 
-/// Opens a disk, and says whether that is refused as it should be and leaves each file as it was.
+/// Opens a disk, and returns whether that is refused as it should be and leaves each file as it
+/// was.
 fn is_refused(
     alloc: Global,
     disk: &mut MemDisk,
@@ -150,14 +155,14 @@ fn a_file_cut_short_is_damage_at_its_first_place(rt: HostRuntime) -> Result<(), 
     Ok(())
 }
 
-/// Whether the archive on a disk is opened as that after so many calls.
+/// Returns whether the archive on a disk is opened as that after this many calls.
 fn is_opened(alloc: Global, disk: &mut MemDisk, calls: u64) -> Result<bool, Fail> {
     let archive = listed_behind(alloc, 316, calls)?;
     Ok(opened(alloc, disk)? == archive)
 }
 
-/// Appends bytes to a file of an archive of one message, and says whether its opening brings the files
-/// back.
+/// Appends bytes to a file of an archive of one message, and returns whether its opening brings the
+/// files back.
 fn is_swept(
     alloc: Global,
     disk: &mut MemDisk,
@@ -174,7 +179,8 @@ fn is_swept(
 /// Appends bytes to each file that an opening looks at, one after the other.
 fn sweep_each(rt: &impl Abort, alloc: Global, files: &Vec<WholeFile>) -> Result<(), Fail> {
     assert!(rt; files.len() == 3 && files[2].bytes.len() == 316);
-    // Tails of the epoch and of the map, an epoch of another generation, and one that the archive has not come to.
+    // Tails of the epoch and of the map, an epoch of another generation, and one that the archive
+    // has not reached.
     for file in [EPOCH, MAP, epoch(0, 9), epoch(1, 3)] {
         let mut disk = one_message(alloc)?;
         assert!(rt;
@@ -193,7 +199,7 @@ fn what_no_root_names_is_taken_away(rt: HostRuntime) -> Result<(), Fail> {
     sweep_each(&rt, rt.alloc(), &files)
 }
 
-/// Whether slot 0 is shut and slot 1 is open, and both have one root.
+/// Returns whether slot 0 is shut and slot 1 is open, and both have one root.
 fn has_one_root(disk: &mut MemDisk) -> Result<bool, DiskFault> {
     let mut root = [0; 4096];
     let count = disk.read(ROOT, 0, &mut root)?;
@@ -201,7 +207,7 @@ fn has_one_root(disk: &mut MemDisk) -> Result<bool, DiskFault> {
     Ok(count == 4096 && gates && &root[1024..2560] == &root[2560..4096])
 }
 
-/// Puts the second message into the archive of one on a disk, and says whether both are found.
+/// Appends the second message to the archive of one on a disk, and returns whether both are found.
 fn goes_on(alloc: Global, disk: &mut MemDisk) -> Result<bool, Fail> {
     let mut store = Store::open(alloc, disk)?;
     put(alloc, disk, &mut store, SECOND)?;

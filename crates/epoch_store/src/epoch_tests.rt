@@ -9,7 +9,8 @@ use std::alloc::Global;
 use std::process::Abort;
 use std::test::Fail;
 
-/// Whether an epoch has an entry, and its bytes after another byte, as the archive on a disk has it.
+/// Returns whether an epoch has an entry, and its bytes after another byte, as the archive on a
+/// disk has it.
 fn on_disk<D: Disk>(
     alloc: Global,
     disk: &mut D,
@@ -22,7 +23,7 @@ fn on_disk<D: Disk>(
     Ok((found, bytes))
 }
 
-/// The same, as the archive in memory has it.
+/// Returns the same, as the archive in memory has it.
 fn in_model(alloc: Global, archive: &MemArchive, number: u32) -> Result<(bool, Bytes), NoMemory> {
     let mut bytes = Bytes::new(alloc);
     bytes.push(b'>')?;
@@ -30,7 +31,8 @@ fn in_model(alloc: Global, archive: &MemArchive, number: u32) -> Result<(bool, B
     Ok((found, bytes))
 }
 
-/// Whether an epoch is read as the archive in memory has it: the first two have 316 bytes each, and no other is there.
+/// Returns whether an epoch is read as the archive in memory has it: the first two have 316 bytes
+/// each, and no other is there.
 fn is_read_alike<D: Disk>(
     alloc: Global,
     disk: &mut D,
@@ -46,7 +48,7 @@ fn is_read_alike<D: Disk>(
     Ok(there && alike && bytes.as_slice().len() == size)
 }
 
-/// Whether each epoch is read as the archive in memory has it.
+/// Returns whether each epoch is read as the archive in memory has it.
 fn are_read_alike<D: Disk>(
     alloc: Global,
     disk: &mut D,
@@ -63,8 +65,8 @@ fn are_read_alike<D: Disk>(
     Ok(true)
 }
 
-/// Fills an archive of which each epoch has one message, and says whether its epochs are read as the
-/// archive in memory has them.
+/// Fills an archive of which each epoch has one message, and returns whether its epochs are read as
+/// the archive in memory has them.
 fn fill_and_read<D: Disk>(alloc: Global, disk: &mut D) -> Result<bool, Fail> {
     let store = fill(alloc, disk, 1)?;
     let alike = are_read_alike(alloc, disk, &store)?;
@@ -78,7 +80,8 @@ fn an_epoch_is_read_as_memory_has_it(rt: HostRuntime) -> Result<(), Fail> {
     Ok(())
 }
 
-/// Reads the second epoch after another byte, and says whether the disk failed, which leaves the bytes.
+/// Appends the second epoch to another byte, and returns whether the disk failed, which leaves the
+/// bytes unchanged.
 fn read_fails<D: Disk>(
     rt: &impl Abort,
     alloc: Global,
@@ -99,7 +102,8 @@ fn read_fails<D: Disk>(
     }
 }
 
-/// Makes and fills an archive where one call of the disk fails, and says whether that call read the second epoch.
+/// Makes and fills an archive where one call of the disk fails, and returns whether that call read
+/// the second epoch.
 fn fails_at(rt: &impl Abort, alloc: Global, ordinal: u64) -> Result<bool, NoMemory> {
     let mut disk = failing(alloc, ordinal)?;
     match fill(alloc, &mut disk, 1) {

@@ -1,4 +1,5 @@
-//! Archives opened behind a call of the disk that failed, also one of an opening before.
+//! Tests of archives that are opened after a call of the disk failed, also a call of an opening
+//! before.
 ghost use Rattle.std.specs.Prelude.{◌≤◌};
 
 use crate::opening_tests::{Change, Listing, open_since, opened};
@@ -14,14 +15,15 @@ use std::test::Fail;
 /// More calls than all here make on a disk.
 const ENOUGH: u64 = 1000;
 
-/// A disk of which one call fails, by its ordinal from 1.
+/// Returns a disk of which one call fails, by its ordinal from 1.
 pub(crate) fn failing(alloc: Global, ordinal: u64) -> Result<MemDisk, NoMemory> {
     let mut faults = Numbers::new(alloc);
     faults.push(ordinal)?;
     Ok(MemDisk::new(alloc, faults))
 }
 
-/// Makes an archive and puts both messages into it, up to the first refusal. It says how many of these three calls answered Ok.
+/// Makes an archive and appends both messages to it, up to the first refusal. Returns how many of
+/// these three calls answered `Ok`.
 fn advance<D: Disk>(alloc: Global, disk: &mut D, limit: u64) -> (u64, Result<(), StoreRefusal>)
     requires low { 1 ≤ limit }
     requires high { limit ≤ 1099511627776 }
@@ -39,7 +41,7 @@ fn advance<D: Disk>(alloc: Global, disk: &mut D, limit: u64) -> (u64, Result<(),
     }
 }
 
-/// What is found on a disk of which one call at most is still to fail.
+/// Returns what is found on a disk of which one call at most is still to fail.
 fn opened_at_last<D: Disk>(alloc: Global, disk: &mut D) -> Result<Option<Listing>, OpenRefusal> {
     match opened(alloc, disk) {
         Err(OpenRefusal::DiskFault) => opened(alloc, disk),
@@ -47,15 +49,16 @@ fn opened_at_last<D: Disk>(alloc: Global, disk: &mut D) -> Result<Option<Listing
     }
 }
 
-/// Whether so many of the three calls answered Ok, and after fewer than three the disk failed.
+/// Returns whether this many of the three calls answered `Ok`, and after fewer than three the disk
+/// failed.
 fn is_answer(calls: u64, answer: &Result<(), StoreRefusal>) -> bool {
     let done = answer.is_ok();
     let known = done || *answer == Err(StoreRefusal::DiskFault);
     known && calls <= 3 && done == (calls == 3)
 }
 
-/// Whether a disk of which one call at most is still to fail has the archive after one count of calls
-/// or after another.
+/// Returns whether a disk of which one call at most is still to fail has the archive after one
+/// count of calls or after another.
 fn is_between<D: Disk>(
     alloc: Global,
     disk: &mut D,
@@ -71,8 +74,8 @@ fn is_between<D: Disk>(
     Ok(change.finds(&found))
 }
 
-/// Makes and fills an archive where the call of the disk of an ordinal fails, and opens it. It says whether
-/// none of the calls that fill it failed.
+/// Makes and fills an archive where the call of the disk of an ordinal fails, and opens it. Returns
+/// whether none of the calls that fill it failed.
 fn fill_and_open<D: Disk>(
     rt: &impl Abort,
     alloc: Global,
@@ -94,7 +97,8 @@ fn fill_and_open<D: Disk>(
     Ok(done)
 }
 
-/// Lets a call of the disk fail while an archive is made and filled, and opens it. It says whether none of those calls failed.
+/// Lets a call of the disk fail while an archive is made and filled, and opens it. Returns whether
+/// none of those calls failed.
 fn fail_at(rt: &impl Abort, alloc: Global, limit: u64, ordinal: u64) -> Result<bool, Fail>
     requires low { 1 ≤ limit }
     requires high { limit ≤ 1099511627776 }
@@ -103,7 +107,8 @@ fn fail_at(rt: &impl Abort, alloc: Global, limit: u64, ordinal: u64) -> Result<b
     fill_and_open(rt, alloc, &mut disk, limit, ordinal)
 }
 
-/// Lets each call of the disk fail in turn while an archive is made and filled, up to the first run in which none does.
+/// Lets each call of the disk fail in turn while an archive is made and filled, up to the first run
+/// in which none does.
 fn fail_each(rt: &impl Abort, alloc: Global, limit: u64) -> Result<(), Fail>
     requires low { 1 ≤ limit }
     requires high { limit ≤ 1099511627776 }
@@ -123,7 +128,8 @@ fn a_fault_leaves_the_archive_before_or_after(rt: HostRuntime) -> Result<(), Fai
     fail_each(&rt, rt.alloc(), 316)
 }
 
-/// Leaves work to an opening: the other slot is shut, two files have tails, and there are files that no root names.
+/// Leaves work to an opening: the other slot is shut, two files have tails, and there are files
+/// that no root names.
 fn disturb(disk: &mut MemDisk) -> Result<(), DiskFault> {
     write(disk, ROOT, 1, b"\0")?;
     append(disk, MAP)?;
@@ -132,7 +138,8 @@ fn disturb(disk: &mut MemDisk) -> Result<(), DiskFault> {
     append(disk, epoch(63, 1))
 }
 
-/// Where the call failed that was to fail while an archive is made and filled, disturbed and then opened.
+/// Where the call failed that was to fail while an archive is made and filled, disturbed and then
+/// opened.
 #[derive(Clone, Copy, PartialEq, Eq)]
 enum Fault {
     /// Before it is opened.
@@ -143,13 +150,14 @@ enum Fault {
     Nowhere,
 }
 
-/// Makes, fills and disturbs an archive, and says whether no call of the disk failed.
+/// Makes, fills and disturbs an archive, and returns whether no call of the disk failed.
 fn prepare(alloc: Global, disk: &mut MemDisk) -> bool {
     let (_calls, answer) = advance(alloc, disk, 316);
     answer.is_ok() && disturb(disk).is_ok()
 }
 
-/// Opens an archive where a call of the disk may fail, and says where it did. What is found is the same archive.
+/// Opens an archive where a call of the disk may fail, and returns where it did. What is found is
+/// the same archive.
 fn open_failing(rt: &impl Abort, alloc: Global, disk: &mut MemDisk, same: &mut Change) -> Fault {
     match opened(alloc, disk) {
         Err(refusal) => {
@@ -163,7 +171,8 @@ fn open_failing(rt: &impl Abort, alloc: Global, disk: &mut MemDisk, same: &mut C
     }
 }
 
-/// Opens an archive where a call of the disk may fail, and each image of it, which has the same archive.
+/// Opens an archive where a call of the disk may fail, and each image of it, which has the same
+/// archive.
 fn open_images(
     rt: &impl Abort,
     alloc: Global,
@@ -172,7 +181,8 @@ fn open_images(
 ) -> Result<Fault, Fail> {
     let start = disk.moments();
     let fault = open_failing(rt, alloc, disk, same);
-    // A call that fails changes nothing of this disk: the moments before are those of the opening without a fault.
+    // A call that fails changes nothing of this disk: the moments before are those of the opening
+    // without a fault.
     let first = if fault == Fault::Opening {
         disk.moments()
     } else {
@@ -182,14 +192,14 @@ fn open_images(
     Ok(fault)
 }
 
-/// Whether the same archive is found on a disk of which one call at most is still to fail.
+/// Returns whether the same archive is found on a disk of which one call at most is still to fail.
 fn is_found<D: Disk>(alloc: Global, disk: &mut D, same: &mut Change) -> Result<bool, OpenRefusal> {
     let found = opened_at_last(alloc, disk)?;
     Ok(same.finds(&found))
 }
 
-/// Makes, fills and disturbs an archive where a call of the disk may fail, and opens it. The opening, each image of it and a
-/// second opening have the same archive.
+/// Makes, fills and disturbs an archive where a call of the disk may fail, and opens it. The
+/// opening, each image of it and a second opening have the same archive.
 fn disturb_and_open(
     rt: &impl Abort,
     alloc: Global,
@@ -204,7 +214,8 @@ fn disturb_and_open(
     Ok(fault)
 }
 
-/// Lets a call of the disk fail while an archive is made and filled, disturbed and then opened, and says where it did.
+/// Lets a call of the disk fail while an archive is made and filled, disturbed and then opened, and
+/// returns where it did.
 fn fail_opening(
     rt: &impl Abort,
     alloc: Global,

@@ -1,4 +1,4 @@
-//! The entries of two epochs, joined to the records of a map by hand.
+//! Tests of the entries of two epochs, joined to the records of a map by hand.
 ghost use Rattle.epoch_store.specs.Joined.{AreBefore};
 
 use crate::StoredEntry;
@@ -13,16 +13,16 @@ use std::test::Fail;
 /// The epoch of a number that has no message.
 const NONE: u32 = 4_294_967_295;
 
-/// An entry: the name of its file, its place, a byte of its blob id, and its own id.
+/// An entry: the name of its file, its offset, a byte of its blob id, and its own id.
 #[derive(Drop)]
 struct Entry(u8, u64, u8, &'static [u8]);
 
-/// What comes of two epochs.
+/// The result of joining two epochs.
 #[derive(Debug, PartialEq, Eq, Drop)]
 enum Outcome {
-    /// So many entries.
+    /// This many entries.
     Joined(usize),
-    /// A place in an epoch.
+    /// An offset in an epoch.
     Damaged(u32, u64),
     /// A message that is missing from an epoch.
     Missing(u32),
@@ -43,7 +43,7 @@ fn records(alloc: Global, list: &[(u32, u8)]) -> Result<Records, NoMemory> {
     Ok(records)
 }
 
-/// What is seen of entries.
+/// Returns what is seen of entries.
 fn seen(alloc: Global, list: &[Entry]) -> Result<SeenList, NoMemory> {
     let mut seen = SeenList::new(alloc);
     for entry in list {
@@ -64,7 +64,7 @@ fn seen(alloc: Global, list: &[Entry]) -> Result<SeenList, NoMemory> {
     Ok(seen)
 }
 
-/// The records, the entries of the epochs 0 and 1, and what comes of joining them.
+/// The records, the entries of the epochs 0 and 1, and the result of joining them.
 #[derive(Drop)]
 struct Case(
     &'static [(u32, u8)],
@@ -73,7 +73,7 @@ struct Case(
     Outcome,
 );
 
-/// What comes of joining the entries of the epoch 1 behind those of the epoch 0.
+/// Returns the result of joining the entries of the epoch 1 after those of the epoch 0.
 fn joined_second(alloc: Global, joining: Joining, second: &[Entry]) -> Result<Outcome, NoMemory>
     requires before { AreBefore 1 joining.entries }
 {
@@ -88,7 +88,7 @@ fn joined_second(alloc: Global, joining: Joining, second: &[Entry]) -> Result<Ou
     }
 }
 
-/// What comes of joining the entries of the epochs 0 and 1.
+/// Returns the result of joining the entries of the epochs 0 and 1.
 fn joined_of(
     alloc: Global,
     list: &[(u32, u8)],
@@ -103,7 +103,7 @@ fn joined_of(
     }
 }
 
-/// Whether two epochs are joined as they should be.
+/// Returns whether two epochs are joined as they should be.
 fn is_joined_so(
     alloc: Global,
     Case(records, first, second, outcome): &Case,
@@ -111,7 +111,7 @@ fn is_joined_so(
     Ok(joined_of(alloc, records, first, second)? == *outcome)
 }
 
-/// The entries of the epochs 0 and 1, joined to records.
+/// Returns the entries of the epochs 0 and 1, joined to records.
 fn joined(
     alloc: Global,
     list: &[(u32, u8)],
@@ -124,7 +124,7 @@ fn joined(
     Ok(joining.finish()?)
 }
 
-/// Whether entries have these numbers, epochs and places.
+/// Returns whether entries have these numbers, epochs and offsets.
 fn are_placed(entries: &[StoredEntry], want: &[(u32, u32, u64)]) -> bool {
     if entries.len() != want.len() {
         return false;
@@ -154,7 +154,7 @@ const TWO: &[Entry] = &[Entry(b'm', 8, 1, b"<a@b>"), Entry(b'm', 320, 2, b"<c@d>
 /// An entry of another epoch.
 const THIRD: &[Entry] = &[Entry(b'm', 8, 3, b"<e@f>")];
 
-/// Entries of which each should be wanted.
+/// Entries that should each be the next of the map.
 const WANTED: &[Case] = &[
     // All is well: an epoch of no entry, and one.
     Case(&[], &[], &[], Outcome::Joined(0)),

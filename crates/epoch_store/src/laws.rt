@@ -5,7 +5,7 @@ use epoch_file::law_of_epochs;
 use number_map::law_of_records;
 use root_slots::law_of_spellings;
 
-/// Files stand for at most one archive, and never both for an archive and for none.
+/// Shows that files stand for at most one archive, and never both for an archive and for none.
 pub fn law_of_recovery()
     ensures one { RecoversOne }
     ensures some_one { RecoversSomeOne }
@@ -15,7 +15,7 @@ pub fn law_of_recovery()
     law_of_epochs();
 }
 
-/// A store's own disk is exactly that of its archive.
+/// Shows that a store's own disk is exactly that of its archive.
 ///
 /// Each crash of it leaves files that stand for the archive.
 ///

@@ -4,7 +4,7 @@ ghost use Rattle.epoch_store.specs.Openings.{OpenedRecovers, OpenedUndamaged, Re
 use epoch_file::{law_of_entries, law_of_epochs};
 use number_map::law_of_records;
 
-/// Files are opened with entries exactly if they stand for the archive with these.
+/// Shows that files are opened with entries exactly if they stand for the archive with these.
 ///
 /// Such files have no damage.
 #[tactic(auto, using(crate::proofs::Opened::opened_recovers))]
@@ -18,7 +18,7 @@ pub fn law_of_opening()
     law_of_entries();
 }
 
-/// Files that stand for an archive have its map, and no damage.
+/// Shows that files that stand for an archive have its map, and no damage.
 pub fn law_of_undamaged_files()
     ensures map { RecoversMap }
     ensures undamaged { RecoversUndamaged }

@@ -1,4 +1,5 @@
-//! Archives opened behind a stop of the call before, behind a call of the disk that failed, and after an opening that failed.
+//! Tests of archives that are opened after a stop of the call before, after a call of the disk
+//! failed, and after an opening failed.
 ghost use Rattle.std.specs.Prelude.{◌≤◌, IfSome, IfOk, OnOk};
 ghost use Rattle.disk_model.specs.Disk.{WhereTold};
 ghost use Rattle.epoch_store.specs.Stores.{HasSizes};
@@ -23,7 +24,7 @@ pub(crate) struct Listing {
     entries: Vec<EntryLine>,
 }
 
-/// What an archive has.
+/// Returns what an archive has.
 fn listed(alloc: Global, store: &Store) -> Result<Listing, NoMemory> {
     let mut entries = Vec::new(alloc);
     for index in 0..store.entries.len() {
@@ -37,7 +38,7 @@ fn listed(alloc: Global, store: &Store) -> Result<Listing, NoMemory> {
     })
 }
 
-/// What the archive has that is opened on a disk. None where there is no archive.
+/// Returns what the archive has that is opened on a disk, or `None` if there is no archive.
 pub(crate) fn opened<D: Disk>(alloc: Global, disk: &mut D) -> Result<Option<Listing>, OpenRefusal> {
     match Store::open(alloc, disk) {
         Ok(store) => Ok(Some(listed(alloc, &store)?)),
@@ -46,7 +47,7 @@ pub(crate) fn opened<D: Disk>(alloc: Global, disk: &mut D) -> Result<Option<List
     }
 }
 
-/// Puts the first message into an archive, and where three calls are asked for the second one, too.
+/// Appends the first message to an archive and, if three calls are asked for, the second one too.
 fn put_first<D: Disk>(
     alloc: Global,
     disk: &mut D,
@@ -66,7 +67,8 @@ fn put_first<D: Disk>(
     put(alloc, disk, store, SECOND)
 }
 
-/// Does the first ones of three calls: makes an archive, puts a message into it, and puts a second one into it.
+/// Makes the first of three calls, as many as are asked for: an archive is made, and two messages
+/// are appended to it.
 pub(crate) fn begin<D: Disk>(
     alloc: Global,
     disk: &mut D,
@@ -85,7 +87,7 @@ pub(crate) fn begin<D: Disk>(
     Ok(Some(store))
 }
 
-/// Does the next of the three calls.
+/// Makes the next of the three calls.
 fn go_on<D: Disk>(
     alloc: Global,
     disk: &mut D,
@@ -109,7 +111,7 @@ fn go_on<D: Disk>(
     put(alloc, disk, &mut store, text)
 }
 
-/// What the archive has behind so many of the three calls.
+/// Returns what the archive has after this many of the three calls.
 pub(crate) fn listed_behind(alloc: Global, limit: u64, calls: u64) -> Result<Option<Listing>, Fail>
     requires low { 1 ≤ limit }
     requires high { limit ≤ 1099511627776 }
@@ -121,7 +123,8 @@ pub(crate) fn listed_behind(alloc: Global, limit: u64, calls: u64) -> Result<Opt
     }
 }
 
-/// A call, by what the archive had before it and has after it, and whether either was found behind a stop of it.
+/// A call: what the archive has before it and after it, and whether either was found after a stop
+/// of it.
 #[derive(Drop)]
 pub(crate) struct Change {
     before: Option<Listing>,
@@ -131,7 +134,8 @@ pub(crate) struct Change {
 }
 
 impl Change {
-    /// The call that has so many of the three calls behind it after it, and so many before.
+    /// Returns the call before which, and after which, the archive has this many of the three
+    /// calls.
     pub(crate) fn between(
         alloc: Global,
         limit: u64,
@@ -149,7 +153,7 @@ impl Change {
         })
     }
 
-    /// Whether this was there before or after the call.
+    /// Returns whether this was there before or after the call.
     pub(crate) fn finds(&mut self, found: &Option<Listing>) -> bool {
         let is_before = *found == self.before;
         let is_after = *found == self.after;
@@ -159,8 +163,8 @@ impl Change {
     }
 }
 
-/// Opens an image that a crash at a moment may leave, and says whether it is the archive before a call or after it, and where
-/// the call is done the latter.
+/// Opens an image that a crash at a moment may leave, and returns whether it is the archive before
+/// a call or after it. If the call is done, it has to be the latter.
 fn is_image(
     alloc: Global,
     disk: &MemDisk,
@@ -177,8 +181,8 @@ fn is_image(
     Ok(known && (!done || found == change.after))
 }
 
-/// Opens each image that a crash at a moment may leave. It is the archive before a call or after it, and where the call is done
-/// the latter.
+/// Opens each image that a crash at a moment may leave. Each is the archive before a call or after
+/// it; if the call is done, the latter.
 fn open_moment(
     rt: &impl Abort,
     alloc: Global,
@@ -196,7 +200,8 @@ fn open_moment(
     Ok(())
 }
 
-/// Opens each image that a crash may leave at a moment or at a later one. At the last moment the call may be done.
+/// Opens each image that a crash may leave at a moment or at a later one. At the last moment the
+/// call may be done.
 pub(crate) fn open_since(
     rt: &impl Abort,
     alloc: Global,
@@ -212,7 +217,8 @@ pub(crate) fn open_since(
     Ok(())
 }
 
-/// A disk after a call that was stopped: how many changes it had before the call, and what the call answered.
+/// A disk after a call that was stopped: how many changes it had before the call, and what the call
+/// answered.
 #[derive(Drop)]
 struct Stopped {
     disk: MemDisk,
@@ -220,7 +226,7 @@ struct Stopped {
     answer: Result<(), StoreRefusal>,
 }
 
-/// Stops the call behind so many others after so many calls of the disk.
+/// Stops the call that follows this many others after this many calls of the disk.
 fn stop(alloc: Global, limit: u64, calls: u64, passes: u64) -> Result<Stopped, StoreRefusal>
     requires low { 1 ≤ limit }
     requires high { limit ≤ 1099511627776 }
@@ -237,8 +243,8 @@ fn stop(alloc: Global, limit: u64, calls: u64, passes: u64) -> Result<Stopped, S
     })
 }
 
-/// Stops the call behind so many others after so many calls of the disk, and opens each image since it began. It says whether
-/// there was no stop.
+/// Stops the call that follows this many others after this many calls of the disk, and opens each
+/// image since it began. Returns whether there was no stop.
 fn stop_after(
     rt: &impl Abort,
     alloc: Global,
@@ -257,7 +263,8 @@ fn stop_after(
     Ok(done)
 }
 
-/// Stops the call behind so many others after 0, 1, 2 .. calls of the disk, up to the first run without a stop.
+/// Stops the call that follows this many others after 0, 1, 2 .. calls of the disk, up to the first
+/// run without a stop.
 fn stop_each(
     rt: &impl Abort,
     alloc: Global,
@@ -278,7 +285,8 @@ fn stop_each(
     Ok(assert!(rt; false, "no run without a stop"))
 }
 
-/// Stops the call behind so many others after each call of the disk, where epochs have this least length.
+/// Stops the call that follows this many others after each call of the disk, with epochs of this
+/// least length.
 fn stop_call(rt: &impl Abort, alloc: Global, limit: u64, calls: u64) -> Result<(), Fail>
     requires low { 1 ≤ limit }
     requires high { limit ≤ 1099511627776 }

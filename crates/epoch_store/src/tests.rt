@@ -1,4 +1,4 @@
-//! Archives on disks in memory: what is made, what is answered, and what is read of them.
+//! Tests of archives on disks in memory: what is made, what is answered, and what is read of them.
 ghost use Rattle.std.specs.Prelude.{◌≢◌, ◌≤◌, Some, IfSome, IfOk, IsTrue, OnOk};
 ghost use Rattle.arch_base.specs.Configs.{IsConfig};
 ghost use Rattle.disk_model.specs.Disk.{WhereTold};
@@ -41,7 +41,7 @@ pub(crate) const MAP: FileName = FileName {
     gen_: 1,
 };
 
-/// The file of an epoch.
+/// Returns the file of an epoch.
 pub(crate) fn epoch(number: u32, gen_: u64) -> FileName {
     FileName {
         kind: FileKind::Epoch,
@@ -67,7 +67,7 @@ pub(crate) fn settings(limit: u64) -> Option<Config>
     })
 }
 
-/// Whether an archive of one message at most would accept a text.
+/// Returns whether an archive of one message at most would accept a text.
 fn accepts(store: &Store, text: &[u8]) -> bool
     ensures { IsTrue result → Accepts store.now text.now }
 {
@@ -82,7 +82,7 @@ fn accepts(store: &Store, text: &[u8]) -> bool
     }
 }
 
-/// Whether a text has another own id and another blob id than an entry.
+/// Returns whether a text has another own id and another blob id than an entry.
 fn is_apart(one: &StoredEntry, text: &[u8]) -> bool
     ensures id { IsTrue result → own_id_in text.now ≢ Some one.now.seen.id }
     ensures blob { IsTrue result → blob_id_of text.now ≢ one.now.seen.blob }
@@ -99,7 +99,7 @@ fn is_apart(one: &StoredEntry, text: &[u8]) -> bool
     true
 }
 
-/// Puts a message into an archive of one at most.
+/// Appends a message to an archive of at most one.
 pub(crate) fn put<D: Disk>(
     alloc: Global,
     disk: &mut D,
@@ -132,7 +132,7 @@ pub(crate) fn make<D: Disk>(alloc: Global, disk: &mut D, limit: u64) -> Result<S
     }
 }
 
-/// Makes an archive and puts both messages into it.
+/// Makes an archive and appends both messages to it.
 pub(crate) fn fill<D: Disk>(alloc: Global, disk: &mut D, limit: u64) -> Result<Store, StoreRefusal>
     requires low { 1 ≤ limit }
     requires high { limit ≤ 1099511627776 }
@@ -143,7 +143,7 @@ pub(crate) fn fill<D: Disk>(alloc: Global, disk: &mut D, limit: u64) -> Result<S
     Ok(store)
 }
 
-/// Whether files have so many bytes.
+/// Returns whether files have this many bytes.
 fn have_lengths<D: Disk>(disk: &mut D, wanted: &[(FileName, u64)]) -> Result<bool, DiskFault> {
     for (file, length) in wanted {
         if disk.length(*file)? != *length {
@@ -153,7 +153,8 @@ fn have_lengths<D: Disk>(disk: &mut D, wanted: &[(FileName, u64)]) -> Result<boo
     Ok(true)
 }
 
-/// Whether an archive has two messages, the second of them at the front of an epoch of its own.
+/// Returns whether an archive has two messages, the second of them at the front of an epoch of its
+/// own.
 fn has_two_epochs(store: &Store) -> bool {
     let next = store.next_number() == 3;
     let none = store.entry(2).is_none() && store.place(2).is_none();
@@ -161,8 +162,8 @@ fn has_two_epochs(store: &Store) -> bool {
     next && none && place
 }
 
-/// Fills an archive of which each epoch is full with one message, and says whether its files are as long
-/// as they should be.
+/// Fills an archive of which each epoch is full with one message, and returns whether its files are
+/// as long as they should be.
 fn fill_two_epochs<D: Disk>(alloc: Global, disk: &mut D) -> Result<bool, StoreRefusal> {
     let store = fill(alloc, disk, 316)?;
     let lengths = [
@@ -182,7 +183,7 @@ fn a_full_epoch_is_followed_by_the_next(rt: HostRuntime) -> Result<(), Fail> {
     Ok(())
 }
 
-/// Whether an archive has the second mail in its first epoch, as another program spells it.
+/// Returns whether an archive has the second mail in its first epoch, as another program spells it.
 fn has_second_entry(store: &Store) -> bool {
     let Some(line) = store.entry(1) else {
         return false;
@@ -195,8 +196,8 @@ fn has_second_entry(store: &Store) -> bool {
     blob && commit && place && named && sized
 }
 
-/// Fills an archive whose first epoch takes both messages, and says whether that is as long as it should
-/// be.
+/// Fills an archive whose first epoch takes both messages, and returns whether that is as long as
+/// it should be.
 fn fill_one_epoch<D: Disk>(alloc: Global, disk: &mut D) -> Result<bool, StoreRefusal> {
     let store = fill(alloc, disk, 317)?;
     let is_long = have_lengths(disk, &[(epoch(0, 2), 672)])?;
@@ -210,7 +211,7 @@ fn an_epoch_below_the_limit_takes_one_more(rt: HostRuntime) -> Result<(), Fail> 
     Ok(())
 }
 
-/// Makes an archive whose epochs have at least 316 bytes. Exists where there is one.
+/// Makes an archive whose epochs have at least 316 bytes. `Exists` if there is one.
 fn init<D: Disk>(alloc: Global, disk: &mut D) -> Result<Store, InitRefusal> {
     let Some(config) = settings(316) else {
         return Err(InitRefusal::NoMemory);
@@ -218,13 +219,13 @@ fn init<D: Disk>(alloc: Global, disk: &mut D) -> Result<Store, InitRefusal> {
     Store::init(alloc, disk, &config)
 }
 
-/// Makes an archive, and says whether it has these settings and no message.
+/// Makes an archive, and returns whether it has these settings and no message.
 fn init_is_empty<D: Disk>(alloc: Global, disk: &mut D) -> Result<bool, InitRefusal> {
     let store = init(alloc, disk)?;
     Ok(store.config().limit == 316 && store.next_number() == 1 && store.entry(0).is_none())
 }
 
-/// Whether no archive is made since there is one.
+/// Returns whether no archive is made since there is one.
 fn init_is_refused<D: Disk>(alloc: Global, disk: &mut D) -> bool {
     match init(alloc, disk) {
         Ok(_) => false,
@@ -247,7 +248,7 @@ fn an_archive_is_made_once(rt: HostRuntime) -> Result<(), Fail> {
     init_twice(&rt, rt.alloc(), &mut disk)
 }
 
-/// The archive in memory that took both messages.
+/// Returns the archive in memory that took both messages.
 pub(crate) fn in_memory(alloc: Global, limit: u64) -> Option<MemArchive>
     requires low { 1 ≤ limit }
     requires high { limit ≤ 1099511627776 }
@@ -258,7 +259,7 @@ pub(crate) fn in_memory(alloc: Global, limit: u64) -> Option<MemArchive>
     Some(archive)
 }
 
-/// Whether bytes are those of the first epoch of the archive in memory.
+/// Returns whether bytes are those of the first epoch of the archive in memory.
 fn is_first_epoch(alloc: Global, limit: u64, bytes: &[u8]) -> Result<bool, NoMemory>
     requires low { 1 ≤ limit }
     requires high { limit ≤ 1099511627776 }
@@ -271,7 +272,7 @@ fn is_first_epoch(alloc: Global, limit: u64, bytes: &[u8]) -> Result<bool, NoMem
     Ok(found && same.as_slice() == bytes)
 }
 
-/// Whether the file of the first epoch has the bytes of the archive in memory.
+/// Returns whether the file of the first epoch has the bytes of the archive in memory.
 fn is_epoch_file<D: Disk>(alloc: Global, disk: &mut D) -> Result<bool, TextRefusal> {
     let mut bytes = [0; 673];
     let count = disk.read(epoch(0, 2), 0, &mut bytes)?;
@@ -288,7 +289,7 @@ fn the_file_of_an_epoch_has_the_bytes_of_the_epoch(rt: HostRuntime) -> Result<()
     Ok(())
 }
 
-/// The text of an entry, behind a byte.
+/// Returns the text of an entry, after another byte.
 fn text_of<D: Disk>(
     alloc: Global,
     disk: &mut D,
@@ -316,13 +317,13 @@ pub(crate) fn write(
     disk.write_at(file, place, bytes)
 }
 
-/// Puts ten bytes behind those of a file.
+/// Appends ten bytes to a file.
 pub(crate) fn append(disk: &mut MemDisk, file: FileName) -> Result<(), DiskFault> {
     let place = disk.length(file)?;
     write(disk, file, place, b"0123456789")
 }
 
-/// Whether the text of an entry is the second mail.
+/// Returns whether the text of an entry is the second mail.
 fn is_second_text<D: Disk>(
     alloc: Global,
     disk: &mut D,
@@ -333,7 +334,7 @@ fn is_second_text<D: Disk>(
     Ok(bytes.as_slice().len() == 104 && bytes.as_slice().ends_with(SECOND))
 }
 
-/// Whether the text of an entry isn't the first mail, whose id the entry has.
+/// Returns whether the text of an entry isn't the first mail, whose id the entry has.
 fn is_damaged<D: Disk>(alloc: Global, disk: &mut D, store: &Store, index: u64) -> bool {
     match text_of(alloc, disk, store, index) {
         Err(TextRefusal::Damaged { named, found }) => {
@@ -365,7 +366,7 @@ fn a_text_is_read_where_it_stands_unharmed(rt: HostRuntime) -> Result<(), Fail> 
     read_texts(&rt, rt.alloc(), &mut disk, &store)
 }
 
-/// Makes an archive and puts both messages into it, on a disk that stops after so many calls.
+/// Makes an archive and appends both messages to it, on a disk that stops after this many calls.
 fn fill_stopped(alloc: Global, passes: u64) -> Result<(), StoreRefusal> {
     let mut fuse = FuseDisk::new(MemDisk::new(alloc, Numbers::new(alloc)), passes);
     fill(alloc, &mut fuse, 316)?;

@@ -1,6 +1,7 @@
 -- Clean text: the names, addresses and subjects of commits. It contains neither a line end nor the
--- brackets of an address. Git's own rule for names (`crud` in ident.c) is another one: at the ends it
--- also removes dots, commas, colons, quotes and the like, and elsewhere only line feeds, `<` and `>`.
+-- brackets of an address. Git's own rule for names (`crud` in ident.c) is another one: at the ends
+-- it also removes dots, commas, colons, quotes and the like, and elsewhere only line feeds, `<` and
+-- `>`.
 use Rattle.std.specs.Prelude.{◌≡◌, ◌-◌, ℕ, Bool, not, ◌&&◌, ◌==◌, nat_le, List, length, take, drop}
 use Rattle.std.specs.List.{filter, prefix_len, suffix_len}
 

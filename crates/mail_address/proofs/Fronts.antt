@@ -9,25 +9,25 @@ abbrev Closes : ℕ → List ℕ → Type 0
 Closes zero xs = (pieces : List Piece) × ArePieces is_outer_byte pieces × (spelled_pieces pieces ≡ xs)
 Closes (suc n) xs = (inside : CommentInside) × (ys : List ℕ) × IsInside inside × Closes n ys × (inside_bytes inside ++ 41 ∷ ys ≡ xs)
 
--- a value that is the front of such a text
+-- A value that is the front of such a text.
 abbrev Front : ℕ → List ℕ → Type 0
 Front n value = (more : List ℕ) × Closes n (value ++ more)
 
--- a text that closes a quoted string, and is then spelled from pieces
+-- A text that closes a quoted string, and is then spelled from pieces.
 abbrev Quotes : List ℕ → Type 0
 Quotes xs = (parts : List QuotedPart) × (ys : List ℕ) × AreQuoted parts × Closes zero ys × (quoted_bytes parts ++ 34 ∷ ys ≡ xs)
 
 abbrev QuotedFront : List ℕ → Type 0
 QuotedFront value = (more : List ℕ) × Quotes (value ++ more)
 
--- a value read from each place
+-- A value read from each place.
 record Fronts (value : List ℕ) : Type 0 where
   plain : (n : ℕ) → Front n value
   pair : (n : ℕ) → Front (suc n) (92 ∷ value)
   quoted : QuotedFront value
   quoted_pair : QuotedFront (92 ∷ value)
 
--- nothing is left
+-- No bytes are left.
 closes_none : (n : ℕ) → (more : List ℕ) × Closes n more
 closes_none zero = ([], ([], tt, refl))
 closes_none (suc n) = let m = closes_none n in (41 ∷ m.0, (Empty, m.0, tt, m.1, refl))
@@ -40,7 +40,7 @@ fronts_none = record {
   quoted_pair = (0 ∷ 34 ∷ [], (Escaped 0 ∷ [], [], tt, ([], tt, refl), refl));
 }
 
--- a byte more in front
+-- One more byte at the front.
 opens_quote : (bs : List ℕ) → QuotedFront bs → Front zero (34 ∷ bs)
 opens_quote bs f =
     let q = f.1 in
@@ -96,7 +96,7 @@ quoted_pair b bs f =
     let q = f.1 in
     (f.0, (Escaped b ∷ q.0, q.1, q.2, q.3, ap (λ (xs : List ℕ). 92 ∷ b ∷ xs) q.4))
 
--- each byte, by what it is
+-- Each byte, by its kind.
 by_outer : (b : ℕ) (bs : List ℕ) (quote paren : Bool) → (b == 34) ≡ quote → (b == 40) ≡ paren → Fronts bs → Front zero (b ∷ bs)
 by_outer b bs true paren e f fs = subst (λ (c : ℕ). Front zero (c ∷ bs)) (sym (eqb-true b 34 e)) (opens_quote bs fs.quoted)
 by_outer b bs false true e f fs = subst (λ (c : ℕ). Front zero (c ∷ bs)) (sym (eqb-true b 40 f)) (opens_comment bs (fs.plain (suc zero)))

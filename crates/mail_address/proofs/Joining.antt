@@ -7,7 +7,7 @@ use Rattle.mail_address.proofs.Spacing.{without_space-space}
 use Rattle.mail_address.proofs.Plain.{HasNo as Lacks}
 use Rattle.mail_address.proofs.Mailboxes.{lacks}
 
--- spaces alone
+-- Spaces alone.
 no_word : (n : ℕ) → begins_word (replicate n 32) ≡ false
 no_word zero = refl
 no_word (suc n) = refl
@@ -16,12 +16,12 @@ spaced_none : (n : ℕ) → spaced (replicate n 32) ≡ []
 spaced_none zero = refl
 spaced_none (suc n) = rw (no_word n) (spaced_none n)
 
--- the bytes of a word stay
+-- The bytes of a word stay.
 spaced_word : (word ys : List ℕ) → Lacks 32 word → spaced (word ++ ys) ≡ word ++ spaced ys
 spaced_word [] ys q = refl
 spaced_word (b ∷ bs) ys q = rw q.0 (ap (λ (xs : List ℕ). b ∷ xs) (spaced_word bs ys q.1))
 
--- of the spaces before a word one stays
+-- Of the spaces before a word one stays.
 spaced_run : (n : ℕ) (ys : List ℕ) → begins_word ys ≡ true → spaced (32 ∷ (replicate n 32 ++ ys)) ≡ 32 ∷ spaced ys
 spaced_run zero ys begins = rw begins refl
 spaced_run (suc n) ys begins = spaced_run n ys begins
@@ -30,7 +30,7 @@ word_begins : (word ys : List ℕ) → 0 < length word → Lacks 32 word → beg
 word_begins [] ys some q = absurd (omega arith)
 word_begins (b ∷ bs) ys some q = rw q.0 refl
 
--- each word is a word
+-- Each word is a word.
 abbrev AllWords : List (ℕ × List ℕ) → Type 0
 AllWords [] = Unit {0}
 AllWords (part ∷ parts) = (0 < length part.1) × Lacks 32 part.1 × AllWords parts
@@ -55,7 +55,7 @@ spaced_words (part ∷ parts) end q =
     ap spaced is ∙ spaced_run part.0 (part.1 ++ rest) (word_begins part.1 rest q.0 q.1)
     ∙ ap (λ (xs : List ℕ). 32 ∷ xs) (spaced_word part.1 rest q.1 ∙ ap (λ (xs : List ℕ). part.1 ++ xs) (spaced_words parts end q.2))
 
--- spaces in front go
+-- Spaces at the front are removed.
 front_goes : (n : ℕ) (ys : List ℕ) → joined_words (replicate n 32 ++ ys) ≡ joined_words ys
 front_goes zero ys = refl
 front_goes (suc n) ys = without_space-space (replicate n 32 ++ ys) ∙ front_goes n ys

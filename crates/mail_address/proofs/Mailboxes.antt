@@ -25,7 +25,7 @@ use Rattle.mail_address.proofs.Spacing.{without_space-space}
 use Rattle.mail_address.proofs.Plain.{HasNo as Lacks, all_head, all_tail, put_before-nil, onto_item-put_before, put_before-line, nat_lt-true, mailbox_with-at, cond_same, has_no-append, split_last-no, split_last-this}
 use Rattle.mail_address.proofs.Marks.{moves, moves_in_name, quoted_marks, inside_marks, piece_marks, all_marks, marks_all, marks_whole, outer_stays}
 
--- marks that stand in a quoted string or a comment, or whose bytes pass
+-- Marks that are in a quoted string or a comment, or whose bytes pass a test.
 abbrev pub Quiet : (ℕ → Bool) → List (ℕ × Place) → Type 0
 Quiet p [] = Unit {0}
 Quiet p (mark ∷ ms) = ((is_outside mark.1 && not (p mark.0)) ≡ false) × Quiet p ms
@@ -64,14 +64,15 @@ quiet_pieces p quote paren (CommentText inside ∷ pieces) q = (
       (quiet_append p (inside_marks 1 inside) ((41, Comment 1) ∷ []) (quiet_inside p 1 inside) (refl, tt)) (quiet_pieces p quote paren pieces q.1),
 )
 
--- pieces that pass one test pass a weaker one
+-- Pieces that pass one test pass a weaker one.
 pub weaker : (p r : ℕ → Bool) → ((b : ℕ) → p b ≡ true → r b ≡ true) → (pieces : List Piece) → ArePieces p pieces → ArePieces r pieces
 weaker p r h [] q = tt
 weaker p r h (Byte b ∷ pieces) q = (h b q.0, weaker p r h pieces q.1)
 weaker p r h (QuotedString parts ∷ pieces) q = (q.0, weaker p r h pieces q.1)
 weaker p r h (CommentText inside ∷ pieces) q = (q.0, weaker p r h pieces q.1)
 
--- bytes that end no item, where a group is open or not, and open no bracket, and those that close none
+-- Bytes that end no item, whether or not a group is open, and open no bracket; and those that close
+-- none.
 abbrev pub is_item_byte : Bool → ℕ → Bool
 is_item_byte g b = not (b == 44) && not (b == 58 && not g) && not (b == 59) && not (b == 60)
 
@@ -88,7 +89,7 @@ plain_stays b h =
     let paren : (b == 40) ≡ false = grind (arith, nat_tests) in
     rw (quote, paren) refl
 
--- a byte of an address as it is written: one of a route, of what says the mailbox, or a space
+-- A byte of an address as it is written: one of a route, of what says the mailbox, or a space.
 abbrev pub is_address_byte : ℕ → Bool
 is_address_byte b = not (b == 34) && not (b == 40) && not (b == 62)
 
@@ -110,7 +111,7 @@ address_bracket b h = grind (arith, nat_tests)
 address_outer : (b : ℕ) → is_address_byte b ≡ true → is_outer_byte b ≡ true
 address_outer b h = grind (arith, nat_tests)
 
--- the bytes of a name, where no backslash stands outside
+-- The bytes of a name without a backslash outside.
 plain_name : (b : ℕ) → is_plain b ≡ true → is_name_byte b ≡ true
 plain_name b h = grind (arith, nat_tests)
 
@@ -121,7 +122,7 @@ name_stays b h =
     let backslash : (b == 92) ≡ false = grind (arith, nat_tests) in
     rw (backslash, quote, paren) refl
 
--- quiet marks are of the item that follows them
+-- Quiet marks belong to the item that follows them.
 ends_quiet : (g : Bool) (place : Place) (b : ℕ) → (is_outside place && not (is_item_byte g b)) ≡ false → ends_item g false (b, place) ≡ false
 ends_quiet g place b h = by (is_outside place) g h
   where
@@ -158,7 +159,7 @@ cut_inner g (m ∷ ms) ns q =
     let closes : (is_outside m.1 && m.0 == 62) ≡ false = closes_quiet m.1 m.0 q.0 in
     rw (closes, cut_inner g ms ns q.1) (onto_item-put_before m.0 (bytes_of ms) (cut g true ns))
 
--- what is looked for is not among them
+-- The byte that is searched for is not among them.
 pub seek_outer : (g : Bool) (ms ns : List (ℕ × Place)) → Quiet (is_item_byte g) ms
     → position_or_len (is_sought OpenBracket) (ms ++ ns) ≡ length (bytes_of ms) + position_or_len (is_sought OpenBracket) ns
 seek_outer g [] ns q = sym (zero-add (position_or_len (is_sought OpenBracket) ns))
@@ -173,7 +174,7 @@ seek_inner (m ∷ ms) ns q =
     let closes : (is_outside m.1 && m.0 == 62) ≡ false = closes_quiet m.1 m.0 q.0 in
     rw (closes, seek_inner ms ns q.1) (omega arith)
 
--- the bytes of the marks of pieces
+-- The bytes of the marks of pieces.
 quoted_back : (parts : List QuotedPart) (ms : List (ℕ × Place)) → bytes_of (quoted_marks parts ++ ms) ≡ quoted_bytes parts ++ bytes_of ms
 quoted_back [] ms = refl
 quoted_back (Literal b ∷ parts) ms = ap (λ (xs : List ℕ). b ∷ xs) (quoted_back parts ms)
@@ -196,7 +197,7 @@ are_two : (p : ℕ → Bool) (ps qs : List Piece) → ArePieces p ps → ArePiec
 are_two p [] qs q r = r
 are_two p (x ∷ ps) qs q r = (q.0, are_two p ps qs q.1 r)
 
--- what the marks of pieces say in a name
+-- What the marks of pieces say in a name.
 abbrev pub keep_name : ℕ × Place → Bool
 keep_name mark = stays_in_name mark.1 mark.0
 
@@ -255,7 +256,7 @@ name_is pieces q =
     let named = weaker is_plain is_name_byte plain_name pieces q in
     ap joined_words (ap (λ ms. bytes_of (filter keep_name ms)) (marks_whole next_name_place moves_in_name is_name_byte name_stays pieces named) ∙ name_pieces pieces named)
 
--- and in an address
+-- What the marks of pieces say in an address.
 address_quoted : (parts : List QuotedPart) (ms : List (ℕ × Place)) → bytes_of (filter keep_address (quoted_marks parts ++ ms)) ≡ quoted_bytes parts ++ bytes_of (filter keep_address ms)
 address_quoted [] ms = refl
 address_quoted (Literal b ∷ parts) ms = ap (λ (xs : List ℕ). b ∷ xs) (address_quoted parts ms)
@@ -287,7 +288,7 @@ pub address_is : (pieces : List Piece) → ArePieces is_outer_byte pieces → ad
 address_is pieces q =
     ap (λ ms. bytes_of (filter keep_address ms)) (marks_whole next_place moves is_outer_byte outer_stays pieces q) ∙ address_pieces pieces q
 
--- a mailbox as it stands in a list: pieces of a name, pieces between brackets, and what follows
+-- A mailbox as it is in a list: pieces of a name, pieces between brackets, and what follows.
 abbrev pub line : List Piece → List Piece → List ℕ → List ℕ
 line front inner ys = spelled_pieces front ++ 60 ∷ (spelled_pieces inner ++ 62 ∷ ys)
 
@@ -319,7 +320,7 @@ cut_line g front inner ys q r =
     ∙ ap (λ (items : List (List ℕ × Ending)). put_before (spelled_pieces front) (onto_item 60 items)) within
     ∙ put_before-line (spelled_pieces front) (spelled_pieces inner) (cut g false (marked ys))
 
--- its parts, whatever follows the bracket
+-- The parts of a mailbox, whatever follows the bracket.
 len_line : (front : List Piece) (more : List ℕ) → ArePieces is_plain front → len_before OpenBracket Outside (spelled_pieces front ++ 60 ∷ more) ≡ length (spelled_pieces front)
 len_line front more q =
     let found : position_or_len (is_sought OpenBracket) (marked (spelled_pieces front ++ 60 ∷ more)) ≡ length (bytes_of (all_marks front)) + 0
@@ -358,7 +359,7 @@ up_to_line inner ys r =
     let len : len_before CloseBracket Outside (spelled_pieces inner ++ 62 ∷ ys) ≡ length (spelled_pieces inner) = omega arith in
     rw len (take_at (spelled_pieces inner) (62 ∷ ys) (length (spelled_pieces inner)) refl)
 
--- the address between the brackets, with its route
+-- The address between the brackets, with its route.
 abbrev addressed : WrittenMailbox → List Piece
 addressed m = map Byte m.route ++ (m.local_part ++ Byte 64 ∷ m.host)
 
@@ -399,7 +400,7 @@ route_are route (inr r) =
     by [] all = (refl, tt)
     by (x ∷ xs) all = (route_address x (all_head is_route_byte x xs all), by xs (all_tail is_route_byte x xs all))
 
--- what is left without the route
+-- What is left without the route.
 route_goes : (route tail : List ℕ) → (route ≡ []) ⊎ IsRoute route → Lacks 58 tail → without_route (route ++ tail) ≡ tail
 route_goes route tail (inl none) free = rw none (whole tail free)
   where
@@ -417,7 +418,7 @@ inner_are m w =
     are_two is_address_byte (map Byte m.route) (m.local_part ++ Byte 64 ∷ m.host) (route_are m.route w.route)
     (are_two is_address_byte m.local_part (Byte 64 ∷ m.host) (weaker is_plain is_address_byte plain_address m.local_part w.local_part) (refl, weaker is_plain is_address_byte plain_address m.host w.host))
 
--- an address that begins with another byte than `@` has no route
+-- An address that begins with another byte than `@` has no route.
 abbrev BeginsElse : List ℕ → Type 0
 BeginsElse [] = ⊥
 BeginsElse (b ∷ bs) = (b == 64) ≡ false
@@ -457,7 +458,7 @@ address_of m w =
         route_goes m.route (address_said m.local_part ++ 64 ∷ address_said m.host) route
         (has_no-append 58 (address_said m.local_part) (64 ∷ address_said m.host) (lacks 58 (address_said m.local_part) free.0) (refl, lacks 58 (address_said m.host) free.1))
 
--- pieces in front of a name that say nothing there
+-- Pieces before a name that say nothing in it.
 record IsLead (lead : List Piece) : Type 0 where
   plain : ArePieces is_plain lead
   silent : (pieces : List Piece) → name_said (lead ++ pieces) ≡ name_said pieces
@@ -490,7 +491,7 @@ line_is lead m ys =
     let all : spelled_pieces lead ++ (written m ++ ys) ≡ (spelled_pieces lead ++ spelled_pieces m.name) ++ 60 ∷ ((m.route ++ (L ++ 64 ∷ H)) ++ 62 ∷ ys) = simp append_assoc in
     all ∙ (λ i. sym (spelled_two lead m.name) i ++ 60 ∷ (sym inner i ++ 62 ∷ ys))
 
--- what items tell, by what ends them
+-- What items are read as, by what ends them.
 told_last : (item : List ℕ) (address : Address) → mailbox_in item ≡ address ∷ [] → told false (put_before item (cut false false (marked []))) ≡ address ∷ []
 told_last item address tells = rw (append-nil item, tells) refl
 
@@ -514,7 +515,7 @@ told_nothing rest = refl
 told_empty_group : (rest : List ℕ) → told true (items_of true (59 ∷ rest)) ≡ end ∷ told false (items_of false rest)
 told_empty_group rest = refl
 
--- the mailboxes of a group, and its end
+-- The mailboxes of a group, and its end.
 in_group : (lead : List Piece) → IsLead lead → (m : WrittenMailbox) (ms : List WrittenMailbox) → IsWritten m → AllWritten ms → (rest : List ℕ)
     → told true (items_of true (spelled_pieces lead ++ (written_list (m ∷ ms) ++ 59 ∷ rest))) ≡ mailbox_said m ∷ (map mailbox_said ms ++ end ∷ told false (items_of false rest))
 in_group lead l m [] w all rest =
@@ -536,7 +537,7 @@ whole_group : (ms : List WrittenMailbox) → AllWritten ms → (rest : List ℕ)
 whole_group [] all rest = told_empty_group rest
 whole_group (m ∷ ms) all rest = in_group [] no_lead m ms all.0 all.1 rest
 
--- a group, and what follows it
+-- A group, and what follows it.
 group : (lead : List Piece) → IsLead lead → (name : List Piece) (ms : List WrittenMailbox) → ArePieces is_plain name → AllWritten ms → (rest : List ℕ)
     → told false (items_of false (spelled_pieces lead ++ (member_bytes (Group name ms) ++ rest))) ≡ member_said (Group name ms) ++ told false (items_of false rest)
 group lead l name ms q all rest =
@@ -550,7 +551,7 @@ group lead l name ms q all rest =
     ∙ told_colon (spelled_pieces (lead ++ name)) inside
     ∙ (λ i. record { kind = GroupStart; name = said i; mailbox = []; host = [] } ∷ (whole_group ms all rest ∙ done) i)
 
--- members, one after another
+-- Members, one after another.
 members_back : (lead : List Piece) → IsLead lead → (member : Member) (members : List Member) → IsMember member → AreMembers members
     → told false (items_of false (spelled_pieces lead ++ member_list (member ∷ members))) ≡ member_said member ++ flat_map member_said members
 members_back lead l (One m) [] w all =

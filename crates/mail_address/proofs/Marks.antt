@@ -8,7 +8,7 @@ use Rattle.mail_address.specs.Places.{next_place, next_name_place, place_behind_
 use Rattle.mail_address.specs.Grammar.{QuotedPart, Literal, Escaped, CommentInside, Empty, TextThen, EscapedThen, CommentThen, is_quoted_byte, is_comment_byte, AreQuoted, IsInside, quoted_bytes, inside_bytes, Piece, Byte, QuotedString, CommentText, piece_bytes, spelled_pieces, IsPiece, ArePieces, is_outer_byte}
 use Rattle.mail_address.specs.Laws.{stands_outside, outside_flags, OutsideIsBetween}
 
--- a way from place to place that differs outside alone
+-- A step from place to place that differs only outside of quoted strings and comments.
 pub record Moves (next : Place → ℕ → Place) : Type 0 where
   pub quote : next Outside 34 ≡ Quoted
   pub paren : next Outside 40 ≡ Comment 1
@@ -28,7 +28,7 @@ moves_in_name = record { quote = refl; paren = refl; inner = inner }
     inner (Comment depth) e b = refl
     inner (CommentPair depth) e b = refl
 
--- the bytes of the inside of a quoted string and of a comment, with their places
+-- The bytes of the inside of a quoted string and of a comment, with their places.
 abbrev pub quoted_marks : List QuotedPart → List (ℕ × Place)
 quoted_marks [] = []
 quoted_marks (Literal b ∷ parts) = (b, Quoted) ∷ quoted_marks parts
@@ -48,7 +48,7 @@ piece_marks (CommentText inside) = (40, Outside) ∷ (inside_marks 1 inside ++ (
 abbrev pub all_marks : List Piece → List (ℕ × Place)
 all_marks pieces = flat_map piece_marks pieces
 
--- bytes that change no place
+-- Bytes that change no place.
 quoted_stays : (b : ℕ) → is_quoted_byte b ≡ true → next_place Quoted b ≡ Quoted
 quoted_stays b h =
     let quote : (b == 34) ≡ false = grind (arith, nat_tests) in
@@ -62,7 +62,7 @@ comment_stays d b h =
     let backslash : (b == 92) ≡ false = grind (arith, nat_tests) in
     rw (backslash, open_paren, close_paren) refl
 
--- the inside of a quoted string up to its end
+-- The inside of a quoted string up to its end.
 marks_quoted : (next : Place → ℕ → Place) → Moves next → (parts : List QuotedPart) → AreQuoted parts → (ys : List ℕ)
     → marked_by next Quoted (quoted_bytes parts ++ 34 ∷ ys) ≡ quoted_marks parts ++ (34, Quoted) ∷ marked_by next Outside ys
 marks_quoted next m [] q ys = ap (λ p. (34, Quoted) ∷ marked_by next p ys) (m.inner Quoted refl 34)
@@ -74,13 +74,13 @@ marks_quoted next m (Escaped b ∷ parts) q ys =
     ∙ ap (λ p. (92, Quoted) ∷ (b, QuotedPair) ∷ marked_by next p (quoted_bytes parts ++ 34 ∷ ys)) (m.inner QuotedPair refl b)
     ∙ ap (λ ms. (92, Quoted) ∷ (b, QuotedPair) ∷ ms) (marks_quoted next m parts q ys)
 
--- a comment in a comment ends in that
+-- A comment in a comment ends in the outer one.
 behind_deeper : (n : ℕ) → place_behind_comment (suc (suc n)) ≡ Comment (suc n)
 behind_deeper n =
     let deep : nat_le (suc (suc n)) 1 ≡ false = grind (arith, nat_tests) in
     rw deep (ap Comment (omega arith))
 
--- the inside of a comment up to its end
+-- The inside of a comment up to its end.
 marks_inside : (next : Place → ℕ → Place) → Moves next → (n : ℕ) (inside : CommentInside) → IsInside inside → (ys : List ℕ)
     → marked_by next (Comment (suc n)) (inside_bytes inside ++ 41 ∷ ys) ≡ inside_marks (suc n) inside ++ (41, Comment (suc n)) ∷ marked_by next (place_behind_comment (suc n)) ys
 marks_inside next m n Empty q ys = ap (λ p. (41, Comment (suc n)) ∷ marked_by next p ys) (m.inner (Comment (suc n)) refl 41)
@@ -103,7 +103,7 @@ marks_inside next m n (CommentThen inner more) q ys =
     ∙ ap (λ ms. (40, Comment (suc n)) ∷ ms)
     (sym (append_assoc (inside_marks (suc (suc n)) inner) ((41, Comment (suc (suc n))) ∷ inside_marks (suc n) more) ((41, Comment (suc n)) ∷ marked_by next (place_behind_comment (suc n)) ys)))
 
--- a piece, and pieces: behind each nothing is open
+-- A piece, and pieces: after each of them nothing is open.
 pub marks_piece : (next : Place → ℕ → Place) → Moves next → (p : ℕ → Bool) → ((b : ℕ) → p b ≡ true → next Outside b ≡ Outside)
     → (piece : Piece) → IsPiece p piece → (ys : List ℕ) → marked_by next Outside (piece_bytes piece ++ ys) ≡ piece_marks piece ++ marked_by next Outside ys
 marks_piece next m p stays (Byte b) q ys = ap (λ place. (b, Outside) ∷ marked_by next place ys) (stays b q)
@@ -138,7 +138,7 @@ outer_stays b h =
     let paren : (b == 40) ≡ false = grind (arith, nat_tests) in
     rw (quote, paren) refl
 
--- what stands outside
+-- What is outside of quoted strings and comments.
 
 flags_quoted : (parts : List QuotedPart) → map stands_outside (quoted_marks parts ++ (34, Quoted) ∷ []) ≡ map (λ (b : ℕ). false) (quoted_bytes parts ++ 34 ∷ [])
 flags_quoted [] = refl

@@ -1,4 +1,4 @@
--- Lists of one item or one group are read.
+-- The laws of one item or one group of a list, and of the split of an address.
 use Rattle.std.proofs.Common.{◌≡◌, ◌<◌, ℕ, suc, ◌+◌, Bool, true, false, cond, ◌==◌, ◌&&◌, nat_lt, nat_le, List, [], ◌∷◌, ◌++◌, None, length, refl, sym, ◌∙◌, ap, append_assoc, append-nil, arith}
 use Rattle.std.proofs.Math.Numerals.{one-add}
 use Rattle.std.proofs.lemmas.Bool.Decides.{nat_tests}
@@ -27,7 +27,7 @@ use Rattle.mail_address.proofs.Marks.{moves, quoted_marks, inside_marks, piece_m
 use Rattle.mail_address.specs.Places.{next_place}
 use Rattle.mail_address.proofs.Mailboxes.{Quiet, quiet_pieces, weaker, is_item_byte, is_address_byte, address_stays, cut_outer, cut_inner, seek_outer, seek_inner, bytes_back, name_is, address_is, line, inner_quiet, cut_front, cut_line, name_line, address_line, up_to_line, end, told_colon, lacks}
 
--- marks of which none passes
+-- Marks of which none passes.
 abbrev NoneOf : (ℕ × Place → Bool) → List (ℕ × Place) → Type 0
 NoneOf p [] = Unit {0}
 NoneOf p (m ∷ ms) = (p m ≡ false) × NoneOf p ms
@@ -36,7 +36,7 @@ none_append : (p : ℕ × Place → Bool) (ms ns : List (ℕ × Place)) → None
 none_append p [] ns q r = r
 none_append p (m ∷ ms) ns q r = (q.0, none_append p ms ns q.1 r)
 
--- no mark in a quoted string or a comment begins an outermost comment
+-- No mark in a quoted string or a comment begins an outermost comment.
 quoted_starts : (parts : List QuotedPart) → NoneOf is_comment_start (quoted_marks parts)
 quoted_starts [] = tt
 quoted_starts (Literal b ∷ parts) = (refl, quoted_starts parts)
@@ -49,7 +49,7 @@ inside_starts d (EscapedThen b more) = (refl, (refl, inside_starts d more))
 inside_starts d (CommentThen inner more) =
     (refl, none_append is_comment_start (inside_marks (suc d) inner) ((41, Comment (suc d)) ∷ inside_marks d more) (inside_starts (suc d) inner) (refl, inside_starts d more))
 
--- and none in the inside of a comment ends the outermost
+-- No mark inside a comment ends the outermost one.
 and_false : (t : Bool) → (t && false) ≡ false
 and_false true = refl
 and_false false = refl
@@ -87,7 +87,7 @@ inside_is inside ms q =
     ap bytes_of (ends_first (inside_marks 1 inside) ms (inside_ends 0 inside q) ∙ sym (append-nil (inside_marks 1 inside)))
     ∙ inside_back 1 inside [] ∙ append-nil (inside_bytes inside)
 
--- the marks after the start of the last comment
+-- The marks after the start of the last comment.
 starts_skipped : (ms ns others : List (ℕ × Place)) → NoneOf is_comment_start ms
     → part_behind others (split_last is_comment_start (ms ++ ns)) ≡ part_behind others (split_last is_comment_start ns)
 starts_skipped [] ns others q = refl
@@ -122,7 +122,7 @@ last_is (CommentText inside ∷ pieces) others found q e =
     ap (λ (ms : List (ℕ × Place)). bytes_of (before_first (is_sought CommentEnd) ms)) after
     ∙ last_is pieces (within ++ rest) (inside_bytes inside) q.1 first
 
--- an item without `<`
+-- An item without `<`.
 outer_marks : (pieces : List Piece) → ArePieces is_outer_byte pieces → marked (spelled_pieces pieces) ≡ all_marks pieces
 outer_marks pieces q = marks_whole next_place moves is_outer_byte outer_stays pieces q
 
@@ -172,7 +172,7 @@ bare_reads pieces q =
     let quiet = quiet_pieces (is_item_byte false) refl refl pieces (weaker is_bare_byte (is_item_byte false) bare_item pieces q) in
     ap (told false) (cut_whole false pieces outer quiet) ∙ tells_one (spelled_pieces pieces) ∙ bare_is false pieces outer quiet
 
--- an item with `<`
+-- An item with `<`.
 inner_address : (b : ℕ) → is_inner_byte b ≡ true → is_address_byte b ≡ true
 inner_address b h = grind (arith, nat_tests)
 
@@ -227,7 +227,7 @@ open_item_reads name inside q r =
     ∙ tells_one (spelled_pieces name ++ 60 ∷ spelled_pieces inside)
     ∙ item_is name inside (spelled_pieces inside) q r (up_to_end inside inner)
 
--- a group that is open at the end
+-- A group that is open at the end.
 grouped_outer : (b : ℕ) → is_grouped_byte b ≡ true → is_outer_byte b ≡ true
 grouped_outer b h = grind (arith, nat_tests)
 
@@ -244,7 +244,7 @@ group_reads name pieces q r =
     ∙ told_colon (spelled_pieces name) (spelled_pieces pieces)
     ∙ (λ i. record { kind = GroupStart; name = name_is name q i; mailbox = []; host = [] } ∷ inside i)
 
--- the parts of a mailbox
+-- The parts of a mailbox.
 pub address_is_split : AddressIsSplit
 address_is_split name local_part host free = mailbox_with-at name local_part host (lacks 64 host free)
 

@@ -1,4 +1,5 @@
--- Lists of one item or one group, whatever stands in them, and those that are open at their end.
+-- Laws of one item or group of a list, of those open at the value's end, and of the split of an
+-- address at its last `@`.
 use Rattle.std.specs.Prelude.{◌≡◌, ◌<◌, ℕ, ◌+◌, Bool, ◌&&◌, not, ◌==◌, List, [], ◌∷◌, ◌++◌, length}
 use Rattle.mail_address.specs.declared.address.AddressKind.TheVariants.{Mailbox, GroupStart, GroupEnd}
 use Rattle.mail_address.specs.declared.address.Address.{Address}
@@ -8,44 +9,45 @@ use Rattle.mail_address.specs.Grammar.{Piece, Byte, QuotedString, CommentText, i
 use Rattle.mail_address.specs.Laws.{is_plain}
 use Rattle.mail_address.specs.Mailboxes.{name_said, address_said, HasNo}
 
--- the inside of the last comment among pieces, or `found` where they have none
+-- The inside of the last comment among pieces, or `found` if they have none.
 abbrev pub last_inside : List Piece → List ℕ → List ℕ
 last_inside [] found = found
 last_inside (Byte b ∷ pieces) found = last_inside pieces found
 last_inside (QuotedString parts ∷ pieces) found = last_inside pieces found
 last_inside (CommentText inside ∷ pieces) found = last_inside pieces (inside_bytes inside)
 
--- What an item without `<` says: the last comment is the name, and all outside of comments the address.
+-- What an item without `<` says: the last comment is the name, and all outside of comments the
+-- address.
 abbrev pub bare_said : List Piece → List Address
 bare_said pieces = mailbox_with (name_text (last_inside pieces [])) (without_route (address_said pieces))
 
--- a byte outside that neither ends an item nor begins an address between brackets: none of `,`, `:`,
--- `;` and `<`
+-- A byte outside that neither ends an item nor begins an address between brackets: none of `,`,
+-- `:`, `;` and `<`.
 abbrev pub is_bare_byte : ℕ → Bool
 is_bare_byte b = is_outer_byte b && not (b == 44) && not (b == 58) && not (b == 59) && not (b == 60)
 
--- An item without `<` is read as it says.
+-- An item without `<` is read as what it says.
 abbrev pub BareReads : Type 0
 BareReads = (pieces : List Piece) → ArePieces is_bare_byte pieces → addresses_of (spelled_pieces pieces) ≡ bare_said pieces
 
--- a byte between brackets: any outside but `>`
+-- A byte between brackets: any byte outside but `>`.
 abbrev pub is_inner_byte : ℕ → Bool
 is_inner_byte b = is_outer_byte b && not (b == 62)
 
--- Of `NAME<INSIDE>REST` the rest says nothing.
+-- In `NAME<INSIDE>REST` the rest says nothing.
 abbrev pub ItemReads : Type 0
 ItemReads =
     (name inside rest : List Piece) → ArePieces is_plain name → ArePieces is_inner_byte inside → ArePieces is_plain rest
     → addresses_of (spelled_pieces name ++ 60 ∷ (spelled_pieces inside ++ 62 ∷ spelled_pieces rest))
     ≡ mailbox_with (name_said name) (without_route (address_said inside))
 
--- The address of `NAME<INSIDE`, where no `>` follows, is all that is left.
+-- In `NAME<INSIDE`, without a later `>`, the address is all that is left.
 abbrev pub OpenItemReads : Type 0
 OpenItemReads =
     (name inside : List Piece) → ArePieces is_plain name → ArePieces is_inner_byte inside
     → addresses_of (spelled_pieces name ++ 60 ∷ spelled_pieces inside) ≡ mailbox_with (name_said name) (without_route (address_said inside))
 
--- a byte of a bare item in a group, where a colon ends none: none of `,`, `;` and `<`
+-- A byte of an item without `<` in a group, where a colon ends no item: none of `,`, `;` and `<`.
 abbrev pub is_grouped_byte : ℕ → Bool
 is_grouped_byte b = is_outer_byte b && not (b == 44) && not (b == 59) && not (b == 60)
 
@@ -69,6 +71,6 @@ AloneIsMailbox =
     (name address : List ℕ) → HasNo 64 address → 0 < length name + length address
     → mailbox_with name address ≡ record { kind = Mailbox; name = name; mailbox = address; host = [] } ∷ []
 
--- Neither is none.
+-- Without a name and without an address there is no mailbox.
 abbrev pub NothingIsNoMailbox : Type 0
 NothingIsNoMailbox = mailbox_with [] [] ≡ []

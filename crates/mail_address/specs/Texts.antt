@@ -5,15 +5,16 @@ use Rattle.mail_address.specs.Words.{joined_words, name_text, address_text}
 use Rattle.mail_address.specs.Grammar.{Piece, piece_bytes, spelled_pieces, IsPiece, ArePieces, is_outer_byte}
 use Rattle.mail_address.specs.Mailboxes.{HasNo, said_in_name, address_said}
 
--- a word: one byte or more, and no space
+-- A word: one byte or more, and no space.
 abbrev pub IsWord : List ℕ → Type 0
 IsWord word = (0 < length word) × HasNo 32 word
 
--- a word after one space and so many more
+-- A word after one space and so many more.
 abbrev pub spread : ℕ × List ℕ → List ℕ
 spread part = 32 ∷ (replicate part.0 32 ++ part.1)
 
--- Words that stand any number of spaces apart are joined by one space, and spaces at both ends go.
+-- Words that stand any number of spaces apart are joined by one space, and spaces at both ends are
+-- removed.
 abbrev pub WordsAreJoined : Type 0
 WordsAreJoined =
     (first : List ℕ) (more : List (ℕ × List ℕ)) (front end : ℕ) → IsWord first → All (λ (part : ℕ × List ℕ). IsWord part.1) more
@@ -24,25 +25,28 @@ WordsAreJoined =
 abbrev pub SpacesAreNoWords : Type 0
 SpacesAreNoWords = (n : ℕ) → joined_words (replicate n 32) ≡ []
 
--- a part of a name: a piece, or a backslash outside and the byte that it takes along
+-- A part of a name: a piece, or a backslash outside and the byte that it quotes.
 pub data NamePart : Type 0 where
   Whole : Piece → NamePart
   Taken : ℕ → NamePart
 
--- a byte that stands in a name by itself, outside: any but `"`, `(` and a backslash
+-- A byte that is itself in a name, outside of quoted strings and comments: any but `"`, `(` and a
+-- backslash.
 abbrev pub is_name_byte : ℕ → Bool
 is_name_byte b = is_outer_byte b && not (b == 92)
 
+-- Each part is one that a name may have.
 abbrev pub AreNameParts : List NamePart → Type 0
 AreNameParts [] = Unit {0}
 AreNameParts (Whole piece ∷ parts) = IsPiece is_name_byte piece × AreNameParts parts
 AreNameParts (Taken b ∷ parts) = AreNameParts parts
 
--- the bytes of such a part, and what it says
+-- The bytes of such a part.
 abbrev pub part_bytes : NamePart → List ℕ
 part_bytes (Whole piece) = piece_bytes piece
 part_bytes (Taken b) = 92 ∷ b ∷ []
 
+-- What a part of a name says.
 abbrev pub part_said : NamePart → List ℕ
 part_said (Whole piece) = said_in_name piece
 part_said (Taken b) = b ∷ []

@@ -1,3 +1,4 @@
+//! Values and their addresses, worked out by hand from RFC 5322, with ample memory.
 use super::*;
 use arch_base::{Bytes, Duplicate, NoMemory};
 use std::alloc::Global;
@@ -41,7 +42,7 @@ const ADDRESSES: [Row; 12] = [
     (b"<@x:\"y:a@b>", b"M |a|b>;"),
 ];
 
-/// Lists and groups, and items that tell nothing.
+/// Lists and groups, and items that are no address.
 const GROUPS: [Row; 16] = [
     (b"g: @x:a@b;", b"G g||;M |a|b;E ||;"),
     (b"Ann <a@b>: c", b"G Ann <a@b>||;M |c|;E ||;"),
@@ -96,14 +97,14 @@ fn reads_lists_and_groups(rt: HostRuntime) -> Result<(), Fail> {
     Ok(())
 }
 
-/// Whether a value, and the copy of its addresses, are read as is wanted.
+/// Returns whether a value, and the copy of its addresses, are read as they should be.
 fn is_read_as(alloc: Global, value: &[u8], want: &[u8]) -> Result<bool, NoMemory> {
     let addresses = list(alloc, value)?;
     let twin = addresses.duplicate()?;
     Ok(shown(alloc, &addresses)?.as_slice() == want && shown(alloc, &twin)?.as_slice() == want)
 }
 
-/// Addresses as a line of text: the kind by its letter, the name, the mailbox and the host.
+/// Returns addresses as a line of text: the kind by its letter, the name, the mailbox and the host.
 fn shown(alloc: Global, addresses: &Addresses) -> Result<Bytes, NoMemory> {
     let mut text = Bytes::new(alloc);
     for address in addresses.as_slice() {
@@ -112,7 +113,7 @@ fn shown(alloc: Global, addresses: &Addresses) -> Result<Bytes, NoMemory> {
     Ok(text)
 }
 
-/// Puts an address so shown at the end of a text.
+/// Appends an address, as `shown` writes it, to a text.
 fn push_address(text: &mut Bytes, address: &Address) -> Result<(), NoMemory> {
     text.push_slice(match address.kind {
         AddressKind::Mailbox => b"M ",
@@ -124,7 +125,7 @@ fn push_address(text: &mut Bytes, address: &Address) -> Result<(), NoMemory> {
     push_part(text, &address.host, b';')
 }
 
-/// Puts a part of an address and a byte behind it at the end of a text.
+/// Appends a part of an address, and a byte after it, to a text.
 fn push_part(text: &mut Bytes, part: &Bytes, end: u8) -> Result<(), NoMemory> {
     text.push_slice(part.as_slice())?;
     text.push(end)

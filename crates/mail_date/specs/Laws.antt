@@ -8,26 +8,26 @@ use Rattle.mail_date.specs.Pieces.{IsZone}
 use Rattle.mail_date.specs.Printed.{IsDateAt, mail_text}
 use Rattle.mail_date.specs.Reading.{moment_in}
 
--- a text spells at most one moment
+-- A text spells at most one moment.
 abbrev pub SpelledMomentIsOne : Type 0
 SpelledMomentIsOne = (text : List ℕ) (a b : Moment) → Spells text a → Spells text b → a ≡ b
 
--- a clock in a moment's zone shows one date
+-- A clock in a moment's zone shows one date.
 abbrev pub PrintedDateIsOne : Type 0
 PrintedDateIsOne = (moment : Moment) (a b : CivilDate) → IsDateAt moment a → IsDateAt moment b → a ≡ b
 
--- a Date that is written for a moment, in a zone less than a day from UTC, spells that moment
+-- A Date that is written for a moment, in a zone less than a day from UTC, spells that moment.
 abbrev pub WrittenDateIsSpelled : Type 0
 WrittenDateIsSpelled =
     (moment : Moment) (date : CivilDate)
     → IsDateAt moment date → moment.secs ≤ last_second → IsZone moment.zone → Spells (mail_text date) moment
 
--- and where a text is such a Date, the answer is that moment
+-- If a text is such a Date, the answer is that moment.
 abbrev pub GivesWrittenMoment : List ℕ → Option Moment → Type 0
 GivesWrittenMoment text answer =
     (moment : Moment) (date : CivilDate)
     → IsDateAt moment date → moment.secs ≤ last_second → IsZone moment.zone → text ≡ mail_text date → answer ≡ Some moment
 
--- the moment in a text is the one that it spells, and none where it spells none
+-- The moment in a text is the one that it spells, and there is none if it spells none.
 abbrev pub MomentIsSpelled : Type 0
 MomentIsSpelled = (text : List ℕ) (moment : Moment) → moment_in text ≡ Some moment ↔ Spells text moment

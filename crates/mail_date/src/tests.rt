@@ -98,7 +98,7 @@ const REFUSED: [&[u8]; 40] = [
     b"1 Feb-2024 11:59:57 +0100",
 ];
 
-/// Whether a value is read as a moment.
+/// Returns whether a value is read as a moment.
 fn is_read(value: &[u8], secs: u64, zone: i16) -> bool {
     matches!(read(value), Some(moment) if moment.secs == secs && moment.zone == zone)
 }
@@ -117,7 +117,7 @@ fn other_values_are_refused(rt: HostRuntime) {
     }
 }
 
-/// Whether a moment is printed so for a mailbox.
+/// Returns whether a moment is printed so for a mailbox.
 fn is_printed(secs: u64, zone: i16, text: &[u8]) -> bool
     requires secs { secs ≤ last_second }
     requires zone { IsZone zone }

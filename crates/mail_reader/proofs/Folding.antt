@@ -7,17 +7,17 @@ use Rattle.mail_reader.specs.Fields.{parts_of, without_feed}
 use Rattle.mail_reader.proofs.FirstFields.{parts_by}
 use Rattle.mail_reader.proofs.FieldNames.{name_within, is_field_line-within}
 
--- nothing, or bytes that begin with a space or a tab
+-- Nothing, or bytes that begin with a space or a tab.
 abbrev pub GoesOn : List ℕ → Type 0
 GoesOn [] = Unit {0}
 GoesOn (b ∷ bs) = (b ≡ 32) ⊎ (b ≡ 9)
 
--- each line feed is the last byte, or such bytes follow it
+-- Each line feed is the last byte, or is followed by such bytes.
 abbrev pub Folded : List ℕ → Type 0
 Folded [] = Unit {0}
 Folded (b ∷ bs) = (b ≡ 10 → GoesOn bs) × Folded bs
 
--- a line feed is the last byte
+-- A line feed is the last byte.
 abbrev IsLine : List ℕ → Type 0
 IsLine [] = Unit {0}
 IsLine (b ∷ bs) = (b ≡ 10 → bs ≡ []) × IsLine bs
@@ -35,7 +35,7 @@ are_lines (x ∷ xs) = step (eqb x 10) x (lines_of xs) refl (are_lines xs)
     step false b [] e h = ((λ _. refl, tt), h)
     step false b (l ∷ ls) e h = ((λ same. absurd (both_ways (eqb b 10) e (eq-eqb b 10 same)), h.0), h.1)
 
--- lines of a header: each begins a field or goes on with one
+-- Lines of a header: each starts a field or continues one.
 abbrev AreHeader : List (List ℕ) → Type 0
 AreHeader [] = Unit {0}
 AreHeader (l ∷ ls) = IsLine l × ((is_field_line l || is_continuation l) ≡ true) × AreHeader ls
@@ -56,13 +56,13 @@ header_header (l ∷ ls) h = step (is_field_line l) refl
     step true e = (h.0, ap (λ t. t || is_continuation l) e, front_header ls h.1)
     step false e = tt
 
--- a line and what goes on with it
+-- A line and the lines that continue it.
 folded-append : (l ys : List ℕ) → IsLine l → GoesOn ys → Folded ys → Folded (l ++ ys)
 folded-append [] ys h g f = f
 folded-append (b ∷ bs) ys h g f =
     (λ e. subst (λ (t : List ℕ). GoesOn (t ++ ys)) (sym (h.0 e)) g, folded-append bs ys h.1 g f)
 
--- each is a field line and what goes on with it
+-- Each field is a field line and the lines that continue it.
 abbrev pub AllFields : List (List ℕ) → Type 0
 AllFields [] = Unit {0}
 AllFields (w ∷ ws) = (is_field_line w ≡ true) × Folded w × AllFields ws
@@ -87,7 +87,7 @@ are_parts (l ∷ ls) h = step (is_field_line l) (parts_of ls) refl h.1 (are_part
     step true p e c k = (tt, tt, (is_field_line-within l p.0 (name_within l e) ∙ e, folded-append l p.0 h.0 k.0 k.1, k.2))
     step false p e c k = (goes_on l p.0 c, folded-append l p.0 h.0 k.0 k.1, k.2)
 
--- the fields of a text
+-- The fields of a text are folded so.
 pub all_fields : (text : List ℕ) → AllFields (parts_of (header_lines (lines_of text))).1
 all_fields text = (are_parts (header_lines (lines_of text)) (header_header (lines_of text) (are_lines text))).2
 
@@ -96,13 +96,13 @@ folded-drop zero xs h = h
 folded-drop (suc n) [] h = h
 folded-drop (suc n) (x ∷ xs) h = folded-drop n xs h.1
 
--- bytes that go on begin as they do without a line feed at the end
+-- Bytes that continue a line start with the same byte without a line feed at their end.
 first_stays : (c : ℕ) (cs : List ℕ) → (c ≡ 32) ⊎ (c ≡ 9) → get_or (without_feed (c ∷ cs)) 0 0 ≡ c
 first_stays c (d ∷ cs) h = refl
 first_stays c [] (inl e) = rw e refl
 first_stays c [] (inr e) = rw e refl
 
--- a value goes on behind each line feed in it
+-- A value continues after each line feed in it.
 pub value_goes_on : (xs : List ℕ) → Folded xs → (k : ℕ) → get_or (without_feed xs) k 0 ≡ 10
     → (get_or (without_feed xs) (k + 1) 0 ≡ 32) ⊎ (get_or (without_feed xs) (k + 1) 0 ≡ 9)
 value_goes_on [] h k e = absurd (omega arith)

@@ -20,7 +20,7 @@ NoByte-append : (c : ℕ) (xs ys : List ℕ) → NoByte c xs → NoByte c ys →
 NoByte-append c [] ys h k = k
 NoByte-append c (x ∷ xs) ys h k = (h.0, NoByte-append c xs ys h.1 k)
 
--- the bytes of an id pass the test on them, and those that pass are such bytes
+-- The bytes of an id pass the test, and bytes that pass are those of an id.
 id_byte_passes : (b : ℕ) → IsIdByte b → is_id_byte b ≡ true
 id_byte_passes b h = grind (arith, nat_tests)
 
@@ -33,7 +33,7 @@ passed_id_byte b h =
 pub id_bytes : (inside : List ℕ) → All IsIdByte inside → list_all is_id_byte inside ≡ true
 id_bytes inside h = list_all-from_AllPass is_id_byte inside (λ k d l. id_byte_passes (get_or inside k d) (h k d l))
 
--- a front that passes whole ends at the first byte that doesn't
+-- A prefix of bytes that pass ends at the first byte that doesn't.
 passes : (xs : List ℕ) → list_all is_id_byte xs ≡ true → prefix_len is_id_byte xs ≡ length xs
 passes [] h = refl
 passes (x ∷ xs) h =

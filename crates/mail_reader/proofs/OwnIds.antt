@@ -11,14 +11,14 @@ use Rattle.mail_reader.specs.Laws.{IsFirstMessageId, IsOwnId, OwnIdIsFirst}
 use Rattle.mail_reader.proofs.PieceLaws.{contains_cases}
 use Rattle.mail_reader.proofs.PartLaws.{then_some}
 
--- names in letters of any case
+-- Names that are equal in letters of any case.
 same_name : (name : List ℕ) → str_eq_ignore_ascii_case name (codes "Message-ID") ≡ true → str_to_ascii_lowercase name ≡ codes "message-id"
 same_name name e = (bytes_eq-Decides (str_to_ascii_lowercase name) (codes "message-id")).0 e
 
 is_same_name : (name : List ℕ) → str_to_ascii_lowercase name ≡ codes "message-id" → str_eq_ignore_ascii_case name (codes "Message-ID") ≡ true
 is_same_name name e = (bytes_eq-Decides (str_to_ascii_lowercase name) (codes "message-id")).1 e
 
--- what is found is the first
+-- The field that is found is the first one.
 first_found : (fields : List FieldText) (field : FieldText) → first_named (codes "Message-ID") fields ≡ Some field → IsFirstMessageId fields field
 first_found [] field e = absurd (none e)
   where
@@ -46,7 +46,7 @@ first_found (f ∷ fs) field e = step (str_eq_ignore_ascii_case f.name (codes "M
           name = found.name;
         }
 
--- and the first is found
+-- The first field is found.
 found_first : (front later : List FieldText) (field : FieldText) → ((other : FieldText) → Contains front other → str_to_ascii_lowercase other.name ≢ codes "message-id")
     → str_to_ascii_lowercase field.name ≡ codes "message-id" → first_named (codes "Message-ID") (front ++ field ∷ later) ≡ Some field
 found_first [] later field others name = ap (λ t. cond t (Some field) (first_named (codes "Message-ID") later)) (is_same_name field.name name)

@@ -1,4 +1,4 @@
--- The fields, the body and the own id of a text stand in it.
+-- The fields, the body and the own id of a text are pieces of it.
 use Rattle.std.proofs.Common.{◌≡◌, inl, inr, ℕ, suc, ◌+◌, ◌<◌, ◌≤◌, Bool, true, false, cond, eqb, ltb, List, [], ◌∷◌, ◌++◌, length, take, drop, map, get_or, Option, None, Some, refl, sym, ap, ◌∙◌, append_assoc, arith, subst, codes}
 use Rattle.std.specs.Prelude.{option_and_then}
 use Rattle.std.specs.List.{concat, Contains, prefix_len}
@@ -17,14 +17,14 @@ use Rattle.mail_reader.proofs.Folding.{Folded, AllFields, all_fields, folded-dro
 use Rattle.mail_reader.proofs.FormLaws.{fields_front}
 use Rattle.mail_reader.proofs.PieceLaws.{contains_cases, are_pieces}
 
--- a byte that passes is one of a name
+-- A byte that passes is one of a name.
 passed_name_byte : (b : ℕ) → is_name_byte b ≡ true → IsNameByte b
 passed_name_byte b h =
     let low : 33 ≤ b = grind (arith, nat_tests) in
     let high : b ≤ 126 = grind (arith, nat_tests) in
     (low, high, λ e. both_ways (is_name_byte b) (ap is_name_byte e) h)
 
--- a line feed at the end, or none
+-- A line feed at the end, or none.
 feed_cut : (bs : List ℕ) → (end : List ℕ) × (IsFeedOrNone end × (bs ≡ without_feed bs ++ end))
 feed_cut [] = ([], (inl refl, refl))
 feed_cut (b ∷ []) = step (eqb b 10) b refl
@@ -36,7 +36,7 @@ feed_cut (b ∷ c ∷ bs) =
     let later = feed_cut (c ∷ bs) in
     (later.0, (later.1.0, ap (λ t. b ∷ t) later.1.1))
 
--- pieces of pieces
+-- Pieces of pieces.
 pub lies_in : (piece whole text : List ℕ) → LiesIn piece whole → LiesIn whole text → LiesIn piece text
 lies_in piece whole text inner outer =
     let all : outer.before ++ ((inner.before ++ (piece ++ inner.after)) ++ outer.after) ≡ (outer.before ++ inner.before) ++ (piece ++ (inner.after ++ outer.after)) = simp append_assoc in
@@ -46,7 +46,7 @@ lies_in piece whole text inner outer =
       is = outer.is ∙ ap (λ t. outer.before ++ (t ++ outer.after)) inner.is ∙ all;
     }
 
--- a field by its bytes
+-- A field by its bytes.
 field_is : (w text : List ℕ) → is_field_line w ≡ true → Folded w → LiesIn w text → IsFieldIn text (field_of w)
 unfolding field_of is_field_line
 field_is w text e folded lies =
@@ -74,7 +74,7 @@ field_is w text e folded lies =
       value = lies_in value w text (record { before = take n w ++ 58 ∷ []; after = cut.0; is = all ∙ shift }) lies;
     }
 
--- the bytes of fields, one after another
+-- The bytes of fields, one after another.
 whole-field_of : (w : List ℕ) → (field_of w).whole ≡ w
 unfolding field_of
 whole-field_of w = refl
@@ -98,7 +98,7 @@ unfolding fields_of
 fields_lie text field h =
     each_field [] (parts_of (header_lines (lines_of text))).1 (concat (after_header (lines_of text))) text (all_fields text) (fields_front text) field h
 
--- an empty line that goes
+-- An empty line that is removed.
 empty_cut : (ls : List (List ℕ)) → (line : List ℕ) × (IsFeedOrNone line × (concat ls ≡ line ++ concat (after_empty ls)))
 empty_cut [] = ([], (inl refl, refl))
 empty_cut ([] ∷ ls) = ([], (inl refl, refl))
@@ -109,7 +109,7 @@ empty_cut ((b ∷ []) ∷ ls) = step (eqb b 10) b ls refl
     step false b ls e = ([], (inl refl, refl))
 empty_cut ((b ∷ c ∷ bs) ∷ ls) = ([], (inl refl, refl))
 
--- the first field of a name is one of the fields
+-- The first field of a name is one of the fields.
 first_named-contains : (name : List ℕ) (fields : List FieldText) (field : FieldText) → first_named name fields ≡ Some field → Contains fields field
 first_named-contains name [] field e = absurd (none e)
   where

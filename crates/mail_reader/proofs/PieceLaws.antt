@@ -12,16 +12,16 @@ use Rattle.mail_reader.proofs.Trims.{NoByte}
 use Rattle.mail_reader.proofs.IdPieces.{ids_of-behind}
 use Rattle.mail_reader.proofs.IdLines.{passed_id_byte, id_bytes, id_len-at, free_of}
 
--- an element of a list is its first, or one of the others
+-- An element of a list is its first, or one of the others.
 pub contains_cases : {X : Type 0} (x : X) (xs : List X) (y : X) → Contains (x ∷ xs) y → (x ≡ y) ⊎ Contains xs y
 contains_cases x xs y (zero, l, e) = inl e
 contains_cases x xs y (suc k, l, e) = inr (k, omega arith, e)
 
--- a piece of bytes with one more in front of them
+-- A piece of bytes with one more byte at their front.
 pub lies_behind : (piece : List ℕ) (b : ℕ) (bs : List ℕ) → LiesIn piece bs → LiesIn piece (b ∷ bs)
 lies_behind piece b bs l = record { before = b ∷ l.before; after = l.after; is = ap (λ t. b ∷ t) l.is }
 
--- what closes is an id
+-- What a bracket closes is an id.
 closed_is : (bs : List ℕ) → closes_id bs ≡ true → IsId (60 ∷ take (id_len bs + 1) bs) × LiesIn (60 ∷ take (id_len bs + 1) bs) (60 ∷ bs)
 closed_is bs e =
     let n = id_len bs in
@@ -44,7 +44,7 @@ closed_is bs e =
       record { before = []; after = drop (n + 1) bs; is = ap (λ t. 60 ∷ t) (sym (take-append-drop (n + 1) bs)) },
     )
 
--- each id is a piece
+-- Each id is a piece.
 ids_step : (t u : Bool) (b : ℕ) (bs id : List ℕ) → eqb b 60 ≡ t → closes_id bs ≡ u
     → (Contains (ids_of bs) id → IsId id × LiesIn id bs)
     → Contains (cond (t && u) ((60 ∷ take (id_len bs + 1) bs) ∷ ids_of bs) (ids_of bs)) id → IsId id × LiesIn id (b ∷ bs)
@@ -65,7 +65,7 @@ ids_lie : (value id : List ℕ) → Contains (ids_of value) id → IsId id × Li
 ids_lie [] id (k, l, e) = absurd (omega arith)
 ids_lie (b ∷ bs) id h = ids_step (eqb b 60) (closes_id bs) b bs id refl refl (λ later. ids_lie bs id later) h
 
--- an opening bracket closes nothing that stands before it
+-- An opening bracket closes nothing that is before it.
 id_len-before : (bs rest : List ℕ) → id_len (bs ++ 60 ∷ rest) ≡ id_len bs
 id_len-before [] rest = refl
 id_len-before (b ∷ bs) rest = ap (λ n. cond (is_id_byte b) (1 + n) 0) (id_len-before bs rest)
@@ -80,7 +80,7 @@ closes-before : (bs rest : List ℕ) → closes_id (bs ++ 60 ∷ rest) ≡ close
 closes-before bs rest =
     rw (id_len-before bs rest) (ap (λ t. (nat_le 1 (id_len bs) && nat_le (id_len bs) 248) && t) (at_len bs rest (id_len bs) (prefix_len-le-length is_id_byte bs)))
 
--- so much of an id as is closed stands before the bracket too
+-- As much of an id as is closed is before the bracket, too.
 take-before : (bs rest : List ℕ) → closes_id bs ≡ true → take (id_len bs + 1) (bs ++ 60 ∷ rest) ≡ take (id_len bs + 1) bs
 take-before bs rest e =
     let n = id_len bs in
@@ -102,13 +102,13 @@ before_step true true bs rest later f ih = (λ i. (60 ∷ take-before bs rest f 
 before_step true false bs rest later f ih = ih
 before_step false u bs rest later f ih = ih
 
--- the ids before a bracket are those of the bytes before it
+-- The ids before a bracket are those of the bytes before it.
 ids_before : (bs rest : List ℕ) → ids_of (bs ++ 60 ∷ rest) ≡ ids_of bs ++ ids_of (60 ∷ rest)
 ids_before [] rest = refl
 ids_before (b ∷ bs) rest =
     rw (closes-before bs rest, id_len-before bs rest) (before_step (eqb b 60) (closes_id bs) bs rest (ids_of (60 ∷ rest)) refl (ids_before bs rest))
 
--- an id, and what stands after it
+-- An id, and the bytes after it.
 ids_here : (id after : List ℕ) → IsId id → ids_of (id ++ after) ≡ id ∷ ids_of after
 ids_here id after h =
     let inside = h.inside in

@@ -1,4 +1,4 @@
--- What holds of the storage form, and of the fields and ids of any text.
+-- Laws of the storage form, and of the fields and ids of any text.
 use Rattle.std.specs.Prelude.{◌≡◌, ◌≢◌, ◌⊎◌, ◌↔◌, ℕ, ◌+◌, ◌<◌, ◌≤◌, true, false, List, [], ◌∷◌, ◌++◌, Some, map, length, slice_index, codes}
 use Rattle.std.specs.List.{concat, All, Contains}
 use Rattle.std.specs.Str.{str_to_ascii_lowercase}
@@ -12,7 +12,8 @@ use Rattle.mail_reader.specs.Bodies.{body_of}
 abbrev pub StoredOnce : Type 0
 StoredOnce = (bytes text : List ℕ) → storage_form bytes ≡ Some text → storage_form text ≡ Some text
 
--- it has a field, ends with a line feed, and has no carriage return directly before a line feed
+-- The text has a field, ends with a line feed, and has no carriage return directly before a line
+-- feed.
 pub record IsClean (text : List ℕ) : Type 0 where
   pub field : 0 < length (fields_of text)
   pub ended : (front : List ℕ) × (text ≡ front ++ 10 ∷ [])
@@ -26,7 +27,8 @@ FormsAreClean = (bytes text : List ℕ) → storage_form bytes ≡ Some text →
 abbrev pub wholes : List FieldText → List ℕ
 wholes fields = concat (map (λ (field : FieldText). field.whole) fields)
 
--- Of any text the fields, one after another, are the front: so each lies in it, at the place where those before it end.
+-- The fields of any text, one after another, are its front: each starts at the offset where those
+-- before it end.
 abbrev pub FieldsAreFront : Type 0
 FieldsAreFront = (text : List ℕ) → text ≡ wholes (fields_of text) ++ concat (after_header (lines_of text))
 
@@ -34,7 +36,7 @@ FieldsAreFront = (text : List ℕ) → text ≡ wholes (fields_of text) ++ conca
 abbrev pub FormIsParts : Type 0
 FormIsParts = (bytes text : List ℕ) → storage_form bytes ≡ Some text → text ≡ wholes (fields_of text) ++ 10 ∷ body_of text
 
--- a field on one line that is kept as it is
+-- A field on one line that is kept as it is.
 pub record IsKeptLine (line : List ℕ) : Type 0 where
   pub content : List ℕ
   pub is : line ≡ content ++ 10 ∷ []
@@ -43,7 +45,7 @@ pub record IsKeptLine (line : List ℕ) : Type 0 where
   pub field : is_field_line line ≡ true
   pub stays : is_dropped line ≡ false
 
--- A field on one line in front of a storage form makes a storage form as it is.
+-- A storage form with a kept field on one line at its front is a storage form.
 abbrev pub FieldInFront : Type 0
 FieldInFront = (bytes text line : List ℕ) → storage_form bytes ≡ Some text → IsKeptLine line → storage_form (line ++ text) ≡ Some (line ++ text)
 
@@ -51,11 +53,11 @@ FieldInFront = (bytes text line : List ℕ) → storage_form bytes ≡ Some text
 abbrev pub FormsAreShort : Type 0
 FormsAreShort = (bytes text : List ℕ) → storage_form bytes ≡ Some text → length text ≤ length bytes + 2
 
--- a byte of an id between its brackets: printable ASCII other than a space, `<` and `>`
+-- A byte of an id between its brackets: printable ASCII other than a space, `<` and `>`.
 abbrev pub IsIdByte : ℕ → Type 0
 IsIdByte b = (33 ≤ b) × (b ≤ 126) × (b ≢ 60) × (b ≢ 62)
 
--- a piece of 1 to 248 bytes of an id between brackets
+-- A piece of 1 to 248 bytes of an id between brackets.
 pub record IsId (id : List ℕ) : Type 0 where
   pub inside : List ℕ
   pub is : id ≡ 60 ∷ (inside ++ 62 ∷ [])
@@ -63,11 +65,11 @@ pub record IsId (id : List ℕ) : Type 0 where
   pub short : length inside ≤ 248
   pub bytes : All IsIdByte inside
 
--- the line of a Message-ID field
+-- The line of a Message-ID field with an id.
 abbrev pub id_line : List ℕ → List ℕ
 id_line id = codes "Message-ID: " ++ (id ++ 10 ∷ [])
 
--- The own id of a text with such a line in front is the id in that line.
+-- The own id of a text that starts with such a line is the id in that line.
 abbrev pub OwnIdInFront : Type 0
 OwnIdInFront = (text id : List ℕ) → IsId id → own_id (id_line id ++ text) ≡ Some id
 
@@ -75,7 +77,7 @@ OwnIdInFront = (text id : List ℕ) → IsId id → own_id (id_line id ++ text) 
 abbrev pub IdLineIsKept : Type 0
 IdLineIsKept = (id : List ℕ) → IsId id → IsKeptLine (id_line id)
 
--- a piece that stands in a text
+-- A piece of a text: the text is some bytes, the piece, and some bytes.
 pub record LiesIn (piece text : List ℕ) : Type 0 where
   pub before : List ℕ
   pub after : List ℕ
@@ -85,20 +87,22 @@ pub record LiesIn (piece text : List ℕ) : Type 0 where
 abbrev pub IdsArePieces : Type 0
 IdsArePieces = (value id : List ℕ) → Contains (ids_of value) id ↔ IsId id × LiesIn id value
 
--- They stand in the order of these pieces, and as often: at each piece that is an id, the ids are those before it, it, and those after it.
+-- The ids come in the order of these pieces, and as often: at each piece that is an id, the ids are
+-- those before it, it, and those after it.
 abbrev pub IdsInOrder : Type 0
 IdsInOrder = (before id after : List ℕ) → IsId id → ids_of (before ++ (id ++ after)) ≡ ids_of before ++ id ∷ ids_of after
 
--- a line feed, or nothing
+-- A line feed, or nothing.
 abbrev pub IsFeedOrNone : List ℕ → Type 0
 IsFeedOrNone bytes = (bytes ≡ []) ⊎ (bytes ≡ 10 ∷ [])
 
--- a byte of a field's name: printable ASCII other than a space and a colon
+-- A byte of a field's name: printable ASCII other than a space and a colon.
 abbrev pub IsNameByte : ℕ → Type 0
 IsNameByte b = (33 ≤ b) × (b ≤ 126) × (b ≢ 58)
 
--- A field that stands in a text: its name, a colon, its value, and a line feed or nothing. So the name and the value stand in the text too.
--- The name has one or more bytes. Each line feed in the value has a space or a tab after it, so the value doesn't end with one.
+-- A field that is a piece of a text: its name, a colon, its value, and a line feed or nothing. So
+-- the name and the value are pieces of the text too. The name has one or more bytes. Each line feed
+-- in the value has a space or a tab after it, so the value doesn't end with one.
 pub record IsFieldIn (text : List ℕ) (field : FieldText) : Type 0 where
   pub end : List ℕ
   pub ended : IsFeedOrNone end
@@ -110,7 +114,8 @@ pub record IsFieldIn (text : List ℕ) (field : FieldText) : Type 0 where
   pub name : LiesIn field.name text
   pub value : LiesIn field.value text
 
--- a text as its parts: the fields in order, an empty line or none, and the body; the own id stands in one of the fields
+-- A text as its parts: the fields in order, an empty line or none, and the body. The own id is a
+-- piece of one of the fields.
 pub record IsOfParts (text : List ℕ) : Type 0 where
   pub empty_line : List ℕ
   pub is_empty : IsFeedOrNone empty_line
@@ -118,11 +123,11 @@ pub record IsOfParts (text : List ℕ) : Type 0 where
   pub fields : (field : FieldText) → Contains (fields_of text) field → IsFieldIn text field
   pub own_id : (id : List ℕ) → own_id text ≡ Some id → (field : FieldText) × Contains (fields_of text) field × LiesIn id field.value × LiesIn id text
 
--- The fields, the body and the own id of any text are pieces that stand in it.
+-- The fields, the body and the own id of any text are pieces of it.
 abbrev pub PartsLieIn : Type 0
 PartsLieIn = (text : List ℕ) → IsOfParts text
 
--- the first field of a list that is named `Message-ID`, in letters of any case
+-- The first field of a list that is named `Message-ID`, in letters of any case.
 pub record IsFirstMessageId (fields : List FieldText) (field : FieldText) : Type 0 where
   pub front : List FieldText
   pub later : List FieldText
@@ -130,13 +135,14 @@ pub record IsFirstMessageId (fields : List FieldText) (field : FieldText) : Type
   pub others : (other : FieldText) → Contains front other → str_to_ascii_lowercase other.name ≢ codes "message-id"
   pub name : str_to_ascii_lowercase field.name ≡ codes "message-id"
 
--- the first id of that field of a text
+-- The first id of that field of a text.
 pub record IsOwnId (text id : List ℕ) : Type 0 where
   pub field : FieldText
   pub first : IsFirstMessageId (fields_of text) field
   pub later_ids : List (List ℕ)
   pub ids : ids_of field.value ≡ id ∷ later_ids
 
--- The own id of a text is just the first id of its first Message-ID field. Where that field has none, the text has no own id.
+-- The own id of a text is just the first id of its first Message-ID field. If that field has none,
+-- the text has no own id.
 abbrev pub OwnIdIsFirst : Type 0
 OwnIdIsFirst = (text id : List ℕ) → (own_id text ≡ Some id) ↔ IsOwnId text id

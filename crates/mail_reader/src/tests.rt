@@ -8,7 +8,7 @@ use arch_base::{Bytes, NoMemory, decimal};
 use std::alloc::{AllocError, Global};
 use std::test::Fail;
 
-/// Whether the storage form of a mail is a text.
+/// Returns whether the storage form of a mail is a text.
 fn has_form(alloc: Global, mail: &[u8], form: &[u8]) -> bool {
     match stored(alloc, mail) {
         Ok(text) => text.as_slice() == form,
@@ -16,7 +16,7 @@ fn has_form(alloc: Global, mail: &[u8], form: &[u8]) -> bool {
     }
 }
 
-/// Whether no field is left of a mail.
+/// Returns whether no field is left of a mail.
 fn has_no_fields(alloc: Global, mail: &[u8]) -> bool {
     matches!(stored(alloc, mail), Err(StoredRefusal::NoFields))
 }
@@ -118,7 +118,7 @@ fn a_mail_of_a_mailbox_is_stored_as_worked_out(rt: HostRuntime) {
     assert!(rt; is_stored(form) && !is_stored(mail));
 }
 
-/// A mail of so many bytes, of one field and a body without line ends.
+/// Returns a mail of this many bytes, of one field and a body without line ends.
 fn long_mail(alloc: Global, len: usize) -> Result<Vec<u8>, AllocError>
     requires { 8 ≤ len }
     ensures { IfOk result (λ mail. vec_len mail ≡ len) }
@@ -128,7 +128,7 @@ fn long_mail(alloc: Global, len: usize) -> Result<Vec<u8>, AllocError>
     Ok(mail)
 }
 
-/// The length of the form of a mail, or of one that is too large.
+/// Returns the length of the form of a mail, or of one that is too large.
 fn form_len(alloc: Global, mail: &[u8]) -> Result<usize, StoredRefusal> {
     let form = stored(alloc, mail)?;
     Ok(form.as_slice().len())
@@ -184,7 +184,8 @@ fn storage_texts_are_told(rt: HostRuntime) {
     }
 }
 
-/// Whether a text of so many bytes, of one field and a body of one line, is a storage text.
+/// Returns whether a text of this many bytes, of one field and a body of one line, is a storage
+/// text.
 fn is_long_stored(alloc: Global, len: usize) -> Result<bool, AllocError>
     requires { 20 ≤ len }
 {
@@ -216,7 +217,7 @@ fn own_ids_are_found(rt: HostRuntime) {
     }
 }
 
-/// Whether an id of so many bytes between its brackets is found.
+/// Returns whether an id of this many bytes between its brackets is found.
 fn is_found(alloc: Global, len: usize) -> Result<bool, NoMemory> {
     let mut text = Bytes::new(alloc);
     text.push_slice(b"Message-ID: <")?;
@@ -235,7 +236,7 @@ fn ids_have_up_to_248_bytes_between_their_brackets(rt: HostRuntime) -> Result<()
     Ok(())
 }
 
-/// Whether the next of the fields that are left has this name, this value and these bytes.
+/// Returns whether the next of the fields that are left has this name, this value and these bytes.
 fn is_next(left: &mut Fields<'_>, name: &[u8], value: &[u8], whole: &[u8]) -> bool {
     match left.next() {
         Some(field) => field.name == name && field.value == value && field.whole == whole,
@@ -268,7 +269,7 @@ fn values_are_made_flat(rt: HostRuntime) {
     }
 }
 
-/// A field of 300 ids, and another of the first of them.
+/// Returns a field of 300 ids, and another of the first of them.
 fn many_ids(alloc: Global) -> Result<Bytes, NoMemory> {
     let mut text = Bytes::new(alloc);
     text.push_slice(b"References:")?;
@@ -320,8 +321,8 @@ fn content_ids_are_those_of_another_program(rt: HostRuntime) {
     assert!(rt; content_id(b"To:\n x\nSubject: a \t b\nX: y\nsubject:\tc\n\nbody\n") == wanted);
 }
 
-// The digest of "subject:a", "from:b", "date:c", "references:<d>", "in-reply-to:<e>", "to:f", "cc:g", an empty line and
-// "x", by another program.
+// The digest of "subject:a", "from:b", "date:c", "references:<d>", "in-reply-to:<e>", "to:f",
+// "cc:g", an empty line and "x", by another program.
 #[test]
 fn content_ids_count_seven_fields(rt: HostRuntime) {
     let text =

@@ -1,4 +1,4 @@
--- The kit's engine gives the bytes of symbols, where none stands alone behind groups of four.
+-- The kit's engine returns the bytes of symbols if no symbol is alone after groups of four.
 use Rattle.std.proofs.Common.{◌≡◌, ◌≢◌, ◌<◌, ◌≤◌, ◌+◌, ◌-◌, ◌*◌, ◌/◌, ◌%◌, ◌∙◌, ℕ, zero, suc, Bool, true, false, cond, not, ◌&&◌, ◌==◌, nat_lt, nat_eq, List, [], ◌∷◌, ◌++◌, map, length, take, drop, get_or, Option, Some, None, is_some, Result, Ok, Err, refl, sym, ap, subst, append_assoc, arith, eqb-true, length-drop, ⊎_elim}
 use Rattle.std.specs.List.{list_all}
 use Rattle.std.proofs.lemmas.Bool.{agree_below_at, and_parts, cases_lt}
@@ -14,7 +14,7 @@ use Rattle.base64.specs.GeneralPurpose.{decode_of}
 use Rattle.mime_words.specs.Base64.{six_bits, is_symbol, sextets, packed}
 use Rattle.mime_words.specs.Engine.{IsLenient}
 
--- what a decoding table says of a symbol
+-- What a decoding table says of a symbol.
 record Reads (dec : List ℕ) (b : ℕ) : Type 0 where
   bits : six_bits b ≡ Some (get_or dec b 0)
   below : get_or dec b 0 < 64
@@ -36,7 +36,7 @@ below_all p (suc n) i all l = by (i == n) refl (below_all p n i (and_parts (p n)
     by true e later = ap p (eqb-true i n e) ∙ (and_parts (p n) (all_below p n) all).0
     by false e later = later (other e)
 
--- the standard symbols are those of the six bits
+-- The standard symbols are those of the six bits.
 abbrev stands_at : Option ℕ → ℕ → Bool
 stands_at None b = true
 stands_at (Some v) b = nat_eq (get_or standard.encode_table v 0) b && nat_lt v 64 && not (b == 61)
@@ -89,7 +89,7 @@ sextets_read dec (x ∷ xs) r =
     let bits = r.0.bits in
     rw (plain, bits) (ap (λ ys. get_or dec x 0 ∷ ys) (sextets_read dec xs r.1))
 
--- no group has an error
+-- No group has an error.
 no_error_at : (dec s : List ℕ) (i : ℕ) → AllRead dec s → i < length s → (get_or dec (get_or s i 0) 0 == 255) ≡ false
 no_error_at dec [] i r l = absurd (omega arith)
 no_error_at dec (x ∷ xs) zero r l = r.0.some
@@ -106,7 +106,7 @@ groups_fine dec s (suc q) r l =
     let e3 = no_error_at dec s (4 * q + 3) r (omega arith) in
     rw (before, e0, e1, e2, e3) refl
 
--- the groups behind the first
+-- The groups after the first one.
 group_behind : (dec s : List ℕ) (a b c d m : ℕ) → group_bytes dec (a ∷ b ∷ c ∷ d ∷ s) (suc (suc (suc (suc m)))) ≡ group_bytes dec s m
 group_behind dec s a b c d m =
     let e1 : suc (suc (suc (suc m))) + 1 ≡ suc (suc (suc (suc (m + 1)))) = omega arith in
@@ -124,11 +124,11 @@ groups_behind dec s a b c d (suc q) =
     let last : group_bytes dec (a ∷ b ∷ c ∷ d ∷ s) (4 * suc q) ≡ group_bytes dec s (4 * q) = ap (group_bytes dec (a ∷ b ∷ c ∷ d ∷ s)) four ∙ group_behind dec s a b c d (4 * q) in
     (λ i. groups_behind dec s a b c d q i ++ last i) ∙ append_assoc group (groups_bytes dec s q) (group_bytes dec s (4 * q))
 
--- four, three and two six bits are bytes
+-- Four, three and two six bits are bytes.
 four_are : (a b c d : ℕ) → decode_group a b c d ≡ (4 * a + b / 16) ∷ (b % 16 * 16 + c / 4) ∷ (c % 4 * 64 + d) ∷ []
 four_are a b c d = let e : a * 4 + b / 16 ≡ 4 * a + b / 16 = omega arith in λ i. e i ∷ (b % 16 * 16 + c / 4) ∷ (c % 4 * 64 + d) ∷ []
 
--- the last group, of two, three or four symbols
+-- The last group, of two, three or four symbols.
 last_bytes : (dec s t : List ℕ) (at : ℕ) → drop at s ≡ t → AllRead dec t → 2 ≤ length t → length t ≤ 4
     → suffix_bytes dec 61 at s ≡ packed (map (λ b. get_or dec b 0) t)
 unfolding scan_steps
@@ -174,7 +174,7 @@ last_fine dec s (a ∷ b ∷ c ∷ d ∷ []) at e r low high =
     none false = refl
 last_fine dec s (a ∷ b ∷ c ∷ d ∷ x ∷ xs) at e r low high = absurd (omega arith)
 
--- groups, and then a last one
+-- Groups, and then a last one.
 all_bytes : (dec : List ℕ) (q : ℕ) (s : List ℕ) → AllRead dec s → 4 * q + 2 ≤ length s → length s ≤ 4 * q + 4
     → groups_bytes dec s q ++ packed (map (λ b. get_or dec b 0) (drop (4 * q) s)) ≡ packed (map (λ b. get_or dec b 0) s)
 unfolding groups_bytes
@@ -198,7 +198,7 @@ read_drop dec zero s r = r
 read_drop dec (suc n) [] r = tt
 read_drop dec (suc n) (x ∷ xs) r = read_drop dec n xs r.1
 
--- all that an engine says of symbols
+-- All that an engine says of symbols.
 abbrev pub outcome : List ℕ → List ℕ → Type 0
 outcome dec s = (decode_error dec 61 true Indifferent s ≡ None) × (decoded_bytes dec 61 s ≡ packed (sextets s))
 
@@ -240,7 +240,7 @@ whole dec (x ∷ xs) r h =
     no_lone true e u w d = cc
     no_lone false e u w d = refl
 
--- the engine's answer
+-- The engine's answer.
 inverse : (engine : GeneralPurpose) → IsLenient engine → (i : ℕ) → i < 64 → get_or engine.decode_table (get_or standard.encode_table i 0) 0 ≡ i
 inverse engine l i low =
     let tables = and_parts _ _ engine.tables in

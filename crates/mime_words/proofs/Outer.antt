@@ -21,7 +21,7 @@ use Rattle.mime_words.proofs.Plain.{no_word}
 use Rattle.mime_words.proofs.Quoting.{and_true}
 use Rattle.mime_words.proofs.Spelling.{spelled, found}
 
--- a byte that is one of a name in small letters is one of a name
+-- A byte of a name in small letters is a byte of a name.
 small_byte : (b : ℕ) → is_charset_byte (to_ascii_lowercase b) ≡ true → is_charset_byte b ≡ true
 small_byte b h = step (b == 63) (b == 32) refl refl
   where
@@ -36,14 +36,14 @@ small_bytes (b ∷ bs) h =
     let both = and_parts (is_charset_byte (to_ascii_lowercase b)) (list_all is_charset_byte (str_to_ascii_lowercase bs)) h in
     and_true (is_charset_byte b) _ (small_byte b both.0) (small_bytes bs both.1)
 
--- the charset of a name in small letters
+-- The charset of a name in small letters.
 abbrev pub small_charset : List ℕ → Option Charset
 small_charset small =
     cond (bytes_eq small (str_to_ascii_lowercase (codes "utf-8"))) (Some Utf8)
     (cond (bytes_eq small (str_to_ascii_lowercase (codes "us-ascii"))) (Some UsAscii)
     (cond (bytes_eq small (str_to_ascii_lowercase (codes "iso-8859-1"))) (Some Latin1) None))
 
--- a name that is that of no charset
+-- A name of no charset that is read.
 no_charset : (small : List ℕ) → (small ≡ codes "utf-8" → ⊥) → (small ≡ codes "us-ascii" → ⊥) → (small ≡ codes "iso-8859-1" → ⊥)
     → small_charset small ≡ None
 no_charset small x y z =
@@ -58,7 +58,7 @@ no_charset small x y z =
 unread : (name : List ℕ) → ((charset : Charset) → IsName charset name → ⊥) → charset_of name ≡ None
 unread name h = no_charset (str_to_ascii_lowercase name) (h Utf8) (h UsAscii) (h Latin1)
 
--- the tests on bytes
+-- The tests on bytes.
 name_byte_passes : (b : ℕ) → IsNameByte b → is_charset_byte b ≡ true
 name_byte_passes b h = grind (arith, nat_tests)
 
@@ -86,7 +86,7 @@ passed_name name h = λ k d l. passed_name_byte (get_or name k d) (AllPass-from_
 passed_text : (text : List ℕ) → list_all is_text_byte text ≡ true → All IsTextByte text
 passed_text text h = λ k d l. passed_text_byte (get_or text k d) (AllPass-from_list_all is_text_byte text h k d l)
 
--- the encoding's letters
+-- The encoding's letters.
 abbrev IsAnyLetter : ℕ → Type 0
 IsAnyLetter b = ((b ≡ 66) ⊎ (b ≡ 98)) ⊎ ((b ≡ 81) ⊎ (b ≡ 113))
 
@@ -107,7 +107,7 @@ read_letter b encoding h = step (b == 66) (b == 98) (b == 81) (b == 113) refl re
     step false false false true e f g i h = inr (inr (eqb-true b 113 i))
     step false false false false e f g i h = cc
 
--- a word of any charset, as it is found
+-- A word of any charset, as it is found.
 any_found : (word : AnyWord) → IsAnyWord word → (ys : List ℕ)
     → (encoding : Encoding) × (word_at (any_bytes word ++ ys) ≡ Some (record { charset = word.name; encoding = encoding; text = word.text }))
 any_found word w ys =
@@ -126,7 +126,7 @@ any_found word w ys =
           }),
     )
 
--- what is found is a word of some charset
+-- What is found is a word of some charset.
 found_any : (bytes : List ℕ) (word : EncodedText) → word_at bytes ≡ Some word → BeginsNoWord bytes → ⊥
 found_any bytes word e none =
     let s : IsSpelled bytes word = found bytes word e in
@@ -155,7 +155,7 @@ any_len word encoding =
     let outer : length (word.name ++ 63 ∷ word.letter ∷ 63 ∷ text) ≡ length word.name + length (63 ∷ word.letter ∷ 63 ∷ text) = length-append word.name (63 ∷ word.letter ∷ 63 ∷ text) in
     omega arith
 
--- a word of a charset that isn't read
+-- A word of a charset that isn't read.
 pieces_foreign : (word : AnyWord) → IsAnyWord word → ((charset : Charset) → IsName charset word.name → ⊥) → (ys : List ℕ)
     → pieces (any_bytes word ++ ys) ≡ plain (any_bytes word) ++ pieces ys
 pieces_foreign word w none ys =
@@ -166,7 +166,7 @@ pieces_foreign word w none ys =
     pieces-text_word (any_bytes word ++ ys) shown (omega arith) at.1 (unread word.name none)
     ∙ (λ i. plain (front i) ++ pieces (behind i))
 
--- a stretch in front of others
+-- Bytes without `=?` before other bytes.
 pieces_stretch : (text ys : List ℕ) → HasNoOpening text → (get_or ys 0 0 ≡ 63 → ⊥) → pieces (text ++ ys) ≡ plain text ++ pieces ys
 pieces_stretch [] ys h e = refl
 pieces_stretch (b ∷ bs) ys h e =
@@ -177,11 +177,11 @@ pieces_stretch (b ∷ bs) ys h e =
     next [] f x y = e y
     next (c ∷ cs) f x y = f x y
 
--- `=` that begins no word
+-- `=` that begins no word.
 pieces_stray : (ys : List ℕ) → BeginsNoWord (61 ∷ ys) → pieces (61 ∷ ys) ≡ plain (61 ∷ []) ++ pieces ys
 pieces_stray ys none = pieces-no_word (61 ∷ ys) (omega arith) (begins_none (61 ∷ ys) none)
 
--- all of a text
+-- The whole of a text.
 one_more : (front : List ℕ) (later : List OuterPart) (ys : List ℕ) → pieces (front ++ (outer_text later ++ ys)) ≡ plain front ++ pieces (outer_text later ++ ys)
     → pieces (outer_text later ++ ys) ≡ plain (outer_text later) ++ pieces ys
     → pieces ((front ++ outer_text later) ++ ys) ≡ plain (front ++ outer_text later) ++ pieces ys

@@ -52,7 +52,7 @@ one a la =
     let x : 4 * (a / 4) + (a % 4 * 16) / 16 ≡ a = omega arith in
     λ i. x i ∷ []
 
--- whole bytes in symbols whose last bits are of another byte
+-- Whole bytes in symbols whose last bits belong to another byte.
 one_of : (a b : ℕ) → a < 256 → b < 256 → packed ((a / 4) ∷ (a % 4 * 16 + b / 16) ∷ []) ≡ a ∷ []
 one_of a b la lb =
     let x : 4 * (a / 4) + (a % 4 * 16 + b / 16) / 16 ≡ a = omega arith in
@@ -110,7 +110,7 @@ pub encoded : (m : List ℕ) → IsBytes m → unbase64 (encode_of standard m) �
 unfolding unbase64
 encoded m bytes = symbols standard.encode_table standard_stands (replicate (padding_len (length m)) 61) (no_symbols (padding_len (length m))) m bytes
 
--- so many symbols of bytes and more bytes
+-- The first symbols of bytes and more bytes.
 cut : (t : List ℕ) → Stand t → (end : List ℕ) → sextets end ≡ [] → (m more : List ℕ) (n : ℕ) → IsBytes (m ++ more) → 6 * n / 8 ≡ length m
     → packed (sextets (take n (encode_symbols t (m ++ more)) ++ end)) ≡ m
 unfolding encode_symbols
@@ -168,7 +168,7 @@ cut t h end none (a ∷ b ∷ c ∷ m) more (suc (suc (suc (suc n)))) bytes w =
     ∙ three a b c (sextets later) la lb lc
     ∙ ap (λ xs. a ∷ b ∷ c ∷ xs) (cut t h end none m more n (λ i. bytes (suc (suc (suc i)))) fewer)
 
--- bytes that are none of base64 are skipped
+-- Bytes that aren't base64 are skipped.
 or_false : (t u : Bool) → (t || u) ≡ false → (t ≡ false) × (u ≡ false)
 or_false true u e = cc
 or_false false u e = (refl, e)

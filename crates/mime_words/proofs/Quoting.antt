@@ -7,7 +7,7 @@ use Rattle.mime_words.specs.Quoted.{hex_value, spelled as spelled_by, escape_or_
 use Rattle.mime_words.specs.Words.{is_text_byte}
 use Rattle.mime_words.specs.Spelled.{QuotedPart, Itself, Underscore, Digits, Equals, is_itself, IsDigit, BeginsWithDigits, HasNoDigits, LoneEqualsStays, AreQuoted, quoted_bytes, quoted_said}
 
--- Q, part by part
+-- Q, part by part.
 unquoted-plain : (b : ℕ) (bs : List ℕ) → (b == 61) ≡ false → unquoted (b ∷ bs) ≡ plain_byte b ∷ unquoted bs
 unquoted-plain b [] e = refl
 unquoted-plain b (x ∷ []) e = refl
@@ -43,7 +43,7 @@ digit_by n c (inr (high, low, inr is)) =
     let value : c - 87 ≡ n = omega arith in
     (rw (figure, capital, letter) (ap Some value), grind (arith, nat_tests))
 
--- what is read as a digit is one
+-- What is read as a digit is one.
 digit_read : (c n : ℕ) → hex_value c ≡ Some n → IsDigit n c
 digit_read c n e = step (nat_le 48 c && nat_le c 57) (nat_le 65 c && nat_le c 70) (nat_le 97 c && nat_le c 102) refl refl refl e
   where
@@ -69,7 +69,7 @@ digit_read c n e = step (nat_le 48 c && nat_le c 57) (nat_le 65 c && nat_le c 70
         inr (omega arith, omega arith, inr (omega arith))
     step false false false f g h q = cc
 
--- `=` without two digits stays
+-- `=` without two digits stays.
 lone : (bs : List ℕ) → (BeginsWithDigits bs → ⊥) → unquoted (61 ∷ bs) ≡ 61 ∷ unquoted bs
 lone [] h = refl
 lone (x ∷ []) h = refl
@@ -104,7 +104,7 @@ quoted_text (Digits high low first second ∷ parts) q =
     and_true (is_text_byte first) _ (digit_by high first q.0).1 (and_true (is_text_byte second) _ (digit_by low second q.1).1 (quoted_text parts q.2))
 quoted_text (Equals ∷ parts) q = quoted_text parts q.1
 
--- a text in which each `=` is alone
+-- A text in which each `=` is alone.
 pub lone_stays : LoneEqualsStays
 lone_stays [] h = refl
 lone_stays (b ∷ bs) h =

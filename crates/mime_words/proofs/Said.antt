@@ -21,7 +21,7 @@ use Rattle.mime_words.proofs.Spelling.{spelled}
 use Rattle.mime_words.proofs.Quoting.{quoted_is, quoted_text}
 use Rattle.mime_words.proofs.Outer.{small_bytes, small_charset, text_passes, pieces_outer}
 
--- a word, as it is found
+-- A word, as it is found.
 abbrev encoding : Coded → Encoding
 encoding (InQ parts) = Quoted
 encoding (InBase64 bytes text) = Base64
@@ -40,7 +40,7 @@ said_is : (coded : Coded) → IsCoded coded → bytes_of (encoding coded) (coded
 said_is (InQ parts) q = quoted_is parts q
 said_is (InBase64 bytes text) q = loose bytes text q.0
 
--- what holds of a charset's name
+-- Properties of a charset's name.
 record IsCharsetName (charset : Charset) (name : List ℕ) : Type 0 where
   some : 0 < length name
   bytes : list_all is_charset_byte name ≡ true
@@ -94,7 +94,7 @@ pieces_word charset word w ys =
     pieces-read_word (word_bytes word ++ ys) (shown word) charset (omega arith) (word_is charset word w ys) name.is
     ∙ (λ i. piece (Some charset) (said_is word.coded w.coded i) ∷ pieces (behind i))
 
--- spaces in front of others
+-- Spaces before other bytes.
 pieces_spaces : (n : ℕ) (ys : List ℕ) → pieces (replicate n 32 ++ ys) ≡ plain (replicate n 32) ++ pieces ys
 pieces_spaces zero ys = refl
 pieces_spaces (suc n) ys = ap (λ ps. piece None (32 ∷ []) ∷ ps) (pieces_spaces n ys)
@@ -109,7 +109,7 @@ pieces_spaced charset word w ys =
     ap pieces (append_assoc (replicate word.gap 32) (word_bytes word) ys) ∙ pieces_spaces word.gap (word_bytes word ++ ys)
     ∙ ap (λ ps. plain (replicate word.gap 32) ++ ps) (pieces_word charset word w ys)
 
--- the spaces in front of a word behind another
+-- The spaces before a word that comes after another one.
 gap_goes : (charset : Charset) (word : WrittenWord) → IsWord charset word → (ys : List ℕ)
     → without_gaps true (pieces (spaced_word word ++ ys)) ≡ word_piece charset word ∷ without_gaps true (pieces ys)
 gap_goes charset word w ys =
@@ -125,7 +125,7 @@ gaps_go charset (word ∷ words) all ys =
     ∙ gap_goes charset word all.0 (flat_map spaced_word words ++ ys)
     ∙ ap (λ ps. word_piece charset word ∷ ps) (gaps_go charset words all.1 ys)
 
--- words of one charset are joined
+-- Words of one charset are joined.
 join_words : (charset : Charset) (bytes : List ℕ) (words : List WrittenWord) (ps : List Piece)
     → joined (piece (Some charset) bytes ∷ (map (word_piece charset) words ++ ps)) ≡ before (piece (Some charset) (bytes ++ flat_map word_said words)) (joined ps)
 join_words charset bytes [] ps = ap (λ xs. before (piece (Some charset) xs) (joined ps)) (sym (append-nil bytes))
@@ -133,7 +133,7 @@ join_words charset bytes (word ∷ words) ps =
     ap (before (piece (Some charset) bytes)) (join_words charset (word_said word) words ps)
     ∙ before_same (Some charset) bytes (word_said word ++ flat_map word_said words) (joined ps)
 
--- the piece that a part is
+-- The piece that a part is.
 abbrev run_piece : Run → Piece
 run_piece (Plain outer) = piece None (outer_text outer)
 run_piece (Words charset first more) = piece (Some charset) (word_said first ++ flat_map word_said more)
@@ -143,7 +143,7 @@ is_behind Start = false
 is_behind AfterText = false
 is_behind (AfterWords charset) = true
 
--- words are apart from what follows them
+-- Words are apart from what follows them.
 apart : (charset : Charset) (bytes : List ℕ) (runs : List Run) → AreRuns (AfterWords charset) runs
     → before (piece (Some charset) bytes) (map run_piece runs) ≡ piece (Some charset) bytes ∷ map run_piece runs
 apart charset bytes [] all = refl
@@ -155,7 +155,7 @@ apart charset bytes (Words other first more ∷ runs) all =
     inside : Some charset ≡ Some other → charset ≡ other
     inside e = cc
 
--- and so is text
+-- Text is apart from what follows it.
 text_piece : (text : List ℕ) (ps : List Piece) → 0 < length text → joined (plain text ++ ps) ≡ before (piece None text) (joined ps)
 text_piece [] ps l = absurd (omega arith)
 text_piece (b ∷ bs) ps l = joined_plain b bs ps
@@ -165,7 +165,7 @@ no_gap Start text next later h = refl
 no_gap AfterText text next later h = refl
 no_gap (AfterWords charset) text next later h = h
 
--- the first word of a part
+-- The first word of a part.
 first_goes : (behind : Before) (charset : Charset) (word : WrittenWord) → MayBeWords behind charset word.gap → IsWord charset word → (ys : List ℕ)
     → without_gaps (is_behind behind) (pieces (spaced_word word ++ ys)) ≡ word_piece charset word ∷ without_gaps true (pieces ys)
 first_goes Start charset word none w ys =
@@ -177,7 +177,7 @@ first_goes (AfterWords other) charset word differ w ys = gap_goes charset word w
 begins_word : (word : WrittenWord) (ys : List ℕ) → word.gap ≡ 0 → get_or (spaced_word word ++ ys) 0 0 ≡ 61
 begins_word word ys none = ap (λ n. get_or ((replicate n 32 ++ word_bytes word) ++ ys) 0 0) none
 
--- part by part
+-- Part by part.
 parts : (behind : Before) (runs : List Run) → AreRuns behind runs
     → joined (without_gaps (is_behind behind) (pieces (flat_map run_bytes runs))) ≡ map run_piece runs
 parts behind [] all = refl
@@ -212,7 +212,7 @@ parts behind (Words charset first more ∷ later) all =
     ∙ ap (before (run_piece (Words charset first more))) (parts (AfterWords charset) later all.3)
     ∙ apart charset (word_said first ++ flat_map word_said more) later all.3
 
--- each part is read
+-- Each part is read.
 read_is : (charset : Charset) (bytes : List ℕ) → text_of (piece (Some charset) bytes) ≡ read_in charset bytes
 read_is Utf8 bytes = refl
 read_is UsAscii bytes = refl

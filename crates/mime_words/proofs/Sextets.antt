@@ -13,7 +13,7 @@ onto_front : (o : Option ℕ) (xs ys : List ℕ) → cons_option o (xs ++ ys) �
 onto_front None xs ys = refl
 onto_front (Some v) xs ys = refl
 
--- symbols in front of others
+-- Symbols before other ones.
 pub sextets-append : (xs ys : List ℕ) → list_all is_symbol xs ≡ true → sextets (xs ++ ys) ≡ sextets xs ++ sextets ys
 sextets-append [] ys h = refl
 sextets-append (x ∷ xs) ys h =
@@ -50,7 +50,7 @@ length-sextets (x ∷ xs) h =
     by None e k = cc
     by (Some v) e k = ap suc k
 
--- what is read so far, and what is left
+-- What is read so far, and what is left.
 pub record HasRead (made text : List ℕ) (i : ℕ) : Type 0 where
   pub value : sextets made ++ sextets (drop i text) ≡ sextets text
   pub symbols : list_all is_symbol made ≡ true
@@ -102,7 +102,7 @@ read-all symbols text i h l =
     let rest : sextets (drop i text) ≡ [] = ap sextets (drop_all i text l) in
     sym (append-nil (sextets symbols)) ∙ ap (λ xs. sextets symbols ++ xs) (sym rest) ∙ h.value
 
--- six bits alone behind groups of four are dropped
+-- A single group of six bits after groups of four is dropped.
 packed-lone : (q : ℕ) (ys zs : List ℕ) → length ys ≡ 4 * q → length zs ≡ 1 → packed (ys ++ zs) ≡ packed ys
 packed-lone zero [] [] e h = absurd (omega arith)
 packed-lone zero [] (z ∷ []) e h = refl

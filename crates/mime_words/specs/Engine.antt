@@ -4,7 +4,8 @@ use Rattle.base64.specs.declared.engine.general_purpose.GeneralPurpose.{GeneralP
 use Rattle.base64.specs.declared.engine.DecodePaddingMode.TheVariants.{Indifferent}
 use Rattle.base64.specs.Engines.{standard}
 
--- The kit's engine for the standard alphabet that takes texts with padding or without, and any bits behind the last whole byte.
+-- The kit's engine for the standard alphabet that takes texts with padding or without, and any bits
+-- after the last whole byte.
 pub record IsLenient (engine : GeneralPurpose) : Type 0 where
   pub symbols : engine.encode_table ≡ standard.encode_table
   pub padding : engine.padding.value ≡ 61

@@ -10,8 +10,10 @@ use base64::engine::general_purpose::{GeneralPurpose, GeneralPurposeConfig};
 use base64::{DecodeAllocError, alphabet};
 use std::alloc::Global;
 
-/// The bytes that a base64 text stands for (RFC 2045, section 6.8). Bytes outside of the alphabet are passed over, the first
-/// `=` ends the text, and bits that make no whole byte at its end are dropped.
+/// Returns the bytes that a base64 text encodes (RFC 2045, section 6.8).
+///
+/// Bytes outside of the alphabet are skipped, the first `=` ends the text, and bits at its end that
+/// make no whole byte are dropped. The only error is `NoMemory`.
 #[tactic(auto, unfolding(crate::specs::Base64::unbase64))]
 pub fn unbase64(alloc: Global, text: &[u8]) -> Result<Bytes, NoMemory>
     ensures { IfOk result (λ bytes. bytes ≡ unbase64 text.now) }
@@ -20,7 +22,7 @@ pub fn unbase64(alloc: Global, text: &[u8]) -> Result<Bytes, NoMemory>
     decode_symbols(alloc, without_lone(symbols.as_slice()))
 }
 
-/// Puts the bytes of a base64 text at the end of others.
+/// Appends the bytes that a base64 text encodes.
 pub fn push_unbase64(alloc: Global, text: &[u8], into: &mut Bytes) -> Result<(), NoMemory>
     ensures { OnOk result (into.new ≡ into.old ++ unbase64 text.now) }
 {
@@ -28,7 +30,7 @@ pub fn push_unbase64(alloc: Global, text: &[u8], into: &mut Bytes) -> Result<(),
     into.push_slice(bytes.as_slice())
 }
 
-/// The symbols of a base64 text: its bytes of the alphabet before the first `=`.
+/// Returns the symbols of a base64 text: its bytes of the alphabet before the first `=`.
 fn symbols_of(alloc: Global, text: &[u8]) -> Result<Bytes, NoMemory>
     ensures value { IfOk result (λ symbols. sextets symbols ≡ sextets text.now) }
     ensures symbols { IfOk result (λ symbols. list_all is_symbol symbols ≡ true) }
@@ -43,7 +45,7 @@ fn symbols_of(alloc: Global, text: &[u8]) -> Result<Bytes, NoMemory>
     Ok(symbols)
 }
 
-/// Puts a byte at the end of symbols, if it is one.
+/// Appends a byte to symbols if it is one.
 fn push_symbol(symbols: &mut Bytes, byte: u8) -> Result<(), NoMemory>
     ensures { OnOk result (symbols.new ≡ (if is_symbol byte then symbols.old ++ byte ∷ [] else symbols.old)) }
 {
@@ -54,14 +56,14 @@ fn push_symbol(symbols: &mut Bytes, byte: u8) -> Result<(), NoMemory>
     }
 }
 
-/// Whether a byte is of the alphabet.
+/// Returns whether a byte is in the alphabet.
 fn is_symbol(byte: u8) -> bool
     ensures { result ≡ is_symbol byte }
 {
     matches!(byte, b'A'..=b'Z' | b'a'..=b'z' | b'0'..=b'9' | b'+' | b'/')
 }
 
-/// Symbols without one that stands alone behind groups of four, since it makes no whole byte.
+/// Returns symbols without a single one after groups of four, since it makes no whole byte.
 fn without_lone(symbols: &[u8]) -> &[u8]
     requires { list_all is_symbol symbols.now ≡ true }
     ensures value { packed (sextets result.now) ≡ packed (sextets symbols.now) }
@@ -75,7 +77,7 @@ fn without_lone(symbols: &[u8]) -> &[u8]
     }
 }
 
-/// The bytes that symbols stand for.
+/// Returns the bytes that symbols encode.
 fn decode_symbols(alloc: Global, symbols: &[u8]) -> Result<Bytes, NoMemory>
     requires symbols { list_all is_symbol symbols.now ≡ true }
     requires len { length symbols.now % 4 ≢ 1 }
@@ -88,7 +90,7 @@ fn decode_symbols(alloc: Global, symbols: &[u8]) -> Result<Bytes, NoMemory>
     }
 }
 
-/// The engine that takes texts without padding, whatever bits follow the last whole byte.
+/// Returns the engine that takes texts without padding, whatever bits follow the last whole byte.
 fn lenient() -> GeneralPurpose
     ensures { IsLenient result }
 {
