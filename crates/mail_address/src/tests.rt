@@ -88,11 +88,6 @@ fn reads_lists_and_groups(rt: HostRuntime) -> Result<(), Fail> {
     for (value, want) in GROUPS {
         assert!(rt; is_read_as(rt.alloc(), value, want)?);
     }
-    empty_value();
-    outside_is_between();
-    plain_read_back();
-    members_read_back();
-    words_are_joined();
     Ok(())
 }
 

@@ -3,10 +3,7 @@ ghost use Rattle.std.specs.Prelude.{◌≤◌};
 ghost use Rattle.mail_date.specs.Dates.{last_second};
 ghost use Rattle.mail_date.specs.Pieces.{IsZone};
 
-use crate::{
-    Moment, moment_is_spelled, print_imap, print_page, print_rfc3339, printed_date_is_one, read,
-    spelled_moment_is_one, written_date_is_spelled,
-};
+use crate::{Moment, print_imap, print_page, print_rfc3339, read};
 
 /// Values that are read, with seconds and zone.
 const READ: [(&[u8], u64, i16); 34] = [
@@ -106,7 +103,7 @@ fn is_read(value: &[u8], secs: u64, zone: i16) -> bool {
 #[test]
 fn dates_are_read(rt: HostRuntime) {
     for (value, secs, zone) in READ {
-        assert!(rt; is_read(value, secs, zone), "at {secs}");
+        assert!(rt; is_read(value, secs, zone));
     }
 }
 
@@ -140,8 +137,4 @@ fn seconds_are_printed(rt: HostRuntime) {
     assert!(rt; print_rfc3339(253_402_300_799).as_slice() == b"9999-12-31T23:59:59Z".as_slice());
     assert!(rt; print_page(1_706_781_600).as_slice() == b"2024-02-01 10:00".as_slice());
     assert!(rt; print_page(0).as_slice() == b"1970-01-01 00:00".as_slice());
-    moment_is_spelled();
-    spelled_moment_is_one();
-    printed_date_is_one();
-    written_date_is_spelled();
 }
