@@ -84,9 +84,9 @@ made-IsId name text k is small =
     let twenty : length (sha1 text) ≡ 20 = id.len in
     let whole : length (made_inside digits k name) ≡ length digits + length (decimal k) + length name + 10 = inside_length digits k name in
     let passes : IdBytes (made_inside digits k name) =
-        All-append P digits ((46 ∷ decimal k) ++ ((64 ∷ name) ++ end_word)) (digits_pass (sha1 text) id.bytes)
-        (All-append P (46 ∷ decimal k) ((64 ∷ name) ++ end_word) (All-cons P 46 (decimal k) refl (decimal_passes k small))
-        (All-append P (64 ∷ name) end_word (All-cons P 64 name refl (name_passes name is)) end_passes)) in
+    All-append P digits ((46 ∷ decimal k) ++ ((64 ∷ name) ++ end_word)) (digits_pass (sha1 text) id.bytes)
+    (All-append P (46 ∷ decimal k) ((64 ∷ name) ++ end_word) (All-cons P 46 (decimal k) refl (decimal_passes k small))
+    (All-append P (64 ∷ name) end_word (All-cons P 64 name refl (name_passes name is)) end_passes)) in
     record {
       inside = made_inside digits k name;
       is = refl;

@@ -43,7 +43,7 @@ const ADDRESSES: [Row; 12] = [
 ];
 
 /// Lists and groups, and items that are no address.
-const GROUPS: [Row; 16] = [
+const GROUPS: [Row; 11] = [
     (b"g: @x:a@b;", b"G g||;M |a|b;E ||;"),
     (b"Ann <a@b>: c", b"G Ann <a@b>||;M |c|;E ||;"),
     (b":;", b"G ||;E ||;"),
@@ -58,6 +58,10 @@ const GROUPS: [Row; 16] = [
     (b"a@b; c@d", b"M |a|b;M |c|d;"),
     (b"g: a:b@c;", b"G g||;M |a:b|c;E ||;"),
     (b"g: a@b", b"G g||;M |a|b;E ||;"),
+];
+
+/// Lists with quoted strings, comments and brackets.
+const LISTS: [Row; 5] = [
     (b"\"a,b\"@c, (x,y) d@e", b"M |\"a,b\"|c;M x,y|d|e;"),
     (b"<a@b> <c, d> \"e, f\" (g, h), i@j", b"M |a|b;M |i|j;"),
     (
@@ -70,7 +74,7 @@ const GROUPS: [Row; 16] = [
 
 #[test]
 fn reads_names(rt: HostRuntime) -> Result<(), Fail> {
-    for (value, want) in NAMES {
+    for (value, want) in &NAMES {
         assert!(rt; is_read_as(rt.alloc(), value, want)?);
     }
     Ok(())
@@ -78,22 +82,25 @@ fn reads_names(rt: HostRuntime) -> Result<(), Fail> {
 
 #[test]
 fn reads_addresses(rt: HostRuntime) -> Result<(), Fail> {
-    for (value, want) in ADDRESSES {
+    for (value, want) in &ADDRESSES {
         assert!(rt; is_read_as(rt.alloc(), value, want)?);
     }
     Ok(())
 }
 
 #[test]
-fn reads_lists_and_groups(rt: HostRuntime) -> Result<(), Fail> {
-    for (value, want) in GROUPS {
+fn reads_lists(rt: HostRuntime) -> Result<(), Fail> {
+    for (value, want) in &LISTS {
         assert!(rt; is_read_as(rt.alloc(), value, want)?);
     }
-    empty_value();
-    outside_is_between();
-    plain_read_back();
-    members_read_back();
-    words_are_joined();
+    Ok(())
+}
+
+#[test]
+fn reads_groups(rt: HostRuntime) -> Result<(), Fail> {
+    for (value, want) in &GROUPS {
+        assert!(rt; is_read_as(rt.alloc(), value, want)?);
+    }
     Ok(())
 }
 

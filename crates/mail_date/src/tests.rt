@@ -3,13 +3,10 @@ ghost use Rattle.std.specs.Prelude.{◌≤◌};
 ghost use Rattle.mail_date.specs.Dates.{last_second};
 ghost use Rattle.mail_date.specs.Pieces.{IsZone};
 
-use crate::{
-    Moment, moment_is_spelled, print_imap, print_page, print_rfc3339, printed_date_is_one, read,
-    spelled_moment_is_one, written_date_is_spelled,
-};
+use crate::{Moment, print_imap, print_page, print_rfc3339, read};
 
 /// Values that are read, with seconds and zone.
-const READ: [(&[u8], u64, i16); 34] = [
+const READ: [(&[u8], u64, i16); 19] = [
     (b"Thu, 31 Dec 1998 23:59:60 +0000", 915_148_799, 0),
     (b"Thu, 1 Feb 2024 11:59:57 +0100 (CET)", 1_706_785_197, 60),
     (b"Thu,1 Feb 2024 11:59:57 +0100", 1_706_785_197, 60),
@@ -37,6 +34,10 @@ const READ: [(&[u8], u64, i16); 34] = [
     (b"1 Jan 1970 23:59 +2359", 0, 1439),
     (b"31 Dec 9999 23:59:59 +0000", 253_402_300_799, 0),
     (b"31 Dec 9999 00:00:59 -2359", 253_402_300_799, -1439),
+];
+
+/// Values with named zones and other months.
+const NAMED: [(&[u8], u64, i16); 15] = [
     (b"1 Feb 2024 11:59:57 GMT", 1_706_788_797, 0),
     (b"1 Feb 2024 11:59:57 ut", 1_706_788_797, 0),
     (b"1 Feb 2024 11:59:57 EST", 1_706_806_797, -300),
@@ -105,8 +106,15 @@ fn is_read(value: &[u8], secs: u64, zone: i16) -> bool {
 
 #[test]
 fn dates_are_read(rt: HostRuntime) {
-    for (value, secs, zone) in READ {
-        assert!(rt; is_read(value, secs, zone), "at {secs}");
+    for (value, secs, zone) in &READ {
+        assert!(rt; is_read(value, *secs, *zone));
+    }
+}
+
+#[test]
+fn zones_and_months_are_read(rt: HostRuntime) {
+    for (value, secs, zone) in &NAMED {
+        assert!(rt; is_read(value, *secs, *zone));
     }
 }
 
@@ -140,8 +148,4 @@ fn seconds_are_printed(rt: HostRuntime) {
     assert!(rt; print_rfc3339(253_402_300_799).as_slice() == b"9999-12-31T23:59:59Z".as_slice());
     assert!(rt; print_page(1_706_781_600).as_slice() == b"2024-02-01 10:00".as_slice());
     assert!(rt; print_page(0).as_slice() == b"1970-01-01 00:00".as_slice());
-    moment_is_spelled();
-    spelled_moment_is_one();
-    printed_date_is_one();
-    written_date_is_spelled();
 }

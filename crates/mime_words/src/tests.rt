@@ -1,10 +1,21 @@
 //! Values worked out by hand from RFC 2047 and RFC 4648, with ample memory.
-use crate::{
-    decode, encoded_bytes, spelled_is_said, unbase64, value_without_words, words_are_spelled,
-};
+use crate::{decode, unbase64};
+use arch_base::NoMemory;
+use std::alloc::Global;
+use std::test::Fail;
+
+/// Whether a value is decoded to a text.
+fn is_decoded(alloc: Global, value: &[u8], text: &[u8]) -> Result<bool, NoMemory> {
+    Ok(decode(alloc, value)?.as_slice() == text)
+}
+
+/// Whether a base64 text stands for bytes.
+fn is_read(alloc: Global, text: &[u8], bytes: &[u8]) -> Result<bool, NoMemory> {
+    Ok(unbase64(alloc, text)?.as_slice() == bytes)
+}
 
 #[test]
-fn words_are_decoded(rt: HostRuntime) {
+fn words_are_decoded(rt: HostRuntime) -> Result<(), Fail> {
     let cases: [(&[u8], &[u8]); 12] = [
         (b"", b""),
         (b"plain text", b"plain text"),
@@ -20,15 +31,13 @@ fn words_are_decoded(rt: HostRuntime) {
         (b"\xE9 =?utf-8?Q?=FF?=", b"\xEF\xBF\xBD \xEF\xBF\xBD"),
     ];
     for (value, text) in cases {
-        let Ok(made) = decode(rt.alloc(), value) else {
-            return assert!(rt; false);
-        };
-        assert!(rt; made.as_slice() == text);
+        assert!(rt; is_decoded(rt.alloc(), value, text)?);
     }
+    Ok(())
 }
 
 #[test]
-fn neighbours_are_joined(rt: HostRuntime) {
+fn neighbours_are_joined(rt: HostRuntime) -> Result<(), Fail> {
     let cases: [(&[u8], &[u8]); 9] = [
         (b"=?utf-8?Q?a?=   =?utf-8?q?b?= c", b"ab c"),
         (b"=?utf-8?Q?a?=\t=?utf-8?Q?b?=", b"a\tb"),
@@ -47,15 +56,13 @@ fn neighbours_are_joined(rt: HostRuntime) {
         (b" =?utf-8?Q?a?= ", b" a "),
     ];
     for (value, text) in cases {
-        let Ok(made) = decode(rt.alloc(), value) else {
-            return assert!(rt; false);
-        };
-        assert!(rt; made.as_slice() == text);
+        assert!(rt; is_decoded(rt.alloc(), value, text)?);
     }
+    Ok(())
 }
 
 #[test]
-fn other_text_stays(rt: HostRuntime) {
+fn other_text_stays(rt: HostRuntime) -> Result<(), Fail> {
     let values: [&[u8]; 9] = [
         b"=?koi8-r?Q?a?=?utf-8?Q?b?=",
         b"=?utf-8*en?Q?a?=",
@@ -68,19 +75,13 @@ fn other_text_stays(rt: HostRuntime) {
         b"=?utf-8?Q",
     ];
     for value in values {
-        let Ok(made) = decode(rt.alloc(), value) else {
-            return assert!(rt; false);
-        };
-        assert!(rt; made.as_slice() == value);
+        assert!(rt; is_decoded(rt.alloc(), value, value)?);
     }
+    Ok(())
 }
 
 #[test]
-fn base64_is_read(rt: HostRuntime) {
-    value_without_words();
-    encoded_bytes();
-    words_are_spelled();
-    spelled_is_said();
+fn base64_is_read(rt: HostRuntime) -> Result<(), Fail> {
     let cases: [(&[u8], &[u8]); 12] = [
         (b"", b""),
         (b"w6k=", b"\xC3\xA9"),
@@ -96,9 +97,7 @@ fn base64_is_read(rt: HostRuntime) {
         (b"+/8=", b"\xFB\xFF"),
     ];
     for (text, bytes) in cases {
-        let Ok(made) = unbase64(rt.alloc(), text) else {
-            return assert!(rt; false);
-        };
-        assert!(rt; made.as_slice() == bytes);
+        assert!(rt; is_read(rt.alloc(), text, bytes)?);
     }
+    Ok(())
 }
