@@ -15,3 +15,8 @@ pub record HasCause {T E : Type 0} (before now : ℕ) (result : Result T E) : Ty
 pub record IsCaused {T E : Type 0} (before now : ℕ) (result : Result T E) : Type 0 where
   pub later : before ≤ now
   pub failed : OnErr result (Rose before now)
+
+-- The count never falls, and it rises if there is a fault. It may rise without one.
+pub record RoseIf (is_fault : Type 0) (before now : ℕ) : Type 0 where
+  pub later : before ≤ now
+  pub failed : is_fault → Rose before now
