@@ -1,6 +1,6 @@
 //! Lists the names of all files.
-ghost use Rattle.std.specs.Prelude.{◌≡◌, ◌≢◌, ◌≤◌, ℕ, Err, IfOk};
-ghost use Rattle.arch_base.specs.Counts.{Rose};
+ghost use Rattle.std.specs.Prelude.{◌≡◌, ◌≢◌, ℕ, Err, IfOk};
+ghost use Rattle.arch_base.specs.Counts.{RoseIf};
 ghost use Rattle.disk_model.specs.Disk.{Image, LeavesOnly, Told, Unchanged, WhereTold};
 ghost use Rattle.disk_model.specs.declared.refusal.WalkRefusal.{WalkRefusal};
 ghost use Rattle.disk_files.specs.Listing.{AreAllNames};
@@ -20,8 +20,7 @@ pub fn file_names<D: Disk>(alloc: Global, disk: &mut D) -> Result<FileNames, Wal
     ensures names { IfOk result (λ names. WhereTold (AreAllNames names) (D.content disk.old)) }
     ensures same { Told Unchanged (D.content disk.old) (D.content disk.new) }
     ensures any_moment { LeavesOnly D.moment D.left_since disk.old disk.new (Image (D.content disk.old)) }
-    ensures later { D.faults disk.old ≤ D.faults disk.new }
-    ensures fault { result ≡ Err WalkRefusal.DiskFault → Rose (D.faults disk.old) (D.faults disk.new) }
+    ensures cause { RoseIf (result ≡ Err WalkRefusal.DiskFault) (D.faults disk.old) (D.faults disk.new) }
     ensures never_damaged { (place : ℕ) → result ≢ Err (WalkRefusal.Damaged place) }
     ensures count { D.reads disk.new ≡ D.reads disk.old }
 {
