@@ -1,6 +1,6 @@
 //! Reads the current root of a root file.
-ghost use Rattle.std.specs.Prelude.{◌≡◌, ◌≢◌, ◌↔◌, ◌<◌, ◌≤◌, Ok, Err, Some, List, ℕ, length, IsTrue, IfOk, IfSome, IfNone};
-ghost use Rattle.arch_base.specs.Counts.{Rose, IsCaused};
+ghost use Rattle.std.specs.Prelude.{◌≡◌, ◌≢◌, ◌↔◌, ◌<◌, Ok, Err, Some, List, ℕ, length, IsTrue, IfOk, IfSome, IfNone};
+ghost use Rattle.arch_base.specs.Counts.{RoseIf, IsCaused};
 ghost use Rattle.arch_base.specs.Configs.{IsConfig};
 ghost use Rattle.disk_model.specs.Disk.{Image, Told, WhereTold, Unchanged, LeavesOnly, bytes_of};
 ghost use Rattle.root_slots.specs.declared.root.Root.{Root};
@@ -149,8 +149,7 @@ pub fn read<D: Disk>(disk: &mut D) -> Result<Option<(u8, Root)>, RootRefusal>
     ensures valid { IfOk result (λ found. IfSome found (λ one. (one.0 < 2) × IsRoot one.1)) }
     ensures same { Told Unchanged (D.content disk.old) (D.content disk.new) }
     ensures any_moment { LeavesOnly D.moment D.left_since disk.old disk.new (Image (D.content disk.old)) }
-    ensures later { D.faults disk.old ≤ D.faults disk.new }
-    ensures fault { result ≡ Err RootRefusal.DiskFault → Rose (D.faults disk.old) (D.faults disk.new) }
+    ensures cause { RoseIf (result ≡ Err RootRefusal.DiskFault) (D.faults disk.old) (D.faults disk.new) }
 {
     let mut file = [0; 4096];
     match whole_file(disk, &mut file) {
