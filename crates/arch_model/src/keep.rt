@@ -1,6 +1,6 @@
 //! The trait of keepers: values that keep one archive, and carry out commands on it.
 ghost use Rattle.std.specs.Prelude.{◌≡◌, ◌≤◌, ℕ, Bool, true, false, List, Option, None, Some, Err, OnOk, OnErr, is_ok};
-ghost use Rattle.arch_base.specs.Counts.{Rose};
+ghost use Rattle.arch_base.specs.Counts.{RoseIf};
 ghost use Rattle.arch_model.specs.Archives.{Archive, in_epoch};
 ghost use Rattle.arch_model.specs.Delivery.{applied};
 ghost use Rattle.arch_model.specs.Validity.{last_moment};
@@ -64,8 +64,7 @@ pub trait Keep {
         ensures refused { OnErr result (into.new ≡ into.old) }
         ensures ready { stale self.new ≡ false }
         ensures any_moment { (a : Archive) → holds self.old a → leaves self.new (clock self.old) (one_of (standing a None)) }
-        ensures later { faults self.old ≤ faults self.new }
-        ensures fault { result ≡ Err TextRefusal.DiskFault → Rose (faults self.old) (faults self.new) };
+        ensures cause { RoseIf (result ≡ Err TextRefusal.DiskFault) (faults self.old) (faults self.new) };
 
     /// Appends the bytes of an epoch, and returns whether the epoch has an entry.
     ///
@@ -79,8 +78,7 @@ pub trait Keep {
         ensures kept { KeepsUnlessFound into.old into.new result }
         ensures ready { stale self.new ≡ false }
         ensures any_moment { (a : Archive) → holds self.old a → leaves self.new (clock self.old) (one_of (standing a None)) }
-        ensures later { faults self.old ≤ faults self.new }
-        ensures fault { result ≡ Err TextRefusal.DiskFault → Rose (faults self.old) (faults self.new) };
+        ensures cause { RoseIf (result ≡ Err TextRefusal.DiskFault) (faults self.old) (faults self.new) };
 
     /// Carries out a command at a moment, in seconds since 1970 UTC.
     ///
@@ -95,8 +93,7 @@ pub trait Keep {
         ensures ready { StaysReady result (stale self.new) }
         ensures untouched { IsUntouched result self.old self.new }
         ensures any_moment { (a : Archive) → holds self.old a → leaves self.new (clock self.old) (one_of (standing a (Some (applied a command.now moment).archive))) }
-        ensures later { faults self.old ≤ faults self.new }
-        ensures fault { result ≡ Answer.DiskFault → Rose (faults self.old) (faults self.new) };
+        ensures cause { RoseIf (result ≡ Answer.DiskFault) (faults self.old) (faults self.new) };
 
     /// Reopens the archive if the keeper is stale, and otherwise does nothing.
     ///
@@ -108,8 +105,7 @@ pub trait Keep {
         ensures found { (s : Standing) → Fits holds stale clock leaves self.old s → Reopens holds stale clock leaves s result self.new }
         ensures ready { OnOk result (stale self.new ≡ false) }
         ensures any_moment { (s : Standing) → Fits holds stale clock leaves self.old s → leaves self.new (clock self.old) (one_of s) }
-        ensures later { faults self.old ≤ faults self.new }
-        ensures fault { result ≡ Err OpenRefusal.DiskFault → Rose (faults self.old) (faults self.new) };
+        ensures cause { RoseIf (result ≡ Err OpenRefusal.DiskFault) (faults self.old) (faults self.new) };
 
     /// A crash leaves the archive that a keeper holds.
     ghost holds_left: { (k : Self) (a : Archive) → holds k a → leaves k (clock k) (one_of (standing a None)) };
