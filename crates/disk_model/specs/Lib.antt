@@ -1,4 +1,5 @@
 pub mod Name
+pub mod Sizes
 pub mod BigEndian
 pub mod Disk
 pub mod Laws

@@ -12,6 +12,7 @@ mod name;
 mod plan;
 mod refusal;
 mod settle;
+mod sizes;
 
 pub use disk::{Disk, DiskFault};
 pub use fuse::FuseDisk;
@@ -19,3 +20,4 @@ pub use memory::MemDisk;
 pub use name::{FileKind, FileName};
 pub use refusal::WalkRefusal;
 pub use settle::write_and_sync;
+pub use sizes::{EPOCHS, LAST_EPOCH, RECORD_SIZE};

@@ -3,6 +3,7 @@ use Rattle.std.specs.Prelude.{◌≡◌, ◌≢◌, ◌⊎◌, ◌+◌, ◌*◌,
 use Rattle.std.specs.List.{flat_map}
 use Rattle.disk_model.specs.declared.refusal.WalkRefusal.{WalkRefusal}
 use Rattle.disk_model.specs.declared.refusal.WalkRefusal.TheVariants.{DiskFault, Damaged, NoMemory}
+use Rattle.disk_model.specs.Sizes.{record_size}
 use Rattle.number_map.specs.declared.line.Record.{Record}
 use Rattle.number_map.specs.Records.{record_bytes, IsRecord, AreRecordsFrom}
 use Rattle.number_map.specs.Walks.{IsDamaged, BeginsWith}
@@ -11,13 +12,13 @@ use Rattle.number_map.specs.Walks.{IsDamaged, BeginsWith}
 pub record IsNext (bytes : List ℕ) (old new : List Record) : Type 0 where
   pub line : Record
   pub valid : IsRecord (length old + 1) line
-  pub spelled : take 28 bytes ≡ record_bytes line
+  pub spelled : take record_size bytes ≡ record_bytes line
   pub lines : new ≡ old ++ line ∷ []
 
 -- There is no record of the next number, and this is its offset.
 pub record IsLast (at : ℕ) (bytes : List ℕ) (old new : List Record) : Type 0 where
-  pub place : at ≡ 28 * length old
-  pub none : (line : Record) → IsRecord (length old + 1) line → take 28 bytes ≢ record_bytes line
+  pub place : at ≡ record_size * length old
+  pub none : (line : Record) → IsRecord (length old + 1) line → take record_size bytes ≢ record_bytes line
   pub lines : new ≡ old
 
 -- The results of reading the next number.
@@ -34,7 +35,7 @@ pub record Stands (lines : List Record) (rest bytes : List ℕ) : Type 0 where
 
 -- The piece has room for this many records, or nothing follows it.
 abbrev pub IsEnough : ℕ → List ℕ → List ℕ → Type 0
-IsEnough wanted bytes behind = (28 * wanted ≤ length bytes) ⊎ (behind ≡ [])
+IsEnough wanted bytes behind = (record_size * wanted ≤ length bytes) ⊎ (behind ≡ [])
 
 -- The results of reading the records up to a number.
 abbrev pub ReadsOn : {T : Type 0} → Result T WalkRefusal → ℕ → List ℕ → List Record → Type 0

@@ -3,13 +3,14 @@ use Rattle.std.specs.Prelude.{◌≡◌, ◌≢◌, ◌+◌, ◌*◌, ◌<◌, �
 use Rattle.std.specs.List.{flat_map}
 use Rattle.disk_model.specs.declared.refusal.WalkRefusal.{WalkRefusal}
 use Rattle.disk_model.specs.declared.refusal.WalkRefusal.TheVariants.{DiskFault, Damaged, NoMemory}
+use Rattle.disk_model.specs.Sizes.{record_size}
 use Rattle.number_map.specs.declared.line.Record.{Record}
 use Rattle.number_map.specs.Records.{record_bytes, IsRecord, AreRecordsFrom}
 
 -- A map starts with these records, of the numbers from 1 on.
 pub record BeginsWith (lines : List Record) (bytes : List ℕ) : Type 0 where
   pub valid : AreRecordsFrom 1 lines
-  pub spelled : take (28 * length lines) bytes ≡ flat_map record_bytes lines
+  pub spelled : take (record_size * length lines) bytes ≡ flat_map record_bytes lines
 
 -- A map has no valid record of some number up to the last one asked for. The offset is that of the
 -- first such number, whose record isn't whole or isn't one of that number.
@@ -17,8 +18,8 @@ pub record IsDamaged (count at : ℕ) (bytes : List ℕ) : Type 0 where
   pub before : List Record
   pub begins : BeginsWith before bytes
   pub fewer : length before < count
-  pub place : at ≡ 28 * length before
-  pub none : (line : Record) → IsRecord (length before + 1) line → take 28 (drop at bytes) ≢ record_bytes line
+  pub place : at ≡ record_size * length before
+  pub none : (line : Record) → IsRecord (length before + 1) line → take record_size (drop at bytes) ≢ record_bytes line
 
 -- The results of reading a map with these bytes up to a number.
 abbrev pub Walks : ℕ → List ℕ → Result (List Record) WalkRefusal → Type 0

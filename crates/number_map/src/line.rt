@@ -3,9 +3,7 @@ ghost use Rattle.std.specs.Prelude.{◌≡◌, ◌⊎◌, ◌↔◌, ◌++◌, I
 ghost use Rattle.number_map.specs.Records.{HasMessage, HasNone};
 
 use arch_base::{Duplicate, NoMemory, ObjectId, Sequence};
-
-/// The greatest number of an epoch.
-const LAST_EPOCH: u32 = 63;
+use disk_model::LAST_EPOCH;
 
 /// The epoch in the record of a number without a message.
 const NO_EPOCH: u32 = 4_294_967_295;

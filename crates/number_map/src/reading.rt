@@ -2,11 +2,13 @@
 ghost use Rattle.std.specs.Prelude.{◌≡◌, ◌≢◌, ◌<◌, ◌^◌, length, take, IfSome, IfNone};
 ghost use Rattle.arch_base.specs.Ids.{IsId};
 ghost use Rattle.disk_model.specs.BigEndian.{be32};
+ghost use Rattle.disk_model.specs.Sizes.{record_size};
 ghost use Rattle.number_map.specs.declared.line.Record.{Record};
 ghost use Rattle.number_map.specs.Records.{record_bytes, IsRecord};
 
 use crate::line::{Record, is_valid};
 use arch_base::{Id20, ObjectId};
+use disk_model::RECORD_SIZE;
 
 /// Reads a number of 32 bits, the highest byte first.
 fn number32(bytes: &[u8]) -> u32
@@ -31,7 +33,7 @@ fn blob_id(bytes: &[u8]) -> ObjectId
 
 /// Reads the record with these bytes, valid or not.
 fn any_record(bytes: &[u8]) -> Record
-    requires { length bytes.now ≡ 28 }
+    requires { length bytes.now ≡ record_size }
     ensures bytes { record_bytes result ≡ bytes.now }
     ensures blob { IsId result.blob }
     ensures number { result.number < 2 ^ 32 }
@@ -48,13 +50,13 @@ fn any_record(bytes: &[u8]) -> Record
 
 /// Returns the valid record of a number at the front of bytes, if there is one.
 pub fn record_in_front(bytes: &[u8], number: u32) -> Option<Record>
-    ensures some { IfSome result (λ line. IsRecord number line × (take 28 bytes.now ≡ record_bytes line)) }
-    ensures none { IfNone result ((line : Record) → IsRecord number line → take 28 bytes.now ≢ record_bytes line) }
+    ensures some { IfSome result (λ line. IsRecord number line × (take record_size bytes.now ≡ record_bytes line)) }
+    ensures none { IfNone result ((line : Record) → IsRecord number line → take record_size bytes.now ≢ record_bytes line) }
 {
-    if bytes.len() < 28 {
+    if bytes.len() < RECORD_SIZE {
         return None;
     }
-    let line = any_record(bytes.split_at(28).0);
+    let line = any_record(bytes.split_at(RECORD_SIZE).0);
     if line.number != number {
         return None;
     }

@@ -2,21 +2,22 @@
 ghost use Rattle.std.specs.Prelude.{◌≡◌, ◌+◌, ◌*◌, ◌<◌, ◌^◌, [], Err, length, IfOk, OnOk};
 ghost use Rattle.arch_base.specs.Counts.{RoseIf};
 ghost use Rattle.disk_model.specs.Disk.{Image, Told, WhereTold, Unchanged, LeavesOnly, bytes_of};
+ghost use Rattle.disk_model.specs.Sizes.{record_size};
 ghost use Rattle.number_map.specs.Walks.{BeginsWith, Walks};
 ghost use Rattle.number_map.specs.Pieces.{ReadsOn};
 
 use crate::line::Records;
 use crate::pieces::read_piece;
 use arch_base::NoMemory;
-use disk_model::{Disk, DiskFault, FileName, WalkRefusal};
+use disk_model::{Disk, DiskFault, FileName, RECORD_SIZE, WalkRefusal};
 use std::alloc::Global;
 
 /// The number of records that are read at once.
 const PIECE: u32 = 2340;
 
-/// Allocates room for a piece: 65,520 bytes, 28 for each record.
+/// Allocates room for a piece: 65,520 bytes, for 2,340 records.
 fn room(alloc: Global) -> Result<Vec<u8>, NoMemory>
-    ensures { IfOk result (λ made. length made.items ≡ 28 * 2340) }
+    ensures { IfOk result (λ made. length made.items ≡ record_size * 2340) }
 {
     Ok(vec![in alloc; 0u8; 65_520]?)
 }
@@ -29,7 +30,7 @@ fn read_more<D: Disk>(
     room: &mut [u8],
     lines: &mut Records,
 ) -> Result<(), WalkRefusal>
-    requires room { length room.old ≡ 28 * wanted }
+    requires room { length room.old ≡ record_size * wanted }
     requires count { length lines.old + wanted < 2 ^ 32 }
     ensures read { WhereTold (λ k. BeginsWith lines.old (bytes_of (k file).seen) → ReadsOn result (length lines.old + wanted) (bytes_of (k file).seen) lines.new) (D.content disk.old) }
     ensures size { OnOk result (length lines.new ≡ length lines.old + wanted) }
@@ -37,7 +38,7 @@ fn read_more<D: Disk>(
     ensures any_moment { LeavesOnly D.moment D.left_since disk.old disk.new (Image (D.content disk.old)) }
     ensures cause { RoseIf (result ≡ Err WalkRefusal.DiskFault) (D.faults disk.old) (D.faults disk.new) }
 {
-    let place = 28 * lines.as_slice().len() as u64;
+    let place = RECORD_SIZE as u64 * lines.as_slice().len() as u64;
     match disk.read(file, place, room) {
         Err(DiskFault) => Err(WalkRefusal::DiskFault),
         Ok(n) => read_piece(&room[..n], wanted, lines),
@@ -52,7 +53,7 @@ fn read_all<D: Disk>(
     room: &mut [u8],
     lines: &mut Records,
 ) -> Result<(), WalkRefusal>
-    requires room { length room.old ≡ 28 * 2340 }
+    requires room { length room.old ≡ record_size * 2340 }
     requires none { lines.old ≡ [] }
     ensures read { WhereTold (λ k. ReadsOn result count (bytes_of (k file).seen) lines.new) (D.content disk.old) }
     ensures same { Told Unchanged (D.content disk.old) (D.content disk.new) }
@@ -62,7 +63,7 @@ fn read_all<D: Disk>(
     let mut done = 0;
     while done < count {
         let wanted = PIECE.min(count - done);
-        let into = &mut room[..28 * wanted as usize];
+        let into = &mut room[..RECORD_SIZE * wanted as usize];
         if let Err(refusal) = read_more(disk, file, wanted, into, lines) {
             return Err(refusal);
         }

@@ -2,17 +2,18 @@
 ghost use Rattle.std.specs.Prelude.{◌≡◌, ◌+◌, ◌<◌, ◌^◌, length, OnOk, OnErr};
 ghost use Rattle.arch_base.specs.Counts.{IsCaused};
 ghost use Rattle.disk_model.specs.Disk.{Told, WhereTold, OneFile, Wrote, Tore, IsAtMostLength, Elapses};
+ghost use Rattle.disk_model.specs.Sizes.{record_size};
 ghost use Rattle.number_map.specs.Records.{record_bytes};
 
 use crate::line::Record;
-use disk_model::{Disk, DiskFault, FileName};
+use disk_model::{Disk, DiskFault, FileName, RECORD_SIZE};
 
 /// Returns the bytes of a record.
-pub fn spell(line: &Record) -> [u8; 28]
+pub fn spell(line: &Record) -> [u8; RECORD_SIZE]
     ensures bytes { result ≡ record_bytes line.now }
-    ensures size { length (record_bytes line.now) ≡ 28 }
+    ensures size { length (record_bytes line.now) ≡ record_size }
 {
-    let mut bytes = [0; 28];
+    let mut bytes = [0; RECORD_SIZE];
     bytes[..4].copy_from_slice(&line.number.to_be_bytes());
     bytes[4..8].copy_from_slice(&line.epoch.to_be_bytes());
     bytes[8..].copy_from_slice(&line.blob.0);
@@ -29,10 +30,10 @@ pub fn append<D: Disk>(
     line: &Record,
 ) -> Result<(), DiskFault>
     requires inside { WhereTold (IsAtMostLength file at) (D.content disk.old) }
-    requires end { at + 28 < 2 ^ 63 }
+    requires end { at + record_size < 2 ^ 63 }
     ensures written { OnOk result (Told (OneFile file (Wrote at (record_bytes line.now))) (D.content disk.old) (D.content disk.new)) }
-    ensures torn { OnErr result (Told (OneFile file (Tore at 28)) (D.content disk.old) (D.content disk.new)) }
-    ensures size { length (record_bytes line.now) ≡ 28 }
+    ensures torn { OnErr result (Told (OneFile file (Tore at record_size)) (D.content disk.old) (D.content disk.new)) }
+    ensures size { length (record_bytes line.now) ≡ record_size }
     ensures time { Elapses (D.moment disk.old) (D.moment disk.new) (D.left_since disk.old) (D.left_since disk.new) (D.content disk.new) }
     ensures cause { IsCaused (D.faults disk.old) (D.faults disk.new) result }
     ensures count { D.reads disk.new ≡ D.reads disk.old }

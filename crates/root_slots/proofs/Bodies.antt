@@ -1,19 +1,22 @@
 -- The body of a slot, as a part of the file.
-use Rattle.std.specs.Prelude.{◌≡◌, ◌⊎◌, ℕ, ◌-◌, ◌<◌, List, take, drop}
+use Rattle.std.specs.Prelude.{◌≡◌, ◌⊎◌, ℕ, ◌+◌, ◌-◌, ◌<◌, List, take, drop}
 use Rattle.std.specs.Int.{from_be_bytes, w64}
 use Rattle.std.proofs.Common.{◌∙◌, ap, sym, subst, inl, inr, arith}
 use Rattle.std.proofs.lemmas.Bool.{cases_lt}
+use Rattle.root_slots.specs.Spelling.{body_size}
 use Rattle.root_slots.specs.Slots.{gate, body_place, body_at, sequence_of, Precedes, Current}
 
--- The part of the file.
-pub body_part : (file : List ℕ) (slot n : ℕ) → n ≡ 1536 → take n (drop (body_place slot) file) ≡ body_at file slot
+-- The part of the file, cut at an offset that a call gave.
+pub body_slice : (file : List ℕ) (slot start : ℕ) → start ≡ body_place slot → take (start + body_size - start) (drop start file) ≡ body_at file slot
 unfolding body_at
-body_part file slot n is = ap (λ (k : ℕ). take k (drop (body_place slot) file)) is
+body_slice file slot start is =
+    let size : body_place slot + body_size - body_place slot ≡ body_size = omega arith in
+    ap (λ (k : ℕ). take (k + body_size - k) (drop k file)) is ∙ ap (λ (n : ℕ). take n (drop (body_place slot) file)) size
 
 -- The sequence of the body.
-pub sequence_part : (file : List ℕ) (slot n value : ℕ) → n ≡ 1536 → value ≡ from_be_bytes w64 (take 8 (take n (drop (body_place slot) file))) → value ≡ sequence_of (body_at file slot)
+pub sequence_slice : (file : List ℕ) (slot start value : ℕ) → start ≡ body_place slot → value ≡ from_be_bytes w64 (take 8 (take (start + body_size - start) (drop start file))) → value ≡ sequence_of (body_at file slot)
 unfolding sequence_of
-sequence_part file slot n value is gives = gives ∙ ap (λ (b : List ℕ). from_be_bytes w64 (take 8 b)) (body_part file slot n is)
+sequence_slice file slot start value is gives = gives ∙ ap (λ (b : List ℕ). from_be_bytes w64 (take 8 b)) (body_slice file slot start is)
 
 -- Two slots whose bodies precede each other's are both slot 0.
 precede_both : (m n s t : ℕ) → (m < n) ⊎ ((m ≡ n) × (s ≡ 0)) → (n < m) ⊎ ((n ≡ m) × (t ≡ 0)) → s ≡ t

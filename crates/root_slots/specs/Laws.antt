@@ -1,7 +1,7 @@
 -- Laws of roots and their spellings.
 use Rattle.std.specs.Prelude.{◌≡◌, length}
 use Rattle.root_slots.specs.declared.root.Root.{Root}
-use Rattle.root_slots.specs.Spelling.{spelling}
+use Rattle.root_slots.specs.Spelling.{body_size, spelling}
 use Rattle.root_slots.specs.Valid.{RootFits, IsRoot}
 
 -- Two roots with the same spelling are equal.
@@ -10,4 +10,4 @@ SpellingsDiffer = (r s : Root) → RootFits r → RootFits s → IsRoot r → Is
 
 -- A spelling fills its slot.
 abbrev pub SpellingsFill : Type 0
-SpellingsFill = (r : Root) → RootFits r → length (spelling r) ≡ 1536
+SpellingsFill = (r : Root) → RootFits r → length (spelling r) ≡ body_size

@@ -8,8 +8,9 @@ use Rattle.arch_base.specs.declared.config.Config.{Config}
 use Rattle.arch_base.specs.Names.{IsName}
 use Rattle.root_slots.specs.declared.root.Place.{Place}
 use Rattle.root_slots.specs.declared.root.Root.{Root}
+use Rattle.disk_model.specs.Sizes.{epoch_count}
 use Rattle.disk_model.specs.BigEndian.{be32, be64, be32_length, be64_length}
-use Rattle.root_slots.specs.Spelling.{flag, place_bytes, name_bytes, config_bytes, fields, spelling}
+use Rattle.root_slots.specs.Spelling.{body_size, flag, place_bytes, name_bytes, config_bytes, fields, spelling}
 use Rattle.root_slots.specs.Slots.{sequence_of}
 
 -- A place takes 16 bytes.
@@ -41,7 +42,7 @@ config_length c valid =
     omega (arith, length-append e (be32 c.born), length-append d (be32 c.max), length-append b (be32 c.slice), length-append a (be64 c.limit), length-append (1 ∷ flag c.mirror ∷ []) (name_bytes c.name), name_length c.name valid, be64_length c.limit, be32_length c.slice, be32_length c.max, be32_length c.born)
 
 -- The fields take 1,155 bytes.
-pub fields_length : (r : Root) → IsName r.config.name → length r.epochs ≡ 64 → length (fields r) ≡ 1155
+pub fields_length : (r : Root) → IsName r.config.name → length r.epochs ≡ epoch_count → length (fields r) ≡ 1155
 unfolding fields
 fields_length r valid count =
     let a = be64 r.sequence ++ config_bytes r.config in
@@ -51,9 +52,9 @@ fields_length r valid count =
     omega (arith, count, length-append e (place_bytes r.cache), length-append d (flat_map place_bytes r.epochs), length-append b (place_bytes r.map), length-append a (be32 r.next), length-append (be64 r.sequence) (config_bytes r.config), be64_length r.sequence, config_length r.config valid, be32_length r.next, place_length r.map, places_length r.epochs, place_length r.cache)
 
 -- A spelling takes 1,536 bytes.
-pub spelling_length : (r : Root) → IsName r.config.name → length r.epochs ≡ 64 → length (spelling r) ≡ 1536
+pub spelling_length : (r : Root) → IsName r.config.name → length r.epochs ≡ epoch_count → length (spelling r) ≡ body_size
 unfolding spelling
-spelling_length r valid count = let size = fields_length r valid count in omega (arith, size, length-append (fields r) (replicate (1536 - length (fields r)) 0), length-replicate {A = ℕ} (1536 - length (fields r)) 0)
+spelling_length r valid count = let size = fields_length r valid count in omega (arith, size, length-append (fields r) (replicate (body_size - length (fields r)) 0), length-replicate {A = ℕ} (body_size - length (fields r)) 0)
 
 -- A spelling starts with its root's sequence.
 pub sequence-spelling : (r : Root) → r.sequence < 2 ^ 64 → sequence_of (spelling r) ≡ r.sequence

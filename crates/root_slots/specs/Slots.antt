@@ -1,20 +1,44 @@
 -- The root file, its two slots, and which of them has the current root.
-use Rattle.std.specs.Prelude.{◌≡◌, ◌≢◌, ◌⊎◌, Bool, true, false, ℕ, ◌+◌, ◌-◌, ◌*◌, ◌<◌, Option, Some, None, Result, Ok, Err, List, [], ◌∷◌, length, get_or, take, drop, replicate}
+use Rattle.std.specs.Prelude.{◌≡◌, ◌≢◌, ◌⊎◌, Bool, true, false, ℕ, ◌+◌, ◌-◌, ◌*◌, ◌<◌, Option, Some, None, Result, Ok, Err, List, [], ◌∷◌, length, get_or, take, drop, replicate, refl}
 use Rattle.std.specs.Int.{from_be_bytes, w64}
+use Rattle.std.proofs.Common.{arith}
 use Rattle.disk_model.specs.declared.name.FileName.{FileName}
 use Rattle.disk_model.specs.Disk.{File, Files, Content, Fits, bytes_of, overlay, remove_sure}
 use Rattle.disk_model.specs.Synced.{IsSettled}
 use Rattle.root_slots.specs.declared.root.Root.{Root}
+use Rattle.root_slots.specs.declared.slot.Slot.{Slot}
+use Rattle.root_slots.specs.declared.slot.Slot.TheVariants.{First, Second}
 use Rattle.root_slots.specs.declared.refusal.RootRefusal.{RootRefusal}
 use Rattle.root_slots.specs.declared.refusal.RootRefusal.TheVariants.{DiskFault, Damaged}
 use Rattle.root_slots.specs.RootName.{root_name}
 use Rattle.root_slots.specs.Each.{IfThere}
-use Rattle.root_slots.specs.Spelling.{spelling}
+use Rattle.root_slots.specs.Spelling.{body_size, spelling}
 use Rattle.root_slots.specs.Valid.{RootFits, IsRoot}
+
+-- The number of a slot, which is the offset of its gate, too.
+abbrev pub slot_number : Slot → ℕ
+slot_number First = 0
+slot_number Second = 1
+
+-- A slot is 0 or 1.
+pub slot_below : (slot : Slot) → slot_number slot < 2
+slot_below First = omega arith
+slot_below Second = omega arith
+
+-- Slots of equal numbers are equal.
+pub slot_is : (s t : Slot) → slot_number s ≡ slot_number t → s ≡ t
+slot_is First First is = refl
+slot_is First Second is = absurd (omega (arith, is))
+slot_is Second First is = absurd (omega (arith, is))
+slot_is Second Second is = refl
+
+-- The length of the root file.
+abbrev pub root_size : ℕ
+root_size = 4096
 
 -- The root file has its size.
 abbrev pub HasRootSize : Content → Type 0
-HasRootSize k = length (bytes_of (k root_name).seen) ≡ 4096
+HasRootSize k = length (bytes_of (k root_name).seen) ≡ root_size
 
 -- All other files are as a crash before might have left them.
 abbrev pub Elsewhere : Content → Files → Type 0
@@ -36,11 +60,11 @@ IsGateOpen slot false k = gate (bytes_of (k root_name).seen) slot ≢ 1
 
 -- The offset of the body of a slot.
 abbrev pub body_place : ℕ → ℕ
-body_place slot = 1024 + 1536 * slot
+body_place slot = 1024 + body_size * slot
 
 -- The body of a slot.
 unfoldable pub body_at : List ℕ → ℕ → List ℕ
-body_at file slot = take 1536 (drop (body_place slot) file)
+body_at file slot = take body_size (drop (body_place slot) file)
 
 -- The sequence of a body, its first 8 bytes.
 unfoldable pub sequence_of : List ℕ → ℕ
@@ -54,7 +78,7 @@ Precedes other body slot = (sequence_of other < sequence_of body) ⊎ ((sequence
 -- newer.
 pub record Current (slot : ℕ) (body file : List ℕ) : Type 0 where
   pub in_range : slot < 2
-  pub size : length file ≡ 4096
+  pub size : length file ≡ root_size
   pub opened : gate file slot ≡ 1
   pub holds : body_at file slot ≡ body
   pub newest : gate file (1 - slot) ≡ 1 → Precedes (body_at file (1 - slot)) body slot
@@ -94,7 +118,7 @@ pub record IsCommitted (old new : Content) : Type 0 where
 
 -- No slot is open.
 abbrev pub IsShut : List ℕ → Type 0
-IsShut file = (length file ≢ 4096) ⊎ ((gate file 0 ≢ 1) × (gate file 1 ≢ 1))
+IsShut file = (length file ≢ root_size) ⊎ ((gate file 0 ≢ 1) × (gate file 1 ≢ 1))
 
 -- The body of the current slot spells no root; the offset is that of the body.
 pub record IsDamaged (at : ℕ) (file : List ℕ) : Type 0 where
@@ -104,17 +128,17 @@ pub record IsDamaged (at : ℕ) (file : List ℕ) : Type 0 where
   pub none : (r : Root) → RootFits r → IsRoot r → body_at file slot ≢ spelling r
 
 -- The results of reading a root file with these bytes.
-abbrev pub Answers : List ℕ → Result (Option (ℕ × Root)) RootRefusal → Type 0
+abbrev pub Answers : List ℕ → Result (Option (Slot × Root)) RootRefusal → Type 0
 Answers file (Ok None) = IsShut file
-Answers file (Ok (Some found)) = Current found.0 (spelling found.1) file × IsRoot found.1
+Answers file (Ok (Some found)) = Current (slot_number found.0) (spelling found.1) file × IsRoot found.1
 Answers file (Err (Damaged at)) = IsDamaged at file
 Answers file (Err DiskFault) = Unit {0}
 
 -- A current root that is spelled in the file is the one read, unless the disk failed.
-abbrev pub ReadsBack : List ℕ → Result (Option (ℕ × Root)) RootRefusal → Type 0
+abbrev pub ReadsBack : List ℕ → Result (Option (Slot × Root)) RootRefusal → Type 0
 ReadsBack file (Err DiskFault) = Unit {0}
-ReadsBack file (Err (Damaged at)) = (slot : ℕ) (r : Root) → RootFits r → IsRoot r → Current slot (spelling r) file → ⊥
-ReadsBack file (Ok found) = (slot : ℕ) (r : Root) → RootFits r → IsRoot r → Current slot (spelling r) file → found ≡ Some (slot, r)
+ReadsBack file (Err (Damaged at)) = (slot : Slot) (r : Root) → RootFits r → IsRoot r → Current (slot_number slot) (spelling r) file → ⊥
+ReadsBack file (Ok found) = (slot : Slot) (r : Root) → RootFits r → IsRoot r → Current (slot_number slot) (spelling r) file → found ≡ Some (slot, r)
 
 -- No slot of this file is open.
 abbrev pub IsShutFile : File → Type 0
@@ -139,14 +163,14 @@ LeavesShut (Some k) image = StaysShut k image
 -- The root file is whole and all zeros, every other file reads as before, and all of it is on the
 -- disk.
 pub record IsBegun (old new : Content) : Type 0 where
-  pub root : (new root_name).seen ≡ Some (replicate 4096 0)
+  pub root : (new root_name).seen ≡ Some (replicate root_size 0)
   pub elsewhere : (other : FileName) → other ≢ root_name → (new other).seen ≡ (old other).seen
   pub settled : IsSettled new
 
--- The bytes of a root file of 4,096 bytes, or that it has another size.
+-- The bytes of a root file of its size, or that it has another size.
 abbrev pub AreRootBytes : Bool → List ℕ → Content → Type 0
 AreRootBytes true file k = file ≡ bytes_of (k root_name).seen
-AreRootBytes false file k = length (bytes_of (k root_name).seen) ≢ 4096
+AreRootBytes false file k = length (bytes_of (k root_name).seen) ≢ root_size
 
 -- What a crash leaves while the root file is removed.
 pub record IsClearing (k : Content) (image : Files) : Type 0 where

@@ -6,6 +6,10 @@ use Rattle.disk_model.specs.BigEndian.{be32, be64}
 use Rattle.root_slots.specs.declared.root.Place.{Place}
 use Rattle.root_slots.specs.declared.root.Root.{Root}
 
+-- The length of a slot's body.
+abbrev pub body_size : ℕ
+body_size = 1536
+
 -- A file's generation, then its length.
 unfoldable pub place_bytes : Place → List ℕ
 place_bytes p = be64 p.gen_ ++ be64 p.length
@@ -27,6 +31,6 @@ config_bytes c = (1 ∷ flag c.mirror ∷ []) ++ name_bytes c.name ++ be64 c.lim
 unfoldable pub fields : Root → List ℕ
 fields r = be64 r.sequence ++ config_bytes r.config ++ be32 r.next ++ place_bytes r.map ++ flat_map place_bytes r.epochs ++ place_bytes r.cache
 
--- The fields, then zeros up to the 1,536 bytes of a slot's body.
+-- The fields, then zeros up to the length of a slot's body.
 unfoldable pub spelling : Root → List ℕ
-spelling r = fields r ++ replicate (1536 - length (fields r)) 0
+spelling r = fields r ++ replicate (body_size - length (fields r)) 0

@@ -3,6 +3,7 @@ use Rattle.std.specs.Prelude.{◌≡◌, ◌<◌, ◌≤◌, ◌*◌, ◌-◌, �
 use Rattle.std.specs.List.{All}
 use Rattle.arch_base.specs.Configs.{IsConfig}
 use Rattle.arch_base.specs.Names.{IsName}
+use Rattle.disk_model.specs.Sizes.{epoch_count, record_size}
 use Rattle.root_slots.specs.declared.root.Place.{Place}
 use Rattle.root_slots.specs.declared.root.Root.{Root}
 
@@ -20,8 +21,8 @@ pub record RootFits (r : Root) : Type 0 where
   pub name : IsName r.config.name
   pub sequence : r.sequence < 2 ^ 64
   pub map : PlaceFits r.map
-  pub epochs : (i : ℕ) → i < 64 → PlaceFits (get_or r.epochs i no_place)
-  pub count : length r.epochs ≡ 64
+  pub epochs : (i : ℕ) → i < epoch_count → PlaceFits (get_or r.epochs i no_place)
+  pub count : length r.epochs ≡ epoch_count
   pub cache : PlaceFits r.cache
 
 -- The generation is at most the sequence, and 0 if the length is 0.
@@ -35,6 +36,6 @@ pub record IsRoot (r : Root) : Type 0 where
   pub next_least : 1 ≤ r.next
   pub next_most : r.next ≤ 2147483648
   pub map_gen : r.map.gen_ ≤ r.sequence
-  pub map_length : r.map.length ≡ 28 * (r.next - 1)
+  pub map_length : r.map.length ≡ record_size * (r.next - 1)
   pub epochs : All (PlaceIsValid r.sequence) r.epochs
   pub cache : PlaceIsValid r.sequence r.cache

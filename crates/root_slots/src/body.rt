@@ -2,10 +2,12 @@
 ghost use Rattle.std.specs.Prelude.{◌≡◌, ◌+◌, ◌-◌, ◌≤◌, ◌∷◌, [], ◌++◌, List, ℕ, length, replicate};
 ghost use Rattle.std.specs.List.{flat_map};
 ghost use Rattle.disk_model.specs.BigEndian.{be32, be64};
-ghost use Rattle.root_slots.specs.Spelling.{flag, place_bytes, name_bytes, config_bytes, spelling};
+ghost use Rattle.root_slots.specs.Spelling.{body_size, flag, place_bytes, name_bytes, config_bytes, spelling};
 
 use crate::root::{Place, Root};
+use crate::slot::BODY_SIZE;
 use arch_base::{Config, Name};
+use disk_model::EPOCHS;
 use std::marker::Model;
 
 /// A body that is written from its first byte on.
@@ -13,18 +15,19 @@ use std::marker::Model;
 /// Its contract view is what is written so far; the rest is zeros.
 #[derive(Drop)]
 struct Body {
-    bytes: [u8; 1536],
+    bytes: [u8; BODY_SIZE],
     at: usize,
 }
 
 impl Model for Body {
     ghost use Rattle.std.specs.Prelude.{List, ℕ, ◌≤◌, ◌-◌, ◌≡◌, take, drop, replicate};
+    ghost use Rattle.root_slots.specs.Spelling.{body_size};
 
     ghost Value = { List ℕ };
 
     ghost view = { λ b. take b.at b.bytes };
 
-    ghost invariant = { λ b. (b.at ≤ 1536) × (drop b.at b.bytes ≡ replicate (1536 - b.at) 0) };
+    ghost invariant = { λ b. (b.at ≤ body_size) × (drop b.at b.bytes ≡ replicate (body_size - b.at) 0) };
 }
 
 impl Body {
@@ -33,14 +36,14 @@ impl Body {
         ensures { result ≡ [] }
     {
         Body {
-            bytes: [0; 1536],
+            bytes: [0; BODY_SIZE],
             at: 0,
         }
     }
 
     /// Writes a field.
     fn push(&mut self, field: &[u8])
-        requires { length self.old + length field.now ≤ 1536 }
+        requires { length self.old + length field.now ≤ body_size }
         ensures bytes { self.new ≡ self.old ++ field.now }
         ensures size { length self.new ≡ length self.old + length field.now }
     {
@@ -51,7 +54,7 @@ impl Body {
 
     /// Leaves zeros.
     fn skip(&mut self, count: usize)
-        requires { length self.old + count ≤ 1536 }
+        requires { length self.old + count ≤ body_size }
         ensures bytes { self.new ≡ self.old ++ replicate count 0 }
         ensures size { length self.new ≡ length self.old + count }
     {
@@ -61,7 +64,7 @@ impl Body {
     /// Writes a number of 32 bits, the highest byte first.
     #[tactic(auto, using(disk_model::specs::BigEndian::be32_length), unfolding(disk_model::specs::BigEndian::be32))]
     fn push_u32(&mut self, number: u32)
-        requires { length self.old + 4 ≤ 1536 }
+        requires { length self.old + 4 ≤ body_size }
         ensures bytes { self.new ≡ self.old ++ be32 number }
         ensures size { length self.new ≡ length self.old + 4 }
     {
@@ -71,7 +74,7 @@ impl Body {
     /// Writes a number of 64 bits, the highest byte first.
     #[tactic(auto, using(disk_model::specs::BigEndian::be64_length), unfolding(disk_model::specs::BigEndian::be64))]
     fn push_u64(&mut self, number: u64)
-        requires { length self.old + 8 ≤ 1536 }
+        requires { length self.old + 8 ≤ body_size }
         ensures bytes { self.new ≡ self.old ++ be64 number }
         ensures size { length self.new ≡ length self.old + 8 }
     {
@@ -81,7 +84,7 @@ impl Body {
     /// Writes a `Place`: the generation, then the length.
     #[tactic(auto, using(disk_model::specs::BigEndian::be64_length), unfolding(crate::specs::Spelling::place_bytes))]
     fn push_place(&mut self, place: &Place)
-        requires { length self.old + 16 ≤ 1536 }
+        requires { length self.old + 16 ≤ body_size }
         ensures bytes { self.new ≡ self.old ++ place_bytes place.now }
         ensures size { length self.new ≡ length self.old + 16 }
     {
@@ -92,7 +95,7 @@ impl Body {
     /// Writes a name with its length before it, and leaves zeros up to 64 bytes.
     #[tactic(auto, unfolding(crate::specs::Spelling::name_bytes))]
     fn push_name(&mut self, name: &Name)
-        requires { length self.old + 65 ≤ 1536 }
+        requires { length self.old + 65 ≤ body_size }
         ensures bytes { self.new ≡ self.old ++ name_bytes name.now }
         ensures size { length self.new ≡ length self.old + 65 }
     {
@@ -105,7 +108,7 @@ impl Body {
     /// Writes the format and the settings.
     #[tactic(auto, unfolding(crate::specs::Spelling::config_bytes))]
     fn push_config(&mut self, config: &Config)
-        requires { length self.old + 87 ≤ 1536 }
+        requires { length self.old + 87 ≤ body_size }
         ensures bytes { self.new ≡ self.old ++ config_bytes config.now }
         ensures size { length self.new ≡ length self.old + 87 }
     {
@@ -118,8 +121,8 @@ impl Body {
     }
 
     /// Writes the places of the epochs.
-    fn push_places(&mut self, places: &[Place; 64])
-        requires { length self.old + 1024 ≤ 1536 }
+    fn push_places(&mut self, places: &[Place; EPOCHS as usize])
+        requires { length self.old + 1024 ≤ body_size }
         ensures bytes { self.new ≡ self.old ++ flat_map place_bytes places.now }
         ensures size { length self.new ≡ length self.old + 1024 }
     {
@@ -129,8 +132,8 @@ impl Body {
     }
 
     /// Returns the whole body, with zeros after what is written.
-    fn finish(self) -> [u8; 1536]
-        ensures { result ≡ self ++ replicate (1536 - length self) 0 }
+    fn finish(self) -> [u8; BODY_SIZE]
+        ensures { result ≡ self ++ replicate (body_size - length self) 0 }
     {
         let Body { bytes, at: _ } = self;
         bytes
@@ -139,7 +142,7 @@ impl Body {
 
 /// Returns the bytes of a root: 1,155 bytes of fields, then zeros.
 #[tactic(auto, unfolding(crate::specs::Spelling::fields, crate::specs::Spelling::spelling))]
-pub fn spell(root: &Root) -> [u8; 1536]
+pub fn spell(root: &Root) -> [u8; BODY_SIZE]
     ensures { result ≡ spelling root.now }
 {
     let mut body = Body::new();

@@ -9,6 +9,7 @@ mod laws;
 mod parts;
 mod refusal;
 mod root;
+mod slot;
 mod slots;
 mod start;
 
@@ -16,6 +17,7 @@ pub use find::read;
 pub use laws::law_of_spellings;
 pub use refusal::RootRefusal;
 pub use root::{Place, Root, root_fits};
+pub use slot::Slot;
 pub use slots::{commit, fill, is_open, raise, shut};
 pub use start::begin;
 

@@ -10,12 +10,14 @@ ghost use Rattle.arch_base.specs.Configs.{IsConfig};
 ghost use Rattle.arch_base.specs.declared.config.Config.{Config};
 ghost use Rattle.root_slots.specs.declared.root.Place.{Place};
 ghost use Rattle.root_slots.specs.declared.root.Root.{Root};
+ghost use Rattle.disk_model.specs.Sizes.{epoch_count};
 ghost use Rattle.disk_model.specs.BigEndian.{be32, be64};
-ghost use Rattle.root_slots.specs.Spelling.{flag, place_bytes, name_bytes, config_bytes, spelling};
+ghost use Rattle.root_slots.specs.Spelling.{body_size, flag, place_bytes, name_bytes, config_bytes, spelling};
 ghost use Rattle.root_slots.specs.Valid.{no_place, PlaceFits, RootFits, IsRoot};
 
 use crate::root::{Place, Root};
 use arch_base::{Config, Name};
+use disk_model::EPOCHS;
 
 /// Reads a number of 64 bits, the highest byte first.
 pub fn number64(bytes: &[u8]) -> (u64, &[u8])
@@ -98,15 +100,15 @@ fn config(bytes: &[u8]) -> (Option<Config>, &[u8])
 }
 
 /// Reads the places of the epochs.
-fn places(bytes: &[u8]) -> ([Place; 64], &[u8])
+fn places(bytes: &[u8]) -> ([Place; EPOCHS as usize], &[u8])
     requires { 1024 ≤ length bytes.now }
-    ensures read { (ps : List Place) (rest : List ℕ) → ((i : ℕ) → i < 64 → PlaceFits (get_or ps i no_place)) → length ps ≡ 64
+    ensures read { (ps : List Place) (rest : List ℕ) → ((i : ℕ) → i < epoch_count → PlaceFits (get_or ps i no_place)) → length ps ≡ epoch_count
         → bytes.now ≡ flat_map place_bytes ps ++ rest → (result.0 ≡ ps) × (result.1.now ≡ rest) }
     ensures size { length result.1.now + 1024 ≡ length bytes.now }
 {
-    let mut all = [Place { gen_: 0, length: 0 }; 64];
+    let mut all = [Place { gen_: 0, length: 0 }; EPOCHS as usize];
     let mut rest = bytes;
-    for i in 0..64 {
+    for i in 0..EPOCHS as usize {
         let (next, after) = place(rest);
         all[i] = next;
         rest = after;
@@ -118,7 +120,7 @@ fn places(bytes: &[u8]) -> ([Place; 64], &[u8])
 ///
 /// Otherwise it may return any root or none.
 pub fn root_of(body: &[u8]) -> Option<Root>
-    requires { 1536 ≤ length body.now }
+    requires { body_size ≤ length body.now }
     ensures { (r : Root) → RootFits r → IsRoot r → body.now ≡ spelling r → result ≡ Some r }
 {
     let (sequence, rest) = number64(body);

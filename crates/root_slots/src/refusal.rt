@@ -11,7 +11,7 @@ pub enum RootRefusal {
     /// The body of the current slot spells no root.
     #[error("damaged root at {at}")]
     Damaged {
-        /// The offset of the slot, 1024 or 2560.
+        /// The offset of the slot's body, 1024 or 2560.
         at: u64,
     },
 }

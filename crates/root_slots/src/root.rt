@@ -3,6 +3,7 @@ ghost use Rattle.std.specs.Prelude.{◌≡◌};
 ghost use Rattle.root_slots.specs.Valid.{IsRoot, PlaceFits, RootFits};
 
 use arch_base::Config;
+use disk_model::EPOCHS;
 
 /// A file that a root names, and how many of its bytes count.
 #[derive(Clone, Copy, Debug, PartialEq, Eq)]
@@ -22,10 +23,10 @@ pub struct Root {
     pub sequence: u64,
     /// The number of the next message, 1 to 2,147,483,648.
     pub next: u32,
-    /// The map, with one record of 28 bytes for each number below `next`.
+    /// The map, with one record for each number below `next`.
     pub map: Place,
     /// The files of the epochs.
-    pub epochs: [Place; 64],
+    pub epochs: [Place; EPOCHS as usize],
     /// The file from which views are read again.
     pub cache: Place,
 }
@@ -63,7 +64,7 @@ pub fn root_fits(root: &Root)
     let _sequence = root.sequence;
     place_fits(root.map);
     place_fits(root.cache);
-    for index in 0..64 {
+    for index in 0..EPOCHS as usize {
         place_fits(root.epochs[index]);
     }
 }

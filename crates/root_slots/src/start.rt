@@ -4,6 +4,7 @@ ghost use Rattle.arch_base.specs.Counts.{IsCaused};
 ghost use Rattle.disk_model.specs.Disk.{Told, LeavesOnly};
 ghost use Rattle.root_slots.specs.Slots.{EachShut, LeavesShut, OthersStay, IsBegun, Clearing, IsCleared};
 
+use crate::slot::ROOT_SIZE;
 use crate::slots::root_file;
 use disk_model::{Disk, DiskFault, write_and_sync};
 
@@ -32,5 +33,5 @@ pub fn begin<D: Disk>(disk: &mut D) -> Result<(), DiskFault>
 {
     clear(disk)?;
     write_and_sync(disk, root_file(), 0, &[0, 0])?;
-    write_and_sync(disk, root_file(), 2, &[0; 4094])
+    write_and_sync(disk, root_file(), 2, &[0; ROOT_SIZE - 2])
 }

@@ -3,7 +3,9 @@
 use crate::body::spell;
 use crate::find::is_valid;
 use crate::slots::root_file;
-use crate::{Place, Root, RootRefusal, begin, commit, fill, law_of_spellings, raise, read, shut};
+use crate::{
+    Place, Root, RootRefusal, Slot, begin, commit, fill, law_of_spellings, raise, read, shut,
+};
 use arch_base::{Config, Name, Numbers};
 use disk_model::{Disk, DiskFault, FileKind, FileName, FuseDisk, MemDisk};
 use std::alloc::Global;
@@ -110,17 +112,17 @@ const FIELDS: [(u64, &[u8], bool); 38] = [
     (1535, b"\x01", false),
 ];
 
-/// The gate and the sequence of slot 0, those of slot 1, and the slot that is read.
-const NEWEST: [(u8, u64, u8, u64, Option<u8>); 9] = [
+/// The gate and the sequence of the first slot, those of the second, and the slot that is read.
+const NEWEST: [(u8, u64, u8, u64, Option<Slot>); 9] = [
     (0, 1, 0, 2, None),
     (2, 1, 255, 2, None),
-    (1, 1, 0, 2, Some(0)),
-    (1, 1, 3, 2, Some(0)),
-    (0, 2, 1, 1, Some(1)),
-    (1, 1, 1, 2, Some(1)),
-    (1, 2, 1, 1, Some(0)),
-    (1, 2, 1, 2, Some(0)),
-    (1, 255, 1, 256, Some(1)),
+    (1, 1, 0, 2, Some(Slot::First)),
+    (1, 1, 3, 2, Some(Slot::First)),
+    (0, 2, 1, 1, Some(Slot::Second)),
+    (1, 1, 1, 2, Some(Slot::Second)),
+    (1, 2, 1, 1, Some(Slot::First)),
+    (1, 2, 1, 2, Some(Slot::First)),
+    (1, 255, 1, 256, Some(Slot::Second)),
 ];
 
 /// Returns a root whose fields differ from one another.
@@ -156,16 +158,16 @@ fn sample(sequence: u64, max: u32) -> Option<Root> {
 }
 
 /// Commits a root if the root file has its size, which one call looks up.
-fn try_commit<D: Disk>(disk: &mut D, slot: u8, root: &Root) -> Result<(), DiskFault> {
-    if slot > 1 || !is_valid(root) || disk.length(root_file())? != 4096 {
+fn try_commit<D: Disk>(disk: &mut D, slot: Slot, root: &Root) -> Result<(), DiskFault> {
+    if !is_valid(root) || disk.length(root_file())? != 4096 {
         return Err(DiskFault);
     }
     commit(disk, slot, root)
 }
 
 /// Writes a root to a slot, and opens or shuts the slot's gate.
-fn put<D: Disk>(disk: &mut D, slot: u8, root: &Root, open: bool) -> Result<(), DiskFault> {
-    if slot > 1 || !is_valid(root) || disk.length(root_file())? != 4096 {
+fn put<D: Disk>(disk: &mut D, slot: Slot, root: &Root, open: bool) -> Result<(), DiskFault> {
+    if !is_valid(root) || disk.length(root_file())? != 4096 {
         return Err(DiskFault);
     }
     fill(disk, slot, root)?;
@@ -196,7 +198,7 @@ fn trim<D: Disk>(disk: &mut D, length: u64) -> Result<(), DiskFault> {
 }
 
 /// Returns the slot of the current root.
-fn slot_read<D: Disk>(disk: &mut D) -> Result<Option<u8>, RootRefusal> {
+fn slot_read<D: Disk>(disk: &mut D) -> Result<Option<Slot>, RootRefusal> {
     match read(disk)? {
         Some((slot, _)) => Ok(Some(slot)),
         None => Ok(None),
@@ -224,10 +226,13 @@ fn a_root_has_these_bytes(rt: HostRuntime) -> Result<(), Fail> {
 fn is_field<D: Disk>(
     disk: &mut D,
     root: &Root,
-    slot: u8,
+    slot: Slot,
     (place, bytes, stands): &(u64, &[u8], bool),
 ) -> Result<bool, DiskFault> {
-    let body = if slot == 0 { 1024 } else { 2560 };
+    let body = match slot {
+        Slot::First => 1024,
+        Slot::Second => 2560,
+    };
     if *place >= 1536 {
         return Err(DiskFault);
     }
@@ -243,12 +248,12 @@ fn is_field<D: Disk>(
 }
 
 /// Tries each field in a slot.
-fn try_fields(rt: &impl Abort, disk: &mut MemDisk, slot: u8) -> Result<(), DiskFault> {
+fn try_fields(rt: &impl Abort, disk: &mut MemDisk, slot: Slot) -> Result<(), DiskFault> {
     let root = sample(1, 7).expect(rt, "a root");
     for field in &FIELDS {
         assert!(rt;
             is_field(disk, &root, slot, field)?,
-            "slot {slot}, place {}",
+            "{slot:?}, place {}",
             field.0
         );
     }
@@ -257,7 +262,7 @@ fn try_fields(rt: &impl Abort, disk: &mut MemDisk, slot: u8) -> Result<(), DiskF
 
 #[test]
 fn each_field_out_of_its_range_is_damage(rt: HostRuntime) -> Result<(), Fail> {
-    for slot in [0, 1] {
+    for slot in [Slot::First, Slot::Second] {
         let mut disk = MemDisk::new(rt.alloc(), Numbers::new(rt.alloc()));
         begin(&mut disk)?;
         try_fields(&rt, &mut disk, slot)?;
@@ -276,7 +281,7 @@ fn begins_without<D: Disk>(disk: &mut D) -> Result<bool, DiskFault> {
 /// wanted slot is read.
 fn is_newest<D: Disk>(
     disk: &mut D,
-    (gate0, sequence0, gate1, sequence1, want): &(u8, u64, u8, u64, Option<u8>),
+    (gate0, sequence0, gate1, sequence1, want): &(u8, u64, u8, u64, Option<Slot>),
 ) -> Result<bool, DiskFault> {
     let Some(first) = sample(*sequence0, 7) else {
         return Err(DiskFault);
@@ -284,18 +289,18 @@ fn is_newest<D: Disk>(
     let Some(second) = sample(*sequence1, 8) else {
         return Err(DiskFault);
     };
-    put(disk, 0, &first, true)?;
-    put(disk, 1, &second, false)?;
+    put(disk, Slot::First, &first, true)?;
+    put(disk, Slot::Second, &second, false)?;
     write(disk, 0, &[*gate0, *gate1])?;
     Ok(slot_read(disk) == Ok(*want))
 }
 
-/// Returns whether the body of slot 1 is damaged.
+/// Returns whether the body of the second slot is damaged.
 fn is_second_damaged<D: Disk>(disk: &mut D) -> bool {
     slot_read(disk) == Err(RootRefusal::Damaged { at: 2560 })
 }
 
-/// Returns whether no root is read if the root file is a byte longer or shorter, and slot 1 is
+/// Returns whether no root is read if the root file is a byte longer or shorter, and the second slot is
 /// damaged at its size.
 fn has_one_size<D: Disk>(disk: &mut D) -> Result<bool, DiskFault> {
     write(disk, 4096, &[0])?;
@@ -327,7 +332,7 @@ fn the_open_slot_of_greater_sequence_is_read(rt: HostRuntime) -> Result<(), Fail
 }
 
 /// Returns the slot that is read of a new root file, on a disk that stops after `passes` calls.
-fn slot_read_stopped(alloc: Global, passes: u64) -> Result<Option<u8>, RootRefusal> {
+fn slot_read_stopped(alloc: Global, passes: u64) -> Result<Option<Slot>, RootRefusal> {
     let mut disk = MemDisk::new(alloc, Numbers::new(alloc));
     begin(&mut disk)?;
     slot_read(&mut FuseDisk::new(disk, passes))
@@ -415,13 +420,13 @@ fn a_stop_while_it_begins_opens_no_slot(rt: HostRuntime) -> Result<(), Fail> {
     Ok(())
 }
 
-/// Writes a current root to slot 0, its copy to slot 1 with the gate shut if `twin` is set, and
+/// Writes a current root to the first slot, its copy to the second slot with the gate shut if `twin` is set, and
 /// another file.
 fn settle(disk: &mut MemDisk, root: &Root, twin: bool) -> Result<(), DiskFault> {
     begin(disk)?;
-    put(disk, 0, root, true)?;
+    put(disk, Slot::First, root, true)?;
     if twin {
-        put(disk, 1, root, false)?;
+        put(disk, Slot::Second, root, false)?;
     }
     if disk.length(OTHER)? != 0 {
         return Err(DiskFault);
@@ -431,20 +436,20 @@ fn settle(disk: &mut MemDisk, root: &Root, twin: bool) -> Result<(), DiskFault> 
 }
 
 /// Returns whether the current root of a disk is this one, in this slot.
-fn has_root(disk: &mut MemDisk, slot: u8, root: &Root) -> Result<bool, RootRefusal> {
+fn has_root(disk: &mut MemDisk, slot: Slot, root: &Root) -> Result<bool, RootRefusal> {
     match read(disk)? {
         Some((found, current)) => Ok(found == slot && spell(&current) == spell(root)),
         None => Ok(false),
     }
 }
 
-/// Commits a root to slot 1 after one in slot 0, and stops after `passes` calls.
+/// Commits a root to the second slot after one in the first slot, and stops after `passes` calls.
 fn stop_commit(alloc: Global, old: &Root, new: &Root, passes: u64) -> Result<Stopped, DiskFault> {
     let mut disk = MemDisk::new(alloc, Numbers::new(alloc));
     settle(&mut disk, old, passes % 2 == 0)?;
     let start = disk.moments();
     let mut fuse = FuseDisk::new(disk, passes);
-    let done = try_commit(&mut fuse, 1, new).is_ok();
+    let done = try_commit(&mut fuse, Slot::Second, new).is_ok();
     Ok(Stopped {
         disk: fuse.into_inner(),
         start,
@@ -462,8 +467,8 @@ fn has_other(disk: &mut MemDisk) -> Result<bool, DiskFault> {
 /// Returns whether the other file is there, and the new root, or the old one if the commit isn't
 /// done.
 fn is_old_or_new(image: &mut MemDisk, old: &Root, new: &Root, done: bool) -> Result<bool, Fail> {
-    let changed = has_root(image, 1, new)?;
-    let left = has_root(image, 0, old)?;
+    let changed = has_root(image, Slot::Second, new)?;
+    let left = has_root(image, Slot::First, old)?;
     let other = has_other(image)?;
     Ok(other && (changed || (left && !done)))
 }

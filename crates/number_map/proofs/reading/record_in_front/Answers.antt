@@ -3,8 +3,8 @@ use Rattle.std.proofs.Common.{rules, ◌≡◌, ◌∙◌, sym, take}
 use Rattle.number_map.proofs.Spelled.{none_short, none_other, none_valid}
 use Rattle.number_map.proofs.reading.record_in_front.Goals as goal
 
-pub returns-then-bytes-lt28-clause-none : goal.returns-then-bytes-lt28-clause-none
-returns-then-bytes-lt28-clause-none c = λ line valid is. none_short c.args.bytes.now line c.args.number c.if-bytes-lt28.true valid is
+pub returns-then-bytes-lt-RECORD_SIZE-clause-none : goal.returns-then-bytes-lt-RECORD_SIZE-clause-none
+returns-then-bytes-lt-RECORD_SIZE-clause-none c = λ line valid is. none_short c.args.bytes.now line c.args.number c.if-bytes-lt-RECORD_SIZE.true valid is
 
 pub returns-then-line-number-clause-none : goal.returns-then-line-number-clause-none
 returns-then-line-number-clause-none c = λ line valid is.
