@@ -3,3 +3,4 @@ pub mod Decimals
 pub mod Ids
 pub mod Names
 pub mod Configs
+pub mod Moments

@@ -1,15 +1,12 @@
 -- Events of a server, and their form in a script.
 use Rattle.std.specs.Prelude.{◌≡◌, ◌≤◌, ℕ, List, [], ◌∷◌, ◌++◌, codes, length}
 use Rattle.std.specs.Fmt.{decimal}
+use Rattle.arch_base.specs.Moments.{IsMoment}
 use Rattle.edge_io.specs.declared.events.Event.{Event}
 use Rattle.edge_io.specs.declared.events.What.{What}
 use Rattle.edge_io.specs.declared.events.What.TheVariants.{Opened, Bytes, Ended, Quiet, Stop}
 use Rattle.edge_io.specs.declared.events.Door.{Door}
 use Rattle.edge_io.specs.declared.events.Door.TheVariants.{Control, Http, Nntp, Imap}
-
--- A moment in seconds since 1970 UTC, up to the end of the year 9999.
-abbrev pub IsMoment : ℕ → Type 0
-IsMoment moment = moment ≤ 253402300799
 
 -- The connections of a script: number 1 alone.
 abbrev pub IsConnection : ℕ → Type 0

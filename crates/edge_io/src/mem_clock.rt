@@ -1,7 +1,7 @@
 //! A clock in memory.
 ghost use Rattle.std.specs.Prelude.{◌≡◌, ◌≤◌, ◌<◌, ◌+◌, ◌-◌, ◌^◌, ℕ, List, Option, Some, length, min, All, IfOk, OnOk, OnErr};
 ghost use Rattle.arch_base.specs.Counts.{IsCaused};
-ghost use Rattle.edge_io.specs.Events.{IsMoment};
+ghost use Rattle.arch_base.specs.Moments.{IsMoment};
 ghost use Rattle.edge_io.specs.Coming.{Moments, IsFirst, behind_first, moments_of};
 ghost use Rattle.edge_io.specs.Listed.{raised, is_listed};
 ghost use Rattle.edge_io.specs.MemClocks.{Ticking, Ticks};
@@ -25,7 +25,7 @@ pub struct MemClock {
 // A contract sees the moments to come, the listed ordinals, and the counts of calls and faults.
 impl Model for MemClock {
     ghost use Rattle.std.specs.Prelude.{◌<◌, length, drop, All};
-    ghost use Rattle.edge_io.specs.Events.{IsMoment};
+    ghost use Rattle.arch_base.specs.Moments.{IsMoment};
     ghost use Rattle.edge_io.specs.Coming.{moments_of};
     ghost use Rattle.edge_io.specs.MemClocks.{Ticking};
 

@@ -5,18 +5,16 @@
 //! without leading zeros.
 ghost use Rattle.std.specs.Prelude.{◌≡◌, ◌≤◌, ◌<◌, ℕ, List, length};
 ghost use Rattle.std.specs.Fmt.{decimal};
-ghost use Rattle.edge_io.specs.Events.{IsMoment, IsConnection, IsDoor, IsPieceLen, IsWhat, IsLine, door_word, words_of, line_of, behind_line};
+ghost use Rattle.arch_base.specs.Moments.{IsMoment};
+ghost use Rattle.edge_io.specs.Events.{IsConnection, IsDoor, IsPieceLen, IsWhat, IsLine, door_word, words_of, line_of, behind_line};
 ghost use Rattle.edge_io.specs.Scripts.{IsReading, ReadInOneWay};
 ghost use Rattle.edge_io.specs.Parsing.{Divides, Spells, HasPiece, IsFirst, IsOpening, opening_words, IsSending, sending_words};
 
 use crate::events::{Door, Event, What};
 use crate::scripts::{Script, ScriptRefusal};
-use arch_base::read_decimal;
+use arch_base::{LAST_MOMENT, read_decimal};
 use memchr::memchr;
 use std::alloc::Global;
-
-/// The last moment: the end of the year 9999, in seconds since 1970 UTC.
-const MAX_MOMENT: u64 = 253402300799;
 
 /// The greatest length of a piece, in bytes.
 const MAX_PIECE_LEN: u64 = 1048576;
@@ -169,7 +167,7 @@ fn read_moment(text: &[u8]) -> Option<u64>
     ensures { Spells IsMoment decimal text.now result }
 {
     let moment = read_decimal(text)?;
-    if moment <= MAX_MOMENT {
+    if moment <= LAST_MOMENT {
         Some(moment)
     } else {
         None

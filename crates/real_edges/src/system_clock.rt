@@ -1,17 +1,14 @@
 //! The system's clock as a clock of moments.
 ghost use Rattle.std.specs.Prelude.{◌≡◌, None, IfOk};
-ghost use Rattle.edge_io.specs.Events.{IsMoment};
+ghost use Rattle.arch_base.specs.Moments.{IsMoment};
 
 use crate::cause::system_words;
-use arch_base::NoMemory;
+use arch_base::{LAST_MOMENT, NoMemory};
 use edge_io::ClockFault;
 use std::alloc::Global;
 use std::io::{self, ErrorKind};
 use std::marker::Model;
 use std::time::{Clock, SystemTime, UNIX_EPOCH};
-
-/// The last second of the year 9999, in seconds since 1970 UTC.
-const LAST_MOMENT: u64 = 253_402_300_799;
 
 /// The system's clock. It doesn't tell which moments are to come.
 #[derive(Drop)]
