@@ -1,3 +1,4 @@
+pub mod Wording
 pub mod Fronts
 pub mod Ordinals
 pub mod Dividing

@@ -1,4 +1,5 @@
 pub mod Taken
+pub mod Phrases
 pub mod Left
 pub mod Listed
 pub mod MemSources

@@ -1,5 +1,6 @@
 //! The outside of the archive: sources of bytes, sinks of bytes and clocks, each with a count of
-//! faults, their versions in memory, and scripts of the events that a server runs on.
+//! faults, their versions in memory, words written to a sink, and scripts of the events that a
+//! server runs on.
 #![tactic(auto)]
 
 mod clock;
@@ -7,6 +8,7 @@ mod events;
 mod mem_clock;
 mod mem_sink;
 mod mem_source;
+mod phrase;
 mod reading;
 mod scripts;
 mod sink;
@@ -19,6 +21,7 @@ pub use events::{Door, Event, What};
 pub use mem_clock::MemClock;
 pub use mem_sink::MemSink;
 pub use mem_source::MemSource;
+pub use phrase::{say, say_line};
 pub use reading::{read_in_one_way, script};
 pub use scripts::{Script, ScriptRefusal};
 pub use sink::{Sink, SinkFault};

@@ -3,7 +3,7 @@ ghost use Rattle.std.specs.Prelude.{◌<◌, length};
 
 use crate::{
     Clock, ClockFault, Door, Event, MemClock, MemSink, MemSource, Script, ScriptRefusal, Sink,
-    SinkFault, Source, SourceFault, What, read_in_one_way, script,
+    SinkFault, Source, SourceFault, What, read_in_one_way, say, say_line, script,
 };
 use arch_base::{Bytes, NoMemory, Numbers};
 use std::alloc::{AllocError, Global};
@@ -216,6 +216,23 @@ fn listed_writes_fail(rt: HostRuntime) -> Result<(), Fail> {
     assert!(rt; takes_two_of_three(&mut sink));
     assert!(rt; takes_after_clear(&mut sink));
     assert_eq!(rt; sink.starved(), 0);
+    Ok(())
+}
+
+/// Returns whether a line lacks its line feed, if the second write fails, and words and a line
+/// after it are whole.
+fn takes_words_after_a_fault(sink: &mut MemSink) -> bool {
+    let lost = say_line(b"ab", sink);
+    let words = say(b"cd", sink);
+    let line = say_line(b"ef", sink);
+    let answers = lost == Err(SinkFault) && words.is_ok() && line.is_ok();
+    answers && sink.taken() == b"abcdef\n".as_slice()
+}
+
+#[test]
+fn words_stop_where_the_sink_fails(rt: HostRuntime) -> Result<(), Fail> {
+    let mut sink = MemSink::new(rt.alloc(), second_call(rt.alloc())?);
+    assert!(rt; takes_words_after_a_fault(&mut sink));
     Ok(())
 }
 

@@ -6,7 +6,8 @@ use Rattle.line_door.specs.Acts.{Outside, outside, Said, Way, Plain, Disk, Sent,
 use Rattle.line_door.specs.Course.{Talk, talk, Step, Requests, Last, Fed, PlainStep, PlainRequests, PlainLast, PlainFed}
 use Rattle.line_door.specs.Plain.{silent, behind, then_by, then_say, if_request, plain_from, plain}
 use Rattle.line_door.specs.Cuts.{more_of, said_with, CutDoor, CutLaw, PiecesLaw, PlainLaw, PlainIsFed, DoorLaws}
-use Rattle.line_door.proofs.Acting.{plus-plus, plus-none, acts-from}
+use Rattle.edge_io.proofs.Wording.{plus-plus, plus-none}
+use Rattle.line_door.proofs.Acting.{acts-from}
 
 -- What is said, and then what follows it.
 module _ {H A : Type 0} where

@@ -2,7 +2,6 @@ pub mod Acts
 pub mod Course
 pub mod Plain
 pub mod Cuts
-pub mod Phrases
 pub mod Lines
 pub mod LineLaws
 pub mod Ahead

@@ -1,14 +1,12 @@
 //! What all doors of lines share: the acts and courses of a session, the laws of cutting its bytes
-//! into pieces, the line at the front of its bytes, and the writing of answers.
+//! into pieces, and the line at the front of its bytes.
 #![tactic(auto)]
 
 mod laws;
 mod line;
-mod phrase;
 
 pub use laws::{cut_law, line_law, pieces_law, plain_law};
 pub use line::{Ahead, line_content, next_in};
-pub use phrase::{say, say_line};
 
 #[cfg(test)]
 mod tests;
