@@ -8,21 +8,19 @@ use Rattle.std.proofs.lemmas.Slice.Eq.{bytes_eq-Decides}
 use Rattle.arch_base.specs.declared.ids.Id20.{Id20}
 use Rattle.git_objects.specs.Objects.{blob_id_of}
 use Rattle.mail_reader.specs.Ids.{own_id}
-use Rattle.arch_model.specs.Archives.{Entry, Archive, owner, is_id, in_epoch}
+use Rattle.arch_model.specs.Archives.{Entry, Archive, owner, is_id, in_epoch, blob_number}
 use Rattle.arch_model.specs.Delivery.{Done, last_epoch, new_epoch, delivered}
 use Rattle.arch_model.specs.Epochs.{epoch_bytes}
 use Rattle.arch_model.specs.Following.{Follows}
 use Rattle.arch_model.specs.Laws.{TakenAreStorage, KeepsValid, CommandFollows}
-use Rattle.arch_model.specs.Memory.{blob_number}
-use Rattle.arch_model.specs.Validity.{IsEntry, Rise, IsArchive, last_moment}
+use Rattle.arch_model.specs.Validity.{IsEntry, Rise, IsArchive}
+use Rattle.arch_base.specs.Moments.{last_moment}
 use Rattle.arch_model.specs.declared.command.Command.TheVariants.{Deliver}
 use Rattle.arch_model.proofs.Deliveries.{Comes, Refused, Accepted, comes}
-use Rattle.arch_model.proofs.Ends.{not_before}
+use Rattle.arch_model.proofs.ValidArchives.{not_before, archive_grows}
 use Rattle.arch_model.proofs.Following.{follows_itself, follows_with_entry}
-use Rattle.arch_model.proofs.Maps.{bytes_eq-refl}
-use Rattle.arch_model.proofs.Owners.{front_free, collision-free}
+use Rattle.arch_model.proofs.Owners.{bytes_eq-refl, front_free, collision-free}
 use Rattle.arch_model.proofs.TakenTexts.{taken}
-use Rattle.arch_model.proofs.ValidArchives.{archive_grows}
 
 -- Numbers that rise are no more than the range has.
 rise_count : (es : List Entry) (low epoch high : ℕ) → low ≤ high → Rise low epoch es → AllByRecursion (λ (e : Entry). e.number < high) es → low + length es ≤ high

@@ -1,58 +1,9 @@
--- The bytes of an entry, and of an epoch with one more entry.
-use Rattle.std.proofs.Common.{◌≡◌, ℕ, List, [], ◌∷◌, ◌++◌, codes, length, arith, FitsSigned, w16, Option, Some, None, refl, sym, ap, ◌∙◌, append-nil, append_assoc}
-use Rattle.std.specs.Fmt.{decimal}
-use Rattle.std.specs.Prelude.{ℤ, Result, Ok, Err, IfOk}
-use Rattle.std.proofs.lemmas.Int.{ints}
-use Rattle.arch_base.specs.declared.sequence.NoMemory.{NoMemory}
-use Rattle.git_objects.specs.Commits.{IsZone, commit_spelling}
+-- The bytes of an epoch with one more entry.
+use Rattle.std.proofs.Common.{◌≡◌, List, [], ◌∷◌, ◌++◌, Option, Some, None, refl, sym, ap, ◌∙◌, append-nil, append_assoc}
 use Rattle.arch_base.specs.declared.ids.Id20.{Id20}
-use Rattle.git_objects.specs.declared.commits.Commit.{Commit}
-use Rattle.git_objects.specs.CleanText.{clean}
-use Rattle.git_objects.specs.Objects.{blob_spelling, id_of}
-use Rattle.mail_date.specs.declared.moment.Moment.{Moment}
 use Rattle.arch_model.specs.Archives.{Entry}
-use Rattle.arch_model.specs.Facts.{from_fact, email_fact, subject_fact, date_fact}
-use Rattle.arch_model.specs.Commits.{commit_of, written_at}
-use Rattle.arch_model.specs.Epochs.{tree_of, commit_text, commit_id, entry_bytes, entries_bytes, last_commit, magic, message_name, epoch_bytes}
-
--- The commit of what a text says of itself.
-pub commit_of-made : (text : List ℕ) (tree : Id20) (parent : Option Id20) (moment : ℕ) (author email subject : List ℕ) (written : Moment) (zone : ℤ)
-    → author ≡ from_fact text → email ≡ email_fact text → subject ≡ clean (subject_fact text) → written ≡ written_at (date_fact text) moment
-    → zone ≡ written.zone → let made : Commit = record { tree = tree; parent = parent; author = author; email = email; secs = written.secs; zone = zone; committed = moment; subject = subject } in
-    made ≡ commit_of text tree parent moment
-unfolding commit_of
-commit_of-made text tree parent moment author email subject written zone a e s w z = rw (z, a, e, s, w) refl
-
--- The zone of a commit fits in 16 bits.
-pub zone_fits : (zone : ℤ) → IsZone zone → FitsSigned w16 zone
-zone_fits zone h =
-    let low = h.low in
-    let high = h.high in
-    omega (arith, ints)
-
--- The form of the commit of a text.
-pub commit_text-made : (made : Result (List ℕ) NoMemory) (name : ℕ) (text : List ℕ) (moment : ℕ) (parent : Option Id20) (tree : Id20) (commit : Commit) → tree ≡ id_of (tree_of name text)
-    → commit ≡ commit_of text tree parent moment → IfOk made (λ spelled. spelled ≡ commit_spelling commit) → IfOk made (λ spelled. spelled ≡ commit_text name text moment parent)
-unfolding commit_text
-commit_text-made (Ok spelled) name text moment parent tree commit t e h =
-    h ∙ ap commit_spelling (e ∙ ap (λ id. commit_of text id parent moment) t)
-commit_text-made (Err refused) name text moment parent tree commit t e h = tt
-
--- The objects of an entry, its blob's in two parts.
-pub entry_bytes-pieces : (name : ℕ) (text : List ℕ) (moment : ℕ) (parent : Option Id20) (head tree commit : List ℕ)
-    → head ≡ codes "blob " ++ (decimal (length text) ++ 0 ∷ []) → tree ≡ tree_of name text → commit ≡ commit_text name text moment parent
-    → head ++ (text ++ (tree ++ commit)) ≡ entry_bytes name text moment parent
-unfolding entry_bytes
-entry_bytes-pieces name text moment parent head tree commit h t c =
-    let inner : (decimal (length text) ++ 0 ∷ []) ++ (text ++ (tree ++ commit)) ≡ (decimal (length text) ++ 0 ∷ text) ++ (tree ++ commit) =
-    append_assoc (decimal (length text)) (0 ∷ []) (text ++ (tree ++ commit)) ∙ sym (append_assoc (decimal (length text)) (0 ∷ text) (tree ++ commit)) in
-    let blob : head ++ (text ++ (tree ++ commit)) ≡ blob_spelling text ++ (tree ++ commit) = rw h (ap (λ bytes. codes "blob " ++ bytes) inner) in
-    blob ∙ rw (t, c) refl
-
--- The id of the commit of a text.
-pub commit_id-made : (name : ℕ) (text : List ℕ) (moment : ℕ) (parent : Option Id20) (id : Id20) → id ≡ id_of (commit_text name text moment parent) → id ≡ commit_id name text moment parent
-unfolding commit_id
-commit_id-made name text moment parent id h = h
+use Rattle.mail_commits.specs.Entries.{commit_id, entry_bytes, magic, message_name}
+use Rattle.arch_model.specs.Epochs.{entries_bytes, last_commit, epoch_bytes}
 
 -- One more entry after the others.
 pub entries_bytes-push : (parent : Option Id20) (entries : List Entry) (entry : Entry)

@@ -9,10 +9,9 @@ use Rattle.mail_reader.specs.Laws.{StoredOnce, FormsAreShort, FieldInFront, IdLi
 use Rattle.mail_reader.specs.StorageTexts.{IsStorageText}
 use Rattle.mail_reader.specs.Stored.{stored, storage_form, limited, max_len}
 use Rattle.mail_reader.specs.declared.storing.StoredRefusal.TheVariants.{TooLarge}
-use Rattle.arch_model.specs.Archives.{Entry, owner}
+use Rattle.arch_model.specs.Archives.{Entry, owner, IsFree}
 use Rattle.arch_model.specs.Candidates.{met, made_id, with_made, made_choice, choice_from, decided}
 use Rattle.arch_model.specs.Laws.{TakenAreStorage}
-use Rattle.arch_model.specs.Memory.{IsFree}
 use Rattle.arch_model.specs.declared.choice.Meeting.{Meeting}
 use Rattle.arch_model.specs.declared.choice.Meeting.TheVariants.{Free, Same, Other}
 use Rattle.arch_model.specs.declared.choice.Choice.TheVariants.{Take}

@@ -2,9 +2,11 @@
 use Rattle.std.specs.Prelude.{◌≡◌, ◌≢◌, ◌+◌, ◌<◌, ◌≤◌, ℕ, List, [], ◌∷◌, ◌++◌}
 use Rattle.std.specs.List.{AllByRecursion}
 use Rattle.std.proofs.Common.{arith}
+use Rattle.std.proofs.lemmas.Bool.Decides.{nat_tests}
 use Rattle.git_objects.specs.Objects.{blob_id_of}
 use Rattle.mail_reader.specs.Ids.{own_id}
 use Rattle.arch_model.specs.Archives.{Entry, Archive, with_entry}
+use Rattle.arch_model.specs.Delivery.{greater, last_epoch, new_epoch}
 use Rattle.arch_model.specs.Validity.{IsEntry, Rise, IdsDiffer, BlobsAgree, IsArchive}
 
 -- What holds for each of a list and for one more.
@@ -16,6 +18,20 @@ all_behind P (y ∷ ys) x all one = (all.0, all_behind P ys x all.1 one)
 pub all_weaker : {X : Type 0} (P Q : X → Type 0) (xs : List X) → ((x : X) → P x → Q x) → AllByRecursion P xs → AllByRecursion Q xs
 all_weaker P Q [] less all = tt
 all_weaker P Q (x ∷ xs) less all = (less x all.0, all_weaker P Q xs less all.1)
+
+-- No entry has an epoch after the last one.
+pub none_later : (es : List Entry) → AllByRecursion (λ (e : Entry). e.epoch ≤ last_epoch es) es
+none_later [] = tt
+none_later (e ∷ es) = (grind (arith, nat_tests), weaker es (none_later es)) where
+  weaker : (fs : List Entry) → AllByRecursion (λ (f : Entry). f.epoch ≤ last_epoch es) fs → AllByRecursion (λ (f : Entry). f.epoch ≤ greater e.epoch (last_epoch es)) fs
+  weaker [] all = tt
+  weaker (f ∷ fs) all = ((let low : f.epoch ≤ last_epoch es = all.0 in grind (arith, nat_tests)), weaker fs all.1)
+
+-- The epoch of the next entry isn't before that of any other.
+pub not_before : (a : Archive) → AllByRecursion (λ (e : Entry). e.epoch ≤ new_epoch a) a.entries
+not_before a = all_weaker (λ (e : Entry). e.epoch ≤ last_epoch a.entries) (λ (e : Entry). e.epoch ≤ new_epoch a) a.entries (λ e low. later e.epoch low) (none_later a.entries) where
+  later : (epoch : ℕ) → epoch ≤ last_epoch a.entries → epoch ≤ new_epoch a
+  later epoch low = grind arith
 
 -- Numbers still rise, and epochs still don't fall.
 pub rise_more : (number epoch : ℕ) (es : List Entry) (new : Entry) → Rise number epoch es → number ≤ new.number → epoch ≤ new.epoch → AllByRecursion (λ (e : Entry). e.number < new.number) es → AllByRecursion (λ (e : Entry). e.epoch ≤ new.epoch) es → Rise number epoch (es ++ new ∷ [])

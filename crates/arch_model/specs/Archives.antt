@@ -1,8 +1,9 @@
 -- An archive as one list of entries, without files.
-use Rattle.std.specs.Prelude.{◌+◌, ℕ, Bool, false, ◌==◌, List, [], ◌∷◌, ◌++◌, Option, Some, None, if◌then◌else◌}
+use Rattle.std.specs.Prelude.{◌≡◌, ◌+◌, ℕ, Bool, true, false, ◌==◌, List, [], ◌∷◌, ◌++◌, Option, Some, None, if◌then◌else◌}
 use Rattle.std.specs.Str.{bytes_eq}
 use Rattle.std.specs.List.{filter}
 use Rattle.arch_base.specs.declared.config.Config.{Config}
+use Rattle.git_objects.specs.Objects.{blob_id_of}
 use Rattle.mail_reader.specs.Ids.{own_id}
 
 -- A message: its number, its epoch, its text and the moment of its delivery
@@ -47,6 +48,20 @@ abbrev pub owner : List Entry → List ℕ → Option Entry
 owner [] id = None
 owner (e ∷ es) id = if is_id id (own_id e.text) then Some e else owner es id
 
+-- The text has an own id that no entry has.
+abbrev pub IsFree : List Entry → List ℕ → Type 0
+IsFree entries text = (id : List ℕ) × (own_id text ≡ Some id) × (owner entries id ≡ None)
+
+-- The number of the first entry with a blob id.
+abbrev pub blob_number : List Entry → List ℕ → Option ℕ
+blob_number [] blob = None
+blob_number (e ∷ es) blob = if bytes_eq blob (blob_id_of e.text).0 then Some e.number else blob_number es blob
+
 -- The entries of an epoch, in order.
 abbrev pub in_epoch : List Entry → ℕ → List Entry
 in_epoch entries epoch = filter (λ (e : Entry). e.epoch == epoch) entries
+
+-- There is an entry.
+abbrev pub has_entry : List Entry → Bool
+has_entry [] = false
+has_entry (e ∷ es) = true

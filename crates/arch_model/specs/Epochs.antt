@@ -1,30 +1,8 @@
 -- The bytes of an epoch: the objects of its entries, one after another (git, "Git Objects").
-use Rattle.std.specs.Prelude.{◌≡◌, ℕ, List, [], ◌∷◌, ◌++◌, codes, Option, Some, None}
+use Rattle.std.specs.Prelude.{◌≡◌, ℕ, List, [], ◌∷◌, ◌++◌, Option, Some, None}
 use Rattle.arch_base.specs.declared.ids.Id20.{Id20}
-use Rattle.git_objects.specs.Objects.{blob_spelling, tree_spelling, blob_id_of, id_of}
-use Rattle.git_objects.specs.Commits.{commit_spelling}
 use Rattle.arch_model.specs.Archives.{Entry}
-use Rattle.arch_model.specs.Commits.{commit_of}
-
--- The name of the file with a message: `m` (public-inbox-v2-format, "GIT TREE LAYOUT").
-abbrev pub message_name : ℕ
-message_name = 109
-
--- The tree of a text, whose one file with this name has the text.
-abbrev pub tree_of : ℕ → List ℕ → List ℕ
-tree_of name text = tree_spelling name (blob_id_of text)
-
--- The form of the commit that keeps a text under a name, taken at a moment, after a parent or none.
-unfoldable pub commit_text : ℕ → List ℕ → ℕ → Option Id20 → List ℕ
-commit_text name text moment parent = commit_spelling (commit_of text (id_of (tree_of name text)) parent moment)
-
--- The id of that commit.
-unfoldable pub commit_id : ℕ → List ℕ → ℕ → Option Id20 → Id20
-commit_id name text moment parent = id_of (commit_text name text moment parent)
-
--- The bytes of an entry with a name: its blob, its tree and its commit.
-unfoldable pub entry_bytes : ℕ → List ℕ → ℕ → Option Id20 → List ℕ
-entry_bytes name text moment parent = blob_spelling text ++ (tree_of name text ++ commit_text name text moment parent)
+use Rattle.mail_commits.specs.Entries.{message_name, commit_id, entry_bytes, magic}
 
 -- The bytes of messages in order. The parent of each commit is the commit before it.
 abbrev pub entries_bytes : Option Id20 → List Entry → List ℕ
@@ -36,10 +14,6 @@ entries_bytes parent (entry ∷ entries) =
 abbrev pub last_commit : Option Id20 → List Entry → Option Id20
 last_commit parent [] = parent
 last_commit parent (entry ∷ entries) = last_commit (Some (commit_id message_name entry.text entry.moment parent)) entries
-
--- The first bytes of an epoch.
-abbrev pub magic : List ℕ
-magic = codes "PIV2EP1\n"
 
 -- The bytes of an epoch: none without an entry, otherwise the magic and the bytes of its entries,
 -- the first of which has no parent.

@@ -10,7 +10,8 @@ use Rattle.arch_model.specs.Archives.{Archive, owner, text_of}
 use Rattle.arch_model.specs.Candidates.{made_id, with_made, met, choice_of}
 use Rattle.arch_model.specs.Delivery.{delivered, applied}
 use Rattle.arch_model.specs.Following.{Follows}
-use Rattle.arch_model.specs.Validity.{IsArchive, last_moment}
+use Rattle.arch_model.specs.Validity.{IsArchive}
+use Rattle.arch_base.specs.Moments.{last_moment}
 use Rattle.arch_model.specs.declared.answer.Answer.TheVariants as answer
 use Rattle.arch_model.specs.declared.choice.Meeting.{Meeting}
 use Rattle.arch_model.specs.declared.choice.Meeting.TheVariants.{Free, Same, Other}

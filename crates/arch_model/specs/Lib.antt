@@ -1,12 +1,8 @@
 pub mod Archives
 pub mod Candidates
-pub mod Commits
 pub mod Delivery
 pub mod Epochs
-pub mod Facts
 pub mod Following
-pub mod Judging
 pub mod Laws
-pub mod Memory
 pub mod Standing
 pub mod Validity

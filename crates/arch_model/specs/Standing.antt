@@ -2,9 +2,8 @@
 use Rattle.std.specs.Prelude.{◌≡◌, ◌⊎◌, ◌≤◌, ◌<◌, ℕ, Bool, true, false, List, [], ◌∷◌, ◌++◌, Option, Some, None, is_some, Result, Ok, Err}
 use native.Mathlib.Omega.{arith}
 use Rattle.std.specs.List.{Contains}
-use Rattle.arch_model.specs.Archives.{Entry, Archive, text_of}
+use Rattle.arch_model.specs.Archives.{Entry, Archive, text_of, has_entry}
 use Rattle.arch_model.specs.Epochs.{epoch_bytes}
-use Rattle.arch_model.specs.Memory.{has_entry}
 use Rattle.arch_model.specs.Delivery.{Done}
 use Rattle.arch_model.specs.declared.answer.Answer.{Answer}
 use Rattle.arch_model.specs.declared.answer.Answer.TheVariants as answer

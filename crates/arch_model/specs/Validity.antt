@@ -2,15 +2,12 @@
 use Rattle.std.specs.Prelude.{◌≡◌, ◌≢◌, ◌+◌, ◌<◌, ◌≤◌, ℕ, List, [], ◌∷◌}
 use Rattle.std.specs.List.{AllByRecursion}
 use Rattle.arch_base.specs.Configs.{IsConfig}
+use Rattle.arch_base.specs.Moments.{last_moment}
 use Rattle.arch_base.specs.Names.{IsName}
 use Rattle.mail_reader.specs.StorageTexts.{IsStorageText}
 use Rattle.mail_reader.specs.Ids.{own_id}
 use Rattle.git_objects.specs.Objects.{blob_id_of}
 use Rattle.arch_model.specs.Archives.{Entry, Archive}
-
--- The last moment of a commit: the last second of the year 9999.
-abbrev pub last_moment : ℕ
-last_moment = 253402300799
 
 -- An entry keeps a storage text in one of the 64 epochs, at a moment from 1970 to 9999.
 pub record IsEntry (e : Entry) : Type 0 where

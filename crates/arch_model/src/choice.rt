@@ -3,7 +3,7 @@ use arch_base::Bytes;
 
 /// How a candidate id meets the messages that are there.
 #[derive(Clone, Copy, Debug, PartialEq, Eq, Drop)]
-pub(crate) enum Meeting {
+pub enum Meeting {
     /// No message has the id.
     Free,
     /// The message with this number has the id and the same content.
@@ -14,7 +14,7 @@ pub(crate) enum Meeting {
 
 /// What the candidate ids of a message decide.
 #[derive(Debug, Drop)]
-pub(crate) enum Choice {
+pub enum Choice {
     /// The message is kept with this text.
     Take(Bytes),
     /// The message with this number is the same.

@@ -1,5 +1,6 @@
-//! The laws of commands, for every archive, message and moment, and of archives that follow one
-//! another.
+//! The laws of commands, for every archive, message and moment, of archives that follow one another,
+//! and of epochs that grow.
+ghost use Rattle.arch_model.specs.Epochs.{EpochGrows};
 ghost use Rattle.arch_model.specs.Following.{FollowsItself, FollowsThrough, FollowsWithEntry, NumbersStay};
 ghost use Rattle.arch_model.specs.Laws.{CommandFollows, FirstDecides, KeepsNumbers, KeepsValid, StaysNumbered, ShowsDelivered, TakenAreStorage};
 
@@ -63,3 +64,8 @@ pub fn law_of_commands()
 {
     law_of_taken_texts();
 }
+
+/// Shows that one more entry in an epoch appends its bytes, and leaves those before it unchanged.
+pub fn epoch_grows()
+    ensures { EpochGrows }
+{}

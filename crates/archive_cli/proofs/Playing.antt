@@ -6,7 +6,7 @@ use Rattle.std.specs.List.{All}
 use Rattle.std.specs.Option.{is_none}
 use Rattle.edge_io.specs.declared.events.Event.{Event}
 use Rattle.edge_io.specs.Scripts.{Arrival, IsArrival, event_at, piece_at}
-use Rattle.arch_model.specs.Validity.{last_moment}
+use Rattle.arch_base.specs.Moments.{last_moment}
 use Rattle.edge_io.specs.declared.events.What.TheVariants.{Quiet, Stop}
 use Rattle.line_door.specs.Acts.{outside, held_if}
 use Rattle.line_door.specs.Course.{talk, Fed}

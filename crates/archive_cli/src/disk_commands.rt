@@ -4,7 +4,7 @@ ghost use Rattle.arch_base.specs.Configs.{IsConfig};
 ghost use Rattle.arch_base.specs.Counts.{Rose};
 ghost use Rattle.disk_model.specs.Disk.{WhereTold, LeavesOnly};
 ghost use Rattle.arch_model.specs.Archives.{Archive, empty_archive};
-ghost use Rattle.arch_model.specs.Validity.{last_moment};
+ghost use Rattle.arch_base.specs.Moments.{last_moment};
 ghost use Rattle.epoch_store.specs.Files.{as_read};
 ghost use Rattle.epoch_store.specs.First.{MakingLeaves};
 ghost use Rattle.epoch_store.specs.Opens.{AllRecoverOf, ReadsAs, RecoversOf};

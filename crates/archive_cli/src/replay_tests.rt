@@ -7,10 +7,10 @@ use crate::player::CountedKeep;
 use crate::program::play_script;
 use crate::tests::{Run, WORKED, numbers, ran};
 use arch_base::{Config, Name, Numbers};
-use arch_model::MemArchive;
 use archive_core::Engine;
 use disk_model::MemDisk;
 use edge_io::{MemSink, script};
+use mem_archive::MemArchive;
 use std::alloc::Global;
 
 impl CountedKeep for MemArchive {

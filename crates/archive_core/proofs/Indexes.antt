@@ -9,10 +9,10 @@ use Rattle.arch_base.specs.declared.ids.Id20.{Id20}
 use Rattle.mail_reader.specs.Ids.{own_id}
 use Rattle.mail_reader.specs.Content.{content_id_of}
 use Rattle.git_objects.specs.Objects.{blob_id_of}
-use Rattle.arch_model.specs.Archives.{Entry, Archive, owner, is_id}
-use Rattle.arch_model.specs.Memory.{IsIndex, HasSame, blob_number, owner_of, owner_in, number_in}
-use Rattle.arch_model.specs.declared.index.Index.{Index}
-use Rattle.arch_model.specs.declared.kept.Owner.{Owner}
+use Rattle.arch_model.specs.Archives.{Entry, Archive, owner, is_id, blob_number}
+use Rattle.arch_judge.specs.Indexes.{IsIndex, HasSame, owner_of, owner_in, number_in}
+use Rattle.arch_judge.specs.declared.index.Index.{Index}
+use Rattle.arch_judge.specs.declared.index.Owner.{Owner}
 use Rattle.epoch_store.specs.declared.entries.StoredEntry.{StoredEntry}
 use Rattle.epoch_store.specs.Stores.{View, Accepts, AddsEntry, Keeps, stored_at, stored_behind}
 use Rattle.arch_model.specs.Validity.{IsEntry}

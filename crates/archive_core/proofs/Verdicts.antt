@@ -5,11 +5,11 @@ use Rattle.std.proofs.Common.{◌∙◌, sym, ap, subst}
 use Rattle.arch_base.specs.declared.config.Config.{Config}
 use Rattle.mail_reader.specs.Ids.{own_id}
 use Rattle.arch_model.specs.Archives.{Archive}
-use Rattle.arch_model.specs.Judging.{IsKnownBy, MayBeKept, MayTake}
-use Rattle.arch_model.specs.Memory.{owner_in}
-use Rattle.arch_model.specs.declared.index.Index.{Index}
-use Rattle.arch_model.specs.declared.judging.Verdict.{Verdict}
-use Rattle.arch_model.specs.declared.judging.Verdict.TheVariants.{Take, Refuse}
+use Rattle.arch_judge.specs.Judging.{IsKnownBy, MayBeKept, MayTake}
+use Rattle.arch_judge.specs.Indexes.{owner_in}
+use Rattle.arch_judge.specs.declared.index.Index.{Index}
+use Rattle.arch_judge.specs.declared.judging.Verdict.{Verdict}
+use Rattle.arch_judge.specs.declared.judging.Verdict.TheVariants.{Take, Refuse}
 use Rattle.arch_base.specs.declared.ids.Id20.{Id20}
 use Rattle.epoch_store.specs.declared.entries.StoredEntry.{StoredEntry}
 use Rattle.epoch_store.specs.Stores.{View, Accepts, Keeps}

@@ -7,12 +7,12 @@ use Rattle.git_objects.specs.Objects.{blob_id_of}
 use Rattle.arch_base.specs.declared.ids.Id20.{Id20}
 use Rattle.mail_reader.specs.Content.{content_id_of}
 use Rattle.mail_reader.specs.Ids.{own_id}
-use Rattle.arch_model.specs.Memory.{Puts, TakesBack, owner_in, number_in}
-use Rattle.arch_model.specs.Judging.{IsForDelivery}
-use Rattle.arch_model.specs.declared.index.Index.{Index}
-use Rattle.arch_model.specs.declared.judging.Verdict.{Verdict}
-use Rattle.arch_model.specs.declared.judging.Verdict.TheVariants.{Take, Refuse}
-use Rattle.arch_model.specs.declared.kept.Owner.{Owner}
+use Rattle.arch_judge.specs.Indexes.{Puts, TakesBack, owner_in, number_in}
+use Rattle.arch_judge.specs.Judging.{IsForDelivery}
+use Rattle.arch_judge.specs.declared.index.Index.{Index}
+use Rattle.arch_judge.specs.declared.judging.Verdict.{Verdict}
+use Rattle.arch_judge.specs.declared.judging.Verdict.TheVariants.{Take, Refuse}
+use Rattle.arch_judge.specs.declared.index.Owner.{Owner}
 use Rattle.epoch_store.specs.declared.entries.StoredEntry.{StoredEntry}
 use Rattle.epoch_store.specs.Stores.{View, Accepts}
 

@@ -3,9 +3,10 @@
 use crate::tests::{FIRST, FIRST_ID, MOMENT, SECOND, SECOND_ID, accepted, settings};
 use crate::{Engine, NotMade, NotOpened};
 use arch_base::{Bytes, NoMemory, Numbers};
-use arch_model::{Answer, Command, Keep, MemArchive, OpenRefusal};
+use arch_model::{Answer, Command, Keep, OpenRefusal};
 use disk_model::MemDisk;
 use epoch_store::InitRefusal;
+use mem_archive::MemArchive;
 use std::alloc::Global;
 use std::process::Abort;
 use std::test::Fail;

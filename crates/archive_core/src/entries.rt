@@ -1,10 +1,10 @@
 //! The index of the entries that an opened store keeps.
 ghost use Rattle.std.specs.Prelude.{◌≡◌, IfOk, OnOk};
-ghost use Rattle.arch_model.specs.Memory.{Puts};
+ghost use Rattle.arch_judge.specs.Indexes.{Puts};
 ghost use Rattle.archive_core.specs.Kept.{IndexesStored, owner_kept};
 
 use arch_base::NoMemory;
-use arch_model::{Index, Owner};
+use arch_judge::{Index, Owner};
 use epoch_store::StoredEntry;
 use std::alloc::Global;
 

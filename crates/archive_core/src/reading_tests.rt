@@ -4,9 +4,10 @@ ghost use Rattle.std.specs.Prelude.{OnOk};
 use crate::DiskArchive;
 use crate::tests::{FIRST, MOMENT, SECOND, made, put, settings};
 use arch_base::{Bytes, NoMemory, Numbers};
-use arch_model::{Command, MemArchive, TextRefusal};
+use arch_model::{Command, TextRefusal};
 use disk_model::{Disk, MemDisk};
 use epoch_store::InitRefusal;
+use mem_archive::MemArchive;
 use std::alloc::Global;
 use std::test::Fail;
 

@@ -8,9 +8,10 @@ ghost use Rattle.epoch_store.specs.Stores.{HasSizes};
 
 use crate::DiskArchive;
 use arch_base::{Config, Name, Numbers, id_of_hex};
-use arch_model::{Answer, Command, MemArchive, OpenRefusal};
+use arch_model::{Answer, Command, OpenRefusal};
 use disk_model::{Disk, DiskFault, FuseDisk, MemDisk};
 use epoch_store::InitRefusal;
+use mem_archive::MemArchive;
 use std::alloc::Global;
 use std::test::Fail;
 

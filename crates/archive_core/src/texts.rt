@@ -1,11 +1,11 @@
 //! Adds the own id and the blob id of a text to an index, and removes them.
 ghost use Rattle.std.specs.Prelude.{◌≡◌, IsSome, Some, None, IfOk, OnOk, OnErr};
 ghost use Rattle.mail_reader.specs.Ids.{own_id as own_id_in};
-ghost use Rattle.arch_model.specs.Memory.{HasSame, number_in};
+ghost use Rattle.arch_judge.specs.Indexes.{HasSame, number_in};
 ghost use Rattle.archive_core.specs.Kept.{PutsText, TakesBackText};
 
 use arch_base::{NoMemory, ObjectId};
-use arch_model::{Index, Owner};
+use arch_judge::{Index, Owner};
 use mail_reader::{content_id, own_id};
 use std::alloc::Global;
 

@@ -2,7 +2,7 @@
 ghost use Rattle.std.specs.Prelude.{◌≡◌, ◌≤◌, ◌++◌, ℕ, List, length, drop, true, false, Option, Some, None, is_some};
 ghost use Rattle.line_door.specs.Acts.{outside};
 ghost use Rattle.arch_model.specs.Archives.{Archive, text_of};
-ghost use Rattle.arch_model.specs.Validity.{last_moment};
+ghost use Rattle.arch_base.specs.Moments.{last_moment};
 ghost use Rattle.control_door.specs.Requests.{Delivers, Shows, Lists};
 ghost use Rattle.control_door.specs.Sessions.{request_of, StartsWithin, Answers, Opens};
 

@@ -3,7 +3,7 @@ ghost use Rattle.std.specs.Prelude.{◌≡◌, ◌⊎◌, ◌+◌, ◌<◌, ◌�
 ghost use Rattle.line_door.specs.Lines.{front, Whole, content};
 ghost use Rattle.line_door.specs.Acts.{outside, held_if};
 ghost use Rattle.line_door.specs.Course.{talk, Fed};
-ghost use Rattle.arch_model.specs.Validity.{last_moment};
+ghost use Rattle.arch_base.specs.Moments.{last_moment};
 ghost use Rattle.arch_model.specs.Standing.{Standing, Fits};
 ghost use Rattle.control_door.specs.Orders.{order_of};
 ghost use Rattle.control_door.specs.Requests.{line_limit};

@@ -5,8 +5,9 @@ ghost use Rattle.arch_base.specs.Configs.{IsConfig};
 
 use crate::{Order, Session, cut_laws, read_order};
 use arch_base::{Bytes, Config, Name, NoMemory, Numbers};
-use arch_model::{Answer, Command, Keep, MemArchive, OpenRefusal, TextRefusal};
+use arch_model::{Answer, Command, Keep, OpenRefusal, TextRefusal};
 use edge_io::MemSink;
+use mem_archive::MemArchive;
 use std::alloc::Global;
 
 /// A stream, its answers, and whether the connection is then still open.

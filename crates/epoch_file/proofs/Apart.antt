@@ -14,11 +14,11 @@ use Rattle.git_objects.proofs.ObjectIds.{IsId-id_of}
 use Rattle.git_objects.proofs.Splitting.{parted-once}
 use Rattle.git_objects.proofs.Numbers.{NoByte-decimal}
 use Rattle.mail_date.specs.declared.moment.Moment.{Moment}
-use Rattle.arch_model.specs.Facts.{from_fact, email_fact, subject_fact, date_fact}
-use Rattle.arch_model.specs.Commits.{commit_of, written_at}
-use Rattle.arch_model.specs.Epochs.{magic, tree_of}
+use Rattle.mail_commits.specs.Facts.{from_fact, email_fact, subject_fact, date_fact}
+use Rattle.mail_commits.specs.Commits.{commit_of, written_at}
+use Rattle.mail_commits.specs.Entries.{magic, tree_of}
 use Rattle.epoch_file.specs.Entries.{EpochEntry, IsEpochEntry, AreEpochEntries, bytes_behind, commit_behind, chain, EpochsDiffer}
-use Rattle.arch_model.specs.Validity.{last_moment}
+use Rattle.arch_base.specs.Moments.{last_moment}
 use Rattle.epoch_file.proofs.Sizes.{content_behind, objects, headed, length-entry}
 
 -- A number and a space determine the number.

@@ -3,7 +3,7 @@ use Rattle.std.proofs.Common.{◌≡◌, ◌≢◌, ℕ, ◌+◌, ◌-◌, ◌�
 use Rattle.std.proofs.lemmas.List.{append_assoc, append-nil, take_at, take-append-drop, take-append-le, drop_at}
 use Rattle.disk_model.specs.declared.refusal.WalkRefusal.{WalkRefusal}
 use Rattle.disk_model.specs.Disk.{Kept, Content, WhereTold, Told, Unchanged, HasRead, bytes_of}
-use Rattle.arch_model.specs.Epochs.{magic}
+use Rattle.mail_commits.specs.Entries.{magic}
 use Rattle.epoch_file.specs.declared.sight.Sight.TheVariants.{Lacks, Whole}
 use Rattle.epoch_file.specs.declared.state.State.{State}
 use Rattle.epoch_file.specs.declared.window.Part.{Part}

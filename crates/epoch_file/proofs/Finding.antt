@@ -9,13 +9,13 @@ use Rattle.git_objects.specs.Commits.{IsCommit, IsParent, commit_content}
 use Rattle.git_objects.specs.Objects.{id_of}
 use Rattle.git_objects.proofs.ObjectIds.{IsId-id_of}
 use Rattle.mail_reader.specs.StorageTexts.{IsStorageText}
-use Rattle.arch_model.specs.declared.commits.EntryIds.{EntryIds}
-use Rattle.arch_model.specs.Commits.{commit_of}
-use Rattle.arch_model.specs.Epochs.{tree_of, entry_bytes}
+use Rattle.mail_commits.specs.declared.commits.EntryIds.{EntryIds}
+use Rattle.mail_commits.specs.Commits.{commit_of}
+use Rattle.mail_commits.specs.Entries.{tree_of, entry_bytes}
 use Rattle.epoch_file.specs.declared.entry.Seen.{Seen}
 use Rattle.epoch_file.specs.declared.reading.Parts.{Parts}
 use Rattle.epoch_file.specs.Entries.{EpochEntry, IsEpochEntry, bytes_behind}
-use Rattle.arch_model.specs.Validity.{last_moment}
+use Rattle.arch_base.specs.Moments.{last_moment}
 use Rattle.epoch_file.specs.Reading.{IsParted, HasParts, PartsAgain, AreIds, IsRead, Reads, ReadsWhere, seen_by}
 use Rattle.epoch_file.specs.Walking.{seen_at}
 use Rattle.epoch_file.proofs.Kept.{commit_valid, committed-is}

@@ -10,11 +10,11 @@ use Rattle.git_objects.proofs.ObjectIds.{IsId-id_of}
 use Rattle.mail_address.specs.declared.address.Address.{Address}
 use Rattle.mail_date.specs.declared.moment.Moment.{Moment}
 use Rattle.mime_words.specs.Decoding.{decoded}
-use Rattle.arch_model.specs.Facts.{name_or, clean_address, from_of, from_fact, email_of, email_fact, first_mailbox, subject_fact, date_fact}
-use Rattle.arch_model.specs.Commits.{commit_of, written_at}
-use Rattle.arch_model.specs.Epochs.{commit_text, commit_id}
+use Rattle.mail_commits.specs.Facts.{name_or, clean_address, from_of, from_fact, email_of, email_fact, first_mailbox, subject_fact, date_fact}
+use Rattle.mail_commits.specs.Commits.{commit_of, written_at}
+use Rattle.mail_commits.specs.Entries.{commit_text, commit_id}
 use Rattle.epoch_file.specs.Entries.{EpochEntry, commit_behind, last_of}
-use Rattle.arch_model.specs.Validity.{last_moment}
+use Rattle.arch_base.specs.Moments.{last_moment}
 use Rattle.epoch_file.proofs.Zones.{IsNear, date-near}
 
 name_clean : (name address : List ℕ) → IsClean name → IsClean address → IsClean (name_or name address)

@@ -6,7 +6,7 @@ use Rattle.std.proofs.lemmas.Option.{none-some, same_Some}
 use Rattle.arch_base.specs.declared.ids.Id20.{Id20}
 use Rattle.git_objects.specs.Objects.{blob_spelling}
 use Rattle.mail_reader.specs.StorageTexts.{max_text_len}
-use Rattle.arch_model.specs.Epochs.{tree_of}
+use Rattle.mail_commits.specs.Entries.{tree_of}
 use Rattle.epoch_file.specs.declared.sight.Sight.{Sight}
 use Rattle.epoch_file.specs.declared.sight.Sight.TheVariants.{Lacks, Short, Whole}
 use Rattle.epoch_file.specs.Entries.{EpochEntry, bytes_behind}

@@ -6,7 +6,7 @@ use Rattle.arch_base.specs.declared.ids.Id20.{Id20}
 use Rattle.arch_base.specs.Ids.{IsId}
 use Rattle.git_objects.specs.Objects.{CommitOf, HasSize, blob_spelling, tree_spelling, blob_id_of, spelling}
 use Rattle.git_objects.proofs.ObjectIds.{IsId-id_of}
-use Rattle.arch_model.specs.Epochs.{tree_of}
+use Rattle.mail_commits.specs.Entries.{tree_of}
 use Rattle.epoch_file.specs.Entries.{EpochEntry, IsEpochEntry, bytes_behind}
 use Rattle.epoch_file.specs.Walking.{blob_front}
 use Rattle.epoch_file.proofs.Sizes.{content_behind, objects, length-blob, length-tree, length-entry}

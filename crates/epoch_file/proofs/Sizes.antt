@@ -8,8 +8,8 @@ use Rattle.git_objects.specs.Commits.{commit_content}
 use Rattle.git_objects.specs.Objects.{blob_spelling, blob_id_of, id_of}
 use Rattle.git_objects.proofs.Spellings.{length-tree_spelling}
 use Rattle.git_objects.proofs.ObjectIds.{IsId-id_of}
-use Rattle.arch_model.specs.Commits.{commit_of}
-use Rattle.arch_model.specs.Epochs.{tree_of, commit_text, entry_bytes}
+use Rattle.mail_commits.specs.Commits.{commit_of}
+use Rattle.mail_commits.specs.Entries.{tree_of, commit_text, entry_bytes}
 use Rattle.epoch_file.specs.Entries.{EpochEntry, bytes_behind}
 use Rattle.epoch_file.specs.Walking.{blob_front}
 use Rattle.epoch_file.specs.Sights.{commit_place}

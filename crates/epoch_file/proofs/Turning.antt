@@ -5,7 +5,7 @@ use Rattle.std.proofs.Common.{Bool, true, false, leb}
 use Rattle.std.proofs.lemmas.Bool.{cases_lt}
 use Rattle.std.proofs.lemmas.Bool.Decides.{nat_tests}
 use Rattle.arch_base.specs.declared.ids.Id20.{Id20}
-use Rattle.arch_model.specs.Epochs.{magic}
+use Rattle.mail_commits.specs.Entries.{magic}
 use Rattle.epoch_file.specs.declared.entry.Seen.{Seen}
 use Rattle.epoch_file.specs.declared.window.Part.{Part}
 use Rattle.epoch_file.specs.declared.state.State.{State}

@@ -13,7 +13,7 @@ use Rattle.mail_date.specs.Pieces.{number_of, day_of, month_of, year_of, clock_o
 use Rattle.mail_date.specs.Dates.{joined, last_second, seconds_of}
 use Rattle.mail_date.specs.Reading.{is_comment, date_of, date_of_words, is_valid_day, is_valid_time, moment_from, moment_at, moment_in}
 use Rattle.mail_reader.specs.Fields.{FieldText, fields_of, first_named}
-use Rattle.arch_model.specs.Facts.{date_fact}
+use Rattle.mail_commits.specs.Facts.{date_fact}
 use Rattle.std.specs.Prelude.{codes}
 
 -- Minutes below a day, east of UTC.

@@ -4,8 +4,8 @@ use Rattle.std.specs.Prelude.{◌≡◌, ◌<◌, ◌≤◌, ◌^◌, ℕ, true,
 use Rattle.arch_base.specs.declared.ids.Id20.{Id20}
 use Rattle.git_objects.specs.Objects.{is_entry_name}
 use Rattle.mail_reader.specs.StorageTexts.{IsStorageText}
-use Rattle.arch_model.specs.Epochs.{commit_id, entry_bytes, magic}
-use Rattle.arch_model.specs.Validity.{last_moment}
+use Rattle.mail_commits.specs.Entries.{commit_id, entry_bytes, magic}
+use Rattle.arch_base.specs.Moments.{last_moment}
 
 -- An entry: the name of its file, `m` or `d`, the text of that file, and the time of its commit in
 -- seconds since 1970.

@@ -6,9 +6,9 @@ use Rattle.git_objects.specs.Commits.{commit_content, IsParent}
 use Rattle.git_objects.specs.Objects.{blob_id_of, id_of, is_entry_name}
 use Rattle.mail_reader.specs.Content.{content_id_of}
 use Rattle.mail_reader.specs.Ids.{own_id}
-use Rattle.arch_model.specs.declared.commits.EntryIds.{EntryIds}
-use Rattle.arch_model.specs.Commits.{commit_of}
-use Rattle.arch_model.specs.Epochs.{tree_of, commit_id, entry_bytes}
+use Rattle.mail_commits.specs.declared.commits.EntryIds.{EntryIds}
+use Rattle.mail_commits.specs.Commits.{commit_of}
+use Rattle.mail_commits.specs.Entries.{tree_of, commit_id, entry_bytes}
 use Rattle.epoch_file.specs.declared.entry.Seen.{Seen}
 use Rattle.epoch_file.specs.declared.reading.Parts.{Parts}
 use Rattle.epoch_file.specs.Entries.{EpochEntry, IsEpochEntry, bytes_behind}

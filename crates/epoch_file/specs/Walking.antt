@@ -7,7 +7,7 @@ use Rattle.disk_model.specs.declared.refusal.WalkRefusal.TheVariants.{DiskFault,
 use Rattle.git_objects.specs.Objects.{blob_id_of}
 use Rattle.mail_reader.specs.Ids.{own_id}
 use Rattle.mail_reader.specs.Content.{content_id_of}
-use Rattle.arch_model.specs.Epochs.{magic}
+use Rattle.mail_commits.specs.Entries.{magic}
 use Rattle.epoch_file.specs.declared.entry.Seen.{Seen}
 use Rattle.epoch_file.specs.Entries.{EpochEntry, IsEpochEntry, AreEpochEntries, bytes_behind, commit_behind, chain, last_of, epoch_of}
 

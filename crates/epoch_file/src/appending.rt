@@ -4,14 +4,14 @@ ghost use Rattle.arch_base.specs.Counts.{Rose};
 ghost use Rattle.disk_model.specs.Disk.{WhereTold, IsAtMostLength, Elapses};
 ghost use Rattle.git_objects.specs.Objects.{is_entry_name, blob_id_of};
 ghost use Rattle.epoch_file.specs.Entries.{commit_behind};
-ghost use Rattle.arch_model.specs.Validity.{last_moment};
+ghost use Rattle.arch_base.specs.Moments.{last_moment};
 ghost use Rattle.epoch_file.specs.Appending.{appended, entry_of, front_at, written_of, AppendLeaves};
 
 use crate::entry::{NewEntry, Written};
 use crate::refusal::StoreRefusal;
 use arch_base::{Bytes, NoMemory};
-use arch_model::{EntryIds, push_entry};
 use disk_model::{Disk, FileName};
+use mail_commits::{EntryIds, push_entry};
 use std::alloc::Global;
 
 /// The first bytes of an epoch's file.

@@ -5,21 +5,18 @@ ghost use Rattle.arch_base.specs.declared.ids.Id20.{Id20};
 ghost use Rattle.git_objects.specs.declared.commits.Commit.{Commit as CommitRecord};
 ghost use Rattle.git_objects.specs.Commits.{IsCommit, commit_content};
 ghost use Rattle.git_objects.specs.Objects.{CommitOf, HasSize, blob_spelling, is_entry_name, spelling, tree_spelling};
-ghost use Rattle.arch_model.specs.Epochs.{commit_id, entry_bytes};
+ghost use Rattle.mail_commits.specs.Entries.{commit_id, entry_bytes};
 ghost use Rattle.mail_reader.specs.Ids.{own_id as own_id_of};
 ghost use Rattle.epoch_file.specs.Entries.{EpochEntry, IsEpochEntry, bytes_behind};
-ghost use Rattle.arch_model.specs.Validity.{last_moment};
+ghost use Rattle.arch_base.specs.Moments.{last_moment};
 ghost use Rattle.epoch_file.specs.Reading.{IsParted, HasParts, PartsAgain, Respells, Reads, ReadsWhere, seen_by};
 
 use crate::entry::Seen;
-use arch_base::{Bytes, NoMemory, ObjectId};
-use arch_model::{EntryIds, push_entry};
+use arch_base::{Bytes, LAST_MOMENT, NoMemory, ObjectId};
 use git_objects::{Object, read_commit, read_object};
+use mail_commits::{EntryIds, push_entry};
 use mail_reader::{content_id, is_stored, own_id};
 use std::alloc::Global;
-
-/// The last moment of a commit: the last second of the year 9999.
-const LAST_MOMENT: u64 = 253_402_300_799;
 
 /// The three objects at the front of bytes.
 #[derive(Debug, Clone, Copy, Drop)]

@@ -2,9 +2,9 @@
 //! of them, and where they are damaged.
 use crate::{NewEntry, Seen, StoreRefusal, Written, append_entry, law_of_epochs, walk};
 use arch_base::{Bytes, NoMemory, Numbers, ObjectId, id_of_hex};
-use arch_model::push_entry;
 use disk_model::{Disk, DiskFault, FileKind, FileName, FuseDisk, MemDisk, WalkRefusal};
 use git_objects::object_id;
+use mail_commits::push_entry;
 use std::alloc::Global;
 use std::process::Abort;
 use std::test::Fail;

@@ -13,7 +13,8 @@ use Rattle.git_objects.specs.Objects.{blob_id_of}
 use Rattle.mail_reader.specs.Ids.{own_id}
 use Rattle.mail_reader.specs.StorageTexts.{IsStorageText}
 use Rattle.arch_model.specs.Archives.{Entry, Archive, with_entry, in_epoch}
-use Rattle.arch_model.specs.Epochs.{entry_bytes, last_commit}
+use Rattle.mail_commits.specs.Entries.{entry_bytes}
+use Rattle.arch_model.specs.Epochs.{last_commit}
 use Rattle.number_map.specs.Records.{record_bytes}
 use Rattle.epoch_file.specs.Entries.{bytes_behind}
 use Rattle.epoch_file.specs.declared.entry.NewEntry.{NewEntry}
@@ -30,13 +31,13 @@ use Rattle.epoch_store.specs.declared.next.NextPlace.{NextPlace}
 use Rattle.epoch_store.specs.declared.putting.Part.{Part}
 use Rattle.epoch_store.specs.Files.{map_name, epoch_name, map_file_of, epoch_file_of, StandsFor, IsOn}
 use Rattle.epoch_store.specs.TwoFiles.{Appending, AreAppended}
-use Rattle.arch_model.specs.Validity.{IsEntry, IsArchive, last_moment}
+use Rattle.arch_model.specs.Validity.{IsEntry, IsArchive}
+use Rattle.arch_base.specs.Moments.{last_moment}
 use Rattle.epoch_store.specs.Recovery.{record_for, map_bytes, bytes_in, Names}
 use Rattle.epoch_store.specs.Stores.{View, in_file, stored_at, stored_behind, Keeps, IsStoreOf, RecoversEither, Accepts, IsNextPlace, next_sequence, place_of, root_after, IsMessage, HasSizes}
 use Rattle.epoch_store.proofs.Appends.{nat_eq_or_not, epoch_isnt_root, map_isnt_root, epoch_isnt_map, Grows, map_part, appending_stands, Follows, committing, is_on}
-use Rattle.arch_model.proofs.ValidArchives.{archive_grows}
+use Rattle.arch_model.proofs.ValidArchives.{archive_grows, not_before}
 use Rattle.epoch_store.proofs.Growing.{map_grows, bytes_here, bytes_other, stored_more}
-use Rattle.arch_model.proofs.Ends.{not_before}
 use Rattle.epoch_store.proofs.Mapped.{map_length}
 
 -- An entry has some bytes.

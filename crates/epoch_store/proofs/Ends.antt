@@ -7,16 +7,16 @@ use Rattle.std.proofs.lemmas.Bool.Decides.{nat_tests}
 use Rattle.arch_base.specs.declared.ids.Id20.{Id20}
 use Rattle.arch_model.specs.Archives.{Entry, Archive, in_epoch}
 use Rattle.arch_model.specs.Delivery.{greater, last_epoch, takes_more, new_epoch}
-use Rattle.arch_model.specs.Epochs.{last_commit, message_name, commit_id}
+use Rattle.arch_model.specs.Epochs.{last_commit}
+use Rattle.mail_commits.specs.Entries.{message_name, commit_id}
 use Rattle.arch_base.specs.declared.config.Config.{Config}
 use Rattle.root_slots.specs.Valid.{no_place}
 use Rattle.epoch_store.specs.declared.entries.StoredEntry.{StoredEntry}
 use Rattle.epoch_store.specs.declared.next.End.{End}
 use Rattle.arch_model.specs.Validity.{Rise}
-use Rattle.arch_model.proofs.Ends.{none_later}
+use Rattle.arch_model.proofs.ValidArchives.{none_later, all_weaker}
 use Rattle.epoch_store.specs.Recovery.{bytes_in}
 use Rattle.epoch_store.specs.Stores.{View, Keeps, IsEnd, IsNextPlace, next_sequence, place_of, stored_at, stored_behind}
-use Rattle.arch_model.proofs.ValidArchives.{all_weaker}
 use Rattle.epoch_store.proofs.Growing.{in_epoch-here, stored_more}
 
 -- A list is empty, or some items and a last one.

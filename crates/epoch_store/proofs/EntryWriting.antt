@@ -16,7 +16,7 @@ use Rattle.root_slots.specs.Slots.{IsOldOrNew, Ready, sequence_of}
 use Rattle.root_slots.specs.Sizes.{sequence-spelling}
 use Rattle.root_slots.specs.Spelling.{spelling}
 use Rattle.arch_model.specs.Archives.{Archive}
-use Rattle.arch_model.specs.Validity.{last_moment}
+use Rattle.arch_base.specs.Moments.{last_moment}
 use Rattle.epoch_store.specs.declared.entries.StoredEntry.{StoredEntry}
 use Rattle.epoch_store.specs.declared.next.NextPlace.{NextPlace}
 use Rattle.epoch_store.specs.declared.putting.Part.{Part}

@@ -8,7 +8,8 @@ use Rattle.std.proofs.lemmas.Grind.{flat_map-append}
 use Rattle.std.proofs.lemmas.Bool.Decides.{nat_tests}
 use Rattle.arch_base.specs.declared.ids.Id20.{Id20}
 use Rattle.arch_model.specs.Archives.{Entry, Archive, in_epoch}
-use Rattle.arch_model.specs.Epochs.{epoch_bytes, entries_bytes, last_commit, magic, message_name, entry_bytes, commit_id}
+use Rattle.arch_model.specs.Epochs.{epoch_bytes, entries_bytes, last_commit}
+use Rattle.mail_commits.specs.Entries.{magic, message_name, entry_bytes, commit_id}
 use Rattle.number_map.specs.declared.line.Record.{Record}
 use Rattle.number_map.specs.Records.{record_bytes}
 use Rattle.epoch_file.specs.Entries.{bytes_behind}

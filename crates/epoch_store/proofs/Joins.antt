@@ -10,7 +10,8 @@ use Rattle.std.proofs.lemmas.Bool.Decides.{nat_tests}
 use Rattle.arch_base.specs.declared.ids.Id20.{Id20}
 use Rattle.git_objects.specs.Objects.{blob_id_of}
 use Rattle.arch_model.specs.Archives.{Entry, in_epoch}
-use Rattle.arch_model.specs.Epochs.{entries_bytes, last_commit, message_name, entry_bytes, commit_id}
+use Rattle.arch_model.specs.Epochs.{entries_bytes, last_commit}
+use Rattle.mail_commits.specs.Entries.{message_name, entry_bytes, commit_id}
 use Rattle.number_map.specs.declared.line.Record.{Record}
 use Rattle.epoch_file.specs.declared.entry.Seen.{Seen}
 use Rattle.epoch_file.specs.Entries.{EpochEntry, IsEpochEntry, AreEpochEntries, bytes_behind, commit_behind}

@@ -9,7 +9,8 @@ use borrow.Author.Count.{below_more}
 use Rattle.arch_base.specs.declared.ids.Id20.{Id20}
 use Rattle.disk_model.specs.Disk.{Files, File, bytes_of}
 use Rattle.arch_model.specs.Archives.{Entry, in_epoch}
-use Rattle.arch_model.specs.Epochs.{magic, epoch_bytes, entries_bytes, last_commit, message_name, commit_id}
+use Rattle.mail_commits.specs.Entries.{magic, message_name, commit_id}
+use Rattle.arch_model.specs.Epochs.{epoch_bytes, entries_bytes, last_commit}
 use Rattle.number_map.specs.declared.line.Record.{Record}
 use Rattle.epoch_file.specs.declared.entry.Seen.{Seen}
 use Rattle.epoch_file.specs.Entries.{EntriesDiffer, EpochEntry, IsEpochEntry, AreEpochEntries, bytes_behind, commit_behind, chain, last_of, epoch_of}
@@ -116,7 +117,7 @@ empty_whole root files epoch others whole none =
 
 -- An entry has a byte.
 pub entry_some : (parent : Option Id20) (e : EpochEntry) → bytes_behind parent e ≢ []
-unfolding Rattle.arch_model.specs.Epochs.entry_bytes
+unfolding Rattle.mail_commits.specs.Entries.entry_bytes
 entry_some parent e is = absurd (cc)
 
 -- An epoch in which a walk ended early, and whose entries up to there were all joined, is damaged

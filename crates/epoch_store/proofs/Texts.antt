@@ -12,7 +12,8 @@ use Rattle.arch_base.specs.declared.ids.Id20.{Id20}
 use Rattle.disk_model.specs.Disk.{Content, File, bytes_of}
 use Rattle.git_objects.specs.Objects.{blob_id_of}
 use Rattle.arch_model.specs.Archives.{Entry, Archive, in_epoch}
-use Rattle.arch_model.specs.Epochs.{epoch_bytes, entries_bytes, entry_bytes, tree_of, commit_text, last_commit, magic, message_name, commit_id}
+use Rattle.arch_model.specs.Epochs.{epoch_bytes, entries_bytes, last_commit}
+use Rattle.mail_commits.specs.Entries.{entry_bytes, tree_of, commit_text, magic, message_name, commit_id}
 use Rattle.epoch_file.specs.Entries.{bytes_behind}
 use Rattle.epoch_file.specs.Walking.{blob_front}
 use Rattle.epoch_store.specs.declared.entries.StoredEntry.{StoredEntry}

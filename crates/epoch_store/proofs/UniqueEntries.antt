@@ -6,7 +6,8 @@ use Rattle.std.proofs.lemmas.Bool.{cases_lt}
 use Rattle.std.proofs.lemmas.Bool.Decides.{nat_tests}
 use Rattle.arch_base.specs.declared.ids.Id20.{Id20}
 use Rattle.arch_model.specs.Archives.{Entry, in_epoch}
-use Rattle.arch_model.specs.Epochs.{epoch_bytes, entries_bytes, magic}
+use Rattle.arch_model.specs.Epochs.{epoch_bytes, entries_bytes}
+use Rattle.mail_commits.specs.Entries.{magic}
 use Rattle.number_map.specs.declared.line.Record.{Record}
 use Rattle.epoch_file.specs.Entries.{EpochEntry, AreEpochEntries, bytes_behind, commit_behind, chain, epoch_of, EpochsDiffer}
 use Rattle.arch_model.specs.Validity.{IsEntry, Rise}

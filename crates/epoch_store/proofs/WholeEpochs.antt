@@ -6,9 +6,9 @@ use Rattle.std.proofs.lemmas.List.{append-nil}
 use Rattle.std.proofs.lemmas.Bool.Decides.{nat_tests}
 use Rattle.disk_model.specs.declared.name.FileName.{FileName}
 use Rattle.disk_model.specs.Disk.{Content, WhereTold, bytes_of}
-use Rattle.arch_model.specs.Archives.{Entry, Archive, in_epoch}
-use Rattle.arch_model.specs.Epochs.{epoch_bytes, entries_bytes, magic}
-use Rattle.arch_model.specs.Memory.{has_entry}
+use Rattle.arch_model.specs.Archives.{Entry, Archive, in_epoch, has_entry}
+use Rattle.arch_model.specs.Epochs.{epoch_bytes, entries_bytes}
+use Rattle.mail_commits.specs.Entries.{magic}
 use Rattle.arch_model.specs.Standing.{GivesEpochIn}
 use Rattle.arch_model.specs.Validity.{IsEntry}
 use Rattle.root_slots.specs.Valid.{no_place}

@@ -5,7 +5,8 @@ use Rattle.std.specs.List.{AllByRecursion, filter}
 use Rattle.disk_model.specs.Disk.{Files, bytes_of}
 use Rattle.git_objects.specs.Objects.{blob_id_of}
 use Rattle.arch_model.specs.Archives.{Entry, in_epoch}
-use Rattle.arch_model.specs.Epochs.{magic, epoch_bytes, entries_bytes, last_commit}
+use Rattle.mail_commits.specs.Entries.{magic}
+use Rattle.arch_model.specs.Epochs.{epoch_bytes, entries_bytes, last_commit}
 use Rattle.number_map.specs.declared.line.Record.{Record}
 use Rattle.epoch_file.specs.Entries.{bytes_behind}
 use Rattle.epoch_file.specs.Walking.{LacksMagic}

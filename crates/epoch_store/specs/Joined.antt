@@ -5,7 +5,8 @@ use Rattle.std.specs.Str.{bytes_eq}
 use Rattle.std.specs.Global.{Vec}
 use Rattle.std.specs.BTreeSet.{BTreeSet}
 use Rattle.arch_model.specs.Archives.{Entry}
-use Rattle.arch_model.specs.Epochs.{entries_bytes, message_name}
+use Rattle.arch_model.specs.Epochs.{entries_bytes}
+use Rattle.mail_commits.specs.Entries.{message_name}
 use Rattle.number_map.specs.declared.line.Record.{Record}
 use Rattle.number_map.specs.Records.{AreRecordsFrom}
 use Rattle.epoch_file.specs.declared.entry.Seen.{Seen}

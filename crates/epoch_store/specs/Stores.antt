@@ -8,7 +8,8 @@ use Rattle.mail_reader.specs.Ids.{own_id}
 use Rattle.git_objects.specs.Objects.{blob_id_of}
 use Rattle.arch_model.specs.Archives.{Entry, Archive, with_entry, in_epoch}
 use Rattle.arch_model.specs.Delivery.{last_epoch, new_epoch}
-use Rattle.arch_model.specs.Epochs.{entries_bytes, last_commit, message_name}
+use Rattle.arch_model.specs.Epochs.{entries_bytes, last_commit}
+use Rattle.mail_commits.specs.Entries.{message_name}
 use Rattle.epoch_file.specs.declared.entry.NewEntry.{NewEntry}
 use Rattle.epoch_file.specs.Entries.{EpochEntry}
 use Rattle.epoch_file.specs.Walking.{seen_at}

@@ -3,7 +3,7 @@ ghost use Rattle.std.specs.Prelude.{◌≡◌, ◌≢◌, ◌≤◌, ◌<◌, �
 ghost use Rattle.arch_base.specs.Counts.{Rose};
 ghost use Rattle.disk_model.specs.Disk.{Told, WhereTold, IsAtMostLength, LeavesOnly};
 ghost use Rattle.git_objects.specs.Objects.{is_entry_name};
-ghost use Rattle.arch_model.specs.Validity.{last_moment};
+ghost use Rattle.arch_base.specs.Moments.{last_moment};
 ghost use Rattle.epoch_file.specs.Appending.{appended, written_of};
 ghost use Rattle.number_map.specs.Records.{record_bytes};
 ghost use Rattle.epoch_store.specs.Files.{map_name, epoch_name};

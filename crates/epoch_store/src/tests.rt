@@ -8,11 +8,12 @@ ghost use Rattle.epoch_store.specs.Stores.{Accepts, HasSizes};
 
 use crate::{InitRefusal, Store, StoredEntry};
 use arch_base::{Bytes, Config, Name, NoMemory, Numbers, id_of_hex};
-use arch_model::{Command, MemArchive, TextRefusal};
+use arch_model::{Command, TextRefusal};
 use disk_model::{Disk, DiskFault, FileKind, FileName, FuseDisk, MemDisk};
 use epoch_file::StoreRefusal;
 use git_objects::blob_id;
 use mail_reader::{is_stored, own_id};
+use mem_archive::MemArchive;
 use std::alloc::Global;
 use std::process::Abort;
 use std::test::Fail;

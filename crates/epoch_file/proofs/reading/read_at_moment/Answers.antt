@@ -1,5 +1,5 @@
 use Rattle.std.proofs.Common.{Option, Ok, subst, rules, tests}
-use Rattle.arch_model.specs.declared.commits.EntryIds.{EntryIds}
+use Rattle.mail_commits.specs.declared.commits.EntryIds.{EntryIds}
 use Rattle.mail_reader.specs.StorageTexts.{IsStorageText}
 use Rattle.epoch_file.specs.Reading.{Respells}
 use Rattle.epoch_file.proofs.Finding.{reads-entry}

@@ -1,0 +1,113 @@
+-- What the candidate ids decide over an index, and in each archive of that index.
+use Rattle.std.specs.Prelude.{◌≡◌, ◌+◌, ◌^◌, ◌<◌, ◌≤◌, ℕ, Bool, true, false, List, [], ◌++◌, length, Option, Some, None, option_map, IsSome, refl, if◌then◌else◌}
+use Rattle.std.specs.Str.{bytes_eq}
+use Rattle.std.proofs.Common.{◌∙◌, sym, ap, subst, arith}
+use Rattle.arch_base.specs.Names.{IsName}
+use Rattle.arch_base.specs.declared.config.Config.{Config}
+use Rattle.arch_base.specs.declared.ids.Id20.{Id20}
+use Rattle.hex.specs.Hex.{encode_lower}
+use Rattle.git_objects.specs.Objects.{id_of}
+use Rattle.mail_reader.specs.Content.{content_id_of}
+use Rattle.mail_reader.specs.Ids.{own_id}
+use Rattle.mail_reader.specs.Laws.{id_line}
+use Rattle.arch_model.specs.Archives.{Entry, Archive, owner}
+use Rattle.arch_model.specs.Candidates.{id_with, made_id, with_made, met}
+use Rattle.arch_judge.specs.Judging.{IsKnownBy, IsNewText, IsStored, TakesNewText}
+use Rattle.arch_model.specs.Laws.{TakenAreStorage}
+use Rattle.arch_judge.specs.Indexes.{met_in, owner_in, owner_of}
+use Rattle.arch_model.specs.declared.choice.Choice.{Choice}
+use Rattle.arch_model.specs.declared.choice.Choice.TheVariants.{Take, Repeat}
+use Rattle.arch_model.specs.declared.choice.Meeting.{Meeting}
+use Rattle.arch_model.specs.declared.choice.Meeting.TheVariants.{Free, Same, Other}
+use Rattle.arch_judge.specs.declared.index.Index.{Index}
+use Rattle.arch_judge.specs.declared.index.Owner.{Owner}
+use Rattle.arch_model.proofs.Candidates.{Passed, all_made, meets, passed-none, passed-more, passed-same, passed-free, not-all-passed}
+use Rattle.arch_model.proofs.MadeIds.{made-own}
+
+-- A candidate meets an archive as it meets an index of it.
+pub met_known : (found : Option Owner) (own : Option Entry) (content : List ℕ) → found ≡ option_map owner_of own → met_in found content ≡ met own content
+met_known found None content is = ap (λ (o : Option Owner). met_in o content) is
+met_known found (Some e) content is = ap (λ (o : Option Owner). met_in o content) is
+
+-- No message has a candidate that is free.
+pub free_in : (found : Option Owner) (content : List ℕ) → met_in found content ≡ Free → found ≡ None
+free_in None content is = refl
+free_in (Some message) content is = absurd (met_step (bytes_eq message.content content) message.number is) where
+  met_step : (t : Bool) (n : ℕ) → (if t then Same n else Other) ≡ Free → ⊥
+  met_step true n h = absurd (cc)
+  met_step false n h = absurd (cc)
+
+-- How the made id of a count meets an index.
+abbrev pub asked : Index → List ℕ → List ℕ → ℕ → Meeting
+asked index name text i = met_in (owner_in index.owners (made_id name text i)) (content_id_of text)
+
+-- The id that is looked up is the made id: digits, a count and a name.
+pub is_made : (id digits name text own : List ℕ) (i : ℕ) (object : Id20) → id ≡ id_with digits i name → digits ≡ encode_lower object.0 → object ≡ id_of text → name ≡ own → id ≡ made_id own text i
+is_made id digits name text own i object is digits_is object_is name_is =
+    is ∙ (ap (λ (d : List ℕ). id_with d i name) (digits_is ∙ ap (λ (o : Id20). encode_lower o.0) object_is) ∙ ap (λ (n : List ℕ). made_id n text i) name_is)
+
+pub is_asked : (index : Index) (id name text content : List ℕ) (i : ℕ) (m : Meeting) → m ≡ met_in (owner_in index.owners id) content → id ≡ made_id name text i → content ≡ content_id_of text → asked index name text i ≡ m
+is_asked index id name text content i m is id_is content_is =
+    sym (is ∙ ap (λ (q : List ℕ). met_in (owner_in index.owners q) content) id_is ∙ ap (met_in (owner_in index.owners (made_id name text i))) content_is)
+
+-- The made ids before this count are skipped in each archive with these settings and messages.
+abbrev pub PassedIn : Config → Index → ℕ → List ℕ → ℕ → Type 0
+PassedIn config index count text i = (a : Archive) → IsKnownBy config index count a.next a → Passed a text i
+
+module _ (config : Config) (index : Index) (count : ℕ) (text : List ℕ) where
+  meets_known : (a : Archive) (i : ℕ) (m : Meeting) → IsKnownBy config index count a.next a → asked index config.name text i ≡ m → meets a text i ≡ m
+  meets_known a i m known is =
+      let name : config.name ≡ a.config.name = sym (ap (λ (c : Config). c.name) known.config_is) in
+      let id = made_id a.config.name text i in
+      sym (met_known (owner_in index.owners id) (owner a.entries id) (content_id_of text) (known.indexed.owners id)) ∙ (ap (λ (n : List ℕ). asked index n text i) (sym name) ∙ is)
+
+  within : (a : Archive) (i : ℕ) → IsKnownBy config index count a.next a → i ≤ count → i ≤ length a.entries
+  within a i known low = omega (arith, known.count_is, low)
+
+  pub begins : PassedIn config index count text 0
+  begins a known = passed-none a text
+
+  pub goes_on : (i : ℕ) → i ≤ count → i < 2 ^ 64 → PassedIn config index count text i → asked index config.name text i ≡ Other → PassedIn config index count text (i + 1)
+  goes_on i low small passed is a known = passed-more a text i (within a i known low) small (passed a known) (meets_known a i Other known is)
+
+  -- What was found is what the made ids decide in each of these archives.
+  abbrev pub IsMade : Option Choice → Type 0
+  IsMade found = (a : Archive) → IsKnownBy config index count a.next a → found ≡ Some (all_made a text)
+
+  pub repeats : (i n : ℕ) → i ≤ count → i < 2 ^ 64 → PassedIn config index count text i → asked index config.name text i ≡ Same n → IsMade (Some (Repeat n))
+  repeats i n low small passed is a known = ap Some (passed-same a text i n (within a i known low) small (passed a known) (meets_known a i (Same n) known is))
+
+  pub takes : (i : ℕ) (choice : Choice) (id : List ℕ) → i ≤ count → PassedIn config index count text i → asked index config.name text i ≡ Free → id ≡ made_id config.name text i
+      → choice ≡ Take (id_line id ++ text) → IsMade (Some choice)
+  takes i choice id low passed is id_is choice_is a known =
+      ap Some
+      (choice_is
+      ∙ (ap (λ (q : List ℕ). Take (id_line q ++ text)) id_is
+      ∙ (ap (λ (c : Config). Take (with_made c.name text i)) (sym known.config_is) ∙ passed-free a text i (within a i known low) (passed a known) (meets_known a i Free known is))))
+
+  -- There is always a made id that isn't skipped.
+  pub none_left : (i : ℕ) → count < i → count < 2 ^ 64 → PassedIn config index count text i → IsMade None
+  none_left i over small passed a known = let count_is = known.count_is in absurd (not-all-passed a text i (omega (arith, over, count_is)) (omega (arith, small, count_is)) (passed a known))
+
+-- An own id that the index doesn't have is new.
+new_by : (index : Index) (text own : List ℕ) → own_id text ≡ Some own → owner_in index.owners own ≡ None → (id : List ℕ) → own_id text ≡ Some id → owner_in index.owners id ≡ None
+new_by index text own own_is none id is =
+    let same : own ≡ id = (let both : Some own ≡ Some id = sym own_is ∙ is in cc) in
+    subst (λ (q : List ℕ). owner_in index.owners q ≡ None) same none
+
+-- A text with a free made id at the front is new.
+pub made_new : TakenAreStorage → (index : Index) (name text id : List ℕ) (i : ℕ) (choice : Choice) → IsName name → IsStored text → i < 2 ^ 64 → asked index name text i ≡ Free → id ≡ made_id name text i
+    → choice ≡ Take (id_line id ++ text) → TakesNewText index choice
+made_new law index name text id i choice is_name from small free id_is choice_is =
+    subst (TakesNewText index) (sym (choice_is ∙ ap (λ (q : List ℕ). Take (id_line q ++ text)) id_is))
+    (let new : IsNewText index (with_made name text i) = record {
+      storage = (law name from.0 text from.1).1 is_name i small;
+      new_id = new_by index (with_made name text i) (made_id name text i) (made-own name text i is_name small) (free_in (owner_in index.owners (made_id name text i)) (content_id_of text) free);
+    } in new)
+
+-- A text whose own id is free is new as it is.
+pub own_new : TakenAreStorage → (index : Index) (text id content : List ℕ) → IsStored text → own_id text ≡ Some id → met_in (owner_in index.owners id) content ≡ Free → IsNewText index text
+own_new law index text id content from own free = record {
+  storage = (law [] from.0 text from.1).0 (subst (λ (o : Option (List ℕ)). IsSome o) (sym own) refl);
+  new_id = new_by index text id own (free_in (owner_in index.owners id) content free);
+}

@@ -1,0 +1,72 @@
+-- An index after one more message, and what it tells of the messages.
+use Rattle.std.proofs.Common.{◌≡◌, ℕ, Bool, true, false, List, [], ◌∷◌, ◌++◌, Option, Some, None, option_map, refl, sym, ◌∙◌, ap, subst, if◌then◌else◌}
+use Rattle.std.specs.Str.{bytes_eq}
+use Rattle.std.proofs.lemmas.Slice.Eq.{bytes_eq-Decides}
+use Rattle.arch_base.specs.declared.ids.Id20.{Id20}
+use Rattle.mail_reader.specs.Ids.{own_id}
+use Rattle.git_objects.specs.Objects.{blob_id_of}
+use Rattle.arch_model.specs.Archives.{Entry, owner, is_id, blob_number}
+use Rattle.arch_judge.specs.Indexes.{IsIndex, Puts, HasSame, owner_of, owner_in}
+use Rattle.arch_judge.specs.declared.index.Index.{Index}
+use Rattle.arch_judge.specs.declared.index.Owner.{Owner}
+
+-- The first of two options that is Some.
+abbrev pub first_found : {X : Type 0} → Option X → Option X → Option X
+first_found None other = other
+first_found (Some x) other = Some x
+
+found_step : {X : Type 0} (t : Bool) (x : X) (a b all : Option X) → all ≡ first_found a b → (if t then Some x else all) ≡ first_found (if t then Some x else a) b
+found_step true x a b all ih = refl
+found_step false x a b all ih = ih
+
+pub owner-push : (es : List Entry) (e : Entry) (q : List ℕ) → owner (es ++ e ∷ []) q ≡ first_found (owner es q) (if is_id q (own_id e.text) then Some e else None)
+owner-push [] e q = refl
+owner-push (x ∷ es) e q = found_step (is_id q (own_id x.text)) x (owner es q) (if is_id q (own_id e.text) then Some e else None) (owner (es ++ e ∷ []) q) (owner-push es e q)
+
+pub blob_number-push : (es : List Entry) (e : Entry) (q : List ℕ) → blob_number (es ++ e ∷ []) q ≡ first_found (blob_number es q) (if bytes_eq q (blob_id_of e.text).0 then Some e.number else None)
+blob_number-push [] e q = refl
+blob_number-push (x ∷ es) e q = found_step (bytes_eq q (blob_id_of x.text).0) x.number (blob_number es q) (if bytes_eq q (blob_id_of e.text).0 then Some e.number else None) (blob_number (es ++ e ∷ []) q) (blob_number-push es e q)
+
+put_step : {X Y : Type 0} (f : X → Y) (t u : Bool) (x : X) (found : Option X) (y : Y) → f x ≡ y → t ≡ u → (u ≡ true → found ≡ None) → (if t then Some y else option_map f found) ≡ option_map f (first_found found (if u then Some x else None))
+put_step f true true x found y is same none = rw (none refl) (ap Some (sym is))
+put_step f true false x found y is same none = absurd (cc)
+put_step f false true x found y is same none = absurd (cc)
+put_step f false false x None y is same none = refl
+put_step f false false x (Some z) y is same none = refl
+
+number_step : (t u : Bool) (n : ℕ) (found : Option ℕ) → t ≡ u → (u ≡ true → found ≡ None) → (if t then Some n else found) ≡ first_found found (if u then Some n else None)
+number_step true true n found same none = rw (none refl) refl
+number_step true false n found same none = absurd (cc)
+number_step false true n found same none = absurd (cc)
+number_step false false n None same none = refl
+number_step false false n (Some z) same none = refl
+
+-- An index with one more message is the index of one more entry.
+pub IsIndex-push : (es : List Entry) (e : Entry) (old new : Index) (id : List ℕ) (blob : Id20) (message : Owner) → IsIndex es old → Puts old new id blob message → owner_of e ≡ message → own_id e.text ≡ Some id → owner es id ≡ None
+    → blob ≡ blob_id_of e.text → blob_number es blob.0 ≡ None → IsIndex (es ++ e ∷ []) new
+IsIndex-push es e old new id blob message is puts known own free blob_is unseen = record {
+  owners = λ q.
+      puts.owners q
+      ∙ ap (λ (f : Option Owner). if bytes_eq q id then Some message else f) (is.owners q)
+      ∙ put_step owner_of (bytes_eq q id) (is_id q (own_id e.text)) e (owner es q) message known (sym (ap (is_id q) own))
+      (λ yes. subst (λ (i : List ℕ). owner es i ≡ None) (sym ((bytes_eq-Decides q id).0 (ap (is_id q) (sym own) ∙ yes))) free)
+      ∙ ap (option_map owner_of) (sym (owner-push es e q));
+  blobs = λ q.
+      puts.blobs q
+      ∙ ap (λ (f : Option ℕ). if bytes_eq q blob.0 then Some message.number else f) (is.blobs q)
+      ∙ ap (λ (n : ℕ). if bytes_eq q blob.0 then Some n else blob_number es q) (sym (ap (λ (o : Owner). o.number) known))
+      ∙ number_step (bytes_eq q blob.0) (bytes_eq q (blob_id_of e.text).0) e.number (blob_number es q) (ap (λ (i : Id20). bytes_eq q i.0) blob_is)
+      (λ yes. subst (λ (i : List ℕ). blob_number es i ≡ None) (sym ((bytes_eq-Decides q blob.0).0 (ap (λ (i : Id20). bytes_eq q i.0) blob_is ∙ yes))) unseen)
+      ∙ sym (blob_number-push es e q);
+}
+
+-- An index with the same content is an index of the same entries.
+pub IsIndex-same : (es : List Entry) (old new : Index) → IsIndex es old → HasSame old new → IsIndex es new
+IsIndex-same es old new is same = record { owners = λ q. same.owners q ∙ is.owners q; blobs = λ q. same.blobs q ∙ is.blobs q }
+
+-- If an index has no message with an id, no entry has that own id.
+pub unowned : (es : List Entry) (index : Index) (id : List ℕ) → IsIndex es index → owner_in index.owners id ≡ None → owner es id ≡ None
+unowned es index id is none = empty (owner es id) (sym (is.owners id) ∙ none) where
+  empty : (o : Option Entry) → option_map owner_of o ≡ None → o ≡ None
+  empty None h = refl
+  empty (Some e) h = absurd (cc)

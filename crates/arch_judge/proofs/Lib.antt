@@ -1,0 +1,4 @@
+mod Maps
+pub mod Indexes
+mod Choosing
+mod Judged

@@ -1,0 +1,20 @@
+use Rattle.std.proofs.Common.{ℕ, List, ap}
+use Rattle.std.specs.Global.{Vec}
+use Rattle.std.specs.Map.{lookup}
+use Rattle.std.specs.BTreeMap.{is_at}
+use Rattle.std.specs.Cmp.Lexicographic.{slice_cmp}
+use Rattle.std.specs.Ordering.{nat_cmp}
+use Rattle.arch_judge.proofs.Maps.{found_behind, taken_back}
+use Rattle.arch_judge.proofs.index.Index.insert.Goals as goal
+
+pub returns-in-Err-clause-err : goal.returns-in-Err-clause-err
+returns-in-Err-clause-err c = record {
+  owners = λ q. ap (lookup (is_at (λ (k : Vec ℕ). slice_cmp nat_cmp q k.items))) c.in-Err.ensures.err;
+  blobs = taken_back c.args.blob.0 c.args.owner.number c.args.self.now.blobs c.insert.new.self c.remove.new.self c.requires.unseen c.in_ok-insert.ensures.entries c.remove.ensures.updates;
+}
+
+pub returns-clause-ok : goal.returns-clause-ok
+returns-clause-ok c = record {
+  owners = λ q. found_behind (λ (k : Vec ℕ). k.items) q c.args.id c.args.owner c.args.self.now.owners.entries c.insert-2.new.self.entries c.in_default.ensures.entries;
+  blobs = λ q. found_behind (λ (k : List ℕ). k) q c.args.blob.0 c.args.owner.number c.args.self.now.blobs.entries c.insert.new.self.entries c.in_ok-insert.ensures.entries;
+}

@@ -1,0 +1,59 @@
+-- An index of messages by their own ids and by their blob ids.
+use Rattle.std.specs.Prelude.{◌≡◌, ℕ, List, Option, Some, None, option_map, if◌then◌else◌}
+use Rattle.std.specs.Str.{bytes_eq}
+use Rattle.std.specs.Ordering.{nat_cmp}
+use Rattle.std.specs.Cmp.Lexicographic.{slice_cmp}
+use Rattle.std.specs.BTreeMap.{BTreeMap, get_by}
+use Rattle.std.specs.Global.{Vec}
+use Rattle.arch_base.specs.declared.ids.Id20.{Id20}
+use Rattle.mail_reader.specs.Content.{content_id_of}
+use Rattle.arch_model.specs.Archives.{Entry, owner, blob_number}
+use Rattle.arch_model.specs.declared.choice.Meeting.{Meeting}
+use Rattle.arch_model.specs.declared.choice.Meeting.TheVariants.{Free, Same, Other}
+use Rattle.arch_judge.specs.declared.index.Index.{Index}
+use Rattle.arch_judge.specs.declared.index.Owner.{Owner}
+
+-- What an index holds of an entry under its own id.
+abbrev pub owner_of : Entry → Owner
+owner_of e = record { number = e.number; content = content_id_of e.text }
+
+-- The value of an id in a map by ids.
+abbrev pub owner_in : BTreeMap (Vec ℕ) Owner → List ℕ → Option Owner
+owner_in owners id = get_by (λ (k : Vec ℕ). slice_cmp nat_cmp id k.items) owners
+
+-- The value of a blob id in a map by blob ids.
+abbrev pub number_in : BTreeMap (List ℕ) ℕ → List ℕ → Option ℕ
+number_in blobs blob = get_by (λ (k : List ℕ). slice_cmp nat_cmp blob k) blobs
+
+-- The index has the entries by their own ids, and their numbers by their blob ids.
+pub record IsIndex (entries : List Entry) (index : Index) : Type 0 where
+  pub owners : (id : List ℕ) → owner_in index.owners id ≡ option_map owner_of (owner entries id)
+  pub blobs : (blob : List ℕ) → number_in index.blobs blob ≡ blob_number entries blob
+
+-- One id and one blob id were put into the index.
+pub record Puts (old new : Index) (id : List ℕ) (blob : Id20) (message : Owner) : Type 0 where
+  pub owners : (q : List ℕ) → owner_in new.owners q ≡ (if bytes_eq q id then Some message else owner_in old.owners q)
+  pub blobs : (q : List ℕ) → number_in new.blobs q ≡ (if bytes_eq q blob.0 then Some message.number else number_in old.blobs q)
+
+-- An id and a blob id were removed from the index.
+pub record Loses (old new : Index) (id : List ℕ) (blob : Id20) : Type 0 where
+  pub owners : (q : List ℕ) → owner_in new.owners q ≡ (if bytes_eq q id then None else owner_in old.owners q)
+  pub blobs : (q : List ℕ) → number_in new.blobs q ≡ (if bytes_eq q blob.0 then None else number_in old.blobs q)
+
+-- Two indexes have the same content.
+pub record HasSame (old new : Index) : Type 0 where
+  pub owners : (q : List ℕ) → owner_in new.owners q ≡ owner_in old.owners q
+  pub blobs : (q : List ℕ) → number_in new.blobs q ≡ number_in old.blobs q
+
+-- The index has the content from before a new id and a new blob id were put into it.
+abbrev pub TakesBack : Index → Index → List ℕ → Id20 → Type 0
+TakesBack put new id blob = (old : Index) (message : Owner) → Puts old put id blob message → owner_in old.owners id ≡ None → number_in old.blobs blob.0 ≡ None → HasSame old new
+
+-- How a candidate for an id meets the message that has it.
+abbrev pub met_owner : Owner → List ℕ → Meeting
+met_owner message content = if bytes_eq message.content content then Same message.number else Other
+
+-- How it meets what a map by ids has for it.
+abbrev pub met_in : Option Owner → List ℕ → Meeting
+met_in None content = Free
+met_in (Some message) content = met_owner message content

@@ -1,5 +1,0 @@
-use Rattle.arch_model.proofs.EpochLemmas.{epoch_bytes-push}
-use Rattle.arch_model.proofs.commits.epoch_grows.Goals as goal
-
-pub returns : goal.returns
-returns c = epoch_bytes-push

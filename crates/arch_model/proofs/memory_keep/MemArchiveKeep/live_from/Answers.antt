@@ -1,5 +1,0 @@
-use Rattle.arch_model.proofs.Numbers.{live-known}
-use Rattle.arch_model.proofs.memory_keep.MemArchiveKeep.live_from.Goals as goal
-
-pub returns-clause-known : goal.returns-clause-known
-returns-clause-known c = live-known c.args.self.now.entries c.args.n c.number_from.result c.number_from.ensures

@@ -1,0 +1,157 @@
+//! The commit that keeps a text, and the objects of an entry.
+ghost use Rattle.std.specs.Prelude.{◌≡◌, ◌++◌, ◌∷◌, [], length, take, decimal, codes, IfOk, OnOk, OnErr, IsTrue, is_ok, if◌then◌else◌};
+ghost use Rattle.git_objects.specs.CleanText.{IsClean};
+ghost use Rattle.git_objects.specs.Commits.{IsZone};
+ghost use Rattle.git_objects.specs.Objects.{id_of, blob_id_of, is_entry_name};
+ghost use Rattle.mail_commits.specs.Commits.{commit_of};
+ghost use Rattle.mail_commits.specs.Entries.{commit_text as commit_text_of, commit_id, entry_bytes, tree_of};
+
+use crate::facts::{author, subject, written_at};
+use arch_base::{Bytes, NoMemory, ObjectId};
+use git_objects::{Commit, blob_id, commit_bytes, object_id, tree_bytes};
+use itoa::Buffer;
+use std::alloc::Global;
+
+/// Returns the commit that keeps a text.
+///
+/// `tree` is the id of the tree that has the text, and `parent` that of the commit before it.
+/// `moment` is when the text was taken, in seconds since 1970 UTC. `commit_bytes` accepts the
+/// result.
+///
+/// `NoMemory` if an allocation fails.
+pub fn entry_commit(
+    alloc: Global,
+    text: &[u8],
+    tree: &ObjectId,
+    parent: Option<ObjectId>,
+    moment: u64,
+) -> Result<Commit, NoMemory>
+    ensures value { IfOk result (λ made. made ≡ commit_of text.now tree.now parent moment) }
+    ensures author { IfOk result (λ made. IsClean made.author) }
+    ensures email { IfOk result (λ made. IsClean made.email) }
+    ensures subject { IfOk result (λ made. IsClean made.subject) }
+    ensures zone { IfOk result (λ made. IsZone made.zone) }
+{
+    let author = author(alloc, text)?;
+    let subject = subject(alloc, text)?;
+    let written = written_at(text, moment);
+    Ok(Commit {
+        tree: *tree,
+        parent,
+        author: author.name,
+        email: author.email,
+        secs: written.secs,
+        zone: written.zone,
+        committed: moment,
+        subject,
+    })
+}
+
+/// The ids of an entry's blob and commit.
+#[derive(Clone, Copy, Debug, Drop)]
+pub struct EntryIds {
+    /// The id of the blob that is the text.
+    pub blob: ObjectId,
+    /// The id of the commit that keeps it.
+    pub commit: ObjectId,
+}
+
+/// Appends the objects of an entry to the bytes of an epoch, and returns the ids of its blob and
+/// commit.
+///
+/// The objects are the blob of the text, its tree, in which the text is the file `name` (`m` for a
+/// message, `d` for a deletion), and the commit that keeps it after `parent`. `moment` is when the
+/// text was taken, in seconds since 1970 UTC.
+///
+/// `NoMemory` if an allocation fails, and the bytes are unchanged.
+pub fn push_entry(
+    alloc: Global,
+    name: u8,
+    text: &[u8],
+    moment: u64,
+    parent: Option<ObjectId>,
+    into: &mut Bytes,
+) -> Result<EntryIds, NoMemory>
+    requires name { IsTrue (is_entry_name name) }
+    ensures blob { IfOk result (λ ids. ids.blob ≡ blob_id_of text.now) }
+    ensures commit { IfOk result (λ ids. ids.commit ≡ commit_id name text.now moment parent) }
+    ensures ok { OnOk result (into.new ≡ into.old ++ entry_bytes name text.now moment parent) }
+    ensures err { OnErr result (into.new ≡ into.old) }
+{
+    let blob = blob_id(text);
+    let head = blob_head(alloc, text.len())?;
+    let tree = tree_bytes(name, &blob);
+    let commit = commit_text(alloc, name, text, &tree, parent, moment)?;
+    push_all(into, head.as_slice(), text, &tree, commit.as_slice())?;
+    Ok(EntryIds {
+        blob,
+        commit: object_id(commit.as_slice()),
+    })
+}
+
+/// Returns the form of the commit that keeps a text under a name. `tree` is the form of its tree.
+fn commit_text(
+    alloc: Global,
+    name: u8,
+    text: &[u8],
+    tree: &[u8],
+    parent: Option<ObjectId>,
+    moment: u64,
+) -> Result<Bytes, NoMemory>
+    requires { tree.now ≡ tree_of name text.now }
+    ensures { IfOk result (λ made. made ≡ commit_text_of name text.now moment parent) }
+{
+    let commit = entry_commit(alloc, text, &object_id(tree), parent, moment)?;
+    commit_bytes(alloc, &commit)
+}
+
+/// Returns the bytes before the content of a blob of this length.
+fn blob_head(alloc: Global, len: usize) -> Result<Bytes, NoMemory>
+    ensures { IfOk result (λ made. made ≡ codes "blob " ++ (decimal len ++ 0 ∷ [])) }
+{
+    let mut size = Buffer::new();
+    let mut head = Bytes::new(alloc);
+    head.push_slice(b"blob ")?;
+    head.push_slice(size.format(len).as_bytes())?;
+    head.push(0)?;
+    Ok(head)
+}
+
+/// Appends four slices.
+///
+/// `NoMemory` leaves the bytes unchanged.
+fn push_all(
+    into: &mut Bytes,
+    head: &[u8],
+    text: &[u8],
+    tree: &[u8],
+    commit: &[u8],
+) -> Result<(), NoMemory>
+    ensures { into.new ≡ (if is_ok result then into.old ++ (head.now ++ (text.now ++ (tree.now ++ commit.now))) else into.old) }
+{
+    let len = into.as_slice().len();
+    let pushed = push_each(into, head, text, tree, commit);
+    if pushed.is_err() {
+        into.truncate(len);
+    }
+    pushed
+}
+
+/// Appends four slices.
+///
+/// `NoMemory` may leave some of them appended.
+fn push_each(
+    into: &mut Bytes,
+    head: &[u8],
+    text: &[u8],
+    tree: &[u8],
+    commit: &[u8],
+) -> Result<(), NoMemory>
+    ensures ok { OnOk result (into.new ≡ into.old ++ (head.now ++ (text.now ++ (tree.now ++ commit.now)))) }
+    ensures err { take (length into.old) into.new ≡ into.old }
+{
+    into.push_slice(head)?;
+    into.push_slice(text)?;
+    into.push_slice(tree)?;
+    into.push_slice(commit)
+}

@@ -1,0 +1,10 @@
+//! What a text says of itself, and the commit and the objects that keep it.
+#![tactic(auto)]
+
+mod commits;
+mod facts;
+
+pub use commits::{EntryIds, entry_commit, push_entry};
+
+#[cfg(test)]
+mod commit_tests;

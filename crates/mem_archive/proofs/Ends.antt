@@ -1,0 +1,114 @@
+-- The end of an archive, after one more entry.
+use Rattle.std.proofs.Common.{◌≡◌, ◌+◌, ◌-◌, ◌≤◌, ◌<◌, ◌==◌, ◌||◌, nat_lt, ℕ, Bool, true, false, List, [], ◌∷◌, ◌++◌, length, Option, Some, None, refl, sym, ◌∙◌, ap, arith, length-append, if◌then◌else◌}
+use Rattle.std.proofs.lemmas.List.{append-nil, append_assoc}
+use Rattle.std.proofs.lemmas.List.Elements.{filter-append}
+use Rattle.std.proofs.lemmas.Bool.Decides.{nat_tests}
+use Rattle.arch_base.specs.declared.ids.Id20.{Id20}
+use Rattle.arch_model.specs.Archives.{Entry, Archive, in_epoch}
+use Rattle.arch_model.specs.Delivery.{last_epoch, greater, takes_more, new_epoch}
+use Rattle.arch_model.specs.Epochs.{epoch_bytes, entries_bytes, last_commit}
+use Rattle.mail_commits.specs.Entries.{entry_bytes, commit_id, magic, message_name}
+use Rattle.mem_archive.specs.Memory.{IsEnd, end_for_new, end_after, front_bytes}
+use Rattle.mem_archive.specs.declared.kept.End.{End}
+use Rattle.arch_model.proofs.EpochLemmas.{entries_bytes-push, last_commit-push}
+
+front_some : (id : Id20) (es : List Entry) → front_bytes (last_commit (Some id) es) ≡ []
+front_some id [] = refl
+front_some id (e ∷ es) = front_some (commit_id message_name e.text e.moment (Some id)) es
+
+-- The bytes of an epoch with one more entry.
+pub epoch_bytes-behind : (es : List Entry) (e : Entry) → epoch_bytes (es ++ e ∷ []) ≡ epoch_bytes es ++ (front_bytes (last_commit None es) ++ entry_bytes message_name e.text e.moment (last_commit None es))
+epoch_bytes-behind [] e = ap (λ bs. magic ++ bs) (append-nil (entry_bytes message_name e.text e.moment None))
+epoch_bytes-behind (x ∷ es) e =
+    let p : Option Id20 = Some (commit_id message_name x.text x.moment None) in
+    ap (λ bs. magic ++ bs) (entries_bytes-push None (x ∷ es) e)
+    ∙ sym (append_assoc magic (entries_bytes None (x ∷ es)) (entry_bytes message_name e.text e.moment (last_commit None (x ∷ es))))
+    ∙ ap (λ bs. (magic ++ entries_bytes None (x ∷ es)) ++ (bs ++ entry_bytes message_name e.text e.moment (last_commit None (x ∷ es)))) (sym (front_some (commit_id message_name x.text x.moment None) es))
+
+one_in : (e : Entry) (k : ℕ) (t : Bool) → (if t then e ∷ in_epoch [] k else in_epoch [] k) ≡ (if t then e ∷ [] else [])
+one_in e k true = refl
+one_in e k false = refl
+
+pub in_epoch-at : (es : List Entry) (e : Entry) (k : ℕ) → e.epoch ≡ k → in_epoch (es ++ e ∷ []) k ≡ in_epoch es k ++ e ∷ []
+in_epoch-at es e k is =
+    let here : (e.epoch == k) ≡ true = grind (arith, nat_tests, is) in
+    filter-append (λ (x : Entry). x.epoch == k) es (e ∷ []) ∙ ap (λ xs. in_epoch es k ++ xs) (rw here refl)
+
+pub in_epoch-else : (es : List Entry) (e : Entry) (k : ℕ) → (e.epoch == k) ≡ false → in_epoch (es ++ e ∷ []) k ≡ in_epoch es k
+in_epoch-else es e k other = filter-append (λ (x : Entry). x.epoch == k) es (e ∷ []) ∙ ap (λ xs. in_epoch es k ++ xs) (rw other refl) ∙ append-nil (in_epoch es k)
+
+greater_low : (m n k : ℕ) → greater m n < k → (m < k) × (n < k)
+greater_low m n k h = by_test (nat_lt m n) refl h where
+  by_test : (t : Bool) → nat_lt m n ≡ t → (if t then n else m) < k → (m < k) × (n < k)
+  by_test true is h = (let less : m < n = grind (arith, nat_tests, is) in omega (arith, less, h), h)
+  by_test false is h = (h, let less : n ≤ m = grind (arith, nat_tests, is) in omega (arith, less, h))
+
+greater_end : (m n : ℕ) → m ≤ n → greater m n ≡ n
+greater_end m n h = by_test (nat_lt m n) refl where
+  by_test : (t : Bool) → nat_lt m n ≡ t → (if t then n else m) ≡ n
+  by_test true is = refl
+  by_test false is = let less : n ≤ m = grind (arith, nat_tests, is) in omega (arith, less, h)
+
+none_above : (es : List Entry) (k : ℕ) → last_epoch es < k → in_epoch es k ≡ []
+none_above [] k h = refl
+none_above (e ∷ es) k h =
+    let low = greater_low e.epoch (last_epoch es) k h in
+    let other : (e.epoch == k) ≡ false = grind (arith, nat_tests, low.0) in
+    rw other (none_above es k low.1)
+
+-- The last epoch is that of the last entry, if epochs don't fall.
+pub last_epoch-push : (es : List Entry) (e : Entry) → last_epoch es ≤ e.epoch → last_epoch (es ++ e ∷ []) ≡ e.epoch
+last_epoch-push [] e h = zero_end e.epoch where
+  zero_end : (n : ℕ) → greater n 0 ≡ n
+  zero_end n = by_test (nat_lt n 0) refl where
+    by_test : (t : Bool) → nat_lt n 0 ≡ t → (if t then 0 else n) ≡ n
+    by_test true is = let less : n < 0 = grind (arith, nat_tests, is) in absurd (omega (arith, less))
+    by_test false is = refl
+last_epoch-push (x ∷ es) e h =
+    let low = greater_low x.epoch (last_epoch es) (e.epoch + 1) (omega (arith, h)) in
+    ap (greater x.epoch) (last_epoch-push es e (omega (arith, low.1))) ∙ greater_end x.epoch e.epoch (omega (arith, low.0))
+
+-- The end after one more entry in its epoch.
+pub IsEnd-push : (limit : ℕ) (es : List Entry) (e : Entry) (end_ : End) → IsEnd limit es end_ → e.epoch ≡ end_.epoch → IsEnd limit (es ++ e ∷ []) (end_after end_ e.text e.moment)
+IsEnd-push limit es e end_ is at =
+    let here : List Entry = in_epoch es end_.epoch in
+    let more : in_epoch (es ++ e ∷ []) end_.epoch ≡ here ++ e ∷ [] = in_epoch-at es e end_.epoch at in
+    let added : List ℕ = front_bytes end_.parent ++ entry_bytes message_name e.text e.moment end_.parent in
+    let bytes : epoch_bytes (in_epoch (es ++ e ∷ []) end_.epoch) ≡ epoch_bytes here ++ added =
+    ap epoch_bytes more ∙ epoch_bytes-behind here e ∙ ap (λ (p : Option Id20). epoch_bytes here ++ (front_bytes p ++ entry_bytes message_name e.text e.moment p)) (sym is.parent) in
+    record {
+      room = omega (arith, is.room, ap length bytes, length-append (epoch_bytes here) added);
+      parent = sym (ap (last_commit None) more ∙ last_commit-push None here e ∙ ap (λ (p : Option Id20). Some (commit_id message_name e.text e.moment p)) (sym is.parent));
+      small = is.small;
+    }
+
+-- The end to which a new entry is appended, and its epoch.
+abbrev pub NewEnd : ℕ → List Entry → ℕ → End → Type 0
+NewEnd limit es epoch end_ = IsEnd limit es end_ × (end_.epoch ≡ epoch) × (last_epoch es ≤ end_.epoch)
+
+new_step : (limit len : ℕ) (es : List Entry) (end_ : End) (t u : Bool) → IsEnd limit es end_ → end_.epoch ≡ last_epoch es → t ≡ u → (t ≡ false → end_.epoch < 63)
+    → NewEnd limit es (if u then last_epoch es else last_epoch es + 1) (if t then end_ else record { epoch = end_.epoch + 1; room = limit; parent = None })
+new_step limit len es end_ true true is last same below = (is, last, omega (arith, last))
+new_step limit len es end_ true false is last same below = absurd (cc)
+new_step limit len es end_ false true is last same below = absurd (cc)
+new_step limit len es end_ false false is last same below =
+    let none : in_epoch es (end_.epoch + 1) ≡ [] = none_above es (end_.epoch + 1) (omega (arith, last)) in (
+      record {
+        room = let all : limit ≡ limit - 0 = omega arith in all ∙ sym (ap (λ (xs : List Entry). limit - length (epoch_bytes xs)) none);
+        parent = sym (ap (last_commit None) none);
+        small = omega (arith, below refl);
+      },
+      omega (arith, last),
+      omega (arith, last),
+    )
+
+pub IsEnd-new : (a : Archive) (end_ : End) → IsEnd a.config.limit a.entries end_ → end_.epoch ≡ last_epoch a.entries → NewEnd a.config.limit a.entries (new_epoch a) (end_for_new a.config.limit end_)
+IsEnd-new a end_ is last =
+    let len : ℕ = length (epoch_bytes (in_epoch a.entries (last_epoch a.entries))) in
+    let room : end_.room ≡ a.config.limit - len = is.room ∙ ap (λ (k : ℕ). a.config.limit - length (epoch_bytes (in_epoch a.entries k))) last in
+    let same : nat_lt 0 end_.room ≡ nat_lt len a.config.limit = grind (arith, nat_tests, room) in
+    let tests : (end_.epoch == 63 || nat_lt 0 end_.room) ≡ takes_more a.config.limit (last_epoch a.entries) len = ap (λ (t : Bool). end_.epoch == 63 || t) same ∙ ap (λ (k : ℕ). k == 63 || nat_lt len a.config.limit) last in
+    new_step a.config.limit len a.entries end_ (end_.epoch == 63 || nat_lt 0 end_.room) (takes_more a.config.limit (last_epoch a.entries) len) is last tests (λ closed. below end_.epoch (nat_lt 0 end_.room) is.small closed)
+  where
+    below : (k : ℕ) (t : Bool) → k ≤ 63 → (k == 63 || t) ≡ false → k < 63
+    below k t small closed = grind (arith, nat_tests, small, closed)

@@ -1,0 +1,5 @@
+mod Numbers
+mod Ends
+mod Keeping
+mod EpochSteps
+mod Delivering

@@ -1,0 +1,12 @@
+use Rattle.mem_archive.proofs.Keeping.{keeps}
+use Rattle.mem_archive.proofs.memory.MemArchive.keep.Goals as goal
+
+pub invariant_of-self-2 : goal.invariant_of-self-2
+invariant_of-self-2 c = rw c.in_ok-push.ensures.items
+    (keeps c.self.inside.config c.self.inside.kept.items c.self.inside.index c.insert.new.self c.self.inside.end c.in_ok-end.end c.args.text c.as_slice.result.now c.as_slice-2.result.now c.as_slice-3.result.now c.args.moment c.args.blob c.in_ok-id.id.items c.owner_of-owner.result
+    c.args.self.now c.self.view_is c.self.invariant c.requires.room c.requires.free c.requires.blob c.requires.unseen c.in_ok-end.ensures c.as_slice.ensures c.in_ok-id.ensures c.as_slice-2.ensures c.owner_of-owner.ensures c.as_slice-3.ensures c.in_default.ensures.ok).0
+
+pub returns-clause-ok : goal.returns-clause-ok
+returns-clause-ok c = rw c.in_ok-push.ensures.items
+    (keeps c.self.inside.config c.self.inside.kept.items c.self.inside.index c.insert.new.self c.self.inside.end c.in_ok-end.end c.args.text c.as_slice.result.now c.as_slice-2.result.now c.as_slice-3.result.now c.args.moment c.args.blob c.in_ok-id.id.items c.owner_of-owner.result
+    c.args.self.now c.self.view_is c.self.invariant c.requires.room c.requires.free c.requires.blob c.requires.unseen c.in_ok-end.ensures c.as_slice.ensures c.in_ok-id.ensures c.as_slice-2.ensures c.owner_of-owner.ensures c.as_slice-3.ensures c.in_default.ensures.ok).1

@@ -1,0 +1,117 @@
+//! What the archive in memory keeps of each message, and of its last epoch.
+ghost use Rattle.std.specs.Prelude.{◌≡◌, ◌+◌, ◌-◌, ◌++◌, ◌≤◌, length, IfOk, OnOk, OnErr, is_ok, if◌then◌else◌};
+ghost use Rattle.mail_commits.specs.Entries.{commit_id, entry_bytes, message_name};
+ghost use Rattle.mem_archive.specs.Memory.{front_bytes, end_for_new, end_by_room, end_after, Grows};
+
+use arch_base::{Bytes, NoMemory, ObjectId};
+use mail_commits::push_entry;
+use std::alloc::Global;
+
+/// A message as the archive in memory keeps it.
+#[derive(Debug, Drop)]
+pub(crate) struct Kept {
+    /// The number of its epoch.
+    pub(crate) epoch: u32,
+    /// Its text.
+    pub(crate) text: Bytes,
+    /// The moment of its delivery, in seconds since 1970 UTC.
+    pub(crate) moment: u64,
+}
+
+/// The end of an archive, to which the next entry is appended.
+#[derive(Clone, Copy, Debug, Drop)]
+pub(crate) struct End {
+    /// The number of the last epoch.
+    pub(crate) epoch: u32,
+    /// Bytes left before the epoch is full.
+    pub(crate) room: u64,
+    /// The id of the epoch's last commit, or `None` if it has none.
+    pub(crate) parent: Option<ObjectId>,
+}
+
+/// The greatest number of an epoch. That epoch grows without a limit.
+const LAST_EPOCH: u32 = 63;
+
+/// The first bytes of an epoch.
+const MAGIC: &[u8] = b"PIV2EP1\n";
+
+impl End {
+    /// Returns the end after one more entry, which goes to the last epoch, or to a new one if that
+    /// is full.
+    pub(crate) fn with(
+        self,
+        alloc: Global,
+        limit: u64,
+        text: &[u8],
+        moment: u64,
+    ) -> Result<End, NoMemory>
+        requires { self.epoch ≤ 63 }
+        ensures { IfOk result (λ made. made ≡ end_after (end_for_new limit self) text.now moment) }
+    {
+        let room = self.room;
+        self.for_new(room, limit).after(alloc, text, moment)
+    }
+
+    /// Returns the end to which a new entry is appended, if the last epoch has `room` bytes left.
+    ///
+    /// It is the end of the last epoch, or that of a new one if the last is full.
+    fn for_new(self, room: u64, limit: u64) -> End
+        requires { self.epoch ≤ 63 }
+        ensures { result ≡ end_by_room room limit self }
+    {
+        if self.epoch == LAST_EPOCH || room > 0 {
+            self
+        } else {
+            End {
+                epoch: self.epoch + 1,
+                room: limit,
+                parent: None,
+            }
+        }
+    }
+
+    /// Returns the end after one more entry.
+    fn after(self, alloc: Global, text: &[u8], moment: u64) -> Result<End, NoMemory>
+        ensures { IfOk result (λ made. made ≡ end_after self text.now moment) }
+    {
+        let mut bytes = Bytes::new(alloc);
+        let commit = push_behind(alloc, text, moment, self.parent, &mut bytes)?;
+        Ok(End {
+            epoch: self.epoch,
+            room: self.room.saturating_sub(bytes.as_slice().len() as u64),
+            parent: Some(commit),
+        })
+    }
+}
+
+/// Appends the bytes of an entry, and returns the id of its commit.
+///
+/// The first bytes of an epoch come before them if the entry has no parent. `NoMemory` may leave a
+/// part appended.
+pub(crate) fn push_behind(
+    alloc: Global,
+    text: &[u8],
+    moment: u64,
+    parent: Option<ObjectId>,
+    into: &mut Bytes,
+) -> Result<ObjectId, NoMemory>
+    ensures id { IfOk result (λ id. id ≡ commit_id message_name text.now moment parent) }
+    ensures ok { OnOk result (into.new ≡ into.old ++ (front_bytes parent ++ entry_bytes message_name text.now moment parent)) }
+    ensures err { OnErr result (Grows into.old into.new) }
+{
+    push_front(parent, into)?;
+    let ids = push_entry(alloc, b'm', text, moment, parent, into)?;
+    Ok(ids.commit)
+}
+
+/// Appends the first bytes of an epoch if an entry has no parent.
+///
+/// `NoMemory` leaves the bytes unchanged.
+fn push_front(parent: Option<ObjectId>, into: &mut Bytes) -> Result<(), NoMemory>
+    ensures { into.new ≡ (if is_ok result then into.old ++ front_bytes parent else into.old) }
+{
+    match parent {
+        None => into.push_slice(MAGIC),
+        Some(_) => Ok(()),
+    }
+}

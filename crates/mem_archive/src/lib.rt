@@ -1,0 +1,11 @@
+//! A plain archive in memory that does exactly what the definitions say.
+#![tactic(auto)]
+
+mod kept;
+mod memory;
+mod memory_keep;
+
+pub use memory::MemArchive;
+
+#[cfg(test)]
+mod tests;
