@@ -1,7 +1,7 @@
 //! An archive on a disk that is handed in. Each of its commands has the result of the definition.
 ghost use Rattle.std.specs.Prelude.{◌≡◌, ◌≤◌, ◌<◌, ◌+◌, ◌^◌, [], length, Err, IfOk, OnOk, OnErr, List, Option};
 ghost use Rattle.arch_base.specs.Configs.{IsConfig};
-ghost use Rattle.arch_base.specs.Counts.{Rose};
+ghost use Rattle.arch_base.specs.Counts.{RoseIf};
 ghost use Rattle.disk_model.specs.Disk.{WhereTold, LeavesOnly};
 ghost use Rattle.arch_model.specs.Archives.{Archive, empty_archive, with_entry};
 ghost use Rattle.arch_model.specs.Delivery.{applied, delivered, new_epoch};
@@ -75,8 +75,7 @@ impl DiskArchive {
         ensures sizes { IfOk result (λ made. WhereTold (HasSizes made) (D.content disk.new)) }
         ensures first { IfOk result (λ made. made.root.sequence ≡ 1) }
         ensures none { IfOk result (λ made. made.entries ≡ []) }
-        ensures later { D.faults disk.old ≤ D.faults disk.new }
-        ensures fault { result ≡ Err InitRefusal.DiskFault → Rose (D.faults disk.old) (D.faults disk.new) }
+        ensures cause { RoseIf (result ≡ Err InitRefusal.DiskFault) (D.faults disk.old) (D.faults disk.new) }
     {
         let store = Store::init(alloc, disk, config)?;
         Ok(DiskArchive {
@@ -105,8 +104,7 @@ impl DiskArchive {
         ensures well { (a : Archive) → ReadsAs a (D.content disk.old) → OpensWell result }
         ensures refused { RefusesKindly result (D.content disk.old) (D.content disk.new) }
         ensures sizes { IfOk result (λ opened. WhereTold (HasSizes opened) (D.content disk.new)) }
-        ensures later { D.faults disk.old ≤ D.faults disk.new }
-        ensures fault { result ≡ Err OpenRefusal.DiskFault → Rose (D.faults disk.old) (D.faults disk.new) }
+        ensures cause { RoseIf (result ≡ Err OpenRefusal.DiskFault) (D.faults disk.old) (D.faults disk.new) }
     {
         law_of_stores();
         let store = match Store::open(alloc, disk) {
@@ -147,8 +145,7 @@ impl DiskArchive {
         ensures same { OnRefusal result (self.new ≡ self.old) }
         ensures untouched { OnRefusal result (UnlessFault result (disk.new ≡ disk.old)) }
         ensures sizes { UnlessFault result (WhereTold (HasSizes self.new) (D.content disk.new)) }
-        ensures later { D.faults disk.old ≤ D.faults disk.new }
-        ensures fault { result ≡ Answer.DiskFault → Rose (D.faults disk.old) (D.faults disk.new) }
+        ensures cause { RoseIf (result ≡ Answer.DiskFault) (D.faults disk.old) (D.faults disk.new) }
         ensures never_damaged { IsForCommand result }
         ensures count { D.reads disk.new ≡ D.reads disk.old }
     {
@@ -169,8 +166,7 @@ impl DiskArchive {
         ensures same { OnRefusal result (self.new ≡ self.old) }
         ensures untouched { OnRefusal result (UnlessFault result (disk.new ≡ disk.old)) }
         ensures sizes { UnlessFault result (WhereTold (HasSizes self.new) (D.content disk.new)) }
-        ensures later { D.faults disk.old ≤ D.faults disk.new }
-        ensures fault { result ≡ Answer.DiskFault → Rose (D.faults disk.old) (D.faults disk.new) }
+        ensures cause { RoseIf (result ≡ Answer.DiskFault) (D.faults disk.old) (D.faults disk.new) }
         ensures never_damaged { IsForCommand result }
         ensures count { D.reads disk.new ≡ D.reads disk.old }
     {
@@ -223,8 +219,7 @@ impl DiskArchive {
         ensures same { OnErr result (self.new ≡ self.old) }
         ensures refused { result ≡ Err StoreRefusal.NoMemory → disk.new ≡ disk.old }
         ensures undamaged { SeesNoDamage result }
-        ensures later { D.faults disk.old ≤ D.faults disk.new }
-        ensures fault { result ≡ Err StoreRefusal.DiskFault → Rose (D.faults disk.old) (D.faults disk.new) }
+        ensures cause { RoseIf (result ≡ Err StoreRefusal.DiskFault) (D.faults disk.old) (D.faults disk.new) }
         ensures count { D.reads disk.new ≡ D.reads disk.old }
     {
         law_of_stores();

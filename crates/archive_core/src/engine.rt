@@ -1,7 +1,7 @@
 //! An archive that owns its disk.
-ghost use Rattle.std.specs.Prelude.{◌≡◌, ◌≤◌, [], false, Err, IfOk, Option, List};
+ghost use Rattle.std.specs.Prelude.{◌≡◌, [], false, Err, IfOk, Option, List};
 ghost use Rattle.arch_base.specs.Configs.{IsConfig};
-ghost use Rattle.arch_base.specs.Counts.{Rose};
+ghost use Rattle.arch_base.specs.Counts.{RoseIf};
 ghost use Rattle.disk_model.specs.Disk.{Files, WhereTold, LeavesOnly};
 ghost use Rattle.arch_model.specs.Archives.{Archive, empty_archive};
 ghost use Rattle.arch_model.specs.declared.opening.OpenRefusal.{OpenRefusal};
@@ -69,8 +69,7 @@ impl<D: Disk> Engine<D> {
         ensures ready { IfOk result (λ made. made.stale ≡ false) }
         ensures first { IfOk result (λ made. made.view.root.sequence ≡ 1) }
         ensures none { IfOk result (λ made. made.view.entries ≡ []) }
-        ensures later { D.faults disk ≤ D.faults (disk_made result) }
-        ensures fault { made_or_why result ≡ Err InitRefusal.DiskFault → Rose (D.faults disk) (D.faults (disk_made result)) }
+        ensures cause { RoseIf (made_or_why result ≡ Err InitRefusal.DiskFault) (D.faults disk) (D.faults (disk_made result)) }
     {
         let mut disk = disk;
         match DiskArchive::init(alloc, &mut disk, config) {
@@ -104,8 +103,7 @@ impl<D: Disk> Engine<D> {
         ensures refused { RefusesKindly (opened_or_why result) (D.content disk) (D.content (disk_opened result)) }
         ensures sizes { IfOk result (λ opened. WhereTold (HasSizes opened.view) (D.content opened.disk)) }
         ensures ready { IfOk result (λ opened. opened.stale ≡ false) }
-        ensures later { D.faults disk ≤ D.faults (disk_opened result) }
-        ensures fault { opened_or_why result ≡ Err OpenRefusal.DiskFault → Rose (D.faults disk) (D.faults (disk_opened result)) }
+        ensures cause { RoseIf (opened_or_why result ≡ Err OpenRefusal.DiskFault) (D.faults disk) (D.faults (disk_opened result)) }
     {
         let mut disk = disk;
         match DiskArchive::open(alloc, &mut disk) {

@@ -1,6 +1,6 @@
 //! Reads an archive on a disk: its messages by their numbers, and its epochs.
 ghost use Rattle.std.specs.Prelude.{◌≡◌, ◌≤◌, ◌<◌, ◌+◌, ◌^◌, ◌↔◌, true, length, Err, IsTrue, IsSome, IfSome, OnErr};
-ghost use Rattle.arch_base.specs.Counts.{Rose};
+ghost use Rattle.arch_base.specs.Counts.{RoseIf};
 ghost use Rattle.disk_model.specs.Disk.{Image, Told, Unchanged, LeavesOnly};
 ghost use Rattle.arch_model.specs.Archives.{Archive, in_epoch};
 ghost use Rattle.arch_model.specs.Standing.{IsLeastLive, IsKnownLive, GivesTextIn, GivesEpochIn, KeepsUnlessFound};
@@ -48,8 +48,7 @@ impl DiskArchive {
         ensures refused { OnErr result (into.new ≡ into.old) }
         ensures same { Told Unchanged (D.content disk.old) (D.content disk.new) }
         ensures any_moment { LeavesOnly D.moment D.left_since disk.old disk.new (Image (D.content disk.old)) }
-        ensures later { D.faults disk.old ≤ D.faults disk.new }
-        ensures fault { result ≡ Err TextRefusal.DiskFault → Rose (D.faults disk.old) (D.faults disk.new) }
+        ensures cause { RoseIf (result ≡ Err TextRefusal.DiskFault) (D.faults disk.old) (D.faults disk.new) }
         ensures fewest { D.reads disk.old ≤ D.reads disk.new }
         ensures count { D.reads disk.new ≤ D.reads disk.old + 1 }
     {
@@ -76,8 +75,7 @@ impl DiskArchive {
         ensures undamaged { AnswersQuietly result }
         ensures same { Told Unchanged (D.content disk.old) (D.content disk.new) }
         ensures any_moment { LeavesOnly D.moment D.left_since disk.old disk.new (Image (D.content disk.old)) }
-        ensures later { D.faults disk.old ≤ D.faults disk.new }
-        ensures fault { result ≡ Err TextRefusal.DiskFault → Rose (D.faults disk.old) (D.faults disk.new) }
+        ensures cause { RoseIf (result ≡ Err TextRefusal.DiskFault) (D.faults disk.old) (D.faults disk.new) }
         ensures fewest { D.reads disk.old ≤ D.reads disk.new }
         ensures count { D.reads disk.new ≤ D.reads disk.old + 1 }
     {

@@ -1,6 +1,6 @@
 //! The list of the epochs of an archive.
-ghost use Rattle.std.specs.Prelude.{◌≡◌, ◌≤◌, ◌++◌, [], false, Err, OnOk};
-ghost use Rattle.arch_base.specs.Counts.{Rose};
+ghost use Rattle.std.specs.Prelude.{◌≡◌, ◌++◌, [], false, Err, OnOk};
+ghost use Rattle.arch_base.specs.Counts.{RoseIf};
 ghost use Rattle.arch_model.specs.Archives.{Archive, in_epoch};
 ghost use Rattle.arch_model.specs.declared.text_refusal.TextRefusal.{TextRefusal};
 ghost use Rattle.control_door.specs.Door.{listed, listed_below, epoch_words, epochs_words};
@@ -22,8 +22,7 @@ pub(crate) fn epochs_of<K: Keep>(alloc: Global, keep: &mut K) -> Result<Bytes, T
     ensures words { (a : Archive) → K.holds keep.old a → Makes (epochs_words a.entries) result }
     ensures same { (a : Archive) → K.holds keep.old a → K.holds keep.new a }
     ensures ready { K.stale keep.new ≡ false }
-    ensures later { K.faults keep.old ≤ K.faults keep.new }
-    ensures fault { result ≡ Err TextRefusal.DiskFault → Rose (K.faults keep.old) (K.faults keep.new) }
+    ensures cause { RoseIf (result ≡ Err TextRefusal.DiskFault) (K.faults keep.old) (K.faults keep.new) }
 {
     let mut words = Bytes::new(alloc);
     match push_epochs(alloc, keep, &mut words) {
@@ -45,8 +44,7 @@ fn push_epochs<K: Keep>(alloc: Global, keep: &mut K, into: &mut Bytes) -> Result
     ensures words { (a : Archive) → K.holds keep.old a → PutsBehind (listed_below 64 a.entries) [] into.new result }
     ensures same { (a : Archive) → K.holds keep.old a → K.holds keep.new a }
     ensures ready { K.stale keep.new ≡ false }
-    ensures later { K.faults keep.old ≤ K.faults keep.new }
-    ensures fault { result ≡ Err TextRefusal.DiskFault → Rose (K.faults keep.old) (K.faults keep.new) }
+    ensures cause { RoseIf (result ≡ Err TextRefusal.DiskFault) (K.faults keep.old) (K.faults keep.new) }
 {
     for epoch in 0..EPOCHS {
         match push_listed(alloc, epoch, keep, into) {
@@ -70,8 +68,7 @@ fn push_listed<K: Keep>(
     ensures words { (a : Archive) → K.holds keep.old a → PutsBehind (listed epoch (in_epoch a.entries epoch)) into.old into.new result }
     ensures same { (a : Archive) → K.holds keep.old a → K.holds keep.new a }
     ensures ready { K.stale keep.new ≡ false }
-    ensures later { K.faults keep.old ≤ K.faults keep.new }
-    ensures fault { result ≡ Err TextRefusal.DiskFault → Rose (K.faults keep.old) (K.faults keep.new) }
+    ensures cause { RoseIf (result ≡ Err TextRefusal.DiskFault) (K.faults keep.old) (K.faults keep.new) }
 {
     let mut bytes = Bytes::new(alloc);
     match keep.epoch_bytes(epoch, &mut bytes) {

@@ -1,6 +1,6 @@
 //! Appends an entry to an epoch's file.
 ghost use Rattle.std.specs.Prelude.{◌≡◌, ◌++◌, ◌<◌, ◌≤◌, ◌^◌, ℕ, List, length, Err, IsTrue, IfOk, OnOk, OnErr, is_ok, if◌then◌else◌};
-ghost use Rattle.arch_base.specs.Counts.{Rose};
+ghost use Rattle.arch_base.specs.Counts.{RoseIf};
 ghost use Rattle.disk_model.specs.Disk.{WhereTold, IsAtMostLength, Elapses};
 ghost use Rattle.git_objects.specs.Objects.{is_entry_name, blob_id_of};
 ghost use Rattle.epoch_file.specs.Entries.{commit_behind};
@@ -41,8 +41,7 @@ pub fn append_entry<D: Disk>(
     ensures written { IfOk result (λ written. written ≡ written_of at entry.now) }
     ensures left { AppendLeaves file at (appended at entry.now) D.content disk.old disk.new result }
     ensures time { Elapses (D.moment disk.old) (D.moment disk.new) (D.left_since disk.old) (D.left_since disk.new) (D.content disk.new) }
-    ensures later { D.faults disk.old ≤ D.faults disk.new }
-    ensures fault { result ≡ Err StoreRefusal.DiskFault → Rose (D.faults disk.old) (D.faults disk.new) }
+    ensures cause { RoseIf (result ≡ Err StoreRefusal.DiskFault) (D.faults disk.old) (D.faults disk.new) }
     ensures count { D.reads disk.new ≡ D.reads disk.old }
 {
     let (piece, ids) = entry_piece(alloc, at, entry)?;

@@ -1,6 +1,6 @@
 //! Walks over an epoch's file.
 ghost use Rattle.std.specs.Prelude.{◌≡◌, ◌+◌, ◌<◌, ◌≤◌, ◌^◌, ℕ, List, length, min, Err, IfOk};
-ghost use Rattle.arch_base.specs.Counts.{Rose};
+ghost use Rattle.arch_base.specs.Counts.{RoseIf};
 ghost use Rattle.disk_model.specs.Disk.{Image, Told, WhereTold, Unchanged, LeavesOnly, bytes_of};
 ghost use Rattle.epoch_file.specs.Walking.{Walks};
 ghost use Rattle.epoch_file.specs.Runs.{OnlyReads, FaultRose, StopRose};
@@ -35,8 +35,7 @@ pub fn walk<D: Disk>(
     ensures walked { WhereTold (λ k. Walks length (bytes_of (k file).seen) result) (D.content disk.old) }
     ensures same { Told Unchanged (D.content disk.old) (D.content disk.new) }
     ensures any_moment { LeavesOnly D.moment D.left_since disk.old disk.new (Image (D.content disk.old)) }
-    ensures later { D.faults disk.old ≤ D.faults disk.new }
-    ensures fault { result ≡ Err WalkRefusal.DiskFault → Rose (D.faults disk.old) (D.faults disk.new) }
+    ensures cause { RoseIf (result ≡ Err WalkRefusal.DiskFault) (D.faults disk.old) (D.faults disk.new) }
 {
     let mut piece = piece_room(alloc, length)?;
     match begin(alloc, disk, file, length, &mut piece) {

@@ -1,6 +1,6 @@
 //! Reads the epochs of an archive on a disk.
 ghost use Rattle.std.specs.Prelude.{◌≡◌, ◌<◌, ◌≤◌, ◌+◌, get_or, Err};
-ghost use Rattle.arch_base.specs.Counts.{Rose};
+ghost use Rattle.arch_base.specs.Counts.{RoseIf};
 ghost use Rattle.arch_model.specs.Archives.{Archive, in_epoch};
 ghost use Rattle.arch_model.specs.Standing.{GivesEpochIn, KeepsUnlessFound};
 ghost use Rattle.disk_model.specs.Disk.{Image, Told, WhereTold, Unchanged, LeavesOnly};
@@ -54,8 +54,7 @@ impl Store {
         ensures undamaged { AnswersQuietly result }
         ensures same { Told Unchanged (D.content disk.old) (D.content disk.new) }
         ensures any_moment { LeavesOnly D.moment D.left_since disk.old disk.new (Image (D.content disk.old)) }
-        ensures later { D.faults disk.old ≤ D.faults disk.new }
-        ensures fault { result ≡ Err TextRefusal.DiskFault → Rose (D.faults disk.old) (D.faults disk.new) }
+        ensures cause { RoseIf (result ≡ Err TextRefusal.DiskFault) (D.faults disk.old) (D.faults disk.new) }
         ensures fewest { D.reads disk.old ≤ D.reads disk.new }
         ensures count { D.reads disk.new ≤ D.reads disk.old + 1 }
     {

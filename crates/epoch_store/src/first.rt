@@ -1,6 +1,6 @@
 //! The first root of an archive.
 ghost use Rattle.std.specs.Prelude.{◌≡◌, ◌≢◌, ◌<◌, ◌≤◌, Err, IfOk, OnOk};
-ghost use Rattle.arch_base.specs.Counts.{IsCaused};
+ghost use Rattle.arch_base.specs.Counts.{RoseIf, IsCaused};
 ghost use Rattle.disk_model.specs.Disk.{Image, Told, WhereTold, Unchanged, Synced, LeavesOnly};
 ghost use Rattle.root_slots.specs.Each.{EachRoot};
 ghost use Rattle.root_slots.specs.Slots.{HasRootSize, Ready, IsCommitted};
@@ -11,7 +11,7 @@ ghost use Rattle.arch_base.specs.Configs.{IsConfig};
 ghost use Rattle.arch_base.specs.Names.{IsName};
 ghost use Rattle.disk_files.specs.Listing.{AreAllNames};
 ghost use Rattle.epoch_store.specs.First.{AreZeros, ShutOrFirst, MakesRoot, HasOnly, MakingAnswers, RefusesToMake, first_root_of};
-ghost use Rattle.arch_base.specs.Counts.{Rose};
+ghost use Rattle.arch_base.specs.Counts.{RoseIf};
 ghost use Rattle.epoch_store.specs.declared.refusal.InitRefusal.{InitRefusal};
 
 use crate::refusal::InitRefusal;
@@ -81,8 +81,7 @@ pub fn no_archive<D: Disk>(disk: &mut D) -> Result<(), InitRefusal>
     ensures answer { WhereTold (MakingAnswers result) (D.content disk.old) }
     ensures synced { OnOk result (Told Synced (D.content disk.old) (D.content disk.new)) }
     ensures refused { RefusesToMake result (D.content disk.old) (D.content disk.new) }
-    ensures later { D.faults disk.old ≤ D.faults disk.new }
-    ensures fault { result ≡ Err InitRefusal.DiskFault → Rose (D.faults disk.old) (D.faults disk.new) }
+    ensures cause { RoseIf (result ≡ Err InitRefusal.DiskFault) (D.faults disk.old) (D.faults disk.new) }
 {
     disk.sync()?;
     match read(disk) {
@@ -98,8 +97,7 @@ pub fn all_names<D: Disk>(alloc: Global, disk: &mut D) -> Result<FileNames, Init
     ensures names { IfOk result (λ names. WhereTold (AreAllNames names) (D.content disk.old)) }
     ensures same { Told Unchanged (D.content disk.old) (D.content disk.new) }
     ensures any_moment { LeavesOnly D.moment D.left_since disk.old disk.new (Image (D.content disk.old)) }
-    ensures later { D.faults disk.old ≤ D.faults disk.new }
-    ensures fault { result ≡ Err InitRefusal.DiskFault → Rose (D.faults disk.old) (D.faults disk.new) }
+    ensures cause { RoseIf (result ≡ Err InitRefusal.DiskFault) (D.faults disk.old) (D.faults disk.new) }
     ensures none { result ≢ Err InitRefusal.Exists }
 {
     match file_names(alloc, disk) {

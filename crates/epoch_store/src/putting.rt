@@ -1,6 +1,6 @@
 //! Appends an entry to an epoch's file, and its record to the map.
 ghost use Rattle.std.specs.Prelude.{◌≡◌, ◌≢◌, ◌≤◌, ◌<◌, ◌+◌, ◌^◌, Err, IsTrue, IfOk, OnOk};
-ghost use Rattle.arch_base.specs.Counts.{Rose};
+ghost use Rattle.arch_base.specs.Counts.{RoseIf};
 ghost use Rattle.disk_model.specs.Disk.{Told, WhereTold, IsAtMostLength, LeavesOnly};
 ghost use Rattle.git_objects.specs.Objects.{is_entry_name};
 ghost use Rattle.arch_base.specs.Moments.{last_moment};
@@ -47,8 +47,7 @@ pub fn put_both<D: Disk>(
     ensures appended { OnOk result (Told (AreAppended epoch (appended epoch.place entry.now) map (record_bytes (line_of number epoch entry.now))) (D.content disk.old) (D.content disk.new)) }
     ensures refused { result ≡ Err StoreRefusal.NoMemory → disk.new ≡ disk.old }
     ensures undamaged { SeesNoDamage result }
-    ensures later { D.faults disk.old ≤ D.faults disk.new }
-    ensures fault { result ≡ Err StoreRefusal.DiskFault → Rose (D.faults disk.old) (D.faults disk.new) }
+    ensures cause { RoseIf (result ≡ Err StoreRefusal.DiskFault) (D.faults disk.old) (D.faults disk.new) }
     ensures count { D.reads disk.new ≡ D.reads disk.old }
 {
     let written = append_entry(alloc, disk, epoch.file, epoch.place, entry)?;

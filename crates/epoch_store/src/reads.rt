@@ -1,6 +1,6 @@
 //! Reads the entries of an archive on a disk.
 ghost use Rattle.std.specs.Prelude.{◌≡◌, ◌≤◌, ◌<◌, ◌+◌, Err, Some, IfOk, length, slice_get};
-ghost use Rattle.arch_base.specs.Counts.{Rose};
+ghost use Rattle.arch_base.specs.Counts.{RoseIf};
 ghost use Rattle.arch_model.specs.Archives.{Archive};
 ghost use Rattle.disk_model.specs.Disk.{Image, Told, WhereTold, Unchanged, LeavesOnly, bytes_of};
 ghost use Rattle.arch_model.specs.declared.text_refusal.TextRefusal.{TextRefusal};
@@ -92,8 +92,7 @@ impl Store {
         ensures archive { (a : Archive) → IsStoreOf self.now a (D.content disk.old) → GivesTextOf a index into.old into.new result }
         ensures same { Told Unchanged (D.content disk.old) (D.content disk.new) }
         ensures any_moment { LeavesOnly D.moment D.left_since disk.old disk.new (Image (D.content disk.old)) }
-        ensures later { D.faults disk.old ≤ D.faults disk.new }
-        ensures fault { result ≡ Err TextRefusal.DiskFault → Rose (D.faults disk.old) (D.faults disk.new) }
+        ensures cause { RoseIf (result ≡ Err TextRefusal.DiskFault) (D.faults disk.old) (D.faults disk.new) }
         ensures fewest { D.reads disk.old ≤ D.reads disk.new }
         ensures count { D.reads disk.new ≤ D.reads disk.old + 1 }
     {
@@ -150,8 +149,7 @@ pub(crate) fn read_text<D: Disk>(
     ensures other { AnswersQuietly result }
     ensures same { Told Unchanged (D.content disk.old) (D.content disk.new) }
     ensures any_moment { LeavesOnly D.moment D.left_since disk.old disk.new (Image (D.content disk.old)) }
-    ensures later { D.faults disk.old ≤ D.faults disk.new }
-    ensures fault { result ≡ Err TextRefusal.DiskFault → Rose (D.faults disk.old) (D.faults disk.new) }
+    ensures cause { RoseIf (result ≡ Err TextRefusal.DiskFault) (D.faults disk.old) (D.faults disk.new) }
     ensures fewest { D.reads disk.old ≤ D.reads disk.new }
     ensures count { D.reads disk.new ≤ D.reads disk.old + 1 }
 {

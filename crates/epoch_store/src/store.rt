@@ -1,6 +1,6 @@
 //! The archive on a disk, as it is kept in memory.
 ghost use Rattle.std.specs.Prelude.{◌≡◌, ◌≤◌, ◌<◌, ◌+◌, ◌-◌, ◌^◌, ◌++◌, ◌∷◌, [], ℕ, List, Err, Some, IsSome, IsTrue, IfOk, OnOk, OnErr, ◌==◌, if◌then◌else◌, decimal, min, length};
-ghost use Rattle.arch_base.specs.Counts.{Rose};
+ghost use Rattle.arch_base.specs.Counts.{RoseIf};
 ghost use Rattle.disk_model.specs.Disk.{WhereTold, LeavesOnly};
 ghost use Rattle.mail_reader.specs.Ids.{own_id as own_id_in};
 ghost use Rattle.mail_reader.specs.Content.{content_id_of};
@@ -78,8 +78,7 @@ impl Store {
         ensures sizes { IfOk result (λ store. WhereTold (HasSizes store) (D.content disk.new)) }
         ensures first { IfOk result (λ store. store.root.sequence ≡ 1) }
         ensures none { IfOk result (λ store. store.entries ≡ []) }
-        ensures later { D.faults disk.old ≤ D.faults disk.new }
-        ensures fault { result ≡ Err InitRefusal.DiskFault → Rose (D.faults disk.old) (D.faults disk.new) }
+        ensures cause { RoseIf (result ≡ Err InitRefusal.DiskFault) (D.faults disk.old) (D.faults disk.new) }
     {
         no_archive(disk)?;
         let names = all_names(alloc, disk)?;
@@ -188,8 +187,7 @@ impl Store {
         ensures valid { IfOk result (λ made. IsRoot made.0) }
         ensures refused { result ≡ Err StoreRefusal.NoMemory → disk.new ≡ disk.old }
         ensures undamaged { SeesNoDamage result }
-        ensures later { D.faults disk.old ≤ D.faults disk.new }
-        ensures fault { result ≡ Err StoreRefusal.DiskFault → Rose (D.faults disk.old) (D.faults disk.new) }
+        ensures cause { RoseIf (result ≡ Err StoreRefusal.DiskFault) (D.faults disk.old) (D.faults disk.new) }
         ensures count { D.reads disk.new ≡ D.reads disk.old }
     {
         let epoch = Part {
@@ -270,8 +268,7 @@ impl Store {
         ensures same { OnErr result (self.new ≡ self.old) }
         ensures refused { result ≡ Err StoreRefusal.NoMemory → disk.new ≡ disk.old }
         ensures undamaged { SeesNoDamage result }
-        ensures later { D.faults disk.old ≤ D.faults disk.new }
-        ensures fault { result ≡ Err StoreRefusal.DiskFault → Rose (D.faults disk.old) (D.faults disk.new) }
+        ensures cause { RoseIf (result ≡ Err StoreRefusal.DiskFault) (D.faults disk.old) (D.faults disk.new) }
         ensures count { D.reads disk.new ≡ D.reads disk.old }
     {
         let place = self.next_place();

@@ -1,6 +1,6 @@
 //! Opens an archive: syncs, reads its files, and settles the disk.
-ghost use Rattle.std.specs.Prelude.{◌≡◌, ◌<◌, ◌≤◌, ℕ, List, Option, Err, IfOk, OnOk};
-ghost use Rattle.arch_base.specs.Counts.{Rose};
+ghost use Rattle.std.specs.Prelude.{◌≡◌, ◌<◌, ℕ, List, Option, Err, IfOk, OnOk};
+ghost use Rattle.arch_base.specs.Counts.{Rose, RoseIf};
 ghost use Rattle.disk_model.specs.Disk.{Image, Told, WhereTold, Unchanged, LeavesOnly};
 ghost use Rattle.arch_model.specs.Archives.{Archive};
 ghost use Rattle.arch_model.specs.declared.opening.OpenRefusal.{OpenRefusal};
@@ -33,8 +33,7 @@ fn find_synced<D: Disk>(alloc: Global, disk: &mut D) -> Result<Found, OpenRefusa
     ensures root { IfOk result (λ found. IsRoot found.root) }
     ensures epochs { IfOk result (λ found. AreBefore 64 found.entries.items) }
     ensures any_moment { LeavesOnly D.moment D.left_since disk.old disk.new (Image (D.content disk.old)) }
-    ensures later { D.faults disk.old ≤ D.faults disk.new }
-    ensures fault { result ≡ Err OpenRefusal.DiskFault → Rose (D.faults disk.old) (D.faults disk.new) }
+    ensures cause { RoseIf (result ≡ Err OpenRefusal.DiskFault) (D.faults disk.old) (D.faults disk.new) }
 {
     disk.sync()?;
     find(alloc, disk)
@@ -71,8 +70,7 @@ fn settle<D: Disk>(alloc: Global, disk: &mut D, slot: u8, root: &Root) -> Result
     ensures told { OnOk result (TellsAs (D.content disk.old) (D.content disk.new)) }
     ensures well { OpensWell result }
     ensures unchanged { result ≡ Err OpenRefusal.NoMemory → Told Unchanged (D.content disk.old) (D.content disk.new) }
-    ensures later { D.faults disk.old ≤ D.faults disk.new }
-    ensures fault { result ≡ Err OpenRefusal.DiskFault → Rose (D.faults disk.old) (D.faults disk.new) }
+    ensures cause { RoseIf (result ≡ Err OpenRefusal.DiskFault) (D.faults disk.old) (D.faults disk.new) }
 {
     let Ok(parts) = named_parts(alloc, root) else {
         return Err(OpenRefusal::NoMemory);
@@ -106,8 +104,7 @@ impl Store {
         ensures well { (a : Archive) → ReadsAs a (D.content disk.old) → OpensWell result }
         ensures refused { RefusesBefore result (D.content disk.old) (D.content disk.new) }
         ensures sizes { IfOk result (λ store. WhereTold (HasSizes store) (D.content disk.new)) }
-        ensures later { D.faults disk.old ≤ D.faults disk.new }
-        ensures fault { result ≡ Err OpenRefusal.DiskFault → Rose (D.faults disk.old) (D.faults disk.new) }
+        ensures cause { RoseIf (result ≡ Err OpenRefusal.DiskFault) (D.faults disk.old) (D.faults disk.new) }
     {
         law_of_recovery();
         law_of_opening();
