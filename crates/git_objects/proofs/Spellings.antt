@@ -5,11 +5,14 @@ use Rattle.std.proofs.lemmas.Fmt.{decimal_injective}
 use Rattle.std.specs.Fmt.{decimal, digits}
 use borrow.Rule.Slice.PartMut.{put_mid}
 use Rattle.arch_base.specs.declared.ids.Id20.{Id20}
+use Rattle.arch_base.specs.Ids.{IsId}
+use Rattle.git_objects.specs.declared.entry_kind.EntryKind.{EntryKind}
+use Rattle.git_objects.specs.declared.entry_kind.EntryKind.TheVariants.{Message, Deletion}
 use Rattle.git_objects.specs.declared.kinds.Kind.{Kind}
 use Rattle.git_objects.specs.declared.kinds.Kind.TheVariants.{Blob, Tree, Commit}
-use Rattle.git_objects.specs.Objects.{GitObject, BlobOf, TreeOf, CommitOf, IsObject, HasSize, AnyKind, kind_part, kind_word, sized, sized_before, kind_of, content_of, tree_content, spelling, tree_spelling}
+use Rattle.git_objects.specs.Objects.{GitObject, BlobOf, TreeOf, CommitOf, IsObject, HasSize, AnyKind, kind_part, kind_word, sized, sized_before, kind_of, content_of, entry_name, tree_content, spelling, tree_spelling}
 use Rattle.git_objects.specs.Fronts.{Begins}
-use Rattle.git_objects.specs.Reading.{IsFront}
+use Rattle.git_objects.specs.Reading.{IsFront, HasNoObject}
 use Rattle.git_objects.specs.Laws.{SpellingsStandApart}
 use Rattle.git_objects.proofs.Splitting.{parted-once}
 use Rattle.git_objects.proofs.Numbers.{NoByte-decimal}
@@ -37,13 +40,13 @@ kind-once Commit Tree x y e = absurd (heads 99 116 _ _ (omega arith) e)
 kind-once Commit Commit x y e = (refl, cc)
 
 -- A tree's content has 29 bytes.
-pub length-tree_content : (name : ℕ) (id : Id20) → length id.0 ≡ 20 → length (tree_content name id) ≡ 29
-length-tree_content name id h = omega (arith, h)
+pub length-tree_content : (kind : EntryKind) (id : Id20) → length id.0 ≡ 20 → length (tree_content kind id) ≡ 29
+length-tree_content kind id h = omega (arith, h)
 
 -- Each object that is spelled has a size.
 pub HasSize-content : (object : GitObject) → IsObject object → HasSize (content_of object)
 HasSize-content (BlobOf content) h = h
-HasSize-content (TreeOf name id) h = let len = length-tree_content name id h.1.len in omega (arith, len)
+HasSize-content (TreeOf kind id) h = let len = length-tree_content kind id h.len in omega (arith, len)
 HasSize-content (CommitOf content) h = h
 
 -- Contents with their sizes are equal if their bytes are.
@@ -60,9 +63,19 @@ sized-once content other x y h k e =
 pub id-once : (a b : Id20) → a.0 ≡ b.0 → a ≡ b
 id-once a b e = let make : List ℕ → Id20 = λ bytes. record { 0 = bytes } in ap make e
 
--- A tree's content determines its name and its id.
-pub tree-once : (name other : ℕ) (a b : Id20) → tree_content name a ≡ tree_content other b → (name ≡ other) × (a ≡ b)
-tree-once name other a b e = let bytes : a.0 ≡ b.0 = cc in (cc, id-once a b bytes)
+-- Kinds of entries differ by the names of their files.
+entry-once : (kind other : EntryKind) → entry_name kind ≡ entry_name other → kind ≡ other
+entry-once Message Message e = refl
+entry-once Message Deletion e = absurd (omega (arith, e))
+entry-once Deletion Message e = absurd (omega (arith, e))
+entry-once Deletion Deletion e = refl
+
+-- A tree's content determines its kind of entry and its id.
+pub tree-once : (kind other : EntryKind) (a b : Id20) → tree_content kind a ≡ tree_content other b → (kind ≡ other) × (a ≡ b)
+tree-once kind other a b e =
+    let names : entry_name kind ≡ entry_name other = cc in
+    let bytes : a.0 ≡ b.0 = cc in
+    (entry-once kind other names, id-once a b bytes)
 
 -- An object's type and content determine it.
 pub object-once : (a b : GitObject) → kind_of a ≡ kind_of b → content_of a ≡ content_of b → a ≡ b
@@ -84,10 +97,10 @@ stand_apart a b x y h k e =
     (object-once a b kinds.0 contents.0, contents.1)
 
 -- The 37 bytes of a tree: its first bytes, then the name and the id.
-pub tree-written : (name : ℕ) (id : Id20) (front back : List ℕ) → length id.0 ≡ 20 → front ≡ codes "tree 29\0100644 " → back ≡ id.0
-    → put_mid 17 20 (slice_set (front ++ replicate 22 0) 15 name) back ≡ tree_spelling name id
+pub tree-written : (kind : EntryKind) (name : ℕ) (id : Id20) (front back : List ℕ) → name ≡ entry_name kind → length id.0 ≡ 20 → front ≡ codes "tree 29\0100644 " → back ≡ id.0
+    → put_mid 17 20 (slice_set (front ++ replicate 22 0) 15 name) back ≡ tree_spelling kind id
 unfolding digits
-tree-written name id front back h e f = rw (e, f, length-tree_content name id h) (ap (λ l. codes "tree 29\0100644 " ++ name ∷ 0 ∷ l) (append-nil id.0))
+tree-written kind name id front back is h e f = rw (is, e, f, length-tree_content kind id h) (ap (λ l. codes "tree 29\0100644 " ++ entry_name kind ∷ 0 ∷ l) (append-nil id.0))
 
 -- After the mode, 22 bytes are a name, NUL and an id.
 pub tree-read : (content file id : List ℕ) (name : ℕ) → content ≡ codes "100644 " ++ file → length file ≡ 22 → get_or file 0 0 ≡ name → get_or file 1 0 ≡ 0 → id ≡ drop 2 file
@@ -97,6 +110,13 @@ tree-read content file id name e len first second back =
     let two : drop 1 file ≡ get_or file 1 0 ∷ drop (1 + 1) file = drop_more file 1 0 (omega arith) in
     let whole : file ≡ name ∷ 0 ∷ id = cc in
     e ∙ ap (λ l. codes "100644 " ++ l) whole
+
+-- After the mode, bytes that begin with no entry's name belong to no entry's tree.
+pub tree-unknown : (content file : List ℕ) → content ≡ codes "100644 " ++ file → ((kind : EntryKind) → get_or file 0 0 ≢ entry_name kind)
+    → (kind : EntryKind) (id : Id20) → IsId id → content ≢ tree_content kind id
+tree-unknown content file e none kind id valid is =
+    let here : file ≡ entry_name kind ∷ 0 ∷ id.0 = cc in
+    none kind (ap (λ l. get_or l 0 0) here)
 
 -- A piece between two others.
 pub piece-between : (bytes front content rest : List ℕ) → bytes ≡ front ++ (content ++ rest)
@@ -125,6 +145,36 @@ object-front bytes behind rest content kind object first second k e valid =
       spelled = ap (take cut) spelled ∙ take_at (spelling object) rest cut long;
     }
 
+-- Where a type and a content with its size stand in front, an object that the bytes spell has them.
+object-parts : (bytes behind rest content : List ℕ) (kind : Kind) → Begins AnyKind kind_part bytes kind behind → Begins HasSize sized_before behind content rest
+    → (object : GitObject) (more : List ℕ) → IsObject object → bytes ≡ spelling object ++ more → (kind ≡ kind_of object) × (content ≡ content_of object) × (rest ≡ more)
+object-parts bytes behind rest content kind first second object more valid is =
+    let kinds = first.only (kind_of object) (sized_before (content_of object) more) tt (is ∙ spelling-before object more) in
+    let contents = second.only (content_of object) more (HasSize-content object valid) kinds.1 in
+    (kinds.0, contents.0, contents.1)
+
+-- Bytes with the type of a tree and the content of no entry's tree spell no object.
+pub tree-none : (bytes behind rest content : List ℕ) (kind : Kind) → Begins AnyKind kind_part bytes kind behind → Begins HasSize sized_before behind content rest → kind ≡ Tree
+    → ((entry : EntryKind) (id : Id20) → IsId id → content ≢ tree_content entry id) → HasNoObject bytes
+tree-none bytes behind rest content kind first second k none = λ object more valid is.
+    let parts = object-parts bytes behind rest content kind first second object more valid is in
+    no_tree object valid (sym k ∙ parts.0) parts.1 where
+      no_tree : (object : GitObject) → IsObject object → Tree ≡ kind_of object → content ≡ content_of object → ⊥
+      no_tree (BlobOf x) valid k e = cc
+      no_tree (TreeOf m i) valid k e = none m i valid e
+      no_tree (CommitOf x) valid k e = cc
+
+-- Bytes with the type of a tree and the content of an entry's tree spell that tree, and no other
+-- object.
+pub tree-again : (bytes behind rest content : List ℕ) (kind : Kind) → Begins AnyKind kind_part bytes kind behind → Begins HasSize sized_before behind content rest → kind ≡ Tree
+    → (entry : EntryKind) (id : Id20) → content ≡ tree_content entry id → (object : GitObject) (more : List ℕ) → IsObject object → bytes ≡ spelling object ++ more
+    → (TreeOf entry id ≡ object) × (length bytes - length rest ≡ length (spelling object))
+tree-again bytes behind rest content kind first second k entry id e object more valid is =
+    let parts = object-parts bytes behind rest content kind first second object more valid is in
+    let whole : length bytes ≡ length (spelling object) + length more = ap length is ∙ length-append (spelling object) more in
+    let left : length rest ≡ length more = ap length parts.2 in
+    (object-once (TreeOf entry id) object (sym k ∙ parts.0) (sym e ∙ parts.1), omega arith)
+
 -- The content is a piece of the bytes.
 pub content-lent : (bytes behind rest content : List ℕ) (kind : Kind) → Begins AnyKind kind_part bytes kind behind → Begins HasSize sized_before behind content rest
     → (length content ≤ length bytes - length rest) × (content ≡ slice_range bytes (length bytes - length rest - length content) (length bytes - length rest))
@@ -141,6 +191,6 @@ small-behind content word file id k e back small =
     omega (arith, here, small)
 
 -- The spelling of a tree has 37 bytes.
-pub length-tree_spelling : (name : ℕ) (id : Id20) → length id.0 ≡ 20 → length (tree_spelling name id) ≡ 37
+pub length-tree_spelling : (kind : EntryKind) (id : Id20) → length id.0 ≡ 20 → length (tree_spelling kind id) ≡ 37
 unfolding digits
-length-tree_spelling name id h = rw (length-tree_content name id h) (omega (arith, length-tree_content name id h))
+length-tree_spelling kind id h = rw (length-tree_content kind id h) (omega (arith, length-tree_content kind id h))

@@ -1,33 +1,36 @@
 -- Git objects, their spellings and ids (git, "Git Objects": type, space, size in digits, NUL and
 -- content; the id is the SHA-1 of the whole).
-use Rattle.std.specs.Prelude.{◌≡◌, ◌≢◌, ◌<◌, ◌^◌, ℕ, Bool, true, ◌||◌, ◌==◌, List, ◌∷◌, ◌++◌, length, codes, Option, MatchOption}
+use Rattle.std.specs.Prelude.{◌≡◌, ◌≢◌, ◌<◌, ◌^◌, ℕ, List, ◌∷◌, ◌++◌, length, codes, Option, MatchOption}
 use Rattle.std.specs.Fmt.{decimal}
 use Rattle.sha1.specs.Sha1.{sha1}
 use Rattle.arch_base.specs.declared.ids.Id20.{Id20}
 use Rattle.arch_base.specs.Ids.{IsId}
+use Rattle.git_objects.specs.declared.entry_kind.EntryKind.{EntryKind}
+use Rattle.git_objects.specs.declared.entry_kind.EntryKind.TheVariants.{Message, Deletion}
 use Rattle.git_objects.specs.declared.kinds.Kind.{Kind}
 use Rattle.git_objects.specs.declared.kinds.Kind.TheVariants.{Blob, Tree, Commit}
 
--- An object: a blob with its content, a tree that holds one file of a name, or a commit with its
+-- An object: a blob with its content, a tree that holds the one file of an entry, or a commit with its
 -- content.
 pub data GitObject : Type 0 where
   BlobOf : (content : List ℕ) → GitObject
-  TreeOf : (name : ℕ) (id : Id20) → GitObject
+  TreeOf : (kind : EntryKind) (id : Id20) → GitObject
   CommitOf : (content : List ℕ) → GitObject
 
--- The name of the file in a tree of the archive: `m` or `d`.
-abbrev pub is_entry_name : ℕ → Bool
-is_entry_name name = name == 109 || name == 100
+-- The name of the file in an entry's tree: `m` of a message, `d` of a deletion
+-- (public-inbox-v2-format, "GIT TREE LAYOUT").
+abbrev pub entry_name : EntryKind → ℕ
+entry_name Message = 109
+entry_name Deletion = 100
 
 -- A content whose size is an unsigned number of 64 bits.
 abbrev pub HasSize : List ℕ → Type 0
 HasSize content = length content < 2 ^ 64
 
--- The objects that are spelled: the size of each is below 2^64, and a tree holds one file `m` or
--- `d`.
+-- The objects that are spelled: the size of each is below 2^64.
 abbrev pub IsObject : GitObject → Type 0
 IsObject (BlobOf content) = HasSize content
-IsObject (TreeOf name id) = (is_entry_name name ≡ true) × IsId id
+IsObject (TreeOf kind id) = IsId id
 IsObject (CommitOf content) = HasSize content
 
 -- The type of an object, and the space after it.
@@ -52,20 +55,20 @@ sized content = decimal (length content) ++ 0 ∷ content
 abbrev pub sized_before : List ℕ → List ℕ → List ℕ
 sized_before content rest = decimal (length content) ++ 0 ∷ (content ++ rest)
 
--- The content of a tree of one file: its mode, its name, NUL and the id of its blob.
-abbrev pub tree_content : ℕ → Id20 → List ℕ
-tree_content name id = codes "100644 " ++ name ∷ 0 ∷ id.0
+-- The content of an entry's tree: the mode of its file, the name, NUL and the id of the blob.
+abbrev pub tree_content : EntryKind → Id20 → List ℕ
+tree_content kind id = codes "100644 " ++ entry_name kind ∷ 0 ∷ id.0
 
 -- The type of an object.
 abbrev pub kind_of : GitObject → Kind
 kind_of (BlobOf content) = Blob
-kind_of (TreeOf name id) = Tree
+kind_of (TreeOf kind id) = Tree
 kind_of (CommitOf content) = Commit
 
 -- The content of an object.
 abbrev pub content_of : GitObject → List ℕ
 content_of (BlobOf content) = content
-content_of (TreeOf name id) = tree_content name id
+content_of (TreeOf kind id) = tree_content kind id
 content_of (CommitOf content) = content
 
 -- The spelling of an object.
@@ -76,9 +79,9 @@ spelling object = kind_word (kind_of object) ++ sized (content_of object)
 abbrev pub blob_spelling : List ℕ → List ℕ
 blob_spelling content = spelling (BlobOf content)
 
--- The spelling of a tree of one file.
-abbrev pub tree_spelling : ℕ → Id20 → List ℕ
-tree_spelling name id = spelling (TreeOf name id)
+-- The spelling of an entry's tree.
+abbrev pub tree_spelling : EntryKind → Id20 → List ℕ
+tree_spelling kind id = spelling (TreeOf kind id)
 
 -- The id of a spelling: its SHA-1.
 abbrev pub id_of : List ℕ → Id20
@@ -88,8 +91,8 @@ id_of text = record { 0 = sha1 text }
 abbrev pub blob_id_of : List ℕ → Id20
 blob_id_of content = id_of (blob_spelling content)
 
--- A content is that of a tree of one file with this name and id, or that of no such tree.
-abbrev pub IsTreeContent : List ℕ → Option (ℕ × Id20) → Type 0
+-- A content is that of the tree of an entry of this kind with this id, or that of no such tree.
+abbrev pub IsTreeContent : List ℕ → Option (EntryKind × Id20) → Type 0
 IsTreeContent content found =
-    MatchOption found ((name : ℕ) (id : Id20) → is_entry_name name ≡ true → IsId id → content ≢ tree_content name id)
-    (λ f. (is_entry_name f.0 ≡ true) × IsId f.1 × (content ≡ tree_content f.0 f.1))
+    MatchOption found ((kind : EntryKind) (id : Id20) → IsId id → content ≢ tree_content kind id)
+    (λ f. IsId f.1 × (content ≡ tree_content f.0 f.1))

@@ -11,7 +11,7 @@ use Rattle.git_objects.specs.declared.commit_reading.Parts.{Parts}
 -- The object that a reader returned.
 abbrev pub shown : Object → GitObject
 shown (Blob content) = BlobOf content.now
-shown (Tree name id) = TreeOf name id
+shown (Tree kind id) = TreeOf kind id
 shown (Commit content) = CommitOf content.now
 
 -- The bytes start with the spelling of this object, which has this length.
@@ -23,7 +23,7 @@ pub record IsFront (bytes : List ℕ) (object : GitObject) (len : ℕ) : Type 0 
 -- The borrowed content is the piece of the bytes that ends where the object ends.
 abbrev pub LendsPiece : List ℕ → Object → ℕ → Type 0
 LendsPiece bytes (Blob content) len = (length content.now ≤ len) × (content.now ≡ slice_range bytes (len - length content.now) len)
-LendsPiece bytes (Tree name id) len = Unit {0}
+LendsPiece bytes (Tree kind id) len = Unit {0}
 LendsPiece bytes (Commit content) len = (length content.now ≤ len) × (content.now ≡ slice_range bytes (len - length content.now) len)
 
 -- The bytes start with no object's spelling.

@@ -1,11 +1,12 @@
 //! Objects, their ids, and their reader.
-ghost use Rattle.std.specs.Prelude.{◌≡◌, ◌≢◌, ◌++◌, ℕ, List, IfSome, IfNone, IsTrue, length, MatchOption};
+ghost use Rattle.std.specs.Prelude.{◌≡◌, ◌≢◌, ◌++◌, ℕ, List, IfSome, IfNone, length, MatchOption};
 ghost use Rattle.arch_base.specs.Ids.{IsId};
 ghost use Rattle.git_objects.specs.Fronts.{Lacks, Begins};
-ghost use Rattle.git_objects.specs.Objects.{GitObject, IsObject, HasSize, sized_before, spelling, blob_id_of, id_of, tree_spelling, is_entry_name as entry_name, IsTreeContent};
+ghost use Rattle.git_objects.specs.Objects.{GitObject, IsObject, HasSize, sized_before, spelling, blob_id_of, id_of, tree_spelling, IsTreeContent};
 ghost use Rattle.git_objects.specs.Reading.{IsFront, LendsPiece, HasNoObject, Finds, shown};
 ghost use Rattle.git_objects.specs.Laws.{SpellingsStandApart};
 
+use crate::entry_kind::EntryKind;
 use crate::fronts::{after, read_number};
 use crate::kinds::{Kind, read_kind};
 use arch_base::{Id20, ObjectId};
@@ -17,10 +18,10 @@ use sha1::Sha1;
 pub enum Object<'a> {
     /// A file's content.
     Blob(&'a [u8]),
-    /// A tree of one file: its name, `m` or `d`, and the id of its blob.
+    /// A tree of one file: the kind of entry that its name says, and the id of its blob.
     Tree {
-        /// The file's name.
-        name: u8,
+        /// The kind of entry.
+        kind: EntryKind,
         /// The id of the file's blob.
         id: ObjectId,
     },
@@ -50,14 +51,13 @@ pub fn object_id(spelling: &[u8]) -> ObjectId
     Id20(Sha1::digest(spelling))
 }
 
-/// Returns the spelling of a tree of one file, `m` or `d`, of mode 100644.
-pub fn tree_bytes(name: u8, id: &ObjectId) -> [u8; 37]
-    requires { IsTrue (entry_name name) }
-    ensures { result ≡ tree_spelling name id.now }
+/// Returns the spelling of the tree of an entry: one file, `m` or `d`, of mode 100644.
+pub fn tree_bytes(kind: EntryKind, id: &ObjectId) -> [u8; 37]
+    ensures { result ≡ tree_spelling kind id.now }
 {
     let mut bytes = [0; 37];
     bytes[..15].copy_from_slice(b"tree 29\x00100644 ");
-    bytes[15] = name;
+    bytes[15] = kind.name();
     bytes[17..].copy_from_slice(&id.0);
     bytes
 }
@@ -81,8 +81,8 @@ pub fn read_object(bytes: &[u8]) -> Option<(Object<'_>, usize)>
         Kind::Blob => Some((Object::Blob(content), len)),
         Kind::Commit => Some((Object::Commit(content), len)),
         Kind::Tree => {
-            let (name, id) = read_tree(content)?;
-            Some((Object::Tree { name, id }, len))
+            let (entry, id) = read_tree(content)?;
+            Some((Object::Tree { kind: entry, id }, len))
         }
     }
 }
@@ -99,24 +99,18 @@ fn read_content(bytes: &[u8]) -> Option<(&[u8], &[u8])>
     Some(rest.split_at(size as usize))
 }
 
-/// Reads the name and the id in a tree's content.
-fn read_tree(content: &[u8]) -> Option<(u8, ObjectId)>
+/// Reads the kind of entry and the id in a tree's content.
+fn read_tree(content: &[u8]) -> Option<(EntryKind, ObjectId)>
     ensures { IsTreeContent content.now result }
 {
     let file = after(b"100644 ", content)?;
-    if file.len() != 22 || !is_entry_name(file[0]) || file[1] != 0 {
+    if file.len() != 22 || file[1] != 0 {
         return None;
     }
+    let kind = EntryKind::of_name(file[0])?;
     let mut id = [0; 20];
     id.copy_from_slice(&file[2..]);
-    Some((file[0], Id20(id)))
-}
-
-/// Returns whether a tree of the archive may have a file of this name.
-fn is_entry_name(name: u8) -> bool
-    ensures { result ≡ entry_name name }
-{
-    name == b'm' || name == b'd'
+    Some((kind, Id20(id)))
 }
 
 /// Shows that no object's spelling is a proper prefix of another's.

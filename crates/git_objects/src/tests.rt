@@ -1,6 +1,7 @@
 //! Tests of ids and spellings against git, and of bytes that spell nothing.
 use crate::{
-    Commit, Object, blob_id, commit_bytes, object_id, read_commit, read_object, tree_bytes,
+    Commit, EntryKind, Object, blob_id, commit_bytes, object_id, read_commit, read_object,
+    tree_bytes,
 };
 use arch_base::{Bytes, NoMemory, ObjectId, id_of_hex};
 use std::alloc::Global;
@@ -27,8 +28,13 @@ fn blobs_have_the_ids_of_git(rt: HostRuntime) {
 fn trees_have_the_ids_of_git(rt: HostRuntime) {
     let deletion = b"087bd2d5b1a1d0198d0588d026926acab77d3921";
     let blob = blob_id(b"hello\n");
-    assert!(rt; has_digits(&object_id(&tree_bytes(b'm', &blob)), TREE));
-    assert!(rt; has_digits(&object_id(&tree_bytes(b'd', &blob)), deletion));
+    assert!(rt; has_digits(&object_id(&tree_bytes(EntryKind::Message, &blob)), TREE));
+    assert!(rt;
+        has_digits(
+            &object_id(&tree_bytes(EntryKind::Deletion, &blob)),
+            deletion
+        )
+    );
 }
 
 /// Returns whether bytes start with the blob of a content whose spelling has `taken` bytes.
@@ -41,8 +47,8 @@ fn begins_with_blob(bytes: &[u8], wanted: &[u8], taken: usize) -> bool {
 
 /// Returns whether the spelling of a deletion's tree is read as that tree, all of it.
 fn reads_deletion_again(blob: &ObjectId) -> bool {
-    match read_object(&tree_bytes(b'd', blob)) {
-        Some((Object::Tree { name, id }, 37)) => name == b'd' && id == *blob,
+    match read_object(&tree_bytes(EntryKind::Deletion, blob)) {
+        Some((Object::Tree { kind, id }, 37)) => kind == EntryKind::Deletion && id == *blob,
         _ => false,
     }
 }

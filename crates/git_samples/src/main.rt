@@ -14,7 +14,7 @@ mod samples;
 
 use anyhow::anyhow;
 use arch_base::{Bytes, NoMemory, ObjectId, decimal};
-use git_objects::{Commit, blob_id, commit_bytes, object_id, tree_bytes};
+use git_objects::{Commit, EntryKind, blob_id, commit_bytes, object_id, tree_bytes};
 use samples::{ALONE, BLOBS, CHAIN, Sample};
 use std::alloc::Global;
 
@@ -25,8 +25,8 @@ fn main(rt: HostRuntime) -> anyhow::Result<()> {
         print_blob(&rt, alloc, content)?;
     }
     print_blob(&rt, alloc, every_byte(alloc)?.as_slice())?;
-    let kept = tree_bytes(b'm', &blob_id(b"hello\n"));
-    let dropped = tree_bytes(b'd', &blob_id(b""));
+    let kept = tree_bytes(EntryKind::Message, &blob_id(b"hello\n"));
+    let dropped = tree_bytes(EntryKind::Deletion, &blob_id(b""));
     print_object(&rt, alloc, "tree", &object_id(&kept), &kept)?;
     print_object(&rt, alloc, "tree", &object_id(&dropped), &dropped)?;
     for sample in &ALONE {
