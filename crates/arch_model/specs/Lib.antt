@@ -8,5 +8,6 @@ pub mod Following
 pub mod Judging
 pub mod Laws
 pub mod Memory
+pub mod Next
 pub mod Standing
 pub mod Validity

@@ -16,6 +16,7 @@ mod line;
 mod made;
 mod memory;
 mod memory_keep;
+mod next;
 mod opening;
 mod text_refusal;
 
@@ -32,6 +33,7 @@ pub use laws::{
 };
 pub use line::EntryLine;
 pub use memory::MemArchive;
+pub use next::Next;
 pub use opening::OpenRefusal;
 pub use text_refusal::TextRefusal;
 
