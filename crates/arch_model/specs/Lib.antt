@@ -4,5 +4,6 @@ pub mod Delivery
 pub mod Epochs
 pub mod Following
 pub mod Laws
+pub mod Next
 pub mod Standing
 pub mod Validity

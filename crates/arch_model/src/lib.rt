@@ -7,6 +7,7 @@ mod command;
 mod keep;
 mod laws;
 mod line;
+mod next;
 mod opening;
 mod text_refusal;
 
@@ -20,5 +21,6 @@ pub use laws::{
 };
 pub use line::EntryLine;
 pub use mail_commits::{EntryIds, entry_commit, push_entry};
+pub use next::Next;
 pub use opening::OpenRefusal;
 pub use text_refusal::TextRefusal;

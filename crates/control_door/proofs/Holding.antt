@@ -1,23 +1,25 @@
 -- What a session holds is the beginning of a request, and the acts of the code are acts of a
 -- session.
-use Rattle.std.proofs.Common.{◌≡◌, ◌+◌, ◌-◌, ◌<◌, ◌≤◌, ℕ, Bool, true, false, List, [], ◌∷◌, ◌++◌, length, take, drop, Option, Some, None, refl, sym, ◌∙◌, ap, subst, arith, if◌then◌else◌, length-append, append_assoc}
+use Rattle.std.proofs.Common.{◌≡◌, ◌+◌, ◌-◌, ◌<◌, ◌≤◌, ℕ, Bool, true, false, List, [], ◌∷◌, ◌++◌, length, take, drop, Option, Some, None, Result, refl, sym, ◌∙◌, ap, subst, arith, if◌then◌else◌, length-append, append_assoc}
 use Rattle.std.proofs.lemmas.List.{append-nil}
 use Rattle.std.proofs.Math.Seq.{take-append-add, drop-append-add}
 use Rattle.line_door.specs.Lines as line
 use Rattle.line_door.specs.Acts.{Outside, Memory, Acts, held_if}
 use Rattle.line_door.specs.Plain.{silent}
-use Rattle.line_door.specs.Phrases.{Says}
+use Rattle.edge_io.specs.Phrases.{Says}
+use Rattle.edge_io.specs.declared.sink.SinkFault.{SinkFault}
 use Rattle.line_door.proofs.Acting.{acts-closing, acts-silent, acts-words}
 use Rattle.line_door.proofs.Fronts.{front-joined, front-goes_on}
 use Rattle.arch_model.specs.Standing.{Standing}
 use Rattle.control_door.specs.declared.order.Order.{Order}
 use Rattle.control_door.specs.declared.order.Order.TheVariants.{Deliver}
-use Rattle.control_door.specs.declared.next.Payload.{Payload}
+use Rattle.control_door.specs.declared.front.Payload.{Payload}
 use Rattle.control_door.specs.declared.session.Turn.TheVariants.{Opened, Went, Closed}
 use Rattle.control_door.specs.Orders.{order_of}
+use Rattle.answer_lines.specs.Lines.{memory_word}
 use Rattle.control_door.specs.Requests as requests
 use Rattle.control_door.specs.Requests.{Request, Ahead, Asked, Unfinished, asked_by, ahead, is_asked, is_request, line_limit}
-use Rattle.control_door.specs.Door.{Waiting, waiting, said, said_to, said_at, said_opening, closes, unkept, memory_word}
+use Rattle.control_door.specs.Door.{Waiting, waiting, said, said_to, said_at, said_opening, closes, unkept}
 use Rattle.control_door.specs.Sessions.{IsHeld, IsPayload, IsTurn}
 use Rattle.control_door.proofs.Aheads.{asked_by-whole, asked_by-part}
 
@@ -61,12 +63,12 @@ unkept-closes s w [] (byte ∷ piece) some = refl
 unkept-closes s w [] [] some = absurd (omega (arith, some))
 
 -- The word for out of memory closes the session.
-pub closes-keeping : (moment : ℕ) (opened : Bool) (s : Standing) (old piece : List ℕ) (payload : Option Payload) (i j : Outside) (ok : Bool) → 0 < length piece → IsHeld (old ++ piece) payload → i.disk ≤ j.disk → Says memory_word i.out i.lost j.out j.lost ok
+pub closes-keeping : (moment : ℕ) (opened : Bool) (s : Standing) (old piece : List ℕ) (payload : Option Payload) (i j : Outside) (sent : Result Unit SinkFault) → 0 < length piece → IsHeld (old ++ piece) payload → i.disk ≤ j.disk → Says memory_word i.out i.lost j.out j.lost sent
     → Acts (said moment s (waiting (old ++ piece) opened)) i None s j
-closes-keeping moment opened s old piece payload i j ok some h later words =
+closes-keeping moment opened s old piece payload i j sent some h later words =
     let part = held-unfinished (old ++ piece) payload h in
     let w : Waiting = waiting (old ++ piece) opened in
-    acts-closing (said moment s w) Memory (closes memory_word s) i j s ok (rw part (unkept-closes s w old piece some)) refl (λ d. absurd (cc d)) later words refl
+    acts-closing (said moment s w) Memory (closes memory_word s) i j s sent (rw part (unkept-closes s w old piece some)) refl (λ d. absurd (cc d)) later words refl
 
 -- The answer to a request is the answer to the bytes that start with it.
 acts-asked : (moment : ℕ) (s : Standing) (bytes : List ℕ) (request : Request) (rest : List ℕ) (i : Outside) (held : Option Waiting) (t : Standing) (j : Outside) → ahead bytes ≡ Asked request rest → Acts (said_to moment s request rest) i held t j

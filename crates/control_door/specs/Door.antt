@@ -7,19 +7,8 @@ use Rattle.arch_model.specs.Archives.{Entry, Archive, text_of, in_epoch}
 use Rattle.arch_model.specs.Epochs.{epoch_bytes}
 use Rattle.arch_model.specs.Delivery.{Done, delivered, answer_line}
 use Rattle.arch_model.specs.Standing.{Standing, standing}
+use Rattle.answer_lines.specs.Lines.{reply_line, memory_word, disk_word}
 use Rattle.control_door.specs.Requests.{Request, Delivers, Shows, Lists, Quits, Mistakes, Exceeds, Ahead, Asked, Unfinished, ahead, is_request}
-
--- A line of a reply ends with a line feed.
-abbrev pub reply_line : List ℕ → List ℕ
-reply_line words = words ++ 10 ∷ []
-
--- The word for out of memory.
-abbrev pub memory_word : List ℕ
-memory_word = reply_line (codes "12 no memory")
-
--- The word for a fault of the disk.
-abbrev pub disk_word : List ℕ
-disk_word = reply_line (codes "10 disk fault")
 
 -- The word for a line that is not an order, or that is too long.
 abbrev pub bad_word : List ℕ

@@ -8,11 +8,11 @@ use Rattle.control_door.specs.Orders.{order_of}
 use Rattle.control_door.specs.Requests.{Request, Delivers, Shows, Lists, Quits, Mistakes, Exceeds, Asked, ahead, line_limit, is_request}
 use Rattle.control_door.specs.Door.{waiting, said, said_to, said_opening}
 use Rattle.control_door.specs.declared.order.Order.TheVariants.{Deliver}
-use Rattle.control_door.specs.declared.next.Payload.{Payload}
-use Rattle.control_door.specs.declared.next.Requested.{Requested}
-use Rattle.control_door.specs.declared.next.Requested.TheVariants as requested
-use Rattle.control_door.specs.declared.next.Next.{Next}
-use Rattle.control_door.specs.declared.next.Next.TheVariants as next
+use Rattle.control_door.specs.declared.front.Payload.{Payload}
+use Rattle.control_door.specs.declared.front.Requested.{Requested}
+use Rattle.control_door.specs.declared.front.Requested.TheVariants as requested
+use Rattle.control_door.specs.declared.front.Front.{Front}
+use Rattle.control_door.specs.declared.front.Front.TheVariants as found
 use Rattle.control_door.specs.declared.session.Turn.{Turn}
 use Rattle.control_door.specs.declared.session.Turn.TheVariants.{Opened, Went, Kept, Closed}
 
@@ -60,9 +60,9 @@ pub record IsRequested (held piece : List ℕ) (request : Requested) (taken : �
   pub stands : ahead (held ++ piece) ≡ Asked (request_of held request) (drop taken piece)
 
 -- The front is the beginning of a request, or a whole one.
-abbrev pub IsNext : List ℕ → List ℕ → Next → Type 0
-IsNext held piece (next.Rest payload) = IsHeld (held ++ piece) payload
-IsNext held piece (next.Whole request taken) = IsRequested held piece request taken
+abbrev pub IsFront : List ℕ → List ℕ → Front → Type 0
+IsFront held piece (found.Rest payload) = IsHeld (held ++ piece) payload
+IsFront held piece (found.Whole request taken) = IsRequested held piece request taken
 
 -- One act on the bytes at the front, given whether the archive was already reopened. It is the
 -- reopening, or a request that took `n` bytes of the piece and left the session open, or the

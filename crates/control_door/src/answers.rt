@@ -1,46 +1,45 @@
 //! Answers the requests of a control connection from a keeper.
-ghost use Rattle.std.specs.Prelude.{◌≡◌, ◌≤◌, ◌++◌, ℕ, List, length, drop, true, false, Option, Some, None, is_some};
+ghost use Rattle.std.specs.Prelude.{◌≡◌, ◌≤◌, ◌++◌, ℕ, List, length, drop, true, false, Option, Some, None, is_some, is_ok};
 ghost use Rattle.line_door.specs.Acts.{outside};
 ghost use Rattle.arch_model.specs.Archives.{Archive, text_of};
 ghost use Rattle.arch_base.specs.Moments.{last_moment};
+ghost use Rattle.arch_model.specs.Next.{continues};
 ghost use Rattle.control_door.specs.Requests.{Delivers, Shows, Lists};
 ghost use Rattle.control_door.specs.Sessions.{request_of, StartsWithin, Answers, Opens};
 
 use crate::epochs::epochs_of;
-use crate::next::Requested;
-use crate::replies::{
-    say_answer, say_bad, say_memory, say_not_live, say_text, say_unopened, say_unread,
-};
+use crate::front::Requested;
+use crate::replies::{say_bad, say_not_live, say_text};
+use answer_lines::{say_answer, say_memory, say_unopened, say_unread};
 use arch_base::Bytes;
-use arch_model::{Command, Keep};
-use edge_io::Sink;
-use line_door::say;
+use arch_model::{Command, Keep, Next};
+use edge_io::{Sink, SinkFault, say};
 use std::alloc::Global;
 
-/// Reopens the archive, and returns whether it is open.
+/// Reopens the archive. The session continues if it is open.
 ///
 /// Does nothing if no command is in doubt. Writes the reason if reopening fails.
-pub(crate) fn open_again<K: Keep, O: Sink>(keep: &mut K, out: &mut O) -> bool
+pub(crate) fn open_again<K: Keep, O: Sink>(keep: &mut K, out: &mut O) -> Next
     ensures acts { Opens K.holds K.stale K.clock K.leaves keep.old
         (outside (O.taken out.old) (K.faults keep.old) (O.faults out.old))
-        result keep.new
+        (continues result) keep.new
         (outside (O.taken out.new) (K.faults keep.new) (O.faults out.new)) }
-    ensures ready { result ≡ true → K.stale keep.new ≡ false }
+    ensures ready { continues result ≡ true → K.stale keep.new ≡ false }
     ensures later { K.faults keep.old ≤ K.faults keep.new }
     ensures sink { O.alike out.old out.new }
 {
     match keep.fresh() {
-        Ok(()) => true,
+        Ok(()) => Next::Go,
         Err(refusal) => {
             let _ = say_unopened(refusal, out);
-            false
+            Next::Close
         }
     }
 }
 
 /// Answers a whole request, and returns whether the session continues.
 ///
-/// May change what is held.
+/// It closes if a send is lost. May change what is held.
 pub(crate) fn say_requested<K: Keep, O: Sink>(
     request: Requested<'_>,
     alloc: Global,
@@ -48,38 +47,45 @@ pub(crate) fn say_requested<K: Keep, O: Sink>(
     moment: u64,
     keep: &mut K,
     out: &mut O,
-) -> bool
+) -> Next
     requires ready { K.stale keep.old ≡ false }
     requires moment { moment ≤ last_moment }
     requires starts { StartsWithin held.old request }
     ensures acts { Answers K.holds K.stale K.clock K.leaves moment (request_of held.old request.entry) keep.old
         (outside (O.taken out.old) (K.faults keep.old) (O.faults out.old))
-        result keep.new
+        (continues result) keep.new
         (outside (O.taken out.new) (K.faults keep.new) (O.faults out.new)) }
     ensures later { K.faults keep.old ≤ K.faults keep.new }
     ensures sink { O.alike out.old out.new }
 {
     match request {
-        Requested::Message(message) => say_delivered(message, moment, keep, out),
-        Requested::Joined(start, last) => say_joined(held, start, last, moment, keep, out),
-        Requested::Text(number) => say_message(alloc, number, keep, out),
-        Requested::Epochs => say_epochs(alloc, keep, out),
-        Requested::Quit => false,
-        Requested::Mistake => say_bad(out),
+        Requested::Message(message) => Next::after(say_delivered(message, moment, keep, out)),
+        Requested::Joined(start, last) => {
+            Next::after(say_joined(held, start, last, moment, keep, out))
+        }
+        Requested::Text(number) => Next::after(say_message(alloc, number, keep, out)),
+        Requested::Epochs => Next::after(say_epochs(alloc, keep, out)),
+        Requested::Quit => Next::Close,
+        Requested::Mistake => Next::after(say_bad(out)),
         Requested::Excess => {
             let _ = say_bad(out);
-            false
+            Next::Close
         }
     }
 }
 
-/// Delivers a message and writes the answer. Returns whether all of it was taken.
-fn say_delivered<K: Keep, O: Sink>(message: &[u8], moment: u64, keep: &mut K, out: &mut O) -> bool
+/// Delivers a message and writes the answer.
+fn say_delivered<K: Keep, O: Sink>(
+    message: &[u8],
+    moment: u64,
+    keep: &mut K,
+    out: &mut O,
+) -> Result<(), SinkFault>
     requires ready { K.stale keep.old ≡ false }
     requires moment { moment ≤ last_moment }
     ensures acts { Answers K.holds K.stale K.clock K.leaves moment (Delivers message.now) keep.old
         (outside (O.taken out.old) (K.faults keep.old) (O.faults out.old))
-        result keep.new
+        (is_ok result) keep.new
         (outside (O.taken out.new) (K.faults keep.new) (O.faults out.new)) }
     ensures later { K.faults keep.old ≤ K.faults keep.new }
     ensures sink { O.alike out.old out.new }
@@ -91,7 +97,7 @@ fn say_delivered<K: Keep, O: Sink>(message: &[u8], moment: u64, keep: &mut K, ou
 /// Delivers a message that starts at an offset of what is held and ends with `last`, and writes the
 /// answer.
 ///
-/// Returns whether all of it was taken. Out of memory, writes `12 no memory` and delivers nothing.
+/// Out of memory, writes `12 no memory` and delivers nothing.
 fn say_joined<K: Keep, O: Sink>(
     held: &mut Bytes,
     start: usize,
@@ -99,13 +105,13 @@ fn say_joined<K: Keep, O: Sink>(
     moment: u64,
     keep: &mut K,
     out: &mut O,
-) -> bool
+) -> Result<(), SinkFault>
     requires ready { K.stale keep.old ≡ false }
     requires moment { moment ≤ last_moment }
     requires starts { start ≤ length held.old }
     ensures acts { Answers K.holds K.stale K.clock K.leaves moment (Delivers (drop start (held.old ++ last.now))) keep.old
         (outside (O.taken out.old) (K.faults keep.old) (O.faults out.old))
-        result keep.new
+        (is_ok result) keep.new
         (outside (O.taken out.new) (K.faults keep.new) (O.faults out.new)) }
     ensures later { K.faults keep.old ≤ K.faults keep.new }
     ensures sink { O.alike out.old out.new }
@@ -116,12 +122,17 @@ fn say_joined<K: Keep, O: Sink>(
     say_delivered(held.as_slice().split_at(start).1, moment, keep, out)
 }
 
-/// Writes the text of a number, or why there is none to write. Returns whether all of it was taken.
-fn say_message<K: Keep, O: Sink>(alloc: Global, number: u32, keep: &mut K, out: &mut O) -> bool
+/// Writes the text of a number, or why there is none to write.
+fn say_message<K: Keep, O: Sink>(
+    alloc: Global,
+    number: u32,
+    keep: &mut K,
+    out: &mut O,
+) -> Result<(), SinkFault>
     requires { K.stale keep.old ≡ false }
     ensures acts { (moment : ℕ) → Answers K.holds K.stale K.clock K.leaves moment (Shows number) keep.old
         (outside (O.taken out.old) (K.faults keep.old) (O.faults out.old))
-        result keep.new
+        (is_ok result) keep.new
         (outside (O.taken out.new) (K.faults keep.new) (O.faults out.new)) }
     ensures later { K.faults keep.old ≤ K.faults keep.new }
     ensures sink { O.alike out.old out.new }
@@ -148,12 +159,12 @@ fn is_live<K: Keep>(number: u32, keep: &K) -> bool
     }
 }
 
-/// Writes the list of epochs, or why it can't be read. Returns whether all of it was taken.
-fn say_epochs<K: Keep, O: Sink>(alloc: Global, keep: &mut K, out: &mut O) -> bool
+/// Writes the list of epochs, or why it can't be read.
+fn say_epochs<K: Keep, O: Sink>(alloc: Global, keep: &mut K, out: &mut O) -> Result<(), SinkFault>
     requires { K.stale keep.old ≡ false }
     ensures acts { (moment : ℕ) → Answers K.holds K.stale K.clock K.leaves moment Lists keep.old
         (outside (O.taken out.old) (K.faults keep.old) (O.faults out.old))
-        result keep.new
+        (is_ok result) keep.new
         (outside (O.taken out.new) (K.faults keep.new) (O.faults out.new)) }
     ensures later { K.faults keep.old ≤ K.faults keep.new }
     ensures sink { O.alike out.old out.new }

@@ -3,8 +3,8 @@
 
 mod answers;
 mod epochs;
+mod front;
 mod laws;
-mod next;
 mod order;
 mod replies;
 mod session;
@@ -13,5 +13,4 @@ mod tests;
 
 pub use laws::cut_laws;
 pub use order::{Order, read_order};
-pub use replies::{say_answer, say_damage, say_number};
 pub use session::Session;

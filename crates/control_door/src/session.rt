@@ -4,17 +4,18 @@ ghost use Rattle.line_door.specs.Lines.{front, Whole, content};
 ghost use Rattle.line_door.specs.Acts.{outside, held_if};
 ghost use Rattle.line_door.specs.Course.{talk, Fed};
 ghost use Rattle.arch_base.specs.Moments.{last_moment};
+ghost use Rattle.arch_model.specs.Next.{continues};
 ghost use Rattle.arch_model.specs.Standing.{Standing, Fits};
 ghost use Rattle.control_door.specs.Orders.{order_of};
 ghost use Rattle.control_door.specs.Requests.{line_limit};
 ghost use Rattle.control_door.specs.Door.{waiting, said as said_of, has_request};
 
 use crate::answers::{open_again, say_requested};
-use crate::next::{Next, Payload, Requested};
+use crate::front::{Front, Payload, Requested};
 use crate::order::{Order, read_order};
-use crate::replies::say_memory;
+use answer_lines::say_memory;
 use arch_base::Bytes;
-use arch_model::Keep;
+use arch_model::{Keep, Next};
 use edge_io::Sink;
 use line_door::{Ahead, line_content, next_in};
 use std::alloc::Global;
@@ -58,7 +59,7 @@ impl Model for Session {
 }
 
 impl Session {
-    ghost use Rattle.control_door.specs.Sessions.{IsTurn, IsHeld, IsPayload, IsNext, Turns, Takes};
+    ghost use Rattle.control_door.specs.Sessions.{IsTurn, IsHeld, IsPayload, IsFront, Turns, Takes};
 
     /// Returns a session without bytes. The control door has no greeting.
     pub fn open(alloc: Global) -> Session
@@ -100,14 +101,14 @@ impl Session {
         moment: u64,
         keep: &mut K,
         out: &mut O,
-    ) -> bool
+    ) -> Next
         requires ready { K.stale keep.old ≡ false }
         requires moment { moment ≤ last_moment }
         ensures fed { (s : Standing) → Fits K.holds K.stale K.clock K.leaves keep.old s →
             (t : Standing) × (opened : Bool) × Fits K.holds K.stale K.clock K.leaves keep.new t
             × Fed (said_of moment) has_request
             (talk (Some (waiting (self.old ++ piece.now) true)) s (outside (O.taken out.old) (K.faults keep.old) (O.faults out.old)))
-            (talk (held_if result (waiting self.new opened)) t (outside (O.taken out.new) (K.faults keep.new) (O.faults out.new))) }
+            (talk (held_if (continues result) (waiting self.new opened)) t (outside (O.taken out.new) (K.faults keep.new) (O.faults out.new))) }
         ensures later { K.faults keep.old ≤ K.faults keep.new }
         ensures sink { O.alike out.old out.new }
     {
@@ -120,8 +121,8 @@ impl Session {
                     rest = rest.split_at(taken).1;
                     opened = false;
                 }
-                Turn::Kept => return true,
-                Turn::Closed => return false,
+                Turn::Kept => return Next::Go,
+                Turn::Closed => return Next::Close,
             }
         }
     }
@@ -148,16 +149,16 @@ impl Session {
         ensures later { K.faults keep.old ≤ K.faults keep.new }
         ensures sink { O.alike out.old out.new }
     {
-        match self.next(piece) {
-            Next::Rest(payload) => self.hold(piece, payload, out),
-            Next::Whole(request, taken) => {
+        match self.front(piece) {
+            Front::Rest(payload) => self.hold(piece, payload, out),
+            Front::Whole(request, taken) => {
                 if !opened {
                     return reopened(open_again(keep, out));
                 }
-                let goes_on = say_requested(request, self.alloc, &mut self.held, moment, keep, out);
+                let next = say_requested(request, self.alloc, &mut self.held, moment, keep, out);
                 self.held.truncate(0);
                 self.payload = None;
-                went(taken, goes_on)
+                went(taken, next)
             }
         }
     }
@@ -185,84 +186,86 @@ impl Session {
     }
 
     /// Returns the front of what is held and a piece.
-    fn next<'a>(&self, piece: &'a [u8]) -> Next<'a>
-        ensures { IsNext self.now piece.now result }
+    fn front<'a>(&self, piece: &'a [u8]) -> Front<'a>
+        ensures { IsFront self.now piece.now result }
     {
         if let Some(payload) = self.payload {
             return self.joined(payload, piece);
         }
         match next_in(self.held.as_slice(), piece, LINE_LIMIT) {
-            Ahead::More => Next::Rest(None),
-            Ahead::Long => Next::Whole(Requested::Excess, piece.len()),
+            Ahead::More => Front::Rest(None),
+            Ahead::Long => Front::Whole(Requested::Excess, piece.len()),
             Ahead::Line(len) => self.line(len, piece),
         }
     }
 
     /// Returns the front, if the beginning of a delivery is held.
-    fn joined<'a>(&self, payload: Payload, piece: &'a [u8]) -> Next<'a>
+    fn joined<'a>(&self, payload: Payload, piece: &'a [u8]) -> Front<'a>
         requires { IsPayload self.now payload.start payload.end }
-        ensures { IsNext self.now piece.now result }
+        ensures { IsFront self.now piece.now result }
     {
         let missing = payload.end - self.held.as_slice().len();
         if piece.len() < missing {
-            return Next::Rest(Some(payload));
+            return Front::Rest(Some(payload));
         }
         let last = piece.split_at(missing).0;
-        Next::Whole(Requested::Joined(payload.start, last), missing)
+        Front::Whole(Requested::Joined(payload.start, last), missing)
     }
 
     /// Returns the front, if a line ends at this offset of the piece.
-    fn line<'a>(&self, len: usize, piece: &'a [u8]) -> Next<'a>
+    fn line<'a>(&self, len: usize, piece: &'a [u8]) -> Front<'a>
         requires within { len < length piece.now }
         requires short { length self.now + len < line_limit }
         requires line { front line_limit (self.now ++ piece.now) ≡ Whole (self.now ++ take len piece.now) (drop (len + 1) piece.now) }
-        ensures { IsNext self.now piece.now result }
+        ensures { IsFront self.now piece.now result }
     {
         match line_order(self.held.as_slice(), &piece[..len]) {
             Order::Deliver(size) => self.message(size, len, piece),
-            Order::TooMuch => Next::Whole(Requested::Excess, len + 1),
-            Order::Show(number) => Next::Whole(Requested::Text(number), len + 1),
-            Order::Epochs => Next::Whole(Requested::Epochs, len + 1),
-            Order::Quit => Next::Whole(Requested::Quit, len + 1),
-            Order::Bad => Next::Whole(Requested::Mistake, len + 1),
+            Order::TooMuch => Front::Whole(Requested::Excess, len + 1),
+            Order::Show(number) => Front::Whole(Requested::Text(number), len + 1),
+            Order::Epochs => Front::Whole(Requested::Epochs, len + 1),
+            Order::Quit => Front::Whole(Requested::Quit, len + 1),
+            Order::Bad => Front::Whole(Requested::Mistake, len + 1),
         }
     }
 
     /// Returns the front, if the line that ends at this offset of the piece announces a message.
-    fn message<'a>(&self, size: u32, len: usize, piece: &'a [u8]) -> Next<'a>
+    fn message<'a>(&self, size: u32, len: usize, piece: &'a [u8]) -> Front<'a>
         requires within { len < length piece.now }
         requires short { length self.now + len < line_limit }
         requires line { front line_limit (self.now ++ piece.now) ≡ Whole (self.now ++ take len piece.now) (drop (len + 1) piece.now) }
         requires order { order_of (content (self.now ++ take len piece.now)) ≡ Order.Deliver size }
-        ensures { IsNext self.now piece.now result }
+        ensures { IsFront self.now piece.now result }
     {
         let size = size as usize;
         let (_line, behind) = piece.split_at(len + 1);
         if size <= behind.len() {
             let message = behind.split_at(size).0;
-            return Next::Whole(Requested::Message(message), len + 1 + size);
+            return Front::Whole(Requested::Message(message), len + 1 + size);
         }
         let start = self.held.as_slice().len() + len + 1;
         let end = start + size;
-        Next::Rest(Some(Payload { start, end }))
+        Front::Rest(Some(Payload { start, end }))
     }
 }
 
 /// Continues if reopening succeeded, otherwise closes.
-fn reopened(done: bool) -> Turn
-    ensures { result ≡ (if done then Turn.Opened else Turn.Closed) }
+fn reopened(next: Next) -> Turn
+    ensures { result ≡ (if continues next then Turn.Opened else Turn.Closed) }
 {
-    if done { Turn::Opened } else { Turn::Closed }
+    match next {
+        Next::Go => Turn::Opened,
+        Next::Close => Turn::Closed,
+    }
 }
 
 /// Continues after a request that took `taken` bytes of the piece, or closes.
-fn went(taken: usize, goes_on: bool) -> Turn
-    ensures { result ≡ (if goes_on then Turn.Went taken else Turn.Closed) }
+fn went(taken: usize, next: Next) -> Turn
+    ensures { result ≡ (if continues next then Turn.Went taken else Turn.Closed) }
 {
-    if goes_on {
-        Turn::Went(taken)
-    } else {
-        Turn::Closed
+    match next {
+        Next::Go => Turn::Went(taken),
+        Next::Close => Turn::Closed,
     }
 }
 

@@ -5,7 +5,7 @@ ghost use Rattle.arch_base.specs.Configs.{IsConfig};
 
 use crate::{Order, Session, cut_laws, read_order};
 use arch_base::{Bytes, Config, Name, NoMemory, Numbers};
-use arch_model::{Answer, Command, Keep, OpenRefusal, TextRefusal};
+use arch_model::{Answer, Command, Keep, Next, OpenRefusal, TextRefusal};
 use edge_io::MemSink;
 use mem_archive::MemArchive;
 use std::alloc::Global;
@@ -140,9 +140,10 @@ impl Connection {
     /// Feeds a piece if the connection is still open.
     fn hear(&mut self, piece: &[u8]) {
         if self.open {
-            self.open = self
+            let next = self
                 .session
                 .feed(piece, 1_706_781_700, &mut self.archive, &mut self.out);
+            self.open = next == Next::Go;
         }
     }
 
@@ -513,8 +514,8 @@ fn is_answered_failing(alloc: Global, row: FailingRow) -> bool {
     };
     let mut session = Session::open(alloc);
     let mut out = MemSink::new(alloc, Numbers::new(alloc));
-    let goes_on = session.feed(stream, 1_706_781_700, &mut keep, &mut out);
-    out.taken() == words && goes_on == open
+    let next = session.feed(stream, 1_706_781_700, &mut keep, &mut out);
+    out.taken() == words && (next == Next::Go) == open
 }
 
 #[test]

@@ -1,13 +1,14 @@
+use Rattle.arch_model.specs.Next.{continues}
 use Rattle.control_door.specs.Sessions.{request_of}
 use Rattle.control_door.proofs.Answering.{turns-answered, turns-opened}
 use Rattle.control_door.proofs.session.Session.act.Goals as goal
 
 pub returns-then-not-opened-clause-turn : goal.returns-then-not-opened-clause-turn
 returns-then-not-opened-clause-turn g c = rw (c.reopened.ensures, c.if-not-opened.true)
-    (turns-opened g.K.Keep.holds g.K.Keep.stale g.K.Keep.clock g.K.Keep.leaves c.args.moment c.args.self.now c.args.piece.now (request_of c.args.self.now c.in-Whole.request) c.in-Whole.taken _ _ _ _ c.open_again.result c.in-Whole.ensures.stands
+    (turns-opened g.K.Keep.holds g.K.Keep.stale g.K.Keep.clock g.K.Keep.leaves c.args.moment c.args.self.now c.args.piece.now (request_of c.args.self.now c.in-Whole.request) c.in-Whole.taken _ _ _ _ (continues c.open_again.result) c.in-Whole.ensures.stands
     c.open_again.ensures.acts)
 
 pub returns-else-not-opened-clause-turn : goal.returns-else-not-opened-clause-turn
 returns-else-not-opened-clause-turn g c = rw (c.went.ensures, c.if-not-opened.false)
-    (turns-answered g.K.Keep.holds g.K.Keep.stale g.K.Keep.clock g.K.Keep.leaves c.args.moment c.args.self.now c.args.piece.now (request_of c.args.self.now c.in-Whole.request) c.in-Whole.taken _ _ _ _ _ c.say_requested-goes_on.result
-    (c.requires.ready c.if-not-opened.false) c.in-Whole.ensures.stands c.truncate.ensures (rw c.self.view_is at c.say_requested-goes_on.ensures.acts))
+    (turns-answered g.K.Keep.holds g.K.Keep.stale g.K.Keep.clock g.K.Keep.leaves c.args.moment c.args.self.now c.args.piece.now (request_of c.args.self.now c.in-Whole.request) c.in-Whole.taken _ _ _ _ _ (continues c.say_requested-next.result)
+    (c.requires.ready c.if-not-opened.false) c.in-Whole.ensures.stands c.truncate.ensures (rw c.self.view_is at c.say_requested-next.ensures.acts))

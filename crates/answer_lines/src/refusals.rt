@@ -1,0 +1,62 @@
+//! Writes refusals.
+ghost use Rattle.std.specs.Prelude.{◌++◌, ◌∷◌, codes};
+ghost use Rattle.hex.specs.Hex.{encode_lower};
+ghost use Rattle.edge_io.specs.Phrases.{Says};
+ghost use Rattle.answer_lines.specs.Lines.{reply_line, memory_word, disk_word, unread_words, unopened_words};
+
+use crate::damage::say_damaged;
+use crate::numbers::say_id;
+use arch_base::{ObjectId, hex_of};
+use arch_model::{OpenRefusal, TextRefusal};
+use edge_io::{Sink, SinkFault, say, say_line};
+
+/// Writes that memory ran out.
+pub fn say_memory<O: Sink>(out: &mut O) -> Result<(), SinkFault>
+    ensures said { Says memory_word (O.taken out.old) (O.faults out.old) (O.taken out.new) (O.faults out.new) result }
+    ensures sink { O.alike out.old out.new }
+{
+    say_line(b"12 no memory", out)
+}
+
+/// Writes that the disk failed.
+pub(crate) fn say_disk<O: Sink>(out: &mut O) -> Result<(), SinkFault>
+    ensures said { Says disk_word (O.taken out.old) (O.faults out.old) (O.taken out.new) (O.faults out.new) result }
+    ensures sink { O.alike out.old out.new }
+{
+    say_line(b"10 disk fault", out)
+}
+
+/// Writes why a text, or an epoch, was not read.
+pub fn say_unread<O: Sink>(refusal: TextRefusal, out: &mut O) -> Result<(), SinkFault>
+    ensures said { Says (unread_words refusal) (O.taken out.old) (O.faults out.old) (O.taken out.new) (O.faults out.new) result }
+    ensures sink { O.alike out.old out.new }
+{
+    match refusal {
+        TextRefusal::DiskFault => say_disk(out),
+        TextRefusal::Damaged { named, found } => say_other_text(&named, &found, out),
+        TextRefusal::NoMemory => say_memory(out),
+    }
+}
+
+/// Writes that a text is damaged: its id, and the id of the bytes found in its place.
+fn say_other_text<O: Sink>(named: &ObjectId, found: &ObjectId, out: &mut O) -> Result<(), SinkFault>
+    ensures said { Says (reply_line (codes "11 damaged " ++ (encode_lower named.now.0 ++ 32 ∷ encode_lower found.now.0))) (O.taken out.old) (O.faults out.old) (O.taken out.new) (O.faults out.new) result }
+    ensures sink { O.alike out.old out.new }
+{
+    say(b"11 damaged ", out)?;
+    say(&hex_of(named), out)?;
+    say_id(found, out)
+}
+
+/// Writes why an archive was not opened.
+pub fn say_unopened<O: Sink>(refusal: OpenRefusal, out: &mut O) -> Result<(), SinkFault>
+    ensures said { Says (unopened_words refusal) (O.taken out.old) (O.faults out.old) (O.taken out.new) (O.faults out.new) result }
+    ensures sink { O.alike out.old out.new }
+{
+    match refusal {
+        OpenRefusal::NoArchive => say_line(b"11 damaged root 0", out),
+        OpenRefusal::Damaged { file, at } => say_damaged(file, at, out),
+        OpenRefusal::DiskFault => say_disk(out),
+        OpenRefusal::NoMemory => say_memory(out),
+    }
+}

@@ -1,8 +1,0 @@
-use Rattle.std.proofs.Common.{◌++◌, ◌∷◌, []}
-use Rattle.hex.specs.Hex.{encode_lower}
-use Rattle.line_door.proofs.Acting.{Says-then}
-use Rattle.control_door.proofs.replies.say_id.Goals as goal
-
-pub returns-clause-said : goal.returns-clause-said
-returns-clause-said g c =
-    Says-then (32 ∷ []) (encode_lower c.args.id.now.0 ++ 10 ∷ []) _ _ _ _ _ _ _ c.if-not-say.ensures.said (rw c.hex_of.ensures at c.say_line.ensures.said)

@@ -1,4 +1,0 @@
-use Rattle.control_door.proofs.replies.say_unopened.Goals as goal
-
-pub returns-in-Damaged-clause-said : goal.returns-in-Damaged-clause-said
-returns-in-Damaged-clause-said g c = rw c.in-Damaged.is c.say_damaged.ensures.said

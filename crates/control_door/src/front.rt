@@ -1,0 +1,36 @@
+//! The front of a session's bytes: a whole request, or the beginning of one.
+
+/// The offsets in what a session holds at which the message of a delivery starts and ends.
+#[derive(Clone, Copy, Debug, Drop)]
+pub(crate) struct Payload {
+    pub(crate) start: usize,
+    pub(crate) end: usize,
+}
+
+/// A whole request.
+#[derive(Clone, Copy, Debug, Drop)]
+pub(crate) enum Requested<'a> {
+    /// Delivers this message.
+    Message(&'a [u8]),
+    /// Delivers the message that starts at this offset of what is held, and ends with these bytes.
+    Joined(usize, &'a [u8]),
+    /// Shows the text of this number.
+    Text(u32),
+    /// Lists the epochs.
+    Epochs,
+    /// Ends the connection.
+    Quit,
+    /// A line that is not an order.
+    Mistake,
+    /// A line that is too long, or that announces too many bytes.
+    Excess,
+}
+
+/// The front of what is held and a piece.
+#[derive(Clone, Copy, Debug, Drop)]
+pub(crate) enum Front<'a> {
+    /// The beginning of a request, and where the message of a delivery is.
+    Rest(Option<Payload>),
+    /// A whole request, and the number of bytes that it takes from the piece.
+    Whole(Requested<'a>, usize),
+}
