@@ -10,6 +10,7 @@ use Rattle.arch_base.specs.declared.config.Config.{Config}
 use Rattle.arch_base.specs.declared.ids.Id20.{Id20}
 use Rattle.mail_reader.specs.Ids.{own_id}
 use Rattle.mail_reader.specs.Content.{content_id_of}
+use Rattle.disk_model.specs.Sizes.{greatest_epoch}
 use Rattle.git_objects.specs.Objects.{blob_id_of}
 use Rattle.arch_model.specs.Archives.{Entry, Archive, owner, in_epoch}
 use Rattle.arch_model.specs.Delivery.{last_epoch}
@@ -80,7 +81,7 @@ IsFree entries text = (id : List ℕ) × (own_id text ≡ Some id) × (owner ent
 pub record IsEnd (limit : ℕ) (entries : List Entry) (end_ : End) : Type 0 where
   pub room : end_.room ≡ limit - length (epoch_bytes (in_epoch entries end_.epoch))
   pub parent : end_.parent ≡ last_commit None (in_epoch entries end_.epoch)
-  pub small : end_.epoch ≤ 63
+  pub small : end_.epoch ≤ greatest_epoch
 
 -- What is kept is sound: the settings are valid, no number is above the greatest, the index has the
 -- messages, and the end is that of the last epoch.
@@ -98,7 +99,7 @@ front_bytes (Some id) = []
 
 -- The end to which a new entry is appended, if the last epoch has `room` bytes left.
 abbrev pub end_by_room : ℕ → ℕ → End → End
-end_by_room room limit end_ = if end_.epoch == 63 || nat_lt 0 room then end_ else record { epoch = end_.epoch + 1; room = limit; parent = None }
+end_by_room room limit end_ = if end_.epoch == greatest_epoch || nat_lt 0 room then end_ else record { epoch = end_.epoch + 1; room = limit; parent = None }
 
 -- The same, by the end's own room.
 abbrev pub end_for_new : ℕ → End → End

@@ -1,11 +1,14 @@
 //! What the archive in memory keeps of each message, and of its last epoch.
 ghost use Rattle.std.specs.Prelude.{◌≡◌, ◌+◌, ◌-◌, ◌++◌, ◌≤◌, length, IfOk, OnOk, OnErr, is_ok, if◌then◌else◌};
+ghost use Rattle.disk_model.specs.Sizes.{greatest_epoch};
 ghost use Rattle.arch_model.specs.Epochs.{commit_id, entry_bytes, message_name};
 ghost use Rattle.arch_model.specs.Memory.{front_bytes, end_for_new, end_by_room, end_after, met_owner, Grows};
 
 use crate::choice::Meeting;
 use crate::commits::push_entry;
 use arch_base::{Bytes, NoMemory, ObjectId};
+use disk_model::LAST_EPOCH;
+use git_objects::EntryKind;
 use std::alloc::Global;
 
 /// A message as the archive in memory keeps it.
@@ -52,11 +55,8 @@ pub(crate) struct End {
     pub(crate) parent: Option<ObjectId>,
 }
 
-/// The greatest number of an epoch. That epoch grows without a limit.
-const LAST_EPOCH: u32 = 63;
-
 /// The first bytes of an epoch.
-const MAGIC: &[u8] = b"PIV2EP1\n";
+pub const MAGIC: [u8; 8] = *b"PIV2EP1\n";
 
 impl End {
     /// Returns the end after one more entry, which goes to the last epoch, or to a new one if that
@@ -68,7 +68,7 @@ impl End {
         text: &[u8],
         moment: u64,
     ) -> Result<End, NoMemory>
-        requires { self.epoch ≤ 63 }
+        requires { self.epoch ≤ greatest_epoch }
         ensures { IfOk result (λ made. made ≡ end_after (end_for_new limit self) text.now moment) }
     {
         let room = self.room;
@@ -77,9 +77,10 @@ impl End {
 
     /// Returns the end to which a new entry is appended, if the last epoch has `room` bytes left.
     ///
-    /// It is the end of the last epoch, or that of a new one if the last is full.
+    /// It is the end of the last epoch, or that of a new one if the last is full. Epoch 63 is never
+    /// full.
     fn for_new(self, room: u64, limit: u64) -> End
-        requires { self.epoch ≤ 63 }
+        requires { self.epoch ≤ greatest_epoch }
         ensures { result ≡ end_by_room room limit self }
     {
         if self.epoch == LAST_EPOCH || room > 0 {
@@ -123,7 +124,7 @@ pub(crate) fn push_behind(
     ensures err { OnErr result (Grows into.old into.new) }
 {
     push_front(parent, into)?;
-    let ids = push_entry(alloc, b'm', text, moment, parent, into)?;
+    let ids = push_entry(alloc, EntryKind::Message, text, moment, parent, into)?;
     Ok(ids.commit)
 }
 
@@ -134,7 +135,7 @@ fn push_front(parent: Option<ObjectId>, into: &mut Bytes) -> Result<(), NoMemory
     ensures { into.new ≡ (if is_ok result then into.old ++ front_bytes parent else into.old) }
 {
     match parent {
-        None => into.push_slice(MAGIC),
+        None => into.push_slice(&MAGIC),
         Some(_) => Ok(()),
     }
 }

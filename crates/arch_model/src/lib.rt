@@ -25,7 +25,7 @@ pub use commits::{EntryIds, entry_commit, epoch_grows, push_entry};
 pub use index::Index;
 pub use judging::{Verdict, judge};
 pub use keep::Keep;
-pub use kept::Owner;
+pub use kept::{MAGIC, Owner};
 pub use laws::{
     delivered_is_shown, first_candidate_decides, law_of_commands, law_of_numbers,
     law_of_taken_texts, numbers_keep_their_texts, numbers_stay_below_the_next,

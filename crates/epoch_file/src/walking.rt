@@ -7,13 +7,13 @@ ghost use Rattle.epoch_file.specs.Runs.{OnlyReads, FaultRose, StopRose};
 ghost use Rattle.epoch_file.specs.Windows.{IsInside};
 ghost use Rattle.epoch_file.specs.Steps.{Brings, Begins, BeginsAt, BeginsIn, BeginsWith, HasMagic, GoesOn, Moves, SamePart, Takes, Turns, IsWanted};
 
-use crate::appending::MAGIC;
 use crate::entry::SeenList;
 use crate::reading::read_entry;
 use crate::sight::{Sight, after, look};
 use crate::state::State;
 use crate::window::{Part, Window, piece_room, read_on};
 use arch_base::NoMemory;
+use arch_model::MAGIC;
 use disk_model::{Disk, FileName, WalkRefusal};
 use std::alloc::Global;
 
