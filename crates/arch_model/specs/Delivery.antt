@@ -9,6 +9,7 @@ use Rattle.git_objects.specs.Objects.{blob_id_of}
 use Rattle.disk_model.specs.declared.name.FileKind.{FileKind}
 use Rattle.disk_model.specs.declared.name.FileKind.TheVariants.{Root, Map, Epoch, Cache}
 use Rattle.disk_model.specs.declared.name.FileName.{FileName}
+use Rattle.disk_model.specs.Sizes.{greatest_epoch}
 use Rattle.arch_model.specs.Archives.{Entry, Archive, with_entry, in_epoch}
 use Rattle.arch_model.specs.Epochs.{epoch_bytes}
 use Rattle.arch_model.specs.Candidates.{choice_of}
@@ -31,7 +32,7 @@ last_epoch (e ∷ es) = greater e.epoch (last_epoch es)
 -- An epoch of a length takes one more entry: it is shorter than the limit, or it is the greatest
 -- epoch, 63, which grows without a limit.
 abbrev pub takes_more : ℕ → ℕ → ℕ → Bool
-takes_more limit epoch len = epoch == 63 || nat_lt len limit
+takes_more limit epoch len = epoch == greatest_epoch || nat_lt len limit
 
 -- The epoch of a new entry: the last one if it takes one more, otherwise the next one
 -- (public-inbox-v2-format, "GIT EPOCHS").

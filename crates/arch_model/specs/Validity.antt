@@ -7,12 +7,13 @@ use Rattle.arch_base.specs.Names.{IsName}
 use Rattle.mail_reader.specs.StorageTexts.{IsStorageText}
 use Rattle.mail_reader.specs.Ids.{own_id}
 use Rattle.git_objects.specs.Objects.{blob_id_of}
+use Rattle.disk_model.specs.Sizes.{greatest_epoch}
 use Rattle.arch_model.specs.Archives.{Entry, Archive}
 
 -- An entry keeps a storage text in one of the 64 epochs, at a moment from 1970 to 9999.
 pub record IsEntry (e : Entry) : Type 0 where
   pub text : IsStorageText e.text
-  pub epoch : e.epoch ≤ 63
+  pub epoch : e.epoch ≤ greatest_epoch
   pub moment : e.moment ≤ last_moment
 
 -- Numbers rise from one entry to the next, and epochs never fall, from these on

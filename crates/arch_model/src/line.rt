@@ -1,11 +1,12 @@
 //! An entry of an archive without its text.
 use arch_base::ObjectId;
+use git_objects::EntryKind;
 
 /// An entry of an archive without its text.
 #[derive(Clone, Copy, Debug, Drop, PartialEq, Eq)]
 pub struct EntryLine {
-    /// The name of the file in its tree: `m` for a message.
-    pub name: u8,
+    /// What it is: a message.
+    pub kind: EntryKind,
     /// The number of the message.
     pub number: u32,
     /// The number of its epoch.

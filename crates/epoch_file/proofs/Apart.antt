@@ -8,6 +8,7 @@ use Rattle.hex.specs.Hex.{encode_lower}
 use Rattle.arch_base.specs.declared.ids.Id20.{Id20}
 use Rattle.git_objects.specs.CleanText.{clean}
 use Rattle.git_objects.specs.Commits.{commit_content, tree_line, parent_line, author_line, committed_part, text_part, email_part, name_part, number_part, zone_text}
+use Rattle.git_objects.specs.declared.entry_kind.EntryKind.{EntryKind}
 use Rattle.git_objects.specs.Objects.{blob_spelling, blob_id_of, id_of, tree_content, sized_before}
 use Rattle.git_objects.proofs.Spellings.{sized-once, tree-once, length-tree_content}
 use Rattle.git_objects.proofs.ObjectIds.{IsId-id_of}
@@ -78,12 +79,12 @@ moment_once text tree parent m n small fits e = go (date_fact text) (behind_ids 
       (append_cancel_left (codes "\ncommitter piv2 <piv2@localhost> ") (number_part 32 m (codes "+0000\n\n" ++ end)) (number_part 32 n (codes "+0000\n\n" ++ end)) parts)
 
 -- The content of a tree is small.
-tree_small : (name : ℕ) (text : List ℕ) → length (tree_content name (blob_id_of text)) < 2 ^ 64
-tree_small name text = omega (arith, length-tree_content name (blob_id_of text) (IsId-id_of (blob_spelling text)).len)
+tree_small : (kind : EntryKind) (text : List ℕ) → length (tree_content kind (blob_id_of text)) < 2 ^ 64
+tree_small kind text = omega (arith, length-tree_content kind (blob_id_of text) (IsId-id_of (blob_spelling text)).len)
 
 -- Entries with equal parts are equal.
-same_entry : (e f : EpochEntry) → e.name ≡ f.name → e.text ≡ f.text → e.moment ≡ f.moment → e ≡ f
-same_entry e f n t m = λ i. record { name = n i; text = t i; moment = m i }
+same_entry : (e f : EpochEntry) → e.kind ≡ f.kind → e.text ≡ f.text → e.moment ≡ f.moment → e ≡ f
+same_entry e f n t m = λ i. record { kind = n i; text = t i; moment = m i }
 
 -- Bytes determine the first entry that they start with, and the rest after it.
 pub entry_once : (parent : Option Id20) (e f : EpochEntry) (x y : List ℕ) → IsEpochEntry e → IsEpochEntry f → length (bytes_behind parent e ++ x) < 2 ^ 64
@@ -93,24 +94,24 @@ entry_once parent e f x y h k small is =
     let cf = content_behind parent f in
     let commit_e = (codes "commit " ++ (decimal (length ce) ++ 0 ∷ ce)) ++ x in
     let commit_f = (codes "commit " ++ (decimal (length cf) ++ 0 ∷ cf)) ++ y in
-    let te = tree_content e.name (blob_id_of e.text) in
-    let tf = tree_content f.name (blob_id_of f.text) in
+    let te = tree_content e.kind (blob_id_of e.text) in
+    let tf = tree_content f.kind (blob_id_of f.text) in
     let sizes : length (bytes_behind parent e ++ x) ≡ length (bytes_behind parent f ++ y) = ap length is in
-    let blobs : codes "blob " ++ sized_before e.text (tree_of e.name e.text ++ commit_e) ≡ codes "blob " ++ sized_before f.text (tree_of f.name f.text ++ commit_f) =
-    sym (headed (codes "blob ") e.text (tree_of e.name e.text ++ commit_e)) ∙ (sym (objects parent e x) ∙ (is ∙ (objects parent f y ∙ headed (codes "blob ") f.text (tree_of f.name f.text ++ commit_f)))) in
-    let texts = sized-once e.text f.text (tree_of e.name e.text ++ commit_e) (tree_of f.name f.text ++ commit_f) (omega (arith, h.text.short)) (omega (arith, k.text.short))
-    (append_cancel_left (codes "blob ") (sized_before e.text (tree_of e.name e.text ++ commit_e)) (sized_before f.text (tree_of f.name f.text ++ commit_f)) blobs) in
+    let blobs : codes "blob " ++ sized_before e.text (tree_of e.kind e.text ++ commit_e) ≡ codes "blob " ++ sized_before f.text (tree_of f.kind f.text ++ commit_f) =
+    sym (headed (codes "blob ") e.text (tree_of e.kind e.text ++ commit_e)) ∙ (sym (objects parent e x) ∙ (is ∙ (objects parent f y ∙ headed (codes "blob ") f.text (tree_of f.kind f.text ++ commit_f)))) in
+    let texts = sized-once e.text f.text (tree_of e.kind e.text ++ commit_e) (tree_of f.kind f.text ++ commit_f) (omega (arith, h.text.short)) (omega (arith, k.text.short))
+    (append_cancel_left (codes "blob ") (sized_before e.text (tree_of e.kind e.text ++ commit_e)) (sized_before f.text (tree_of f.kind f.text ++ commit_f)) blobs) in
     let trees : codes "tree " ++ sized_before te commit_e ≡ codes "tree " ++ sized_before tf commit_f = sym (headed (codes "tree ") te commit_e) ∙ (texts.1 ∙ headed (codes "tree ") tf commit_f) in
-    let tree_parts = sized-once te tf commit_e commit_f (tree_small e.name e.text) (tree_small f.name f.text) (append_cancel_left (codes "tree ") (sized_before te commit_e) (sized_before tf commit_f) trees) in
-    let names : e.name ≡ f.name = (tree-once e.name f.name (blob_id_of e.text) (blob_id_of f.text) tree_parts.0).0 in
+    let tree_parts = sized-once te tf commit_e commit_f (tree_small e.kind e.text) (tree_small f.kind f.text) (append_cancel_left (codes "tree ") (sized_before te commit_e) (sized_before tf commit_f) trees) in
+    let kinds : e.kind ≡ f.kind = (tree-once e.kind f.kind (blob_id_of e.text) (blob_id_of f.text) tree_parts.0).0 in
     let commits : codes "commit " ++ sized_before ce x ≡ codes "commit " ++ sized_before cf y = sym (headed (codes "commit ") ce x) ∙ (tree_parts.1 ∙ headed (codes "commit ") cf y) in
     let contents = sized-once ce cf x y (omega (arith, small, length-entry parent e, length-append (bytes_behind parent e) x)) (omega (arith, small, sizes, length-entry parent f, length-append (bytes_behind parent f) y))
     (append_cancel_left (codes "commit ") (sized_before ce x) (sized_before cf y) commits) in
     let t = sym texts.0 in
-    let n = sym names in
-    let moved : commit_content (commit_of f.text (id_of (tree_of f.name f.text)) parent e.moment) ≡ ce = λ i. commit_content (commit_of (t i) (id_of (tree_of (n i) (t i))) parent e.moment) in
-    let moments = moment_once f.text (id_of (tree_of f.name f.text)) parent e.moment f.moment h.moment k.moment (moved ∙ contents.0) in
-    (same_entry e f names texts.0 moments, contents.1)
+    let n = sym kinds in
+    let moved : commit_content (commit_of f.text (id_of (tree_of f.kind f.text)) parent e.moment) ≡ ce = λ i. commit_content (commit_of (t i) (id_of (tree_of (n i) (t i))) parent e.moment) in
+    let moments = moment_once f.text (id_of (tree_of f.kind f.text)) parent e.moment f.moment h.moment k.moment (moved ∙ contents.0) in
+    (same_entry e f kinds texts.0 moments, contents.1)
 
 -- An entry isn't empty.
 entry_not_none : (parent : Option Id20) (e : EpochEntry) (x : List ℕ) → [] ≡ bytes_behind parent e ++ x → ⊥

@@ -37,10 +37,10 @@ MomentAgain content found = (c : Commit) → IsCommit c → content ≡ commit_c
 
 moment_is : (parent : Option Id20) (e : EpochEntry) (parts : Parts) (found : Option ℕ) → IsParent parent → IsEpochEntry e → HasParts parent e parts → MomentAgain parts.commit.now found → found ≡ Some e.moment
 moment_is parent e parts found p valid has again =
-    let tree = id_of (tree_of e.name e.text) in
+    let tree = id_of (tree_of e.kind e.text) in
     let commit = commit_of e.text tree parent e.moment in
     let at = committed-is e.text tree parent e.moment in
-    again commit (commit_valid e.text tree parent e.moment (IsId-id_of (tree_of e.name e.text)) p valid.moment) has.commit (omega (arith, at, valid.moment)) ∙ ap Some at
+    again commit (commit_valid e.text tree parent e.moment (IsId-id_of (tree_of e.kind e.text)) p valid.moment) has.commit (omega (arith, at, valid.moment)) ∙ ap Some at
 
 -- By the moment that is found.
 pub reads-moment : (place : ℕ) (parent : Option Id20) (bytes : List ℕ) (parts : Parts) (moment : ℕ) (result : Result (Option (Seen × ℕ)) NoMemory) → MomentAgain parts.commit.now (Some moment)
@@ -60,29 +60,29 @@ pub reads-unstored : (place : ℕ) (parent : Option Id20) (bytes : List ℕ) (pa
 reads-unstored place parent bytes parts moment none = λ p e rest valid is has. none (subst IsStorageText (sym has.0.text) valid.text)
 
 -- If the bytes differ from those of the entry.
-pub reads-other : (place : ℕ) (parent : Option Id20) (bytes : List ℕ) (parts : Parts) (moment : ℕ) (front : List ℕ) → front ≡ take parts.size bytes → front ≢ entry_bytes parts.name parts.text.now moment parent
+pub reads-other : (place : ℕ) (parent : Option Id20) (bytes : List ℕ) (parts : Parts) (moment : ℕ) (front : List ℕ) → front ≡ take parts.size bytes → front ≢ entry_bytes parts.kind parts.text.now moment parent
     → ReadsWhere (λ e. HasParts parent e parts × (moment ≡ e.moment)) place parent bytes (Ok None)
 reads-other place parent bytes parts moment front cut other = λ p e rest valid is has.
     let here : take parts.size bytes ≡ bytes_behind parent e = ap (take parts.size) is ∙ take_at (bytes_behind parent e) rest parts.size (sym has.0.size) in
-    let n = has.0.name in
+    let n = has.0.kind in
     let t = has.0.text in
     let m = has.1 in
-    let same : entry_bytes parts.name parts.text.now moment parent ≡ entry_bytes e.name e.text e.moment parent = λ i. entry_bytes (n i) (t i) (m i) parent in
+    let same : entry_bytes parts.kind parts.text.now moment parent ≡ entry_bytes e.kind e.text e.moment parent = λ i. entry_bytes (n i) (t i) (m i) parent in
     other (cut ∙ (here ∙ sym same))
 
 -- If the bytes are those of the entry.
 pub reads-entry : (place : ℕ) (parent : Option Id20) (bytes : List ℕ) (parts : Parts) (moment : ℕ) (front : List ℕ) (ids : EntryIds) (seen : Seen) → IsParted bytes parts → PartsAgain bytes (Some parts)
-    → moment ≤ last_moment → IsStorageText parts.text.now → front ≡ take parts.size bytes → front ≡ entry_bytes parts.name parts.text.now moment parent → AreIds parts.name parts.text.now moment parent ids
+    → moment ≤ last_moment → IsStorageText parts.text.now → front ≡ take parts.size bytes → front ≡ entry_bytes parts.kind parts.text.now moment parent → AreIds parts.kind parts.text.now moment parent ids
     → seen ≡ seen_by place parts moment ids → IsRead place parent bytes (seen, parts.size)
 reads-entry place parent bytes parts moment front ids seen parted again small stored cut same are is =
-    let e : EpochEntry = record { name = parts.name; text = parts.text.now; moment = moment } in
+    let e : EpochEntry = record { kind = parts.kind; text = parts.text.now; moment = moment } in
     let rest = drop parts.size bytes in
     let whole : bytes ≡ bytes_behind parent e ++ rest = sym (take-append-drop parts.size bytes) ∙ ap (λ (l : List ℕ). l ++ rest) (sym cut ∙ same) in
-    let valid : IsEpochEntry e = record { name = parted.name; text = stored; moment = small } in
+    let valid : IsEpochEntry e = record { text = stored; moment = small } in
     let has : HasParts parent e parts = again parent e rest valid whole in
     let at : place + parts.front ≡ (seen_at place parent e).text_at = ap (λ (n : ℕ). place + n) has.front in
     let blob = are.blob in
     let commit = are.commit in
     let made : seen_by place parts moment ids ≡ seen_at place parent e =
-    λ i. record { name = parts.name; at = place; text_at = at i; size = length parts.text.now; blob = blob i; commit = commit i; moment = moment; id = (seen_by place parts moment ids).id; content = (seen_by place parts moment ids).content } in
+    λ i. record { kind = parts.kind; at = place; text_at = at i; size = length parts.text.now; blob = blob i; commit = commit i; moment = moment; id = (seen_by place parts moment ids).id; content = (seen_by place parts moment ids).content } in
     record { entry = e; valid = valid; rest = rest; is = whole; seen = is ∙ made; size = has.size }

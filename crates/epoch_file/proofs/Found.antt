@@ -1,6 +1,7 @@
 -- The object found at the front of bytes is the one spelled there.
 use Rattle.std.proofs.Common.{◌≡◌, ℕ, List, sym, ap, ◌∙◌, Bor}
 use Rattle.arch_base.specs.declared.ids.Id20.{Id20}
+use Rattle.git_objects.specs.declared.entry_kind.EntryKind.{EntryKind}
 use Rattle.git_objects.specs.declared.objects.Object.{Object}
 use Rattle.git_objects.specs.declared.objects.Object.TheVariants.{Blob, Tree, Commit}
 use Rattle.git_objects.specs.Objects.{BlobOf, TreeOf, CommitOf}
@@ -11,8 +12,8 @@ pub blob_is : (found : Object) (held : Bor (List ℕ)) (content : List ℕ) → 
 blob_is found held content is e = let same : BlobOf held.now ≡ BlobOf content = ap shown (sym is) ∙ e in cc
 
 -- A tree.
-pub tree_is : (found : Object) (m : ℕ) (i : Id20) (name : ℕ) (id : Id20) → found ≡ Tree m i → shown found ≡ TreeOf name id → m ≡ name
-tree_is found m i name id is e = let same : TreeOf m i ≡ TreeOf name id = ap shown (sym is) ∙ e in cc
+pub tree_is : (found : Object) (m : EntryKind) (i : Id20) (kind : EntryKind) (id : Id20) → found ≡ Tree m i → shown found ≡ TreeOf kind id → m ≡ kind
+tree_is found m i kind id is e = let same : TreeOf m i ≡ TreeOf kind id = ap shown (sym is) ∙ e in cc
 
 -- A commit.
 pub commit_is : (found : Object) (held : Bor (List ℕ)) (content : List ℕ) → found ≡ Commit held → shown found ≡ CommitOf content → held.now ≡ content

@@ -65,7 +65,7 @@ committed-is text tree parent moment = refl
 -- The id of an entry's commit is valid.
 pub IsId-commit : (parent : Option Id20) (e : EpochEntry) → IsId (commit_behind parent e)
 unfolding commit_id
-IsId-commit parent e = IsId-id_of (commit_text e.name e.text e.moment parent)
+IsId-commit parent e = IsId-id_of (commit_text e.kind e.text e.moment parent)
 
 -- The last commit of entries may be a parent.
 pub IsParent-last : (parent : Option Id20) (es : List EpochEntry) → IsParent parent → IsParent (last_of parent es)

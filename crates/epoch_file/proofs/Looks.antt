@@ -18,7 +18,7 @@ use Rattle.epoch_file.proofs.Sizes.{content_behind, head_of, objects, headed, he
 pub blob_head : (parent : Option Id20) (e : EpochEntry) (held more rest : List ℕ) (left : ℕ) → Starts parent e held more rest left → (28 ≤ length held) ⊎ (left ≤ length held)
     → (tail : List ℕ) × (held ≡ codes "blob " ++ (decimal (length e.text) ++ 0 ∷ tail))
 blob_head parent e held more rest left s enough =
-    let behind_text = tree_of e.name e.text ++ ((codes "commit " ++ (decimal (length (content_behind parent e)) ++ 0 ∷ content_behind parent e)) ++ rest) in
+    let behind_text = tree_of e.kind e.text ++ ((codes "commit " ++ (decimal (length (content_behind parent e)) ++ 0 ∷ content_behind parent e)) ++ rest) in
     let head = head_of (codes "blob ") (length e.text) in
     let whole : held ++ more ≡ head ++ (e.text ++ behind_text) =
     s.is ∙ (objects parent e rest ∙ (headed (codes "blob ") e.text behind_text ∙ head_first (codes "blob ") (e.text ++ behind_text) (length e.text))) in
@@ -41,16 +41,16 @@ pub commit_head : (parent : Option Id20) (e : EpochEntry) (held more rest : List
     → (commit_place e.text + 28 ≤ length held) ⊎ (left ≤ length held) → CommitHead parent e held
 commit_head parent e held more rest left small s enough =
     let content = content_behind parent e in
-    let front = blob_spelling e.text ++ tree_of e.name e.text in
+    let front = blob_spelling e.text ++ tree_of e.kind e.text in
     let head = head_of (codes "commit ") (length content) in
     let commit_is = headed (codes "commit ") content rest ∙ head_first (codes "commit ") (content ++ rest) (length content) in
     let whole : held ++ more ≡ (front ++ head) ++ (content ++ rest) =
-    s.is ∙ (objects parent e rest ∙ (ap (λ (l : List ℕ). blob_spelling e.text ++ (tree_of e.name e.text ++ l)) commit_is
-    ∙ (sym (append_assoc (blob_spelling e.text) (tree_of e.name e.text) (head ++ (content ++ rest))) ∙ sym (append_assoc front head (content ++ rest))))) in
+    s.is ∙ (objects parent e rest ∙ (ap (λ (l : List ℕ). blob_spelling e.text ++ (tree_of e.kind e.text ++ l)) commit_is
+    ∙ (sym (append_assoc (blob_spelling e.text) (tree_of e.kind e.text) (head ++ (content ++ rest))) ∙ sym (append_assoc front head (content ++ rest))))) in
     let long = entry-le parent e held more rest left s in
     let size : length content < 2 ^ 64 = omega (arith, small, long, length-entry parent e) in
     let digits = digits-le (length content) size in
-    let front_len : length front ≡ commit_place e.text = omega (arith, length-append (blob_spelling e.text) (tree_of e.name e.text), length-blob e.text, length-tree e.name e.text) in
+    let front_len : length front ≡ commit_place e.text = omega (arith, length-append (blob_spelling e.text) (tree_of e.kind e.text), length-blob e.text, length-tree e.kind e.text) in
     let both_len : length (front ++ head) ≡ commit_place e.text + length head = omega (arith, length-append front head, front_len) in
     let head_len : length head ≤ 28 = omega (arith, length-head (codes "commit ") (length content), digits) in
     let short : length (front ++ head) ≤ commit_place e.text + 28 = omega (arith, both_len, head_len) in

@@ -13,7 +13,7 @@ use Rattle.epoch_file.proofs.Sizes.{content_behind, objects, length-blob, length
 
 -- The bytes after the blob.
 abbrev pub behind_blob : Option Id20 → EpochEntry → List ℕ → List ℕ
-behind_blob parent e rest = tree_of e.name e.text ++ (spelling (CommitOf (content_behind parent e)) ++ rest)
+behind_blob parent e rest = tree_of e.kind e.text ++ (spelling (CommitOf (content_behind parent e)) ++ rest)
 
 -- An entry starts with its blob.
 pub blob_first : (parent : Option Id20) (e : EpochEntry) (rest bytes : List ℕ) → bytes ≡ bytes_behind parent e ++ rest → bytes ≡ blob_spelling e.text ++ behind_blob parent e rest
@@ -25,18 +25,18 @@ text_size e valid = omega (arith, valid.text.short)
 
 -- The tree follows the blob.
 pub tree_next : (parent : Option Id20) (e : EpochEntry) (rest bytes behind : List ℕ) (blob : ℕ) → bytes ≡ bytes_behind parent e ++ rest → blob ≡ length (blob_spelling e.text) → behind ≡ drop blob bytes
-    → behind ≡ tree_spelling e.name (blob_id_of e.text) ++ (spelling (CommitOf (content_behind parent e)) ++ rest)
+    → behind ≡ tree_spelling e.kind (blob_id_of e.text) ++ (spelling (CommitOf (content_behind parent e)) ++ rest)
 tree_next parent e rest bytes behind blob is size cut =
     cut ∙ (ap (drop blob) (blob_first parent e rest bytes is) ∙ drop_at (blob_spelling e.text) (behind_blob parent e rest) blob (sym size))
 
 -- The commit follows the tree.
 pub commit_next : (parent : Option Id20) (e : EpochEntry) (rest bytes behind : List ℕ) (blob tree : ℕ) → bytes ≡ bytes_behind parent e ++ rest → blob ≡ length (blob_spelling e.text)
-    → tree ≡ length (tree_spelling e.name (blob_id_of e.text)) → behind ≡ drop (blob + tree) bytes → behind ≡ spelling (CommitOf (content_behind parent e)) ++ rest
+    → tree ≡ length (tree_spelling e.kind (blob_id_of e.text)) → behind ≡ drop (blob + tree) bytes → behind ≡ spelling (CommitOf (content_behind parent e)) ++ rest
 commit_next parent e rest bytes behind blob tree is size tree_size cut =
-    let front = blob_spelling e.text ++ tree_of e.name e.text in
+    let front = blob_spelling e.text ++ tree_of e.kind e.text in
     let commit = spelling (CommitOf (content_behind parent e)) ++ rest in
-    let both : length front ≡ blob + tree = omega (arith, size, tree_size, length-append (blob_spelling e.text) (tree_of e.name e.text)) in
-    cut ∙ (ap (drop (blob + tree)) (blob_first parent e rest bytes is ∙ sym (append_assoc (blob_spelling e.text) (tree_of e.name e.text) commit)) ∙ drop_at front commit (blob + tree) both)
+    let both : length front ≡ blob + tree = omega (arith, size, tree_size, length-append (blob_spelling e.text) (tree_of e.kind e.text)) in
+    cut ∙ (ap (drop (blob + tree)) (blob_first parent e rest bytes is ∙ sym (append_assoc (blob_spelling e.text) (tree_of e.kind e.text) commit)) ∙ drop_at front commit (blob + tree) both)
 
 -- The commit's content has a size.
 pub content_size : (parent : Option Id20) (e : EpochEntry) (rest bytes : List ℕ) → length bytes < 2 ^ 64 → bytes ≡ bytes_behind parent e ++ rest → HasSize (content_behind parent e)
@@ -47,7 +47,7 @@ pub blob_id_valid : (text : List ℕ) → IsId (blob_id_of text)
 blob_id_valid text = IsId-id_of (blob_spelling text)
 
 -- The three objects take as many bytes as the entry.
-pub whole_size : (parent : Option Id20) (e : EpochEntry) (blob tree commit : ℕ) → blob ≡ length (blob_spelling e.text) → tree ≡ length (tree_spelling e.name (blob_id_of e.text))
+pub whole_size : (parent : Option Id20) (e : EpochEntry) (blob tree commit : ℕ) → blob ≡ length (blob_spelling e.text) → tree ≡ length (tree_spelling e.kind (blob_id_of e.text))
     → commit ≡ length (spelling (CommitOf (content_behind parent e))) → blob + tree + commit ≡ length (bytes_behind parent e)
 whole_size parent e blob tree commit b t m =
     let content = content_behind parent e in
@@ -57,7 +57,7 @@ whole_size parent e blob tree commit b t m =
       t,
       m,
       length-blob e.text,
-      length-tree e.name e.text,
+      length-tree e.kind e.text,
       length-entry parent e,
       length-append (codes "commit ") (decimal (length content) ++ 0 ∷ content),
       length-append (decimal (length content)) (0 ∷ content),

@@ -5,6 +5,7 @@ use Rattle.std.proofs.lemmas.List.{append_assoc}
 use Rattle.std.proofs.lemmas.Fmt.{length-decimal-le}
 use Rattle.arch_base.specs.declared.ids.Id20.{Id20}
 use Rattle.git_objects.specs.Commits.{commit_content}
+use Rattle.git_objects.specs.declared.entry_kind.EntryKind.{EntryKind}
 use Rattle.git_objects.specs.Objects.{blob_spelling, blob_id_of, id_of}
 use Rattle.git_objects.proofs.Spellings.{length-tree_spelling}
 use Rattle.git_objects.proofs.ObjectIds.{IsId-id_of}
@@ -16,7 +17,7 @@ use Rattle.epoch_file.specs.Sights.{commit_place}
 
 -- The content of an entry's commit.
 abbrev pub content_behind : Option Id20 → EpochEntry → List ℕ
-content_behind parent e = commit_content (commit_of e.text (id_of (tree_of e.name e.text)) parent e.moment)
+content_behind parent e = commit_content (commit_of e.text (id_of (tree_of e.kind e.text)) parent e.moment)
 
 -- The type and the size of an object, and the byte after them.
 abbrev pub head_of : List ℕ → ℕ → List ℕ
@@ -24,12 +25,12 @@ head_of word size = word ++ (decimal size ++ 0 ∷ [])
 
 -- An entry's bytes before what follows, object by object.
 pub objects : (parent : Option Id20) (e : EpochEntry) (rest : List ℕ)
-    → bytes_behind parent e ++ rest ≡ blob_spelling e.text ++ (tree_of e.name e.text ++ ((codes "commit " ++ (decimal (length (content_behind parent e)) ++ 0 ∷ content_behind parent e)) ++ rest))
+    → bytes_behind parent e ++ rest ≡ blob_spelling e.text ++ (tree_of e.kind e.text ++ ((codes "commit " ++ (decimal (length (content_behind parent e)) ++ 0 ∷ content_behind parent e)) ++ rest))
 unfolding entry_bytes commit_text
 objects parent e rest =
     let commit = codes "commit " ++ (decimal (length (content_behind parent e)) ++ 0 ∷ content_behind parent e) in
-    append_assoc (blob_spelling e.text) (tree_of e.name e.text ++ commit) rest
-    ∙ ap (λ (l : List ℕ). blob_spelling e.text ++ l) (append_assoc (tree_of e.name e.text) commit rest)
+    append_assoc (blob_spelling e.text) (tree_of e.kind e.text ++ commit) rest
+    ∙ ap (λ (l : List ℕ). blob_spelling e.text ++ l) (append_assoc (tree_of e.kind e.text) commit rest)
 
 -- A type and a size before what follows.
 pub headed : (word content rest : List ℕ) → (word ++ (decimal (length content) ++ 0 ∷ content)) ++ rest ≡ word ++ (decimal (length content) ++ 0 ∷ (content ++ rest))
@@ -54,8 +55,8 @@ pub length-blob : (text : List ℕ) → length (blob_spelling text) ≡ blob_fro
 length-blob text = omega (arith, length-append (codes "blob ") (decimal (length text) ++ 0 ∷ text), length-append (decimal (length text)) (0 ∷ text))
 
 -- The length of a tree.
-pub length-tree : (name : ℕ) (text : List ℕ) → length (tree_of name text) ≡ 37
-length-tree name text = length-tree_spelling name (blob_id_of text) (IsId-id_of (blob_spelling text)).len
+pub length-tree : (kind : EntryKind) (text : List ℕ) → length (tree_of kind text) ≡ 37
+length-tree kind text = length-tree_spelling kind (blob_id_of text) (IsId-id_of (blob_spelling text)).len
 
 -- The length of an entry.
 pub length-entry : (parent : Option Id20) (e : EpochEntry)
@@ -66,10 +67,10 @@ length-entry parent e =
     let commit = codes "commit " ++ (decimal (length content) ++ 0 ∷ content) in
     omega (
       arith,
-      length-append (blob_spelling e.text) (tree_of e.name e.text ++ commit),
-      length-append (tree_of e.name e.text) commit,
+      length-append (blob_spelling e.text) (tree_of e.kind e.text ++ commit),
+      length-append (tree_of e.kind e.text) commit,
       length-blob e.text,
-      length-tree e.name e.text,
+      length-tree e.kind e.text,
       length-append (codes "commit ") (decimal (length content) ++ 0 ∷ content),
       length-append (decimal (length content)) (0 ∷ content),
       length-append (codes "commit ") (decimal (length content)),

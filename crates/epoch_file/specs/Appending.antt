@@ -12,7 +12,7 @@ use Rattle.epoch_file.specs.Entries.{EpochEntry, bytes_behind, commit_behind}
 
 -- The new entry.
 abbrev pub entry_of : NewEntry → EpochEntry
-entry_of new = record { name = new.name; text = new.text.now; moment = new.moment }
+entry_of new = record { kind = new.kind; text = new.text.now; moment = new.moment }
 
 -- The bytes before an entry at an offset: the magic at offset 0, and otherwise none.
 abbrev pub front_at : ℕ → List ℕ

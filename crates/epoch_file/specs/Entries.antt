@@ -1,23 +1,22 @@
 -- The entries of an epoch's file and their bytes: the magic, then for each entry a blob, a tree of
 -- one file that names the blob, and a commit that names the tree (git, "Git Objects").
-use Rattle.std.specs.Prelude.{◌≡◌, ◌<◌, ◌≤◌, ◌^◌, ℕ, true, List, [], ◌∷◌, ◌++◌, length, Option, Some, None}
+use Rattle.std.specs.Prelude.{◌≡◌, ◌<◌, ◌≤◌, ◌^◌, ℕ, List, [], ◌∷◌, ◌++◌, length, Option, Some, None}
 use Rattle.arch_base.specs.declared.ids.Id20.{Id20}
-use Rattle.git_objects.specs.Objects.{is_entry_name}
+use Rattle.git_objects.specs.declared.entry_kind.EntryKind.{EntryKind}
 use Rattle.mail_reader.specs.StorageTexts.{IsStorageText}
 use Rattle.mail_commits.specs.Entries.{commit_id, entry_bytes, magic}
 use Rattle.arch_base.specs.Moments.{last_moment}
 
--- An entry: the name of its file, `m` or `d`, the text of that file, and the time of its commit in
--- seconds since 1970.
+-- An entry: a message or a deletion, the text of its file, and the time of its commit in seconds
+-- since 1970.
 pub record EpochEntry : Type 0 where
-  pub name : ℕ
+  pub kind : EntryKind
   pub text : List ℕ
   pub moment : ℕ
 
--- The entries that a file may have: a message `m` or a deletion `d` of a storage text, at a moment
--- up to the last one.
+-- The entries that a file may have: a message or a deletion of a storage text, at a moment up to the
+-- last one.
 pub record IsEpochEntry (e : EpochEntry) : Type 0 where
-  pub name : is_entry_name e.name ≡ true
   pub text : IsStorageText e.text
   pub moment : e.moment ≤ last_moment
 
@@ -28,11 +27,11 @@ AreEpochEntries (e ∷ es) = IsEpochEntry e × AreEpochEntries es
 
 -- The bytes of an entry after a parent.
 abbrev pub bytes_behind : Option Id20 → EpochEntry → List ℕ
-bytes_behind parent e = entry_bytes e.name e.text e.moment parent
+bytes_behind parent e = entry_bytes e.kind e.text e.moment parent
 
 -- The id of its commit.
 abbrev pub commit_behind : Option Id20 → EpochEntry → Id20
-commit_behind parent e = commit_id e.name e.text e.moment parent
+commit_behind parent e = commit_id e.kind e.text e.moment parent
 
 -- The bytes of entries, where each commit's parent is the commit before it.
 abbrev pub chain : Option Id20 → List EpochEntry → List ℕ

@@ -1,9 +1,10 @@
 -- The results of reading an entry at the front of bytes.
-use Rattle.std.specs.Prelude.{◌≡◌, ◌≢◌, ℕ, ◌+◌, ◌≤◌, true, List, ◌++◌, length, Option, Some, None, Result, Ok, Err, MatchOption, [], unwrap_or}
+use Rattle.std.specs.Prelude.{◌≡◌, ◌≢◌, ℕ, ◌+◌, ◌≤◌, List, ◌++◌, length, Option, Some, None, Result, Ok, Err, MatchOption, [], unwrap_or}
 use Rattle.arch_base.specs.declared.ids.Id20.{Id20}
 use Rattle.arch_base.specs.declared.sequence.NoMemory.{NoMemory}
+use Rattle.git_objects.specs.declared.entry_kind.EntryKind.{EntryKind}
 use Rattle.git_objects.specs.Commits.{commit_content, IsParent}
-use Rattle.git_objects.specs.Objects.{blob_id_of, id_of, is_entry_name}
+use Rattle.git_objects.specs.Objects.{blob_id_of, id_of}
 use Rattle.mail_reader.specs.Content.{content_id_of}
 use Rattle.mail_reader.specs.Ids.{own_id}
 use Rattle.mail_commits.specs.declared.commits.EntryIds.{EntryIds}
@@ -14,18 +15,17 @@ use Rattle.epoch_file.specs.declared.reading.Parts.{Parts}
 use Rattle.epoch_file.specs.Entries.{EpochEntry, IsEpochEntry, bytes_behind}
 use Rattle.epoch_file.specs.Walking.{blob_front, seen_at, LacksEntry}
 
--- Parts of bytes: a name that a tree's file may have, and lengths within the bytes.
+-- Parts of bytes: their lengths are within the bytes.
 pub record IsParted (bytes : List ℕ) (parts : Parts) : Type 0 where
-  pub name : is_entry_name parts.name ≡ true
   pub inside : parts.size ≤ length bytes
   pub front : parts.front ≤ parts.size
 
 -- The parts of an entry.
 pub record HasParts (parent : Option Id20) (e : EpochEntry) (parts : Parts) : Type 0 where
-  pub name : parts.name ≡ e.name
+  pub kind : parts.kind ≡ e.kind
   pub text : parts.text.now ≡ e.text
   pub front : parts.front ≡ blob_front e.text
-  pub commit : parts.commit.now ≡ commit_content (commit_of e.text (id_of (tree_of e.name e.text)) parent e.moment)
+  pub commit : parts.commit.now ≡ commit_content (commit_of e.text (id_of (tree_of e.kind e.text)) parent e.moment)
   pub size : parts.size ≡ length (bytes_behind parent e)
 
 -- The parts of an entry are found whatever follows it.
@@ -35,15 +35,15 @@ PartsAgain bytes found =
     → MatchOption found ⊥ (HasParts parent e)
 
 -- The ids of an entry.
-pub record AreIds (name : ℕ) (text : List ℕ) (moment : ℕ) (parent : Option Id20) (ids : EntryIds) : Type 0 where
+pub record AreIds (kind : EntryKind) (text : List ℕ) (moment : ℕ) (parent : Option Id20) (ids : EntryIds) : Type 0 where
   pub blob : ids.blob ≡ blob_id_of text
-  pub commit : ids.commit ≡ commit_id name text moment parent
+  pub commit : ids.commit ≡ commit_id kind text moment parent
 
 -- The bytes are those of an entry with these ids, or they are others.
-abbrev pub Respells : List ℕ → ℕ → List ℕ → ℕ → Option Id20 → Result (Option EntryIds) NoMemory → Type 0
-Respells bytes name text moment parent (Ok None) = bytes ≢ entry_bytes name text moment parent
-Respells bytes name text moment parent (Ok (Some ids)) = (bytes ≡ entry_bytes name text moment parent) × AreIds name text moment parent ids
-Respells bytes name text moment parent (Err e) = Unit {0}
+abbrev pub Respells : List ℕ → EntryKind → List ℕ → ℕ → Option Id20 → Result (Option EntryIds) NoMemory → Type 0
+Respells bytes kind text moment parent (Ok None) = bytes ≢ entry_bytes kind text moment parent
+Respells bytes kind text moment parent (Ok (Some ids)) = (bytes ≡ entry_bytes kind text moment parent) × AreIds kind text moment parent ids
+Respells bytes kind text moment parent (Err e) = Unit {0}
 
 -- An entry that bytes start with: what is recorded of it at its offset, and its length.
 pub record IsRead (place : ℕ) (parent : Option Id20) (bytes : List ℕ) (found : Seen × ℕ) : Type 0 where
@@ -71,7 +71,7 @@ ReadsWhere P place parent bytes (Err e) = Unit {0}
 -- What is recorded of parts at an offset, with a moment and ids.
 abbrev pub seen_by : ℕ → Parts → ℕ → EntryIds → Seen
 seen_by place parts moment ids = record {
-  name = parts.name;
+  kind = parts.kind;
   at = place;
   text_at = place + parts.front;
   size = length parts.text.now;

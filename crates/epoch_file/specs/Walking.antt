@@ -18,7 +18,7 @@ blob_front text = 6 + length (decimal (length text))
 -- What is recorded of an entry at an offset, after a parent.
 abbrev pub seen_at : ℕ → Option Id20 → EpochEntry → Seen
 seen_at place parent e = record {
-  name = e.name;
+  kind = e.kind;
   at = place;
   text_at = place + blob_front e.text;
   size = length e.text;

@@ -1,8 +1,8 @@
 //! Appends an entry to an epoch's file.
-ghost use Rattle.std.specs.Prelude.{◌≡◌, ◌++◌, ◌<◌, ◌≤◌, ◌^◌, ℕ, List, length, Err, IsTrue, IfOk, OnOk, OnErr, is_ok, if◌then◌else◌};
+ghost use Rattle.std.specs.Prelude.{◌≡◌, ◌++◌, ◌<◌, ◌≤◌, ◌^◌, ℕ, List, length, Err, IfOk, OnOk, OnErr, is_ok, if◌then◌else◌};
 ghost use Rattle.arch_base.specs.Counts.{RoseIf};
 ghost use Rattle.disk_model.specs.Disk.{WhereTold, IsAtMostLength, Elapses};
-ghost use Rattle.git_objects.specs.Objects.{is_entry_name, blob_id_of};
+ghost use Rattle.git_objects.specs.Objects.{blob_id_of};
 ghost use Rattle.epoch_file.specs.Entries.{commit_behind};
 ghost use Rattle.arch_base.specs.Moments.{last_moment};
 ghost use Rattle.epoch_file.specs.Appending.{appended, entry_of, front_at, written_of, AppendLeaves};
@@ -11,11 +11,8 @@ use crate::entry::{NewEntry, Written};
 use crate::refusal::StoreRefusal;
 use arch_base::{Bytes, NoMemory};
 use disk_model::{Disk, FileName};
-use mail_commits::{EntryIds, push_entry};
+use mail_commits::{EntryIds, MAGIC, push_entry};
 use std::alloc::Global;
-
-/// The first bytes of an epoch's file.
-pub(crate) const MAGIC: [u8; 8] = *b"PIV2EP1\n";
 
 /// The greatest number of bytes that one write takes. More bytes find no room in memory.
 const MOST: usize = 1 << 62;
@@ -34,7 +31,6 @@ pub fn append_entry<D: Disk>(
     at: u64,
     entry: &NewEntry<'_>,
 ) -> Result<Written, StoreRefusal>
-    requires name { IsTrue (is_entry_name entry.now.name) }
     requires moment { entry.now.moment ≤ last_moment }
     requires inside { WhereTold (IsAtMostLength file at) (D.content disk.old) }
     requires place { at < 2 ^ 62 }
@@ -59,7 +55,6 @@ pub fn append_entry<D: Disk>(
 
 /// Returns the bytes of an entry at an offset, and the ids of its blob and its commit.
 fn entry_piece(alloc: Global, at: u64, entry: &NewEntry<'_>) -> Result<(Bytes, EntryIds), NoMemory>
-    requires { IsTrue (is_entry_name entry.now.name) }
     ensures piece { IfOk result (λ made. made.0 ≡ appended at entry.now) }
     ensures blob { IfOk result (λ made. made.1.blob ≡ blob_id_of entry.now.text.now) }
     ensures commit { IfOk result (λ made. made.1.commit ≡ commit_behind entry.now.parent (entry_of entry.now)) }
@@ -67,7 +62,7 @@ fn entry_piece(alloc: Global, at: u64, entry: &NewEntry<'_>) -> Result<(Bytes, E
     let mut piece = front(alloc, at)?;
     let ids = push_entry(
         alloc,
-        entry.name,
+        entry.kind,
         entry.text,
         entry.moment,
         entry.parent,

@@ -1,11 +1,12 @@
 //! The entries of an epoch's file, as they are written and as they are read.
 use arch_base::{Bytes, ObjectId, Sequence};
+use git_objects::EntryKind;
 
 /// An entry that is to be appended to an epoch's file.
 #[derive(Debug, Clone, Copy, Drop)]
 pub struct NewEntry<'a> {
-    /// The name of its file: `m` of a message, `d` of a deletion.
-    pub name: u8,
+    /// A message or a deletion.
+    pub kind: EntryKind,
     /// The text of that file.
     pub text: &'a [u8],
     /// The time of its commit, in seconds since 1970.
@@ -17,8 +18,8 @@ pub struct NewEntry<'a> {
 /// An entry as it was read from an epoch's file.
 #[derive(Debug, Drop)]
 pub struct Seen {
-    /// The name of its file: `m` of a message, `d` of a deletion.
-    pub name: u8,
+    /// A message or a deletion.
+    pub kind: EntryKind,
     /// The offset of the entry in the epoch's file.
     pub at: u64,
     /// The offset of its text in the epoch's file.

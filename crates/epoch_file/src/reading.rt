@@ -1,10 +1,11 @@
 //! Reads an entry from the front of bytes.
-ghost use Rattle.std.specs.Prelude.{◌≡◌, ◌≢◌, ◌+◌, ◌-◌, ◌<◌, ◌≤◌, ◌^◌, ◌++◌, ◌↔◌, ℕ, List, [], Some, None, length, true, unwrap_or, IsTrue, IfSome, IfNone, IfOk, MatchOption};
+ghost use Rattle.std.specs.Prelude.{◌≡◌, ◌≢◌, ◌+◌, ◌-◌, ◌<◌, ◌≤◌, ◌^◌, ◌++◌, ◌↔◌, ℕ, List, [], Some, None, length, unwrap_or, IfSome, IfNone, IfOk, MatchOption};
 ghost use Rattle.arch_base.specs.Ids.{IsId};
 ghost use Rattle.arch_base.specs.declared.ids.Id20.{Id20};
 ghost use Rattle.git_objects.specs.declared.commits.Commit.{Commit as CommitRecord};
+ghost use Rattle.git_objects.specs.declared.entry_kind.EntryKind.{EntryKind};
 ghost use Rattle.git_objects.specs.Commits.{IsCommit, commit_content};
-ghost use Rattle.git_objects.specs.Objects.{CommitOf, HasSize, blob_spelling, is_entry_name, spelling, tree_spelling};
+ghost use Rattle.git_objects.specs.Objects.{CommitOf, HasSize, blob_spelling, spelling, tree_spelling};
 ghost use Rattle.mail_commits.specs.Entries.{commit_id, entry_bytes};
 ghost use Rattle.mail_reader.specs.Ids.{own_id as own_id_of};
 ghost use Rattle.epoch_file.specs.Entries.{EpochEntry, IsEpochEntry, bytes_behind};
@@ -13,7 +14,7 @@ ghost use Rattle.epoch_file.specs.Reading.{IsParted, HasParts, PartsAgain, Respe
 
 use crate::entry::Seen;
 use arch_base::{Bytes, LAST_MOMENT, NoMemory, ObjectId};
-use git_objects::{Object, read_commit, read_object};
+use git_objects::{EntryKind, Object, read_commit, read_object};
 use mail_commits::{EntryIds, push_entry};
 use mail_reader::{content_id, is_stored, own_id};
 use std::alloc::Global;
@@ -21,8 +22,8 @@ use std::alloc::Global;
 /// The three objects at the front of bytes.
 #[derive(Debug, Clone, Copy, Drop)]
 pub(crate) struct Parts<'a> {
-    /// The name of the tree's file.
-    name: u8,
+    /// The kind of entry that the tree's file names.
+    kind: EntryKind,
     /// The blob's content.
     text: &'a [u8],
     /// The number of bytes before it.
@@ -39,11 +40,11 @@ fn read_parts(bytes: &[u8]) -> Option<Parts<'_>>
     ensures again { PartsAgain bytes.now result }
 {
     let (text, blob) = blob_ahead(bytes)?;
-    let (name, tree) = tree_ahead(bytes.split_at(blob).1)?;
+    let (kind, tree) = tree_ahead(bytes.split_at(blob).1)?;
     let at = blob + tree;
     let (commit, len) = commit_ahead(bytes.split_at(at).1)?;
     Some(Parts {
-        name,
+        kind,
         text,
         front: blob - text.len(),
         commit,
@@ -63,14 +64,14 @@ fn blob_ahead(bytes: &[u8]) -> Option<(&[u8], usize)>
     }
 }
 
-/// Reads the name in the tree that bytes start with, and the tree's length.
-fn tree_ahead(bytes: &[u8]) -> Option<(u8, usize)>
-    ensures inside { IfSome result (λ found. (is_entry_name found.0 ≡ true) × (found.1 ≤ length bytes.now)) }
-    ensures again { (name : ℕ) (id : Id20) (rest : List ℕ) → is_entry_name name ≡ true → IsId id → bytes.now ≡ tree_spelling name id ++ rest
-        → MatchOption result ⊥ (λ found. (found.0 ≡ name) × (found.1 ≡ length (tree_spelling name id))) }
+/// Reads the kind of entry in the tree that bytes start with, and the tree's length.
+fn tree_ahead(bytes: &[u8]) -> Option<(EntryKind, usize)>
+    ensures inside { IfSome result (λ found. found.1 ≤ length bytes.now) }
+    ensures again { (kind : EntryKind) (id : Id20) (rest : List ℕ) → IsId id → bytes.now ≡ tree_spelling kind id ++ rest
+        → MatchOption result ⊥ (λ found. (found.0 ≡ kind) × (found.1 ≡ length (tree_spelling kind id))) }
 {
     match read_object(bytes)? {
-        (Object::Tree { name, id: _ }, len) => Some((name, len)),
+        (Object::Tree { kind, id: _ }, len) => Some((kind, len)),
         _ => None,
     }
 }
@@ -109,16 +110,15 @@ fn moment_of(alloc: Global, content: &[u8]) -> Result<Option<u64>, NoMemory>
 fn respell(
     alloc: Global,
     bytes: &[u8],
-    name: u8,
+    kind: EntryKind,
     text: &[u8],
     moment: u64,
     parent: Option<ObjectId>,
 ) -> Result<Option<EntryIds>, NoMemory>
-    requires { IsTrue (is_entry_name name) }
-    ensures { Respells bytes.now name text.now moment parent result }
+    ensures { Respells bytes.now kind text.now moment parent result }
 {
     let mut spelled = Bytes::new(alloc);
-    let ids = push_entry(alloc, name, text, moment, parent, &mut spelled)?;
+    let ids = push_entry(alloc, kind, text, moment, parent, &mut spelled)?;
     if spelled.as_slice() != bytes {
         return Ok(None);
     }
@@ -193,7 +193,7 @@ fn read_at_moment(
         return Ok(None);
     }
     let spelling = bytes.split_at(parts.size).0;
-    match respell(alloc, spelling, parts.name, parts.text, moment, parent)? {
+    match respell(alloc, spelling, parts.kind, parts.text, moment, parent)? {
         Some(ids) => Ok(Some((seen_of(alloc, place, parts, moment, &ids)?, parts.size))),
         None => Ok(None),
     }
@@ -211,7 +211,7 @@ fn seen_of(
     ensures { IfOk result (λ seen. seen ≡ seen_by place parts.now moment ids.now) }
 {
     Ok(Seen {
-        name: parts.name,
+        kind: parts.kind,
         at: place,
         text_at: place + parts.front as u64,
         size: parts.text.len() as u64,

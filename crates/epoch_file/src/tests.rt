@@ -3,7 +3,7 @@
 use crate::{NewEntry, Seen, StoreRefusal, Written, append_entry, law_of_epochs, walk};
 use arch_base::{Bytes, NoMemory, Numbers, ObjectId, id_of_hex};
 use disk_model::{Disk, DiskFault, FileKind, FileName, FuseDisk, MemDisk, WalkRefusal};
-use git_objects::object_id;
+use git_objects::{EntryKind, object_id};
 use mail_commits::push_entry;
 use std::alloc::Global;
 use std::process::Abort;
@@ -29,9 +29,9 @@ const FILE: FileName = FileName {
 const LENGTH: u64 = 1028;
 
 /// An entry.
-fn entry(name: u8, text: &[u8], moment: u64, parent: Option<ObjectId>) -> NewEntry<'_> {
+fn entry(kind: EntryKind, text: &[u8], moment: u64, parent: Option<ObjectId>) -> NewEntry<'_> {
     NewEntry {
-        name,
+        kind,
         text,
         moment,
         parent,
@@ -45,8 +45,7 @@ fn append<D: Disk>(
     at: u64,
     entry: &NewEntry<'_>,
 ) -> Result<Written, StoreRefusal> {
-    let known = entry.name == b'm' || entry.name == b'd';
-    if !known || entry.moment > 253_402_300_799 || at > 1 << 40 || at > disk.length(FILE)? {
+    if entry.moment > 253_402_300_799 || at > 1 << 40 || at > disk.length(FILE)? {
         return Err(StoreRefusal::Damaged { file: FILE, at });
     }
     append_entry(alloc, disk, FILE, at, entry)
@@ -54,18 +53,33 @@ fn append<D: Disk>(
 
 /// Puts the three entries into the file, and says where each ends.
 fn fill<D: Disk>(alloc: Global, disk: &mut D) -> Result<(Written, Written, Written), StoreRefusal> {
-    let first = append(alloc, disk, 0, &entry(b'm', FIRST, 1_706_781_700, None))?;
+    let first = append(
+        alloc,
+        disk,
+        0,
+        &entry(EntryKind::Message, FIRST, 1_706_781_700, None),
+    )?;
     let second = append(
         alloc,
         disk,
         first.end,
-        &entry(b'm', SECOND, 1_706_781_700, Some(first.commit)),
+        &entry(
+            EntryKind::Message,
+            SECOND,
+            1_706_781_700,
+            Some(first.commit),
+        ),
     )?;
     let third = append(
         alloc,
         disk,
         second.end,
-        &entry(b'd', FIRST, 1_706_781_800, Some(second.commit)),
+        &entry(
+            EntryKind::Deletion,
+            FIRST,
+            1_706_781_800,
+            Some(second.commit),
+        ),
     )?;
     Ok((first, second, third))
 }
@@ -93,8 +107,15 @@ fn count<D: Disk>(alloc: Global, disk: &mut D, length: u64) -> Result<usize, Wal
 }
 
 /// Whether what is seen is this entry.
-fn is_entry(seen: &Seen, name: u8, at: u64, moment: u64, id: &[u8], written: &Written) -> bool {
-    let placed = seen.name == name && seen.at == at && at < 1000 && seen.text_at == at + 9;
+fn is_entry(
+    seen: &Seen,
+    kind: EntryKind,
+    at: u64,
+    moment: u64,
+    id: &[u8],
+    written: &Written,
+) -> bool {
+    let placed = seen.kind == kind && seen.at == at && at < 1000 && seen.text_at == at + 9;
     let made = seen.blob == written.blob && seen.commit == written.commit;
     placed
         && made
@@ -149,9 +170,23 @@ fn sees_entries<D: Disk>(
     let [one, two, three] = found.as_slice() else {
         return Ok(false);
     };
-    let one = is_entry(one, b'm', 8, 1_706_781_700, b"<a@x>", first);
-    let two = is_entry(two, b'm', 316, 1_706_781_700, b"<b@x>", second);
-    let three = is_entry(three, b'd', 672, 1_706_781_800, b"<a@x>", third);
+    let one = is_entry(one, EntryKind::Message, 8, 1_706_781_700, b"<a@x>", first);
+    let two = is_entry(
+        two,
+        EntryKind::Message,
+        316,
+        1_706_781_700,
+        b"<b@x>",
+        second,
+    );
+    let three = is_entry(
+        three,
+        EntryKind::Deletion,
+        672,
+        1_706_781_800,
+        b"<a@x>",
+        third,
+    );
     Ok(one && two && three)
 }
 
@@ -290,7 +325,7 @@ fn is_walked_in_two_calls(alloc: Global, passes: u64) -> Result<bool, StoreRefus
 fn is_put_in_two_calls(alloc: Global, passes: u64) -> bool {
     let mut fuse = FuseDisk::new(MemDisk::new(alloc, Numbers::new(alloc)), passes);
     // A look at the length, and a write.
-    let new = entry(b'm', FIRST, 1_706_781_700, None);
+    let new = entry(EntryKind::Message, FIRST, 1_706_781_700, None);
     match append(alloc, &mut fuse, 0, &new) {
         Ok(written) => passes == 2 && written.end == 316,
         Err(refusal) => passes < 2 && refusal == StoreRefusal::DiskFault,
@@ -312,7 +347,7 @@ fn a_call_that_fails_is_no_answer(rt: HostRuntime) -> Result<(), Fail> {
 fn epoch_of(alloc: Global, text: &[u8], moment: u64) -> Result<Bytes, NoMemory> {
     let mut bytes = Bytes::new(alloc);
     bytes.push_slice(b"PIV2EP1\n")?;
-    push_entry(alloc, b'm', text, moment, None, &mut bytes)?;
+    push_entry(alloc, EntryKind::Message, text, moment, None, &mut bytes)?;
     Ok(bytes)
 }
 
@@ -356,7 +391,12 @@ fn count_behind<D: Disk>(
     disk: &mut D,
     parent: Option<ObjectId>,
 ) -> Result<Result<usize, WalkRefusal>, StoreRefusal> {
-    let second = append(alloc, disk, 316, &entry(b'm', SECOND, 5, parent))?;
+    let second = append(
+        alloc,
+        disk,
+        316,
+        &entry(EntryKind::Message, SECOND, 5, parent),
+    )?;
     Ok(count(alloc, disk, second.end))
 }
 
@@ -375,7 +415,7 @@ fn is_wrong_parent<D: Disk>(
 /// Appends the second entry to the first one with two wrong parents and with the right one, and
 /// walks the epoch.
 fn try_parents<D: Disk>(rt: &impl Abort, alloc: Global, disk: &mut D) -> Result<(), StoreRefusal> {
-    let new = entry(b'm', FIRST, 1_706_781_700, None);
+    let new = entry(EntryKind::Message, FIRST, 1_706_781_700, None);
     let first = append(alloc, disk, 0, &new)?;
     for parent in [None, Some(first.blob)] {
         assert!(rt; is_wrong_parent(alloc, disk, parent)?);
@@ -405,8 +445,13 @@ fn long_text(alloc: Global) -> Result<Bytes, NoMemory> {
 /// Puts an entry of a long text and the first mail into the file.
 fn put_long<D: Disk>(alloc: Global, disk: &mut D) -> Result<(Written, Written), StoreRefusal> {
     let text = long_text(alloc)?;
-    let long = append(alloc, disk, 0, &entry(b'm', text.as_slice(), 5, None))?;
-    let new = entry(b'm', FIRST, 5, Some(long.commit));
+    let long = append(
+        alloc,
+        disk,
+        0,
+        &entry(EntryKind::Message, text.as_slice(), 5, None),
+    )?;
+    let new = entry(EntryKind::Message, FIRST, 5, Some(long.commit));
     let last = append(alloc, disk, long.end, &new)?;
     Ok((long, last))
 }

@@ -7,7 +7,6 @@ ghost use Rattle.epoch_file.specs.Runs.{OnlyReads, FaultRose, StopRose};
 ghost use Rattle.epoch_file.specs.Windows.{IsInside};
 ghost use Rattle.epoch_file.specs.Steps.{Brings, Begins, BeginsAt, BeginsIn, BeginsWith, HasMagic, GoesOn, Moves, SamePart, Takes, Turns, IsWanted};
 
-use crate::appending::MAGIC;
 use crate::entry::SeenList;
 use crate::reading::read_entry;
 use crate::sight::{Sight, after, look};
@@ -15,6 +14,7 @@ use crate::state::State;
 use crate::window::{Part, Window, piece_room, read_on};
 use arch_base::NoMemory;
 use disk_model::{Disk, FileName, WalkRefusal};
+use mail_commits::MAGIC;
 use std::alloc::Global;
 
 /// Returns the entries in the first `length` bytes of an epoch's file.

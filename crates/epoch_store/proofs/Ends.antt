@@ -8,7 +8,7 @@ use Rattle.arch_base.specs.declared.ids.Id20.{Id20}
 use Rattle.arch_model.specs.Archives.{Entry, Archive, in_epoch}
 use Rattle.arch_model.specs.Delivery.{greater, last_epoch, takes_more, new_epoch}
 use Rattle.arch_model.specs.Epochs.{last_commit}
-use Rattle.mail_commits.specs.Entries.{message_name, commit_id}
+use Rattle.mail_commits.specs.Entries.{message_kind, commit_id}
 use Rattle.arch_base.specs.declared.config.Config.{Config}
 use Rattle.root_slots.specs.Valid.{no_place}
 use Rattle.epoch_store.specs.declared.entries.StoredEntry.{StoredEntry}
@@ -56,9 +56,9 @@ none_in (e ∷ es) epoch below =
     rw test (none_in es epoch below.1)
 
 -- The last commit of entries with one appended.
-pub last_commit_is : (parent : Option Id20) (es : List Entry) (e : Entry) → last_commit parent (es ++ e ∷ []) ≡ Some (commit_id message_name e.text e.moment (last_commit parent es))
+pub last_commit_is : (parent : Option Id20) (es : List Entry) (e : Entry) → last_commit parent (es ++ e ∷ []) ≡ Some (commit_id message_kind e.text e.moment (last_commit parent es))
 last_commit_is parent [] e = refl
-last_commit_is parent (f ∷ es) e = last_commit_is (Some (commit_id message_name f.text f.moment parent)) es e
+last_commit_is parent (f ∷ es) e = last_commit_is (Some (commit_id message_kind f.text f.moment parent)) es e
 
 -- The last item of a list.
 last_item : {X : Type 0} (xs : List X) (x : X) → slice_get (xs ++ x ∷ []) (length (xs ++ x ∷ []) - 1) ≡ Some x

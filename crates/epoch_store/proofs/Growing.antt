@@ -9,7 +9,7 @@ use Rattle.std.proofs.lemmas.Bool.Decides.{nat_tests}
 use Rattle.arch_base.specs.declared.ids.Id20.{Id20}
 use Rattle.arch_model.specs.Archives.{Entry, Archive, in_epoch}
 use Rattle.arch_model.specs.Epochs.{epoch_bytes, entries_bytes, last_commit}
-use Rattle.mail_commits.specs.Entries.{magic, message_name, entry_bytes, commit_id}
+use Rattle.mail_commits.specs.Entries.{magic, message_kind, entry_bytes, commit_id}
 use Rattle.number_map.specs.declared.line.Record.{Record}
 use Rattle.number_map.specs.Records.{record_bytes}
 use Rattle.epoch_file.specs.Entries.{bytes_behind}
@@ -84,9 +84,9 @@ in_epoch-other es new epoch apart = filter-append (λ (e : Entry). e.epoch == ep
 entries_more : (parent : Option Id20) (es : List Entry) (new : Entry) → entries_bytes parent (es ++ new ∷ []) ≡ entries_bytes parent es ++ bytes_behind (last_commit parent es) (in_file new)
 entries_more parent [] new = append-nil (bytes_behind parent (in_file new))
 entries_more parent (e ∷ es) new =
-    let next : Option Id20 = Some (commit_id message_name e.text e.moment parent) in
-    ap (λ (b : List ℕ). entry_bytes message_name e.text e.moment parent ++ b) (entries_more next es new)
-    ∙ sym (append_assoc (entry_bytes message_name e.text e.moment parent) (entries_bytes next es) (bytes_behind (last_commit next es) (in_file new)))
+    let next : Option Id20 = Some (commit_id message_kind e.text e.moment parent) in
+    ap (λ (b : List ℕ). entry_bytes message_kind e.text e.moment parent ++ b) (entries_more next es new)
+    ∙ sym (append_assoc (entry_bytes message_kind e.text e.moment parent) (entries_bytes next es) (bytes_behind (last_commit next es) (in_file new)))
 
 -- The bytes of an epoch with one more entry.
 epoch_more : (es : List Entry) (new : Entry) → epoch_bytes (es ++ new ∷ []) ≡ epoch_bytes es ++ (front_at (length (epoch_bytes es)) ++ bytes_behind (last_commit None es) (in_file new))

@@ -11,7 +11,7 @@ use Rattle.arch_base.specs.declared.ids.Id20.{Id20}
 use Rattle.git_objects.specs.Objects.{blob_id_of}
 use Rattle.arch_model.specs.Archives.{Entry, in_epoch}
 use Rattle.arch_model.specs.Epochs.{entries_bytes, last_commit}
-use Rattle.mail_commits.specs.Entries.{message_name, entry_bytes, commit_id}
+use Rattle.mail_commits.specs.Entries.{message_kind, entry_bytes, commit_id}
 use Rattle.number_map.specs.declared.line.Record.{Record}
 use Rattle.epoch_file.specs.declared.entry.Seen.{Seen}
 use Rattle.epoch_file.specs.Entries.{EpochEntry, IsEpochEntry, AreEpochEntries, bytes_behind, commit_behind}
@@ -29,7 +29,7 @@ use Rattle.epoch_store.proofs.Ends.{none_in, last_commit_is}
 use Rattle.epoch_store.proofs.Firsts.{first_is, first_none, first_more, record_behind, map_behind, stored_count, stored_before, free_ids, apart_ids, free_blobs, apart_blobs, ids_of_last, blobs_of_last}
 
 -- The next record is that of an entry, or it isn't.
-pub is_wanted : (v : Joined) (epoch : ℕ) (seen : Seen) (r : Record) → seen.name ≡ message_name → slice_get v.records (length v.entries) ≡ Some r → r.epoch ≡ epoch → r.blob ≡ seen.blob → IsWanted v epoch seen r.number
+pub is_wanted : (v : Joined) (epoch : ℕ) (seen : Seen) (r : Record) → seen.name ≡ message_kind → slice_get v.records (length v.entries) ≡ Some r → r.epoch ≡ epoch → r.blob ≡ seen.blob → IsWanted v epoch seen r.number
 is_wanted v epoch seen r name next same_epoch same_blob = record { message = name; next = next ∙ (λ i. Some (record { number = r.number; epoch = same_epoch i; blob = same_blob i })) }
 
 found_is : {X : Type 0} (o : Option X) (x y : X) → o ≡ Some x → o ≡ Some y → x ≡ y
@@ -102,10 +102,10 @@ all_joined P (x ∷ xs) ys one two = (one.0, all_joined P xs ys one.1 two)
 
 -- The bytes of entries with one appended.
 pub size_more : (parent : Option Id20) (es : List Entry) (e : Entry) → length (entries_bytes parent (es ++ e ∷ [])) ≡ length (entries_bytes parent es) + length (bytes_behind (last_commit parent es) (in_file e))
-size_more parent [] e = omega (arith, length-append (entry_bytes message_name e.text e.moment parent) [])
+size_more parent [] e = omega (arith, length-append (entry_bytes message_kind e.text e.moment parent) [])
 size_more parent (f ∷ es) e =
-    let next : Option Id20 = Some (commit_id message_name f.text f.moment parent) in
-    let front = entry_bytes message_name f.text f.moment parent in
+    let next : Option Id20 = Some (commit_id message_kind f.text f.moment parent) in
+    let front = entry_bytes message_kind f.text f.moment parent in
     omega (arith, size_more next es e, length-append front (entries_bytes next (es ++ e ∷ [])), length-append front (entries_bytes next es))
 
 -- What is recorded of one more entry of an epoch.
@@ -124,7 +124,7 @@ pub one_more : (cur new : Joined) (rs behind : List Record) (all : List Entry) (
     → IsEpochEntry x → s ≡ seen_next (in_epoch all epoch) x → JoinsNext cur epoch s number → new ≡ with_seen cur number epoch s → OneMore new rs all epoch x
 one_more cur new rs behind all epoch number x s holds small older valid seen joins is =
     let e : Entry = record { number = number; epoch = epoch; text = x.text; moment = x.moment } in
-    let name : x.name ≡ message_name = sym (ap (λ (t : Seen). t.name) seen) ∙ joins.wanted.message in
+    let name : x.name ≡ message_kind = sym (ap (λ (t : Seen). t.name) seen) ∙ joins.wanted.message in
     let file : in_file e ≡ x = (λ i. record { name = sym name i; text = x.text; moment = x.moment }) in
     let entry : IsEntry e = record { text = valid.text; epoch = small; moment = valid.moment } in
     let blob_is : s.blob ≡ blob_id_of x.text = ap (λ (t : Seen). t.blob) seen in

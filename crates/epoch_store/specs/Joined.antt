@@ -6,7 +6,7 @@ use Rattle.std.specs.Global.{Vec}
 use Rattle.std.specs.BTreeSet.{BTreeSet}
 use Rattle.arch_model.specs.Archives.{Entry}
 use Rattle.arch_model.specs.Epochs.{entries_bytes}
-use Rattle.mail_commits.specs.Entries.{message_name}
+use Rattle.mail_commits.specs.Entries.{message_kind}
 use Rattle.number_map.specs.declared.line.Record.{Record}
 use Rattle.number_map.specs.Records.{AreRecordsFrom}
 use Rattle.epoch_file.specs.declared.entry.Seen.{Seen}
@@ -73,7 +73,7 @@ entry_seen number epoch seen = record { number = number; epoch = epoch; seen = s
 
 -- The next record is that of an entry of this epoch, and has this number; the entry is a message.
 pub record IsWanted (v : Joined) (epoch : ℕ) (seen : Seen) (number : ℕ) : Type 0 where
-  pub message : seen.name ≡ message_name
+  pub message : seen.name ≡ message_kind
   pub next : slice_get v.records (length v.entries) ≡ Some (record { number = number; epoch = epoch; blob = seen.blob })
 
 -- The results of asking for an entry: its number, or that it isn't the next.

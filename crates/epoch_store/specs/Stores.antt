@@ -9,7 +9,7 @@ use Rattle.git_objects.specs.Objects.{blob_id_of}
 use Rattle.arch_model.specs.Archives.{Entry, Archive, with_entry, in_epoch}
 use Rattle.arch_model.specs.Delivery.{last_epoch, new_epoch}
 use Rattle.arch_model.specs.Epochs.{entries_bytes, last_commit}
-use Rattle.mail_commits.specs.Entries.{message_name}
+use Rattle.mail_commits.specs.Entries.{message_kind}
 use Rattle.epoch_file.specs.declared.entry.NewEntry.{NewEntry}
 use Rattle.epoch_file.specs.Entries.{EpochEntry}
 use Rattle.epoch_file.specs.Walking.{seen_at}
@@ -34,7 +34,7 @@ pub record View : Type 0 where
 
 -- An entry as it is in its epoch's file.
 abbrev pub in_file : Entry → EpochEntry
-in_file e = record { name = message_name; text = e.text; moment = e.moment }
+in_file e = record { name = message_kind; text = e.text; moment = e.moment }
 
 -- What is kept of an entry after others: its offset follows the epoch's first eight bytes and the
 -- other entries of its epoch.
@@ -131,7 +131,7 @@ place_of root epoch parent = record {
 
 -- A new entry is a message after the last commit of its epoch.
 pub record IsMessage (p : NextPlace) (entry : NewEntry) : Type 0 where
-  pub name : entry.name ≡ message_name
+  pub name : entry.name ≡ message_kind
   pub parent : entry.parent ≡ p.parent
 
 -- This place is that of the next entry of the archive, its text would be accepted, and there is a

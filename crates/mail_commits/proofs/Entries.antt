@@ -7,6 +7,7 @@ use Rattle.arch_base.specs.declared.sequence.NoMemory.{NoMemory}
 use Rattle.git_objects.specs.Commits.{IsZone, commit_spelling}
 use Rattle.arch_base.specs.declared.ids.Id20.{Id20}
 use Rattle.git_objects.specs.declared.commits.Commit.{Commit}
+use Rattle.git_objects.specs.declared.entry_kind.EntryKind.{EntryKind}
 use Rattle.git_objects.specs.CleanText.{clean}
 use Rattle.git_objects.specs.Objects.{blob_spelling, id_of}
 use Rattle.mail_date.specs.declared.moment.Moment.{Moment}
@@ -30,25 +31,25 @@ zone_fits zone h =
     omega (arith, ints)
 
 -- The form of the commit of a text.
-pub commit_text-made : (made : Result (List ℕ) NoMemory) (name : ℕ) (text : List ℕ) (moment : ℕ) (parent : Option Id20) (tree : Id20) (commit : Commit) → tree ≡ id_of (tree_of name text)
-    → commit ≡ commit_of text tree parent moment → IfOk made (λ spelled. spelled ≡ commit_spelling commit) → IfOk made (λ spelled. spelled ≡ commit_text name text moment parent)
+pub commit_text-made : (made : Result (List ℕ) NoMemory) (kind : EntryKind) (text : List ℕ) (moment : ℕ) (parent : Option Id20) (tree : Id20) (commit : Commit) → tree ≡ id_of (tree_of kind text)
+    → commit ≡ commit_of text tree parent moment → IfOk made (λ spelled. spelled ≡ commit_spelling commit) → IfOk made (λ spelled. spelled ≡ commit_text kind text moment parent)
 unfolding commit_text
-commit_text-made (Ok spelled) name text moment parent tree commit t e h =
+commit_text-made (Ok spelled) kind text moment parent tree commit t e h =
     h ∙ ap commit_spelling (e ∙ ap (λ id. commit_of text id parent moment) t)
-commit_text-made (Err refused) name text moment parent tree commit t e h = tt
+commit_text-made (Err refused) kind text moment parent tree commit t e h = tt
 
 -- The objects of an entry, its blob's in two parts.
-pub entry_bytes-pieces : (name : ℕ) (text : List ℕ) (moment : ℕ) (parent : Option Id20) (head tree commit : List ℕ)
-    → head ≡ codes "blob " ++ (decimal (length text) ++ 0 ∷ []) → tree ≡ tree_of name text → commit ≡ commit_text name text moment parent
-    → head ++ (text ++ (tree ++ commit)) ≡ entry_bytes name text moment parent
+pub entry_bytes-pieces : (kind : EntryKind) (text : List ℕ) (moment : ℕ) (parent : Option Id20) (head tree commit : List ℕ)
+    → head ≡ codes "blob " ++ (decimal (length text) ++ 0 ∷ []) → tree ≡ tree_of kind text → commit ≡ commit_text kind text moment parent
+    → head ++ (text ++ (tree ++ commit)) ≡ entry_bytes kind text moment parent
 unfolding entry_bytes
-entry_bytes-pieces name text moment parent head tree commit h t c =
+entry_bytes-pieces kind text moment parent head tree commit h t c =
     let inner : (decimal (length text) ++ 0 ∷ []) ++ (text ++ (tree ++ commit)) ≡ (decimal (length text) ++ 0 ∷ text) ++ (tree ++ commit) =
     append_assoc (decimal (length text)) (0 ∷ []) (text ++ (tree ++ commit)) ∙ sym (append_assoc (decimal (length text)) (0 ∷ text) (tree ++ commit)) in
     let blob : head ++ (text ++ (tree ++ commit)) ≡ blob_spelling text ++ (tree ++ commit) = rw h (ap (λ bytes. codes "blob " ++ bytes) inner) in
     blob ∙ rw (t, c) refl
 
 -- The id of the commit of a text.
-pub commit_id-made : (name : ℕ) (text : List ℕ) (moment : ℕ) (parent : Option Id20) (id : Id20) → id ≡ id_of (commit_text name text moment parent) → id ≡ commit_id name text moment parent
+pub commit_id-made : (kind : EntryKind) (text : List ℕ) (moment : ℕ) (parent : Option Id20) (id : Id20) → id ≡ id_of (commit_text kind text moment parent) → id ≡ commit_id kind text moment parent
 unfolding commit_id
-commit_id-made name text moment parent id h = h
+commit_id-made kind text moment parent id h = h

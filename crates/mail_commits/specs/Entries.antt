@@ -1,29 +1,32 @@
 -- The bytes of an entry: the objects that keep one text (git, "Git Objects").
 use Rattle.std.specs.Prelude.{ℕ, List, ◌++◌, codes, Option}
 use Rattle.arch_base.specs.declared.ids.Id20.{Id20}
+use Rattle.git_objects.specs.declared.entry_kind.EntryKind.{EntryKind}
+use Rattle.git_objects.specs.declared.entry_kind.EntryKind.TheVariants.{Message}
 use Rattle.git_objects.specs.Objects.{blob_spelling, tree_spelling, blob_id_of, id_of}
 use Rattle.git_objects.specs.Commits.{commit_spelling}
 use Rattle.mail_commits.specs.Commits.{commit_of}
 
--- The name of the file with a message: `m` (public-inbox-v2-format, "GIT TREE LAYOUT").
-abbrev pub message_name : ℕ
-message_name = 109
+-- The kind of each entry of an archive so far: a message.
+abbrev pub message_kind : EntryKind
+message_kind = Message
 
--- The tree of a text, whose one file with this name has the text.
-abbrev pub tree_of : ℕ → List ℕ → List ℕ
-tree_of name text = tree_spelling name (blob_id_of text)
+-- The tree of an entry of this kind, whose one file has the text.
+abbrev pub tree_of : EntryKind → List ℕ → List ℕ
+tree_of kind text = tree_spelling kind (blob_id_of text)
 
--- The form of the commit that keeps a text under a name, taken at a moment, after a parent or none.
-unfoldable pub commit_text : ℕ → List ℕ → ℕ → Option Id20 → List ℕ
-commit_text name text moment parent = commit_spelling (commit_of text (id_of (tree_of name text)) parent moment)
+-- The form of the commit that keeps a text in an entry of a kind, taken at a moment, after a parent or
+-- none.
+unfoldable pub commit_text : EntryKind → List ℕ → ℕ → Option Id20 → List ℕ
+commit_text kind text moment parent = commit_spelling (commit_of text (id_of (tree_of kind text)) parent moment)
 
 -- The id of that commit.
-unfoldable pub commit_id : ℕ → List ℕ → ℕ → Option Id20 → Id20
-commit_id name text moment parent = id_of (commit_text name text moment parent)
+unfoldable pub commit_id : EntryKind → List ℕ → ℕ → Option Id20 → Id20
+commit_id kind text moment parent = id_of (commit_text kind text moment parent)
 
--- The bytes of an entry with a name: its blob, its tree and its commit.
-unfoldable pub entry_bytes : ℕ → List ℕ → ℕ → Option Id20 → List ℕ
-entry_bytes name text moment parent = blob_spelling text ++ (tree_of name text ++ commit_text name text moment parent)
+-- The bytes of an entry of a kind: its blob, its tree and its commit.
+unfoldable pub entry_bytes : EntryKind → List ℕ → ℕ → Option Id20 → List ℕ
+entry_bytes kind text moment parent = blob_spelling text ++ (tree_of kind text ++ commit_text kind text moment parent)
 
 -- The first bytes of an epoch.
 abbrev pub magic : List ℕ

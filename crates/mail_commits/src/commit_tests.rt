@@ -1,7 +1,7 @@
 //! Tests of commits and epochs against git, and of authors against the rules.
 use crate::{EntryIds, entry_commit, push_entry};
 use arch_base::{Bytes, NoMemory, ObjectId, id_of_hex};
-use git_objects::{Commit, blob_id, commit_bytes, object_id, tree_bytes};
+use git_objects::{Commit, EntryKind, blob_id, commit_bytes, object_id, tree_bytes};
 use mail_reader::stored;
 use std::alloc::Global;
 
@@ -17,14 +17,14 @@ const SECOND: &[u8] =
 
 /// Returns the commit of a text without a parent, with the tree that has the text.
 fn commit_alone(alloc: Global, text: &[u8], moment: u64) -> Result<Commit, NoMemory> {
-    let tree = object_id(&tree_bytes(b'm', &blob_id(text)));
+    let tree = object_id(&tree_bytes(EntryKind::Message, &blob_id(text)));
     entry_commit(alloc, text, &tree, None, moment)
 }
 
 /// Returns the id of the commit of `MAIL` in its storage form, or `None` out of memory.
 fn commit_id_of_mail(alloc: Global) -> Option<ObjectId> {
     let text = stored(alloc, MAIL).ok()?;
-    let tree = object_id(&tree_bytes(b'm', &blob_id(text.as_slice())));
+    let tree = object_id(&tree_bytes(EntryKind::Message, &blob_id(text.as_slice())));
     let commit = entry_commit(alloc, text.as_slice(), &tree, None, 1_706_785_200).ok()?;
     let spelling = commit_bytes(alloc, &commit).ok()?;
     Some(object_id(spelling.as_slice()))
@@ -41,9 +41,25 @@ fn a_mail_has_the_commit_of_git(rt: HostRuntime) {
 fn two_entries(alloc: Global) -> Result<(ObjectId, usize, ObjectId, usize), NoMemory> {
     let mut epoch = Bytes::new(alloc);
     epoch.push_slice(b"PIV2EP1\n")?;
-    let first = push_entry(alloc, b'm', FIRST, 1_706_781_700, None, &mut epoch)?.commit;
+    let first = push_entry(
+        alloc,
+        EntryKind::Message,
+        FIRST,
+        1_706_781_700,
+        None,
+        &mut epoch,
+    )?
+    .commit;
     let one = epoch.as_slice().len();
-    let second = push_entry(alloc, b'm', SECOND, 1_706_781_700, Some(first), &mut epoch)?.commit;
+    let second = push_entry(
+        alloc,
+        EntryKind::Message,
+        SECOND,
+        1_706_781_700,
+        Some(first),
+        &mut epoch,
+    )?
+    .commit;
     Ok((first, one, second, epoch.as_slice().len()))
 }
 
@@ -62,10 +78,17 @@ fn an_epoch_has_the_objects_of_git(rt: HostRuntime) {
 /// Returns the ids of a deletion's entry after a message's, and the length of both entries.
 fn deletion(alloc: Global) -> Result<(EntryIds, usize), NoMemory> {
     let mut epoch = Bytes::new(alloc);
-    let message = push_entry(alloc, b'm', FIRST, 1_706_781_700, None, &mut epoch)?;
+    let message = push_entry(
+        alloc,
+        EntryKind::Message,
+        FIRST,
+        1_706_781_700,
+        None,
+        &mut epoch,
+    )?;
     let ids = push_entry(
         alloc,
-        b'd',
+        EntryKind::Deletion,
         FIRST,
         1_706_781_700,
         Some(message.commit),

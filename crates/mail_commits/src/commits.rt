@@ -1,14 +1,14 @@
 //! The commit that keeps a text, and the objects of an entry.
-ghost use Rattle.std.specs.Prelude.{◌≡◌, ◌++◌, ◌∷◌, [], length, take, decimal, codes, IfOk, OnOk, OnErr, IsTrue, is_ok, if◌then◌else◌};
+ghost use Rattle.std.specs.Prelude.{◌≡◌, ◌++◌, ◌∷◌, [], length, take, decimal, codes, IfOk, OnOk, OnErr, is_ok, if◌then◌else◌};
 ghost use Rattle.git_objects.specs.CleanText.{IsClean};
 ghost use Rattle.git_objects.specs.Commits.{IsZone};
-ghost use Rattle.git_objects.specs.Objects.{id_of, blob_id_of, is_entry_name};
+ghost use Rattle.git_objects.specs.Objects.{id_of, blob_id_of};
 ghost use Rattle.mail_commits.specs.Commits.{commit_of};
 ghost use Rattle.mail_commits.specs.Entries.{commit_text as commit_text_of, commit_id, entry_bytes, tree_of};
 
 use crate::facts::{author, subject, written_at};
 use arch_base::{Bytes, NoMemory, ObjectId};
-use git_objects::{Commit, blob_id, commit_bytes, object_id, tree_bytes};
+use git_objects::{Commit, EntryKind, blob_id, commit_bytes, object_id, tree_bytes};
 use itoa::Buffer;
 use std::alloc::Global;
 
@@ -47,6 +47,9 @@ pub fn entry_commit(
     })
 }
 
+/// The first bytes of an epoch.
+pub const MAGIC: [u8; 8] = *b"PIV2EP1\n";
+
 /// The ids of an entry's blob and commit.
 #[derive(Clone, Copy, Debug, Drop)]
 pub struct EntryIds {
@@ -59,29 +62,28 @@ pub struct EntryIds {
 /// Appends the objects of an entry to the bytes of an epoch, and returns the ids of its blob and
 /// commit.
 ///
-/// The objects are the blob of the text, its tree, in which the text is the file `name` (`m` for a
-/// message, `d` for a deletion), and the commit that keeps it after `parent`. `moment` is when the
+/// The objects are the blob of the text, its tree, in which the text is the file that `kind` names
+/// (`m` for a message, `d` for a deletion), and the commit that keeps it after `parent`. `moment` is when the
 /// text was taken, in seconds since 1970 UTC.
 ///
 /// `NoMemory` if an allocation fails, and the bytes are unchanged.
 pub fn push_entry(
     alloc: Global,
-    name: u8,
+    kind: EntryKind,
     text: &[u8],
     moment: u64,
     parent: Option<ObjectId>,
     into: &mut Bytes,
 ) -> Result<EntryIds, NoMemory>
-    requires name { IsTrue (is_entry_name name) }
     ensures blob { IfOk result (λ ids. ids.blob ≡ blob_id_of text.now) }
-    ensures commit { IfOk result (λ ids. ids.commit ≡ commit_id name text.now moment parent) }
-    ensures ok { OnOk result (into.new ≡ into.old ++ entry_bytes name text.now moment parent) }
+    ensures commit { IfOk result (λ ids. ids.commit ≡ commit_id kind text.now moment parent) }
+    ensures ok { OnOk result (into.new ≡ into.old ++ entry_bytes kind text.now moment parent) }
     ensures err { OnErr result (into.new ≡ into.old) }
 {
     let blob = blob_id(text);
     let head = blob_head(alloc, text.len())?;
-    let tree = tree_bytes(name, &blob);
-    let commit = commit_text(alloc, name, text, &tree, parent, moment)?;
+    let tree = tree_bytes(kind, &blob);
+    let commit = commit_text(alloc, kind, text, &tree, parent, moment)?;
     push_all(into, head.as_slice(), text, &tree, commit.as_slice())?;
     Ok(EntryIds {
         blob,
@@ -89,17 +91,17 @@ pub fn push_entry(
     })
 }
 
-/// Returns the form of the commit that keeps a text under a name. `tree` is the form of its tree.
+/// Returns the form of the commit of an entry of a kind. `tree` is the form of its tree.
 fn commit_text(
     alloc: Global,
-    name: u8,
+    kind: EntryKind,
     text: &[u8],
     tree: &[u8],
     parent: Option<ObjectId>,
     moment: u64,
 ) -> Result<Bytes, NoMemory>
-    requires { tree.now ≡ tree_of name text.now }
-    ensures { IfOk result (λ made. made ≡ commit_text_of name text.now moment parent) }
+    requires { tree.now ≡ tree_of kind text.now }
+    ensures { IfOk result (λ made. made ≡ commit_text_of kind text.now moment parent) }
 {
     let commit = entry_commit(alloc, text, &object_id(tree), parent, moment)?;
     commit_bytes(alloc, &commit)

@@ -4,7 +4,7 @@
 mod commits;
 mod facts;
 
-pub use commits::{EntryIds, entry_commit, push_entry};
+pub use commits::{EntryIds, MAGIC, entry_commit, push_entry};
 
 #[cfg(test)]
 mod commit_tests;

@@ -5,7 +5,7 @@ use Rattle.arch_base.specs.declared.config.Config.{Config}
 use Rattle.arch_base.specs.declared.ids.Id20.{Id20}
 use Rattle.arch_model.specs.Archives.{Entry, Archive, in_epoch, has_entry}
 use Rattle.arch_model.specs.Epochs.{epoch_bytes, last_commit}
-use Rattle.mail_commits.specs.Entries.{entry_bytes, commit_id, message_name}
+use Rattle.mail_commits.specs.Entries.{entry_bytes, commit_id, message_kind}
 use Rattle.mem_archive.specs.Memory.{archive_of, entries_from, front_bytes}
 use Rattle.mem_archive.specs.declared.kept.Kept.{Kept}
 use Rattle.arch_model.proofs.EpochLemmas.{last_commit-push}
@@ -28,17 +28,17 @@ pub pushed-none : (items : List Kept) (epoch : ℕ) (old : List ℕ) → HasPush
 pushed-none items epoch old = (sym (append-nil old), refl)
 
 pub pushed-one : (items : List Kept) (epoch : ℕ) (old : List ℕ) (i : ℕ) (k : Kept) (into : List ℕ) (parent : Option Id20) → i < length items → k ≡ get_or items i k → k.epoch ≡ epoch → HasPushed items epoch old i into parent
-    → HasPushed items epoch old (i + 1) (into ++ (front_bytes parent ++ entry_bytes message_name k.text k.moment parent)) (Some (commit_id message_name k.text k.moment parent))
+    → HasPushed items epoch old (i + 1) (into ++ (front_bytes parent ++ entry_bytes message_kind k.text k.moment parent)) (Some (commit_id message_kind k.text k.moment parent))
 pushed-one items epoch old i k into parent l is at has =
     let here : List Entry = of_first items i epoch in
     let e : Entry = record { number = 1 + length (take i items); epoch = k.epoch; text = k.text; moment = k.moment } in
     let more : of_first items (i + 1) epoch ≡ here ++ e ∷ [] = ap (λ (ks : List Kept). in_epoch (entries_from 1 ks) epoch) (take-one items i k l is) ∙ ap (λ (es : List Entry). in_epoch es epoch) (entries_from-push 1 (take i items) k) ∙ in_epoch-at (entries_from 1 (take i items)) e epoch at in (
-      ap (λ (bs : List ℕ). bs ++ (front_bytes parent ++ entry_bytes message_name k.text k.moment parent)) has.0
-          ∙ append_assoc old (epoch_bytes here) (front_bytes parent ++ entry_bytes message_name k.text k.moment parent)
-          ∙ ap (λ (p : Option Id20). old ++ (epoch_bytes here ++ (front_bytes p ++ entry_bytes message_name k.text k.moment p))) has.1
+      ap (λ (bs : List ℕ). bs ++ (front_bytes parent ++ entry_bytes message_kind k.text k.moment parent)) has.0
+          ∙ append_assoc old (epoch_bytes here) (front_bytes parent ++ entry_bytes message_kind k.text k.moment parent)
+          ∙ ap (λ (p : Option Id20). old ++ (epoch_bytes here ++ (front_bytes p ++ entry_bytes message_kind k.text k.moment p))) has.1
           ∙ ap (λ (bs : List ℕ). old ++ bs) (sym (epoch_bytes-behind here e))
           ∙ ap (λ (es : List Entry). old ++ epoch_bytes es) (sym more),
-      ap (λ (p : Option Id20). Some (commit_id message_name k.text k.moment p)) has.1 ∙ sym (last_commit-push None here e) ∙ ap (last_commit None) (sym more),
+      ap (λ (p : Option Id20). Some (commit_id message_kind k.text k.moment p)) has.1 ∙ sym (last_commit-push None here e) ∙ ap (last_commit None) (sym more),
     )
 
 pub pushed-else : (items : List Kept) (epoch : ℕ) (old : List ℕ) (i : ℕ) (k : Kept) (into : List ℕ) (parent : Option Id20) → i < length items → k ≡ get_or items i k → (k.epoch == epoch) ≡ false → HasPushed items epoch old i into parent
@@ -50,12 +50,12 @@ pushed-else items epoch old i k into parent l is other has =
 
 some_of : (id : Id20) (es : List Entry) → is_some (last_commit (Some id) es) ≡ true
 some_of id [] = refl
-some_of id (e ∷ es) = some_of (commit_id message_name e.text e.moment (Some id)) es
+some_of id (e ∷ es) = some_of (commit_id message_kind e.text e.moment (Some id)) es
 
 -- There is a last commit if there is an entry.
 pub last_commit-some : (es : List Entry) → is_some (last_commit None es) ≡ has_entry es
 last_commit-some [] = refl
-last_commit-some (e ∷ es) = some_of (commit_id message_name e.text e.moment None) es
+last_commit-some (e ∷ es) = some_of (commit_id message_kind e.text e.moment None) es
 
 take-whole : (items : List Kept) (i : ℕ) → length items ≤ i → take i items ≡ items
 take-whole [] i l = take_nil i where

@@ -3,10 +3,11 @@ use Rattle.std.specs.Prelude.{◌≡◌, ◌+◌, ◌-◌, ◌≤◌, ◌==◌, 
 use Rattle.arch_base.specs.Configs.{IsConfig}
 use Rattle.arch_base.specs.declared.config.Config.{Config}
 use Rattle.arch_base.specs.declared.ids.Id20.{Id20}
+use Rattle.disk_model.specs.Sizes.{greatest_epoch}
 use Rattle.arch_model.specs.Archives.{Entry, Archive, in_epoch, has_entry}
 use Rattle.arch_model.specs.Delivery.{last_epoch}
 use Rattle.arch_model.specs.Epochs.{epoch_bytes, last_commit}
-use Rattle.mail_commits.specs.Entries.{commit_id, entry_bytes, magic, message_name}
+use Rattle.mail_commits.specs.Entries.{commit_id, entry_bytes, magic, message_kind}
 use Rattle.mem_archive.specs.declared.kept.Kept.{Kept}
 use Rattle.mem_archive.specs.declared.kept.End.{End}
 use Rattle.arch_base.specs.declared.sequence.NoMemory.{NoMemory}
@@ -26,7 +27,7 @@ archive_of config kept = record { config = config; entries = entries_from 1 kept
 pub record IsEnd (limit : ℕ) (entries : List Entry) (end_ : End) : Type 0 where
   pub room : end_.room ≡ limit - length (epoch_bytes (in_epoch entries end_.epoch))
   pub parent : end_.parent ≡ last_commit None (in_epoch entries end_.epoch)
-  pub small : end_.epoch ≤ 63
+  pub small : end_.epoch ≤ greatest_epoch
 
 -- What is kept is sound: the settings are valid, no number is above the greatest, the index has the
 -- messages, and the end is that of the last epoch.
@@ -44,7 +45,7 @@ front_bytes (Some id) = []
 
 -- The end to which a new entry is appended, if the last epoch has `room` bytes left.
 abbrev pub end_by_room : ℕ → ℕ → End → End
-end_by_room room limit end_ = if end_.epoch == 63 || nat_lt 0 room then end_ else record { epoch = end_.epoch + 1; room = limit; parent = None }
+end_by_room room limit end_ = if end_.epoch == greatest_epoch || nat_lt 0 room then end_ else record { epoch = end_.epoch + 1; room = limit; parent = None }
 
 -- The same, by the end's own room.
 abbrev pub end_for_new : ℕ → End → End
@@ -54,8 +55,8 @@ end_for_new limit end_ = end_by_room end_.room limit end_
 abbrev pub end_after : End → List ℕ → ℕ → End
 end_after end_ text moment = record {
   epoch = end_.epoch;
-  room = end_.room - length (front_bytes end_.parent ++ entry_bytes message_name text moment end_.parent);
-  parent = Some (commit_id message_name text moment end_.parent);
+  room = end_.room - length (front_bytes end_.parent ++ entry_bytes message_kind text moment end_.parent);
+  parent = Some (commit_id message_kind text moment end_.parent);
 }
 
 -- The new bytes start with the old ones.

@@ -1,10 +1,13 @@
 //! What the archive in memory keeps of each message, and of its last epoch.
 ghost use Rattle.std.specs.Prelude.{◌≡◌, ◌+◌, ◌-◌, ◌++◌, ◌≤◌, length, IfOk, OnOk, OnErr, is_ok, if◌then◌else◌};
-ghost use Rattle.mail_commits.specs.Entries.{commit_id, entry_bytes, message_name};
+ghost use Rattle.disk_model.specs.Sizes.{greatest_epoch};
+ghost use Rattle.mail_commits.specs.Entries.{commit_id, entry_bytes, message_kind};
 ghost use Rattle.mem_archive.specs.Memory.{front_bytes, end_for_new, end_by_room, end_after, Grows};
 
 use arch_base::{Bytes, NoMemory, ObjectId};
-use mail_commits::push_entry;
+use disk_model::LAST_EPOCH;
+use git_objects::EntryKind;
+use mail_commits::{MAGIC, push_entry};
 use std::alloc::Global;
 
 /// A message as the archive in memory keeps it.
@@ -29,12 +32,6 @@ pub(crate) struct End {
     pub(crate) parent: Option<ObjectId>,
 }
 
-/// The greatest number of an epoch. That epoch grows without a limit.
-const LAST_EPOCH: u32 = 63;
-
-/// The first bytes of an epoch.
-const MAGIC: &[u8] = b"PIV2EP1\n";
-
 impl End {
     /// Returns the end after one more entry, which goes to the last epoch, or to a new one if that
     /// is full.
@@ -45,7 +42,7 @@ impl End {
         text: &[u8],
         moment: u64,
     ) -> Result<End, NoMemory>
-        requires { self.epoch ≤ 63 }
+        requires { self.epoch ≤ greatest_epoch }
         ensures { IfOk result (λ made. made ≡ end_after (end_for_new limit self) text.now moment) }
     {
         let room = self.room;
@@ -54,9 +51,10 @@ impl End {
 
     /// Returns the end to which a new entry is appended, if the last epoch has `room` bytes left.
     ///
-    /// It is the end of the last epoch, or that of a new one if the last is full.
+    /// It is the end of the last epoch, or that of a new one if the last is full. Epoch 63 is never
+    /// full.
     fn for_new(self, room: u64, limit: u64) -> End
-        requires { self.epoch ≤ 63 }
+        requires { self.epoch ≤ greatest_epoch }
         ensures { result ≡ end_by_room room limit self }
     {
         if self.epoch == LAST_EPOCH || room > 0 {
@@ -95,12 +93,12 @@ pub(crate) fn push_behind(
     parent: Option<ObjectId>,
     into: &mut Bytes,
 ) -> Result<ObjectId, NoMemory>
-    ensures id { IfOk result (λ id. id ≡ commit_id message_name text.now moment parent) }
-    ensures ok { OnOk result (into.new ≡ into.old ++ (front_bytes parent ++ entry_bytes message_name text.now moment parent)) }
+    ensures id { IfOk result (λ id. id ≡ commit_id message_kind text.now moment parent) }
+    ensures ok { OnOk result (into.new ≡ into.old ++ (front_bytes parent ++ entry_bytes message_kind text.now moment parent)) }
     ensures err { OnErr result (Grows into.old into.new) }
 {
     push_front(parent, into)?;
-    let ids = push_entry(alloc, b'm', text, moment, parent, into)?;
+    let ids = push_entry(alloc, EntryKind::Message, text, moment, parent, into)?;
     Ok(ids.commit)
 }
 
@@ -111,7 +109,7 @@ fn push_front(parent: Option<ObjectId>, into: &mut Bytes) -> Result<(), NoMemory
     ensures { into.new ≡ (if is_ok result then into.old ++ front_bytes parent else into.old) }
 {
     match parent {
-        None => into.push_slice(MAGIC),
+        None => into.push_slice(&MAGIC),
         Some(_) => Ok(()),
     }
 }
