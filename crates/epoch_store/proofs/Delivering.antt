@@ -9,6 +9,7 @@ use Rattle.arch_base.specs.declared.ids.Id20.{Id20}
 use Rattle.disk_model.specs.declared.name.FileName.{FileName}
 use Rattle.disk_model.specs.Disk.{File, Files, Content, Told, WhereTold, IsAtMostLength, ReadsFit, bytes_of, overlay, exact}
 use Rattle.disk_model.specs.Laws.{Fits-exact, Fits-Within, overlay-size, overlay_length}
+use Rattle.git_objects.specs.declared.entry_kind.EntryKind.{EntryKind}
 use Rattle.git_objects.specs.Objects.{blob_id_of}
 use Rattle.mail_reader.specs.Ids.{own_id}
 use Rattle.mail_reader.specs.StorageTexts.{IsStorageText}
@@ -304,7 +305,7 @@ pub piece_is : (v : View) (a : Archive) (p : NextPlace) (e : NewEntry) → IsMes
 piece_is v a p e message next =
     ap (λ (n : ℕ). front_at n ++ bytes_behind e.parent (entry_of e)) next.length_is
     ∙ (ap (λ (parent : Option Id20). front_at (length (bytes_in a p.epoch)) ++ bytes_behind parent (entry_of e)) (message.parent ∙ next.parent)
-    ∙ ap (λ (name : ℕ). front_at (length (bytes_in a p.epoch)) ++ bytes_behind (last_commit None (in_epoch a.entries p.epoch)) (record { name = name; text = e.text.now; moment = e.moment })) message.name)
+    ∙ ap (λ (kind : EntryKind). front_at (length (bytes_in a p.epoch)) ++ bytes_behind (last_commit None (in_epoch a.entries p.epoch)) (record { kind = kind; text = e.text.now; moment = e.moment })) message.kind)
 
 pub line_is : (v : View) (a : Archive) (p : NextPlace) (e : NewEntry) (number : ℕ) → Keeps v a → number ≡ v.root.next → record_bytes (record { number = number; epoch = p.epoch; blob = blob_id_of e.text.now }) ≡ new_line a p e.text.now e.moment
 line_is v a p e number keeps is = ap (λ (n : ℕ). record_bytes (record { number = n; epoch = p.epoch; blob = blob_id_of e.text.now })) (is ∙ keeps.names.next)

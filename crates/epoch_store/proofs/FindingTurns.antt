@@ -11,9 +11,10 @@ use Rattle.epoch_file.specs.declared.entry.Seen.{Seen}
 use Rattle.epoch_file.specs.Entries.{EntriesDiffer, EpochsDiffer}
 use Rattle.epoch_file.specs.Walking.{IsEpoch, IsDamagedAt}
 use Rattle.root_slots.specs.declared.root.Root.{Root}
+use Rattle.root_slots.specs.declared.slot.Slot.{Slot}
 use Rattle.root_slots.specs.RootName.{root_name}
 use Rattle.root_slots.specs.Each.{IfThere}
-use Rattle.root_slots.specs.Slots.{Current, IsShut, IsShutFile}
+use Rattle.root_slots.specs.Slots.{slot_number, Current, IsShut, IsShutFile}
 use Rattle.root_slots.specs.Spelling.{spelling}
 use Rattle.root_slots.specs.Valid.{IsRoot, RootFits}
 use Rattle.epoch_store.specs.declared.entries.StoredEntry.{StoredEntry}
@@ -149,10 +150,10 @@ no_records root NoMemory files lacks = tt
 pub all_found : (files : Files) (found : Found) → FindsRoot files (Ok (found.slot, found.root)) → FindsEntries found.root files (Ok found.entries) → Finds files (Ok found)
 all_found files found root has = record { records = has.records; root = root; has = has.has; read = has.read }
 
-pub damage_found : (files : Files) (slot : ℕ) (root : Root) (refusal : OpenRefusal) → FindsRoot files (Ok (slot, root)) → FindsEntries root files (Err refusal) → Finds files (Err refusal)
+pub damage_found : (files : Files) (slot : Slot) (root : Root) (refusal : OpenRefusal) → FindsRoot files (Ok (slot, root)) → FindsEntries root files (Err refusal) → Finds files (Err refusal)
 damage_found files slot root NoArchive is lacks = absurd lacks
-damage_found files slot root (Damaged file at) is (inl map) = inr (inl (record { root = root; slot = slot; current = is; file_is = map.0; damaged = map.1 }))
-damage_found files slot root (Damaged file at) is (inr lacks) = inr (inr (record { root = root; slot = slot; records = lacks.records; epoch = lacks.damage.0; current = is; has = lacks.has; file_is = lacks.damage.1; first = lacks.damage.2 }))
+damage_found files slot root (Damaged file at) is (inl map) = inr (inl (record { root = root; slot = slot_number slot; current = is; file_is = map.0; damaged = map.1 }))
+damage_found files slot root (Damaged file at) is (inr lacks) = inr (inr (record { root = root; slot = slot_number slot; records = lacks.records; epoch = lacks.damage.0; current = is; has = lacks.has; file_is = lacks.damage.1; first = lacks.damage.2 }))
 damage_found files slot root DiskFault is lacks = tt
 damage_found files slot root NoMemory is lacks = tt
 

@@ -29,7 +29,7 @@ use Rattle.epoch_store.proofs.Ends.{none_in, last_commit_is}
 use Rattle.epoch_store.proofs.Firsts.{first_is, first_none, first_more, record_behind, map_behind, stored_count, stored_before, free_ids, apart_ids, free_blobs, apart_blobs, ids_of_last, blobs_of_last}
 
 -- The next record is that of an entry, or it isn't.
-pub is_wanted : (v : Joined) (epoch : ℕ) (seen : Seen) (r : Record) → seen.name ≡ message_kind → slice_get v.records (length v.entries) ≡ Some r → r.epoch ≡ epoch → r.blob ≡ seen.blob → IsWanted v epoch seen r.number
+pub is_wanted : (v : Joined) (epoch : ℕ) (seen : Seen) (r : Record) → seen.kind ≡ message_kind → slice_get v.records (length v.entries) ≡ Some r → r.epoch ≡ epoch → r.blob ≡ seen.blob → IsWanted v epoch seen r.number
 is_wanted v epoch seen r name next same_epoch same_blob = record { message = name; next = next ∙ (λ i. Some (record { number = r.number; epoch = same_epoch i; blob = same_blob i })) }
 
 found_is : {X : Type 0} (o : Option X) (x y : X) → o ≡ Some x → o ≡ Some y → x ≡ y
@@ -124,8 +124,8 @@ pub one_more : (cur new : Joined) (rs behind : List Record) (all : List Entry) (
     → IsEpochEntry x → s ≡ seen_next (in_epoch all epoch) x → JoinsNext cur epoch s number → new ≡ with_seen cur number epoch s → OneMore new rs all epoch x
 one_more cur new rs behind all epoch number x s holds small older valid seen joins is =
     let e : Entry = record { number = number; epoch = epoch; text = x.text; moment = x.moment } in
-    let name : x.name ≡ message_kind = sym (ap (λ (t : Seen). t.name) seen) ∙ joins.wanted.message in
-    let file : in_file e ≡ x = (λ i. record { name = sym name i; text = x.text; moment = x.moment }) in
+    let kind : x.kind ≡ message_kind = sym (ap (λ (t : Seen). t.kind) seen) ∙ joins.wanted.message in
+    let file : in_file e ≡ x = (λ i. record { kind = sym kind i; text = x.text; moment = x.moment }) in
     let entry : IsEntry e = record { text = valid.text; epoch = small; moment = valid.moment } in
     let blob_is : s.blob ≡ blob_id_of x.text = ap (λ (t : Seen). t.blob) seen in
     let id_is : s.id ≡ (seen_next (in_epoch all epoch) x).id = ap (λ (t : Seen). t.id) seen in
@@ -162,7 +162,7 @@ next_joins cur rs behind left all epoch next s holds same seen first =
     let entry : IsEntry next = last_valid all first.valid in
     record {
       wanted = record {
-        message = ap (λ (t : Seen). t.name) seen;
+        message = ap (λ (t : Seen). t.kind) seen;
         next = ap (slice_get cur.records) count ∙ (ap (λ (l : List Record). slice_get l (length all)) records ∙ (record_behind all (record_of next ∷ left)
             ∙ (λ i. Some (record { number = next.number; epoch = same i; blob = blob_is i }))));
       };

@@ -47,7 +47,7 @@ valid_behind [] y ys valid = valid.0
 valid_behind (x ∷ xs) y ys valid = valid_behind xs y ys valid.1
 
 pub file_valid : (e : Entry) → IsEntry e → IsEpochEntry (in_file e)
-file_valid e valid = record { name = refl; text = valid.text; moment = valid.moment }
+file_valid e valid = record { text = valid.text; moment = valid.moment }
 
 -- The entries of an epoch are not changed by those of another.
 all_out : (es : List Entry) (epoch other : ℕ) → epoch ≢ other → AllByRecursion (λ (e : Entry). e.epoch ≡ epoch) es → in_epoch es other ≡ []

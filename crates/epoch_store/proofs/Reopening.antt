@@ -17,7 +17,7 @@ use Rattle.root_slots.specs.declared.root.Root.{Root}
 use Rattle.root_slots.specs.Laws.{SpellingsDiffer}
 use Rattle.root_slots.specs.RootName.{root_name}
 use Rattle.root_slots.specs.Each.{IfThere}
-use Rattle.root_slots.specs.Slots.{HasRootSize, Current, HasRoot, body_at, IsShutFile}
+use Rattle.root_slots.specs.Slots.{slot_number, HasRootSize, Current, HasRoot, body_at, IsShutFile}
 use Rattle.root_slots.specs.Slots as slots
 use Rattle.root_slots.specs.Spelling.{spelling}
 use Rattle.root_slots.specs.Valid.{no_place}
@@ -117,7 +117,7 @@ pub found_size : (found : Found) (k m : Option Content) → WhereTold (λ c. IsF
 found_size found None None is synced = tt
 found_size found None (Some m) is synced = absurd synced
 found_size found (Some k) None is synced = absurd synced
-found_size found (Some k) (Some m) is synced = ap (λ (file : File). length (bytes_of file)) (synced.seen root_name) ∙ sized_root found.slot (spelling found.root) (k root_name).seen is.root.current
+found_size found (Some k) (Some m) is synced = ap (λ (file : File). length (bytes_of file)) (synced.seen root_name) ∙ sized_root (slot_number found.slot) (spelling found.root) (k root_name).seen is.root.current
 
 module _ (found : Found) (files : Files) (is : IsFoundIn files found) where
   root : Root
@@ -125,7 +125,7 @@ module _ (found : Found) (files : Files) (is : IsFoundIn files found) where
 
   -- The files have this root.
   has_root : IfThere (HasRoot (spelling found.root)) (files root_name)
-  has_root = current_root found.slot (spelling found.root) (files root_name) is.root.current
+  has_root = current_root (slot_number found.slot) (spelling found.root) (files root_name) is.root.current
 
   -- The files stand for their archive by this root.
   by_root : SpellingsDiffer → (a : Archive) → Recovers files a → RecoversBy found.root files a
@@ -143,19 +143,19 @@ module _ (found : Found) (files : Files) (is : IsFoundIn files found) where
       is.read.kept_are ∙ ap (λ (b : Archive). stored_behind [] b.entries) same
 
 -- What was found of an archive is found so after the sync.
-found_archive : (found : Found) (a : Archive) (k m : Content) → IsFoundIn (as_read k) found → RecoversBy found.root (as_read k) a → IsOnlySynced k m → IsFound found.root found.slot (map_bytes a) (bytes_in a) m
+found_archive : (found : Found) (a : Archive) (k m : Content) → IsFoundIn (as_read k) found → RecoversBy found.root (as_read k) a → IsOnlySynced k m → IsFound found.root (slot_number found.slot) (map_bytes a) (bytes_in a) m
 found_archive found a k m is r synced =
     let map_long : found.root.map.length ≡ length (map_bytes a) =
     r.names.is_root.map_length ∙ (ap (λ (n : ℕ). 28 * (n - 1)) r.names.next ∙ sym (map_length a r.valid)) in
-    found_so found.root found.slot (map_bytes a) (bytes_in a) k m synced is.root r.stands map_long r.names.epochs
+    found_so found.root (slot_number found.slot) (map_bytes a) (bytes_in a) k m synced is.root r.stands map_long r.names.epochs
 
 -- Whatever was found is found so after the sync, with or without a cache.
-found_any : (found : Found) (k m : Content) (is : IsFoundIn (as_read k) found) → IsOnlySynced k m → IsFound found.root found.slot (flat_map record_bytes is.records) (λ (e : ℕ). epoch_bytes (in_epoch is.read.entries e)) m
+found_any : (found : Found) (k m : Content) (is : IsFoundIn (as_read k) found) → IsOnlySynced k m → IsFound found.root (slot_number found.slot) (flat_map record_bytes is.records) (λ (e : ℕ). epoch_bytes (in_epoch is.read.entries e)) m
 found_any found k m is synced =
     let size = records_length 1 is.records is.has.begins.valid in
     let map_long : found.root.map.length ≡ length (flat_map record_bytes is.records) =
     is.root.is_root.map_length ∙ (ap (λ (n : ℕ). 28 * n) (sym is.has.count) ∙ sym size) in
-    found_so found.root found.slot (flat_map record_bytes is.records) (λ (e : ℕ). epoch_bytes (in_epoch is.read.entries e)) k m synced is.root
+    found_so found.root (slot_number found.slot) (flat_map record_bytes is.records) (λ (e : ℕ). epoch_bytes (in_epoch is.read.entries e)) k m synced is.root
     (record {
       current = has_root found (as_read k) is;
       map_front = fronts_by (28 * length is.records) (flat_map record_bytes is.records) (as_read k (map_file_of found.root)) is.has.begins.spelled (sym size);
@@ -165,7 +165,7 @@ found_any found k m is synced =
 
 -- The view of what was found.
 abbrev pub view_of : Found → View
-view_of found = record { root = found.root; slot = found.slot; entries = found.entries.items }
+view_of found = record { root = found.root; slot = slot_number found.slot; entries = found.entries.items }
 
 -- A file of bytes has them.
 bytes_filed : (bytes : List ℕ) (file : File) → file ≡ file_of bytes → bytes_of file ≡ bytes
@@ -191,7 +191,7 @@ sized_so v map epochs m (Some n) found on =
       sized_there body (Some bytes) there = there.1.size
 
 pub opened_sizes : (found : Found) (k m n : Option Content) → WhereTold (λ c. IsFoundIn (as_read c) found) k → Told IsOnlySynced k m
-    → ((map : List ℕ) (epochs : ℕ → List ℕ) → FoundOn found.root found.slot map epochs m → OnDisk found.root found.slot map epochs n) → TellsAs m n → WhereTold (HasSizes (view_of found)) n
+    → ((map : List ℕ) (epochs : ℕ → List ℕ) → FoundOn found.root (slot_number found.slot) map epochs m → OnDisk found.root (slot_number found.slot) map epochs n) → TellsAs m n → WhereTold (HasSizes (view_of found)) n
 opened_sizes found None None None is synced done tells = tt
 opened_sizes found None None (Some n) is synced done tells = absurd tells
 opened_sizes found None (Some m) n is synced done tells = absurd synced
@@ -210,13 +210,13 @@ at_first may (Some k) image all left = all image left
 module _ (spellings : SpellingsDiffer) where
   -- The store is the archive's, and the disk its own.
   pub opened_store : RecoversOne → OpenedRecovers → (found : Found) (a : Archive) (k m n : Option Content) → WhereTold (λ c. IsFoundIn (as_read c) found) k → ReadsAs a k → Told IsOnlySynced k m
-      → ((map : List ℕ) (epochs : ℕ → List ℕ) → FoundOn found.root found.slot map epochs m → OnDisk found.root found.slot map epochs n) → IsStoreOf (view_of found) a n
+      → ((map : List ℕ) (epochs : ℕ → List ℕ) → FoundOn found.root (slot_number found.slot) map epochs m → OnDisk found.root (slot_number found.slot) map epochs n) → IsStoreOf (view_of found) a n
   opened_store one opened found a None m n is reads synced done = absurd reads
   opened_store one opened found a (Some k) None n is reads synced done = absurd synced
   opened_store one opened found a (Some k) (Some m) n is reads synced done =
       let r = by_root found (as_read k) is spellings a reads in
       of_disk n (done (map_bytes a) (bytes_in a) (found_archive found a k m is r synced)) where
-        of_disk : (n : Option Content) → OnDisk found.root found.slot (map_bytes a) (bytes_in a) n → IsStoreOf (view_of found) a n
+        of_disk : (n : Option Content) → OnDisk found.root (slot_number found.slot) (map_bytes a) (bytes_in a) n → IsStoreOf (view_of found) a n
         of_disk None on = absurd on
         of_disk (Some n) on =
             let r = by_root found (as_read k) is spellings a reads in
@@ -224,11 +224,11 @@ module _ (spellings : SpellingsDiffer) where
 
   -- While the disk is settled, files stand for an archive that they might have stood for.
   pub opening_stands : (may : List (Option Archive)) (found : Found) (k m : Option Content) → ReadsFit k → WhereTold (λ c. IsFoundIn (as_read c) found) k → AllRecoverOf may k → Told IsOnlySynced k m
-      → (a : Archive) × FoundOn found.root found.slot (map_bytes a) (bytes_in a) m × ((image : Files) → StandsFor found.root (map_bytes a) (bytes_in a) image → RecoversOf may image)
+      → (a : Archive) × FoundOn found.root (slot_number found.slot) (map_bytes a) (bytes_in a) m × ((image : Files) → StandsFor found.root (map_bytes a) (bytes_in a) image → RecoversOf may image)
   opening_stands may found None m fit is all synced = absurd all
   opening_stands may found (Some k) None fit is all synced = absurd synced
   opening_stands may found (Some k) (Some m) fit is all synced = of_one (all (as_read k) (λ name. fit k refl name)) where
-    of_one : RecoversOf may (as_read k) → (a : Archive) × FoundOn found.root found.slot (map_bytes a) (bytes_in a) (Some m) × ((image : Files) → StandsFor found.root (map_bytes a) (bytes_in a) image → RecoversOf may image)
+    of_one : RecoversOf may (as_read k) → (a : Archive) × FoundOn found.root (slot_number found.slot) (map_bytes a) (bytes_in a) (Some m) × ((image : Files) → StandsFor found.root (map_bytes a) (bytes_in a) image → RecoversOf may image)
     of_one (None, in_may, shut) = absurd (not_shut (as_read k root_name) (spelling found.root) (has_root found (as_read k) is) shut)
     of_one (Some a, in_may, recovers) =
         let r = by_root found (as_read k) is spellings a recovers in

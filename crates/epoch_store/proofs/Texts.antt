@@ -10,6 +10,7 @@ use Rattle.std.proofs.lemmas.Option.{slice_get_within, slice_get-get_or}
 use Rattle.std.proofs.lemmas.Bool.Decides.{nat_tests}
 use Rattle.arch_base.specs.declared.ids.Id20.{Id20}
 use Rattle.disk_model.specs.Disk.{Content, File, bytes_of}
+use Rattle.git_objects.specs.declared.entry_kind.EntryKind.{EntryKind}
 use Rattle.git_objects.specs.Objects.{blob_id_of}
 use Rattle.arch_model.specs.Archives.{Entry, Archive, in_epoch}
 use Rattle.arch_model.specs.Epochs.{epoch_bytes, entries_bytes, last_commit}
@@ -129,9 +130,9 @@ sized_text digits text more = record {
   len = let size = length-append digits (0 ∷ []) in omega (arith, size);
 }
 
-entry_text : (name : ℕ) (text : List ℕ) (moment : ℕ) (parent : Option Id20) → Divided (entry_bytes name text moment parent) (6 + length (decimal (length text))) text
+entry_text : (kind : EntryKind) (text : List ℕ) (moment : ℕ) (parent : Option Id20) → Divided (entry_bytes kind text moment parent) (6 + length (decimal (length text))) text
 unfolding entry_bytes
-entry_text name text moment parent = sized_text (decimal (length text)) text (tree_of name text ++ commit_text name text moment parent)
+entry_text kind text moment parent = sized_text (decimal (length text)) text (tree_of kind text ++ commit_text kind text moment parent)
 
 -- A text in the bytes of its epoch.
 epoch_text : (xs : List Entry) (e : Entry) (ys : List Entry) → Divided (epoch_bytes (xs ++ e ∷ ys)) (8 + length (entries_bytes None xs) + blob_front e.text) e.text

@@ -142,7 +142,7 @@ chain_is parent (e ∷ es) = ap (λ (b : List ℕ). bytes_behind parent (in_file
 -- All of them may be in a file.
 are_entries : (es : List Entry) → AllByRecursion IsEntry es → AreEpochEntries (map in_file es)
 are_entries [] all = tt
-are_entries (e ∷ es) all = (record { name = refl; text = all.0.text; moment = all.0.moment }, are_entries es all.1)
+are_entries (e ∷ es) all = (record { text = all.0.text; moment = all.0.moment }, are_entries es all.1)
 
 -- So may those of an epoch.
 valid_in : (es : List Entry) (epoch : ℕ) → AllByRecursion IsEntry es → AllByRecursion IsEntry (in_epoch es epoch)

@@ -3,6 +3,7 @@
 use Rattle.std.specs.Prelude.{◌≡◌, ◌≢◌, ◌⊎◌, ◌+◌, ◌<◌, ℕ, nat_lt, Bool, List, [], ◌∷◌, ◌++◌, length, take, map, get_or, None}
 use Rattle.std.specs.List.{AllByRecursion, filter}
 use Rattle.disk_model.specs.Disk.{Files, bytes_of}
+use Rattle.disk_model.specs.Sizes.{epoch_count}
 use Rattle.git_objects.specs.Objects.{blob_id_of}
 use Rattle.arch_model.specs.Archives.{Entry, in_epoch}
 use Rattle.mail_commits.specs.Entries.{magic}
@@ -18,7 +19,7 @@ use Rattle.epoch_store.specs.Stores.{in_file}
 
 -- Whether the number of a record has a message.
 abbrev pub has_message : Record → Bool
-has_message r = nat_lt r.epoch 64
+has_message r = nat_lt r.epoch epoch_count
 
 -- The records of the numbers that have a message, in order.
 abbrev pub messages : List Record → List Record
@@ -56,7 +57,7 @@ pub record AreWhole (root : Root) (files : Files) (epoch : ℕ) (entries : List 
 -- have a message.
 pub record AreOpened (root : Root) (files : Files) (rs : List Record) (entries : List Entry) : Type 0 where
   pub first : AreFirst rs [] entries
-  pub whole : AreWhole root files 64 entries
+  pub whole : AreWhole root files epoch_count entries
 
 -- The epochs below this one are whole, and have the first entries of the map. This one doesn't
 -- start with the magic.
@@ -93,7 +94,7 @@ pub record LacksLast (root : Root) (files : Files) (rs : List Record) (epoch pla
   pub next : Record
   pub behind : List Record
   pub first : AreFirst rs (next ∷ behind) before
-  pub whole : AreWhole root files 64 before
+  pub whole : AreWhole root files epoch_count before
   pub stands : epoch ≡ next.epoch
   pub place_is : place ≡ named_length root epoch
 
@@ -102,4 +103,4 @@ pub record LacksLast (root : Root) (files : Files) (rs : List Record) (epoch pla
 -- that should have the map's next message.
 abbrev pub IsFirstDamage : Root → Files → List Record → ℕ → ℕ → Type 0
 IsFirstDamage root files rs epoch place =
-    ((epoch < 64) × LacksFront root files rs epoch place) ⊎ (((epoch < 64) × LacksNext root files rs epoch place) ⊎ LacksLast root files rs epoch place)
+    ((epoch < epoch_count) × LacksFront root files rs epoch place) ⊎ (((epoch < epoch_count) × LacksNext root files rs epoch place) ⊎ LacksLast root files rs epoch place)

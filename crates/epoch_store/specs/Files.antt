@@ -3,6 +3,7 @@ use Rattle.std.specs.Prelude.{◌≡◌, ◌⊎◌, ◌-◌, ◌<◌, ◌≤◌,
 use Rattle.disk_model.specs.declared.name.FileName.{FileName}
 use Rattle.disk_model.specs.declared.name.FileKind.TheVariants.{Map, Epoch, Cache}
 use Rattle.disk_model.specs.Disk.{File, Files, Content, Image, bytes_of}
+use Rattle.disk_model.specs.Sizes.{epoch_count}
 use Rattle.root_slots.specs.declared.root.Root.{Root}
 use Rattle.root_slots.specs.RootName.{root_name}
 use Rattle.root_slots.specs.Each.{IfThere, EachRoot}
@@ -41,7 +42,7 @@ pub record Fronts (bytes : List ℕ) (file : File) : Type 0 where
 pub record StandsFor (root : Root) (map : List ℕ) (epochs : ℕ → List ℕ) (image : Files) : Type 0 where
   pub current : IfThere (HasRoot (spelling root)) (image root_name)
   pub map_front : Fronts map (image (map_file_of root))
-  pub epochs_front : (e : ℕ) → e < 64 → Fronts (epochs e) (image (epoch_file_of root e))
+  pub epochs_front : (e : ℕ) → e < epoch_count → Fronts (epochs e) (image (epoch_file_of root e))
 
 -- A file of these bytes, missing if there are none.
 abbrev pub file_of : List ℕ → File
@@ -54,7 +55,7 @@ IsCache root name = (0 < root.cache.length) × (name ≡ cache_name root.cache.g
 
 -- A root names a file.
 abbrev pub IsNamed : Root → FileName → Type 0
-IsNamed root name = (name ≡ root_name) ⊎ ((name ≡ map_file_of root) ⊎ (((e : ℕ) × (e < 64) × (name ≡ epoch_file_of root e)) ⊎ IsCache root name))
+IsNamed root name = (name ≡ root_name) ⊎ ((name ≡ map_file_of root) ⊎ (((e : ℕ) × (e < epoch_count) × (name ≡ epoch_file_of root e)) ⊎ IsCache root name))
 
 -- Files are exactly those of a map and epochs of these bytes by a root: each file that it names
 -- ends where its bytes end, and there is no other file. An empty map has a file without bytes, or
@@ -62,7 +63,7 @@ IsNamed root name = (name ≡ root_name) ⊎ ((name ≡ map_file_of root) ⊎ ((
 pub record IsExact (root : Root) (map : List ℕ) (epochs : ℕ → List ℕ) (files : Files) : Type 0 where
   pub stands : StandsFor root map epochs files
   pub map_ends : bytes_of (files (map_file_of root)) ≡ map
-  pub epochs_end : (e : ℕ) → e < 64 → files (epoch_file_of root e) ≡ file_of (epochs e)
+  pub epochs_end : (e : ℕ) → e < epoch_count → files (epoch_file_of root e) ≡ file_of (epochs e)
   pub others : (name : FileName) → IsNamed root name ⊎ (files name ≡ None)
 
 -- The files of a disk as reads give them.

@@ -4,6 +4,7 @@ use Rattle.std.specs.Prelude.{◌≡◌, ◌⊎◌, ◌+◌, ◌-◌, ◌<◌, �
 use Rattle.std.specs.Global.{Vec}
 use Rattle.disk_model.specs.declared.name.FileName.{FileName}
 use Rattle.disk_model.specs.Disk.{Files, bytes_of}
+use Rattle.disk_model.specs.Sizes.{epoch_count}
 use Rattle.arch_model.specs.declared.opening.OpenRefusal.{OpenRefusal}
 use Rattle.arch_model.specs.declared.opening.OpenRefusal.TheVariants.{NoArchive, Damaged, DiskFault, NoMemory}
 use Rattle.number_map.specs.declared.line.Record.{Record}
@@ -12,9 +13,10 @@ use Rattle.number_map.specs.Walks as map_walks
 use Rattle.epoch_file.specs.declared.entry.Seen.{Seen}
 use Rattle.epoch_file.specs.Walking.{IsEpoch, IsDamagedAt}
 use Rattle.root_slots.specs.declared.root.Root.{Root}
+use Rattle.root_slots.specs.declared.slot.Slot.{Slot}
 use Rattle.root_slots.specs.RootName.{root_name}
 use Rattle.root_slots.specs.Each.{IfThere}
-use Rattle.root_slots.specs.Slots.{Current, IsShutFile}
+use Rattle.root_slots.specs.Slots.{slot_number, Current, IsShutFile}
 use Rattle.root_slots.specs.Slots as slots
 use Rattle.root_slots.specs.Spelling.{spelling}
 use Rattle.root_slots.specs.Valid.{IsRoot, RootFits}
@@ -41,7 +43,7 @@ pub record HasRecords (root : Root) (files : Files) (rs : List Record) : Type 0 
 -- all epochs without their texts.
 pub record IsFoundIn (files : Files) (found : Found) : Type 0 where
   pub records : List Record
-  pub root : IsCurrentRoot found.root found.slot files
+  pub root : IsCurrentRoot found.root (slot_number found.slot) files
   pub has : HasRecords found.root files records
   pub read : AreRead found.root files records found.entries.items
 
@@ -82,8 +84,8 @@ Finds files (Err DiskFault) = Unit {0}
 Finds files (Err NoMemory) = Unit {0}
 
 -- The current root of files and its slot, or why there is none.
-abbrev pub FindsRoot : Files → Result (ℕ × Root) OpenRefusal → Type 0
-FindsRoot files (Ok found) = IsCurrentRoot found.1 found.0 files
+abbrev pub FindsRoot : Files → Result (Slot × Root) OpenRefusal → Type 0
+FindsRoot files (Ok found) = IsCurrentRoot found.1 (slot_number found.0) files
 FindsRoot files (Err NoArchive) = IsShutFile (files root_name)
 FindsRoot files (Err (Damaged file at)) = IsDamagedRoot files file at
 FindsRoot files (Err DiskFault) = Unit {0}
@@ -137,7 +139,7 @@ StopsSeen root epoch old place seen refusal files =
 
 -- All epochs are read, or why not, if none was read before.
 abbrev pub ReadsEach : Root → Joined → Result Joined OpenRefusal → Files → Type 0
-ReadsEach root old result files = (rs : List Record) → RootFits root → IsReadUpTo root files rs 0 old → ReadsUpTo root files rs 64 result
+ReadsEach root old result files = (rs : List Record) → RootFits root → IsReadUpTo root files rs 0 old → ReadsUpTo root files rs epoch_count result
 
 -- What is kept of the entries of all epochs, or why they are not read.
 abbrev pub KeepsAll : Root → Files → List Record → Result (Vec StoredEntry) OpenRefusal → Type 0
@@ -146,7 +148,7 @@ KeepsAll root files rs (Err refusal) = StopsBy root files rs refusal
 
 -- The same if the epochs are read.
 abbrev pub EndsWith : Root → Joined → Result (Vec StoredEntry) OpenRefusal → Type 0
-EndsWith root joined result = (rs : List Record) (files : Files) → IsReadUpTo root files rs 64 joined → KeepsAll root files rs result
+EndsWith root joined result = (rs : List Record) (files : Files) → IsReadUpTo root files rs epoch_count joined → KeepsAll root files rs result
 
 -- The same if the records of the map are these.
 abbrev pub KeepsBy : Root → List Record → Result (Vec StoredEntry) OpenRefusal → Files → Type 0

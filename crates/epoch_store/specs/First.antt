@@ -2,6 +2,7 @@
 use Rattle.std.specs.Prelude.{◌≡◌, ◌≢◌, ◌⊎◌, ℕ, List, Option, Some, None, Result, Ok, Err, replicate}
 use Rattle.arch_base.specs.declared.config.Config.{Config}
 use Rattle.disk_model.specs.declared.name.FileName.{FileName}
+use Rattle.disk_model.specs.Sizes.{epoch_count}
 use Rattle.root_slots.specs.declared.root.Root.{Root}
 use Rattle.root_slots.specs.Valid.{no_place}
 use Rattle.epoch_store.specs.declared.refusal.InitRefusal.{InitRefusal}
@@ -11,13 +12,13 @@ use Rattle.disk_model.specs.Synced.{IsSettled}
 use Rattle.arch_model.specs.Archives.{Archive}
 use Rattle.root_slots.specs.RootName.{root_name}
 use Rattle.root_slots.specs.Each.{IfThere}
-use Rattle.root_slots.specs.Slots.{Elsewhere, HasRoot, Ready, IsShutFile}
+use Rattle.root_slots.specs.Slots.{root_size, Elsewhere, HasRoot, Ready, IsShutFile}
 use Rattle.epoch_store.specs.Recovery.{Recovers}
 use Rattle.epoch_store.specs.Opens.{IsOnlySynced}
 
 -- All bytes of a root file are zeros.
 abbrev pub AreZeros : List ℕ → Type 0
-AreZeros file = file ≡ replicate 4096 0
+AreZeros file = file ≡ replicate root_size 0
 
 -- No slot is open, or the first root is there; all other files are as a crash before might have
 -- left them.
@@ -51,11 +52,11 @@ first_root_of config = record {
   sequence = 1;
   next = 1;
   map = record { gen_ = 1; length = 0 };
-  epochs = replicate 64 no_place;
+  epochs = replicate epoch_count no_place;
   cache = no_place;
 }
 
--- A disk has a root of this body in slot 0, the other slot is ready for the next one, there is no
+-- A disk has a root of this body in the first slot, the other slot is ready for the next one, there is no
 -- other file, and all that reads give is on the disk.
 pub record HasOnly (body : List ℕ) (k : Content) : Type 0 where
   pub roots : (file : File) → Fits (k root_name).sure file → IfThere (Ready 1 body) file

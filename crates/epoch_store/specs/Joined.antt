@@ -4,6 +4,7 @@ use Rattle.std.specs.List.{AllByRecursion, list_any}
 use Rattle.std.specs.Str.{bytes_eq}
 use Rattle.std.specs.Global.{Vec}
 use Rattle.std.specs.BTreeSet.{BTreeSet}
+use Rattle.disk_model.specs.Sizes.{epoch_count}
 use Rattle.arch_model.specs.Archives.{Entry}
 use Rattle.arch_model.specs.Epochs.{entries_bytes}
 use Rattle.mail_commits.specs.Entries.{message_kind}
@@ -39,7 +40,7 @@ AreBefore epoch entries = AllByRecursion (λ (e : StoredEntry). e.epoch < epoch)
 
 -- All records have an epoch.
 abbrev pub HaveEpochs : List Record → Type 0
-HaveEpochs records = (i : ℕ) (r : Record) → slice_get records i ≡ Some r → r.epoch < 64
+HaveEpochs records = (i : ℕ) (r : Record) → slice_get records i ≡ Some r → r.epoch < epoch_count
 
 -- Whether an entry has this own id.
 abbrev pub has_id : List StoredEntry → List ℕ → Bool
@@ -73,7 +74,7 @@ entry_seen number epoch seen = record { number = number; epoch = epoch; seen = s
 
 -- The next record is that of an entry of this epoch, and has this number; the entry is a message.
 pub record IsWanted (v : Joined) (epoch : ℕ) (seen : Seen) (number : ℕ) : Type 0 where
-  pub message : seen.name ≡ message_kind
+  pub message : seen.kind ≡ message_kind
   pub next : slice_get v.records (length v.entries) ≡ Some (record { number = number; epoch = epoch; blob = seen.blob })
 
 -- The results of asking for an entry: its number, or that it isn't the next.

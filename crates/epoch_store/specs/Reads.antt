@@ -14,7 +14,7 @@ use Rattle.epoch_store.specs.Files.{epoch_file_of}
 
 -- An entry without its text.
 abbrev pub line_of : StoredEntry → EntryLine
-line_of s = record { name = s.seen.name; number = s.number; epoch = s.epoch; secs = s.seen.moment; blob = s.seen.blob; size = s.seen.size; commit = s.seen.commit }
+line_of s = record { kind = s.seen.kind; number = s.number; epoch = s.epoch; secs = s.seen.moment; blob = s.seen.blob; size = s.seen.size; commit = s.seen.commit }
 
 -- The same for an entry that may be missing.
 abbrev pub line_if : Option StoredEntry → Option EntryLine

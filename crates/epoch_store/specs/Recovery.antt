@@ -2,6 +2,7 @@
 use Rattle.std.specs.Prelude.{◌≡◌, ◌+◌, ◌-◌, ◌<◌, ◌==◌, ℕ, zero, suc, List, [], ◌∷◌, length, get_or, replicate, Option, Some, None, if◌then◌else◌}
 use Rattle.std.specs.List.{flat_map}
 use Rattle.disk_model.specs.Disk.{Files}
+use Rattle.disk_model.specs.Sizes.{epoch_count}
 use Rattle.git_objects.specs.Objects.{blob_id_of}
 use Rattle.arch_model.specs.Archives.{Entry, Archive, in_epoch}
 use Rattle.arch_model.specs.Epochs.{epoch_bytes}
@@ -48,7 +49,7 @@ pub record Names (root : Root) (a : Archive) : Type 0 where
   pub fits : RootFits root
   pub config : root.config ≡ a.config
   pub next : root.next ≡ a.next
-  pub epochs : (e : ℕ) → e < 64 → (get_or root.epochs e no_place).length ≡ length (bytes_in a e)
+  pub epochs : (e : ℕ) → e < epoch_count → (get_or root.epochs e no_place).length ≡ length (bytes_in a e)
   pub cache : root.cache.length ≡ 0
 
 -- Files stand for an archive by a root that names it.

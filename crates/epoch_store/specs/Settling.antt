@@ -7,6 +7,7 @@ use Rattle.disk_files.specs.declared.cutting.FilePart.{FilePart}
 use Rattle.disk_model.specs.declared.name.FileKind.{FileKind}
 use Rattle.disk_model.specs.declared.name.FileKind.TheVariants as kind
 use Rattle.disk_model.specs.declared.name.FileName.{FileName}
+use Rattle.disk_model.specs.Sizes.{epoch_count}
 use Rattle.root_slots.specs.declared.root.Place.{Place}
 use Rattle.disk_model.specs.Disk.{Files, Content, Told}
 use Rattle.disk_model.specs.Synced.{IsSettled}
@@ -55,7 +56,7 @@ pub record IsReadied (slot : ℕ) (body : List ℕ) (old new : Content) : Type 0
 -- that has bytes.
 abbrev pub IsKept : Root → (ℕ → List ℕ) → FileName → Type 0
 IsKept root epochs name =
-    (name ≡ root_name) ⊎ ((name ≡ map_file_of root) ⊎ (((e : ℕ) × (e < 64) × (name ≡ epoch_file_of root e) × (epochs e ≢ [])) ⊎ IsCache root name))
+    (name ≡ root_name) ⊎ ((name ≡ map_file_of root) ⊎ (((e : ℕ) × (e < epoch_count) × (name ≡ epoch_file_of root e) × (epochs e ≢ [])) ⊎ IsCache root name))
 
 -- A disk on which all is synced stands for a map and epochs of these bytes, with the lengths that
 -- the root names.
@@ -63,7 +64,7 @@ pub record IsFound (root : Root) (slot : ℕ) (map : List ℕ) (epochs : ℕ →
   pub rests : RestsOn slot (spelling root) k
   pub stands : StandsFor root map epochs (as_read k)
   pub map_long : root.map.length ≡ length map
-  pub epochs_long : (e : ℕ) → e < 64 → (get_or root.epochs e no_place).length ≡ length (epochs e)
+  pub epochs_long : (e : ℕ) → e < epoch_count → (get_or root.epochs e no_place).length ≡ length (epochs e)
 
 -- The same for a disk that tells its content.
 abbrev pub FoundOn : Root → ℕ → List ℕ → (ℕ → List ℕ) → Option Content → Type 0
@@ -93,7 +94,7 @@ epoch_part_of root e = record { file = epoch_file_of root e; length = (get_or ro
 
 -- The parts of the files that a root names: the map's, and those of the epochs.
 abbrev pub named_parts_of : Root → List FilePart
-named_parts_of root = record { file = map_file_of root; length = root.map.length } ∷ mapped (epoch_part_of root) (range_with_len 0 64)
+named_parts_of root = record { file = map_file_of root; length = root.map.length } ∷ mapped (epoch_part_of root) (range_with_len 0 epoch_count)
 
 -- A `Place` has bytes and this generation.
 abbrev pub has_place : Place → ℕ → Bool
@@ -104,7 +105,7 @@ has_place place gen_ = nat_lt 0 place.length && place.gen_ == gen_
 abbrev pub named_by : Root → FileKind → ℕ → ℕ → Bool
 named_by root kind.Root number gen_ = number == 0 && gen_ == 0
 named_by root kind.Map number gen_ = number == 0 && gen_ == root.map.gen_
-named_by root kind.Epoch number gen_ = nat_lt number 64 && has_place (get_or root.epochs number no_place) gen_
+named_by root kind.Epoch number gen_ = nat_lt number epoch_count && has_place (get_or root.epochs number no_place) gen_
 named_by root kind.Cache number gen_ = number == 0 && has_place root.cache gen_
 
 -- Whether a root names a file.

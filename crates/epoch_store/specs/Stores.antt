@@ -3,6 +3,7 @@ use Rattle.std.specs.Prelude.{◌-◌, ◌^◌, min, set, slice_get, ◌≡◌, 
 use Rattle.std.specs.List.{AllByRecursion}
 use Rattle.arch_base.specs.declared.ids.Id20.{Id20}
 use Rattle.disk_model.specs.Disk.{Files, Content, bytes_of}
+use Rattle.disk_model.specs.Sizes.{epoch_count, greatest_epoch, record_size}
 use Rattle.mail_reader.specs.StorageTexts.{IsStorageText}
 use Rattle.mail_reader.specs.Ids.{own_id}
 use Rattle.git_objects.specs.Objects.{blob_id_of}
@@ -34,7 +35,7 @@ pub record View : Type 0 where
 
 -- An entry as it is in its epoch's file.
 abbrev pub in_file : Entry → EpochEntry
-in_file e = record { name = message_kind; text = e.text; moment = e.moment }
+in_file e = record { kind = message_kind; text = e.text; moment = e.moment }
 
 -- What is kept of an entry after others: its offset follows the epoch's first eight bytes and the
 -- other entries of its epoch.
@@ -76,7 +77,7 @@ RecoversEither a b image = Recovers image a ⊎ Recovers image b
 pub record HasSizes (v : View) (k : Content) : Type 0 where
   pub root : HasRootSize k
   pub map_long : v.root.map.length ≤ length (bytes_of (k (map_file_of v.root)).seen)
-  pub epochs_long : (e : ℕ) → e < 64 → (get_or v.root.epochs e no_place).length ≤ length (bytes_of (k (epoch_file_of v.root e)).seen)
+  pub epochs_long : (e : ℕ) → e < epoch_count → (get_or v.root.epochs e no_place).length ≤ length (bytes_of (k (epoch_file_of v.root e)).seen)
 
 -- A new text would be accepted: the archive is no mirror and has a number left, the text is a
 -- storage text, and no entry has its own id or its blob id.
@@ -89,7 +90,7 @@ pub record Accepts (v : View) (text : List ℕ) : Type 0 where
 
 -- The entries of a store are in epochs 0 to 63.
 abbrev pub InEpochs : List StoredEntry → Type 0
-InEpochs entries = (i : ℕ) (e : StoredEntry) → slice_get entries i ≡ Some e → e.epoch ≤ 63
+InEpochs entries = (i : ℕ) (e : StoredEntry) → slice_get entries i ≡ Some e → e.epoch ≤ greatest_epoch
 
 -- The epoch of the last entry of an archive, or 0, and its last commit.
 pub record IsEnd (a : Archive) (end_ : End) : Type 0 where
@@ -115,7 +116,7 @@ root_after root p end_ = record {
   config = root.config;
   sequence = next_sequence root.sequence;
   next = root.next + 1;
-  map = record { gen_ = root.map.gen_; length = root.map.length + 28 };
+  map = record { gen_ = root.map.gen_; length = root.map.length + record_size };
   epochs = set root.epochs p.epoch (record { gen_ = p.gen_; length = end_ });
   cache = root.cache;
 }
@@ -131,7 +132,7 @@ place_of root epoch parent = record {
 
 -- A new entry is a message after the last commit of its epoch.
 pub record IsMessage (p : NextPlace) (entry : NewEntry) : Type 0 where
-  pub name : entry.name ≡ message_kind
+  pub kind : entry.kind ≡ message_kind
   pub parent : entry.parent ≡ p.parent
 
 -- This place is that of the next entry of the archive, its text would be accepted, and there is a

@@ -23,7 +23,7 @@ const EPOCH: FileName = FileName {
 const CHANGES: [(FileName, u64, &[u8], Option<(FileName, u64)>); 9] = [
     // Both slots are shut.
     (ROOT, 0, b"\0\0", None),
-    // The name in slot 1, which is the newest one, has no byte.
+    // The name in the second slot, which is the newest one, has no byte.
     (ROOT, 2570, b"\0", Some((ROOT, 2560))),
     // The file is longer than a root file.
     (ROOT, 4096, b"\0", None),
@@ -199,7 +199,7 @@ fn what_no_root_names_is_taken_away(rt: HostRuntime) -> Result<(), Fail> {
     sweep_each(&rt, rt.alloc(), &files)
 }
 
-/// Returns whether slot 0 is shut and slot 1 is open, and both have one root.
+/// Returns whether the first slot is shut and the second is open, and both have one root.
 fn has_one_root(disk: &mut MemDisk) -> Result<bool, DiskFault> {
     let mut root = [0; 4096];
     let count = disk.read(ROOT, 0, &mut root)?;

@@ -4,6 +4,7 @@ ghost use Rattle.arch_base.specs.Counts.{RoseIf};
 ghost use Rattle.arch_model.specs.Archives.{Archive, in_epoch};
 ghost use Rattle.arch_model.specs.Standing.{GivesEpochIn, KeepsUnlessFound};
 ghost use Rattle.disk_model.specs.Disk.{Image, Told, WhereTold, Unchanged, LeavesOnly};
+ghost use Rattle.disk_model.specs.Sizes.{greatest_epoch};
 ghost use Rattle.arch_model.specs.declared.text_refusal.TextRefusal.{TextRefusal};
 ghost use Rattle.root_slots.specs.Valid.{no_place};
 ghost use Rattle.epoch_store.specs.Stores.{IsStoreOf};
@@ -26,7 +27,7 @@ impl Store {
     /// Returns the number of bytes of an epoch that the root names, 0 if there is no such epoch.
     fn named_length(&self, epoch: u32) -> u64
         ensures length { result ≡ (get_or self.now.root.epochs epoch no_place).length }
-        ensures there { 0 < result → epoch ≤ 63 }
+        ensures there { 0 < result → epoch ≤ greatest_epoch }
     {
         match self.root.epochs.get(epoch as usize) {
             None => 0,

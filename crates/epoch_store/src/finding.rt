@@ -2,6 +2,7 @@
 ghost use Rattle.std.specs.Prelude.{◌≡◌, ◌≢◌, ◌+◌, ◌<◌, ◌≤◌, Err, IfOk, get_or};
 ghost use Rattle.arch_base.specs.Counts.{Rose, RoseIf};
 ghost use Rattle.disk_model.specs.Disk.{Files, Image, Told, WhereTold, Unchanged, LeavesOnly};
+ghost use Rattle.disk_model.specs.Sizes.{epoch_count, greatest_epoch};
 ghost use Rattle.arch_model.specs.declared.opening.OpenRefusal.{OpenRefusal};
 ghost use Rattle.epoch_file.specs.Runs.{OnlyReads};
 ghost use Rattle.root_slots.specs.RootName.{root_name};
@@ -15,17 +16,17 @@ use crate::joining::Joining;
 use crate::known::JoinRefusal;
 use crate::putting::{epoch_file, map_file};
 use arch_model::OpenRefusal;
-use disk_model::{Disk, FileKind, FileName, WalkRefusal};
+use disk_model::{Disk, EPOCHS, FileKind, FileName, WalkRefusal};
 use epoch_file::{SeenList, law_of_entries, law_of_epochs};
 use number_map::Records;
-use root_slots::{Place, Root, RootRefusal, root_fits};
+use root_slots::{Place, Root, RootRefusal, Slot, root_fits};
 use std::alloc::Global;
 
 /// An archive as found: its current root, the root's slot, and its entries without texts.
 #[derive(Drop)]
 pub(crate) struct Found {
     pub(crate) root: Root,
-    pub(crate) slot: u8,
+    pub(crate) slot: Slot,
     pub(crate) entries: Vec<StoredEntry>,
 }
 
@@ -60,9 +61,8 @@ fn named_file(root: &Root, epoch: u32) -> FileName
 }
 
 /// Reads the current root and its slot.
-fn find_root<D: Disk>(disk: &mut D) -> Result<(u8, Root), OpenRefusal>
+fn find_root<D: Disk>(disk: &mut D) -> Result<(Slot, Root), OpenRefusal>
     ensures found { WhereTold (λ k. FindsRoot (as_read k) result) (D.content disk.old) }
-    ensures slot { IfOk result (λ found. found.0 < 2) }
     ensures valid { IfOk result (λ found. IsRoot found.1) }
     ensures fits { IfOk result (λ found. RootFits found.1) }
     ensures reads { OnlyReads D.content D.moment D.left_since D.faults disk.old disk.new }
@@ -102,7 +102,7 @@ fn find_records<D: Disk>(alloc: Global, disk: &mut D, root: &Root) -> Result<Rec
 ///
 /// `Damaged` has the offset of the first entry that can't be joined.
 fn take(root: &Root, epoch: u32, joining: Joining, seen: SeenList) -> Result<Joining, OpenRefusal>
-    requires small { epoch ≤ 63 }
+    requires small { epoch ≤ greatest_epoch }
     requires before { AreBefore epoch joining.entries }
     ensures taken { (files : Files) → ReadsSeen root.now epoch joining seen result files }
     ensures behind { IfOk result (λ joined. AreBefore (epoch + 1) joined.entries) }
@@ -124,7 +124,7 @@ fn take(root: &Root, epoch: u32, joining: Joining, seen: SeenList) -> Result<Joi
 /// `Damaged` has the offset of the first of these entries that can't be joined to others, or `at`
 /// if all can.
 fn stop_in(root: &Root, epoch: u32, joining: Joining, at: u64, seen: SeenList) -> OpenRefusal
-    requires small { epoch ≤ 63 }
+    requires small { epoch ≤ greatest_epoch }
     requires behind { 8 < at }
     requires before { AreBefore epoch joining.entries }
     ensures stops { (files : Files) → StopsSeen root.now epoch joining at seen result files }
@@ -152,7 +152,7 @@ fn stop_at<D: Disk>(
     joining: Joining,
     at: u64,
 ) -> OpenRefusal
-    requires small { epoch ≤ 63 }
+    requires small { epoch ≤ greatest_epoch }
     requires before { AreBefore epoch joining.entries }
     ensures stops { WhereTold (λ k. StopsEpoch root.now epoch joining at result (as_read k)) (D.content disk.old) }
     ensures reads { OnlyReads D.content D.moment D.left_since D.faults disk.old disk.new }
@@ -182,7 +182,7 @@ fn join_epoch<D: Disk>(
     epoch: u32,
     joining: Joining,
 ) -> Result<Joining, OpenRefusal>
-    requires small { epoch ≤ 63 }
+    requires small { epoch ≤ greatest_epoch }
     requires before { AreBefore epoch joining.entries }
     ensures joined { WhereTold (λ k. ReadsEpoch root.now epoch joining result (as_read k)) (D.content disk.old) }
     ensures behind { IfOk result (λ joined. AreBefore (epoch + 1) joined.entries) }
@@ -210,12 +210,12 @@ fn join_all<D: Disk>(
 ) -> Result<Joining, OpenRefusal>
     requires before { AreBefore 0 joining.entries }
     ensures joined { WhereTold (λ k. ReadsEach root.now joining result (as_read k)) (D.content disk.old) }
-    ensures behind { IfOk result (λ joined. AreBefore 64 joined.entries) }
+    ensures behind { IfOk result (λ joined. AreBefore epoch_count joined.entries) }
     ensures reads { OnlyReads D.content D.moment D.left_since D.faults disk.old disk.new }
     ensures fault { result ≡ Err OpenRefusal.DiskFault → Rose (D.faults disk.old) (D.faults disk.new) }
 {
     let mut joining = joining;
-    for epoch in 0..64 {
+    for epoch in 0..EPOCHS {
         match join_epoch(alloc, disk, root, epoch, joining) {
             Ok(next) => joining = next,
             Err(refusal) => return Err(refusal),
@@ -249,7 +249,7 @@ fn read_epochs<D: Disk>(
     records: &Records,
 ) -> Result<Vec<StoredEntry>, OpenRefusal>
     ensures kept { WhereTold (λ k. KeepsBy root.now records.now result (as_read k)) (D.content disk.old) }
-    ensures small { IfOk result (λ kept. AreBefore 64 kept.items) }
+    ensures small { IfOk result (λ kept. AreBefore epoch_count kept.items) }
     ensures reads { OnlyReads D.content D.moment D.left_since D.faults disk.old disk.new }
     ensures fault { result ≡ Err OpenRefusal.DiskFault → Rose (D.faults disk.old) (D.faults disk.new) }
 {
@@ -271,7 +271,7 @@ fn find_entries<D: Disk>(
     requires root { IsRoot root.now }
     requires fits { RootFits root.now }
     ensures found { WhereTold (λ k. FindsEntries root.now (as_read k) result) (D.content disk.old) }
-    ensures small { IfOk result (λ kept. AreBefore 64 kept.items) }
+    ensures small { IfOk result (λ kept. AreBefore epoch_count kept.items) }
     ensures reads { OnlyReads D.content D.moment D.left_since D.faults disk.old disk.new }
     ensures fault { result ≡ Err OpenRefusal.DiskFault → Rose (D.faults disk.old) (D.faults disk.new) }
 {
@@ -291,10 +291,9 @@ fn find_entries<D: Disk>(
 /// if memory runs out.
 pub(crate) fn find<D: Disk>(alloc: Global, disk: &mut D) -> Result<Found, OpenRefusal>
     ensures found { WhereTold (λ k. Finds (as_read k) result) (D.content disk.old) }
-    // Whatever the disk tells, the result has a root, its slot, and entries of epochs 0 to 63.
-    ensures slot { IfOk result (λ found. found.slot < 2) }
+    // Whatever the disk tells, the result has a root, and entries of epochs 0 to 63.
     ensures root { IfOk result (λ found. IsRoot found.root) }
-    ensures epochs { IfOk result (λ found. AreBefore 64 found.entries.items) }
+    ensures epochs { IfOk result (λ found. AreBefore epoch_count found.entries.items) }
     ensures same { Told Unchanged (D.content disk.old) (D.content disk.new) }
     ensures any_moment { LeavesOnly D.moment D.left_since disk.old disk.new (Image (D.content disk.old)) }
     ensures cause { RoseIf (result ≡ Err OpenRefusal.DiskFault) (D.faults disk.old) (D.faults disk.new) }

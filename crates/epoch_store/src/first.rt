@@ -17,8 +17,8 @@ ghost use Rattle.epoch_store.specs.declared.refusal.InitRefusal.{InitRefusal};
 use crate::refusal::InitRefusal;
 use arch_base::Config;
 use disk_files::{FileNames, file_names, remove_files};
-use disk_model::{Disk, DiskFault, FileName, WalkRefusal};
-use root_slots::{Place, Root, RootRefusal, begin, fill, raise, read};
+use disk_model::{Disk, DiskFault, EPOCHS, FileName, WalkRefusal};
+use root_slots::{Place, Root, RootRefusal, Slot, begin, fill, raise, read};
 use std::alloc::Global;
 
 /// Returns the root of an archive without entries.
@@ -35,7 +35,7 @@ pub fn first_root(config: &Config) -> Root
         sequence: 1,
         next: 1,
         map: Place { gen_: 1, length: 0 },
-        epochs: [Place { gen_: 0, length: 0 }; 64],
+        epochs: [Place { gen_: 0, length: 0 }; EPOCHS as usize],
         cache: Place { gen_: 0, length: 0 },
     }
 }
@@ -57,7 +57,7 @@ pub fn make<D: Disk>(disk: &mut D, names: &[FileName], root: &Root) -> Result<()
     raise_first(disk, root)
 }
 
-/// Writes the first root to slot 0 of a root file of zeros, and opens its gate.
+/// Writes the first root to the first slot of a root file of zeros, and opens its gate.
 pub fn raise_first<D: Disk>(disk: &mut D, root: &Root) -> Result<(), DiskFault>
     requires size { WhereTold HasRootSize (D.content disk.old) }
     requires root { IsRoot root.now }
@@ -69,8 +69,8 @@ pub fn raise_first<D: Disk>(disk: &mut D, root: &Root) -> Result<(), DiskFault>
     ensures count { D.reads disk.new ≡ D.reads disk.old }
 {
     let _sequence = root.sequence; // brings the range of a field behind a `&` into the proof
-    fill(disk, 0, root)?;
-    raise(disk, 0)
+    fill(disk, Slot::First, root)?;
+    raise(disk, Slot::First)
 }
 
 /// Syncs, and checks that there is no archive: no slot of the root is open.

@@ -1,18 +1,18 @@
 //! Joins the entries of the epochs to the records of the map.
 ghost use Rattle.std.specs.Prelude.{◌≡◌, ◌+◌, ◌<◌, ◌≤◌, [], IfOk, IfErr};
+ghost use Rattle.disk_model.specs.Sizes.{epoch_count, greatest_epoch};
 ghost use Rattle.epoch_store.specs.Damage.{messages, has_message};
 ghost use Rattle.epoch_store.specs.Joined.{Wants, JoinsOne, AreBefore, TakesEpoch, Finishes};
 
 use crate::entries::StoredEntry;
 use crate::known::{JoinRefusal, Known, Unmatched, add_blob, add_id, known_of_none};
 use arch_base::NoMemory;
+use disk_model::EPOCHS;
 use epoch_file::{Seen, SeenList};
+use git_objects::EntryKind;
 use number_map::{Record, Records};
 use std::alloc::{AllocError, Global};
 use std::marker::Model;
-
-/// The name of a message's file.
-const MESSAGE: u8 = b'm';
 
 /// The records of a map that have a message, and the entries so far.
 ///
@@ -42,7 +42,7 @@ fn with_message(alloc: Global, records: &[Record]) -> Result<Vec<Record>, AllocE
     records
         .iter()
         .copied()
-        .filter(|record| record.epoch < 64)
+        .filter(|record| record.epoch < EPOCHS)
         .collect(alloc)
 }
 
@@ -65,9 +65,9 @@ impl Joining {
     fn wanted(&self, epoch: u32, seen: &Seen) -> Option<u32>
         ensures { Wants self.now epoch seen.now result }
     {
-        if seen.name != MESSAGE {
+        let EntryKind::Message = seen.kind else {
             return None;
-        }
+        };
         let record = self.records.get(self.entries.len())?;
         if record.epoch != epoch {
             return None;
@@ -124,7 +124,7 @@ impl Joining {
     /// own id or the blob id of an earlier one; it has the offset of the first such entry.
     /// `NoMemory` comes only if memory runs out. An error drops everything.
     pub(crate) fn take_epoch(self, epoch: u32, seen: SeenList) -> Result<Joining, JoinRefusal>
-        requires small { epoch ≤ 63 }
+        requires small { epoch ≤ greatest_epoch }
         requires before { AreBefore epoch self.entries }
         ensures taken { TakesEpoch self epoch seen result }
         ensures behind { IfOk result (λ joining. AreBefore (epoch + 1) joining.entries) }
@@ -145,7 +145,7 @@ impl Joining {
     pub(crate) fn finish(self) -> Result<Vec<StoredEntry>, Unmatched>
         ensures finished { Finishes self result }
         ensures kept { IfOk result (λ kept. kept.items ≡ self.entries) }
-        ensures small { IfErr result (λ refusal. refusal.epoch < 64) }
+        ensures small { IfErr result (λ refusal. refusal.epoch < epoch_count) }
     {
         let Joining {
             records,

@@ -6,6 +6,7 @@ use crate::joining::Joining;
 use crate::known::{JoinRefusal, Unmatched};
 use arch_base::{Bytes, Id20, NoMemory};
 use epoch_file::{Seen, SeenList};
+use git_objects::EntryKind;
 use number_map::{Record, Records};
 use std::alloc::Global;
 use std::test::Fail;
@@ -13,9 +14,9 @@ use std::test::Fail;
 /// The epoch of a number that has no message.
 const NONE: u32 = 4_294_967_295;
 
-/// An entry: the name of its file, its offset, a byte of its blob id, and its own id.
+/// An entry: its kind, its offset, a byte of its blob id, and its own id.
 #[derive(Drop)]
-struct Entry(u8, u64, u8, &'static [u8]);
+struct Entry(EntryKind, u64, u8, &'static [u8]);
 
 /// The result of joining two epochs.
 #[derive(Debug, PartialEq, Eq, Drop)]
@@ -50,7 +51,7 @@ fn seen(alloc: Global, list: &[Entry]) -> Result<SeenList, NoMemory> {
         let mut id = Bytes::new(alloc);
         id.push_slice(entry.3)?;
         seen.push(Seen {
-            name: entry.0,
+            kind: entry.0,
             at: entry.1,
             text_at: entry.1,
             size: 0,
@@ -147,12 +148,15 @@ fn entries_get_the_numbers_of_the_records_that_have_a_message(rt: HostRuntime) -
 }
 
 /// An entry, alone and before another one.
-const ONE: &[Entry] = &[Entry(b'm', 8, 1, b"<a@b>")];
+const ONE: &[Entry] = &[Entry(EntryKind::Message, 8, 1, b"<a@b>")];
 
-const TWO: &[Entry] = &[Entry(b'm', 8, 1, b"<a@b>"), Entry(b'm', 320, 2, b"<c@d>")];
+const TWO: &[Entry] = &[
+    Entry(EntryKind::Message, 8, 1, b"<a@b>"),
+    Entry(EntryKind::Message, 320, 2, b"<c@d>"),
+];
 
 /// An entry of another epoch.
-const THIRD: &[Entry] = &[Entry(b'm', 8, 3, b"<e@f>")];
+const THIRD: &[Entry] = &[Entry(EntryKind::Message, 8, 3, b"<e@f>")];
 
 /// Entries that should each be the next of the map.
 const WANTED: &[Case] = &[
@@ -165,7 +169,7 @@ const WANTED: &[Case] = &[
     Case(&[(0, 2)], ONE, &[], Outcome::Damaged(0, 8)),
     Case(
         &[(0, 1)],
-        &[Entry(b'd', 8, 1, b"<a@b>")],
+        &[Entry(EntryKind::Deletion, 8, 1, b"<a@b>")],
         &[],
         Outcome::Damaged(0, 8),
     ),
@@ -189,25 +193,28 @@ const OWN: &[Case] = &[
     Case(
         &[(0, 1), (1, 2)],
         ONE,
-        &[Entry(b'm', 8, 2, b"<a@b>")],
+        &[Entry(EntryKind::Message, 8, 2, b"<a@b>")],
         Outcome::Damaged(1, 8),
     ),
     Case(
         &[(0, 1), (0, 2)],
-        &[Entry(b'm', 8, 1, b"<a@b>"), Entry(b'm', 320, 2, b"<a@b>")],
+        &[
+            Entry(EntryKind::Message, 8, 1, b"<a@b>"),
+            Entry(EntryKind::Message, 320, 2, b"<a@b>"),
+        ],
         &[],
         Outcome::Damaged(0, 320),
     ),
     Case(
         &[(0, 1), (1, 1)],
         ONE,
-        &[Entry(b'm', 8, 1, b"<c@d>")],
+        &[Entry(EntryKind::Message, 8, 1, b"<c@d>")],
         Outcome::Damaged(1, 8),
     ),
     Case(
         &[(0, 1), (1, 2)],
         ONE,
-        &[Entry(b'm', 8, 2, b"<c@d>")],
+        &[Entry(EntryKind::Message, 8, 2, b"<c@d>")],
         Outcome::Joined(2),
     ),
     // A record more than there are entries.

@@ -1,9 +1,9 @@
 //! Appends an entry to an epoch's file, and its record to the map.
-ghost use Rattle.std.specs.Prelude.{◌≡◌, ◌≢◌, ◌≤◌, ◌<◌, ◌+◌, ◌^◌, Err, IsTrue, IfOk, OnOk};
+ghost use Rattle.std.specs.Prelude.{◌≡◌, ◌≢◌, ◌≤◌, ◌<◌, ◌+◌, ◌^◌, Err, IfOk, OnOk};
 ghost use Rattle.arch_base.specs.Counts.{RoseIf};
-ghost use Rattle.disk_model.specs.Disk.{Told, WhereTold, IsAtMostLength, LeavesOnly};
-ghost use Rattle.git_objects.specs.Objects.{is_entry_name};
 ghost use Rattle.arch_base.specs.Moments.{last_moment};
+ghost use Rattle.disk_model.specs.Disk.{Told, WhereTold, IsAtMostLength, LeavesOnly};
+ghost use Rattle.disk_model.specs.Sizes.{record_size};
 ghost use Rattle.epoch_file.specs.Appending.{appended, written_of};
 ghost use Rattle.number_map.specs.Records.{record_bytes};
 ghost use Rattle.epoch_store.specs.Files.{map_name, epoch_name};
@@ -36,12 +36,11 @@ pub fn put_both<D: Disk>(
     number: u32,
 ) -> Result<Written, StoreRefusal>
     requires apart { epoch.file ≢ map.file }
-    requires name { IsTrue (is_entry_name entry.now.name) }
     requires moment { entry.now.moment ≤ last_moment }
     requires epoch_inside { WhereTold (IsAtMostLength epoch.file epoch.place) (D.content disk.old) }
     requires epoch_place { epoch.place < 2 ^ 62 }
     requires map_inside { WhereTold (IsAtMostLength map.file map.place) (D.content disk.old) }
-    requires map_place { map.place + 28 < 2 ^ 63 }
+    requires map_place { map.place + record_size < 2 ^ 63 }
     ensures any_moment { LeavesOnly D.moment D.left_since disk.old disk.new (Appending epoch map (D.content disk.old)) }
     ensures written { IfOk result (λ written. written ≡ written_of epoch.place entry.now) }
     ensures appended { OnOk result (Told (AreAppended epoch (appended epoch.place entry.now) map (record_bytes (line_of number epoch entry.now))) (D.content disk.old) (D.content disk.new)) }

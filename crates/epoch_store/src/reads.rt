@@ -4,6 +4,7 @@ ghost use Rattle.arch_base.specs.Counts.{RoseIf};
 ghost use Rattle.arch_model.specs.Archives.{Archive};
 ghost use Rattle.disk_model.specs.Disk.{Image, Told, WhereTold, Unchanged, LeavesOnly, bytes_of};
 ghost use Rattle.arch_model.specs.declared.text_refusal.TextRefusal.{TextRefusal};
+ghost use Rattle.disk_model.specs.Sizes.{greatest_epoch};
 ghost use Rattle.epoch_store.specs.declared.entries.StoredEntry.{StoredEntry};
 ghost use Rattle.epoch_store.specs.Files.{epoch_file_of};
 ghost use Rattle.epoch_store.specs.Stores.{IsStoreOf};
@@ -66,7 +67,7 @@ impl Store {
 
     /// Returns the name of the file of an epoch.
     pub(crate) fn file_of(&self, epoch: u32) -> FileName
-        requires { epoch ≤ 63 }
+        requires { epoch ≤ greatest_epoch }
         ensures { result ≡ epoch_file_of self.now.root epoch }
     {
         epoch_file(epoch, self.root.epochs[epoch as usize].gen_)
@@ -117,7 +118,7 @@ fn entry_line(entry: &StoredEntry) -> EntryLine
     ensures { result ≡ line_of entry.now }
 {
     EntryLine {
-        name: entry.seen.name,
+        kind: entry.seen.kind,
         number: entry.number,
         epoch: entry.epoch,
         secs: entry.seen.moment,

@@ -2,7 +2,8 @@
 ghost use Rattle.std.specs.Prelude.{◌≡◌, ◌<◌, ℕ, List, not, IfOk, OnOk};
 ghost use Rattle.arch_base.specs.Counts.{IsCaused};
 ghost use Rattle.disk_model.specs.Disk.{Told, WhereTold, LeavesOnly};
-ghost use Rattle.root_slots.specs.Slots.{HasRootSize};
+ghost use Rattle.disk_model.specs.Sizes.{epoch_count};
+ghost use Rattle.root_slots.specs.Slots.{slot_number, HasRootSize};
 ghost use Rattle.root_slots.specs.Spelling.{spelling};
 ghost use Rattle.root_slots.specs.Valid.{IsRoot};
 ghost use Rattle.epoch_store.specs.Settling.{Rests, StaysCurrent, TellsAs, IsReadied, ToSweep, OnDisk, epoch_part_of, named_parts_of, names_file, has_place};
@@ -12,31 +13,31 @@ ghost use Rattle.epoch_store.specs.Files.{StandsFor};
 
 use crate::putting::{epoch_file, map_file};
 use disk_files::{FilePart, cut_files, remove_files};
-use disk_model::{Disk, DiskFault, FileKind, FileName};
-use root_slots::{Place, Root, fill, is_open};
+use disk_model::{Disk, DiskFault, EPOCHS, FileKind, FileName};
+use root_slots::{Place, Root, Slot, fill, is_open};
 use std::alloc::{AllocError, Global};
 
 /// Makes the slot that isn't the current one ready for the next root.
 ///
 /// If its gate is shut, writes the current root to it and leaves the gate shut.
-pub(crate) fn ready_other<D: Disk>(disk: &mut D, slot: u8, root: &Root) -> Result<(), DiskFault>
-    requires slot { slot < 2 }
+pub(crate) fn ready_other<D: Disk>(disk: &mut D, slot: Slot, root: &Root) -> Result<(), DiskFault>
     requires size { WhereTold HasRootSize (D.content disk.old) }
     requires root { IsRoot root.now }
-    ensures any_moment { Rests slot (spelling root.now) (D.content disk.old) → LeavesOnly D.moment D.left_since disk.old disk.new (StaysCurrent slot (spelling root.now) (D.content disk.old)) }
-    ensures done { Rests slot (spelling root.now) (D.content disk.old) → OnOk result (Told (IsReadied slot (spelling root.now)) (D.content disk.old) (D.content disk.new)) }
+    ensures any_moment { Rests (slot_number slot) (spelling root.now) (D.content disk.old) → LeavesOnly D.moment D.left_since disk.old disk.new (StaysCurrent (slot_number slot) (spelling root.now) (D.content disk.old)) }
+    ensures done { Rests (slot_number slot) (spelling root.now) (D.content disk.old) → OnOk result (Told (IsReadied (slot_number slot) (spelling root.now)) (D.content disk.old) (D.content disk.new)) }
     ensures told { OnOk result (TellsAs (D.content disk.old) (D.content disk.new)) }
     ensures cause { IsCaused (D.faults disk.old) (D.faults disk.new) result }
 {
-    if is_open(disk, 1 - slot)? {
+    let other = slot.other();
+    if is_open(disk, other)? {
         return Ok(());
     }
-    fill(disk, 1 - slot, root)
+    fill(disk, other, root)
 }
 
 /// Returns the part of an epoch's file that a root names.
 fn epoch_part(root: &Root, epoch: usize) -> FilePart
-    requires { epoch < 64 }
+    requires { epoch < epoch_count }
     ensures { result ≡ epoch_part_of root.now epoch }
 {
     let place = root.epochs[epoch];
@@ -55,7 +56,7 @@ pub(crate) fn named_parts(alloc: Global, root: &Root) -> Result<Vec<FilePart>, A
         file: map_file(root.map.gen_),
         length: root.map.length,
     })?;
-    for epoch in 0..64 {
+    for epoch in 0..EPOCHS as usize {
         parts.push(epoch_part(root, epoch))?;
     }
     Ok(parts)
@@ -67,19 +68,18 @@ pub(crate) fn named_parts(alloc: Global, root: &Root) -> Result<Vec<FilePart>, A
 /// removes all other files, and syncs.
 pub(crate) fn sweep<D: Disk>(
     disk: &mut D,
-    slot: u8,
+    slot: Slot,
     root: &Root,
     parts: &[FilePart],
     others: &[FileName],
 ) -> Result<(), DiskFault>
-    requires slot { slot < 2 }
     requires size { WhereTold HasRootSize (D.content disk.old) }
     requires root { IsRoot root.now }
     requires parts { parts.now ≡ named_parts_of root.now }
     // At each moment a crash leaves files that stand for the same map and epochs.
-    ensures any_moment { (map : List ℕ) (epochs : ℕ → List ℕ) → ToSweep root.now slot map epochs others.now (D.content disk.old) → LeavesOnly D.moment D.left_since disk.old disk.new (StandsFor root.now map epochs) }
+    ensures any_moment { (map : List ℕ) (epochs : ℕ → List ℕ) → ToSweep root.now (slot_number slot) map epochs others.now (D.content disk.old) → LeavesOnly D.moment D.left_since disk.old disk.new (StandsFor root.now map epochs) }
     // After `Ok` the disk is exactly theirs.
-    ensures done { (map : List ℕ) (epochs : ℕ → List ℕ) → ToSweep root.now slot map epochs others.now (D.content disk.old) → OnOk result (OnDisk root.now slot map epochs (D.content disk.new)) }
+    ensures done { (map : List ℕ) (epochs : ℕ → List ℕ) → ToSweep root.now (slot_number slot) map epochs others.now (D.content disk.old) → OnOk result (OnDisk root.now (slot_number slot) map epochs (D.content disk.new)) }
     ensures told { OnOk result (TellsAs (D.content disk.old) (D.content disk.new)) }
     ensures cause { IsCaused (D.faults disk.old) (D.faults disk.new) result }
 {
@@ -100,7 +100,7 @@ fn is_named(root: &Root, name: FileName) -> bool
         FileKind::Map => name.number == 0 && name.gen_ == root.map.gen_,
         FileKind::Cache => name.number == 0 && is_place(root.cache, name.gen_),
         FileKind::Epoch => {
-            name.number < 64 && is_place(root.epochs[name.number as usize], name.gen_)
+            name.number < EPOCHS && is_place(root.epochs[name.number as usize], name.gen_)
         }
     }
 }

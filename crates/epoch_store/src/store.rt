@@ -2,6 +2,7 @@
 ghost use Rattle.std.specs.Prelude.{◌≡◌, ◌≤◌, ◌<◌, ◌+◌, ◌-◌, ◌^◌, ◌++◌, ◌∷◌, [], ℕ, List, Err, Some, IsSome, IsTrue, IfOk, OnOk, OnErr, ◌==◌, if◌then◌else◌, decimal, min, length};
 ghost use Rattle.arch_base.specs.Counts.{RoseIf};
 ghost use Rattle.disk_model.specs.Disk.{WhereTold, LeavesOnly};
+ghost use Rattle.disk_model.specs.Sizes.{greatest_epoch, epoch_count};
 ghost use Rattle.mail_reader.specs.Ids.{own_id as own_id_in};
 ghost use Rattle.mail_reader.specs.Content.{content_id_of};
 ghost use Rattle.git_objects.specs.Objects.{blob_id_of};
@@ -21,17 +22,15 @@ use crate::next::{End, NextPlace};
 use crate::putting::{Part, epoch_file, map_file, put_both};
 use crate::refusal::InitRefusal;
 use arch_base::{Bytes, Config, NoMemory, ObjectId};
-use disk_model::{Disk, FileKind, FileName};
+use disk_model::{Disk, FileKind, FileName, LAST_EPOCH, RECORD_SIZE};
 use epoch_file::{NewEntry, Seen, StoreRefusal, Written};
+use git_objects::EntryKind;
 use itoa::Buffer;
 use mail_reader::{content_id, own_id};
 use number_map::Record;
-use root_slots::{Place, Root, commit};
+use root_slots::{Place, Root, Slot, commit};
 use std::alloc::Global;
 use std::marker::Model;
-
-/// The last epoch, which grows without end.
-const LAST_EPOCH: u32 = 63;
 
 /// The length from which on a file takes no further entry. The result is then `NoMemory`.
 const MOST: u64 = 1 << 62;
@@ -42,20 +41,20 @@ const MOST: u64 = 1 << 62;
 #[derive(Drop)]
 pub struct Store {
     pub(crate) root: Root,
-    pub(crate) slot: u8,
+    pub(crate) slot: Slot,
     pub(crate) entries: Vec<StoredEntry>,
 }
 
 impl Model for Store {
-    ghost use Rattle.std.specs.Prelude.{◌<◌};
+    ghost use Rattle.root_slots.specs.Slots.{slot_number};
     ghost use Rattle.root_slots.specs.Valid.{IsRoot};
     ghost use Rattle.epoch_store.specs.Stores.{View, InEpochs};
 
     ghost Value = { View };
 
-    ghost view = { λ s. record { root = s.root; slot = s.slot; entries = s.entries.items } };
+    ghost view = { λ s. record { root = s.root; slot = slot_number s.slot; entries = s.entries.items } };
 
-    ghost invariant = { λ s. (s.slot < 2) × IsRoot s.root × InEpochs s.entries.items };
+    ghost invariant = { λ s. IsRoot s.root × InEpochs s.entries.items };
 }
 
 impl Store {
@@ -86,14 +85,14 @@ impl Store {
         make(disk, names.as_slice(), &root)?;
         Ok(Store {
             root,
-            slot: 0,
+            slot: Slot::First,
             entries: Vec::new(alloc),
         })
     }
 
     /// Returns the last epoch that has an entry, and its last commit.
     fn end(&self) -> End
-        ensures small { result.epoch ≤ 63 }
+        ensures small { result.epoch ≤ greatest_epoch }
         ensures end { (a : Archive) → Keeps self.now a → IsEnd a result }
     {
         match self.entries.last() {
@@ -110,7 +109,7 @@ impl Store {
 
     /// Returns where the next entry is written.
     fn next_place(&self) -> NextPlace
-        ensures small { result.epoch ≤ 63 }
+        ensures small { result.epoch ≤ greatest_epoch }
         ensures place { result ≡ place_of self.now.root result.epoch result.parent }
         ensures next { (a : Archive) → Keeps self.now a → IsNextPlace self.now.root a (next_sequence self.now.root.sequence) result }
     {
@@ -124,7 +123,7 @@ impl Store {
 
     /// Returns where the next entry of an epoch with this last commit is written.
     fn place_in(&self, epoch: u32, parent: Option<ObjectId>) -> NextPlace
-        requires { epoch ≤ 63 }
+        requires { epoch ≤ greatest_epoch }
         ensures { result ≡ place_of self.now.root epoch parent }
     {
         let place = self.root.epochs[epoch as usize];
@@ -143,18 +142,18 @@ impl Store {
 
     /// Returns the root after one more entry; the file of the entry's epoch then ends at `end`.
     fn next_root(&self, place: &NextPlace, end: u64) -> Root
-        requires small { place.now.epoch ≤ 63 }
+        requires small { place.now.epoch ≤ greatest_epoch }
         requires place { place.now ≡ place_of self.now.root place.now.epoch place.now.parent }
         requires left { self.now.root.next ≤ self.now.root.config.max }
         requires some { 0 < end }
         ensures root { result ≡ root_after self.now.root place.now end }
         ensures valid { IsRoot result }
-        ensures count { length self.now.root.epochs ≡ 64 }
+        ensures count { length self.now.root.epochs ≡ epoch_count }
     {
         let mut root = self.root.copy();
         root.sequence = root.sequence.saturating_add(1);
         root.next += 1;
-        root.map.length += 28;
+        root.map.length += RECORD_SIZE as u64;
         root.epochs[place.epoch as usize] = Place {
             gen_: place.gen_,
             length: end,
@@ -170,7 +169,7 @@ impl Store {
         place: &NextPlace,
         entry: &NewEntry<'_>,
     ) -> Result<(Root, Written), StoreRefusal>
-        requires small { place.now.epoch ≤ 63 }
+        requires small { place.now.epoch ≤ greatest_epoch }
         requires place { place.now ≡ place_of self.now.root place.now.epoch place.now.parent }
         requires short { place.now.length < 2 ^ 62 }
         requires left { self.now.root.next ≤ self.now.root.config.max }
@@ -200,7 +199,8 @@ impl Store {
         };
         let written = put_both(alloc, disk, epoch, entry, map, self.root.next)?;
         let root = self.next_root(place, written.end);
-        commit(disk, 1 - self.slot, &root)?;
+        let slot = self.slot.other();
+        commit(disk, slot, &root)?;
         Ok((root, written))
     }
 
@@ -229,7 +229,7 @@ impl Store {
             number: self.root.next,
             epoch: place.epoch,
             seen: Seen {
-                name: entry.name,
+                kind: entry.kind,
                 at,
                 text_at: at + blob_front_len(entry.text.len()),
                 size: entry.text.len() as u64,
@@ -280,7 +280,7 @@ impl Store {
             return Err(StoreRefusal::NoMemory);
         };
         let entry = NewEntry {
-            name: b'm',
+            kind: EntryKind::Message,
             text,
             moment,
             parent: place.parent,
@@ -290,7 +290,7 @@ impl Store {
         // There is room for it.
         let _ = self.entries.push(stored);
         self.root = root;
-        self.slot = 1 - self.slot;
+        self.slot = self.slot.other();
         Ok(())
     }
 }

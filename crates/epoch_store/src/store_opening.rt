@@ -2,10 +2,11 @@
 ghost use Rattle.std.specs.Prelude.{◌≡◌, ◌<◌, ℕ, List, Option, Err, IfOk, OnOk};
 ghost use Rattle.arch_base.specs.Counts.{Rose, RoseIf};
 ghost use Rattle.disk_model.specs.Disk.{Image, Told, WhereTold, Unchanged, LeavesOnly};
+ghost use Rattle.disk_model.specs.Sizes.{epoch_count};
 ghost use Rattle.arch_model.specs.Archives.{Archive};
 ghost use Rattle.arch_model.specs.declared.opening.OpenRefusal.{OpenRefusal};
 ghost use Rattle.epoch_file.specs.Runs.{OnlyReads};
-ghost use Rattle.root_slots.specs.Slots.{HasRootSize};
+ghost use Rattle.root_slots.specs.Slots.{slot_number, HasRootSize};
 ghost use Rattle.root_slots.specs.Valid.{IsRoot};
 ghost use Rattle.epoch_store.specs.Files.{as_read, StandsFor};
 ghost use Rattle.epoch_store.specs.Finding.{Finds};
@@ -22,16 +23,15 @@ use crate::store::Store;
 use arch_model::OpenRefusal;
 use disk_files::file_names;
 use disk_model::{Disk, FileName, WalkRefusal};
-use root_slots::{Root, law_of_spellings};
+use root_slots::{Root, Slot, law_of_spellings};
 use std::alloc::Global;
 
 /// Syncs, and reads the archive on a disk. A crash leaves what a crash before might have left.
 fn find_synced<D: Disk>(alloc: Global, disk: &mut D) -> Result<Found, OpenRefusal>
     ensures found { WhereTold (λ k. Finds (as_read k) result) (D.content disk.old) }
     ensures synced { SyncsBy result (D.content disk.old) (D.content disk.new) }
-    ensures slot { IfOk result (λ found. found.slot < 2) }
     ensures root { IfOk result (λ found. IsRoot found.root) }
-    ensures epochs { IfOk result (λ found. AreBefore 64 found.entries.items) }
+    ensures epochs { IfOk result (λ found. AreBefore epoch_count found.entries.items) }
     ensures any_moment { LeavesOnly D.moment D.left_since disk.old disk.new (Image (D.content disk.old)) }
     ensures cause { RoseIf (result ≡ Err OpenRefusal.DiskFault) (D.faults disk.old) (D.faults disk.new) }
 {
@@ -61,12 +61,11 @@ fn other_files<D: Disk>(
 }
 
 /// Settles the disk of an archive that was found. `NoMemory` leaves the disk unchanged.
-fn settle<D: Disk>(alloc: Global, disk: &mut D, slot: u8, root: &Root) -> Result<(), OpenRefusal>
-    requires slot { slot < 2 }
+fn settle<D: Disk>(alloc: Global, disk: &mut D, slot: Slot, root: &Root) -> Result<(), OpenRefusal>
     requires size { WhereTold HasRootSize (D.content disk.old) }
     requires root { IsRoot root.now }
-    ensures any_moment { (map : List ℕ) (epochs : ℕ → List ℕ) → FoundOn root.now slot map epochs (D.content disk.old) → LeavesOnly D.moment D.left_since disk.old disk.new (StandsFor root.now map epochs) }
-    ensures done { (map : List ℕ) (epochs : ℕ → List ℕ) → FoundOn root.now slot map epochs (D.content disk.old) → OnOk result (OnDisk root.now slot map epochs (D.content disk.new)) }
+    ensures any_moment { (map : List ℕ) (epochs : ℕ → List ℕ) → FoundOn root.now (slot_number slot) map epochs (D.content disk.old) → LeavesOnly D.moment D.left_since disk.old disk.new (StandsFor root.now map epochs) }
+    ensures done { (map : List ℕ) (epochs : ℕ → List ℕ) → FoundOn root.now (slot_number slot) map epochs (D.content disk.old) → OnOk result (OnDisk root.now (slot_number slot) map epochs (D.content disk.new)) }
     ensures told { OnOk result (TellsAs (D.content disk.old) (D.content disk.new)) }
     ensures well { OpensWell result }
     ensures unchanged { result ≡ Err OpenRefusal.NoMemory → Told Unchanged (D.content disk.old) (D.content disk.new) }

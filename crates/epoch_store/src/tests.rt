@@ -11,7 +11,7 @@ use arch_base::{Bytes, Config, Name, NoMemory, Numbers, id_of_hex};
 use arch_model::{Command, TextRefusal};
 use disk_model::{Disk, DiskFault, FileKind, FileName, FuseDisk, MemDisk};
 use epoch_file::StoreRefusal;
-use git_objects::blob_id;
+use git_objects::{EntryKind, blob_id};
 use mail_reader::{is_stored, own_id};
 use mem_archive::MemArchive;
 use std::alloc::Global;
@@ -192,7 +192,7 @@ fn has_second_entry(store: &Store) -> bool {
     let blob = Some(line.blob) == id_of_hex(b"71bad95e975640281da17cb561681235ca4c1f42");
     let commit = Some(line.commit) == id_of_hex(b"8465c6e7dc37ed0249ed8b1434a73ffd13973fad");
     let place = store.place(1) == Some((epoch(0, 2), 316));
-    let named = line.name == b'm' && line.number == 2 && line.epoch == 0;
+    let named = line.kind == EntryKind::Message && line.number == 2 && line.epoch == 0;
     let sized = line.secs == MOMENT && line.size == 103;
     blob && commit && place && named && sized
 }

@@ -47,5 +47,5 @@ pub returns-clause-committed : goal.returns-clause-committed
 returns-clause-committed g c =
     on_ok_weaker c.raise.result (first_committed (spelling c.args.root.now) (g.D.Disk.content c.args.disk.now) (g.D.Disk.content c.fill.new.disk) (g.D.Disk.content c.raise.new.disk) c.in_ok-fill.ensures.written) c.raise.ensures.written
 
-pub raise-requires-clause-size : goal.raise-requires-clause-size
-raise-requires-clause-size g c = size_filled (spelling c.args.root.now) c.fill.ensures.whole (g.D.Disk.content c.args.disk.now) (g.D.Disk.content c.fill.new.disk) c.requires.size c.in_ok-fill.ensures.written
+pub raise-requires : goal.raise-requires
+raise-requires g c = record { size = size_filled (spelling c.args.root.now) c.fill.ensures.whole (g.D.Disk.content c.args.disk.now) (g.D.Disk.content c.fill.new.disk) c.requires.size c.in_ok-fill.ensures.written }

@@ -1,10 +1,10 @@
 -- The gate is read, and the slot is filled if it is shut.
-use Rattle.std.proofs.Common.{◌-◌, Bool, false, subst}
+use Rattle.std.proofs.Common.{◌-◌, ℕ, Bool, false, subst}
 use Rattle.std.proofs.lemmas.Result.{on_ok_weaker}
 use Rattle.disk_model.specs.Disk.{WhereTold, Told}
 use Rattle.disk_model.specs.Synced.{IsWritten}
 use Rattle.disk_model.specs.Moments.{joined}
-use Rattle.root_slots.specs.Slots.{IsGateOpen}
+use Rattle.root_slots.specs.Slots.{slot_number, IsGateOpen}
 use Rattle.root_slots.specs.Spelling.{spelling}
 use Rattle.epoch_store.specs.Settling.{StaysCurrent}
 use Rattle.epoch_store.proofs.Readying.{current_now, filling, readied_filled, tells_both}
@@ -17,9 +17,11 @@ returns-clause-any_moment g c = λ rests.
     let k0 = g.D.Disk.content disk in
     let k1 = g.D.Disk.content mid in
     let body = spelling c.args.root.now in
-    let slot = c.args.slot in
-    let shut : WhereTold (IsGateOpen (1 - slot) false) k0 = subst (λ (b : Bool). WhereTold (IsGateOpen (1 - slot) b) k0) c.if-branch.false c.in_ok-is_open.ensures.gate in
-    joined g.D.Disk.moment g.D.Disk.left_since disk mid c.fill.new.disk _ _ (StaysCurrent slot body k0) c.is_open.ensures.any_moment c.fill.ensures.any_moment
+    let slot = slot_number c.args.slot in
+    let other = slot_number c.other-other.result in
+    let here : WhereTold (IsGateOpen other false) k0 = subst (λ (b : Bool). WhereTold (IsGateOpen other b) k0) c.if-branch.false c.in_ok-is_open.ensures.gate in
+    let shut : WhereTold (IsGateOpen (1 - slot) false) k0 = subst (λ (s : ℕ). WhereTold (IsGateOpen s false) k0) c.other-other.ensures here in
+    joined g.D.Disk.moment g.D.Disk.left_since disk mid c.fill.new.disk _ _ (StaysCurrent slot body k0) c.is_open.ensures.any_moment (rw c.other-other.ensures at c.fill.ensures.any_moment)
     (λ image. current_now slot body k0 image rests)
     (λ image. filling slot body k0 k1 image (g.met.D.Disk.reads_fit disk) (g.met.D.Disk.reads_fit mid) rests c.is_open.ensures.same shut c.requires.size)
 
@@ -31,9 +33,11 @@ returns-clause-done g c = λ rests.
     let k1 = g.D.Disk.content mid in
     let k2 = g.D.Disk.content c.fill.new.disk in
     let body = spelling c.args.root.now in
-    let slot = c.args.slot in
-    let shut : WhereTold (IsGateOpen (1 - slot) false) k0 = subst (λ (b : Bool). WhereTold (IsGateOpen (1 - slot) b) k0) c.if-branch.false c.in_ok-is_open.ensures.gate in
-    on_ok_weaker c.fill.result (readied_filled slot body k0 k1 k2 c.fill.ensures.whole (g.met.D.Disk.reads_fit mid) (g.met.D.Disk.reads_fit c.fill.new.disk) rests c.is_open.ensures.same shut) c.fill.ensures.written
+    let slot = slot_number c.args.slot in
+    let other = slot_number c.other-other.result in
+    let here : WhereTold (IsGateOpen other false) k0 = subst (λ (b : Bool). WhereTold (IsGateOpen other b) k0) c.if-branch.false c.in_ok-is_open.ensures.gate in
+    let shut : WhereTold (IsGateOpen (1 - slot) false) k0 = subst (λ (s : ℕ). WhereTold (IsGateOpen s false) k0) c.other-other.ensures here in
+    on_ok_weaker c.fill.result (readied_filled slot body k0 k1 k2 c.fill.ensures.whole (g.met.D.Disk.reads_fit mid) (g.met.D.Disk.reads_fit c.fill.new.disk) rests c.is_open.ensures.same shut) (rw c.other-other.ensures at c.fill.ensures.written)
 
 pub returns-clause-told : goal.returns-clause-told
 returns-clause-told g c =

@@ -5,6 +5,7 @@ use Rattle.disk_model.specs.Disk.{Told}
 use Rattle.disk_model.specs.Laws.{sync_image}
 use Rattle.disk_files.specs.declared.cutting.FilePart.{FilePart}
 use Rattle.disk_files.specs.Cutting.{AreCut}
+use Rattle.root_slots.specs.Slots.{slot_number}
 use Rattle.epoch_store.proofs.SweepSteps.{to_sweep_rests, at_rest_then, readying_leaves, cutting_leaves, removing_leaves, syncing_leaves}
 use Rattle.epoch_store.proofs.settling.sweep.Goals as goal
 
@@ -14,7 +15,7 @@ returns-in_err-ready_other-clause-any_moment g c = λ map epochs todo.
     let d1 = c.ready_other.new.disk in
     let k0 = g.D.Disk.content disk in
     let root = c.args.root.now in
-    let slot = c.args.slot in
+    let slot = slot_number c.args.slot in
     let others = c.args.others.now in
     let readies = c.ready_other.ensures.any_moment (to_sweep_rests root slot map epochs others k0 todo) in
     readying_leaves root slot map epochs others g.D.Disk.moment g.D.Disk.left_since k0 todo disk d1 readies
@@ -25,7 +26,7 @@ returns-in_err-cut_files-clause-any_moment g c = λ map epochs todo.
     let d1 = c.ready_other.new.disk in
     let k0 = g.D.Disk.content disk in
     let root = c.args.root.now in
-    let slot = c.args.slot in
+    let slot = slot_number c.args.slot in
     let others = c.args.others.now in
     let readies = c.ready_other.ensures.any_moment (to_sweep_rests root slot map epochs others k0 todo) in
     let d2 = c.cut_files.new.disk in
@@ -39,7 +40,7 @@ returns-in_err-remove_files-clause-any_moment g c = λ map epochs todo.
     let d1 = c.ready_other.new.disk in
     let k0 = g.D.Disk.content disk in
     let root = c.args.root.now in
-    let slot = c.args.slot in
+    let slot = slot_number c.args.slot in
     let others = c.args.others.now in
     let readies = c.ready_other.ensures.any_moment (to_sweep_rests root slot map epochs others k0 todo) in
     let d2 = c.cut_files.new.disk in
@@ -55,7 +56,7 @@ returns-clause-any_moment g c = λ map epochs todo.
     let d1 = c.ready_other.new.disk in
     let k0 = g.D.Disk.content disk in
     let root = c.args.root.now in
-    let slot = c.args.slot in
+    let slot = slot_number c.args.slot in
     let others = c.args.others.now in
     let readies = c.ready_other.ensures.any_moment (to_sweep_rests root slot map epochs others k0 todo) in
     let d2 = c.cut_files.new.disk in
@@ -72,7 +73,7 @@ returns-clause-any_moment g c = λ map epochs todo.
 pub returns-clause-done : goal.returns-clause-done
 returns-clause-done g c = λ map epochs todo.
     let root = c.args.root.now in
-    let slot = c.args.slot in
+    let slot = slot_number c.args.slot in
     let others = c.args.others.now in
     let k0 = g.D.Disk.content c.args.disk.now in
     let k1 = g.D.Disk.content c.ready_other.new.disk in

@@ -18,6 +18,6 @@ returns c =
     let size : c.len.result ≡ length c.self.inside.entries.items = search rules in
     let v : Joined = record { records = c.self.inside.records.items; entries = c.self.inside.entries.items } in
     subst (λ (w : Joined). IsWanted w c.args.epoch c.args.seen.now c.in_ok-record.record.now.number) c.self.view_is
-    (is_wanted v c.args.epoch c.args.seen.now c.in_ok-record.record.now c.if-seen-ne-MESSAGE.false
+    (is_wanted v c.args.epoch c.args.seen.now c.in_ok-record.record.now c.in-Message.is
     (found_at v c.deref.result.now c.len.result c.in_ok-record.record.now c.deref.ensures.value size c.in_ok-record.ensures.lookup.3.0 c.in_ok-record.ensures.lookup.1)
     c.if-record-epoch.false (blobs_same c.in_ok-record.record.now.blob c.args.seen.now.blob c.ne.result c.ne.ensures c.if-ne.false))

@@ -3,6 +3,8 @@ use Rattle.std.proofs.Common.{◌≡◌, ◌∙◌, ◌-◌, ◌++◌, ◌∷◌
 use Rattle.disk_model.specs.Disk.{LeavesOnly}
 use Rattle.arch_model.specs.Archives.{with_entry}
 use Rattle.arch_model.specs.Delivery.{new_epoch}
+use Rattle.arch_model.specs.Epochs.{message_name}
+use Rattle.root_slots.specs.Slots.{slot_number}
 use Rattle.epoch_store.specs.declared.entries.StoredEntry.{StoredEntry}
 use Rattle.epoch_file.specs.declared.entry.NewEntry.{NewEntry}
 use Rattle.epoch_store.specs.Stores.{View, InEpochs, stored_at, IsNextPlace, next_sequence, IsStoreOf, RecoversEither}
@@ -32,9 +34,9 @@ returns-in_err-root-clause-any_moment g c = λ a store room.
     let p = c.next_place-place.result in
     let text = c.args.text.now in
     let moment = c.args.moment in
-    let e : NewEntry = record { name = 109; text = c.args.text; moment = moment; parent = p.parent } in
+    let e : NewEntry = record { kind = message_name; text = c.args.text; moment = moment; parent = p.parent } in
     let k0 = g.D.Disk.content c.args.disk.now in
-    let has = has_room v a p e k0 c.self.inside.root c.self.inside.slot c.self.inside.entries.items c.reserve.new.self.items c.self.view_is c.reserve.ensures.items store room c.requires.accepts (c.next_place-place.ensures.next a) in
+    let has = has_room v a p e k0 c.self.inside.root (slot_number c.self.inside.slot) c.self.inside.entries.items c.reserve.new.self.items c.self.view_is c.reserve.ensures.items store room c.requires.accepts (c.next_place-place.ensures.next a) in
     subst (λ (n : ℕ). LeavesOnly g.D.Disk.moment g.D.Disk.left_since c.args.disk.now c.write_entry.new.disk (RecoversEither a (with_entry a n text moment))) has.next.epoch (c.write_entry.ensures.any_moment a has.owns has.goes)
 
 pub returns-clause-any_moment : goal.returns-clause-any_moment
@@ -43,9 +45,9 @@ returns-clause-any_moment g c = λ a store room.
     let p = c.next_place-place.result in
     let text = c.args.text.now in
     let moment = c.args.moment in
-    let e : NewEntry = record { name = 109; text = c.args.text; moment = moment; parent = p.parent } in
+    let e : NewEntry = record { kind = message_name; text = c.args.text; moment = moment; parent = p.parent } in
     let k0 = g.D.Disk.content c.args.disk.now in
-    let has = has_room v a p e k0 c.self.inside.root c.self.inside.slot c.self.inside.entries.items c.reserve.new.self.items c.self.view_is c.reserve.ensures.items store room c.requires.accepts (c.next_place-place.ensures.next a) in
+    let has = has_room v a p e k0 c.self.inside.root (slot_number c.self.inside.slot) c.self.inside.entries.items c.reserve.new.self.items c.self.view_is c.reserve.ensures.items store room c.requires.accepts (c.next_place-place.ensures.next a) in
     subst (λ (n : ℕ). LeavesOnly g.D.Disk.moment g.D.Disk.left_since c.args.disk.now c.write_entry.new.disk (RecoversEither a (with_entry a n text moment))) has.next.epoch (c.write_entry.ensures.any_moment a has.owns has.goes)
 
 pub returns-clause-done : goal.returns-clause-done
@@ -54,10 +56,10 @@ returns-clause-done g c = λ a store room.
     let p = c.next_place-place.result in
     let text = c.args.text.now in
     let moment = c.args.moment in
-    let e : NewEntry = record { name = 109; text = c.args.text; moment = moment; parent = p.parent } in
+    let e : NewEntry = record { kind = message_name; text = c.args.text; moment = moment; parent = p.parent } in
     let k0 = g.D.Disk.content c.args.disk.now in
-    let has = has_room v a p e k0 c.self.inside.root c.self.inside.slot c.self.inside.entries.items c.reserve.new.self.items c.self.view_is c.reserve.ensures.items store room c.requires.accepts (c.next_place-place.ensures.next a) in
-    let w : View = record { root = c.self.inside.root; slot = c.self.inside.slot; entries = c.reserve.new.self.items } in
+    let has = has_room v a p e k0 c.self.inside.root (slot_number c.self.inside.slot) c.self.inside.entries.items c.reserve.new.self.items c.self.view_is c.reserve.ensures.items store room c.requires.accepts (c.next_place-place.ensures.next a) in
+    let w : View = record { root = c.self.inside.root; slot = slot_number c.self.inside.slot; entries = c.reserve.new.self.items } in
     let root = c.in_ok-root.root in
     let stored = c.new_entry-stored.result in
     let kept = c.new_entry-stored.ensures.stored a (store_keeps w a k0 has.owns) (subst (λ (u : View). IsNextPlace u.root a (next_sequence u.root.sequence) p) has.same has.next) in
@@ -67,9 +69,10 @@ returns-clause-done g c = λ a store room.
     let all : entries ≡ c.push.new.self.items = sym (more ∙ ap (λ (s : StoredEntry). w.entries ++ s ∷ []) kept) in
     let k3 = g.D.Disk.content c.write_entry.new.disk in
     let b = with_entry a p.epoch text moment in
-    let made : IsStoreOf (record { root = root; slot = 1 - c.self.inside.slot; entries = c.push.new.self.items }) b k3 =
-    subst (λ (es : List StoredEntry). IsStoreOf (record { root = root; slot = 1 - c.self.inside.slot; entries = es }) b k3) all (c.in_ok-root.ensures.done a has.owns has.goes) in
-    subst (λ (n : ℕ). IsStoreOf (record { root = root; slot = 1 - c.self.inside.slot; entries = c.push.new.self.items }) (with_entry a n text moment) k3) has.next.epoch made
+    let made : IsStoreOf (record { root = root; slot = 1 - slot_number c.self.inside.slot; entries = c.push.new.self.items }) b k3 =
+    subst (λ (es : List StoredEntry). IsStoreOf (record { root = root; slot = 1 - slot_number c.self.inside.slot; entries = es }) b k3) all (c.in_ok-root.ensures.done a has.owns has.goes) in
+    subst (λ (s : ℕ). IsStoreOf (record { root = root; slot = s; entries = c.push.new.self.items }) (with_entry a (new_epoch a) text moment) k3) (sym c.other-self-inside.ensures)
+    (subst (λ (n : ℕ). IsStoreOf (record { root = root; slot = 1 - slot_number c.self.inside.slot; entries = c.push.new.self.items }) (with_entry a n text moment) k3) has.next.epoch made)
 
 pub invariant_of-self-4 : goal.invariant_of-self-4
 invariant_of-self-4 g c =
@@ -80,4 +83,4 @@ invariant_of-self-4 g c =
     let epoch_is = c.new_entry-stored.ensures.epoch in
     let small = c.next_place-place.ensures.small in
     let low : stored.epoch ≤ 63 = omega (arith, epoch_is, small) in
-    (omega arith, c.in_ok-root.ensures.valid, subst InEpochs (sym more) (in_epochs_more c.self.inside.entries.items stored c.self.invariant.2 low))
+    (c.in_ok-root.ensures.valid, subst InEpochs (sym more) (in_epochs_more c.self.inside.entries.items stored c.self.invariant.1 low))

@@ -1,13 +1,14 @@
 -- The entry's text, and another text.
 use Rattle.std.proofs.Common.{◌≡◌, ◌≢◌, ◌∙◌, ◌++◌, ℕ, List, sym, ap, rules}
 use Rattle.git_objects.specs.Objects.{blob_id_of}
+use Rattle.root_slots.specs.Slots.{slot_number}
 use Rattle.epoch_store.proofs.Texts.{here_is, one_here, tells_damage, finds_damage, gives_text, finds_text, right_text_in}
 use Rattle.epoch_store.proofs.store.Store.text.Goals as goal
 
 pub returns-then-ne-clause-text : goal.returns-then-ne-clause-text
 returns-then-ne-clause-text g c = λ s is.
     let e = c.index-entry.result.now in
-    let here = here_is c.args.self.now c.self.inside.root c.self.inside.slot c.self.inside.entries.items c.args.index e c.self.view_is c.index-entry.ensures c.requires.there in
+    let here = here_is c.args.self.now c.self.inside.root (slot_number c.self.inside.slot) c.self.inside.entries.items c.args.index e c.self.view_is c.index-entry.ensures c.requires.there in
     let text = c.in_ok-text.text.items in
     let file = c.file_of-file.result in
     let k = g.D.Disk.content c.args.disk.now in
@@ -19,7 +20,7 @@ returns-then-ne-clause-text g c = λ s is.
 pub returns-then-ne-clause-found : goal.returns-then-ne-clause-found
 returns-then-ne-clause-found g c = λ s is.
     let e = c.index-entry.result.now in
-    let here = here_is c.args.self.now c.self.inside.root c.self.inside.slot c.self.inside.entries.items c.args.index e c.self.view_is c.index-entry.ensures c.requires.there in
+    let here = here_is c.args.self.now c.self.inside.root (slot_number c.self.inside.slot) c.self.inside.entries.items c.args.index e c.self.view_is c.index-entry.ensures c.requires.there in
     let text = c.in_ok-text.text.items in
     let file = c.file_of-file.result in
     let k = g.D.Disk.content c.args.disk.now in
@@ -30,7 +31,7 @@ returns-then-ne-clause-found g c = λ s is.
 pub returns-then-ne-clause-archive : goal.returns-then-ne-clause-archive
 returns-then-ne-clause-archive g c = λ a own.
     let e = c.index-entry.result.now in
-    let here = here_is c.args.self.now c.self.inside.root c.self.inside.slot c.self.inside.entries.items c.args.index e c.self.view_is c.index-entry.ensures c.requires.there in
+    let here = here_is c.args.self.now c.self.inside.root (slot_number c.self.inside.slot) c.self.inside.entries.items c.args.index e c.self.view_is c.index-entry.ensures c.requires.there in
     let text = c.in_ok-text.text.items in
     let file = c.file_of-file.result in
     let k = g.D.Disk.content c.args.disk.now in
@@ -43,7 +44,7 @@ returns-then-ne-clause-archive g c = λ a own.
 pub returns-clause-text : goal.returns-clause-text
 returns-clause-text g c = λ s is.
     let e = c.index-entry.result.now in
-    let here = here_is c.args.self.now c.self.inside.root c.self.inside.slot c.self.inside.entries.items c.args.index e c.self.view_is c.index-entry.ensures c.requires.there in
+    let here = here_is c.args.self.now c.self.inside.root (slot_number c.self.inside.slot) c.self.inside.entries.items c.args.index e c.self.view_is c.index-entry.ensures c.requires.there in
     let text = c.in_ok-text.text.items in
     let file = c.file_of-file.result in
     let k = g.D.Disk.content c.args.disk.now in
@@ -57,7 +58,7 @@ returns-clause-text g c = λ s is.
 pub returns-clause-found : goal.returns-clause-found
 returns-clause-found g c = λ s is.
     let e = c.index-entry.result.now in
-    let here = here_is c.args.self.now c.self.inside.root c.self.inside.slot c.self.inside.entries.items c.args.index e c.self.view_is c.index-entry.ensures c.requires.there in
+    let here = here_is c.args.self.now c.self.inside.root (slot_number c.self.inside.slot) c.self.inside.entries.items c.args.index e c.self.view_is c.index-entry.ensures c.requires.there in
     let text = c.in_ok-text.text.items in
     let file = c.file_of-file.result in
     let k = g.D.Disk.content c.args.disk.now in
@@ -68,7 +69,7 @@ returns-clause-found g c = λ s is.
 pub returns-clause-archive : goal.returns-clause-archive
 returns-clause-archive g c = λ a own.
     let e = c.index-entry.result.now in
-    let here = here_is c.args.self.now c.self.inside.root c.self.inside.slot c.self.inside.entries.items c.args.index e c.self.view_is c.index-entry.ensures c.requires.there in
+    let here = here_is c.args.self.now c.self.inside.root (slot_number c.self.inside.slot) c.self.inside.entries.items c.args.index e c.self.view_is c.index-entry.ensures c.requires.there in
     let text = c.in_ok-text.text.items in
     let file = c.file_of-file.result in
     let k = g.D.Disk.content c.args.disk.now in
