@@ -3,6 +3,7 @@
 use Rattle.std.specs.Prelude.{◌+◌, ◌*◌, ℕ, zero, suc, Bool, true, false, List, [], ◌∷◌, ◌++◌, length, codes, decimal, Option, Some, None, if◌then◌else◌}
 use Rattle.line_door.specs.Acts.{Said, Way, Plain, Memory, Disk, Newer}
 use Rattle.line_door.specs.Plain.{silent}
+use Rattle.disk_model.specs.Sizes.{epoch_count}
 use Rattle.arch_model.specs.Archives.{Entry, Archive, text_of, in_epoch}
 use Rattle.arch_model.specs.Epochs.{epoch_bytes}
 use Rattle.arch_model.specs.Delivery.{Done, delivered, answer_line}
@@ -35,7 +36,7 @@ listed_below (suc epoch) entries = listed_below epoch entries ++ listed epoch (i
 
 -- The words of all epochs, 0 to 63, in order, and a last line.
 abbrev pub epochs_words : List Entry → List ℕ
-epochs_words entries = listed_below 64 entries ++ reply_line (codes "end")
+epochs_words entries = listed_below epoch_count entries ++ reply_line (codes "end")
 
 -- A session: its bytes that are not answered yet, and whether the archive was reopened since the
 -- last request. It is reopened before a request, which does nothing while no command is in doubt.

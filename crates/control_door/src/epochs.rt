@@ -1,6 +1,7 @@
 //! The list of the epochs of an archive.
 ghost use Rattle.std.specs.Prelude.{◌≡◌, ◌++◌, [], false, Err, OnOk};
 ghost use Rattle.arch_base.specs.Counts.{RoseIf};
+ghost use Rattle.disk_model.specs.Sizes.{epoch_count};
 ghost use Rattle.arch_model.specs.Archives.{Archive, in_epoch};
 ghost use Rattle.arch_model.specs.declared.text_refusal.TextRefusal.{TextRefusal};
 ghost use Rattle.control_door.specs.Door.{listed, listed_below, epoch_words, epochs_words};
@@ -8,11 +9,9 @@ ghost use Rattle.control_door.specs.Refusals.{PutsBehind, Makes};
 
 use arch_base::{Bytes, NoMemory};
 use arch_model::{Keep, TextRefusal};
+use disk_model::EPOCHS;
 use itoa::Buffer;
 use std::alloc::Global;
-
-/// The count of epochs that an archive may have. Their numbers are 0 to 63.
-const EPOCHS: u32 = 64;
 
 /// Returns the list of the epochs of an archive.
 ///
@@ -41,7 +40,7 @@ pub(crate) fn epochs_of<K: Keep>(alloc: Global, keep: &mut K) -> Result<Bytes, T
 fn push_epochs<K: Keep>(alloc: Global, keep: &mut K, into: &mut Bytes) -> Result<(), TextRefusal>
     requires ready { K.stale keep.old ≡ false }
     requires empty { into.old ≡ [] }
-    ensures words { (a : Archive) → K.holds keep.old a → PutsBehind (listed_below 64 a.entries) [] into.new result }
+    ensures words { (a : Archive) → K.holds keep.old a → PutsBehind (listed_below epoch_count a.entries) [] into.new result }
     ensures same { (a : Archive) → K.holds keep.old a → K.holds keep.new a }
     ensures ready { K.stale keep.new ≡ false }
     ensures cause { RoseIf (result ≡ Err TextRefusal.DiskFault) (K.faults keep.old) (K.faults keep.new) }

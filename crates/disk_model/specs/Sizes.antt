@@ -6,8 +6,8 @@ abbrev pub epoch_count : ℕ
 epoch_count = 64
 
 -- The greatest number of an epoch.
-abbrev pub last_epoch : ℕ
-last_epoch = 63
+abbrev pub greatest_epoch : ℕ
+greatest_epoch = 63
 
 -- The length of a record of the map.
 abbrev pub record_size : ℕ

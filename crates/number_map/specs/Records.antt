@@ -2,7 +2,7 @@
 use Rattle.std.specs.Prelude.{◌≡◌, ◌⊎◌, ◌+◌, ◌≤◌, ℕ, List, [], ◌∷◌, ◌++◌, replicate}
 use Rattle.arch_base.specs.Ids.{IsId}
 use Rattle.disk_model.specs.BigEndian.{be32}
-use Rattle.disk_model.specs.Sizes.{last_epoch}
+use Rattle.disk_model.specs.Sizes.{greatest_epoch}
 use Rattle.number_map.specs.declared.line.Record.{Record}
 
 -- The number, the epoch, and the id of the blob: 28 bytes, numbers with the highest byte first.
@@ -11,7 +11,7 @@ record_bytes line = be32 line.number ++ be32 line.epoch ++ line.blob.0
 
 -- The number's message is in an epoch, one of 0 to 63.
 abbrev pub HasMessage : Record → Type 0
-HasMessage line = line.epoch ≤ last_epoch
+HasMessage line = line.epoch ≤ greatest_epoch
 
 -- The number has no message: its epoch is 4294967295, and its blob is zeros.
 abbrev pub HasNone : Record → Type 0

@@ -3,7 +3,7 @@ use Rattle.std.proofs.Common.{◌≡◌, ◌∙◌, ◌-◌, ◌++◌, ◌∷◌
 use Rattle.disk_model.specs.Disk.{LeavesOnly}
 use Rattle.arch_model.specs.Archives.{with_entry}
 use Rattle.arch_model.specs.Delivery.{new_epoch}
-use Rattle.arch_model.specs.Epochs.{message_name}
+use Rattle.mail_commits.specs.Entries.{message_kind}
 use Rattle.root_slots.specs.Slots.{slot_number}
 use Rattle.epoch_store.specs.declared.entries.StoredEntry.{StoredEntry}
 use Rattle.epoch_file.specs.declared.entry.NewEntry.{NewEntry}
@@ -34,7 +34,7 @@ returns-in_err-root-clause-any_moment g c = λ a store room.
     let p = c.next_place-place.result in
     let text = c.args.text.now in
     let moment = c.args.moment in
-    let e : NewEntry = record { kind = message_name; text = c.args.text; moment = moment; parent = p.parent } in
+    let e : NewEntry = record { kind = message_kind; text = c.args.text; moment = moment; parent = p.parent } in
     let k0 = g.D.Disk.content c.args.disk.now in
     let has = has_room v a p e k0 c.self.inside.root (slot_number c.self.inside.slot) c.self.inside.entries.items c.reserve.new.self.items c.self.view_is c.reserve.ensures.items store room c.requires.accepts (c.next_place-place.ensures.next a) in
     subst (λ (n : ℕ). LeavesOnly g.D.Disk.moment g.D.Disk.left_since c.args.disk.now c.write_entry.new.disk (RecoversEither a (with_entry a n text moment))) has.next.epoch (c.write_entry.ensures.any_moment a has.owns has.goes)
@@ -45,7 +45,7 @@ returns-clause-any_moment g c = λ a store room.
     let p = c.next_place-place.result in
     let text = c.args.text.now in
     let moment = c.args.moment in
-    let e : NewEntry = record { kind = message_name; text = c.args.text; moment = moment; parent = p.parent } in
+    let e : NewEntry = record { kind = message_kind; text = c.args.text; moment = moment; parent = p.parent } in
     let k0 = g.D.Disk.content c.args.disk.now in
     let has = has_room v a p e k0 c.self.inside.root (slot_number c.self.inside.slot) c.self.inside.entries.items c.reserve.new.self.items c.self.view_is c.reserve.ensures.items store room c.requires.accepts (c.next_place-place.ensures.next a) in
     subst (λ (n : ℕ). LeavesOnly g.D.Disk.moment g.D.Disk.left_since c.args.disk.now c.write_entry.new.disk (RecoversEither a (with_entry a n text moment))) has.next.epoch (c.write_entry.ensures.any_moment a has.owns has.goes)
@@ -56,7 +56,7 @@ returns-clause-done g c = λ a store room.
     let p = c.next_place-place.result in
     let text = c.args.text.now in
     let moment = c.args.moment in
-    let e : NewEntry = record { kind = message_name; text = c.args.text; moment = moment; parent = p.parent } in
+    let e : NewEntry = record { kind = message_kind; text = c.args.text; moment = moment; parent = p.parent } in
     let k0 = g.D.Disk.content c.args.disk.now in
     let has = has_room v a p e k0 c.self.inside.root (slot_number c.self.inside.slot) c.self.inside.entries.items c.reserve.new.self.items c.self.view_is c.reserve.ensures.items store room c.requires.accepts (c.next_place-place.ensures.next a) in
     let w : View = record { root = c.self.inside.root; slot = slot_number c.self.inside.slot; entries = c.reserve.new.self.items } in
