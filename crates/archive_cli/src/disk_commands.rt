@@ -1,7 +1,7 @@
 //! The work of `init`, `deliver` and `check` on the archive on a disk.
 ghost use Rattle.std.specs.Prelude.{◌≡◌, ◌≤◌, List, Option};
 ghost use Rattle.arch_base.specs.Configs.{IsConfig};
-ghost use Rattle.arch_base.specs.Counts.{Rose};
+ghost use Rattle.arch_base.specs.Counts.{RoseIf};
 ghost use Rattle.disk_model.specs.Disk.{WhereTold, LeavesOnly};
 ghost use Rattle.arch_model.specs.Archives.{Archive, empty_archive};
 ghost use Rattle.arch_base.specs.Moments.{last_moment};
@@ -23,8 +23,7 @@ pub(crate) fn make<D: Disk>(alloc: Global, disk: &mut D, config: &Config) -> Out
     requires config { IsConfig config.now }
     ensures any_moment { LeavesOnly D.moment D.left_since disk.old disk.new (MakingLeaves (empty_archive config.now) (D.content disk.old)) }
     ensures made { Makes config.now result (D.content disk.old) (D.content disk.new) }
-    ensures later { D.faults disk.old ≤ D.faults disk.new }
-    ensures fault { IsFault result → Rose (D.faults disk.old) (D.faults disk.new) }
+    ensures cause { RoseIf (IsFault result) (D.faults disk.old) (D.faults disk.new) }
 {
     match DiskArchive::init(alloc, disk, config) {
         Ok(_archive) => Outcome::Made(config.name.copy()),
@@ -42,8 +41,7 @@ pub(crate) fn deliver<D: Disk>(alloc: Global, disk: &mut D, bytes: &[u8], moment
     ensures done { (a : Archive) → ReadsAs a (D.content disk.old) → HasRoom (D.content disk.old) → DeliversTo a bytes.now moment result (D.content disk.new) }
     ensures answer { WhereTold (λ k. IsOpenedAs (as_read k) result) (D.content disk.old) }
     ensures unopened { LeavesUnopened result (D.content disk.old) (D.content disk.new) }
-    ensures later { D.faults disk.old ≤ D.faults disk.new }
-    ensures fault { IsFault result → Rose (D.faults disk.old) (D.faults disk.new) }
+    ensures cause { RoseIf (IsFault result) (D.faults disk.old) (D.faults disk.new) }
 {
     match DiskArchive::open(alloc, disk) {
         Ok(archive) => {
@@ -60,8 +58,7 @@ pub(crate) fn check<D: Disk>(alloc: Global, disk: &mut D) -> Outcome
     ensures done { (a : Archive) → ReadsAs a (D.content disk.old) → ChecksTo a result (D.content disk.new) }
     ensures answer { WhereTold (λ k. IsOpenedAs (as_read k) result) (D.content disk.old) }
     ensures unopened { LeavesUnopened result (D.content disk.old) (D.content disk.new) }
-    ensures later { D.faults disk.old ≤ D.faults disk.new }
-    ensures fault { IsFault result → Rose (D.faults disk.old) (D.faults disk.new) }
+    ensures cause { RoseIf (IsFault result) (D.faults disk.old) (D.faults disk.new) }
 {
     match DiskArchive::open(alloc, disk) {
         Ok(archive) => Outcome::Checked {

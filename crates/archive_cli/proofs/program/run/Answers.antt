@@ -58,7 +58,7 @@ pub returns-in-Some-Check-clause-ends : goal.returns-in-Some-Check-clause-ends
 returns-in-Some-Check-clause-ends g c =
     let some = some-moment (g.C.Clock.coming c.args.clock.now) in
     ran-checked (spelled c.args.words.now) _ _ _ c.check.result (rw c.in-Some-Check.field-0-is at c.in-Some-Check.ensures)
-    (λ input. record { moment = some.0; first = some.1; acts = (c.check.ensures.done, c.check.ensures.answer, c.check.ensures.unopened); fault = c.check.ensures.fault }) c.print_outcome.ensures.printed
+    (λ input. record { moment = some.0; first = some.1; acts = (c.check.ensures.done, c.check.ensures.answer, c.check.ensures.unopened); fault = c.check.ensures.cause.failed }) c.print_outcome.ensures.printed
 
 pub returns-in-Some-Check-clause-check : goal.returns-in-Some-Check-clause-check
 returns-in-Some-Check-clause-check g c = λ may asked all. c.check.ensures.any_moment may all
