@@ -12,6 +12,3 @@ pub use decimals::{decimal, read_decimal};
 pub use ids::{Id20, ObjectId, hex_of, id_of_hex};
 pub use name::Name;
 pub use sequence::{Bytes, Duplicate, NoMemory, Numbers, Sequence, Texts};
-
-#[cfg(test)]
-mod tests;

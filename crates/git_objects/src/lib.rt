@@ -13,6 +13,3 @@ mod objects;
 pub use commit_reading::read_commit;
 pub use commits::{Commit, commit_bytes};
 pub use objects::{Object, blob_id, object_id, read_object, spellings_stand_apart, tree_bytes};
-
-#[cfg(test)]
-mod tests;
