@@ -15,6 +15,3 @@ pub use commit_reading::read_commit;
 pub use commits::{Commit, commit_bytes};
 pub use entry_kind::EntryKind;
 pub use objects::{Object, blob_id, object_id, read_object, spellings_stand_apart, tree_bytes};
-
-#[cfg(test)]
-mod tests;

@@ -1,5 +1,6 @@
 -- A list of plain mailboxes is read back as it was.
-use Rattle.std.proofs.Common.{◌≡◌, ℕ, suc, ◌+◌, ◌<◌, Bool, true, false, cond, ◌==◌, nat_lt, ◌&&◌, List, [], ◌∷◌, ◌++◌, map, Option, None, Some, length, drop, refl, sym, ◌∙◌, ap, append_assoc, append-nil, zero-add, arith}
+use Rattle.std.proofs.Common.{◌≡◌, ℕ, suc, ◌+◌, ◌<◌, Bool, true, false, cond, ◌==◌, nat_lt, ◌&&◌, not, List, [], ◌∷◌, ◌++◌, map, Option, None, Some, length, drop, refl, sym, ◌∙◌, ap, append_assoc, append-nil, zero-add, arith}
+use Rattle.std.proofs.lemmas.Bool.{and_parts}
 use Rattle.std.proofs.lemmas.Bool.Decides.{nat_tests}
 use Rattle.std.proofs.lemmas.List.{take_at, drop_at, drop-drop, length-append}
 use Rattle.std.specs.List.{All, AllPass}
@@ -51,16 +52,7 @@ quiet-plain b plain = record {
 }
 
 quiet-letter : (b : ℕ) → is_plain_letter b ≡ true → IsQuiet b
-quiet-letter b plain = record {
-  quote = grind (arith, nat_tests);
-  paren = grind (arith, nat_tests);
-  comma = grind (arith, nat_tests);
-  colon = grind (arith, nat_tests);
-  semicolon = grind (arith, nat_tests);
-  less = grind (arith, nat_tests);
-  greater = grind (arith, nat_tests);
-  backslash = grind (arith, nat_tests);
-}
+quiet-letter b plain = quiet-plain b (and_parts (is_plain b) (not (b == 32)) plain).0
 
 no_space-letter : (b : ℕ) → is_plain_letter b ≡ true → (b == 32) ≡ false
 no_space-letter b plain = grind (arith, nat_tests)

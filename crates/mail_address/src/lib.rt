@@ -16,6 +16,3 @@ pub use laws::{
     words_are_joined,
 };
 pub use reading::list;
-
-#[cfg(test)]
-mod tests;

@@ -6,8 +6,6 @@ mod moment;
 mod pieces;
 mod printing;
 mod reading;
-#[cfg(test)]
-mod tests;
 mod words;
 
 pub use laws::{

@@ -1,10 +1,10 @@
 //! Prints moments for IMAP, for RFC 3339 and for pages.
-ghost use Rattle.std.specs.Prelude.{◌≡◌, ◌≤◌, ◌<◌};
+ghost use Rattle.std.specs.Prelude.{◌≡◌, ◌≤◌, ◌<◌, ◌++◌, ◌∷◌};
 ghost use Rattle.mail_date.specs.Pieces.{IsZone};
-ghost use Rattle.mail_date.specs.Dates.{last_second};
-ghost use Rattle.mail_date.specs.Printed.{sign_of, tens_or_space, imap_text, rfc3339_text, page_text, Prints, PrintsUtc};
+ghost use Rattle.mail_date.specs.Dates.{last_second, IsValid};
+ghost use Rattle.mail_date.specs.Printed.{sign_of, tens_or_space, day_text, minute_text, imap_text, rfc3339_text, page_text, Prints, PrintsUtc};
 
-use crate::moment::{Moment, shown_date, utc_date};
+use crate::moment::{CivilDate, Moment, shown_date, utc_date};
 use crate::pieces::MONTHS;
 
 /// Prints `dd-Mon-yyyy hh:mm:ss +zzzz` (RFC 3501, 9), the day padded with a space to two
@@ -79,29 +79,11 @@ pub fn print_rfc3339(secs: u64) -> [u8; 20]
     ensures { PrintsUtc rfc3339_text secs result }
 {
     let date = utc_date(secs);
-    let (century, year) = ((date.year / 100) as u8, (date.year % 100) as u8);
-    [
-        b'0' + century / 10,
-        b'0' + century % 10,
-        b'0' + year / 10,
-        b'0' + year % 10,
-        b'-',
-        b'0' + date.month / 10,
-        b'0' + date.month % 10,
-        b'-',
-        b'0' + date.day / 10,
-        b'0' + date.day % 10,
-        b'T',
-        b'0' + date.hour / 10,
-        b'0' + date.hour % 10,
-        b':',
-        b'0' + date.minute / 10,
-        b'0' + date.minute % 10,
-        b':',
-        b'0' + date.second / 10,
-        b'0' + date.second % 10,
-        b'Z',
-    ]
+    let mut text = *b"YYYY-MM-DDThh:mm:ssZ";
+    text[..16].copy_from_slice(&minute_of_day(&date, b'T'));
+    text[17] = b'0' + date.second / 10;
+    text[18] = b'0' + date.second % 10;
+    text
 }
 
 /// Prints `YYYY-MM-DD hh:mm` in UTC.
@@ -111,7 +93,14 @@ pub fn print_page(secs: u64) -> [u8; 16]
     requires { secs ≤ last_second }
     ensures { PrintsUtc page_text secs result }
 {
-    let date = utc_date(secs);
+    minute_of_day(&utc_date(secs), b' ')
+}
+
+/// Returns the day as `YYYY-MM-DD` and the time as `hh:mm`, with a byte between them.
+fn minute_of_day(date: &CivilDate, between: u8) -> [u8; 16]
+    requires { IsValid date.now }
+    ensures { result ≡ day_text date.now ++ (between ∷ minute_text date.now) }
+{
     let (century, year) = ((date.year / 100) as u8, (date.year % 100) as u8);
     [
         b'0' + century / 10,
@@ -124,7 +113,7 @@ pub fn print_page(secs: u64) -> [u8; 16]
         b'-',
         b'0' + date.day / 10,
         b'0' + date.day % 10,
-        b' ',
+        between,
         b'0' + date.hour / 10,
         b'0' + date.hour % 10,
         b':',

@@ -26,6 +26,3 @@ pub use reading::{body, fields, own_id};
 pub use references::refs_of;
 pub use storing::{StoredRefusal, stored};
 pub use values::flat;
-
-#[cfg(test)]
-mod tests;

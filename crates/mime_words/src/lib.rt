@@ -8,8 +8,6 @@ mod encoding;
 mod laws;
 mod quoted;
 mod symbols;
-#[cfg(test)]
-mod tests;
 mod words;
 
 pub use decoding::decode;

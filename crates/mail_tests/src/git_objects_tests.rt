@@ -1,9 +1,9 @@
 //! Tests of ids and spellings against git, and of bytes that spell nothing.
-use crate::{
+use arch_base::{Bytes, NoMemory, ObjectId, id_of_hex};
+use git_objects::{
     Commit, EntryKind, Object, blob_id, commit_bytes, object_id, read_commit, read_object,
     tree_bytes,
 };
-use arch_base::{Bytes, NoMemory, ObjectId, id_of_hex};
 use std::alloc::Global;
 
 const BLOB: &[u8] = b"ce013625030ba8dba906f756967f9e9ca394464a";
@@ -126,7 +126,10 @@ fn has_fields(commit: &Commit, row: &Row<'_>) -> bool {
 /// Commits as git gives them.
 const COMMITS: [Row<'static>; 4] = [
     Row {
-        content: b"tree ff904aaaf3647f5d5e49c759a67194e6c0ea3fa7\nauthor Ann B <ann@x.y> 1700000000 +0130\ncommitter piv2 <piv2@localhost> 1700000001 +0000\n\nFirst subject\n",
+        content: b"tree ff904aaaf3647f5d5e49c759a67194e6c0ea3fa7\n\
+            author Ann B <ann@x.y> 1700000000 +0130\n\
+            committer piv2 <piv2@localhost> 1700000001 +0000\n\n\
+            First subject\n",
         id: FIRST,
         parent: None,
         author: b"Ann B",
@@ -137,7 +140,11 @@ const COMMITS: [Row<'static>; 4] = [
         subject: b"First subject",
     },
     Row {
-        content: b"tree ff904aaaf3647f5d5e49c759a67194e6c0ea3fa7\nparent 76063a3a91ab738c9e5856b47d2659e12609e101\nauthor Bob <bob@x.y> 1234567890 -0959\ncommitter piv2 <piv2@localhost> 1700000002 +0000\n\nSecond\n",
+        content: b"tree ff904aaaf3647f5d5e49c759a67194e6c0ea3fa7\n\
+            parent 76063a3a91ab738c9e5856b47d2659e12609e101\n\
+            author Bob <bob@x.y> 1234567890 -0959\n\
+            committer piv2 <piv2@localhost> 1700000002 +0000\n\n\
+            Second\n",
         id: b"1814820f07c1b26474fe0c8d1be8733d53664ef6",
         parent: Some(FIRST),
         author: b"Bob",
@@ -148,7 +155,9 @@ const COMMITS: [Row<'static>; 4] = [
         subject: b"Second",
     },
     Row {
-        content: b"tree ff904aaaf3647f5d5e49c759a67194e6c0ea3fa7\nauthor  <e@f> 0 +0000\ncommitter piv2 <piv2@localhost> 1700000003 +0000\n\n\n",
+        content: b"tree ff904aaaf3647f5d5e49c759a67194e6c0ea3fa7\n\
+            author  <e@f> 0 +0000\n\
+            committer piv2 <piv2@localhost> 1700000003 +0000\n\n\n",
         id: b"8e188e56c361aa08b5a45cbc5cb5032fe0df5cf2",
         parent: None,
         author: b"",
@@ -159,7 +168,11 @@ const COMMITS: [Row<'static>; 4] = [
         subject: b"",
     },
     Row {
-        content: b"tree ff904aaaf3647f5d5e49c759a67194e6c0ea3fa7\nparent 76063a3a91ab738c9e5856b47d2659e12609e101\nauthor A <> 5 -2359\ncommitter piv2 <piv2@localhost> 0 +0000\n\ns\n",
+        content: b"tree ff904aaaf3647f5d5e49c759a67194e6c0ea3fa7\n\
+            parent 76063a3a91ab738c9e5856b47d2659e12609e101\n\
+            author A <> 5 -2359\n\
+            committer piv2 <piv2@localhost> 0 +0000\n\n\
+            s\n",
         id: b"cec6f00ad12b81397e9198a973d63c4e654dd955",
         parent: Some(FIRST),
         author: b"A",
@@ -174,8 +187,7 @@ const COMMITS: [Row<'static>; 4] = [
 #[test]
 fn commits_have_the_ids_of_git(rt: HostRuntime) {
     for row in &COMMITS {
-        let agrees = agrees(rt.alloc(), row);
-        assert!(rt; matches!(agrees, Ok(true)), "the commit {}", row.secs);
+        assert!(rt; matches!(agrees(rt.alloc(), row), Ok(true)));
     }
 }
 

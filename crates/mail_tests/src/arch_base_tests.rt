@@ -1,5 +1,6 @@
 //! Tests of each call with ample memory, against values worked out elsewhere.
-use crate::{
+use crate::case::Case;
+use arch_base::{
     Bytes, Config, Id20, Name, NoMemory, Numbers, Texts, decimal, hex_of, id_of_hex, read_decimal,
 };
 use std::alloc::Global;
@@ -74,25 +75,29 @@ fn prints(alloc: Global, number: u64, text: &[u8]) -> Result<bool, NoMemory> {
     Ok(printed.as_slice() == text)
 }
 
-/// Decimals and their values.
-const DECIMALS: [(&[u8], u64); 3] = [
-    (b"0", 0),
-    (b"10", 10),
-    (b"18446744073709551615", 18446744073709551615),
-];
-
-/// Texts that are no decimals of 64 bits.
-const OTHER_DECIMALS: [&[u8]; 6] = [b"", b"00", b"01", b"1 ", b"-1", b"18446744073709551616"];
-
 #[test]
-fn decimals_are_printed_and_read(rt: HostRuntime) {
+fn decimals_are_printed(rt: HostRuntime) {
     let most = prints(rt.alloc(), 18446744073709551615, b"18446744073709551615");
     assert!(rt; matches!(most, Ok(true)));
-    for (text, value) in &DECIMALS {
-        assert!(rt; read_decimal(text) == Some(*value));
-    }
-    for text in &OTHER_DECIMALS {
-        assert!(rt; read_decimal(text).is_none());
+}
+
+/// Texts, and the decimals of 64 bits that they are.
+const DECIMALS: [Case<Option<u64>>; 9] = cases![
+    b"0" => Some(0),
+    b"10" => Some(10),
+    b"18446744073709551615" => Some(18446744073709551615),
+    b"" => None,
+    b"00" => None,
+    b"01" => None,
+    b"1 " => None,
+    b"-1" => None,
+    b"18446744073709551616" => None,
+];
+
+#[test]
+fn decimals_are_read(rt: HostRuntime) {
+    for case in &DECIMALS {
+        assert!(rt; read_decimal(case.given) == case.wanted);
     }
 }
 
