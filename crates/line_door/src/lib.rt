@@ -9,6 +9,3 @@ mod phrase;
 pub use laws::{cut_law, line_law, pieces_law, plain_law};
 pub use line::{Ahead, line_content, next_in};
 pub use phrase::{say, say_line};
-
-#[cfg(test)]
-mod tests;

@@ -18,6 +18,3 @@ pub use refusal::RootRefusal;
 pub use root::{Place, Root, root_fits};
 pub use slots::{commit, fill, is_open, raise, shut};
 pub use start::begin;
-
-#[cfg(test)]
-mod tests;

@@ -3,11 +3,11 @@
 ghost use Rattle.std.specs.Prelude.{Some, refl};
 ghost use Rattle.std.proofs.Common.{◌∙◌};
 
-use crate::{
-    Ahead, cut_law, line_content, line_law, next_in, pieces_law, plain_law, say, say_line,
-};
 use arch_base::Bytes;
 use edge_io::{Sink, SinkFault};
+use line_door::{
+    Ahead, cut_law, line_content, line_law, next_in, pieces_law, plain_law, say, say_line,
+};
 use std::alloc::Global;
 
 /// A sink in memory that takes `left` writes, and then fails.
