@@ -8,8 +8,6 @@ mod laws;
 mod order;
 mod replies;
 mod session;
-#[cfg(test)]
-mod tests;
 
 pub use laws::cut_laws;
 pub use order::{Order, read_order};

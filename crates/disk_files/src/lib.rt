@@ -10,6 +10,3 @@ pub use cutting::{FilePart, cut_files};
 pub use laws::law_of_fronts;
 pub use listing::{FileNames, file_names};
 pub use removing::remove_files;
-
-#[cfg(test)]
-mod tests;

@@ -13,8 +13,6 @@ mod reading;
 mod scripts;
 mod sink;
 mod source;
-#[cfg(test)]
-mod tests;
 
 pub use clock::{Clock, ClockFault};
 pub use events::{Door, Event, What};

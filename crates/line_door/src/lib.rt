@@ -7,6 +7,3 @@ mod line;
 
 pub use laws::{cut_law, line_law, pieces_law, plain_law};
 pub use line::{Ahead, line_content, next_in};
-
-#[cfg(test)]
-mod tests;

@@ -12,6 +12,3 @@ pub use laws::law_of_records;
 pub use line::{Record, Records};
 pub use whole::walk;
 pub use writing::append;
-
-#[cfg(test)]
-mod tests;

@@ -20,6 +20,3 @@ pub use root::{Place, Root, root_fits};
 pub use slot::Slot;
 pub use slots::{commit, fill, is_open, raise, shut};
 pub use start::begin;
-
-#[cfg(test)]
-mod tests;

@@ -2,9 +2,9 @@
 use Rattle.std.proofs.Common.{◌≡◌, length, arith}
 use Rattle.std.proofs.lemmas.Result.{on_ok_weaker}
 use Rattle.disk_model.specs.Moments.{joined, weaker}
-use Rattle.disk_client.specs.Texts.{StandsForEither}
-use Rattle.disk_client.proofs.Gate.{during_text, text_filled, size_stays, during_gate, gate_opened}
-use Rattle.disk_client.proofs.texts.change_text.Goals as goal
+use Rattle.disk_tests.specs.Texts.{StandsForEither}
+use Rattle.disk_tests.proofs.Gate.{during_text, text_filled, size_stays, during_gate, gate_opened}
+use Rattle.disk_tests.proofs.client.change_text.Goals as goal
 
 pub returns-in_err-write_and_sync-clause-any_moment : goal.returns-in_err-write_and_sync-clause-any_moment
 returns-in_err-write_and_sync-clause-any_moment g c = λ old each.

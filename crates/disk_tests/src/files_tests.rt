@@ -1,69 +1,59 @@
 //! Files on a disk in memory: their names, removals and cuts, and what a crash leaves of them.
-use crate::{FilePart, cut_files, file_names, law_of_fronts, remove_files};
+use crate::crashes::{Stopped, stop};
+use crate::file_names::{A, B, M};
 use arch_base::Numbers;
+use disk_files::{FilePart, cut_files, file_names, law_of_fronts, remove_files};
 use disk_model::{Disk, DiskFault, FileKind, FileName, FuseDisk, MemDisk, WalkRefusal};
 use std::alloc::Global;
 use std::process::Abort;
 use std::test::Fail;
 
-const M: FileName = FileName {
-    kind: FileKind::Map,
-    number: 0,
-    gen_: 3,
-};
-
-const A: FileName = FileName {
-    kind: FileKind::Epoch,
-    number: 0,
-    gen_: 2,
-};
-
-const B: FileName = FileName {
-    kind: FileKind::Epoch,
-    number: 1,
-    gen_: 1,
-};
-
+/// A cache.
 const C: FileName = FileName {
     kind: FileKind::Cache,
     number: 0,
     gen_: 0,
 };
 
-/// Puts three files onto a disk: of the one, some bytes are not on the disk yet.
-fn fill<D: Disk>(disk: &mut D) -> Result<(), DiskFault> {
+/// Puts three files onto a disk, and syncs.
+fn put_three<D: Disk>(disk: &mut D) -> Result<(), DiskFault> {
     disk.write_at(C, 0, b"cc")?;
     disk.write_at(A, 0, b"abcdef")?;
     disk.write_at(B, 0, b"xyz")?;
-    disk.sync()?;
+    disk.sync()
+}
+
+/// Puts three files onto a disk. Some bytes of one aren't synced.
+fn fill<D: Disk>(disk: &mut D) -> Result<(), DiskFault> {
+    put_three(disk)?;
     if disk.length(A)? != 6 {
         return Err(DiskFault);
     }
     disk.write_at(A, 4, b"PQRS")
 }
 
-/// A disk with three files.
+/// Creates a disk with three files.
 fn filled(alloc: Global) -> Result<MemDisk, DiskFault> {
     let mut disk = MemDisk::new(alloc, Numbers::new(alloc));
     fill(&mut disk)?;
     Ok(disk)
 }
 
-/// Whether a file reads as these bytes.
+/// Returns whether a file reads as these bytes.
 fn reads_as(disk: &mut MemDisk, name: FileName, bytes: &[u8]) -> Result<bool, DiskFault> {
     let mut buffer = [0; 16];
     let count = disk.read(name, 0, &mut buffer)?;
     Ok(&buffer[..count] == bytes)
 }
 
-/// Whether a file begins with these bytes.
+/// Returns whether a file begins with these bytes.
 fn begins_with(disk: &mut MemDisk, name: FileName, bytes: &[u8]) -> Result<bool, DiskFault> {
     let mut buffer = [0; 16];
     let count = disk.read(name, 0, &mut buffer)?;
     Ok(buffer[..count].starts_with(bytes))
 }
 
-/// Whether a file reads as these bytes or as none.
+/// Returns whether a file reads as these bytes or as none.
 fn reads_as_or_nothing(
     disk: &mut MemDisk,
     name: FileName,
@@ -74,7 +64,7 @@ fn reads_as_or_nothing(
     Ok(whole || nothing)
 }
 
-/// Whether a disk lists these names.
+/// Returns whether a disk lists these names.
 fn lists<D: Disk>(alloc: Global, disk: &mut D, names: &[FileName]) -> Result<bool, WalkRefusal> {
     Ok(file_names(alloc, disk)?.as_slice() == names)
 }
@@ -90,39 +80,28 @@ fn lists_in_four_calls(alloc: Global, passes: u64) -> Result<bool, DiskFault> {
     }
 }
 
+/// Returns whether no name is listed of a disk without files.
+fn lists_nothing(alloc: Global) -> Result<bool, WalkRefusal> {
+    let mut disk = MemDisk::new(alloc, Numbers::new(alloc));
+    lists(alloc, &mut disk, &[])
+}
+
 #[test]
 fn all_names_are_listed_in_order(rt: HostRuntime) -> Result<(), Fail> {
-    let alloc = rt.alloc();
-    assert!(rt; lists(alloc, &mut MemDisk::new(alloc, Numbers::new(alloc)), &[])?);
+    assert!(rt; lists_nothing(rt.alloc())?);
     for passes in 0..6 {
-        assert!(rt; lists_in_four_calls(alloc, passes)?, "{passes}");
+        assert!(rt; lists_in_four_calls(rt.alloc(), passes)?, "{passes}");
     }
     Ok(())
 }
 
-/// A disk on which a call was stopped: how many changes it had before, and whether the call is
-/// done.
-#[derive(Drop)]
-struct Stopped {
-    disk: MemDisk,
-    start: u64,
-    done: bool,
-}
-
-/// Stops three removals after so many calls.
+/// Stops three removals after `passes` calls.
 fn stop_removals(alloc: Global, passes: u64) -> Result<Stopped, DiskFault> {
     let disk = filled(alloc)?;
-    let start = disk.moments();
-    let mut fuse = FuseDisk::new(disk, passes);
-    let done = remove_files(&mut fuse, &[B, M, C]).is_ok();
-    Ok(Stopped {
-        disk: fuse.into_inner(),
-        start,
-        done,
-    })
+    Ok(stop(disk, passes, |fuse| remove_files(fuse, &[B, M, C])))
 }
 
-/// Whether each of two files is there or nothing of it, and of the third what was synced.
+/// Returns whether each of two files is there or nothing of it, and of the third what was synced.
 fn is_removed_or_whole(image: &mut MemDisk) -> Result<bool, DiskFault> {
     let first = begins_with(image, A, b"abcd")?;
     let second = reads_as_or_nothing(image, B, b"xyz")?;
@@ -130,44 +109,22 @@ fn is_removed_or_whole(image: &mut MemDisk) -> Result<bool, DiskFault> {
     Ok(first && second && third)
 }
 
-/// Whether a crash at a moment leaves each file removed or whole.
-fn leaves_whole_files(disk: &MemDisk, at: u64, pick: u64) -> Result<bool, WalkRefusal> {
-    if at > disk.moments() || pick > 3 {
-        return Ok(false);
-    }
-    let mut image = disk.image(at, pick)?;
-    Ok(is_removed_or_whole(&mut image)?)
-}
-
-/// Looks at each image since the removals began.
-fn look_at_removals(rt: &impl Abort, disk: &MemDisk, start: u64) -> Result<(), WalkRefusal> {
-    for at in start..=disk.moments() {
-        for pick in 0..4 {
-            assert!(rt;
-                leaves_whole_files(disk, at, pick)?,
-                "moment {at}, pick {pick}"
-            );
-        }
-    }
-    Ok(())
-}
-
-/// Whether one file of the three is left, whole.
+/// Returns whether one file of the three is left, whole.
 fn has_one_file(alloc: Global, disk: &mut MemDisk) -> Result<bool, WalkRefusal> {
     let listed = lists(alloc, disk, &[A])?;
     let whole = reads_as(disk, A, b"abcdPQRS")?;
     Ok(listed && whole)
 }
 
-/// Looks at each image since the removals began, and at the disk where they are done.
-fn look_at_removed(
+/// Checks each image since the removals began, and the disk itself if they are done.
+fn look_at_removals(
     rt: &impl Abort,
     alloc: Global,
     stopped: &mut Stopped,
     done: bool,
-) -> Result<(), WalkRefusal> {
-    assert_eq!(rt; stopped.done, done);
-    look_at_removals(rt, &stopped.disk, stopped.start)?;
+) -> Result<(), Fail> {
+    let bad = stopped.first_bad_image(|image, _done| Ok(is_removed_or_whole(image)?))?;
+    assert_eq!(rt; (stopped.done, bad), (done, None));
     assert!(rt; !done || has_one_file(alloc, &mut stopped.disk)?);
     Ok(())
 }
@@ -177,12 +134,12 @@ fn each_file_is_removed_or_as_before(rt: HostRuntime) -> Result<(), Fail> {
     for passes in 0..5 {
         let mut stopped = stop_removals(rt.alloc(), passes)?;
         // Three removals.
-        look_at_removed(&rt, rt.alloc(), &mut stopped, passes >= 3)?;
+        look_at_removals(&rt, rt.alloc(), &mut stopped, passes >= 3)?;
     }
     Ok(())
 }
 
-/// Stops the cuts of four files after so many calls.
+/// Stops the cuts of four files after `passes` calls.
 fn stop_cuts(alloc: Global, passes: u64) -> Result<Stopped, DiskFault> {
     let parts = [
         FilePart { file: A, length: 3 },
@@ -191,17 +148,10 @@ fn stop_cuts(alloc: Global, passes: u64) -> Result<Stopped, DiskFault> {
         FilePart { file: C, length: 0 },
     ];
     let disk = filled(alloc)?;
-    let start = disk.moments();
-    let mut fuse = FuseDisk::new(disk, passes);
-    let done = cut_files(&mut fuse, &parts).is_ok();
-    Ok(Stopped {
-        disk: fuse.into_inner(),
-        start,
-        done,
-    })
+    Ok(stop(disk, passes, |fuse| cut_files(fuse, &parts)))
 }
 
-/// Whether each file has its part, and no file more is there.
+/// Returns whether each file has its part, and no file more is there.
 fn has_parts(image: &mut MemDisk) -> Result<bool, DiskFault> {
     let first = begins_with(image, A, b"abc")?;
     let second = reads_as(image, B, b"xyz")?;
@@ -210,26 +160,7 @@ fn has_parts(image: &mut MemDisk) -> Result<bool, DiskFault> {
     Ok(first && second && third && more.is_none())
 }
 
-/// Whether a crash at a moment leaves each file its part.
-fn leaves_parts(disk: &MemDisk, at: u64, pick: u64) -> Result<bool, WalkRefusal> {
-    if at > disk.moments() || pick > 3 {
-        return Ok(false);
-    }
-    let mut image = disk.image(at, pick)?;
-    Ok(has_parts(&mut image)?)
-}
-
-/// Looks at each image since the cuts began.
-fn look_at_cuts(rt: &impl Abort, disk: &MemDisk, start: u64) -> Result<(), WalkRefusal> {
-    for at in start..=disk.moments() {
-        for pick in 0..4 {
-            assert!(rt; leaves_parts(disk, at, pick)?, "moment {at}, pick {pick}");
-        }
-    }
-    Ok(())
-}
-
-/// Whether all three files are cut to their parts.
+/// Returns whether all three files are cut to their parts.
 fn is_cut(alloc: Global, disk: &mut MemDisk) -> Result<bool, WalkRefusal> {
     let first = reads_as(disk, A, b"abc")?;
     let second = reads_as(disk, B, b"xyz")?;
@@ -238,15 +169,15 @@ fn is_cut(alloc: Global, disk: &mut MemDisk) -> Result<bool, WalkRefusal> {
     Ok(first && second && listed && third == 0)
 }
 
-/// Looks at each image since the cuts began, and at the disk where they are done.
-fn look_at_parts(
+/// Checks each image since the cuts began, and the disk itself if they are done.
+fn look_at_cuts(
     rt: &impl Abort,
     alloc: Global,
     stopped: &mut Stopped,
     done: bool,
-) -> Result<(), WalkRefusal> {
-    assert_eq!(rt; stopped.done, done);
-    look_at_cuts(rt, &stopped.disk, stopped.start)?;
+) -> Result<(), Fail> {
+    let bad = stopped.first_bad_image(|image, _done| Ok(has_parts(image)?))?;
+    assert_eq!(rt; (stopped.done, bad), (done, None));
     assert!(rt; !done || is_cut(alloc, &mut stopped.disk)?);
     Ok(())
 }
@@ -257,7 +188,7 @@ fn each_file_keeps_its_part(rt: HostRuntime) -> Result<(), Fail> {
     for passes in 0..8 {
         let mut stopped = stop_cuts(rt.alloc(), passes)?;
         // Four looks at a length, and two cuts.
-        look_at_parts(&rt, rt.alloc(), &mut stopped, passes >= 6)?;
+        look_at_cuts(&rt, rt.alloc(), &mut stopped, passes >= 6)?;
     }
     Ok(())
 }

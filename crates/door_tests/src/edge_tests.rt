@@ -1,11 +1,11 @@
 //! Tests of scripts, sources, sinks and clocks, by examples worked out by hand.
 ghost use Rattle.std.specs.Prelude.{◌<◌, length};
 
-use crate::{
+use arch_base::{Bytes, NoMemory, Numbers};
+use edge_io::{
     Clock, ClockFault, Door, Event, MemClock, MemSink, MemSource, Script, ScriptRefusal, Sink,
     SinkFault, Source, SourceFault, What, read_in_one_way, say, say_line, script,
 };
-use arch_base::{Bytes, NoMemory, Numbers};
 use std::alloc::{AllocError, Global};
 use std::test::Fail;
 
@@ -116,43 +116,74 @@ fn the_first_bad_event_is_named(rt: HostRuntime) -> Result<(), Fail> {
     Ok(())
 }
 
-/// Returns an event.
-fn event(moment: u64, what: What) -> Event {
-    Event { moment, what }
+/// An event of a script and its piece.
+struct Arrival {
+    event: Event,
+    piece: &'static str,
 }
 
-/// Returns whether the script's event of this index, from 0, is `event` with `piece`.
-fn has_arrival(made: &Script, i: u64, event: &Event, piece: &str) -> bool {
-    let same = made.event(i) == Some(event);
-    let carries = made.piece(i) == piece.as_bytes();
+/// The events of a script, in order.
+const ARRIVALS: [Arrival; 6] = [
+    Arrival {
+        event: Event {
+            moment: 0,
+            what: What::Opened {
+                conn: 1,
+                door: Door::Control,
+            },
+        },
+        piece: "",
+    },
+    Arrival {
+        event: Event {
+            moment: 5,
+            what: What::Bytes { conn: 1, len: 3 },
+        },
+        piece: "a\nb",
+    },
+    Arrival {
+        event: Event {
+            moment: 7,
+            what: What::Quiet,
+        },
+        piece: "",
+    },
+    Arrival {
+        event: Event {
+            moment: 6,
+            what: What::Bytes { conn: 1, len: 1 },
+        },
+        piece: "c",
+    },
+    Arrival {
+        event: Event {
+            moment: 8,
+            what: What::Ended { conn: 1 },
+        },
+        piece: "",
+    },
+    Arrival {
+        event: Event {
+            moment: 9,
+            what: What::Stop,
+        },
+        piece: "",
+    },
+];
+
+/// Returns whether an event of a script, by its index from 0, is this one with its piece.
+fn has_arrival(made: &Script, index: u64, arrival: &Arrival) -> bool {
+    let same = made.event(index) == Some(&arrival.event);
+    let carries = made.piece(index) == arrival.piece.as_bytes();
     same && carries
 }
-
-/// The opening of a connection.
-const OPENED: What = What::Opened {
-    conn: 1,
-    door: Door::Control,
-};
-
-/// The indices, from 0, the moments, the events and the pieces of a script.
-const ARRIVALS: [(u64, u64, What, &str); 6] = [
-    (0, 0, OPENED, ""),
-    (1, 5, What::Bytes { conn: 1, len: 3 }, "a\nb"),
-    (2, 7, What::Quiet, ""),
-    (3, 6, What::Bytes { conn: 1, len: 1 }, "c"),
-    (4, 8, What::Ended { conn: 1 }, ""),
-    (5, 9, What::Stop, ""),
-];
 
 #[test]
 fn events_have_their_pieces(rt: HostRuntime) -> Result<(), Fail> {
     let text = b"0 o 1 control\n5 b 1 3\na\nb\n7 q\n6 b 1 1\nc\n8 e 1\n9 s\n";
     let made = script(rt.alloc(), text)?;
-    for (i, moment, what, piece) in &ARRIVALS {
-        assert!(rt;
-            has_arrival(&made, *i, &event(*moment, *what), piece),
-            "event {i}"
-        );
+    for (index, arrival) in ARRIVALS.iter().enumerate() {
+        assert!(rt; has_arrival(&made, index as u64, arrival), "event {index}");
     }
     assert!(rt; made.event(6).is_none() && made.piece(6).is_empty());
     Ok(())

@@ -1,17 +1,11 @@
 //! Maps on a disk in memory: their bytes, what is read of them, and where they are damaged.
-use crate::{Record, Records, append, law_of_records, walk};
+use crate::file_names::M;
 use arch_base::{Id20, Numbers};
-use disk_model::{Disk, DiskFault, FileKind, FileName, FuseDisk, MemDisk, WalkRefusal};
+use disk_model::{Disk, DiskFault, FuseDisk, MemDisk, WalkRefusal};
+use number_map::{Record, Records, append, law_of_records, walk};
 use std::alloc::Global;
 use std::process::Abort;
 use std::test::Fail;
-
-/// A map.
-const MAP: FileName = FileName {
-    kind: FileKind::Map,
-    number: 0,
-    gen_: 3,
-};
 
 /// Three records: of the first epoch, of no message, and of the last epoch.
 const LINES: [Record; 3] = [
@@ -37,31 +31,100 @@ const BYTES: &[u8] = b"\x00\x00\x00\x01\x00\x00\x00\x00abcdefghijklmnopqrst\
     \x00\x00\x00\x02\xff\xff\xff\xff\x00\x00\x00\x00\x00\x00\x00\x00\x00\x00\x00\x00\x00\x00\x00\x00\x00\x00\x00\x00\
     \x00\x00\x00\x03\x00\x00\x00\x3fABCDEFGHIJKLMNOPQRST";
 
-/// Bytes put over those of the three records, and where the map then is damaged.
-const PATCHES: [(u64, &[u8], Option<u64>); 15] = [
-    (0, b"\x00\x00\x00\x02", Some(0)),
-    (3, b"\x00", Some(0)),
-    (0, b"\x01", Some(0)),
-    (28, b"\x00\x00\x00\x01", Some(28)),
-    (56, b"\x00\x00\x00\x04", Some(56)),
-    (4, b"\x00\x00\x00\x3f", None),
-    (4, b"\x00\x00\x00\x40", Some(0)),
-    (60, b"\x00\x00\x01\x00", Some(56)),
-    (4, b"\xff\xff\xff\xff", Some(0)),
-    (32, b"\xff\xff\xff\xfe", Some(28)),
-    (32, b"\x00\x00\x00\x00", None),
-    (36, b"\x80", Some(28)),
-    (55, b"\x01", Some(28)),
-    (8, b"\x00\x00", None),
-    (84, b"\x00", None),
+/// Bytes that are put over those of the three records.
+struct Patch {
+    /// Their offset.
+    at: u64,
+    bytes: &'static [u8],
+    /// Where the map then is damaged.
+    damage: Option<u64>,
+}
+
+/// Patches of the three records.
+const PATCHES: [Patch; 15] = [
+    Patch {
+        at: 0,
+        bytes: b"\x00\x00\x00\x02",
+        damage: Some(0),
+    },
+    Patch {
+        at: 3,
+        bytes: b"\x00",
+        damage: Some(0),
+    },
+    Patch {
+        at: 0,
+        bytes: b"\x01",
+        damage: Some(0),
+    },
+    Patch {
+        at: 28,
+        bytes: b"\x00\x00\x00\x01",
+        damage: Some(28),
+    },
+    Patch {
+        at: 56,
+        bytes: b"\x00\x00\x00\x04",
+        damage: Some(56),
+    },
+    Patch {
+        at: 4,
+        bytes: b"\x00\x00\x00\x3f",
+        damage: None,
+    },
+    Patch {
+        at: 4,
+        bytes: b"\x00\x00\x00\x40",
+        damage: Some(0),
+    },
+    Patch {
+        at: 60,
+        bytes: b"\x00\x00\x01\x00",
+        damage: Some(56),
+    },
+    Patch {
+        at: 4,
+        bytes: b"\xff\xff\xff\xff",
+        damage: Some(0),
+    },
+    Patch {
+        at: 32,
+        bytes: b"\xff\xff\xff\xfe",
+        damage: Some(28),
+    },
+    Patch {
+        at: 32,
+        bytes: b"\x00\x00\x00\x00",
+        damage: None,
+    },
+    Patch {
+        at: 36,
+        bytes: b"\x80",
+        damage: Some(28),
+    },
+    Patch {
+        at: 55,
+        bytes: b"\x01",
+        damage: Some(28),
+    },
+    Patch {
+        at: 8,
+        bytes: b"\x00\x00",
+        damage: None,
+    },
+    Patch {
+        at: 84,
+        bytes: b"\x00",
+        damage: None,
+    },
 ];
 
 /// Puts a record where the map reaches that far, after one look at that.
 fn put<D: Disk>(disk: &mut D, at: u64, line: &Record) -> Result<(), DiskFault> {
-    if at > disk.length(MAP)? || at > 1_000_000 {
+    if at > disk.length(M)? || at > 1_000_000 {
         return Err(DiskFault);
     }
-    append(disk, MAP, at, line)
+    append(disk, M, at, line)
 }
 
 /// Puts the three records onto a disk.
@@ -74,94 +137,87 @@ fn put_three<D: Disk>(disk: &mut D) -> Result<(), DiskFault> {
 
 /// Writes into the map.
 fn write<D: Disk>(disk: &mut D, place: u64, bytes: &[u8]) -> Result<(), DiskFault> {
-    if place > disk.length(MAP)? || place > 1_000_000 || bytes.len() > 1_000_000 {
+    if place > disk.length(M)? || place > 1_000_000 || bytes.len() > 1_000_000 {
         return Err(DiskFault);
     }
-    disk.write_at(MAP, place, bytes)
+    disk.write_at(M, place, bytes)
 }
 
 /// Cuts the map.
 fn trim<D: Disk>(disk: &mut D, length: u64) -> Result<(), DiskFault> {
-    if length > disk.length(MAP)? {
+    if length > disk.length(M)? {
         return Err(DiskFault);
     }
-    disk.cut(MAP, length)
+    disk.cut(M, length)
 }
 
-/// Where the map is damaged, or None where its records up to a number are read.
+/// Returns where the map is damaged, or `None` if its records up to a number are read.
 fn damage<D: Disk>(alloc: Global, disk: &mut D, count: u32) -> Result<Option<u64>, WalkRefusal> {
-    match walk(alloc, disk, MAP, count) {
+    match walk(alloc, disk, M, count) {
         Ok(_) => Ok(None),
         Err(WalkRefusal::Damaged { at }) => Ok(Some(at)),
         Err(refusal) => Err(refusal),
     }
 }
 
-/// Whether no record is read of a map that isn't there.
+/// Returns whether no record is read of a map that isn't there.
 fn has_no_record<D: Disk>(alloc: Global, disk: &mut D) -> bool {
     let none = damage(alloc, disk, 0) == Ok(None);
     let one = damage(alloc, disk, 1) == Ok(Some(0));
     none && one
 }
 
-/// Whether the map has the bytes of the three records.
+/// Returns whether the map has the bytes of the three records.
 fn has_bytes<D: Disk>(disk: &mut D) -> Result<bool, DiskFault> {
-    let length = disk.length(MAP)?;
+    let length = disk.length(M)?;
     let mut bytes = [7; 84];
-    let count = disk.read(MAP, 0, &mut bytes)?;
+    let count = disk.read(M, 0, &mut bytes)?;
     Ok(length == 84 && count == 84 && bytes.as_slice() == BYTES)
 }
 
-/// Whether the three records are read, and copied.
+/// Returns whether the three records are read, and copied.
 fn has_records<D: Disk>(alloc: Global, disk: &mut D) -> Result<bool, WalkRefusal> {
-    let lines: Records = walk(alloc, disk, MAP, 3)?;
+    let lines: Records = walk(alloc, disk, M, 3)?;
     let copied = lines.copy()?;
     Ok(lines.as_slice() == LINES.as_slice() && copied.as_slice() == LINES.as_slice())
 }
 
-/// Puts the three records onto a disk without files, and reads them.
-fn append_and_read<D: Disk>(
-    rt: &impl Abort,
-    alloc: Global,
-    disk: &mut D,
-) -> Result<(), WalkRefusal> {
-    assert!(rt; has_no_record(alloc, disk));
+/// Puts the three records onto a disk without files, and returns whether they are read.
+fn are_read<D: Disk>(alloc: Global, disk: &mut D) -> Result<bool, WalkRefusal> {
+    let none = has_no_record(alloc, disk);
     put_three(disk)?;
-    assert!(rt; has_bytes(disk)?);
-    assert!(rt; has_records(alloc, disk)?);
-    assert_eq!(rt; damage(alloc, disk, 4), Ok(Some(84)));
-    Ok(())
+    let bytes = has_bytes(disk)?;
+    let records = has_records(alloc, disk)?;
+    let end = damage(alloc, disk, 4) == Ok(Some(84));
+    Ok(none && bytes && records && end)
 }
 
 #[test]
 fn what_was_appended_is_read(rt: HostRuntime) -> Result<(), Fail> {
     law_of_records();
     let mut disk = MemDisk::new(rt.alloc(), Numbers::new(rt.alloc()));
-    append_and_read(&rt, rt.alloc(), &mut disk)?;
+    assert!(rt; are_read(rt.alloc(), &mut disk)?);
     Ok(())
 }
 
-/// Where the three records are damaged when bytes are put over theirs.
-fn damage_of(alloc: Global, place: u64, bytes: &[u8]) -> Result<Option<u64>, WalkRefusal> {
+/// Returns where the three records are damaged when bytes are put over theirs.
+fn damage_of(alloc: Global, patch: &Patch) -> Result<Option<u64>, WalkRefusal> {
     let mut disk = MemDisk::new(alloc, Numbers::new(alloc));
     put_three(&mut disk)?;
-    write(&mut disk, place, bytes)?;
+    write(&mut disk, patch.at, patch.bytes)?;
     damage(alloc, &mut disk, 3)
 }
 
 #[test]
 fn damage_is_at_the_first_bad_record(rt: HostRuntime) -> Result<(), Fail> {
-    for (place, bytes, want) in &PATCHES {
-        assert_eq!(rt;
-            damage_of(rt.alloc(), *place, bytes),
-            Ok(*want),
-            "place {place}"
-        );
+    for patch in &PATCHES {
+        let damage = damage_of(rt.alloc(), patch);
+        assert_eq!(rt; damage, Ok(patch.damage), "offset {}", patch.at);
     }
     Ok(())
 }
 
-/// Where a map of so many bytes is damaged when three records are read of it.
+/// Returns where a map of so many bytes is damaged when three records are read of it.
 fn last_record(length: u64) -> u64 {
     match length {
         0..28 => 0,
@@ -170,13 +226,21 @@ fn last_record(length: u64) -> u64 {
     }
 }
 
+/// Cuts a map of three records, and returns whether it is damaged at its last record.
+fn is_damaged_at_last<D: Disk>(
+    alloc: Global,
+    disk: &mut D,
+    length: u64,
+) -> Result<bool, DiskFault> {
+    trim(disk, length)?;
+    Ok(damage(alloc, disk, 3) == Ok(Some(last_record(length))))
+}
+
 /// Cuts a map of three records to each length below its own, from the greatest on, and reads it.
 fn cut_and_read<D: Disk>(rt: &impl Abort, alloc: Global, disk: &mut D) -> Result<(), DiskFault> {
     for cut in 0..84u64 {
         let length = 83 - cut;
-        trim(disk, length)?;
-        let want = Ok(Some(last_record(length)));
-        assert_eq!(rt; damage(alloc, disk, 3), want, "length {length}");
+        assert!(rt; is_damaged_at_last(alloc, disk, length)?, "length {length}");
     }
     Ok(())
 }
@@ -204,9 +268,9 @@ fn put_many<D: Disk>(disk: &mut D, count: u32) -> Result<(), DiskFault> {
     Ok(())
 }
 
-/// Whether so many records are read, and the last of them is that of its number.
+/// Returns whether so many records are read, and the last of them is that of its number.
 fn has_many<D: Disk>(alloc: Global, disk: &mut D, count: u32) -> Result<bool, WalkRefusal> {
-    let lines = walk(alloc, disk, MAP, count)?;
+    let lines = walk(alloc, disk, M, count)?;
     let Some(last) = lines.as_slice().last() else {
         return Ok(false);
     };
@@ -214,19 +278,34 @@ fn has_many<D: Disk>(alloc: Global, disk: &mut D, count: u32) -> Result<bool, Wa
     Ok(placed && lines.as_slice().len() == count as usize)
 }
 
-/// Whether a number of the second piece that is another one is found, and not where it isn't read.
+/// Returns whether a number of the second piece that is another one is found, and not where it isn't read.
 fn is_found_in_second<D: Disk>(alloc: Global, disk: &mut D) -> bool {
     let before = damage(alloc, disk, 2_340) == Ok(None);
     let there = damage(alloc, disk, 4_681) == Ok(Some(65_520));
     before && there
 }
 
+/// Returns the first of these counts up to which a map isn't read.
+fn first_unread<D: Disk>(
+    alloc: Global,
+    disk: &mut D,
+    counts: &[u32],
+) -> Result<Option<u32>, WalkRefusal> {
+    for count in counts {
+        if !has_many(alloc, disk, *count)? {
+            return Ok(Some(*count));
+        }
+    }
+    Ok(None)
+}
+
 /// Reads a map of 4,681 records up to the ends of its pieces, and damages the second one.
 fn read_pieces<D: Disk>(rt: &impl Abort, alloc: Global, disk: &mut D) -> Result<(), WalkRefusal> {
-    for count in [2_339, 2_340, 2_341, 4_679, 4_680, 4_681] {
-        assert!(rt; has_many(alloc, disk, count)?, "{count}");
-    }
-    assert_eq!(rt; damage(alloc, disk, 4_682), Ok(Some(131_068)));
+    let unread = first_unread(alloc, disk, &[2_339, 2_340, 2_341, 4_679, 4_680, 4_681])?;
+    assert_eq!(rt;
+        (unread, damage(alloc, disk, 4_682)),
+        (None, Ok(Some(131_068)))
+    );
     // The first number of the second piece.
     write(disk, 65_523, b"\x00")?;
     assert!(rt; is_found_in_second(alloc, disk));
@@ -241,7 +320,7 @@ fn a_map_of_many_pieces_is_read(rt: HostRuntime) -> Result<(), Fail> {
     Ok(())
 }
 
-/// Whether a disk that stops after so many calls answers its fault, and with seven the map.
+/// Returns whether a disk that stops after so many calls answers its fault, and with seven the map.
 fn is_read_in_seven_calls(alloc: Global, passes: u64) -> bool {
     let mut fuse = FuseDisk::new(MemDisk::new(alloc, Numbers::new(alloc)), passes);
     // A look at the length and a write for each record, and one read.

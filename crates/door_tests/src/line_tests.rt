@@ -1,5 +1,5 @@
 //! Tables worked out by hand: where lines end, and what is dropped of them.
-use crate::{Ahead, cut_law, line_content, line_law, next_in, pieces_law, plain_law};
+use line_door::{Ahead, cut_law, line_content, line_law, next_in, pieces_law, plain_law};
 
 /// Pieces, and what starts each where lines have at most 8 bytes.
 const FIRST: [(&[u8], Ahead); 9] = [

@@ -3,7 +3,7 @@ ghost use Rattle.std.specs.Prelude.{◌≡◌, ◌≤◌, ℕ, List, OnOk};
 ghost use Rattle.arch_base.specs.Counts.{IsCaused};
 ghost use Rattle.disk_model.specs.Disk.{WhereTold, LeavesOnly};
 ghost use Rattle.disk_model.specs.declared.name.FileName.{FileName};
-ghost use Rattle.disk_client.specs.Texts.{HasSize, EachFile, IsReady, StandsFor, StandsForEither};
+ghost use Rattle.disk_tests.specs.Texts.{HasSize, EachFile, IsReady, StandsFor, StandsForEither};
 
 use disk_model::{Disk, DiskFault, FileName, write_and_sync};
 

@@ -1,0 +1,23 @@
+//! Names of files that several tests use.
+use disk_model::{FileKind, FileName};
+
+/// A map.
+pub const M: FileName = FileName {
+    kind: FileKind::Map,
+    number: 0,
+    gen_: 3,
+};
+
+/// An epoch.
+pub const A: FileName = FileName {
+    kind: FileKind::Epoch,
+    number: 0,
+    gen_: 2,
+};
+
+/// Another epoch.
+pub const B: FileName = FileName {
+    kind: FileKind::Epoch,
+    number: 1,
+    gen_: 1,
+};

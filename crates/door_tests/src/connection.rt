@@ -1,0 +1,74 @@
+//! A control connection to an archive in memory.
+ghost use Rattle.arch_base.specs.Configs.{IsConfig};
+
+use arch_base::{Config, Name, Numbers};
+use arch_model::MemArchive;
+use control_door::Session;
+use edge_io::MemSink;
+use std::alloc::Global;
+
+/// A connection with an archive of its own.
+#[derive(Drop)]
+pub struct Connection {
+    session: Session,
+    archive: MemArchive,
+    out: MemSink,
+    open: bool,
+}
+
+impl Connection {
+    /// Opens a connection to an archive without messages.
+    pub fn new(alloc: Global) -> Option<Self> {
+        let archive = archive(alloc)?;
+        Some(Connection {
+            session: Session::open(alloc),
+            archive,
+            out: MemSink::new(alloc, Numbers::new(alloc)),
+            open: true,
+        })
+    }
+
+    /// Opens a connection and feeds it a stream that is cut in two at an offset.
+    pub fn cut_at(alloc: Global, stream: &[u8], at: usize) -> Option<Self> {
+        let mut connection = Connection::new(alloc)?;
+        let (front, back) = stream.split_at(at.min(stream.len()));
+        connection.hear(front);
+        connection.hear(back);
+        Some(connection)
+    }
+
+    /// Feeds a piece if the connection is still open.
+    pub fn hear(&mut self, piece: &[u8]) {
+        if self.open {
+            self.open = self
+                .session
+                .feed(piece, 1_706_781_700, &mut self.archive, &mut self.out);
+        }
+    }
+
+    /// Returns whether the answers are these bytes and the connection is open, or closed, as `open`
+    /// says.
+    pub fn was_answered(&self, words: &[u8], open: bool) -> bool {
+        self.out.taken() == words && self.open == open
+    }
+}
+
+/// Returns the settings of an archive of this name.
+fn config(name: Name) -> Config
+    ensures { IsConfig result }
+{
+    Config {
+        name,
+        limit: 1_073_741_824,
+        slice: 50_000,
+        max: 2_147_483_647,
+        mirror: false,
+        born: 1,
+    }
+}
+
+/// Creates an archive without messages of the name `list`.
+pub fn archive(alloc: Global) -> Option<MemArchive> {
+    let name = Name::read(b"list")?;
+    Some(MemArchive::new(alloc, config(name)))
+}

@@ -1,0 +1,113 @@
+//! Streams to an archive whose disk fails. A stale keeper is reopened before the next whole request,
+//! and not before a part of one.
+use crate::connection::archive;
+use crate::failing_keep::{Failing, FailingKeep};
+use arch_base::Numbers;
+use control_door::Session;
+use edge_io::MemSink;
+use std::alloc::Global;
+
+/// A stream that comes in one piece, and what it gets from a disk that fails.
+struct Stream {
+    bytes: &'static [u8],
+    /// The call that fails.
+    failing: Failing,
+    answers: &'static [u8],
+    /// Whether the connection is then still open.
+    open: bool,
+}
+
+/// Streams to disks that fail.
+const STREAMS: [Stream; 12] = [
+    Stream {
+        bytes: b"deliver 18\nMessage-ID: <a@x>\nshow 1\n",
+        failing: Failing::Command(false),
+        answers: b"10 disk fault\n7 not live 1\n",
+        open: true,
+    },
+    Stream {
+        bytes: b"deliver 18\nMessage-ID: <a@x>\nshow 1\n",
+        failing: Failing::Command(true),
+        answers: b"10 disk fault\ntext 19\nMessage-ID: <a@x>\n\n",
+        open: true,
+    },
+    Stream {
+        bytes: b"deliver 18\nMessage-ID: <a@x>\nshow 1\nshow 1\n",
+        failing: Failing::Opening,
+        answers: b"10 disk fault\n10 disk fault\n",
+        open: false,
+    },
+    Stream {
+        bytes: b"deliver 18\nMessage-ID: <a@x>\nx\n",
+        failing: Failing::OpeningWithoutMemory,
+        answers: b"10 disk fault\n12 no memory\n",
+        open: false,
+    },
+    Stream {
+        bytes: b"deliver 18\nMessage-ID: <a@x>\nquit\n",
+        failing: Failing::Opening,
+        answers: b"10 disk fault\n10 disk fault\n",
+        open: false,
+    },
+    Stream {
+        bytes: b"deliver 18\nMessage-ID: <a@x>\ndeliver 1\nxdeliver 1\nx",
+        failing: Failing::Opening,
+        answers: b"10 disk fault\n10 disk fault\n",
+        open: false,
+    },
+    Stream {
+        bytes: b"deliver 18\nMessage-ID: <a@x>\n",
+        failing: Failing::Opening,
+        answers: b"10 disk fault\n",
+        open: true,
+    },
+    Stream {
+        bytes: b"deliver 18\nMessage-ID: <a@x>\nshow 1",
+        failing: Failing::Opening,
+        answers: b"10 disk fault\n",
+        open: true,
+    },
+    Stream {
+        bytes: b"deliver 18\nMessage-ID: <a@x>\ndeliver 3\nxy",
+        failing: Failing::Opening,
+        answers: b"10 disk fault\n",
+        open: true,
+    },
+    Stream {
+        bytes: b"x\nshow 1\nepochs\nx\n",
+        failing: Failing::Opening,
+        answers: b"13 bad line\n7 not live 1\nend\n13 bad line\n",
+        open: true,
+    },
+    Stream {
+        bytes: b"deliver 18\nMessage-ID: <a@x>\nshow 1\nshow 2\n",
+        failing: Failing::Text,
+        answers: b"1 ok 1 df7a16e6b23ee491f39d84e89298f10b0d4ae4e0\n10 disk fault\n7 not live 2\n",
+        open: true,
+    },
+    Stream {
+        bytes: b"epochs\nshow 1\n",
+        failing: Failing::Epoch,
+        answers: b"10 disk fault\n7 not live 1\n",
+        open: true,
+    },
+];
+
+/// Returns whether a stream is answered as its row says.
+fn is_answered(alloc: Global, stream: &Stream) -> bool {
+    let Some(archive) = archive(alloc) else {
+        return false;
+    };
+    let mut keep = FailingKeep::new(archive, stream.failing);
+    let mut session = Session::open(alloc);
+    let mut out = MemSink::new(alloc, Numbers::new(alloc));
+    let goes_on = session.feed(stream.bytes, 1_706_781_700, &mut keep, &mut out);
+    out.taken() == stream.answers && goes_on == stream.open
+}
+
+#[test]
+fn a_disk_that_fails_is_said_and_opened_again(rt: HostRuntime) {
+    for stream in &STREAMS {
+        assert!(rt; is_answered(rt.alloc(), stream), "{:?}", stream.bytes);
+    }
+}

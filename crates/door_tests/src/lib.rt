@@ -1,0 +1,16 @@
+//! Tests of inputs, outputs, clocks and scripts, of the doors of lines and of the control door, by
+//! public calls alone.
+#![tactic(auto)]
+
+#[cfg(test)]
+mod connection;
+#[cfg(test)]
+mod control_tests;
+#[cfg(test)]
+mod edge_tests;
+#[cfg(test)]
+mod failing_keep;
+#[cfg(test)]
+mod failure_tests;
+#[cfg(test)]
+mod line_tests;
