@@ -34,8 +34,3 @@ pub use line::EntryLine;
 pub use memory::MemArchive;
 pub use opening::OpenRefusal;
 pub use text_refusal::TextRefusal;
-
-#[cfg(test)]
-mod commit_tests;
-#[cfg(test)]
-mod tests;

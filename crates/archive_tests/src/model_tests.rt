@@ -1,50 +1,11 @@
-//! Tests of deliveries, answer by answer, against texts and ids worked out by hand and by git.
-ghost use Rattle.std.specs.Prelude.{◌≤◌, IfSome};
-ghost use Rattle.arch_base.specs.Configs.{IsConfig};
-
-use crate::{Answer, Command, Index, MemArchive, Owner, Verdict, judge};
-use arch_base::{Bytes, Config, Name, NoMemory, id_of_hex};
+//! Deliveries in memory, answer by answer, against texts and ids worked out by hand and by git.
+use crate::mails::{FIRST, FIRST_ID, MOMENT, OTHER, OTHER_ID, SECOND};
+use crate::shared::{accepted, in_memory, settings, two_in_memory};
+use arch_base::{Bytes, Config, NoMemory};
+use arch_model::{Answer, Command, Index, MemArchive, Owner, Verdict, judge};
 use git_objects::blob_id;
 use mail_reader::content_id;
 use std::alloc::Global;
-
-const FIRST: &[u8] =
-    b"From: Ann <ann@example.org>\nDate: Thu, 1 Feb 2024 10:00:00 +0000\nSubject: first\nMessage-ID: <a@x>\n\none\n";
-
-/// The mail `FIRST` with another id.
-const RENAMED: &[u8] =
-    b"From: Ann <ann@example.org>\nDate: Thu, 1 Feb 2024 10:00:00 +0000\nSubject: first\nMessage-ID: <b@x>\n\none\n";
-
-/// The mail `FIRST` with another body.
-const OTHER: &[u8] =
-    b"From: Ann <ann@example.org>\nDate: Thu, 1 Feb 2024 10:00:00 +0000\nSubject: first\nMessage-ID: <a@x>\n\ntwo\n";
-
-const MOMENT: u64 = 1_706_781_700;
-
-/// Returns the settings of an archive of the name `list`.
-fn settings(limit: u64, max: u32, mirror: bool) -> Option<Config>
-    requires low { 1 ≤ limit }
-    requires high { limit ≤ 1099511627776 }
-    requires some { 1 ≤ max }
-    requires few { max ≤ 2147483647 }
-    ensures { IfSome result IsConfig }
-{
-    let name = Name::read(b"list")?;
-    Some(Config {
-        name,
-        limit,
-        slice: 50000,
-        max,
-        mirror,
-        born: 1,
-    })
-}
-
-/// Returns the answer to a delivery kept under this number with this blob id.
-fn accepted(number: u32, hex: &[u8]) -> Option<Answer> {
-    let id = id_of_hex(hex)?;
-    Some(Answer::Ok { number, id })
-}
 
 /// Delivers a message, and returns the answer.
 fn deliver(archive: &mut MemArchive, bytes: &[u8]) -> Answer {
@@ -56,21 +17,11 @@ fn answers_so(archive: &mut MemArchive, bytes: &[u8], wanted: Option<Answer>) ->
     Some(deliver(archive, bytes)) == wanted
 }
 
-/// Creates an archive without messages.
-fn made(alloc: Global, limit: u64, max: u32, mirror: bool) -> Option<MemArchive>
-    requires low { 1 ≤ limit }
-    requires high { limit ≤ 1099511627776 }
-    requires some { 1 ≤ max }
-    requires few { max ≤ 2147483647 }
-{
-    Some(MemArchive::new(alloc, settings(limit, max, mirror)?))
-}
-
 /// Returns whether another mail with a taken id is kept under a made id, and both are then
 /// duplicates.
 fn takes_two_of_an_id(archive: &mut MemArchive) -> bool {
-    let first = accepted(1, b"1d023c572ccd6f3cc82ae855343346b043adaba5");
-    let other = accepted(2, b"39f92e6e43521b9650c2c71e47523846b2ecc47a");
+    let first = accepted(1, FIRST_ID);
+    let other = accepted(2, OTHER_ID);
     let one = answers_so(archive, FIRST, first);
     let one_again = answers_so(archive, FIRST, Some(Answer::Duplicate(1)));
     let two = answers_so(archive, OTHER, other);
@@ -80,7 +31,7 @@ fn takes_two_of_an_id(archive: &mut MemArchive) -> bool {
 
 #[test]
 fn a_taken_id_gives_way_to_a_made_one(rt: HostRuntime) {
-    let Some(mut archive) = made(rt.alloc(), 1000, 10, false) else {
+    let Some(mut archive) = in_memory(rt.alloc(), 1000, 10, false) else {
         return assert!(rt; false);
     };
     assert!(rt; takes_two_of_an_id(&mut archive));
@@ -105,7 +56,7 @@ fn takes_the_next_made_id(archive: &mut MemArchive) -> bool {
 
 #[test]
 fn a_taken_made_id_gives_way_to_the_next(rt: HostRuntime) {
-    let Some(mut archive) = made(rt.alloc(), 1000, 10, false) else {
+    let Some(mut archive) = in_memory(rt.alloc(), 1000, 10, false) else {
         return assert!(rt; false);
     };
     assert!(rt; takes_the_next_made_id(&mut archive));
@@ -123,12 +74,12 @@ fn index_of_first(alloc: Global) -> Option<Index> {
     Some(index)
 }
 
-/// Returns whether an index finds `FIRST`, and not `RENAMED`.
+/// Returns whether an index finds `FIRST`, and not `SECOND`.
 fn finds_first_alone(index: &Index) -> bool {
     let by_id = matches!(index.owner(b"<a@x>"), Some(Owner { number: 1, .. }));
     let other_id = index.owner(b"<b@x>").is_none();
     let by_blob = index.number(&blob_id(FIRST)) == Some(1);
-    let other_blob = index.number(&blob_id(RENAMED)).is_none();
+    let other_blob = index.number(&blob_id(SECOND)).is_none();
     by_id && other_id && by_blob && other_blob
 }
 
@@ -146,12 +97,12 @@ fn refusal(
     }
 }
 
-/// Returns whether `RENAMED` is to be kept unchanged under the number 2.
-fn takes_renamed(alloc: Global, config: &Config, index: &Index) -> bool {
-    match judge(alloc, config, index, 1, 2, RENAMED) {
+/// Returns whether `SECOND` is to be kept unchanged under the number 2.
+fn takes_second(alloc: Global, config: &Config, index: &Index) -> bool {
+    match judge(alloc, config, index, 1, 2, SECOND) {
         Verdict::Refuse(_) => false,
         Verdict::Take { text, blob, number } => {
-            text.as_slice() == RENAMED && blob == blob_id(RENAMED) && number == 2
+            text.as_slice() == SECOND && blob == blob_id(SECOND) && number == 2
         }
     }
 }
@@ -159,8 +110,8 @@ fn takes_renamed(alloc: Global, config: &Config, index: &Index) -> bool {
 /// Returns whether messages are judged by an index of `FIRST`.
 fn judges_by(alloc: Global, config: &Config, index: &Index) -> bool {
     let again = refusal(alloc, config, index, 2, FIRST) == Some(Answer::Duplicate(1));
-    let full = refusal(alloc, config, index, 3, RENAMED) == Some(Answer::Full(2));
-    let taken = takes_renamed(alloc, config, index);
+    let full = refusal(alloc, config, index, 3, SECOND) == Some(Answer::Full(2));
+    let taken = takes_second(alloc, config, index);
     again && full && taken
 }
 
@@ -182,14 +133,14 @@ fn refuses_in_order(archive: &mut MemArchive) -> bool {
     let _ = deliver(archive, FIRST);
     let empty = answers_so(archive, b"", Some(Answer::NoFields));
     let again = answers_so(archive, FIRST, Some(Answer::Duplicate(1)));
-    let full = answers_so(archive, RENAMED, Some(Answer::Full(1)));
+    let full = answers_so(archive, SECOND, Some(Answer::Full(1)));
     let kept = archive.text(1) == Some(FIRST) && archive.text(2).is_none();
     empty && again && full && kept
 }
 
 #[test]
 fn refusals_come_in_their_order(rt: HostRuntime) {
-    let Some(mut archive) = made(rt.alloc(), 1000, 1, false) else {
+    let Some(mut archive) = in_memory(rt.alloc(), 1000, 1, false) else {
         return assert!(rt; false);
     };
     assert!(rt; refuses_in_order(&mut archive));
@@ -197,55 +148,45 @@ fn refusals_come_in_their_order(rt: HostRuntime) {
 
 #[test]
 fn a_mirror_takes_no_delivery(rt: HostRuntime) {
-    let Some(mut archive) = made(rt.alloc(), 1000, 1, true) else {
+    let Some(mut archive) = in_memory(rt.alloc(), 1000, 1, true) else {
         return assert!(rt; false);
     };
     assert!(rt; answers_so(&mut archive, FIRST, Some(Answer::IsMirror)));
 }
 
-/// Creates an archive to which `FIRST` and `RENAMED` were delivered.
-fn with_two(alloc: Global, limit: u64) -> Option<MemArchive>
-    requires low { 1 ≤ limit }
-    requires high { limit ≤ 1099511627776 }
-{
-    let mut archive = made(alloc, limit, 10, false)?;
-    let _ = deliver(&mut archive, FIRST);
-    let _ = deliver(&mut archive, RENAMED);
-    Some(archive)
+/// Returns the length of an epoch in bytes, or `None` if it has no entry.
+fn epoch_len(alloc: Global, archive: &MemArchive, epoch: u32) -> Result<Option<usize>, NoMemory> {
+    let mut bytes = Bytes::new(alloc);
+    let found = archive.push_epoch(epoch, &mut bytes)?;
+    Ok(found.then_some(bytes.as_slice().len()))
 }
 
-/// Returns whether an epoch has `len` bytes, or no entry if `len` is `None`.
-fn has_epoch(alloc: Global, archive: &MemArchive, epoch: u32, len: Option<usize>) -> bool {
-    let mut bytes = Bytes::new(alloc);
-    match archive.push_epoch(epoch, &mut bytes) {
-        Ok(true) => len == Some(bytes.as_slice().len()),
-        Ok(false) => len.is_none(),
-        Err(NoMemory) => false,
-    }
+/// Returns whether the first three epochs have these lengths.
+fn has_epochs(
+    alloc: Global,
+    archive: &MemArchive,
+    lengths: &[Option<usize>; 3],
+) -> Result<bool, NoMemory> {
+    let zero = epoch_len(alloc, archive, 0)?;
+    let one = epoch_len(alloc, archive, 1)?;
+    let two = epoch_len(alloc, archive, 2)?;
+    Ok([zero, one, two] == *lengths)
 }
 
 #[test]
 fn an_epoch_of_the_limit_takes_no_more(rt: HostRuntime) {
-    let Some(archive) = with_two(rt.alloc(), 316) else {
+    let Some(archive) = two_in_memory(rt.alloc(), 316) else {
         return assert!(rt; false);
     };
-    for (epoch, len) in [(0, Some(316)), (1, Some(316)), (2, None)] {
-        assert!(rt;
-            has_epoch(rt.alloc(), &archive, epoch, len),
-            "the epoch {epoch}"
-        );
-    }
+    let lengths = [Some(316), Some(316), None];
+    assert!(rt; matches!(has_epochs(rt.alloc(), &archive, &lengths), Ok(true)));
 }
 
 #[test]
 fn an_epoch_below_the_limit_takes_one_more(rt: HostRuntime) {
-    let Some(archive) = with_two(rt.alloc(), 317) else {
+    let Some(archive) = two_in_memory(rt.alloc(), 317) else {
         return assert!(rt; false);
     };
-    for (epoch, len) in [(0, Some(672)), (1, None)] {
-        assert!(rt;
-            has_epoch(rt.alloc(), &archive, epoch, len),
-            "the epoch {epoch}"
-        );
-    }
+    let lengths = [Some(672), None, None];
+    assert!(rt; matches!(has_epochs(rt.alloc(), &archive, &lengths), Ok(true)));
 }
