@@ -7,6 +7,3 @@ mod made;
 
 pub use index::{Index, Owner};
 pub use judging::{Verdict, judge};
-
-#[cfg(test)]
-mod tests;

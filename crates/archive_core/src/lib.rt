@@ -11,10 +11,3 @@ mod texts;
 pub use archive::DiskArchive;
 pub use engine::Engine;
 pub use not_made::{NotMade, NotOpened};
-
-#[cfg(test)]
-mod engine_tests;
-#[cfg(test)]
-mod reading_tests;
-#[cfg(test)]
-mod tests;

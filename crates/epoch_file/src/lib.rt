@@ -18,6 +18,3 @@ pub use entry::{NewEntry, Seen, SeenList, Written};
 pub use laws::{law_of_entries, law_of_epochs};
 pub use refusal::StoreRefusal;
 pub use walking::walk;
-
-#[cfg(test)]
-mod tests;

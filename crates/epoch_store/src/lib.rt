@@ -24,16 +24,3 @@ pub use laws::{law_of_recovery, law_of_stores};
 pub use opening_laws::{law_of_opening, law_of_undamaged_files};
 pub use refusal::InitRefusal;
 pub use store::Store;
-
-#[cfg(test)]
-mod damage_tests;
-#[cfg(test)]
-mod epoch_tests;
-#[cfg(test)]
-mod fault_tests;
-#[cfg(test)]
-mod joining_tests;
-#[cfg(test)]
-mod opening_tests;
-#[cfg(test)]
-mod tests;

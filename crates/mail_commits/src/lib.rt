@@ -5,6 +5,3 @@ mod commits;
 mod facts;
 
 pub use commits::{EntryIds, MAGIC, entry_commit, push_entry};
-
-#[cfg(test)]
-mod commit_tests;

@@ -6,6 +6,3 @@ mod memory;
 mod memory_keep;
 
 pub use memory::MemArchive;
-
-#[cfg(test)]
-mod tests;

@@ -4,18 +4,17 @@ ghost use Rattle.std.specs.Prelude.{◌≤◌, IfSome, IfOk, OnOk};
 ghost use Rattle.disk_model.specs.Disk.{WhereTold};
 ghost use Rattle.epoch_store.specs.Stores.{HasSizes};
 
-use crate::Store;
-use crate::tests::{FIRST, SECOND, make, put};
-use arch_base::{NoMemory, Numbers};
+use crate::mails::{FIRST, SECOND};
+use crate::shared::{ENOUGH, empty_disk};
+use crate::store_tests::{make, put};
+use arch_base::NoMemory;
 use arch_model::{EntryLine, OpenRefusal};
 use disk_model::{Disk, FuseDisk, MemDisk};
 use epoch_file::StoreRefusal;
+use epoch_store::Store;
 use std::alloc::Global;
 use std::process::Abort;
 use std::test::Fail;
-
-/// More calls than any one here makes on a disk.
-const ENOUGH: u64 = 1000;
 
 /// What is asked of an archive: the number of the next message, and each entry.
 #[derive(Debug, PartialEq, Eq, Drop)]
@@ -27,7 +26,7 @@ pub(crate) struct Listing {
 /// Returns what an archive has.
 fn listed(alloc: Global, store: &Store) -> Result<Listing, NoMemory> {
     let mut entries = Vec::new(alloc);
-    for index in 0..store.entries.len() {
+    for index in 0..store.stored().len() {
         if let Some(line) = store.entry(index as u64) {
             entries.push(line)?;
         }
@@ -112,11 +111,11 @@ fn go_on<D: Disk>(
 }
 
 /// Returns what the archive has after this many of the three calls.
-pub(crate) fn listed_behind(alloc: Global, limit: u64, calls: u64) -> Result<Option<Listing>, Fail>
+pub(crate) fn listed_after(alloc: Global, limit: u64, calls: u64) -> Result<Option<Listing>, Fail>
     requires low { 1 ≤ limit }
     requires high { limit ≤ 1099511627776 }
 {
-    let mut disk = MemDisk::new(alloc, Numbers::new(alloc));
+    let mut disk = empty_disk(alloc);
     match begin(alloc, &mut disk, limit, calls)? {
         None => Ok(None),
         Some(store) => Ok(Some(listed(alloc, &store)?)),
@@ -146,8 +145,8 @@ impl Change {
         requires high { limit ≤ 1099511627776 }
     {
         Ok(Change {
-            before: listed_behind(alloc, limit, before)?,
-            after: listed_behind(alloc, limit, after)?,
+            before: listed_after(alloc, limit, before)?,
+            after: listed_after(alloc, limit, after)?,
             found_before: false,
             found_after: false,
         })
@@ -231,7 +230,7 @@ fn stop(alloc: Global, limit: u64, calls: u64, passes: u64) -> Result<Stopped, S
     requires low { 1 ≤ limit }
     requires high { limit ≤ 1099511627776 }
 {
-    let mut disk = MemDisk::new(alloc, Numbers::new(alloc));
+    let mut disk = empty_disk(alloc);
     let store = begin(alloc, &mut disk, limit, calls)?;
     let start = disk.moments();
     let mut fuse = FuseDisk::new(disk, passes);

@@ -1,23 +1,13 @@
 //! Messages and epochs that are read of archives on disks in memory.
-ghost use Rattle.std.specs.Prelude.{OnOk};
-
-use crate::DiskArchive;
-use crate::tests::{FIRST, MOMENT, SECOND, made, put, settings};
-use arch_base::{Bytes, NoMemory, Numbers};
-use arch_model::{Command, TextRefusal};
+use crate::core_tests::filled;
+use crate::mails::{FIRST, SECOND};
+use crate::shared::{empty_disk, failing, is_epoch_of, two_in_memory};
+use arch_base::Bytes;
+use arch_model::{MemArchive, TextRefusal};
+use archive_core::DiskArchive;
 use disk_model::{Disk, MemDisk};
-use epoch_store::InitRefusal;
-use mem_archive::MemArchive;
 use std::alloc::Global;
 use std::test::Fail;
-
-/// Makes an archive of two messages, each in an epoch of its own.
-fn filled<D: Disk>(alloc: Global, disk: &mut D) -> Result<DiskArchive, InitRefusal> {
-    let mut archive = made(alloc, disk, 10, false)?;
-    put(&mut archive, disk, FIRST)?;
-    put(&mut archive, disk, SECOND)?;
-    Ok(archive)
-}
 
 /// Returns a byte and after it the text of the first message from a number on.
 fn text_from<D: Disk>(
@@ -77,47 +67,22 @@ fn new_has_and_reads_two<D: Disk>(alloc: Global, disk: &mut D) -> Result<bool, F
 #[test]
 fn messages_are_found_by_their_numbers(rt: HostRuntime) -> Result<(), Fail> {
     let alloc = rt.alloc();
-    let mut disk = MemDisk::new(alloc, Numbers::new(alloc));
+    let mut disk = empty_disk(alloc);
     assert!(rt; new_has_and_reads_two(alloc, &mut disk)?);
     Ok(())
 }
 
-/// Returns the archive in memory with both messages.
-fn two_in_memory(alloc: Global) -> Result<MemArchive, InitRefusal> {
-    match settings(10, false) {
-        None => Err(InitRefusal::NoMemory),
-        Some(config) => {
-            let mut memory = MemArchive::new(alloc, config);
-            let _ = memory.command(&Command::Deliver(FIRST), MOMENT);
-            let _ = memory.command(&Command::Deliver(SECOND), MOMENT);
-            Ok(memory)
-        }
-    }
-}
-
-/// Returns a byte and after it the bytes of an epoch, and whether the epoch is there.
+/// Returns whether an epoch is there, and its bytes after another byte.
 fn epoch_from<D: Disk>(
     alloc: Global,
     archive: &DiskArchive,
     disk: &mut D,
     epoch: u32,
-) -> Result<(Bytes, bool), TextRefusal> {
+) -> Result<(bool, Bytes), TextRefusal> {
     let mut bytes = Bytes::new(alloc);
     bytes.push(b'>')?;
     let found = archive.epoch_bytes(disk, epoch, &mut bytes)?;
-    Ok((bytes, found))
-}
-
-/// Returns the same as memory has it.
-fn epoch_in_memory(
-    alloc: Global,
-    memory: &MemArchive,
-    epoch: u32,
-) -> Result<(Bytes, bool), TextRefusal> {
-    let mut bytes = Bytes::new(alloc);
-    bytes.push(b'>')?;
-    let found = memory.push_epoch(epoch, &mut bytes)?;
-    Ok((bytes, found))
+    Ok((found, bytes))
 }
 
 /// Returns whether an epoch is read as memory has it, and is there exactly if it is one of two.
@@ -128,9 +93,9 @@ fn epoch_is_same<D: Disk>(
     memory: &MemArchive,
     epoch: u32,
 ) -> Result<bool, TextRefusal> {
-    let (bytes, found) = epoch_from(alloc, archive, disk, epoch)?;
-    let (wanted, there) = epoch_in_memory(alloc, memory, epoch)?;
-    Ok(bytes.as_slice() == wanted.as_slice() && found == there && found == (epoch < 2))
+    let (found, bytes) = epoch_from(alloc, archive, disk, epoch)?;
+    let same = is_epoch_of(alloc, memory, epoch, found, bytes.as_slice())?;
+    Ok(same && found == (epoch < 2))
 }
 
 /// Returns whether each epoch is read as memory has it.
@@ -153,7 +118,7 @@ fn epochs_are_same<D: Disk>(
 /// Makes an archive of two messages, and returns whether its epochs are read as memory has them.
 fn new_gives_the_same<D: Disk>(alloc: Global, disk: &mut D) -> Result<bool, Fail> {
     let archive = filled(alloc, disk)?;
-    let memory = two_in_memory(alloc)?;
+    let memory = two_in_memory(alloc, 316).ok_or("no settings")?;
     let same = epochs_are_same(alloc, &archive, disk, &memory)?;
     Ok(same)
 }
@@ -161,16 +126,9 @@ fn new_gives_the_same<D: Disk>(alloc: Global, disk: &mut D) -> Result<bool, Fail
 #[test]
 fn epochs_are_read_as_memory_has_them(rt: HostRuntime) -> Result<(), Fail> {
     let alloc = rt.alloc();
-    let mut disk = MemDisk::new(alloc, Numbers::new(alloc));
+    let mut disk = empty_disk(alloc);
     assert!(rt; new_gives_the_same(alloc, &mut disk)?);
     Ok(())
-}
-
-/// Returns a disk of which one call fails, by its ordinal from 1.
-fn failing(alloc: Global, ordinal: u64) -> Result<MemDisk, NoMemory> {
-    let mut faults = Numbers::new(alloc);
-    faults.push(ordinal)?;
-    Ok(MemDisk::new(alloc, faults))
 }
 
 /// Makes an archive of two messages on a disk, and returns whether the second one is read right.
@@ -188,7 +146,7 @@ fn a_fault_at_the_read_of_a_text_is_answered(rt: HostRuntime) -> Result<(), Fail
     let alloc = rt.alloc();
     let mut failed = false;
     for ordinal in 1..40 {
-        match second_is_read(alloc, failing(alloc, ordinal)?) {
+        match second_is_read(alloc, failing(alloc, &[ordinal])?) {
             None => {}
             Some(Ok(right)) => assert!(rt; right),
             Some(Err(refusal)) => {

@@ -2,25 +2,16 @@
 //! before.
 ghost use Rattle.std.specs.Prelude.{◌≤◌};
 
+use crate::mails::{FIRST, SECOND};
 use crate::opening_tests::{Change, Listing, open_since, opened};
-use crate::tests::{FIRST, MAP, ROOT, SECOND, append, epoch, make, put, write};
-use arch_base::{NoMemory, Numbers};
+use crate::shared::{ENOUGH, failing, write};
+use crate::store_tests::{FIRST_EPOCH, MAP, ROOT, append, epoch, make, put};
 use arch_model::OpenRefusal;
 use disk_model::{Disk, DiskFault, MemDisk};
 use epoch_file::StoreRefusal;
 use std::alloc::Global;
 use std::process::Abort;
 use std::test::Fail;
-
-/// More calls than all here make on a disk.
-const ENOUGH: u64 = 1000;
-
-/// Returns a disk of which one call fails, by its ordinal from 1.
-pub(crate) fn failing(alloc: Global, ordinal: u64) -> Result<MemDisk, NoMemory> {
-    let mut faults = Numbers::new(alloc);
-    faults.push(ordinal)?;
-    Ok(MemDisk::new(alloc, faults))
-}
 
 /// Makes an archive and appends both messages to it, up to the first refusal. Returns how many of
 /// these three calls answered `Ok`.
@@ -103,7 +94,7 @@ fn fail_at(rt: &impl Abort, alloc: Global, limit: u64, ordinal: u64) -> Result<b
     requires low { 1 ≤ limit }
     requires high { limit ≤ 1099511627776 }
 {
-    let mut disk = failing(alloc, ordinal)?;
+    let mut disk = failing(alloc, &[ordinal])?;
     fill_and_open(rt, alloc, &mut disk, limit, ordinal)
 }
 
@@ -133,7 +124,7 @@ fn a_fault_leaves_the_archive_before_or_after(rt: HostRuntime) -> Result<(), Fai
 fn disturb(disk: &mut MemDisk) -> Result<(), DiskFault> {
     write(disk, ROOT, 1, b"\0")?;
     append(disk, MAP)?;
-    append(disk, epoch(0, 2))?;
+    append(disk, FIRST_EPOCH)?;
     append(disk, epoch(0, 9))?;
     append(disk, epoch(63, 1))
 }
@@ -222,7 +213,7 @@ fn fail_opening(
     ordinal: u64,
     same: &mut Change,
 ) -> Result<Fault, Fail> {
-    let mut disk = failing(alloc, ordinal)?;
+    let mut disk = failing(alloc, &[ordinal])?;
     disturb_and_open(rt, alloc, &mut disk, same)
 }
 

@@ -1,19 +1,19 @@
 //! An archive that owns its disk, by the trait of keepers: what it gives, and what it does after a
 //! fault.
-use crate::tests::{FIRST, FIRST_ID, MOMENT, SECOND, SECOND_ID, accepted, settings};
-use crate::{Engine, NotMade, NotOpened};
-use arch_base::{Bytes, NoMemory, Numbers};
-use arch_model::{Answer, Command, Keep, OpenRefusal};
+use crate::mails::{FIRST, FIRST_ID, MOMENT, SECOND, SECOND_ID};
+use crate::shared::{accepted, empty_disk, failing, in_memory, settings};
+use arch_base::Bytes;
+use arch_model::{Answer, Command, Keep, MemArchive, OpenRefusal};
+use archive_core::{Engine, NotMade, NotOpened};
 use disk_model::MemDisk;
 use epoch_store::InitRefusal;
-use mem_archive::MemArchive;
 use std::alloc::Global;
 use std::process::Abort;
 use std::test::Fail;
 
 /// Makes an archive on a disk.
 fn made(alloc: Global, disk: MemDisk) -> Result<Engine<MemDisk>, InitRefusal> {
-    match settings(10, false) {
+    match settings(316, 10, false) {
         None => Err(InitRefusal::NoMemory),
         Some(config) => match Engine::make(alloc, disk, &config) {
             Ok(engine) => Ok(engine),
@@ -84,14 +84,6 @@ fn put_all<K: Keep>(keep: &mut K, into: &mut Bytes) -> Result<bool, Fail> {
     Ok(texts && epochs)
 }
 
-/// Returns the archive without messages in memory.
-fn in_memory(alloc: Global) -> Result<MemArchive, InitRefusal> {
-    match settings(10, false) {
-        None => Err(InitRefusal::NoMemory),
-        Some(config) => Ok(MemArchive::new(alloc, config)),
-    }
-}
-
 /// Delivers two messages to an archive without any, and returns whether each is answered as it
 /// should be.
 fn takes_two<K: Keep>(keep: &mut K) -> Result<bool, OpenRefusal> {
@@ -133,7 +125,7 @@ fn both_give_the_same<K: Keep>(
 /// Returns whether an archive of two messages gives the same as one in memory to which they were
 /// delivered, and which answered as it should.
 fn gives_as_memory<K: Keep>(alloc: Global, keep: &mut K) -> Result<bool, Fail> {
-    let mut memory = in_memory(alloc)?;
+    let mut memory = in_memory(alloc, 316, 10, false).ok_or("no settings")?;
     let taken = takes_two(&mut memory)?;
     let same = both_give_the_same(alloc, keep, &mut memory)?;
     Ok(taken && same)
@@ -157,7 +149,7 @@ fn opened_gives_as_memory(alloc: Global, disk: MemDisk) -> Result<bool, Fail> {
 #[test]
 fn an_engine_gives_what_the_archive_in_memory_does(rt: HostRuntime) -> Result<(), Fail> {
     let alloc = rt.alloc();
-    let mut engine = made(alloc, MemDisk::new(alloc, Numbers::new(alloc)))?;
+    let mut engine = made(alloc, empty_disk(alloc))?;
     let given = takes_and_gives(alloc, &mut engine)?;
     let again = opened_gives_as_memory(alloc, engine.into_disk())?;
     assert!(rt; given && again);
@@ -174,7 +166,7 @@ fn unopened(alloc: Global, disk: MemDisk) -> Option<(MemDisk, OpenRefusal)> {
 
 /// Returns a disk on which no archive is made, and why.
 fn unmade(alloc: Global, disk: MemDisk) -> Option<(MemDisk, InitRefusal)> {
-    let config = settings(10, false)?;
+    let config = settings(316, 10, false)?;
     match Engine::make(alloc, disk, &config) {
         Ok(_engine) => None,
         Err(NotMade { disk, why }) => Some((disk, why)),
@@ -198,7 +190,7 @@ fn has_message(alloc: Global, disk: MemDisk) -> Result<bool, Fail> {
 #[test]
 fn a_disk_on_which_nothing_is_opened_is_handed_back(rt: HostRuntime) -> Result<(), Fail> {
     let alloc = rt.alloc();
-    let Some((disk, why)) = unopened(alloc, MemDisk::new(alloc, Numbers::new(alloc))) else {
+    let Some((disk, why)) = unopened(alloc, empty_disk(alloc)) else {
         return Ok(assert!(rt; false));
     };
     assert!(rt; why == OpenRefusal::NoArchive);
@@ -210,21 +202,13 @@ fn a_disk_on_which_nothing_is_opened_is_handed_back(rt: HostRuntime) -> Result<(
 #[test]
 fn a_disk_on_which_nothing_is_made_is_handed_back(rt: HostRuntime) -> Result<(), Fail> {
     let alloc = rt.alloc();
-    let disk = with_message(alloc, MemDisk::new(alloc, Numbers::new(alloc)))?;
+    let disk = with_message(alloc, empty_disk(alloc))?;
     let Some((disk, why)) = unmade(alloc, disk) else {
         return Ok(assert!(rt; false));
     };
     assert!(rt; why == InitRefusal::Exists);
     assert!(rt; has_message(alloc, disk)?);
     Ok(())
-}
-
-/// Returns a disk of which two calls in a row fail, by the first one's ordinal from 1.
-fn failing(alloc: Global, ordinal: u64) -> Result<MemDisk, NoMemory> {
-    let mut faults = Numbers::new(alloc);
-    faults.push(ordinal)?;
-    faults.push(ordinal.saturating_add(1))?;
-    Ok(MemDisk::new(alloc, faults))
 }
 
 /// Delivers a message, and returns whether the disk failed: exactly then the archive is stale.
@@ -284,7 +268,7 @@ fn found_over_failing(
     alloc: Global,
     ordinal: u64,
 ) -> Result<Option<(Option<u32>, Answer)>, Fail> {
-    let disk = failing(alloc, ordinal)?;
+    let disk = failing(alloc, &[ordinal, ordinal.saturating_add(1)])?;
     Ok(found_over(rt, alloc, disk)?)
 }
 

@@ -1,32 +1,22 @@
-//! Tests of archives on disks in memory: what is made, what is answered, and what is read of them.
-ghost use Rattle.std.specs.Prelude.{◌≢◌, ◌≤◌, Some, IfSome, IfOk, IsTrue, OnOk};
-ghost use Rattle.arch_base.specs.Configs.{IsConfig};
+//! Stores on disks in memory: what is made, what is answered, and what is read of them.
+ghost use Rattle.std.specs.Prelude.{◌≢◌, ◌≤◌, Some, IfOk, IsTrue, OnOk};
 ghost use Rattle.disk_model.specs.Disk.{WhereTold};
 ghost use Rattle.git_objects.specs.Objects.{blob_id_of};
 ghost use Rattle.mail_reader.specs.Ids.{own_id as own_id_in};
 ghost use Rattle.epoch_store.specs.Stores.{Accepts, HasSizes};
 
-use crate::{InitRefusal, Store, StoredEntry};
-use arch_base::{Bytes, Config, Name, NoMemory, Numbers, id_of_hex};
-use arch_model::{Command, TextRefusal};
+use crate::mails::{FIRST, FIRST_ID, MOMENT, SECOND, SECOND_COMMIT, SECOND_ID};
+use crate::shared::{empty_disk, is_epoch_of, settings, two_in_memory, write};
+use arch_base::{Bytes, NoMemory, id_of_hex};
+use arch_model::TextRefusal;
 use disk_model::{Disk, DiskFault, FileKind, FileName, FuseDisk, MemDisk};
 use epoch_file::StoreRefusal;
-use git_objects::{EntryKind, blob_id};
+use epoch_store::{InitRefusal, Store, StoredEntry};
+use git_objects::blob_id;
 use mail_reader::{is_stored, own_id};
-use mem_archive::MemArchive;
 use std::alloc::Global;
 use std::process::Abort;
 use std::test::Fail;
-
-/// A mail.
-pub(crate) const FIRST: &[u8] =
-    b"From: Ann <ann@example.org>\nDate: Thu, 1 Feb 2024 10:00:00 +0000\nSubject: first\nMessage-ID: <a@x>\n\none\n";
-
-/// The same mail with another id.
-pub(crate) const SECOND: &[u8] =
-    b"From: Ann <ann@example.org>\nDate: Thu, 1 Feb 2024 10:00:00 +0000\nSubject: first\nMessage-ID: <b@x>\n\none\n";
-
-pub(crate) const MOMENT: u64 = 1_706_781_700;
 
 /// The file of the root.
 pub(crate) const ROOT: FileName = FileName {
@@ -42,6 +32,20 @@ pub(crate) const MAP: FileName = FileName {
     gen_: 1,
 };
 
+/// The file of the first epoch of an archive that has a message.
+pub(crate) const FIRST_EPOCH: FileName = FileName {
+    kind: FileKind::Epoch,
+    number: 0,
+    gen_: 2,
+};
+
+/// The file of the second epoch of an archive whose first one took one message.
+pub(crate) const SECOND_EPOCH: FileName = FileName {
+    kind: FileKind::Epoch,
+    number: 1,
+    gen_: 3,
+};
+
 /// Returns the file of an epoch.
 pub(crate) fn epoch(number: u32, gen_: u64) -> FileName {
     FileName {
@@ -49,23 +53,6 @@ pub(crate) fn epoch(number: u32, gen_: u64) -> FileName {
         number,
         gen_,
     }
-}
-
-/// Settings of an archive of the name `list`.
-pub(crate) fn settings(limit: u64) -> Option<Config>
-    requires low { 1 ≤ limit }
-    requires high { limit ≤ 1099511627776 }
-    ensures { IfSome result IsConfig }
-{
-    let name = Name::read(b"list")?;
-    Some(Config {
-        name,
-        limit,
-        slice: 50000,
-        max: 10,
-        mirror: false,
-        born: 1,
-    })
 }
 
 /// Returns whether an archive of one message at most would accept a text.
@@ -76,7 +63,7 @@ fn accepts(store: &Store, text: &[u8]) -> bool
     if config.mirror || store.next_number() > config.max || !is_stored(text) {
         return false;
     }
-    match store.entries.as_slice() {
+    match store.stored() {
         [] => true,
         [one] => is_apart(one, text),
         _ => false,
@@ -122,7 +109,7 @@ pub(crate) fn make<D: Disk>(alloc: Global, disk: &mut D, limit: u64) -> Result<S
     requires high { limit ≤ 1099511627776 }
     ensures sizes { IfOk result (λ store. WhereTold (HasSizes store) (D.content disk.new)) }
 {
-    let Some(config) = settings(limit) else {
+    let Some(config) = settings(limit, 10, false) else {
         return Err(StoreRefusal::Damaged { file: ROOT, at: 1 });
     };
     match Store::init(alloc, disk, &config) {
@@ -144,9 +131,16 @@ pub(crate) fn fill<D: Disk>(alloc: Global, disk: &mut D, limit: u64) -> Result<S
     Ok(store)
 }
 
-/// Returns whether files have this many bytes.
-fn have_lengths<D: Disk>(disk: &mut D, wanted: &[(FileName, u64)]) -> Result<bool, DiskFault> {
-    for (file, length) in wanted {
+/// A file, and its length in bytes.
+#[derive(Drop)]
+struct Length {
+    file: FileName,
+    length: u64,
+}
+
+/// Returns whether files have these lengths.
+fn have_lengths<D: Disk>(disk: &mut D, wanted: &[Length]) -> Result<bool, DiskFault> {
+    for Length { file, length } in wanted {
         if disk.length(*file)? != *length {
             return Ok(false);
         }
@@ -159,27 +153,41 @@ fn have_lengths<D: Disk>(disk: &mut D, wanted: &[(FileName, u64)]) -> Result<boo
 fn has_two_epochs(store: &Store) -> bool {
     let next = store.next_number() == 3;
     let none = store.entry(2).is_none() && store.place(2).is_none();
-    let place = store.place(1) == Some((epoch(1, 3), 8));
+    let place = store.place(1) == Some((SECOND_EPOCH, 8));
     next && none && place
 }
+
+/// The files of an archive of two epochs, each of one message.
+const TWO_EPOCHS: [Length; 4] = [
+    Length {
+        file: ROOT,
+        length: 4096,
+    },
+    Length {
+        file: MAP,
+        length: 56,
+    },
+    Length {
+        file: FIRST_EPOCH,
+        length: 316,
+    },
+    Length {
+        file: SECOND_EPOCH,
+        length: 316,
+    },
+];
 
 /// Fills an archive of which each epoch is full with one message, and returns whether its files are
 /// as long as they should be.
 fn fill_two_epochs<D: Disk>(alloc: Global, disk: &mut D) -> Result<bool, StoreRefusal> {
     let store = fill(alloc, disk, 316)?;
-    let lengths = [
-        (ROOT, 4096),
-        (MAP, 56),
-        (epoch(0, 2), 316),
-        (epoch(1, 3), 316),
-    ];
-    let are_long = have_lengths(disk, &lengths)?;
+    let are_long = have_lengths(disk, &TWO_EPOCHS)?;
     Ok(are_long && has_two_epochs(&store))
 }
 
 #[test]
 fn a_full_epoch_is_followed_by_the_next(rt: HostRuntime) -> Result<(), Fail> {
-    let mut disk = MemDisk::new(rt.alloc(), Numbers::new(rt.alloc()));
+    let mut disk = empty_disk(rt.alloc());
     assert!(rt; fill_two_epochs(rt.alloc(), &mut disk)?);
     Ok(())
 }
@@ -189,10 +197,10 @@ fn has_second_entry(store: &Store) -> bool {
     let Some(line) = store.entry(1) else {
         return false;
     };
-    let blob = Some(line.blob) == id_of_hex(b"71bad95e975640281da17cb561681235ca4c1f42");
-    let commit = Some(line.commit) == id_of_hex(b"8465c6e7dc37ed0249ed8b1434a73ffd13973fad");
-    let place = store.place(1) == Some((epoch(0, 2), 316));
-    let named = line.kind == EntryKind::Message && line.number == 2 && line.epoch == 0;
+    let blob = Some(line.blob) == id_of_hex(SECOND_ID);
+    let commit = Some(line.commit) == id_of_hex(SECOND_COMMIT);
+    let place = store.place(1) == Some((FIRST_EPOCH, 316));
+    let named = line.name == b'm' && line.number == 2 && line.epoch == 0;
     let sized = line.secs == MOMENT && line.size == 103;
     blob && commit && place && named && sized
 }
@@ -201,20 +209,20 @@ fn has_second_entry(store: &Store) -> bool {
 /// it should be.
 fn fill_one_epoch<D: Disk>(alloc: Global, disk: &mut D) -> Result<bool, StoreRefusal> {
     let store = fill(alloc, disk, 317)?;
-    let is_long = have_lengths(disk, &[(epoch(0, 2), 672)])?;
+    let is_long = disk.length(FIRST_EPOCH)? == 672;
     Ok(is_long && has_second_entry(&store))
 }
 
 #[test]
 fn an_epoch_below_the_limit_takes_one_more(rt: HostRuntime) -> Result<(), Fail> {
-    let mut disk = MemDisk::new(rt.alloc(), Numbers::new(rt.alloc()));
+    let mut disk = empty_disk(rt.alloc());
     assert!(rt; fill_one_epoch(rt.alloc(), &mut disk)?);
     Ok(())
 }
 
 /// Makes an archive whose epochs have at least 316 bytes. `Exists` if there is one.
 fn init<D: Disk>(alloc: Global, disk: &mut D) -> Result<Store, InitRefusal> {
-    let Some(config) = settings(316) else {
+    let Some(config) = settings(316, 10, false) else {
         return Err(InitRefusal::NoMemory);
     };
     Store::init(alloc, disk, &config)
@@ -234,10 +242,22 @@ fn init_is_refused<D: Disk>(alloc: Global, disk: &mut D) -> bool {
     }
 }
 
+/// The files of an archive without messages.
+const NO_EPOCH: [Length; 2] = [
+    Length {
+        file: ROOT,
+        length: 4096,
+    },
+    Length {
+        file: MAP,
+        length: 0,
+    },
+];
+
 /// Makes an archive twice, of which the first time alone is one.
 fn init_twice<D: Disk>(rt: &impl Abort, alloc: Global, disk: &mut D) -> Result<(), Fail> {
     assert!(rt; init_is_empty(alloc, disk)?);
-    assert!(rt; have_lengths(disk, &[(ROOT, 4096), (MAP, 0)])?);
+    assert!(rt; have_lengths(disk, &NO_EPOCH)?);
     assert!(rt; disk.name_at(1)?.is_none());
     assert!(rt; init_is_refused(alloc, disk));
     Ok(())
@@ -245,46 +265,33 @@ fn init_twice<D: Disk>(rt: &impl Abort, alloc: Global, disk: &mut D) -> Result<(
 
 #[test]
 fn an_archive_is_made_once(rt: HostRuntime) -> Result<(), Fail> {
-    let mut disk = MemDisk::new(rt.alloc(), Numbers::new(rt.alloc()));
+    let mut disk = empty_disk(rt.alloc());
     init_twice(&rt, rt.alloc(), &mut disk)
 }
 
-/// Returns the archive in memory that took both messages.
-pub(crate) fn in_memory(alloc: Global, limit: u64) -> Option<MemArchive>
-    requires low { 1 ≤ limit }
-    requires high { limit ≤ 1099511627776 }
-{
-    let mut archive = MemArchive::new(alloc, settings(limit)?);
-    let _ = archive.command(&Command::Deliver(FIRST), MOMENT);
-    let _ = archive.command(&Command::Deliver(SECOND), MOMENT);
-    Some(archive)
-}
-
-/// Returns whether bytes are those of the first epoch of the archive in memory.
+/// Returns whether bytes, after another byte, are those of the first epoch of the archive in memory.
 fn is_first_epoch(alloc: Global, limit: u64, bytes: &[u8]) -> Result<bool, NoMemory>
     requires low { 1 ≤ limit }
     requires high { limit ≤ 1099511627776 }
 {
-    let Some(archive) = in_memory(alloc, limit) else {
-        return Ok(false);
-    };
-    let mut same = Bytes::new(alloc);
-    let found = archive.push_epoch(0, &mut same)?;
-    Ok(found && same.as_slice() == bytes)
+    match two_in_memory(alloc, limit) {
+        None => Ok(false),
+        Some(archive) => is_epoch_of(alloc, &archive, 0, true, bytes),
+    }
 }
 
 /// Returns whether the file of the first epoch has the bytes of the archive in memory.
 fn is_epoch_file<D: Disk>(alloc: Global, disk: &mut D) -> Result<bool, TextRefusal> {
-    let mut bytes = [0; 673];
-    let count = disk.read(epoch(0, 2), 0, &mut bytes)?;
-    let same = is_first_epoch(alloc, 317, bytes.split_at(672).0)?;
+    let mut bytes = [b'>'; 674];
+    let count = disk.read(FIRST_EPOCH, 0, &mut bytes[1..])?;
+    let same = is_first_epoch(alloc, 317, &bytes[..673])?;
     Ok(count == 672 && same)
 }
 
 #[test]
 fn the_file_of_an_epoch_has_the_bytes_of_the_epoch(rt: HostRuntime) -> Result<(), Fail> {
     let alloc = rt.alloc();
-    let mut disk = MemDisk::new(alloc, Numbers::new(alloc));
+    let mut disk = empty_disk(alloc);
     fill(alloc, &mut disk, 317)?;
     assert!(rt; is_epoch_file(alloc, &mut disk)?);
     Ok(())
@@ -299,23 +306,10 @@ fn text_of<D: Disk>(
 ) -> Result<Bytes, TextRefusal> {
     let mut bytes = Bytes::new(alloc);
     bytes.push(b'>')?;
-    if index < store.entries.len() as u64 {
+    if index < store.stored().len() as u64 {
         store.text(disk, index, &mut bytes)?;
     }
     Ok(bytes)
-}
-
-/// Writes bytes into a file.
-pub(crate) fn write(
-    disk: &mut MemDisk,
-    file: FileName,
-    place: u64,
-    bytes: &[u8],
-) -> Result<(), DiskFault> {
-    if place > 1 << 40 || bytes.len() > 4096 || place > disk.length(file)? {
-        return Err(DiskFault);
-    }
-    disk.write_at(file, place, bytes)
 }
 
 /// Appends ten bytes to a file.
@@ -339,7 +333,7 @@ fn is_second_text<D: Disk>(
 fn is_damaged<D: Disk>(alloc: Global, disk: &mut D, store: &Store, index: u64) -> bool {
     match text_of(alloc, disk, store, index) {
         Err(TextRefusal::Damaged { named, found }) => {
-            let first = id_of_hex(b"1d023c572ccd6f3cc82ae855343346b043adaba5");
+            let first = id_of_hex(FIRST_ID);
             Some(named) == first && named != found
         }
         _ => false,
@@ -355,21 +349,21 @@ fn read_texts(
 ) -> Result<(), Fail> {
     assert!(rt; is_second_text(alloc, disk, store, 1)?);
     // The subject of the first text becomes another one.
-    write(disk, epoch(0, 2), 91, b"F")?;
+    write(disk, FIRST_EPOCH, 91, b"F")?;
     assert!(rt; is_damaged(alloc, disk, store, 0));
     Ok(())
 }
 
 #[test]
 fn a_text_is_read_where_it_stands_unharmed(rt: HostRuntime) -> Result<(), Fail> {
-    let mut disk = MemDisk::new(rt.alloc(), Numbers::new(rt.alloc()));
+    let mut disk = empty_disk(rt.alloc());
     let store = fill(rt.alloc(), &mut disk, 316)?;
     read_texts(&rt, rt.alloc(), &mut disk, &store)
 }
 
 /// Makes an archive and appends both messages to it, on a disk that stops after this many calls.
 fn fill_stopped(alloc: Global, passes: u64) -> Result<(), StoreRefusal> {
-    let mut fuse = FuseDisk::new(MemDisk::new(alloc, Numbers::new(alloc)), passes);
+    let mut fuse = FuseDisk::new(empty_disk(alloc), passes);
     fill(alloc, &mut fuse, 316)?;
     Ok(())
 }

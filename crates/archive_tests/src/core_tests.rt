@@ -1,59 +1,21 @@
 //! Archives on disks in memory: what commands are answered, what a fault leaves, and what is
 //! reopened. The ids were worked out by git.
-ghost use Rattle.std.specs.Prelude.{◌≤◌, length, IfSome, IfOk, OnOk};
-ghost use Rattle.arch_base.specs.Configs.{IsConfig};
+ghost use Rattle.std.specs.Prelude.{◌≤◌, length, IfOk, OnOk};
 ghost use Rattle.disk_model.specs.Disk.{WhereTold};
 ghost use Rattle.disk_model.specs.Memory.{changes_of};
 ghost use Rattle.epoch_store.specs.Stores.{HasSizes};
 
-use crate::DiskArchive;
-use arch_base::{Config, Name, Numbers, id_of_hex};
-use arch_model::{Answer, Command, OpenRefusal};
+use crate::mails::{FIRST, FIRST_ID, MOMENT, OTHER, OTHER_ID, SECOND, SECOND_ID};
+use crate::shared::{accepted, empty_disk, in_memory, settings};
+use arch_model::{Answer, Command, MemArchive, OpenRefusal};
+use archive_core::DiskArchive;
 use disk_model::{Disk, DiskFault, FuseDisk, MemDisk};
 use epoch_store::InitRefusal;
-use mem_archive::MemArchive;
 use std::alloc::Global;
 use std::test::Fail;
 
-pub(crate) const FIRST: &[u8] =
-    b"From: Ann <ann@example.org>\nDate: Thu, 1 Feb 2024 10:00:00 +0000\nSubject: first\nMessage-ID: <a@x>\n\none\n";
-
-/// The same mail with another id.
-pub(crate) const SECOND: &[u8] =
-    b"From: Ann <ann@example.org>\nDate: Thu, 1 Feb 2024 10:00:00 +0000\nSubject: first\nMessage-ID: <b@x>\n\none\n";
-
-/// The first mail with another body.
-const OTHER: &[u8] =
-    b"From: Ann <ann@example.org>\nDate: Thu, 1 Feb 2024 10:00:00 +0000\nSubject: first\nMessage-ID: <a@x>\n\ntwo\n";
-
-/// The blob ids of the three messages; the last one is stored with an id that is made for it.
-pub(crate) const FIRST_ID: &[u8] = b"1d023c572ccd6f3cc82ae855343346b043adaba5";
-
-pub(crate) const SECOND_ID: &[u8] = b"71bad95e975640281da17cb561681235ca4c1f42";
-
-const OTHER_ID: &[u8] = b"39f92e6e43521b9650c2c71e47523846b2ecc47a";
-
-pub(crate) const MOMENT: u64 = 1_706_781_700;
-
-/// Settings of an archive of the name `list`, whose epochs take one message each.
-pub(crate) fn settings(max: u32, mirror: bool) -> Option<Config>
-    requires some { 1 ≤ max }
-    requires few { max ≤ 2147483647 }
-    ensures { IfSome result IsConfig }
-{
-    let name = Name::read(b"list")?;
-    Some(Config {
-        name,
-        limit: 316,
-        slice: 50000,
-        max,
-        mirror,
-        born: 1,
-    })
-}
-
-/// Makes an archive on a disk.
-pub(crate) fn made<D: Disk>(
+/// Makes an archive on a disk, whose epochs take one message each.
+fn made<D: Disk>(
     alloc: Global,
     disk: &mut D,
     max: u32,
@@ -63,7 +25,7 @@ pub(crate) fn made<D: Disk>(
     requires few { max ≤ 2147483647 }
     ensures { IfOk result (λ archive. WhereTold (HasSizes archive) (D.content disk.new)) }
 {
-    match settings(max, mirror) {
+    match settings(316, max, mirror) {
         None => Err(InitRefusal::NoMemory),
         Some(config) => DiskArchive::init(alloc, disk, &config),
     }
@@ -98,12 +60,6 @@ fn answers<D: Disk>(
     Ok(Some(answer) == wanted)
 }
 
-/// Returns the answer that a delivery of this blob id under this number gets.
-pub(crate) fn accepted(number: u32, hex: &[u8]) -> Option<Answer> {
-    let id = id_of_hex(hex)?;
-    Some(Answer::Ok { number, id })
-}
-
 /// Returns whether an archive has this many messages by each of its counts.
 fn has_count(archive: &DiskArchive, count: u32) -> bool {
     let entries = archive.entry_count() == count as u64;
@@ -136,7 +92,7 @@ fn new_takes_each_once<D: Disk>(alloc: Global, disk: &mut D) -> Result<bool, Ini
 #[test]
 fn a_message_is_taken_once(rt: HostRuntime) -> Result<(), Fail> {
     let alloc = rt.alloc();
-    let mut disk = MemDisk::new(alloc, Numbers::new(alloc));
+    let mut disk = empty_disk(alloc);
     assert!(rt; new_takes_each_once(alloc, &mut disk)?);
     Ok(())
 }
@@ -151,7 +107,7 @@ fn mirror_takes_nothing<D: Disk>(alloc: Global, disk: &mut D) -> Result<bool, In
 #[test]
 fn a_mirror_takes_nothing(rt: HostRuntime) -> Result<(), Fail> {
     let alloc = rt.alloc();
-    let mut disk = MemDisk::new(alloc, Numbers::new(alloc));
+    let mut disk = empty_disk(alloc);
     assert!(rt; mirror_takes_nothing(alloc, &mut disk)?);
     Ok(())
 }
@@ -178,7 +134,7 @@ fn new_takes_one_only<D: Disk>(alloc: Global, disk: &mut D) -> Result<bool, Init
 #[test]
 fn a_full_archive_takes_nothing(rt: HostRuntime) -> Result<(), Fail> {
     let alloc = rt.alloc();
-    let mut disk = MemDisk::new(alloc, Numbers::new(alloc));
+    let mut disk = empty_disk(alloc);
     assert!(rt; new_takes_one_only(alloc, &mut disk)?);
     Ok(())
 }
@@ -211,48 +167,56 @@ fn answers_as_memory<D: Disk>(
 ) -> Result<bool, DiskFault>
     requires sizes { WhereTold (HasSizes archive.old) (D.content disk.old) }
 {
-    match settings(4, false) {
+    match in_memory(alloc, 316, 4, false) {
         None => Ok(false),
-        Some(config) => {
-            let mut memory = MemArchive::new(alloc, config);
-            answers_alike(archive, disk, &mut memory, messages)
-        }
+        Some(mut memory) => answers_alike(archive, disk, &mut memory, messages),
     }
 }
+
+/// Messages of which an archive for four takes four.
+const MESSAGES: [&[u8]; 8] = [
+    OTHER,
+    b"",
+    FIRST,
+    SECOND,
+    b"Subject: u\n\nx\n",
+    OTHER,
+    b"Subject: u\n\nx\n",
+    b"Subject: w\n\nx\n",
+];
 
 /// Makes an archive for four messages, and returns whether it answers messages as memory does, and
 /// takes four of them.
 fn new_answers_as_memory<D: Disk>(alloc: Global, disk: &mut D) -> Result<bool, InitRefusal> {
-    let plain: &[u8] = b"Subject: u\n\nx\n";
-    let last: &[u8] = b"Subject: w\n\nx\n";
-    let messages = [OTHER, b"", FIRST, SECOND, plain, OTHER, plain, last];
     let mut archive = made(alloc, disk, 4, false)?;
-    let alike = answers_as_memory(alloc, &mut archive, disk, &messages)?;
+    let alike = answers_as_memory(alloc, &mut archive, disk, &MESSAGES)?;
     Ok(alike && archive.entry_count() == 4)
 }
 
 #[test]
 fn a_disk_answers_as_memory_does(rt: HostRuntime) -> Result<(), Fail> {
     let alloc = rt.alloc();
-    let mut disk = MemDisk::new(alloc, Numbers::new(alloc));
+    let mut disk = empty_disk(alloc);
     assert!(rt; new_answers_as_memory(alloc, &mut disk)?);
     Ok(())
 }
 
-/// Makes an archive of two messages, and returns how many it has.
-fn filled<D: Disk>(alloc: Global, disk: &mut D) -> Result<u64, InitRefusal> {
+/// Makes an archive of two messages, each in an epoch of its own.
+pub(crate) fn filled<D: Disk>(alloc: Global, disk: &mut D) -> Result<DiskArchive, InitRefusal> {
     let mut archive = made(alloc, disk, 10, false)?;
     put(&mut archive, disk, FIRST)?;
     put(&mut archive, disk, SECOND)?;
+    Ok(archive)
+}
+
+/// Makes an archive of two messages, and returns how many it has.
+fn filled_count<D: Disk>(alloc: Global, disk: &mut D) -> Result<u64, InitRefusal> {
+    let archive = filled(alloc, disk)?;
     Ok(archive.entry_count())
 }
 
 /// Appends a new message to an archive.
-pub(crate) fn put<D: Disk>(
-    archive: &mut DiskArchive,
-    disk: &mut D,
-    bytes: &[u8],
-) -> Result<(), InitRefusal>
+fn put<D: Disk>(archive: &mut DiskArchive, disk: &mut D, bytes: &[u8]) -> Result<(), InitRefusal>
     requires sizes { WhereTold (HasSizes archive.old) (D.content disk.old) }
     ensures sizes { OnOk result (WhereTold (HasSizes archive.new) (D.content disk.new)) }
 {
@@ -277,8 +241,8 @@ fn filled_and_left(
     alloc: Global,
     passes: u64,
 ) -> (Result<u64, InitRefusal>, Result<u64, OpenRefusal>) {
-    let mut fuse = FuseDisk::new(MemDisk::new(alloc, Numbers::new(alloc)), passes);
-    let count = filled(alloc, &mut fuse);
+    let mut fuse = FuseDisk::new(empty_disk(alloc), passes);
+    let count = filled_count(alloc, &mut fuse);
     let mut disk = fuse.into_inner();
     (count, opened_count(alloc, &mut disk))
 }
@@ -325,8 +289,8 @@ fn opened_knows_two<D: Disk>(alloc: Global, disk: &mut D) -> Result<bool, Fail> 
 #[test]
 fn an_archive_that_is_opened_knows_its_messages(rt: HostRuntime) -> Result<(), Fail> {
     let alloc = rt.alloc();
-    let mut disk = MemDisk::new(alloc, Numbers::new(alloc));
-    assert!(rt; filled(alloc, &mut disk)? == 2);
+    let mut disk = empty_disk(alloc);
+    assert!(rt; filled_count(alloc, &mut disk)? == 2);
     assert!(rt; opened_knows_two(alloc, &mut disk)?);
     Ok(())
 }
@@ -355,8 +319,8 @@ fn most_left(alloc: Global, disk: &MemDisk, at: u64) -> Result<u64, Fail>
 #[test]
 fn a_crash_leaves_whole_messages(rt: HostRuntime) -> Result<(), Fail> {
     let alloc = rt.alloc();
-    let mut disk = MemDisk::new(alloc, Numbers::new(alloc));
-    assert!(rt; filled(alloc, &mut disk)? == 2);
+    let mut disk = empty_disk(alloc);
+    assert!(rt; filled_count(alloc, &mut disk)? == 2);
     let mut most = 0;
     for at in 0..disk.moments() {
         most = most.max(most_left(alloc, &disk, at)?);

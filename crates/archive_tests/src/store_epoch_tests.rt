@@ -1,11 +1,10 @@
 //! Epochs that are read whole, by disks in memory.
-use crate::Store;
-use crate::fault_tests::failing;
-use crate::tests::{fill, in_memory};
-use arch_base::{Bytes, NoMemory, Numbers};
-use arch_model::TextRefusal;
-use disk_model::{Disk, MemDisk};
-use mem_archive::MemArchive;
+use crate::shared::{empty_disk, failing, is_epoch_of, two_in_memory};
+use crate::store_tests::fill;
+use arch_base::{Bytes, NoMemory};
+use arch_model::{MemArchive, TextRefusal};
+use disk_model::Disk;
+use epoch_store::Store;
 use std::alloc::Global;
 use std::process::Abort;
 use std::test::Fail;
@@ -24,14 +23,6 @@ fn on_disk<D: Disk>(
     Ok((found, bytes))
 }
 
-/// Returns the same, as the archive in memory has it.
-fn in_model(alloc: Global, archive: &MemArchive, number: u32) -> Result<(bool, Bytes), NoMemory> {
-    let mut bytes = Bytes::new(alloc);
-    bytes.push(b'>')?;
-    let found = archive.push_epoch(number, &mut bytes)?;
-    Ok((found, bytes))
-}
-
 /// Returns whether an epoch is read as the archive in memory has it: the first two have 316 bytes
 /// each, and no other is there.
 fn is_read_alike<D: Disk>(
@@ -42,11 +33,10 @@ fn is_read_alike<D: Disk>(
     number: u32,
 ) -> Result<bool, TextRefusal> {
     let (found, bytes) = on_disk(alloc, disk, store, number)?;
-    let (there, wanted) = in_model(alloc, archive, number)?;
     let size = if found { 317 } else { 1 };
-    let there = there == found && found == (number < 2);
-    let alike = bytes.as_slice() == wanted.as_slice();
-    Ok(there && alike && bytes.as_slice().len() == size)
+    let sized = found == (number < 2) && bytes.as_slice().len() == size;
+    let alike = is_epoch_of(alloc, archive, number, found, bytes.as_slice())?;
+    Ok(sized && alike)
 }
 
 /// Returns whether each epoch is read as the archive in memory has it.
@@ -55,7 +45,7 @@ fn are_read_alike<D: Disk>(
     disk: &mut D,
     store: &Store,
 ) -> Result<bool, TextRefusal> {
-    let Some(archive) = in_memory(alloc, 1) else {
+    let Some(archive) = two_in_memory(alloc, 1) else {
         return Ok(false);
     };
     for number in 0..65 {
@@ -76,7 +66,7 @@ fn fill_and_read<D: Disk>(alloc: Global, disk: &mut D) -> Result<bool, Fail> {
 
 #[test]
 fn an_epoch_is_read_as_memory_has_it(rt: HostRuntime) -> Result<(), Fail> {
-    let mut disk = MemDisk::new(rt.alloc(), Numbers::new(rt.alloc()));
+    let mut disk = empty_disk(rt.alloc());
     assert!(rt; fill_and_read(rt.alloc(), &mut disk)?);
     Ok(())
 }
@@ -106,7 +96,7 @@ fn read_fails<D: Disk>(
 /// Makes and fills an archive where one call of the disk fails, and returns whether that call read
 /// the second epoch.
 fn fails_at(rt: &impl Abort, alloc: Global, ordinal: u64) -> Result<bool, NoMemory> {
-    let mut disk = failing(alloc, ordinal)?;
+    let mut disk = failing(alloc, &[ordinal])?;
     match fill(alloc, &mut disk, 1) {
         Ok(store) => read_fails(rt, alloc, &mut disk, &store),
         Err(_) => Ok(false),

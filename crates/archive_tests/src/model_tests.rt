@@ -1,0 +1,205 @@
+<<<<<<<< HEAD:crates/mem_archive/src/tests.rt
+//! Tests of deliveries, answer by answer, against texts and ids worked out by hand and by git.
+ghost use Rattle.std.specs.Prelude.{◌≤◌, IfSome};
+ghost use Rattle.arch_base.specs.Configs.{IsConfig};
+
+use crate::MemArchive;
+use arch_base::{Bytes, Config, Name, NoMemory, id_of_hex};
+use arch_model::{Answer, Command};
+========
+//! Deliveries in memory, answer by answer, against texts and ids worked out by hand and by git.
+use crate::mails::{FIRST, FIRST_ID, MOMENT, OTHER, OTHER_ID, SECOND};
+use crate::shared::{accepted, in_memory, settings, two_in_memory};
+use arch_base::{Bytes, Config, NoMemory};
+use arch_model::{Answer, Command, Index, MemArchive, Owner, Verdict, judge};
+use git_objects::blob_id;
+use mail_reader::content_id;
+>>>>>>>> cc614546de0375ddc7a2d7682ab5e5c0b7ab016c:crates/archive_tests/src/model_tests.rt
+use std::alloc::Global;
+
+/// Delivers a message, and returns the answer.
+fn deliver(archive: &mut MemArchive, bytes: &[u8]) -> Answer {
+    archive.command(&Command::Deliver(bytes), MOMENT)
+}
+
+/// Returns whether the delivery of a message gets this answer.
+fn answers_so(archive: &mut MemArchive, bytes: &[u8], wanted: Option<Answer>) -> bool {
+    Some(deliver(archive, bytes)) == wanted
+}
+
+/// Returns whether another mail with a taken id is kept under a made id, and both are then
+/// duplicates.
+fn takes_two_of_an_id(archive: &mut MemArchive) -> bool {
+    let first = accepted(1, FIRST_ID);
+    let other = accepted(2, OTHER_ID);
+    let one = answers_so(archive, FIRST, first);
+    let one_again = answers_so(archive, FIRST, Some(Answer::Duplicate(1)));
+    let two = answers_so(archive, OTHER, other);
+    let two_again = answers_so(archive, OTHER, Some(Answer::Duplicate(2)));
+    one && one_again && two && two_again
+}
+
+#[test]
+fn a_taken_id_gives_way_to_a_made_one(rt: HostRuntime) {
+    let Some(mut archive) = in_memory(rt.alloc(), 1000, 10, false) else {
+        return assert!(rt; false);
+    };
+    assert!(rt; takes_two_of_an_id(&mut archive));
+}
+
+/// A mail whose id is the first id made for another mail.
+const TAKEN: &[u8] =
+    b"Subject: v\nMessage-ID: <a8f4aef97c4217e79c7ac7c8d9fa4cba3317bffd.0@list.invalid>\n\nx\n";
+
+/// The text of that other mail, with the second id made for it.
+const MADE: &[u8] =
+    b"Message-ID: <a8f4aef97c4217e79c7ac7c8d9fa4cba3317bffd.1@list.invalid>\nSubject: u\n\nx\n";
+
+/// Returns whether a mail without an id, whose first made id is taken, is kept under the next one.
+fn takes_the_next_made_id(archive: &mut MemArchive) -> bool {
+    let taken = accepted(1, b"2fd7988ae8d54e85a7b575f5ccd453aec2207364");
+    let made = accepted(2, b"e30b50cddbd8790b5f73f4eb6fe526a4c7f12274");
+    let one = answers_so(archive, TAKEN, taken);
+    let two = answers_so(archive, b"Subject: u\n\nx\n", made);
+    one && two && archive.text(2) == Some(MADE)
+}
+
+#[test]
+fn a_taken_made_id_gives_way_to_the_next(rt: HostRuntime) {
+    let Some(mut archive) = in_memory(rt.alloc(), 1000, 10, false) else {
+        return assert!(rt; false);
+    };
+    assert!(rt; takes_the_next_made_id(&mut archive));
+}
+
+<<<<<<<< HEAD:crates/mem_archive/src/tests.rt
+========
+/// Creates an index of one message, `FIRST`, under the number 1.
+fn index_of_first(alloc: Global) -> Option<Index> {
+    let mut index = Index::new(alloc);
+    let id = Vec::from_slice(alloc, b"<a@x>").ok()?;
+    let owner = Owner {
+        number: 1,
+        content: content_id(FIRST),
+    };
+    index.insert(id, blob_id(FIRST), owner).ok()?;
+    Some(index)
+}
+
+/// Returns whether an index finds `FIRST`, and not `SECOND`.
+fn finds_first_alone(index: &Index) -> bool {
+    let by_id = matches!(index.owner(b"<a@x>"), Some(Owner { number: 1, .. }));
+    let other_id = index.owner(b"<b@x>").is_none();
+    let by_blob = index.number(&blob_id(FIRST)) == Some(1);
+    let other_blob = index.number(&blob_id(SECOND)).is_none();
+    by_id && other_id && by_blob && other_blob
+}
+
+/// Returns the refusal of a message, or `None` if it is to be kept.
+fn refusal(
+    alloc: Global,
+    config: &Config,
+    index: &Index,
+    next: u32,
+    bytes: &[u8],
+) -> Option<Answer> {
+    match judge(alloc, config, index, 1, next, bytes) {
+        Verdict::Refuse(answer) => Some(answer),
+        Verdict::Take { .. } => None,
+    }
+}
+
+/// Returns whether `SECOND` is to be kept unchanged under the number 2.
+fn takes_second(alloc: Global, config: &Config, index: &Index) -> bool {
+    match judge(alloc, config, index, 1, 2, SECOND) {
+        Verdict::Refuse(_) => false,
+        Verdict::Take { text, blob, number } => {
+            text.as_slice() == SECOND && blob == blob_id(SECOND) && number == 2
+        }
+    }
+}
+
+/// Returns whether messages are judged by an index of `FIRST`.
+fn judges_by(alloc: Global, config: &Config, index: &Index) -> bool {
+    let again = refusal(alloc, config, index, 2, FIRST) == Some(Answer::Duplicate(1));
+    let full = refusal(alloc, config, index, 3, SECOND) == Some(Answer::Full(2));
+    let taken = takes_second(alloc, config, index);
+    again && full && taken
+}
+
+#[test]
+fn a_delivery_is_judged_by_an_index(rt: HostRuntime) {
+    let Some(index) = index_of_first(rt.alloc()) else {
+        return assert!(rt; false);
+    };
+    assert!(rt; finds_first_alone(&index));
+    let Some(settings) = settings(1000, 2, false) else {
+        return assert!(rt; false);
+    };
+    assert!(rt; judges_by(rt.alloc(), &settings, &index));
+}
+
+>>>>>>>> cc614546de0375ddc7a2d7682ab5e5c0b7ab016c:crates/archive_tests/src/model_tests.rt
+/// Returns whether an archive with room for one message refuses others, each for its first cause,
+/// and keeps the one.
+fn refuses_in_order(archive: &mut MemArchive) -> bool {
+    let _ = deliver(archive, FIRST);
+    let empty = answers_so(archive, b"", Some(Answer::NoFields));
+    let again = answers_so(archive, FIRST, Some(Answer::Duplicate(1)));
+    let full = answers_so(archive, SECOND, Some(Answer::Full(1)));
+    let kept = archive.text(1) == Some(FIRST) && archive.text(2).is_none();
+    empty && again && full && kept
+}
+
+#[test]
+fn refusals_come_in_their_order(rt: HostRuntime) {
+    let Some(mut archive) = in_memory(rt.alloc(), 1000, 1, false) else {
+        return assert!(rt; false);
+    };
+    assert!(rt; refuses_in_order(&mut archive));
+}
+
+#[test]
+fn a_mirror_takes_no_delivery(rt: HostRuntime) {
+    let Some(mut archive) = in_memory(rt.alloc(), 1000, 1, true) else {
+        return assert!(rt; false);
+    };
+    assert!(rt; answers_so(&mut archive, FIRST, Some(Answer::IsMirror)));
+}
+
+/// Returns the length of an epoch in bytes, or `None` if it has no entry.
+fn epoch_len(alloc: Global, archive: &MemArchive, epoch: u32) -> Result<Option<usize>, NoMemory> {
+    let mut bytes = Bytes::new(alloc);
+    let found = archive.push_epoch(epoch, &mut bytes)?;
+    Ok(found.then_some(bytes.as_slice().len()))
+}
+
+/// Returns whether the first three epochs have these lengths.
+fn has_epochs(
+    alloc: Global,
+    archive: &MemArchive,
+    lengths: &[Option<usize>; 3],
+) -> Result<bool, NoMemory> {
+    let zero = epoch_len(alloc, archive, 0)?;
+    let one = epoch_len(alloc, archive, 1)?;
+    let two = epoch_len(alloc, archive, 2)?;
+    Ok([zero, one, two] == *lengths)
+}
+
+#[test]
+fn an_epoch_of_the_limit_takes_no_more(rt: HostRuntime) {
+    let Some(archive) = two_in_memory(rt.alloc(), 316) else {
+        return assert!(rt; false);
+    };
+    let lengths = [Some(316), Some(316), None];
+    assert!(rt; matches!(has_epochs(rt.alloc(), &archive, &lengths), Ok(true)));
+}
+
+#[test]
+fn an_epoch_below_the_limit_takes_one_more(rt: HostRuntime) {
+    let Some(archive) = two_in_memory(rt.alloc(), 317) else {
+        return assert!(rt; false);
+    };
+    let lengths = [Some(672), None, None];
+    assert!(rt; matches!(has_epochs(rt.alloc(), &archive, &lengths), Ok(true)));
+}
