@@ -1,12 +1,3 @@
-<<<<<<<< HEAD:crates/mem_archive/src/tests.rt
-//! Tests of deliveries, answer by answer, against texts and ids worked out by hand and by git.
-ghost use Rattle.std.specs.Prelude.{◌≤◌, IfSome};
-ghost use Rattle.arch_base.specs.Configs.{IsConfig};
-
-use crate::MemArchive;
-use arch_base::{Bytes, Config, Name, NoMemory, id_of_hex};
-use arch_model::{Answer, Command};
-========
 //! Deliveries in memory, answer by answer, against texts and ids worked out by hand and by git.
 use crate::mails::{FIRST, FIRST_ID, MOMENT, OTHER, OTHER_ID, SECOND};
 use crate::shared::{accepted, in_memory, settings, two_in_memory};
@@ -14,7 +5,6 @@ use arch_base::{Bytes, Config, NoMemory};
 use arch_model::{Answer, Command, Index, MemArchive, Owner, Verdict, judge};
 use git_objects::blob_id;
 use mail_reader::content_id;
->>>>>>>> cc614546de0375ddc7a2d7682ab5e5c0b7ab016c:crates/archive_tests/src/model_tests.rt
 use std::alloc::Global;
 
 /// Delivers a message, and returns the answer.
@@ -72,8 +62,6 @@ fn a_taken_made_id_gives_way_to_the_next(rt: HostRuntime) {
     assert!(rt; takes_the_next_made_id(&mut archive));
 }
 
-<<<<<<<< HEAD:crates/mem_archive/src/tests.rt
-========
 /// Creates an index of one message, `FIRST`, under the number 1.
 fn index_of_first(alloc: Global) -> Option<Index> {
     let mut index = Index::new(alloc);
@@ -139,7 +127,6 @@ fn a_delivery_is_judged_by_an_index(rt: HostRuntime) {
     assert!(rt; judges_by(rt.alloc(), &settings, &index));
 }
 
->>>>>>>> cc614546de0375ddc7a2d7682ab5e5c0b7ab016c:crates/archive_tests/src/model_tests.rt
 /// Returns whether an archive with room for one message refuses others, each for its first cause,
 /// and keeps the one.
 fn refuses_in_order(archive: &mut MemArchive) -> bool {
