@@ -5,7 +5,7 @@ use crate::crashes::{Stopped, stop};
 use crate::roots::{ROOT, is_same, put, sample, slot_read, write};
 use arch_base::Numbers;
 use disk_model::{Disk, DiskFault, FileKind, FileName, MemDisk};
-use root_slots::{Root, RootRefusal, begin, commit, read};
+use root_slots::{Root, RootRefusal, Slot, begin, commit, read};
 use std::alloc::Global;
 use std::process::Abort;
 use std::test::Fail;
@@ -50,15 +50,15 @@ fn a_stop_while_it_begins_opens_no_slot(rt: HostRuntime) -> Result<(), Fail> {
     Ok(())
 }
 
-/// Writes a current root to slot 0, its copy to slot 1 with the gate shut if `twin` is set, and
+/// Writes a current root to the first slot, its copy to the second slot with the gate shut if `twin` is set, and
 /// another file.
 fn settle(disk: &mut MemDisk, root: &Root, twin: bool) -> Result<(), DiskFault>
     requires { IsRoot root.now }
 {
     begin(disk)?;
-    put(disk, 0, root, true)?;
+    put(disk, Slot::First, root, true)?;
     if twin {
-        put(disk, 1, root, false)?;
+        put(disk, Slot::Second, root, false)?;
     }
     if disk.length(OTHER)? != 0 {
         return Err(DiskFault);
@@ -68,27 +68,27 @@ fn settle(disk: &mut MemDisk, root: &Root, twin: bool) -> Result<(), DiskFault>
 }
 
 /// Commits a root if the root file has its size, which one call looks up.
-fn try_commit<D: Disk>(disk: &mut D, slot: u8, root: &Root) -> Result<(), DiskFault>
+fn try_commit<D: Disk>(disk: &mut D, slot: Slot, root: &Root) -> Result<(), DiskFault>
     requires { IsRoot root.now }
 {
-    if slot > 1 || disk.length(ROOT)? != 4096 {
+    if disk.length(ROOT)? != 4096 {
         return Err(DiskFault);
     }
     commit(disk, slot, root)
 }
 
-/// Commits a root to slot 1 after one in slot 0, and stops after `passes` calls.
+/// Commits a root to the second slot after one in the first slot, and stops after `passes` calls.
 fn stop_commit(alloc: Global, old: &Root, new: &Root, passes: u64) -> Result<Stopped, DiskFault>
     requires old { IsRoot old.now }
     requires new { IsRoot new.now }
 {
     let mut disk = MemDisk::new(alloc, Numbers::new(alloc));
     settle(&mut disk, old, passes % 2 == 0)?;
-    Ok(stop(disk, passes, |fuse| try_commit(fuse, 1, new)))
+    Ok(stop(disk, passes, |fuse| try_commit(fuse, Slot::Second, new)))
 }
 
 /// Returns whether the current root of a disk is this one, in this slot.
-fn has_root(disk: &mut MemDisk, slot: u8, root: &Root) -> Result<bool, RootRefusal> {
+fn has_root(disk: &mut MemDisk, slot: Slot, root: &Root) -> Result<bool, RootRefusal> {
     match read(disk)? {
         Some((found, current)) => Ok(found == slot && is_same(&current, root)),
         None => Ok(false),
@@ -105,8 +105,8 @@ fn has_other(disk: &mut MemDisk) -> Result<bool, DiskFault> {
 /// Returns whether the other file is there, and the new root, or the old one if the commit isn't
 /// done.
 fn is_old_or_new(image: &mut MemDisk, old: &Root, new: &Root, done: bool) -> Result<bool, Fail> {
-    let changed = has_root(image, 1, new)?;
-    let left = has_root(image, 0, old)?;
+    let changed = has_root(image, Slot::Second, new)?;
+    let left = has_root(image, Slot::First, old)?;
     let other = has_other(image)?;
     Ok(other && (changed || (left && !done)))
 }

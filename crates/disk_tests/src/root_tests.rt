@@ -4,7 +4,7 @@ ghost use Rattle.root_slots.specs.Valid.{IsRoot};
 use crate::roots::{ROOT, body_of, is_same, put, root_of, sample, slot_read, write};
 use arch_base::{Config, Name, Numbers};
 use disk_model::{Disk, DiskFault, FuseDisk, MemDisk};
-use root_slots::{Place, Root, RootRefusal, begin, law_of_spellings};
+use root_slots::{Place, Root, RootRefusal, Slot, begin, law_of_spellings};
 use std::alloc::Global;
 use std::process::Abort;
 use std::test::Fail;
@@ -56,11 +56,11 @@ fn begun(alloc: Global) -> Result<MemDisk, DiskFault> {
     Ok(disk)
 }
 
-/// Returns whether a root is written to slot 1 as this body.
+/// Returns whether a root is written to the second slot as this body.
 fn is_filled<D: Disk>(disk: &mut D, root: &Root, body: &[u8; 1536]) -> Result<bool, DiskFault>
     requires { IsRoot root.now }
 {
-    put(disk, 1, root, true)?;
+    put(disk, Slot::Second, root, true)?;
     let mut written = [7; 1536];
     let count = disk.read(ROOT, 2560, &mut written)?;
     Ok(count == 1536 && written == *body)
@@ -283,10 +283,18 @@ const PATCHES: [Patch; 38] = [
 ///
 /// Returns whether the root is read before those bytes, and after them is read if `stands` is set
 /// and damaged otherwise.
-fn is_field<D: Disk>(disk: &mut D, root: &Root, slot: u8, patch: &Patch) -> Result<bool, DiskFault>
+fn is_field<D: Disk>(
+    disk: &mut D,
+    root: &Root,
+    slot: Slot,
+    patch: &Patch,
+) -> Result<bool, DiskFault>
     requires { IsRoot root.now }
 {
-    let body = if slot == 0 { 1024 } else { 2560 };
+    let body = match slot {
+        Slot::First => 1024,
+        Slot::Second => 2560,
+    };
     if patch.at >= 1536 {
         return Err(DiskFault);
     }
@@ -302,13 +310,13 @@ fn is_field<D: Disk>(disk: &mut D, root: &Root, slot: u8, patch: &Patch) -> Resu
 }
 
 /// Tries each field in a slot.
-fn try_fields(rt: &impl Abort, alloc: Global, root: &Root, slot: u8) -> Result<(), DiskFault>
+fn try_fields(rt: &impl Abort, alloc: Global, root: &Root, slot: Slot) -> Result<(), DiskFault>
     requires { IsRoot root.now }
 {
     let mut disk = begun(alloc)?;
     for patch in &PATCHES {
         let good = is_field(&mut disk, root, slot, patch)?;
-        assert!(rt; good, "slot {slot}, offset {}", patch.at);
+        assert!(rt; good, "{slot:?}, offset {}", patch.at);
     }
     Ok(())
 }
@@ -316,7 +324,7 @@ fn try_fields(rt: &impl Abort, alloc: Global, root: &Root, slot: u8) -> Result<(
 #[test]
 fn each_field_out_of_its_range_is_damage(rt: HostRuntime) -> Result<(), Fail> {
     let root = sample(rt.alloc(), 1, 7)?;
-    for slot in [0, 1] {
+    for slot in [Slot::First, Slot::Second] {
         try_fields(&rt, rt.alloc(), &root, slot)?;
     }
     Ok(())
@@ -333,7 +341,7 @@ fn begins_without<D: Disk>(disk: &mut D) -> Result<bool, DiskFault> {
 struct Pair {
     gates: [u8; 2],
     sequences: [u64; 2],
-    read: Option<u8>,
+    read: Option<Slot>,
 }
 
 /// Pairs of slots.
@@ -351,50 +359,60 @@ const PAIRS: [Pair; 9] = [
     Pair {
         gates: [1, 0],
         sequences: [1, 2],
-        read: Some(0),
+        read: Some(Slot::First),
     },
     Pair {
         gates: [1, 3],
         sequences: [1, 2],
-        read: Some(0),
+        read: Some(Slot::First),
     },
     Pair {
         gates: [0, 1],
         sequences: [2, 1],
-        read: Some(1),
+        read: Some(Slot::Second),
     },
     Pair {
         gates: [1, 1],
         sequences: [1, 2],
-        read: Some(1),
+        read: Some(Slot::Second),
     },
     Pair {
         gates: [1, 1],
         sequences: [2, 1],
-        read: Some(0),
+        read: Some(Slot::First),
     },
     Pair {
         gates: [1, 1],
         sequences: [2, 2],
-        read: Some(0),
+        read: Some(Slot::First),
     },
     Pair {
         gates: [1, 1],
         sequences: [255, 256],
-        read: Some(1),
+        read: Some(Slot::Second),
     },
 ];
 
 /// Writes two roots of these sequences to the slots and sets the gates, and returns whether the
 /// wanted slot is read.
 fn is_newest<D: Disk>(alloc: Global, disk: &mut D, pair: &Pair) -> Result<bool, RootRefusal> {
-    put(disk, 0, &sample(alloc, pair.sequences[0], 7)?, true)?;
-    put(disk, 1, &sample(alloc, pair.sequences[1], 8)?, false)?;
+    put(
+        disk,
+        Slot::First,
+        &sample(alloc, pair.sequences[0], 7)?,
+        true,
+    )?;
+    put(
+        disk,
+        Slot::Second,
+        &sample(alloc, pair.sequences[1], 8)?,
+        false,
+    )?;
     write(disk, 0, &pair.gates)?;
     Ok(slot_read(disk) == Ok(pair.read))
 }
 
-/// Returns whether the body of slot 1 is damaged.
+/// Returns whether the body of the second slot is damaged.
 fn is_second_damaged<D: Disk>(disk: &mut D) -> bool {
     slot_read(disk) == Err(RootRefusal::Damaged { at: 2560 })
 }
@@ -407,7 +425,7 @@ fn trim<D: Disk>(disk: &mut D, length: u64) -> Result<(), DiskFault> {
     disk.cut(ROOT, length)
 }
 
-/// Returns whether no root is read if the root file is a byte longer or shorter, and slot 1 is
+/// Returns whether no root is read if the root file is a byte longer or shorter, and the second slot is
 /// damaged at its size.
 fn has_one_size<D: Disk>(disk: &mut D) -> Result<bool, DiskFault> {
     write(disk, 4096, &[0])?;
@@ -456,7 +474,7 @@ fn the_open_slot_of_greater_sequence_is_read(rt: HostRuntime) -> Result<(), Fail
 }
 
 /// Returns the slot that is read of a new root file, on a disk that stops after `passes` calls.
-fn slot_read_stopped(alloc: Global, passes: u64) -> Result<Option<u8>, RootRefusal> {
+fn slot_read_stopped(alloc: Global, passes: u64) -> Result<Option<Slot>, RootRefusal> {
     slot_read(&mut FuseDisk::new(begun(alloc)?, passes))
 }
 

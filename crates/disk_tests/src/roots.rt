@@ -4,7 +4,7 @@ ghost use Rattle.root_slots.specs.Valid.{IsRoot};
 
 use arch_base::Numbers;
 use disk_model::{Disk, DiskFault, FileKind, FileName, MemDisk};
-use root_slots::{Root, RootRefusal, begin, fill, raise, read, shut};
+use root_slots::{Root, RootRefusal, Slot, begin, fill, raise, read, shut};
 use std::alloc::Global;
 
 /// The root file.
@@ -106,10 +106,10 @@ pub fn write<D: Disk>(disk: &mut D, at: u64, bytes: &[u8]) -> Result<(), DiskFau
 }
 
 /// Writes a root to a slot, and opens or shuts the slot's gate.
-pub fn put<D: Disk>(disk: &mut D, slot: u8, root: &Root, open: bool) -> Result<(), DiskFault>
+pub fn put<D: Disk>(disk: &mut D, slot: Slot, root: &Root, open: bool) -> Result<(), DiskFault>
     requires { IsRoot root.now }
 {
-    if slot > 1 || disk.length(ROOT)? != 4096 {
+    if disk.length(ROOT)? != 4096 {
         return Err(DiskFault);
     }
     fill(disk, slot, root)?;
@@ -124,7 +124,7 @@ pub fn put<D: Disk>(disk: &mut D, slot: u8, root: &Root, open: bool) -> Result<(
 }
 
 /// Returns the slot of the current root.
-pub fn slot_read<D: Disk>(disk: &mut D) -> Result<Option<u8>, RootRefusal> {
+pub fn slot_read<D: Disk>(disk: &mut D) -> Result<Option<Slot>, RootRefusal> {
     match read(disk)? {
         Some((slot, _)) => Ok(Some(slot)),
         None => Ok(None),
