@@ -2,9 +2,10 @@
 ghost use Rattle.arch_base.specs.Configs.{IsConfig};
 
 use arch_base::{Config, Name, Numbers};
-use arch_model::MemArchive;
+use arch_model::Next;
 use control_door::Session;
 use edge_io::MemSink;
+use mem_archive::MemArchive;
 use std::alloc::Global;
 
 /// A connection with an archive of its own.
@@ -13,7 +14,7 @@ pub struct Connection {
     session: Session,
     archive: MemArchive,
     out: MemSink,
-    open: bool,
+    next: Next,
 }
 
 impl Connection {
@@ -24,7 +25,7 @@ impl Connection {
             session: Session::open(alloc),
             archive,
             out: MemSink::new(alloc, Numbers::new(alloc)),
-            open: true,
+            next: Next::Go,
         })
     }
 
@@ -39,17 +40,17 @@ impl Connection {
 
     /// Feeds a piece if the connection is still open.
     pub fn hear(&mut self, piece: &[u8]) {
-        if self.open {
-            self.open = self
+        if self.next == Next::Go {
+            self.next = self
                 .session
                 .feed(piece, 1_706_781_700, &mut self.archive, &mut self.out);
         }
     }
 
-    /// Returns whether the answers are these bytes and the connection is open, or closed, as `open`
-    /// says.
-    pub fn was_answered(&self, words: &[u8], open: bool) -> bool {
-        self.out.taken() == words && self.open == open
+    /// Returns whether the answers are these bytes and the connection then continues or is closed,
+    /// as `next` says.
+    pub fn was_answered(&self, words: &[u8], next: Next) -> bool {
+        self.out.taken() == words && self.next == next
     }
 }
 

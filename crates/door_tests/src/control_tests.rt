@@ -1,6 +1,7 @@
 //! Streams worked out by hand from the rules of the control door, each fed in every way that its
 //! length allows.
 use crate::connection::Connection;
+use arch_model::Next;
 use control_door::{Order, cut_laws, read_order};
 use std::alloc::Global;
 
@@ -8,8 +9,8 @@ use std::alloc::Global;
 struct Stream {
     bytes: &'static [u8],
     answers: &'static [u8],
-    /// Whether the connection is then still open.
-    open: bool,
+    /// Whether the connection then continues.
+    next: Next,
 }
 
 /// Lines of every kind.
@@ -17,162 +18,162 @@ const LINES: [Stream; 32] = [
     Stream {
         bytes: b"",
         answers: b"",
-        open: true,
+        next: Next::Go,
     },
     Stream {
         bytes: b"\n",
         answers: b"13 bad line\n",
-        open: true,
+        next: Next::Go,
     },
     Stream {
         bytes: b"\r\n",
         answers: b"13 bad line\n",
-        open: true,
+        next: Next::Go,
     },
     Stream {
         bytes: b"show 1",
         answers: b"",
-        open: true,
+        next: Next::Go,
     },
     Stream {
         bytes: b"show 1\n",
         answers: b"7 not live 1\n",
-        open: true,
+        next: Next::Go,
     },
     Stream {
         bytes: b"show 1\r\n",
         answers: b"7 not live 1\n",
-        open: true,
+        next: Next::Go,
     },
     Stream {
         bytes: b"show 1\r\r\n",
         answers: b"13 bad line\n",
-        open: true,
+        next: Next::Go,
     },
     Stream {
         bytes: b"Show 12\n",
         answers: b"7 not live 12\n",
-        open: true,
+        next: Next::Go,
     },
     Stream {
         bytes: b"show  1\n",
         answers: b"13 bad line\n",
-        open: true,
+        next: Next::Go,
     },
     Stream {
         bytes: b" show 1\n",
         answers: b"13 bad line\n",
-        open: true,
+        next: Next::Go,
     },
     Stream {
         bytes: b"show 1 \n",
         answers: b"13 bad line\n",
-        open: true,
+        next: Next::Go,
     },
     Stream {
         bytes: b"show\t1\n",
         answers: b"13 bad line\n",
-        open: true,
+        next: Next::Go,
     },
     Stream {
         bytes: b"show 1\0\n",
         answers: b"13 bad line\n",
-        open: true,
+        next: Next::Go,
     },
     Stream {
         bytes: b"\0\0\n",
         answers: b"13 bad line\n",
-        open: true,
+        next: Next::Go,
     },
     Stream {
         bytes: b"show 0\n",
         answers: b"13 bad line\n",
-        open: true,
+        next: Next::Go,
     },
     Stream {
         bytes: b"show 01\n",
         answers: b"13 bad line\n",
-        open: true,
+        next: Next::Go,
     },
     Stream {
         bytes: b"show 2147483647\n",
         answers: b"7 not live 2147483647\n",
-        open: true,
+        next: Next::Go,
     },
     Stream {
         bytes: b"show 2147483648\n",
         answers: b"13 bad line\n",
-        open: true,
+        next: Next::Go,
     },
     Stream {
         bytes: b"show\nshow \n",
         answers: b"13 bad line\n13 bad line\n",
-        open: true,
+        next: Next::Go,
     },
     Stream {
         bytes: b"quit",
         answers: b"",
-        open: true,
+        next: Next::Go,
     },
     Stream {
         bytes: b"quit\n",
         answers: b"",
-        open: false,
+        next: Next::Close,
     },
     Stream {
         bytes: b"QUIT\r\n",
         answers: b"",
-        open: false,
+        next: Next::Close,
     },
     Stream {
         bytes: b"quit \n",
         answers: b"13 bad line\n",
-        open: true,
+        next: Next::Go,
     },
     Stream {
         bytes: b"quitt\nqui\n",
         answers: b"13 bad line\n13 bad line\n",
-        open: true,
+        next: Next::Go,
     },
     Stream {
         bytes: b"x\nquit\nshow 1\n",
         answers: b"13 bad line\n",
-        open: false,
+        next: Next::Close,
     },
     Stream {
         bytes: b"epochs\nEpochs\r\n",
         answers: b"end\nend\n",
-        open: true,
+        next: Next::Go,
     },
     Stream {
         bytes: b"epochs \nreindex\n",
         answers: b"13 bad line\n13 bad line\n",
-        open: true,
+        next: Next::Go,
     },
     Stream {
         bytes: b"remove 1\nthread 1\n",
         answers: b"13 bad line\n13 bad line\n",
-        open: true,
+        next: Next::Go,
     },
     Stream {
         bytes: b"purge 1\nshow 2\n",
         answers: b"13 bad line\n7 not live 2\n",
-        open: true,
+        next: Next::Go,
     },
     Stream {
         bytes: b"edit 1 5\nquit\nshow 1\n",
         answers: b"13 bad line\n",
-        open: false,
+        next: Next::Close,
     },
     Stream {
         bytes: b"edit 1 9000001\nabc\n",
         answers: b"13 bad line\n13 bad line\n",
-        open: true,
+        next: Next::Go,
     },
     Stream {
         bytes: b"show 1\nshow 2\r\nsh",
         answers: b"7 not live 1\n7 not live 2\n",
-        open: true,
+        next: Next::Go,
     },
 ];
 
@@ -181,104 +182,104 @@ const DELIVERIES: [Stream; 19] = [
     Stream {
         bytes: b"deliver 0\n",
         answers: b"3 no fields\n",
-        open: true,
+        next: Next::Go,
     },
     Stream {
         bytes: b"deliver 0\r\nshow 1\n",
         answers: b"3 no fields\n7 not live 1\n",
-        open: true,
+        next: Next::Go,
     },
     Stream {
         bytes: b"DELIVER 5\nab\r\ncshow 1\n",
         answers: b"3 no fields\n7 not live 1\n",
-        open: true,
+        next: Next::Go,
     },
     Stream {
         bytes: b"deliver 4\nA: bshow 1\n",
         answers: b"1 ok 1 643b40cf5ec22998a0ee39916ec6b11c61de1e73\ntext 76\nMessage-ID: <be25730bed17f9c3e312a182c2ee7060dd7be817.0@list.invalid>\nA: b\n\n",
-        open: true,
+        next: Next::Go,
     },
     Stream {
         bytes: b"deliver 5\nquit\n",
         answers: b"3 no fields\n",
-        open: true,
+        next: Next::Go,
     },
     Stream {
         bytes: b"deliver 2\n\0\0quit\nx\n",
         answers: b"3 no fields\n",
-        open: false,
+        next: Next::Close,
     },
     Stream {
         bytes: b"deliver 5\nquit",
         answers: b"",
-        open: true,
+        next: Next::Go,
     },
     Stream {
         bytes: b"deliver 9000000\nquit\n",
         answers: b"",
-        open: true,
+        next: Next::Go,
     },
     Stream {
         bytes: b"deliver 9000001\nquit\n",
         answers: b"13 bad line\n",
-        open: false,
+        next: Next::Close,
     },
     Stream {
         bytes: b"deliver 18446744073709551615\nx\n",
         answers: b"13 bad line\n",
-        open: false,
+        next: Next::Close,
     },
     Stream {
         bytes: b"deliver 18446744073709551616\nx\n",
         answers: b"13 bad line\n13 bad line\n",
-        open: true,
+        next: Next::Go,
     },
     Stream {
         bytes: b"deliver 01\nx\n",
         answers: b"13 bad line\n13 bad line\n",
-        open: true,
+        next: Next::Go,
     },
     Stream {
         bytes: b"deliver x\nshow 1\n",
         answers: b"13 bad line\n7 not live 1\n",
-        open: true,
+        next: Next::Go,
     },
     Stream {
         bytes: b"deliver\ndeliver \n",
         answers: b"13 bad line\n13 bad line\n",
-        open: true,
+        next: Next::Go,
     },
     Stream {
         bytes: b"deliver  5\nquit\n",
         answers: b"13 bad line\n",
-        open: false,
+        next: Next::Close,
     },
     Stream {
         bytes: b"deliver 22\nMessage-ID: <a@x>\n\nhi\nshow 1\n",
         answers: b"1 ok 1 fd45734adf4c71bc58d917e4834ace95f6a75a7e\ntext 22\nMessage-ID: <a@x>\n\nhi\n",
-        open: true,
+        next: Next::Go,
     },
     Stream {
         bytes: b"deliver 19\nMessage-ID: <b@x>\r\nShow 1\r\nquit\n",
         answers: b"1 ok 1 932aef3c2f53dcc65475837ae327c57b7d4d2fc6\ntext 19\nMessage-ID: <b@x>\n\n",
-        open: false,
+        next: Next::Close,
     },
     Stream {
         bytes: b"deliver 18\nMessage-ID: <a@x>\ndeliver 18\nMessage-ID: <a@x>\nshow 2\n",
         answers: b"1 ok 1 df7a16e6b23ee491f39d84e89298f10b0d4ae4e0\n2 duplicate 1\n7 not live 2\n",
-        open: true,
+        next: Next::Go,
     },
     Stream {
         bytes: b"deliver 18\nMessage-ID: <a@x>\ndeliver 18\nmessage-id: <c@x>\nshow 2\nshow 1\n",
         answers: b"1 ok 1 df7a16e6b23ee491f39d84e89298f10b0d4ae4e0\n1 ok 2 f4cd56120b7a68a2a06bec4088ccc24910532e06\ntext 19\nmessage-id: <c@x>\n\ntext 19\nMessage-ID: <a@x>\n\n",
-        open: true,
+        next: Next::Go,
     },
 ];
 
 /// Returns whether a stream cut in two at an offset is answered as its row says.
 fn is_answered_cut(alloc: Global, stream: &Stream, at: usize) -> bool {
     match Connection::cut_at(alloc, stream.bytes, at) {
-        Some(connection) => connection.was_answered(stream.answers, stream.open),
+        Some(connection) => connection.was_answered(stream.answers, stream.next),
         None => false,
     }
 }
@@ -291,7 +292,7 @@ fn is_answered_by_bytes(alloc: Global, stream: &Stream) -> bool {
     for piece in stream.bytes.chunks(1) {
         connection.hear(piece);
     }
-    connection.was_answered(stream.answers, stream.open)
+    connection.was_answered(stream.answers, stream.next)
 }
 
 /// Returns whether a stream is answered as its row says whole, byte by byte and cut in two at every
@@ -346,7 +347,7 @@ const TWO_BAD_LINES: &[u8] = b"13 bad line\n13 bad line\n";
 
 /// Returns whether a line of `len` bytes with its line feed, cut in two at an offset, and a line
 /// feed after it get these answers.
-fn long_line_is_answered(alloc: Global, len: usize, at: usize, answers: &[u8], open: bool) -> bool {
+fn long_line_is_answered(alloc: Global, len: usize, at: usize, answers: &[u8], next: Next) -> bool {
     let mut stream = [b'a'; 520];
     if len == 0 || len > 513 {
         return false;
@@ -354,7 +355,7 @@ fn long_line_is_answered(alloc: Global, len: usize, at: usize, answers: &[u8], o
     stream[len - 1] = b'\n';
     stream[len] = b'\n';
     match Connection::cut_at(alloc, &stream, at) {
-        Some(connection) => connection.was_answered(answers, open),
+        Some(connection) => connection.was_answered(answers, next),
         None => false,
     }
 }
@@ -362,9 +363,9 @@ fn long_line_is_answered(alloc: Global, len: usize, at: usize, answers: &[u8], o
 /// Returns whether lines of 511 and of 512 bytes are read and a line of 513 bytes closes the
 /// connection, each cut in two at an offset.
 fn long_lines_are_answered(alloc: Global, at: usize) -> bool {
-    let shorter = long_line_is_answered(alloc, 511, at, TWO_BAD_LINES, true);
-    let longest = long_line_is_answered(alloc, 512, at, TWO_BAD_LINES, true);
-    let longer = long_line_is_answered(alloc, 513, at, b"13 bad line\n", false);
+    let shorter = long_line_is_answered(alloc, 511, at, TWO_BAD_LINES, Next::Go);
+    let longest = long_line_is_answered(alloc, 512, at, TWO_BAD_LINES, Next::Go);
+    let longer = long_line_is_answered(alloc, 513, at, b"13 bad line\n", Next::Close);
     shorter && longest && longer
 }
 
@@ -381,9 +382,9 @@ fn closes_at_512_bytes(alloc: Global, at: usize) -> bool {
     let Some(mut connection) = Connection::cut_at(alloc, &[b'a'; 511], at) else {
         return false;
     };
-    let waits = connection.was_answered(b"", true);
+    let waits = connection.was_answered(b"", Next::Go);
     connection.hear(b"a");
-    waits && connection.was_answered(b"13 bad line\n", false)
+    waits && connection.was_answered(b"13 bad line\n", Next::Close)
 }
 
 #[test]

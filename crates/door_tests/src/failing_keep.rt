@@ -2,7 +2,8 @@
 ghost use Rattle.std.specs.Prelude.{true};
 
 use arch_base::{Bytes, NoMemory};
-use arch_model::{Answer, Command, Keep, MemArchive, OpenRefusal, TextRefusal};
+use arch_model::{Answer, Command, Keep, OpenRefusal, TextRefusal};
+use mem_archive::MemArchive;
 
 /// The call of a keeper that fails.
 #[derive(Clone, Copy, PartialEq, Eq, Drop)]

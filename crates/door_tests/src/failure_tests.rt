@@ -3,6 +3,7 @@
 use crate::connection::archive;
 use crate::failing_keep::{Failing, FailingKeep};
 use arch_base::Numbers;
+use arch_model::Next;
 use control_door::Session;
 use edge_io::MemSink;
 use std::alloc::Global;
@@ -13,8 +14,8 @@ struct Stream {
     /// The call that fails.
     failing: Failing,
     answers: &'static [u8],
-    /// Whether the connection is then still open.
-    open: bool,
+    /// Whether the connection then continues.
+    next: Next,
 }
 
 /// Streams to disks that fail.
@@ -23,73 +24,73 @@ const STREAMS: [Stream; 12] = [
         bytes: b"deliver 18\nMessage-ID: <a@x>\nshow 1\n",
         failing: Failing::Command(false),
         answers: b"10 disk fault\n7 not live 1\n",
-        open: true,
+        next: Next::Go,
     },
     Stream {
         bytes: b"deliver 18\nMessage-ID: <a@x>\nshow 1\n",
         failing: Failing::Command(true),
         answers: b"10 disk fault\ntext 19\nMessage-ID: <a@x>\n\n",
-        open: true,
+        next: Next::Go,
     },
     Stream {
         bytes: b"deliver 18\nMessage-ID: <a@x>\nshow 1\nshow 1\n",
         failing: Failing::Opening,
         answers: b"10 disk fault\n10 disk fault\n",
-        open: false,
+        next: Next::Close,
     },
     Stream {
         bytes: b"deliver 18\nMessage-ID: <a@x>\nx\n",
         failing: Failing::OpeningWithoutMemory,
         answers: b"10 disk fault\n12 no memory\n",
-        open: false,
+        next: Next::Close,
     },
     Stream {
         bytes: b"deliver 18\nMessage-ID: <a@x>\nquit\n",
         failing: Failing::Opening,
         answers: b"10 disk fault\n10 disk fault\n",
-        open: false,
+        next: Next::Close,
     },
     Stream {
         bytes: b"deliver 18\nMessage-ID: <a@x>\ndeliver 1\nxdeliver 1\nx",
         failing: Failing::Opening,
         answers: b"10 disk fault\n10 disk fault\n",
-        open: false,
+        next: Next::Close,
     },
     Stream {
         bytes: b"deliver 18\nMessage-ID: <a@x>\n",
         failing: Failing::Opening,
         answers: b"10 disk fault\n",
-        open: true,
+        next: Next::Go,
     },
     Stream {
         bytes: b"deliver 18\nMessage-ID: <a@x>\nshow 1",
         failing: Failing::Opening,
         answers: b"10 disk fault\n",
-        open: true,
+        next: Next::Go,
     },
     Stream {
         bytes: b"deliver 18\nMessage-ID: <a@x>\ndeliver 3\nxy",
         failing: Failing::Opening,
         answers: b"10 disk fault\n",
-        open: true,
+        next: Next::Go,
     },
     Stream {
         bytes: b"x\nshow 1\nepochs\nx\n",
         failing: Failing::Opening,
         answers: b"13 bad line\n7 not live 1\nend\n13 bad line\n",
-        open: true,
+        next: Next::Go,
     },
     Stream {
         bytes: b"deliver 18\nMessage-ID: <a@x>\nshow 1\nshow 2\n",
         failing: Failing::Text,
         answers: b"1 ok 1 df7a16e6b23ee491f39d84e89298f10b0d4ae4e0\n10 disk fault\n7 not live 2\n",
-        open: true,
+        next: Next::Go,
     },
     Stream {
         bytes: b"epochs\nshow 1\n",
         failing: Failing::Epoch,
         answers: b"10 disk fault\n7 not live 1\n",
-        open: true,
+        next: Next::Go,
     },
 ];
 
@@ -101,8 +102,8 @@ fn is_answered(alloc: Global, stream: &Stream) -> bool {
     let mut keep = FailingKeep::new(archive, stream.failing);
     let mut session = Session::open(alloc);
     let mut out = MemSink::new(alloc, Numbers::new(alloc));
-    let goes_on = session.feed(stream.bytes, 1_706_781_700, &mut keep, &mut out);
-    out.taken() == stream.answers && goes_on == stream.open
+    let next = session.feed(stream.bytes, 1_706_781_700, &mut keep, &mut out);
+    out.taken() == stream.answers && next == stream.next
 }
 
 #[test]
