@@ -1,8 +1,8 @@
 //! Commits and epochs against git, and authors against the rules.
 use crate::mails::{FIRST, FIRST_COMMIT, FIRST_ID, MOMENT, SECOND, SECOND_COMMIT};
 use arch_base::{Bytes, NoMemory, ObjectId, id_of_hex};
-use arch_model::{EntryIds, entry_commit, push_entry};
-use git_objects::{Commit, blob_id, commit_bytes, object_id, tree_bytes};
+use git_objects::{Commit, EntryKind, blob_id, commit_bytes, object_id, tree_bytes};
+use mail_commits::{EntryIds, entry_commit, push_entry};
 use mail_reader::stored;
 use std::alloc::Global;
 use std::test::Fail;
@@ -13,14 +13,14 @@ const MAIL: &[u8] =
 
 /// Returns the commit of a text without a parent, with the tree that has the text.
 fn commit_alone(alloc: Global, text: &[u8], moment: u64) -> Result<Commit, NoMemory> {
-    let tree = object_id(&tree_bytes(b'm', &blob_id(text)));
+    let tree = object_id(&tree_bytes(EntryKind::Message, &blob_id(text)));
     entry_commit(alloc, text, &tree, None, moment)
 }
 
 /// Returns the id of the commit of `MAIL` in its storage form, or `None` out of memory.
 fn commit_id_of_mail(alloc: Global) -> Option<ObjectId> {
     let text = stored(alloc, MAIL).ok()?;
-    let tree = object_id(&tree_bytes(b'm', &blob_id(text.as_slice())));
+    let tree = object_id(&tree_bytes(EntryKind::Message, &blob_id(text.as_slice())));
     let commit = entry_commit(alloc, text.as_slice(), &tree, None, 1_706_785_200).ok()?;
     let spelling = commit_bytes(alloc, &commit).ok()?;
     Some(object_id(spelling.as_slice()))
@@ -37,9 +37,17 @@ fn a_mail_has_the_commit_of_git(rt: HostRuntime) {
 fn two_entries(alloc: Global) -> Result<(ObjectId, usize, ObjectId, usize), NoMemory> {
     let mut epoch = Bytes::new(alloc);
     epoch.push_slice(b"PIV2EP1\n")?;
-    let first = push_entry(alloc, b'm', FIRST, MOMENT, None, &mut epoch)?.commit;
+    let first = push_entry(alloc, EntryKind::Message, FIRST, MOMENT, None, &mut epoch)?.commit;
     let one = epoch.as_slice().len();
-    let second = push_entry(alloc, b'm', SECOND, MOMENT, Some(first), &mut epoch)?.commit;
+    let second = push_entry(
+        alloc,
+        EntryKind::Message,
+        SECOND,
+        MOMENT,
+        Some(first),
+        &mut epoch,
+    )?
+    .commit;
     Ok((first, one, second, epoch.as_slice().len()))
 }
 
@@ -58,8 +66,15 @@ fn an_epoch_has_the_objects_of_git(rt: HostRuntime) {
 /// Returns the ids of a deletion's entry after a message's, and the length of both entries.
 fn deletion(alloc: Global) -> Result<(EntryIds, usize), NoMemory> {
     let mut epoch = Bytes::new(alloc);
-    let message = push_entry(alloc, b'm', FIRST, MOMENT, None, &mut epoch)?;
-    let ids = push_entry(alloc, b'd', FIRST, MOMENT, Some(message.commit), &mut epoch)?;
+    let message = push_entry(alloc, EntryKind::Message, FIRST, MOMENT, None, &mut epoch)?;
+    let ids = push_entry(
+        alloc,
+        EntryKind::Deletion,
+        FIRST,
+        MOMENT,
+        Some(message.commit),
+        &mut epoch,
+    )?;
     Ok((ids, epoch.as_slice().len()))
 }
 

@@ -7,10 +7,11 @@ ghost use Rattle.epoch_store.specs.Stores.{HasSizes};
 
 use crate::mails::{FIRST, FIRST_ID, MOMENT, OTHER, OTHER_ID, SECOND, SECOND_ID};
 use crate::shared::{accepted, empty_disk, in_memory, settings};
-use arch_model::{Answer, Command, MemArchive, OpenRefusal};
+use arch_model::{Answer, Command, OpenRefusal};
 use archive_core::DiskArchive;
 use disk_model::{Disk, DiskFault, FuseDisk, MemDisk};
 use epoch_store::InitRefusal;
+use mem_archive::MemArchive;
 use std::alloc::Global;
 use std::test::Fail;
 

@@ -76,7 +76,7 @@ struct Overwrite {
     refusal: OpenRefusal,
 }
 
-/// The body of slot 1 is damaged.
+/// The body of the second slot is damaged.
 const ROOT_DAMAGED: OpenRefusal = OpenRefusal::Damaged {
     file: ROOT,
     at: 2560,
@@ -106,7 +106,7 @@ const OVERWRITES: [Overwrite; 9] = [
         bytes: b"\0\0",
         refusal: OpenRefusal::NoArchive,
     },
-    // The name in slot 1, which is the newest one, has no byte.
+    // The name in the second slot, which is the newest one, has no byte.
     Overwrite {
         file: ROOT,
         at: 2570,
@@ -289,7 +289,7 @@ fn what_no_root_names_is_taken_away(rt: HostRuntime) -> Result<(), Fail> {
     sweep_each(&rt, rt.alloc(), &files)
 }
 
-/// Returns whether slot 0 is shut and slot 1 is open, and both have one root.
+/// Returns whether the first slot is shut and the second is open, and both have one root.
 fn has_one_root(disk: &mut MemDisk) -> Result<bool, DiskFault> {
     let mut root = [0; 4096];
     let count = disk.read(ROOT, 0, &mut root)?;

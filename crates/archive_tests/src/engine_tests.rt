@@ -3,10 +3,11 @@
 use crate::mails::{FIRST, FIRST_ID, MOMENT, SECOND, SECOND_ID};
 use crate::shared::{accepted, empty_disk, failing, in_memory, settings};
 use arch_base::Bytes;
-use arch_model::{Answer, Command, Keep, MemArchive, OpenRefusal};
+use arch_model::{Answer, Command, Keep, OpenRefusal};
 use archive_core::{Engine, NotMade, NotOpened};
 use disk_model::MemDisk;
 use epoch_store::InitRefusal;
+use mem_archive::MemArchive;
 use std::alloc::Global;
 use std::process::Abort;
 use std::test::Fail;

@@ -3,10 +3,10 @@
 use crate::mails::{FIRST, FIRST_COMMIT, FIRST_ID, MOMENT, SECOND, SECOND_COMMIT, SECOND_ID};
 use crate::shared::{add_entry, cut, empty_disk, write};
 use arch_base::{Bytes, NoMemory, ObjectId, id_of_hex};
-use arch_model::push_entry;
 use disk_model::{Disk, DiskFault, FileKind, FileName, FuseDisk, WalkRefusal};
 use epoch_file::{NewEntry, Seen, StoreRefusal, Written, law_of_epochs, walk};
-use git_objects::object_id;
+use git_objects::{EntryKind, object_id};
+use mail_commits::push_entry;
 use std::alloc::Global;
 use std::process::Abort;
 use std::test::Fail;
@@ -25,9 +25,9 @@ const FILE: FileName = FileName {
 const LENGTH: u64 = 1028;
 
 /// Returns an entry.
-fn entry(name: u8, text: &[u8], moment: u64, parent: Option<ObjectId>) -> NewEntry<'_> {
+fn entry(kind: EntryKind, text: &[u8], moment: u64, parent: Option<ObjectId>) -> NewEntry<'_> {
     NewEntry {
-        name,
+        kind,
         text,
         moment,
         parent,
@@ -36,20 +36,31 @@ fn entry(name: u8, text: &[u8], moment: u64, parent: Option<ObjectId>) -> NewEnt
 
 /// Appends the three entries to the file, and returns where each ends, and its ids.
 fn fill<D: Disk>(alloc: Global, disk: &mut D) -> Result<(Written, Written, Written), StoreRefusal> {
-    let first = add_entry(alloc, disk, FILE, 0, &entry(b'm', FIRST, MOMENT, None))?;
+    let first = add_entry(
+        alloc,
+        disk,
+        FILE,
+        0,
+        &entry(EntryKind::Message, FIRST, MOMENT, None),
+    )?;
     let second = add_entry(
         alloc,
         disk,
         FILE,
         first.end,
-        &entry(b'm', SECOND, MOMENT, Some(first.commit)),
+        &entry(EntryKind::Message, SECOND, MOMENT, Some(first.commit)),
     )?;
     let third = add_entry(
         alloc,
         disk,
         FILE,
         second.end,
-        &entry(b'd', FIRST, 1_706_781_800, Some(second.commit)),
+        &entry(
+            EntryKind::Deletion,
+            FIRST,
+            1_706_781_800,
+            Some(second.commit),
+        ),
     )?;
     Ok((first, second, third))
 }
@@ -61,8 +72,15 @@ fn count<D: Disk>(alloc: Global, disk: &mut D, length: u64) -> Result<usize, Wal
 }
 
 /// Returns whether what is seen is this entry.
-fn is_entry(seen: &Seen, name: u8, at: u64, moment: u64, id: &[u8], written: &Written) -> bool {
-    let placed = seen.name == name && seen.at == at && at < 1000 && seen.text_at == at + 9;
+fn is_entry(
+    seen: &Seen,
+    kind: EntryKind,
+    at: u64,
+    moment: u64,
+    id: &[u8],
+    written: &Written,
+) -> bool {
+    let placed = seen.kind == kind && seen.at == at && at < 1000 && seen.text_at == at + 9;
     let made = seen.blob == written.blob && seen.commit == written.commit;
     placed
         && made
@@ -118,9 +136,16 @@ fn sees_entries<D: Disk>(
     let [one, two, three] = found.as_slice() else {
         return Ok(false);
     };
-    let one = is_entry(one, b'm', 8, MOMENT, b"<a@x>", first);
-    let two = is_entry(two, b'm', 316, MOMENT, b"<b@x>", second);
-    let three = is_entry(three, b'd', 672, 1_706_781_800, b"<a@x>", third);
+    let one = is_entry(one, EntryKind::Message, 8, MOMENT, b"<a@x>", first);
+    let two = is_entry(two, EntryKind::Message, 316, MOMENT, b"<b@x>", second);
+    let three = is_entry(
+        three,
+        EntryKind::Deletion,
+        672,
+        1_706_781_800,
+        b"<a@x>",
+        third,
+    );
     Ok(one && two && three)
 }
 
@@ -261,7 +286,7 @@ fn is_walked_in_two_calls(alloc: Global, passes: u64) -> Result<bool, StoreRefus
 fn is_appended_in_two_calls(alloc: Global, passes: u64) -> bool {
     let mut fuse = FuseDisk::new(empty_disk(alloc), passes);
     // A look at the length, and a write.
-    let new = entry(b'm', FIRST, MOMENT, None);
+    let new = entry(EntryKind::Message, FIRST, MOMENT, None);
     match add_entry(alloc, &mut fuse, FILE, 0, &new) {
         Ok(written) => passes == 2 && written.end == 316,
         Err(refusal) => passes < 2 && refusal == StoreRefusal::DiskFault,
@@ -283,7 +308,7 @@ fn a_call_that_fails_is_no_answer(rt: HostRuntime) -> Result<(), Fail> {
 fn epoch_of(alloc: Global, text: &[u8], moment: u64) -> Result<Bytes, NoMemory> {
     let mut bytes = Bytes::new(alloc);
     bytes.push_slice(b"PIV2EP1\n")?;
-    push_entry(alloc, b'm', text, moment, None, &mut bytes)?;
+    push_entry(alloc, EntryKind::Message, text, moment, None, &mut bytes)?;
     Ok(bytes)
 }
 
@@ -358,7 +383,13 @@ fn count_after<D: Disk>(
     disk: &mut D,
     parent: Option<ObjectId>,
 ) -> Result<Result<usize, WalkRefusal>, StoreRefusal> {
-    let second = add_entry(alloc, disk, FILE, 316, &entry(b'm', SECOND, 5, parent))?;
+    let second = add_entry(
+        alloc,
+        disk,
+        FILE,
+        316,
+        &entry(EntryKind::Message, SECOND, 5, parent),
+    )?;
     Ok(count(alloc, disk, second.end))
 }
 
@@ -377,7 +408,7 @@ fn is_wrong_parent<D: Disk>(
 /// Appends the second entry to the first one with two wrong parents and with the right one, and
 /// walks the epoch.
 fn try_parents<D: Disk>(rt: &impl Abort, alloc: Global, disk: &mut D) -> Result<(), StoreRefusal> {
-    let new = entry(b'm', FIRST, MOMENT, None);
+    let new = entry(EntryKind::Message, FIRST, MOMENT, None);
     let first = add_entry(alloc, disk, FILE, 0, &new)?;
     assert!(rt; is_wrong_parent(alloc, disk, None)?);
     assert!(rt; is_wrong_parent(alloc, disk, Some(first.blob))?);
@@ -406,8 +437,14 @@ fn long_text(alloc: Global) -> Result<Bytes, NoMemory> {
 /// Appends an entry of a long text and the first mail to the file.
 fn put_long<D: Disk>(alloc: Global, disk: &mut D) -> Result<(Written, Written), StoreRefusal> {
     let text = long_text(alloc)?;
-    let long = add_entry(alloc, disk, FILE, 0, &entry(b'm', text.as_slice(), 5, None))?;
-    let new = entry(b'm', FIRST, 5, Some(long.commit));
+    let long = add_entry(
+        alloc,
+        disk,
+        FILE,
+        0,
+        &entry(EntryKind::Message, text.as_slice(), 5, None),
+    )?;
+    let new = entry(EntryKind::Message, FIRST, 5, Some(long.commit));
     let last = add_entry(alloc, disk, FILE, long.end, &new)?;
     Ok((long, last))
 }

@@ -12,7 +12,7 @@ use arch_model::OpenRefusal;
 use disk_model::{Disk, DiskFault, FileKind, MemDisk};
 use epoch_file::{NewEntry, StoreRefusal};
 use epoch_store::{Store, StoredEntry};
-use git_objects::blob_id;
+use git_objects::{EntryKind, blob_id};
 use number_map::{Record, append};
 use std::alloc::Global;
 use std::test::Fail;
@@ -24,9 +24,9 @@ const NONE: u32 = 4_294_967_295;
 #[derive(Drop)]
 struct Line(u32, &'static [u8]);
 
-/// An entry: the name of its file, and its text.
+/// An entry: its kind and its text.
 #[derive(Drop)]
-struct Entry(u8, &'static [u8]);
+struct Entry(EntryKind, &'static [u8]);
 
 /// What an opening finds.
 #[derive(Debug, PartialEq, Eq, Drop)]
@@ -88,9 +88,9 @@ fn write_epoch(
 ) -> Result<u64, StoreRefusal> {
     let mut end = 0;
     let mut parent = None;
-    for Entry(name, text) in entries {
+    for Entry(kind, text) in entries {
         let new = NewEntry {
-            name: *name,
+            kind: *kind,
             text,
             moment: MOMENT,
             parent,
@@ -102,7 +102,7 @@ fn write_epoch(
     Ok(end)
 }
 
-/// The offsets in the root file of fields of slot 0: the next number, the length of the map, and
+/// The offsets in the root file of fields of the first slot: the next number, the length of the map, and
 /// the generation and the length of the first two epochs.
 const NEXT_AT: u64 = 1024 + 95;
 
@@ -112,14 +112,14 @@ const FIRST_AT: u64 = 1024 + 115;
 
 const SECOND_AT: u64 = 1024 + 131;
 
-/// Has the root in slot 0 name so many bytes of an epoch, whose fields are at this offset.
+/// Has the root in the first slot name so many bytes of an epoch, whose fields are at this offset.
 fn name_epoch(disk: &mut MemDisk, at: u64, length: u64) -> Result<(), DiskFault> {
     let generation = if length == 0 { 0u64 } else { 1u64 };
     write(disk, ROOT, at, &generation.to_be_bytes())?;
     write(disk, ROOT, at.saturating_add(8), &length.to_be_bytes())
 }
 
-/// Has the root in slot 0 name the records below a number.
+/// Has the root in the first slot name the records below a number.
 fn name_map(disk: &mut MemDisk, next: u32) -> Result<(), DiskFault> {
     let length = (next as u64).saturating_sub(1).saturating_mul(28);
     write(disk, ROOT, NEXT_AT, &next.to_be_bytes())?;
@@ -189,9 +189,12 @@ fn opens_with(alloc: Global, case: &Case, wanted: &[Placed]) -> Result<bool, Fai
 }
 
 /// An entry, alone and before another one.
-const ONE: &[Entry] = &[Entry(b'm', FIRST)];
+const ONE: &[Entry] = &[Entry(EntryKind::Message, FIRST)];
 
-const TWO: &[Entry] = &[Entry(b'm', FIRST), Entry(b'm', SECOND)];
+const TWO: &[Entry] = &[
+    Entry(EntryKind::Message, FIRST),
+    Entry(EntryKind::Message, SECOND),
+];
 
 /// Records of three messages, with a number without a message after the first and after the last.
 const WITH_GAPS: Case = Case {
@@ -203,7 +206,7 @@ const WITH_GAPS: Case = Case {
         Line(NONE, b""),
     ],
     first: TWO,
-    second: &[Entry(b'm', THIRD)],
+    second: &[Entry(EntryKind::Message, THIRD)],
     outcome: Outcome::Joined(3),
 };
 
@@ -276,7 +279,7 @@ const WANTED: [Case; 9] = [
     },
     Case {
         records: &[Line(0, FIRST)],
-        first: &[Entry(b'd', FIRST)],
+        first: &[Entry(EntryKind::Deletion, FIRST)],
         second: &[],
         outcome: Outcome::Damaged { epoch: 0, at: 8 },
     },
@@ -315,12 +318,15 @@ const OWN: [Case; 7] = [
     Case {
         records: &[Line(0, FIRST), Line(1, OTHER)],
         first: ONE,
-        second: &[Entry(b'm', OTHER)],
+        second: &[Entry(EntryKind::Message, OTHER)],
         outcome: Outcome::Damaged { epoch: 1, at: 8 },
     },
     Case {
         records: &[Line(0, FIRST), Line(0, OTHER)],
-        first: &[Entry(b'm', FIRST), Entry(b'm', OTHER)],
+        first: &[
+            Entry(EntryKind::Message, FIRST),
+            Entry(EntryKind::Message, OTHER),
+        ],
         second: &[],
         outcome: Outcome::Damaged { epoch: 0, at: 316 },
     },
@@ -333,7 +339,7 @@ const OWN: [Case; 7] = [
     Case {
         records: &[Line(0, FIRST), Line(1, SECOND)],
         first: ONE,
-        second: &[Entry(b'm', SECOND)],
+        second: &[Entry(EntryKind::Message, SECOND)],
         outcome: Outcome::Joined(2),
     },
     // A record more than there are entries: the damage is at the end of its epoch.

@@ -2,9 +2,11 @@
 use crate::mails::{FIRST, FIRST_ID, MOMENT, OTHER, OTHER_ID, SECOND};
 use crate::shared::{accepted, in_memory, settings, two_in_memory};
 use arch_base::{Bytes, Config, NoMemory};
-use arch_model::{Answer, Command, Index, MemArchive, Owner, Verdict, judge};
+use arch_judge::{Index, Owner, Verdict, judge};
+use arch_model::{Answer, Command};
 use git_objects::blob_id;
 use mail_reader::content_id;
+use mem_archive::MemArchive;
 use std::alloc::Global;
 
 /// Delivers a message, and returns the answer.

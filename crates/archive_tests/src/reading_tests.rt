@@ -3,9 +3,10 @@ use crate::core_tests::filled;
 use crate::mails::{FIRST, SECOND};
 use crate::shared::{empty_disk, failing, is_epoch_of, two_in_memory};
 use arch_base::Bytes;
-use arch_model::{MemArchive, TextRefusal};
+use arch_model::TextRefusal;
 use archive_core::DiskArchive;
 use disk_model::{Disk, MemDisk};
+use mem_archive::MemArchive;
 use std::alloc::Global;
 use std::test::Fail;
 

@@ -3,10 +3,11 @@ ghost use Rattle.std.specs.Prelude.{◌≤◌, IfSome};
 ghost use Rattle.arch_base.specs.Configs.{IsConfig};
 
 use crate::mails::{FIRST, MOMENT, SECOND};
-use arch_base::{Bytes, Config, Name, NoMemory, Numbers, id_of_hex};
-use arch_model::{Answer, Command, MemArchive};
+use arch_base::{Bytes, Config, LAST_MOMENT, Name, NoMemory, Numbers, id_of_hex};
+use arch_model::{Answer, Command};
 use disk_model::{Disk, DiskFault, FileName, MemDisk};
 use epoch_file::{NewEntry, StoreRefusal, Written, append_entry};
+use mem_archive::MemArchive;
 use std::alloc::Global;
 
 /// More calls than any test makes on a disk.
@@ -126,8 +127,7 @@ pub(crate) fn add_entry<D: Disk>(
     at: u64,
     entry: &NewEntry<'_>,
 ) -> Result<Written, StoreRefusal> {
-    let known = entry.name == b'm' || entry.name == b'd';
-    if !known || entry.moment > 253_402_300_799 || at > 1 << 40 || at > disk.length(file)? {
+    if entry.moment > LAST_MOMENT || at > 1 << 40 || at > disk.length(file)? {
         return Err(StoreRefusal::Damaged { file, at });
     }
     append_entry(alloc, disk, file, at, entry)

@@ -2,9 +2,10 @@
 use crate::shared::{empty_disk, failing, is_epoch_of, two_in_memory};
 use crate::store_tests::fill;
 use arch_base::{Bytes, NoMemory};
-use arch_model::{MemArchive, TextRefusal};
+use arch_model::TextRefusal;
 use disk_model::Disk;
 use epoch_store::Store;
+use mem_archive::MemArchive;
 use std::alloc::Global;
 use std::process::Abort;
 use std::test::Fail;

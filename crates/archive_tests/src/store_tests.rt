@@ -12,7 +12,7 @@ use arch_model::TextRefusal;
 use disk_model::{Disk, DiskFault, FileKind, FileName, FuseDisk, MemDisk};
 use epoch_file::StoreRefusal;
 use epoch_store::{InitRefusal, Store, StoredEntry};
-use git_objects::blob_id;
+use git_objects::{EntryKind, blob_id};
 use mail_reader::{is_stored, own_id};
 use std::alloc::Global;
 use std::process::Abort;
@@ -200,7 +200,7 @@ fn has_second_entry(store: &Store) -> bool {
     let blob = Some(line.blob) == id_of_hex(SECOND_ID);
     let commit = Some(line.commit) == id_of_hex(SECOND_COMMIT);
     let place = store.place(1) == Some((FIRST_EPOCH, 316));
-    let named = line.name == b'm' && line.number == 2 && line.epoch == 0;
+    let named = line.kind == EntryKind::Message && line.number == 2 && line.epoch == 0;
     let sized = line.secs == MOMENT && line.size == 103;
     blob && commit && place && named && sized
 }
