@@ -1,6 +1,5 @@
 -- What the plain function prints of events is a transcript of them.
-use Rattle.std.proofs.Common.{◌≡◌, ℕ, List, [], ◌∷◌, ◌++◌, Option, Some, None, Bool, true, false, refl, sym, ◌∙◌, ap, subst, append_assoc, arith}
-use Rattle.std.proofs.lemmas.List.{append-nil}
+use Rattle.std.proofs.Common.{◌≡◌, ℕ, List, [], ◌∷◌, ◌++◌, Option, Some, None, Bool, true, false, refl, subst, arith}
 use Rattle.line_door.specs.Acts.{Said, outside}
 use Rattle.line_door.specs.Course.{Talk, talk, PlainFed, Fed}
 use Rattle.line_door.specs.Plain.{plain}
@@ -9,10 +8,9 @@ use Rattle.arch_model.specs.Standing.{Standing}
 use Rattle.control_door.specs.Door.{Waiting, waiting, said, has_request, left, with_piece}
 use Rattle.control_door.specs.Laws.{bytes_of}
 use Rattle.control_door.proofs.Doors.{control_laws}
-use Rattle.edge_io.specs.Scripts.{Arrival}
 use Rattle.edge_io.specs.declared.events.What.{What}
 use Rattle.edge_io.specs.declared.events.What.TheVariants.{Opened, Bytes, Ended, Quiet, Stop}
-use Rattle.archive_cli.specs.Turns.{World, waiting_if, Turned, TurnedBy, CameTo, FedTo, Transcript, Turn, plain_turn, plain_piece, plain_transcript, framed, said_turn}
+use Rattle.archive_cli.specs.Turns.{World, waiting_if, TurnedBy, CameTo, FedTo, Turn, plain_turn, plain_piece, plain_transcript, framed, said_turn}
 use Rattle.archive_cli.specs.Laws.{PlainIsTranscript}
 
 -- The archive was reopened since the session's last request.

@@ -1,5 +1,5 @@
 -- A script, played up to some event.
-use Rattle.std.proofs.Common.{◌≡◌, ◌<◌, ◌≤◌, ◌+◌, ℕ, zero, suc, Bool, true, false, List, [], ◌∷◌, ◌++◌, length, drop, Option, Some, None, Result, Ok, Err, OnOk, OnErr, refl, sym, ◌∙◌, ap, subst, append_assoc, arith, add-one}
+use Rattle.std.proofs.Common.{◌≡◌, ◌<◌, ◌≤◌, ◌+◌, ℕ, zero, suc, Bool, true, false, List, [], ◌∷◌, ◌++◌, length, drop, Option, Some, None, Result, Ok, Err, OnOk, refl, sym, ◌∙◌, ap, subst, append_assoc, arith, add-one}
 use Rattle.std.proofs.lemmas.List.{append-nil, drop_all}
 use Rattle.std.proofs.lemmas.List.Elements.{All-head, All-tail}
 use Rattle.std.specs.List.{All}
@@ -7,13 +7,12 @@ use Rattle.std.specs.Option.{is_none}
 use Rattle.edge_io.specs.declared.events.Event.{Event}
 use Rattle.edge_io.specs.Scripts.{Arrival, IsArrival, event_at, piece_at}
 use Rattle.arch_base.specs.Moments.{last_moment}
-use Rattle.edge_io.specs.declared.events.What.TheVariants.{Quiet, Stop}
 use Rattle.line_door.specs.Acts.{outside, held_if}
 use Rattle.line_door.specs.Course.{talk, Fed}
 use Rattle.arch_base.specs.declared.config.Config.{Config}
 use Rattle.arch_model.specs.Archives.{Archive, empty_archive}
 use Rattle.arch_model.specs.Standing.{Standing, standing, one_of, Fits}
-use Rattle.control_door.specs.Door.{Waiting, waiting, said, has_request}
+use Rattle.control_door.specs.Door.{waiting, said, has_request}
 use Rattle.archive_cli.specs.Frames.{frame}
 use Rattle.archive_cli.specs.Turns.{World, world, waiting_if, CameTo, Turned, Transcript, before_stop, is_stop, kept_unless}
 use Rattle.archive_cli.specs.Plays.{Played, Shows, Prints, PrintsPiece, PlaysSome, PlaysAll}

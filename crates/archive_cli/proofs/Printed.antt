@@ -1,10 +1,10 @@
 -- How what is due is printed.
-use Rattle.std.proofs.Common.{◌≡◌, ◌≤◌, ◌<◌, inl, inr, ℕ, Bool, true, false, List, [], ◌++◌, length, take, codes, decimal, Option, Some, None, Err, refl, sym, ◌∙◌, ap, subst, append_assoc, arith, length-append, if◌then◌else◌}
+use Rattle.std.proofs.Common.{◌≡◌, ◌≤◌, ◌<◌, inl, inr, ℕ, List, [], ◌++◌, length, take, codes, decimal, Option, Some, None, Result, Ok, Err, is_ok, refl, sym, ◌∙◌, ap, subst, append_assoc, arith, length-append, if◌then◌else◌}
 use Rattle.arch_base.specs.declared.config.Config.{Config}
 use Rattle.edge_io.specs.Left.{before, IsUsedUp}
 use Rattle.edge_io.specs.Scripts.{Arrival, IsScript, IsBad}
-use Rattle.line_door.specs.Phrases.{Says}
-use Rattle.line_door.proofs.Acting.{Says-then, Says-first}
+use Rattle.edge_io.specs.Phrases.{Says}
+use Rattle.edge_io.specs.declared.sink.SinkFault.{SinkFault}
 use Rattle.std.proofs.lemmas.List.{append-nil, take_all, length-take}
 use Rattle.std.proofs.Math.Seq.{take-append_seam}
 use Rattle.archive_cli.specs.Words.{IsJob, AsksFor}
@@ -17,6 +17,8 @@ use Rattle.archive_cli.specs.Outcomes.{outcome_line, status_of}
 use Rattle.archive_cli.specs.declared.outcome.Outcome.{Outcome}
 use Rattle.archive_cli.specs.Program.{Edges, all_edges, Acts, IsInput, IsDue, Ends, Ran, start, input_limit, TookAtMost}
 use Rattle.archive_cli.specs.Printing.{Printed, Exactly, IsReplayDue, Replayed, IsPieceRead, IsOutcomeDue, JobDone, InputDone, IsUnread}
+use Rattle.archive_cli.specs.declared.status.Status.{Status}
+use Rattle.archive_cli.specs.declared.status.Status.TheVariants as exit
 use Rattle.archive_cli.specs.declared.reading.InputRefusal.{InputRefusal}
 use Rattle.archive_cli.specs.declared.reading.InputRefusal.TheVariants.{Fault, TooLong, NoMemory}
 use Rattle.archive_cli.specs.declared.words.Job.{Job}
@@ -24,47 +26,32 @@ use Rattle.archive_cli.specs.declared.words.Job.TheVariants.{Replay, Init, Deliv
 
 module _ (out : Option (List ℕ)) (lost : ℕ) (out' : Option (List ℕ)) (lost' : ℕ) where
   -- What is due by one rule is due by another.
-  pub printed-as : (due other : ℕ → List ℕ → Type 0) (status : ℕ) → Printed due status out lost out' lost' → ((s : ℕ) (words : List ℕ) → due s words → other s words) → Printed other status out lost out' lost'
-  printed-as due other status p f = record { due_status = p.due_status; words = p.words; is_due = f p.due_status p.words p.is_due; whole = p.whole; said = p.said; status_is = p.status_is }
+  pub printed-as : (due other : Status → List ℕ → Type 0) (status : Status) → Printed due status out lost out' lost' → ((s : Status) (words : List ℕ) → due s words → other s words) → Printed other status out lost out' lost'
+  printed-as due other status p f = record { due_status = p.due_status; words = p.words; is_due = f p.due_status p.words p.is_due; sent = p.sent; said = p.said; status_is = p.status_is }
 
-  -- The same words, written otherwise.
-  pub printed-same : (words others : List ℕ) (code status : ℕ) → words ≡ others → Printed (Exactly words code) status out lost out' lost' → Printed (Exactly others code) status out lost out' lost'
-  printed-same words others code status same p = printed-as (Exactly words code) (Exactly others code) status p (λ s w e. record { status_is = e.status_is; words_is = e.words_is ∙ same })
-
-  -- The first of two slices was lost.
-  pub printed-first : (first second : List ℕ) (code : ℕ) → Says first out lost out' lost' false → Printed (Exactly (first ++ second) code) 6 out lost out' lost'
-  printed-first first second code said = record { due_status = code; words = first ++ second; is_due = record { status_is = refl; words_is = refl }; whole = false; said = Says-first first second out out' lost lost' said; status_is = refl }
-
--- One slice, and then what is printed.
-pub printed-then : (first second : List ℕ) (code status : ℕ) (out middle out' : Option (List ℕ)) (lost between lost' : ℕ) → Says first out lost middle between true → Printed (Exactly second code) status middle between out' lost' → Printed (Exactly (first ++ second) code) status out lost out' lost'
-printed-then first second code status out middle out' lost between lost' said p = record {
-  due_status = code;
-  words = first ++ second;
-  is_due = record { status_is = refl; words_is = refl };
-  whole = p.whole;
-  said = Says-then first second out middle out' lost between lost' p.whole said (subst (λ w. Says w middle between out' lost' p.whole) p.is_due.words_is p.said);
-  status_is = p.status_is ∙ ap (λ s. if p.whole then s else 6) p.is_due.status_is;
-}
+  -- Words were written.
+  pub printed-said : (words : List ℕ) (code status : Status) (sent : Result Unit SinkFault) → Says words out lost out' lost' sent → status ≡ (if is_ok sent then code else exit.Edges) → Printed (Exactly words code) status out lost out' lost'
+  printed-said words code status sent said is = record { due_status = code; words = words; is_due = record { status_is = refl; words_is = refl }; sent = sent; said = said; status_is = is }
 
 -- A script that is bad.
-pub due-bad : (config : Config) (text : List ℕ) (event : ℕ) → length text ≤ input_limit → IsBad event text → (s : ℕ) (words : List ℕ) → Exactly (line (codes "bad script " ++ decimal event)) 9 s words → IsReplayDue config text s words
+pub due-bad : (config : Config) (text : List ℕ) (event : ℕ) → length text ≤ input_limit → IsBad event text → (s : Status) (words : List ℕ) → Exactly (line (codes "bad script " ++ decimal event)) exit.Script s words → IsReplayDue config text s words
 due-bad config text event short bad s words e = inl (inr (inl (record { short = short; event = event; bad = bad; status_is = e.status_is; printed_is = e.words_is })))
 
 -- A script that runs out of memory at once.
-pub due-none : (config : Config) (text : List ℕ) (s : ℕ) (words : List ℕ) → Exactly (line (codes "12 no memory")) 7 s words → IsReplayDue config text s words
+pub due-none : (config : Config) (text : List ℕ) (s : Status) (words : List ℕ) → Exactly (line (codes "12 no memory")) exit.Memory s words → IsReplayDue config text s words
 due-none config text s words e = inr (record { status_is = e.status_is; frames = []; played = inl refl; printed_is = e.words_is })
 
 -- A script whose events were played.
-pub due-played : (config : Config) (text frames : List ℕ) (arrivals : List Arrival) (after : World) → length text ≤ input_limit → IsScript arrivals text → Transcript (before_stop arrivals) (start config) frames after → (s : ℕ) (words : List ℕ) → Exactly frames 0 s words → IsReplayDue config text s words
+pub due-played : (config : Config) (text frames : List ℕ) (arrivals : List Arrival) (after : World) → length text ≤ input_limit → IsScript arrivals text → Transcript (before_stop arrivals) (start config) frames after → (s : Status) (words : List ℕ) → Exactly frames exit.Done s words → IsReplayDue config text s words
 due-played config text frames arrivals after short script played s words e =
     inl (inr (inr (record { short = short; arrivals = arrivals; script = script; after = after; status_is = e.status_is; transcript = subst (λ w. Transcript (before_stop arrivals) (start config) w after) (sym e.words_is) played })))
 
 -- A script some of whose events were played.
-pub due-part : (config : Config) (text frames : List ℕ) (arrivals : List Arrival) → length text ≤ input_limit → IsScript arrivals text → PlaysSome (before_stop arrivals) (start config) frames → (s : ℕ) (words : List ℕ) → Exactly (frames ++ line (codes "12 no memory")) 7 s words → IsReplayDue config text s words
+pub due-part : (config : Config) (text frames : List ℕ) (arrivals : List Arrival) → length text ≤ input_limit → IsScript arrivals text → PlaysSome (before_stop arrivals) (start config) frames → (s : Status) (words : List ℕ) → Exactly (frames ++ line (codes "12 no memory")) exit.Memory s words → IsReplayDue config text s words
 due-part config text frames arrivals short script played s words e = inr (record { status_is = e.status_is; frames = frames; played = inr (record { short = short; arrivals = arrivals; script = script; played = played }); printed_is = e.words_is })
 
 -- An input that is too long.
-pub due-long : (config : Config) (input : List ℕ) → input_limit < length input → (s : ℕ) (words : List ℕ) → Exactly (line (codes "script too long")) 9 s words → IsReplayDue config input s words
+pub due-long : (config : Config) (input : List ℕ) → input_limit < length input → (s : Status) (words : List ℕ) → Exactly (line (codes "script too long")) exit.Script s words → IsReplayDue config input s words
 due-long config input long s words e = inl (inl (record { long = long; status_is = e.status_is; printed_is = e.words_is }))
 
 -- There is some input.
@@ -87,33 +74,33 @@ pub before-before : (left now later : Option (List ℕ)) (bytes more : List ℕ)
 before-before left now None bytes more is next = is ∙ ap (before bytes) next
 before-before left now (Some rest) bytes more is next = is ∙ ap (before bytes) next ∙ ap Some (sym (append_assoc bytes more rest))
 
-ran_by : (words : List (List ℕ)) (input : List ℕ) (status : ℕ) (i j : Edges) (due_status : ℕ) (printed : List ℕ) (whole : Bool) → IsInput i.left input → IsDue words input i j due_status printed → Says printed i.taken i.lost j.taken j.lost whole → status ≡ (if whole then due_status else 6) → Ran words status i j
-ran_by words input status i j due_status printed true told due said is =
+ran_by : (words : List (List ℕ)) (input : List ℕ) (status : Status) (i j : Edges) (due_status : Status) (printed : List ℕ) (sent : Result Unit SinkFault) → IsInput i.left input → IsDue words input i j due_status printed → Says printed i.taken i.lost j.taken j.lost sent → status ≡ (if is_ok sent then due_status else exit.Edges) → Ran words status i j
+ran_by words input status i j due_status printed (Ok done) told due said is =
     inl (record { input = input; told = told; printed = printed; due = subst (λ s. IsDue words input i j s printed) (sym is) due; taken_is = said.1; lost_kept = said.0 })
-ran_by words input status i j due_status printed false told due said is =
+ran_by words input status i j due_status printed (Err fault) told due said is =
     inr (inr (inr (record { status_is = is; rose = said.1; input = input; told = told; due_status = due_status; printed = printed; due = due; count = said.2.0; taken_is = said.2.1 })))
 
 -- What was printed of what is due is a run.
-pub ran-printed : (words : List (List ℕ)) (input : List ℕ) (status : ℕ) (i j : Edges) (due : ℕ → List ℕ → Type 0) → IsInput i.left input → ((s : ℕ) (printed : List ℕ) → due s printed → IsDue words input i j s printed) → Printed due status i.taken i.lost j.taken j.lost → Ran words status i j
-ran-printed words input status i j due told f p = ran_by words input status i j p.due_status p.words p.whole told (f p.due_status p.words p.is_due) p.said p.status_is
+pub ran-printed : (words : List (List ℕ)) (input : List ℕ) (status : Status) (i j : Edges) (due : Status → List ℕ → Type 0) → IsInput i.left input → ((s : Status) (printed : List ℕ) → due s printed → IsDue words input i j s printed) → Printed due status i.taken i.lost j.taken j.lost → Ran words status i j
+ran-printed words input status i j due told f p = ran_by words input status i j p.due_status p.words p.sent told (f p.due_status p.words p.is_due) p.said p.status_is
 
 -- Words that print exactly these bytes, whatever the input.
-pub ran-exactly : (words : List (List ℕ)) (job : Option Job) (text : List ℕ) (code status : ℕ) (i j : Edges) → IsJob words job → ((input : List ℕ) → Ends job input i j code text) → Printed (Exactly text code) status i.taken i.lost j.taken j.lost → Ran words status i j
+pub ran-exactly : (words : List (List ℕ)) (job : Option Job) (text : List ℕ) (code status : Status) (i j : Edges) → IsJob words job → ((input : List ℕ) → Ends job input i j code text) → Printed (Exactly text code) status i.taken i.lost j.taken j.lost → Ran words status i j
 ran-exactly words job text code status i j asked ends p =
     let given = some-input i.left in
     ran-printed words given.0 status i j (Exactly text code) given.1 (λ s printed e. inl (record { job = job; asked = asked; ends = subst (λ w. Ends job given.0 i j s w) (sym e.words_is) (subst (λ c. Ends job given.0 i j c text) (sym e.status_is) (ends given.0)) })) p
 
-due_job : (words : List (List ℕ)) (config : Config) (input : List ℕ) (i j : Edges) (s : ℕ) (printed : List ℕ) → AsksFor words (Replay config) → IsReplayDue config input s printed → IsDue words input i j s printed
+due_job : (words : List (List ℕ)) (config : Config) (input : List ℕ) (i j : Edges) (s : Status) (printed : List ℕ) → AsksFor words (Replay config) → IsReplayDue config input s printed → IsDue words input i j s printed
 due_job words config input i j s printed asked (inl replays) = inl (record { job = Some (Replay config); asked = asked; ends = replays })
 due_job words config input i j s printed asked (inr short) = inr (inl (record { config = config; asked = asked; stops = short }))
 
 -- A script that was run is a run.
-pub ran-replayed : (words : List (List ℕ)) (config : Config) (status : ℕ) (i j : Edges) → AsksFor words (Replay config) → Replayed config status i j → j.content ≡ i.content → Ran words status i j
+pub ran-replayed : (words : List (List ℕ)) (config : Config) (status : Status) (i j : Edges) → AsksFor words (Replay config) → Replayed config status i j → j.content ≡ i.content → Ran words status i j
 ran-replayed words config status i j asked (inl r) kept = ran-printed words r.0 status i j (IsReplayDue config r.0) r.1 (λ s printed due. due_job words config r.0 i j s printed asked due) r.2
 ran-replayed words config status i j asked (inr r) kept = inr (inl (record { asked = inl (config, asked); rose = r.1; silent = record { status_is = r.0; taken_is = r.2; lost_kept = r.3; kept = kept } }))
 
 -- An archive that was to be made is a run.
-pub ran-made : (words : List (List ℕ)) (config : Config) (status : ℕ) (i j : Edges) → AsksFor words (Init config) → JobDone (Init config) [] status i j → Ran words status i j
+pub ran-made : (words : List (List ℕ)) (config : Config) (status : Status) (i j : Edges) → AsksFor words (Init config) → JobDone (Init config) [] status i j → Ran words status i j
 ran-made words config status i j asked (inl p) =
     let given = some-input i.left in
     ran-printed words given.0 status i j (IsOutcomeDue (Init config) [] i j) given.1
@@ -121,7 +108,7 @@ ran-made words config status i j asked (inl p) =
 ran-made words config status i j asked (inr missed) = inr (inr (inl (record { asked = inl (config, asked); rose = missed.1; silent = missed.0 })))
 
 -- A message that was to be delivered is a run.
-pub ran-delivered : (words : List (List ℕ)) (status : ℕ) (i j : Edges) → AsksFor words Deliver → InputDone status i j → Ran words status i j
+pub ran-delivered : (words : List (List ℕ)) (status : Status) (i j : Edges) → AsksFor words Deliver → InputDone status i j → Ran words status i j
 ran-delivered words status i j asked (inl (input, told, inl p)) =
     ran-printed words input status i j (IsOutcomeDue Deliver input i j) told (λ s printed due. inl (record { job = Some Deliver; asked = asked; ends = due })) p
 ran-delivered words status i j asked (inl (input, told, inr missed)) = inr (inr (inl (record { asked = inr asked; rose = missed.1; silent = missed.0 })))
@@ -131,20 +118,20 @@ ran-delivered words status i j asked (inr (inl p)) =
 ran-delivered words status i j asked (inr (inr failed)) = inr (inl (record { asked = inr asked; rose = failed.1; silent = failed.0 }))
 
 -- A check is a run.
-pub ran-checked : (words : List (List ℕ)) (status : ℕ) (i j : Edges) (o : Outcome) → AsksFor words Check → ((input : List ℕ) → Acts Check input i j o) → Printed (Exactly (line (outcome_line o)) (status_of o)) status i.taken i.lost j.taken j.lost → Ran words status i j
+pub ran-checked : (words : List (List ℕ)) (status : Status) (i j : Edges) (o : Outcome) → AsksFor words Check → ((input : List ℕ) → Acts Check input i j o) → Printed (Exactly (line (outcome_line o)) (status_of o)) status i.taken i.lost j.taken j.lost → Ran words status i j
 ran-checked words status i j o asked acts p =
     let given = some-input i.left in
     ran-printed words given.0 status i j (Exactly (line (outcome_line o)) (status_of o)) given.1
     (λ s printed e. inl (record { job = Some Check; asked = asked; ends = record { outcome = o; acts = acts given.0; status_is = e.status_is; printed_is = e.words_is } })) p
 
 -- What was printed of an outcome is due by it.
-pub outcome-due : (job : Job) (input : List ℕ) (status : ℕ) (i j : Edges) (o : Outcome) → Acts job input i j o → Printed (Exactly (line (outcome_line o)) (status_of o)) status i.taken i.lost j.taken j.lost → Printed (IsOutcomeDue job input i j) status i.taken i.lost j.taken j.lost
+pub outcome-due : (job : Job) (input : List ℕ) (status : Status) (i j : Edges) (o : Outcome) → Acts job input i j o → Printed (Exactly (line (outcome_line o)) (status_of o)) status i.taken i.lost j.taken j.lost → Printed (IsOutcomeDue job input i j) status i.taken i.lost j.taken j.lost
 outcome-due job input status i j o acts p =
     printed-as i.taken i.lost j.taken j.lost (Exactly (line (outcome_line o)) (status_of o)) (IsOutcomeDue job input i j) status p
     (λ s words e. record { outcome = o; acts = acts; status_is = e.status_is; printed_is = e.words_is })
 
 -- A job over the disk does not depend on the end of the input.
-pub job-moved : (job : Job) (input : List ℕ) (status : ℕ) (left left' : Option (List ℕ)) (unread unread' : ℕ) (taken taken' : Option (List ℕ)) (lost lost' : ℕ) (coming coming' : Option Moments) (missed missed' : ℕ) (content content' : Option Content) (broken broken' : ℕ)
+pub job-moved : (job : Job) (input : List ℕ) (status : Status) (left left' : Option (List ℕ)) (unread unread' : ℕ) (taken taken' : Option (List ℕ)) (lost lost' : ℕ) (coming coming' : Option Moments) (missed missed' : ℕ) (content content' : Option Content) (broken broken' : ℕ)
     → JobDone job input status (all_edges None 0 taken lost coming missed content broken) (all_edges None 0 taken' lost' coming' missed' content' broken')
     → JobDone job input status (all_edges left unread taken lost coming missed content broken) (all_edges left' unread' taken' lost' coming' missed' content' broken')
 job-moved job input status left left' unread unread' taken taken' lost lost' coming coming' missed missed' content content' broken broken' (inl p) =
@@ -158,9 +145,9 @@ job-moved job input status left left' unread unread' taken taken' lost lost' com
     inr (record { status_is = m.0.status_is; taken_is = m.0.taken_is; lost_kept = m.0.lost_kept; kept = m.0.kept }, m.1)
 
 -- The line for out of memory is due if a message wasn't read.
-pub unread-due : (status : ℕ) (i j : Edges) (out : Option (List ℕ)) (lost : ℕ) (out' : Option (List ℕ)) (lost' : ℕ) → j.content ≡ i.content → Printed (Exactly (line (codes "12 no memory")) 7) status out lost out' lost' → Printed (IsUnread i j) status out lost out' lost'
+pub unread-due : (status : Status) (i j : Edges) (out : Option (List ℕ)) (lost : ℕ) (out' : Option (List ℕ)) (lost' : ℕ) → j.content ≡ i.content → Printed (Exactly (line (codes "12 no memory")) exit.Memory) status out lost out' lost' → Printed (IsUnread i j) status out lost out' lost'
 unread-due status i j out lost out' lost' kept p =
-    printed-as out lost out' lost' (Exactly (line (codes "12 no memory")) 7) (IsUnread i j) status p (λ s words e. record { status_is = e.status_is; printed_is = e.words_is; kept = kept })
+    printed-as out lost out' lost' (Exactly (line (codes "12 no memory")) exit.Memory) (IsUnread i j) status p (λ s words e. record { status_is = e.status_is; printed_is = e.words_is; kept = kept })
 
 -- Some moment is the first to come.
 pub some-moment : (coming : Option Moments) → (moment : ℕ) × IsFirst moment coming

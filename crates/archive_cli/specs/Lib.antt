@@ -6,5 +6,6 @@ pub mod Plays
 pub mod Program
 pub mod Printing
 pub mod Laws
+pub mod Statuses
 pub mod Outcomes
 pub mod DiskCommands

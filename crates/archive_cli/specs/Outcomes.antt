@@ -7,6 +7,8 @@ use Rattle.arch_model.specs.declared.opening.OpenRefusal.{OpenRefusal}
 use Rattle.arch_model.specs.declared.opening.OpenRefusal.TheVariants as refusal
 use Rattle.archive_cli.specs.declared.outcome.Outcome.{Outcome}
 use Rattle.archive_cli.specs.declared.outcome.Outcome.TheVariants.{Made, Exists, Checked, Answered, Unopened}
+use Rattle.archive_cli.specs.declared.status.Status.{Status}
+use Rattle.archive_cli.specs.declared.status.Status.TheVariants as exit
 
 -- The line of a check of an archive.
 abbrev pub checked_line : ℕ → ℕ → ℕ → List ℕ
@@ -27,32 +29,32 @@ outcome_line (Checked entries live next) = checked_line entries live next
 outcome_line (Answered reply) = answer_line reply
 outcome_line (Unopened why) = refusal_line why
 
--- The status for an answer: 0 if the command is done, and for a message that is there already.
-abbrev pub answer_status : Answer → ℕ
-answer_status (answer.Ok number id) = 0
-answer_status (answer.Duplicate number) = 0
-answer_status answer.NoFields = 1
-answer_status (answer.TooLarge len) = 1
-answer_status (answer.Full max) = 1
-answer_status (answer.Collision number) = 1
-answer_status (answer.NotLive number) = 1
-answer_status (answer.NoText number) = 1
-answer_status answer.IsMirror = 1
-answer_status answer.DiskFault = 4
-answer_status (answer.Damaged file at) = 3
-answer_status answer.NoMemory = 7
+-- The status for an answer. A message that is there already is done.
+abbrev pub answer_status : Answer → Status
+answer_status (answer.Ok number id) = exit.Done
+answer_status (answer.Duplicate number) = exit.Done
+answer_status answer.NoFields = exit.Refused
+answer_status (answer.TooLarge len) = exit.Refused
+answer_status (answer.Full max) = exit.Refused
+answer_status (answer.Collision number) = exit.Refused
+answer_status (answer.NotLive number) = exit.Refused
+answer_status (answer.NoText number) = exit.Refused
+answer_status answer.IsMirror = exit.Refused
+answer_status answer.DiskFault = exit.Disk
+answer_status (answer.Damaged file at) = exit.Archive
+answer_status answer.NoMemory = exit.Memory
 
 -- The status for an archive that could not be opened.
-abbrev pub refusal_status : OpenRefusal → ℕ
-refusal_status refusal.NoArchive = 3
-refusal_status (refusal.Damaged file at) = 3
-refusal_status refusal.DiskFault = 4
-refusal_status refusal.NoMemory = 7
+abbrev pub refusal_status : OpenRefusal → Status
+refusal_status refusal.NoArchive = exit.Archive
+refusal_status (refusal.Damaged file at) = exit.Archive
+refusal_status refusal.DiskFault = exit.Disk
+refusal_status refusal.NoMemory = exit.Memory
 
 -- The status of a command.
-abbrev pub status_of : Outcome → ℕ
-status_of (Made name) = 0
-status_of Exists = 3
-status_of (Checked entries live next) = 0
+abbrev pub status_of : Outcome → Status
+status_of (Made name) = exit.Done
+status_of Exists = exit.Archive
+status_of (Checked entries live next) = exit.Done
 status_of (Answered reply) = answer_status reply
 status_of (Unopened why) = refusal_status why

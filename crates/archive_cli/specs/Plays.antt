@@ -1,5 +1,5 @@
 -- The results of the code that plays a script, call by call.
-use Rattle.std.specs.Prelude.{◌≡◌, ◌++◌, ℕ, Bool, false, List, Option}
+use Rattle.std.specs.Prelude.{◌≡◌, ◌++◌, ℕ, Bool, List, Option}
 use Rattle.edge_io.specs.Scripts.{Arrival}
 use Rattle.arch_model.specs.Archives.{Archive}
 use Rattle.arch_model.specs.Standing.{Fits}

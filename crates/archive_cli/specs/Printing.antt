@@ -1,8 +1,9 @@
 -- How what is due is printed, and what is read of the input.
-use Rattle.std.specs.Prelude.{◌≡◌, ◌<◌, ◌≤◌, ◌⊎◌, ◌+◌, ℕ, Bool, List, ◌++◌, length, take, codes, Option, Result, Ok, Err, if◌then◌else◌}
+use Rattle.std.specs.Prelude.{◌≡◌, ◌<◌, ◌≤◌, ◌⊎◌, ◌+◌, ℕ, List, ◌++◌, length, take, codes, Option, Result, Ok, Err, is_ok, if◌then◌else◌}
 use Rattle.arch_base.specs.Counts.{Rose}
 use Rattle.arch_base.specs.declared.config.Config.{Config}
-use Rattle.line_door.specs.Phrases.{Says}
+use Rattle.edge_io.specs.Phrases.{Says}
+use Rattle.edge_io.specs.declared.sink.SinkFault.{SinkFault}
 use Rattle.disk_model.specs.Disk.{Files}
 use Rattle.edge_io.specs.Coming.{Moments, IsFirst}
 use Rattle.arch_model.specs.Archives.{Archive}
@@ -12,28 +13,30 @@ use Rattle.archive_cli.specs.declared.words.Job.{Job}
 use Rattle.archive_cli.specs.declared.words.Job.TheVariants.{Deliver}
 use Rattle.archive_cli.specs.Program.{Edges, EndsBy, IsSilent, IsInput, input_limit, Replays, StopsShort}
 use Rattle.edge_io.specs.Left.{before, IsUsedUp}
+use Rattle.archive_cli.specs.declared.status.Status.{Status}
+use Rattle.archive_cli.specs.declared.status.Status.TheVariants as exit
 use Rattle.archive_cli.specs.declared.reading.Piece.{Piece}
 use Rattle.archive_cli.specs.declared.reading.Piece.TheVariants.{End, More}
 use Rattle.archive_cli.specs.declared.reading.InputRefusal.{InputRefusal}
 use Rattle.archive_cli.specs.declared.reading.InputRefusal.TheVariants.{Fault, TooLong, NoMemory}
 
 -- Something was due, with a status. It was printed whole, and that is the status, or the output
--- failed, and the status is 6.
-pub record Printed (due : ℕ → List ℕ → Type 0) (status : ℕ) (out : Option (List ℕ)) (lost : ℕ) (out' : Option (List ℕ)) (lost' : ℕ) : Type 0 where
-  pub due_status : ℕ
+-- failed.
+pub record Printed (due : Status → List ℕ → Type 0) (status : Status) (out : Option (List ℕ)) (lost : ℕ) (out' : Option (List ℕ)) (lost' : ℕ) : Type 0 where
+  pub due_status : Status
   pub words : List ℕ
   pub is_due : due due_status words
-  pub whole : Bool
-  pub said : Says words out lost out' lost' whole
-  pub status_is : status ≡ (if whole then due_status else 6)
+  pub sent : Result Unit SinkFault
+  pub said : Says words out lost out' lost' sent
+  pub status_is : status ≡ (if is_ok sent then due_status else exit.Edges)
 
 -- These words are due, with this status.
-pub record Exactly (words : List ℕ) (status : ℕ) (due_status : ℕ) (printed : List ℕ) : Type 0 where
+pub record Exactly (words : List ℕ) (status due_status : Status) (printed : List ℕ) : Type 0 where
   pub status_is : due_status ≡ status
   pub words_is : printed ≡ words
 
 -- What a script on an input is due to print, over an archive with these settings.
-abbrev pub IsReplayDue : Config → List ℕ → ℕ → List ℕ → Type 0
+abbrev pub IsReplayDue : Config → List ℕ → Status → List ℕ → Type 0
 IsReplayDue config input status printed = Replays config input status printed ⊎ StopsShort config input status printed
 
 -- One more piece of the input was appended, and the bytes are at most `most`; or none remains; or
@@ -65,21 +68,21 @@ IsRead left faults (Err NoMemory) faults' = Unit {0}
 
 -- A script on the input was run: what was due is printed, or the input failed and nothing is
 -- printed.
-abbrev pub Replayed : Config → ℕ → Edges → Edges → Type 0
+abbrev pub Replayed : Config → Status → Edges → Edges → Type 0
 Replayed config status i j =
     ((input : List ℕ) × IsInput i.left input × Printed (IsReplayDue config input) status i.taken i.lost j.taken j.lost)
-    ⊎ ((status ≡ 6) × Rose i.unread j.unread × (j.taken ≡ i.taken) × (j.lost ≡ i.lost))
+    ⊎ ((status ≡ exit.Edges) × Rose i.unread j.unread × (j.taken ≡ i.taken) × (j.lost ≡ i.lost))
 
 -- A job over the disk is due to print its outcome.
-abbrev pub IsOutcomeDue : Job → List ℕ → Edges → Edges → ℕ → List ℕ → Type 0
+abbrev pub IsOutcomeDue : Job → List ℕ → Edges → Edges → Status → List ℕ → Type 0
 IsOutcomeDue job input i j status printed = EndsBy job input i j status printed
 
 -- The clock failed: nothing was printed, and the disk is unchanged.
-abbrev pub MissesMoment : ℕ → Edges → Edges → Type 0
+abbrev pub MissesMoment : Status → Edges → Edges → Type 0
 MissesMoment status i j = IsSilent status i j × Rose i.missed j.missed
 
 -- A job over the disk at the clock's moment: what was due is printed, or the clock failed.
-abbrev pub JobDone : Job → List ℕ → ℕ → Edges → Edges → Type 0
+abbrev pub JobDone : Job → List ℕ → Status → Edges → Edges → Type 0
 JobDone job input status i j = Printed (IsOutcomeDue job input i j) status i.taken i.lost j.taken j.lost ⊎ MissesMoment status i j
 
 -- What a crash leaves while a message is delivered at the first moment to come.
@@ -87,14 +90,14 @@ abbrev pub BytesLeave : List (Option Archive) → List ℕ → Option Moments �
 BytesLeave may bytes coming image = (moment : ℕ) × IsFirst moment coming × RecoversBehind may bytes moment image
 
 -- The message was not read, because memory ran out.
-pub record IsUnread (i j : Edges) (status : ℕ) (printed : List ℕ) : Type 0 where
-  pub status_is : status ≡ 7
+pub record IsUnread (i j : Edges) (status : Status) (printed : List ℕ) : Type 0 where
+  pub status_is : status ≡ exit.Memory
   pub printed_is : printed ≡ line (codes "12 no memory")
   pub kept : j.content ≡ i.content
 
 -- The message on the input was to be delivered: what was due is printed, or the message was not
 -- read, or the input failed.
-abbrev pub InputDone : ℕ → Edges → Edges → Type 0
+abbrev pub InputDone : Status → Edges → Edges → Type 0
 InputDone status i j =
     ((input : List ℕ) × IsInput i.left input × JobDone Deliver input status i j)
     ⊎ (Printed (IsUnread i j) status i.taken i.lost j.taken j.lost ⊎ (IsSilent status i j × Rose i.unread j.unread))

@@ -14,6 +14,7 @@ use Rattle.epoch_store.specs.First.{MakingLeaves}
 use Rattle.epoch_store.specs.Opens.{ReadsAs}
 use Rattle.archive_cli.specs.DiskCommands.{HasRoom, Makes, DeliversTo, ChecksTo, IsOpenedAs, IsFault, RecoversBehind, LeavesUnopened}
 use Rattle.archive_cli.specs.Outcomes.{outcome_line, status_of}
+use Rattle.archive_cli.specs.Statuses.{code_of}
 use Rattle.archive_cli.specs.Words.{IsJob, AsksFor}
 use Rattle.archive_cli.specs.Frames.{line}
 use Rattle.archive_cli.specs.Turns.{World, Transcript, before_stop}
@@ -21,6 +22,8 @@ use Rattle.archive_cli.specs.Plays.{PlaysSome}
 use Rattle.archive_cli.specs.declared.words.Job.{Job}
 use Rattle.archive_cli.specs.declared.words.Job.TheVariants.{Help, Version, Replay, Init, Deliver, Check}
 use Rattle.archive_cli.specs.declared.outcome.Outcome.{Outcome}
+use Rattle.archive_cli.specs.declared.status.Status.{Status}
+use Rattle.archive_cli.specs.declared.status.Status.TheVariants as exit
 use Rattle.archive_cli.specs.declared.texts.TheConstants.{HELP, VERSION}
 
 -- A script starts with an empty archive and without a session.
@@ -36,30 +39,30 @@ abbrev pub message_limit : ℕ
 message_limit = 9000001
 
 -- The input is too long.
-pub record IsTooLong (input : List ℕ) (status : ℕ) (printed : List ℕ) : Type 0 where
+pub record IsTooLong (input : List ℕ) (status : Status) (printed : List ℕ) : Type 0 where
   pub long : input_limit < length input
-  pub status_is : status ≡ 9
+  pub status_is : status ≡ exit.Script
   pub printed_is : printed ≡ line (codes "script too long")
 
 -- The input is not a script.
-pub record IsBadScript (input : List ℕ) (status : ℕ) (printed : List ℕ) : Type 0 where
+pub record IsBadScript (input : List ℕ) (status : Status) (printed : List ℕ) : Type 0 where
   pub short : length input ≤ input_limit
   pub event : ℕ
   pub bad : IsBad event input
-  pub status_is : status ≡ 9
+  pub status_is : status ≡ exit.Script
   pub printed_is : printed ≡ line (codes "bad script " ++ decimal event)
 
 -- The input is a script, whose events up to the first stop are played.
-pub record IsPlayed (config : Config) (input : List ℕ) (status : ℕ) (printed : List ℕ) : Type 0 where
+pub record IsPlayed (config : Config) (input : List ℕ) (status : Status) (printed : List ℕ) : Type 0 where
   pub short : length input ≤ input_limit
   pub arrivals : List Arrival
   pub script : IsScript arrivals input
   pub after : World
-  pub status_is : status ≡ 0
+  pub status_is : status ≡ exit.Done
   pub transcript : Transcript (before_stop arrivals) (start config) printed after
 
 -- How a script on an input ends, over an empty archive with these settings.
-abbrev pub Replays : Config → List ℕ → ℕ → List ℕ → Type 0
+abbrev pub Replays : Config → List ℕ → Status → List ℕ → Type 0
 Replays config input status printed = IsTooLong input status printed ⊎ (IsBadScript input status printed ⊎ IsPlayed config input status printed)
 
 -- The remaining input, what the output took, the moments to come, the content of the disk, and the
@@ -110,24 +113,24 @@ pub record Acts (job : Job) (input : List ℕ) (i j : Edges) (o : Outcome) : Typ
   pub fault : IsFault o → Rose i.broken j.broken
 
 -- What a job over the archive on a disk ends with.
-pub record EndsBy (job : Job) (input : List ℕ) (i j : Edges) (status : ℕ) (printed : List ℕ) : Type 0 where
+pub record EndsBy (job : Job) (input : List ℕ) (i j : Edges) (status : Status) (printed : List ℕ) : Type 0 where
   pub outcome : Outcome
   pub acts : Acts job input i j outcome
   pub status_is : status ≡ status_of outcome
   pub printed_is : printed ≡ line (outcome_line outcome)
 
 -- What a job on an input ends with.
-abbrev pub Ends : Option Job → List ℕ → Edges → Edges → ℕ → List ℕ → Type 0
-Ends None input i j status printed = (status ≡ 2) × (printed ≡ line (codes "words not read"))
-Ends (Some Help) input i j status printed = (status ≡ 0) × (printed ≡ HELP.now)
-Ends (Some Version) input i j status printed = (status ≡ 0) × (printed ≡ VERSION.now)
+abbrev pub Ends : Option Job → List ℕ → Edges → Edges → Status → List ℕ → Type 0
+Ends None input i j status printed = (status ≡ exit.NotRead) × (printed ≡ line (codes "words not read"))
+Ends (Some Help) input i j status printed = (status ≡ exit.Done) × (printed ≡ HELP.now)
+Ends (Some Version) input i j status printed = (status ≡ exit.Done) × (printed ≡ VERSION.now)
 Ends (Some (Replay config)) input i j status printed = Replays config input status printed
 Ends (Some (Init config)) input i j status printed = EndsBy (Init config) input i j status printed
 Ends (Some Deliver) input i j status printed = EndsBy Deliver input i j status printed
 Ends (Some Check) input i j status printed = EndsBy Check input i j status printed
 
 -- What a run of words on an input ends with, by the rules.
-pub record Does (words : List (List ℕ)) (input : List ℕ) (i j : Edges) (status : ℕ) (printed : List ℕ) : Type 0 where
+pub record Does (words : List (List ℕ)) (input : List ℕ) (i j : Edges) (status : Status) (printed : List ℕ) : Type 0 where
   pub job : Option Job
   pub asked : IsJob words job
   pub ends : Ends job input i j status printed
@@ -141,31 +144,31 @@ pub record PlaysPart (config : Config) (input : List ℕ) (frames : List ℕ) : 
 
 -- Out of memory, a script stops after some of its events, or before it is read. What these events
 -- wrote is printed, and then a line that tells of it.
-pub record StopsShort (config : Config) (input : List ℕ) (status : ℕ) (printed : List ℕ) : Type 0 where
-  pub status_is : status ≡ 7
+pub record StopsShort (config : Config) (input : List ℕ) (status : Status) (printed : List ℕ) : Type 0 where
+  pub status_is : status ≡ exit.Memory
   pub frames : List ℕ
   pub played : (frames ≡ []) ⊎ PlaysPart config input frames
   pub printed_is : printed ≡ frames ++ line (codes "12 no memory")
 
 -- The words ask for a replay, which ran out of memory.
-pub record ReplayRunsOut (words : List (List ℕ)) (input : List ℕ) (status : ℕ) (printed : List ℕ) : Type 0 where
+pub record ReplayRunsOut (words : List (List ℕ)) (input : List ℕ) (status : Status) (printed : List ℕ) : Type 0 where
   pub config : Config
   pub asked : AsksFor words (Replay config)
   pub stops : StopsShort config input status printed
 
 -- Out of memory, a message isn't read, and the disk is unchanged.
-pub record DeliverRunsOut (words : List (List ℕ)) (i j : Edges) (status : ℕ) (printed : List ℕ) : Type 0 where
+pub record DeliverRunsOut (words : List (List ℕ)) (i j : Edges) (status : Status) (printed : List ℕ) : Type 0 where
   pub asked : AsksFor words Deliver
-  pub status_is : status ≡ 7
+  pub status_is : status ≡ exit.Memory
   pub printed_is : printed ≡ line (codes "12 no memory")
   pub kept : j.content ≡ i.content
 
 -- A replay or a delivery ran out of memory.
-abbrev pub RunsOut : List (List ℕ) → List ℕ → Edges → Edges → ℕ → List ℕ → Type 0
+abbrev pub RunsOut : List (List ℕ) → List ℕ → Edges → Edges → Status → List ℕ → Type 0
 RunsOut words input i j status printed = ReplayRunsOut words input status printed ⊎ DeliverRunsOut words i j status printed
 
 -- What a run is to print, and its status if all of that is taken.
-abbrev pub IsDue : List (List ℕ) → List ℕ → Edges → Edges → ℕ → List ℕ → Type 0
+abbrev pub IsDue : List (List ℕ) → List ℕ → Edges → Edges → Status → List ℕ → Type 0
 IsDue words input i j status printed = Does words input i j status printed ⊎ RunsOut words input i j status printed
 
 -- The bytes are the input, if the source is told.
@@ -173,7 +176,7 @@ abbrev pub IsInput : Option (List ℕ) → List ℕ → Type 0
 IsInput left input = MatchOption left (Unit {0}) (λ bytes. bytes ≡ input)
 
 -- All was printed, and no write failed.
-pub record IsPrinted (words : List (List ℕ)) (status : ℕ) (i j : Edges) : Type 0 where
+pub record IsPrinted (words : List (List ℕ)) (status : Status) (i j : Edges) : Type 0 where
   pub input : List ℕ
   pub told : IsInput i.left input
   pub printed : List ℕ
@@ -189,40 +192,44 @@ AsksForInput words = ((config : Config) × AsksFor words (Replay config)) ⊎ As
 abbrev pub AsksForMoment : List (List ℕ) → Type 0
 AsksForMoment words = ((config : Config) × AsksFor words (Init config)) ⊎ AsksFor words Deliver
 
--- Nothing was printed, and the disk is unchanged. The status is 6.
-pub record IsSilent (status : ℕ) (i j : Edges) : Type 0 where
-  pub status_is : status ≡ 6
+-- Nothing was printed, and the disk is unchanged. The input or the clock failed.
+pub record IsSilent (status : Status) (i j : Edges) : Type 0 where
+  pub status_is : status ≡ exit.Edges
   pub taken_is : j.taken ≡ i.taken
   pub lost_kept : j.lost ≡ i.lost
   pub kept : j.content ≡ i.content
 
 -- The input failed: its count of faults rose, and nothing was done.
-pub record InputFailed (words : List (List ℕ)) (status : ℕ) (i j : Edges) : Type 0 where
+pub record InputFailed (words : List (List ℕ)) (status : Status) (i j : Edges) : Type 0 where
   pub asked : AsksForInput words
   pub rose : Rose i.unread j.unread
   pub silent : IsSilent status i j
 
 -- The clock failed: its count of faults rose, and nothing was done.
-pub record ClockFailed (words : List (List ℕ)) (status : ℕ) (i j : Edges) : Type 0 where
+pub record ClockFailed (words : List (List ℕ)) (status : Status) (i j : Edges) : Type 0 where
   pub asked : AsksForMoment words
   pub rose : Rose i.missed j.missed
   pub silent : IsSilent status i j
 
 -- The output failed: its count of faults rose, and a prefix of what was due was printed.
-pub record OutputFailed (words : List (List ℕ)) (status : ℕ) (i j : Edges) : Type 0 where
-  pub status_is : status ≡ 6
+pub record OutputFailed (words : List (List ℕ)) (status : Status) (i j : Edges) : Type 0 where
+  pub status_is : status ≡ exit.Edges
   pub rose : Rose i.lost j.lost
   pub input : List ℕ
   pub told : IsInput i.left input
-  pub due_status : ℕ
+  pub due_status : Status
   pub printed : List ℕ
   pub due : IsDue words input i j due_status printed
   pub count : ℕ
   pub taken_is : j.taken ≡ plus i.taken (take count printed)
 
 -- How a run of words ends, by the edges before and after it.
-abbrev pub Ran : List (List ℕ) → ℕ → Edges → Edges → Type 0
+abbrev pub Ran : List (List ℕ) → Status → Edges → Edges → Type 0
 Ran words status i j = IsPrinted words status i j ⊎ (InputFailed words status i j ⊎ (ClockFailed words status i j ⊎ OutputFailed words status i j))
+
+-- A run of words ends so, and this is the number of its status.
+abbrev pub RanTo : List (List ℕ) → ℕ → Edges → Edges → Type 0
+RanTo words code i j = (status : Status) × (code ≡ code_of status) × Ran words status i j
 
 -- At most `most` bytes were removed from the front of what remained, if that is told.
 pub record TookAtMost (most : ℕ) (old new : Option (List ℕ)) : Type 0 where

@@ -6,7 +6,6 @@ use Rattle.edge_io.specs.declared.events.What.TheVariants.{Opened, Bytes, Ended,
 use Rattle.line_door.specs.Acts.{Said, outside}
 use Rattle.line_door.specs.Course.{talk, Fed}
 use Rattle.line_door.specs.Plain.{plain}
-use Rattle.arch_model.specs.Archives.{Archive}
 use Rattle.arch_model.specs.Standing.{Standing, standing}
 use Rattle.control_door.specs.Door.{Waiting, waiting, said, has_request, left}
 use Rattle.control_door.specs.Laws.{bytes_of}

@@ -6,8 +6,8 @@ use std::alloc::Global;
 use std::env::Args;
 use std::io::{self, ErrorKind};
 
-/// Runs the program with the arguments after its name, and returns the status to end with and the
-/// disk.
+/// Runs the program with the arguments after its name, and returns the number of the status to end
+/// with and the disk.
 ///
 /// Arguments that aren't all UTF-8 are no words of the grammar.
 pub(crate) fn run_arguments<D: Disk, S: Source, O: Sink, C: Clock>(
@@ -21,20 +21,20 @@ pub(crate) fn run_arguments<D: Disk, S: Source, O: Sink, C: Clock>(
     let arguments = match arguments {
         Ok(arguments) => arguments,
         Err(refused) if refused.kind() == ErrorKind::OutOfMemory => {
-            return (print_no_memory(out), disk);
+            return (print_no_memory(out).code(), disk);
         }
         Err(_) => return run(alloc, &[], disk, input, out, clock),
     };
     let mut owned = Vec::new(alloc);
     for argument in arguments {
         if owned.push(argument).is_err() {
-            return (print_no_memory(out), disk);
+            return (print_no_memory(out).code(), disk);
         }
     }
     let mut words = Vec::new(alloc);
     for argument in owned.as_slice() {
         if words.push(argument.as_str()).is_err() {
-            return (print_no_memory(out), disk);
+            return (print_no_memory(out).code(), disk);
         }
     }
     match words.as_slice() {

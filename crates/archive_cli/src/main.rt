@@ -9,6 +9,7 @@ mod outcome;
 mod player;
 mod program;
 mod reading;
+mod status;
 mod texts;
 mod words;
 
@@ -16,6 +17,7 @@ use arch_base::NoMemory;
 use arguments::run_arguments;
 use program::print_no_memory;
 use real_edges::{FolderDisk, StdSink, StdSource, SystemClock};
+use status::Status;
 use std::process::ExitCode;
 use std::{env, io};
 
@@ -25,32 +27,34 @@ const FOLDER: &str = "piv2-store";
 /// Does what the words of the command line ask for, over the folder, the standard input and output,
 /// and the system's clock, and ends with its status.
 ///
-/// At status 4 a line on standard error says what failed first on the disk. At status 6 it says
-/// which of input, clock and output failed, and nothing of the disk.
+/// If the disk failed, a line on standard error says what failed first on it. If input, clock or
+/// output failed, it says which of them, and nothing of the disk.
 fn main(rt: HostRuntime) -> ExitCode {
     let alloc = rt.alloc();
     let Ok(mut output) = StdSink::new(&rt, alloc) else {
-        return ExitCode::from(7);
+        return ExitCode::from(Status::Memory.code());
     };
     let Ok(mut input) = StdSource::new(&rt, alloc) else {
-        return ExitCode::from(print_no_memory(&mut output));
+        return ExitCode::from(print_no_memory(&mut output).code());
     };
     let Ok(mut clock) = SystemClock::new(&rt, alloc) else {
-        return ExitCode::from(print_no_memory(&mut output));
+        return ExitCode::from(print_no_memory(&mut output).code());
     };
     let Ok(disk) = FolderDisk::open(&rt, alloc, FOLDER) else {
-        return ExitCode::from(print_no_memory(&mut output));
+        return ExitCode::from(print_no_memory(&mut output).code());
     };
     let arguments = env::args(&rt);
-    let (status, disk) = run_arguments(alloc, arguments, disk, &mut input, &mut output, &mut clock);
-    let _ = match status {
-        4 => explain(&rt, "", disk.cause()),
-        6 => explain(&rt, "standard input: ", input.cause(alloc))
+    let (code, disk) = run_arguments(alloc, arguments, disk, &mut input, &mut output, &mut clock);
+    let _ = if code == Status::Disk.code() {
+        explain(&rt, "", disk.cause())
+    } else if code == Status::Edges.code() {
+        explain(&rt, "standard input: ", input.cause(alloc))
             .and(explain(&rt, "clock: ", clock.cause(alloc)))
-            .and(explain(&rt, "standard output: ", output.cause(alloc))),
-        _ => Ok(()),
+            .and(explain(&rt, "standard output: ", output.cause(alloc)))
+    } else {
+        Ok(())
     };
-    ExitCode::from(status)
+    ExitCode::from(code)
 }
 
 /// Prints on standard error why an edge failed, if it did.

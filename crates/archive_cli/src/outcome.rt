@@ -1,15 +1,15 @@
 //! How a command over the archive on a disk ends, and what is printed of it.
 ghost use Rattle.std.specs.Prelude.{◌≡◌, ◌++◌, codes, decimal};
-ghost use Rattle.line_door.specs.Phrases.{Says};
+ghost use Rattle.edge_io.specs.Phrases.{Says};
 ghost use Rattle.archive_cli.specs.Frames.{line};
 ghost use Rattle.archive_cli.specs.Outcomes.{outcome_line, refusal_line, checked_line, status_of, answer_status, refusal_status};
 
+use crate::status::Status;
+use answer_lines::{say_answer, say_damage, say_number};
 use arch_base::Name;
 use arch_model::{Answer, OpenRefusal};
-use control_door::{say_answer, say_damage, say_number};
-use edge_io::Sink;
+use edge_io::{Sink, SinkFault, say, say_line};
 use itoa::Buffer;
-use line_door::{say, say_line};
 
 /// How a command over the archive on a disk ends.
 #[derive(Debug, Drop)]
@@ -29,19 +29,19 @@ pub(crate) enum Outcome {
 
 impl Outcome {
     /// Returns the status that the program ends with, if all is printed.
-    pub(crate) fn status(&self) -> u8
+    pub(crate) fn status(&self) -> Status
         ensures { result ≡ status_of self.now }
     {
         match self {
-            Outcome::Made(_) | Outcome::Checked { .. } => 0,
-            Outcome::Exists => 3,
+            Outcome::Made(_) | Outcome::Checked { .. } => Status::Done,
+            Outcome::Exists => Status::Archive,
             Outcome::Answered(answer) => status_of_answer(answer),
             Outcome::Unopened(refusal) => status_of_refusal(refusal),
         }
     }
 
-    /// Writes the line of the outcome, and returns whether all of it was taken.
-    pub(crate) fn say<O: Sink>(&self, out: &mut O) -> bool
+    /// Writes the line of the outcome.
+    pub(crate) fn say<O: Sink>(&self, out: &mut O) -> Result<(), SinkFault>
         ensures said { Says (line (outcome_line self.now)) (O.taken out.old) (O.faults out.old) (O.taken out.new) (O.faults out.new) result }
         ensures sink { O.alike out.old out.new }
     {
@@ -60,72 +60,62 @@ impl Outcome {
 }
 
 /// Returns the status for an answer.
-fn status_of_answer(answer: &Answer) -> u8
+fn status_of_answer(answer: &Answer) -> Status
     ensures { result ≡ answer_status answer.now }
 {
     match answer {
-        Answer::Ok { .. } | Answer::Duplicate(_) => 0,
-        Answer::Damaged { .. } => 3,
-        Answer::DiskFault => 4,
-        Answer::NoMemory => 7,
-        _ => 1,
+        Answer::Ok { .. } | Answer::Duplicate(_) => Status::Done,
+        Answer::Damaged { .. } => Status::Archive,
+        Answer::DiskFault => Status::Disk,
+        Answer::NoMemory => Status::Memory,
+        _ => Status::Refused,
     }
 }
 
 /// Returns the status for an archive that could not be opened.
-fn status_of_refusal(refusal: &OpenRefusal) -> u8
+fn status_of_refusal(refusal: &OpenRefusal) -> Status
     ensures { result ≡ refusal_status refusal.now }
 {
     match refusal {
-        OpenRefusal::NoArchive | OpenRefusal::Damaged { .. } => 3,
-        OpenRefusal::DiskFault => 4,
-        OpenRefusal::NoMemory => 7,
+        OpenRefusal::NoArchive | OpenRefusal::Damaged { .. } => Status::Archive,
+        OpenRefusal::DiskFault => Status::Disk,
+        OpenRefusal::NoMemory => Status::Memory,
     }
 }
 
 /// Writes that an archive with this name was made.
-fn say_made<O: Sink>(name: &Name, out: &mut O) -> bool
+fn say_made<O: Sink>(name: &Name, out: &mut O) -> Result<(), SinkFault>
     ensures said { Says (line (codes "made " ++ name.now)) (O.taken out.old) (O.faults out.old) (O.taken out.new) (O.faults out.new) result }
     ensures sink { O.alike out.old out.new }
 {
-    if !say(b"made ", out) {
-        return false;
-    }
+    say(b"made ", out)?;
     say_line(name.as_slice(), out)
 }
 
 /// Writes the counts of an archive's entries and messages, and its next number.
-fn say_checked<O: Sink>(entries: u64, live: u32, next: u32, out: &mut O) -> bool
+fn say_checked<O: Sink>(entries: u64, live: u32, next: u32, out: &mut O) -> Result<(), SinkFault>
     ensures said { Says (line (checked_line entries live next)) (O.taken out.old) (O.faults out.old) (O.taken out.new) (O.faults out.new) result }
     ensures sink { O.alike out.old out.new }
 {
     let mut buffer = Buffer::new();
-    if !say(b"entries ", out) {
-        return false;
-    }
-    if !say(buffer.format(entries).as_bytes(), out) {
-        return false;
-    }
+    say(b"entries ", out)?;
+    say(buffer.format(entries).as_bytes(), out)?;
     say_numbers(live, next, out)
 }
 
 /// Writes the count of an archive's messages, and its next number.
-fn say_numbers<O: Sink>(live: u32, next: u32, out: &mut O) -> bool
+fn say_numbers<O: Sink>(live: u32, next: u32, out: &mut O) -> Result<(), SinkFault>
     ensures said { Says (line (codes " live " ++ (decimal live ++ (codes " next " ++ decimal next)))) (O.taken out.old) (O.faults out.old) (O.taken out.new) (O.faults out.new) result }
     ensures sink { O.alike out.old out.new }
 {
     let mut buffer = Buffer::new();
-    if !say(b" live ", out) {
-        return false;
-    }
-    if !say(buffer.format(live).as_bytes(), out) {
-        return false;
-    }
+    say(b" live ", out)?;
+    say(buffer.format(live).as_bytes(), out)?;
     say_number(b" next ", u64::from(next), out)
 }
 
 /// Writes why an archive could not be opened.
-fn say_refusal<O: Sink>(refusal: &OpenRefusal, out: &mut O) -> bool
+fn say_refusal<O: Sink>(refusal: &OpenRefusal, out: &mut O) -> Result<(), SinkFault>
     ensures said { Says (line (refusal_line refusal.now)) (O.taken out.old) (O.faults out.old) (O.taken out.new) (O.faults out.new) result }
     ensures sink { O.alike out.old out.new }
 {

@@ -8,7 +8,7 @@ ghost use Rattle.archive_cli.specs.Frames.{frame};
 
 use crate::frames::push_frame;
 use arch_base::{Bytes, NoMemory, Numbers};
-use arch_model::Keep;
+use arch_model::{Keep, Next};
 use archive_core::Engine;
 use control_door::Session;
 use disk_model::MemDisk;
@@ -123,11 +123,13 @@ impl<K: CountedKeep> Player<K> {
             return Err(NoMemory);
         }
         let mut sink = MemSink::new(self.alloc, Numbers::new(self.alloc));
-        if session.feed(piece, moment, &mut self.keep, &mut sink) {
-            self.session = Some(session);
-            return self.push_taken(&sink, conn, false, frames);
+        match session.feed(piece, moment, &mut self.keep, &mut sink) {
+            Next::Go => {
+                self.session = Some(session);
+                self.push_taken(&sink, conn, false, frames)
+            }
+            Next::Close => self.push_taken(&sink, conn, true, frames),
         }
-        self.push_taken(&sink, conn, true, frames)
     }
 
     /// Appends the frame of what a sink took.

@@ -1,5 +1,5 @@
 //! All that the program does, over the disk, input, output and clock that it is given.
-ghost use Rattle.std.specs.Prelude.{◌≡◌, ◌≤◌, ◌+◌, ◌++◌, ◌∷◌, [], ℕ, List, All, Option, None, false, length, codes, decimal};
+ghost use Rattle.std.specs.Prelude.{◌≡◌, ◌≤◌, ◌+◌, ◌++◌, [], ℕ, List, All, Option, None, false, length, codes, decimal};
 ghost use Rattle.disk_model.specs.Disk.{LeavesOnly};
 ghost use Rattle.arch_model.specs.Archives.{Archive, empty_archive};
 ghost use Rattle.epoch_store.specs.Opens.{AllRecoverOf, RecoversOf};
@@ -9,39 +9,30 @@ ghost use Rattle.arch_base.specs.declared.config.Config.{Config};
 ghost use Rattle.archive_cli.specs.DiskCommands.{HasRoom};
 ghost use Rattle.archive_cli.specs.Outcomes.{outcome_line, status_of};
 ghost use Rattle.archive_cli.specs.Frames.{line};
-ghost use Rattle.archive_cli.specs.Program.{Ran, TakesInput, TookAtMost, LeavesDisk, AsksForInit, WordsLeave, InitLeaves, DeliverLeaves, all_edges, edges, input_limit, message_limit, message_of, made_at};
+ghost use Rattle.archive_cli.specs.Program.{RanTo, TakesInput, TookAtMost, LeavesDisk, AsksForInit, WordsLeave, InitLeaves, DeliverLeaves, all_edges, edges, input_limit, message_limit, message_of, made_at};
 ghost use Rattle.archive_cli.specs.Printing.{Printed, Exactly, IsReplayDue, Replayed, JobDone, InputDone, BytesLeave};
 ghost use Rattle.arch_base.specs.Configs.{IsConfig};
+ghost use Rattle.edge_io.specs.Phrases.{Says};
 ghost use Rattle.edge_io.specs.Scripts.{IsArrival, IsScript};
 
 use crate::disk_commands::{check, deliver, make};
 use crate::outcome::Outcome;
 use crate::player::{CountedKeep, Player};
 use crate::reading::{InputRefusal, read_input, read_message};
+use crate::status::Status;
 use crate::texts::{HELP, VERSION};
 use crate::words::{Job, read_words};
+use answer_lines::{say_memory, say_number};
 use arch_base::{Bytes, Config, NoMemory, Numbers};
 use archive_core::Engine;
 use disk_model::{Disk, MemDisk};
-use edge_io::{Clock, ClockFault, Script, ScriptRefusal, Sink, Source, script};
-use itoa::Buffer;
-use line_door::say;
+use edge_io::{Clock, ClockFault, Script, ScriptRefusal, Sink, SinkFault, Source, say, script};
 use std::alloc::Global;
 
-/// Does what the words ask for, and returns the status to end with, and the disk.
+/// Does what the words ask for, and returns the number of the status to end with, and the disk.
 ///
-/// The status is
-///
-/// * 0 if it is done, or if the message is there already;
-/// * 1 if a message is refused;
-/// * 2 if the words aren't in the grammar;
-/// * 3 if there is no archive, or already one, or a damaged one;
-/// * 4 if the disk failed;
-/// * 6 if the input, the clock or the output failed;
-/// * 7 if out of memory;
-/// * 9 if the input is too long or not a script.
-///
-/// What is printed is that of the definition, or a prefix of it if the output failed.
+/// `Status` says when each status comes. What is printed is that of the definition, or a prefix of
+/// it if the output failed.
 pub fn run<D: Disk, S: Source, O: Sink, C: Clock>(
     alloc: Global,
     words: &[&str],
@@ -50,7 +41,7 @@ pub fn run<D: Disk, S: Source, O: Sink, C: Clock>(
     out: &mut O,
     clock: &mut C,
 ) -> (u8, D)
-    ensures ends { Ran (spelled words.now) result.0
+    ensures ends { RanTo (spelled words.now) result.0
         (all_edges (S.left input.old) (S.faults input.old) (O.taken out.old) (O.faults out.old) (C.coming clock.old) (C.faults clock.old) (D.content disk) (D.faults disk))
         (all_edges (S.left input.new) (S.faults input.new) (O.taken out.new) (O.faults out.new) (C.coming clock.new) (C.faults clock.new) (D.content result.1) (D.faults result.1)) }
     ensures input { TakesInput (spelled words.now) (S.left input.old) (S.faults input.old) (S.left input.new) (S.faults input.new) }
@@ -67,43 +58,20 @@ pub fn run<D: Disk, S: Source, O: Sink, C: Clock>(
     ensures check { (may : List (Option Archive)) → AsksFor (spelled words.now) Check → AllRecoverOf may (D.content disk) → LeavesOnly D.moment D.left_since disk result.1 (RecoversOf may) }
 {
     let mut disk = disk;
-    let status = act(alloc, words, &mut disk, input, out, clock);
-    (status, disk)
-}
-
-/// Does what the words ask for, and returns the status to end with.
-fn act<D: Disk, S: Source, O: Sink, C: Clock>(
-    alloc: Global,
-    words: &[&str],
-    disk: &mut D,
-    input: &mut S,
-    out: &mut O,
-    clock: &mut C,
-) -> u8
-    ensures ends { Ran (spelled words.now) result
-        (all_edges (S.left input.old) (S.faults input.old) (O.taken out.old) (O.faults out.old) (C.coming clock.old) (C.faults clock.old) (D.content disk.old) (D.faults disk.old))
-        (all_edges (S.left input.new) (S.faults input.new) (O.taken out.new) (O.faults out.new) (C.coming clock.new) (C.faults clock.new) (D.content disk.new) (D.faults disk.new)) }
-    ensures input { TakesInput (spelled words.now) (S.left input.old) (S.faults input.old) (S.left input.new) (S.faults input.new) }
-    ensures sink { O.alike out.old out.new }
-    ensures disk { LeavesDisk (spelled words.now) → disk.new ≡ disk.old }
-    // A crash while an archive is made leaves what it might have left before, no archive, or that
-    // one.
-    ensures init { AsksForInit (spelled words.now) → LeavesOnly D.moment D.left_since disk.old disk.new (WordsLeave (spelled words.now) (C.coming clock.old) (D.content disk.old)) }
-    // A crash while a message is delivered leaves an archive that the disk may have stood for, or
-    // the one with the message.
-    ensures deliver { (may : List (Option Archive)) → AsksFor (spelled words.now) Deliver → AllRecoverOf may (D.content disk.old) → HasRoom (D.content disk.old)
-        → LeavesOnly D.moment D.left_since disk.old disk.new (DeliverLeaves may (S.left input.old) (C.coming clock.old)) }
-    // A crash while an archive is checked leaves one that the disk may have stood for.
-    ensures check { (may : List (Option Archive)) → AsksFor (spelled words.now) Check → AllRecoverOf may (D.content disk.old) → LeavesOnly D.moment D.left_since disk.old disk.new (RecoversOf may) }
-{
     match read_words(words) {
-        None => print(b"words not read\n", 2, out),
-        Some(Job::Help) => print(HELP.as_bytes(), 0, out),
-        Some(Job::Version) => print(VERSION.as_bytes(), 0, out),
-        Some(Job::Replay { config }) => replay(alloc, config, input, out),
-        Some(Job::Init { config }) => init(alloc, config, disk, out, clock),
-        Some(Job::Deliver) => deliver_input(alloc, disk, input, out, clock),
-        Some(Job::Check) => print_outcome(&check(alloc, disk), out),
+        None => (
+            print(b"words not read\n", Status::NotRead, out).code(),
+            disk,
+        ),
+        Some(Job::Help) => (print(HELP.as_bytes(), Status::Done, out).code(), disk),
+        Some(Job::Version) => (print(VERSION.as_bytes(), Status::Done, out).code(), disk),
+        Some(Job::Replay { config }) => (replay(alloc, config, input, out).code(), disk),
+        Some(Job::Init { config }) => (init(alloc, config, &mut disk, out, clock).code(), disk),
+        Some(Job::Deliver) => (
+            deliver_input(alloc, &mut disk, input, out, clock).code(),
+            disk,
+        ),
+        Some(Job::Check) => (print_outcome(&check(alloc, &mut disk), out).code(), disk),
     }
 }
 
@@ -114,7 +82,7 @@ fn init<D: Disk, O: Sink, C: Clock>(
     disk: &mut D,
     out: &mut O,
     clock: &mut C,
-) -> u8
+) -> Status
     requires { IsConfig config }
     ensures ends { JobDone (Init config) [] result
         (all_edges None 0 (O.taken out.old) (O.faults out.old) (C.coming clock.old) (C.faults clock.old) (D.content disk.old) (D.faults disk.old))
@@ -124,7 +92,7 @@ fn init<D: Disk, O: Sink, C: Clock>(
 {
     let moment = match clock.now() {
         Ok(moment) => moment,
-        Err(ClockFault) => return 6,
+        Err(ClockFault) => return Status::Edges,
     };
     let config = config_at(config, moment);
     print_outcome(&make(alloc, disk, &config), out)
@@ -147,7 +115,7 @@ fn deliver_input<D: Disk, S: Source, O: Sink, C: Clock>(
     input: &mut S,
     out: &mut O,
     clock: &mut C,
-) -> u8
+) -> Status
     ensures ends { InputDone result
         (all_edges (S.left input.old) (S.faults input.old) (O.taken out.old) (O.faults out.old) (C.coming clock.old) (C.faults clock.old) (D.content disk.old) (D.faults disk.old))
         (all_edges (S.left input.new) (S.faults input.new) (O.taken out.new) (O.faults out.new) (C.coming clock.new) (C.faults clock.new) (D.content disk.new) (D.faults disk.new)) }
@@ -158,7 +126,7 @@ fn deliver_input<D: Disk, S: Source, O: Sink, C: Clock>(
     ensures sink { O.alike out.old out.new }
 {
     match read_message(alloc, input) {
-        Err(InputRefusal::Fault) => 6,
+        Err(InputRefusal::Fault) => Status::Edges,
         Err(_refused) => print_no_memory(out),
         Ok(bytes) => deliver_bytes(alloc, disk, bytes.as_slice(), out, clock),
     }
@@ -171,7 +139,7 @@ fn deliver_bytes<D: Disk, O: Sink, C: Clock>(
     bytes: &[u8],
     out: &mut O,
     clock: &mut C,
-) -> u8
+) -> Status
     ensures ends { (input : List ℕ) → bytes.now ≡ message_of input → JobDone Deliver input result
         (all_edges None 0 (O.taken out.old) (O.faults out.old) (C.coming clock.old) (C.faults clock.old) (D.content disk.old) (D.faults disk.old))
         (all_edges None 0 (O.taken out.new) (O.faults out.new) (C.coming clock.new) (C.faults clock.new) (D.content disk.new) (D.faults disk.new)) }
@@ -181,25 +149,21 @@ fn deliver_bytes<D: Disk, O: Sink, C: Clock>(
 {
     let moment = match clock.now() {
         Ok(moment) => moment,
-        Err(ClockFault) => return 6,
+        Err(ClockFault) => return Status::Edges,
     };
     print_outcome(&deliver(alloc, disk, bytes, moment), out)
 }
 
 /// Prints how a command over the disk ended, and returns its status.
-fn print_outcome<O: Sink>(outcome: &Outcome, out: &mut O) -> u8
+fn print_outcome<O: Sink>(outcome: &Outcome, out: &mut O) -> Status
     ensures printed { Printed (Exactly (line (outcome_line outcome.now)) (status_of outcome.now)) result (O.taken out.old) (O.faults out.old) (O.taken out.new) (O.faults out.new) }
     ensures sink { O.alike out.old out.new }
 {
-    if outcome.say(out) {
-        outcome.status()
-    } else {
-        6
-    }
+    outcome.status().if_taken(outcome.say(out))
 }
 
 /// Runs the script on the input over an empty archive with these settings.
-fn replay<S: Source, O: Sink>(alloc: Global, config: Config, input: &mut S, out: &mut O) -> u8
+fn replay<S: Source, O: Sink>(alloc: Global, config: Config, input: &mut S, out: &mut O) -> Status
     requires { IsConfig config }
     ensures ends { Replayed config result
         (edges (S.left input.old) (S.faults input.old) (O.taken out.old) (O.faults out.old))
@@ -209,15 +173,15 @@ fn replay<S: Source, O: Sink>(alloc: Global, config: Config, input: &mut S, out:
     ensures sink { O.alike out.old out.new }
 {
     match read_input(alloc, input) {
-        Err(InputRefusal::Fault) => 6,
-        Err(InputRefusal::TooLong) => print(b"script too long\n", 9, out),
+        Err(InputRefusal::Fault) => Status::Edges,
+        Err(InputRefusal::TooLong) => print(b"script too long\n", Status::Script, out),
         Err(InputRefusal::NoMemory) => print_no_memory(out),
         Ok(bytes) => replay_text(alloc, config, bytes.as_slice(), out),
     }
 }
 
 /// Runs a text as a script, or prints why it isn't one.
-fn replay_text<O: Sink>(alloc: Global, config: Config, text: &[u8], out: &mut O) -> u8
+fn replay_text<O: Sink>(alloc: Global, config: Config, text: &[u8], out: &mut O) -> Status
     requires valid { IsConfig config }
     requires short { length text.now ≤ input_limit }
     ensures printed { Printed (IsReplayDue config text.now) result (O.taken out.old) (O.faults out.old) (O.taken out.new) (O.faults out.new) }
@@ -232,7 +196,7 @@ fn replay_text<O: Sink>(alloc: Global, config: Config, text: &[u8], out: &mut O)
 
 /// Plays a script over an empty archive with these settings, on a disk in memory, and prints what
 /// its events write.
-fn replay_script<O: Sink>(alloc: Global, config: Config, events: &Script, out: &mut O) -> u8
+fn replay_script<O: Sink>(alloc: Global, config: Config, events: &Script, out: &mut O) -> Status
     requires valid { IsConfig config }
     requires script { All IsArrival events.now }
     ensures printed { (text : List ℕ) → IsScript events.now text → length text ≤ input_limit →
@@ -252,7 +216,7 @@ pub(crate) fn play_script<K: CountedKeep + Drop, O: Sink>(
     keep: K,
     events: &Script,
     out: &mut O,
-) -> u8
+) -> Status
     requires script { All IsArrival events.now }
     ensures printed { (config : Config) → K.holds keep (empty_archive config) → K.stale keep ≡ false
         → (text : List ℕ) → IsScript events.now text → length text ≤ input_limit
@@ -265,46 +229,40 @@ pub(crate) fn play_script<K: CountedKeep + Drop, O: Sink>(
     let mut player = Player::new(alloc, keep);
     let mut frames = Bytes::new(alloc);
     match player.play(events, &mut frames) {
-        Ok(()) => print(frames.as_slice(), 0, out),
-        Err(NoMemory) => print_two(frames.as_slice(), b"12 no memory\n", 7, out),
+        Ok(()) => print(frames.as_slice(), Status::Done, out),
+        Err(NoMemory) => Status::Memory.if_taken(say_cut(frames.as_slice(), out)),
     }
+}
+
+/// Writes the frames of a script, and that memory ran out after them.
+fn say_cut<O: Sink>(frames: &[u8], out: &mut O) -> Result<(), SinkFault>
+    ensures said { Says (frames.now ++ line (codes "12 no memory")) (O.taken out.old) (O.faults out.old) (O.taken out.new) (O.faults out.new) result }
+    ensures sink { O.alike out.old out.new }
+{
+    say(frames, out)?;
+    say_memory(out)
 }
 
 /// Prints the line of a script that is bad at an event.
-fn print_bad<O: Sink>(event: u64, out: &mut O) -> u8
-    ensures printed { Printed (Exactly (line (codes "bad script " ++ decimal event)) 9) result (O.taken out.old) (O.faults out.old) (O.taken out.new) (O.faults out.new) }
+fn print_bad<O: Sink>(event: u64, out: &mut O) -> Status
+    ensures printed { Printed (Exactly (line (codes "bad script " ++ decimal event)) Status.Script) result (O.taken out.old) (O.faults out.old) (O.taken out.new) (O.faults out.new) }
     ensures sink { O.alike out.old out.new }
 {
-    let mut buffer = Buffer::new();
-    if !say(b"bad script ", out) {
-        return 6;
-    }
-    print_two(buffer.format(event).as_bytes(), b"\n", 9, out)
-}
-
-/// Prints two slices, and returns the status if both were taken whole, or 6.
-fn print_two<O: Sink>(first: &[u8], second: &[u8], status: u8, out: &mut O) -> u8
-    ensures printed { Printed (Exactly (first.now ++ second.now) status) result (O.taken out.old) (O.faults out.old) (O.taken out.new) (O.faults out.new) }
-    ensures sink { O.alike out.old out.new }
-{
-    if !say(first, out) {
-        return 6;
-    }
-    print(second, status, out)
+    Status::Script.if_taken(say_number(b"bad script ", event, out))
 }
 
 /// Prints that memory ran out.
-pub(crate) fn print_no_memory<O: Sink>(out: &mut O) -> u8
-    ensures printed { Printed (Exactly (line (codes "12 no memory")) 7) result (O.taken out.old) (O.faults out.old) (O.taken out.new) (O.faults out.new) }
+pub(crate) fn print_no_memory<O: Sink>(out: &mut O) -> Status
+    ensures printed { Printed (Exactly (line (codes "12 no memory")) Status.Memory) result (O.taken out.old) (O.faults out.old) (O.taken out.new) (O.faults out.new) }
     ensures sink { O.alike out.old out.new }
 {
-    print(b"12 no memory\n", 7, out)
+    Status::Memory.if_taken(say_memory(out))
 }
 
-/// Prints bytes, and returns the status if all were taken, or 6.
-fn print<O: Sink>(bytes: &[u8], status: u8, out: &mut O) -> u8
+/// Prints bytes, and returns the status if all were taken, otherwise `Edges`.
+fn print<O: Sink>(bytes: &[u8], status: Status, out: &mut O) -> Status
     ensures printed { Printed (Exactly bytes.now status) result (O.taken out.old) (O.faults out.old) (O.taken out.new) (O.faults out.new) }
     ensures sink { O.alike out.old out.new }
 {
-    if say(bytes, out) { status } else { 6 }
+    status.if_taken(say(bytes, out))
 }

@@ -45,7 +45,7 @@ fn plain(alloc: Global, config: Config, input: &[u8]) -> Option<(u8, MemSink)>
     };
     let mut sink = MemSink::new(alloc, Numbers::new(alloc));
     let status = play_script(alloc, MemArchive::new(alloc, config), &events, &mut sink);
-    Some((status, sink))
+    Some((status.code(), sink))
 }
 
 /// Returns whether words on an input print the same over a disk in memory as over the plain archive
@@ -145,7 +145,7 @@ fn played(alloc: Global, engine: Engine<MemDisk>) -> Option<(u8, MemSink)> {
     };
     let mut sink = MemSink::new(alloc, Numbers::new(alloc));
     let status = play_script(alloc, engine, &events, &mut sink);
-    Some((status, sink))
+    Some((status.code(), sink))
 }
 
 /// Makes an archive on a disk of which one call fails, by its ordinal from 1.

@@ -1,6 +1,6 @@
 use Rattle.std.proofs.Common.{◌++◌, ◌∷◌, []}
 use Rattle.hex.specs.Hex.{encode_lower}
-use Rattle.edge_io.proofs.Wording.{Says-then, Says-lost}
+use Rattle.edge_io.proofs.Wording.{Says-then}
 use Rattle.answer_lines.proofs.numbers.say_id.Goals as goal
 
 pub returns-clause-said : goal.returns-clause-said

@@ -1,7 +1,10 @@
+use Rattle.std.proofs.Common.{inl}
 use Rattle.disk_model.specs.Moments.{started, weaker}
 use Rattle.archive_cli.specs.DiskCommands.{RecoversBehind}
 use Rattle.archive_cli.specs.Printing.{BytesLeave}
+use Rattle.archive_cli.specs.declared.words.Job.TheVariants.{Deliver}
 use Rattle.archive_cli.proofs.Leaving.{bytes-first}
+use Rattle.archive_cli.proofs.Printed.{outcome-due}
 use Rattle.archive_cli.proofs.program.deliver_bytes.Goals as goal
 
 pub returns-in-Err-clause-any_moment : goal.returns-in-Err-clause-any_moment
@@ -16,3 +19,7 @@ returns-clause-any_moment g c = λ may all room.
     let bytes = c.args.bytes.now in
     weaker g.D.Disk.moment g.D.Disk.left_since c.args.disk.now c.deliver.new.disk (RecoversBehind may bytes c.in-Ok.moment) (BytesLeave may bytes (g.C.Clock.coming c.args.clock.now)) (c.deliver.ensures.any_moment may all room)
     (λ image leaves. (c.in-Ok.moment, c.in-Ok.ensures.first, leaves))
+
+pub returns-clause-ends : goal.returns-clause-ends
+returns-clause-ends g c = λ input is.
+    inl (outcome-due Deliver input _ _ _ c.deliver.result (record { moment = c.in-Ok.moment; first = c.in-Ok.ensures.first; acts = (rw is at c.deliver.ensures.done, c.deliver.ensures.answer, c.deliver.ensures.unopened); fault = c.deliver.ensures.fault }) c.print_outcome.ensures.printed)

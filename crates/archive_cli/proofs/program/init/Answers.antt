@@ -1,11 +1,13 @@
-use Rattle.std.proofs.Common.{subst}
+use Rattle.std.proofs.Common.{[], inl, subst}
 use Rattle.disk_model.specs.Moments.{started, weaker}
 use Rattle.arch_base.specs.declared.config.Config.{Config}
 use Rattle.arch_model.specs.Archives.{empty_archive}
 use Rattle.disk_model.specs.Disk.{LeavesOnly}
 use Rattle.epoch_store.specs.First.{MakingLeaves}
 use Rattle.archive_cli.specs.Program.{InitLeaves}
+use Rattle.archive_cli.specs.declared.words.Job.TheVariants.{Init}
 use Rattle.archive_cli.proofs.Leaving.{init-first}
+use Rattle.archive_cli.proofs.Printed.{outcome-due}
 use Rattle.archive_cli.proofs.program.init.Goals as goal
 
 pub returns-in-Err-clause-any_moment : goal.returns-in-Err-clause-any_moment
@@ -21,3 +23,7 @@ returns-clause-any_moment g c =
     let coming = g.C.Clock.coming c.args.clock.now in
     let made = subst (λ (config : Config). LeavesOnly g.D.Disk.moment g.D.Disk.left_since disk c.make.new.disk (MakingLeaves (empty_archive config) k0)) c.config_at-config.ensures.at c.make.ensures.any_moment in
     weaker g.D.Disk.moment g.D.Disk.left_since disk c.make.new.disk _ (InitLeaves c.args.config coming k0) made (λ image leaves. (c.in-Ok.moment, c.in-Ok.ensures.first, leaves))
+
+pub returns-clause-ends : goal.returns-clause-ends
+returns-clause-ends g c =
+    inl (outcome-due (Init c.args.config) [] _ _ _ c.make.result (record { moment = c.in-Ok.moment; first = c.in-Ok.ensures.first; acts = rw c.config_at-config.ensures.at at c.make.ensures.made; fault = c.make.ensures.fault }) c.print_outcome.ensures.printed)

@@ -4,35 +4,42 @@ use Rattle.archive_cli.specs.Program.{InitLeaves, WordsLeave}
 use Rattle.archive_cli.specs.Words.{spelled}
 use Rattle.archive_cli.specs.Frames.{line}
 use Rattle.archive_cli.specs.declared.words.Job.TheVariants.{Help, Version, Init, Deliver}
+use Rattle.archive_cli.specs.declared.status.Status.TheVariants as exit
 use Rattle.archive_cli.specs.declared.texts.TheConstants.{HELP, VERSION}
 use Rattle.archive_cli.proofs.Grammar.{replay-config, init-config}
 use Rattle.archive_cli.proofs.Printed.{ran-exactly, ran-replayed, ran-made, ran-delivered, ran-checked, job-moved, some-moment}
-use Rattle.archive_cli.proofs.program.act.Goals as goal
+use Rattle.archive_cli.proofs.program.run.Goals as goal
 
 pub returns-in-None-clause-ends : goal.returns-in-None-clause-ends
-returns-in-None-clause-ends g c = ran-exactly (spelled c.args.words.now) None (line (codes "words not read")) 2 _ _ _ c.in-None.ensures (λ input. (refl, refl)) c.print.ensures.printed
+returns-in-None-clause-ends g c =
+    (c.print.result, c.code.ensures, ran-exactly (spelled c.args.words.now) None (line (codes "words not read")) exit.NotRead _ _ _ c.in-None.ensures (λ input. (refl, refl)) c.print.ensures.printed)
 
 pub returns-in-Some-Help-clause-ends : goal.returns-in-Some-Help-clause-ends
 returns-in-Some-Help-clause-ends g c =
-    ran-exactly (spelled c.args.words.now) (Some Help) HELP.now 0 _ _ _ (rw c.in-Some-Help.field-0-is at c.in-Some-Help.ensures) (λ input. (refl, refl)) (rw c.as_bytes.ensures.value at c.print-in-Some-Help.ensures.printed)
+    (c.print-in-Some-Help.result, c.code-in-Some-Help.ensures, ran-exactly (spelled c.args.words.now) (Some Help) HELP.now exit.Done _ _ _ (rw c.in-Some-Help.field-0-is at c.in-Some-Help.ensures) (λ input. (refl, refl)) (rw c.as_bytes.ensures.value at c.print-in-Some-Help.ensures.printed))
 
 pub returns-in-Some-Version-clause-ends : goal.returns-in-Some-Version-clause-ends
 returns-in-Some-Version-clause-ends g c =
-    ran-exactly (spelled c.args.words.now) (Some Version) VERSION.now 0 _ _ _ (rw c.in-Some-Version.field-0-is at c.in-Some-Version.ensures) (λ input. (refl, refl)) (rw c.as_bytes-in-Some-Version.ensures.value at c.print-in-Some-Version.ensures.printed)
+    (c.print-in-Some-Version.result, c.code-in-Some-Version.ensures, ran-exactly (spelled c.args.words.now) (Some Version) VERSION.now exit.Done _ _ _ (rw c.in-Some-Version.field-0-is at c.in-Some-Version.ensures) (λ input. (refl, refl)) (rw c.as_bytes-in-Some-Version.ensures.value at c.print-in-Some-Version.ensures.printed))
 
 pub returns-in-Some-Replay-clause-ends : goal.returns-in-Some-Replay-clause-ends
-returns-in-Some-Replay-clause-ends g c = ran-replayed (spelled c.args.words.now) c.in-Some-Replay.config _ _ _ (rw c.in-Some-Replay.field-0-is at c.in-Some-Replay.ensures) c.replay.ensures.ends refl
+returns-in-Some-Replay-clause-ends g c =
+    (c.replay.result, c.code-in-Some-Replay.ensures, ran-replayed (spelled c.args.words.now) c.in-Some-Replay.config _ _ _ (rw c.in-Some-Replay.field-0-is at c.in-Some-Replay.ensures) c.replay.ensures.ends refl)
 
 pub replay-requires : goal.replay-requires
 replay-requires g c = replay-config (spelled c.args.words.now) c.in-Some-Replay.config (rw c.in-Some-Replay.field-0-is at c.in-Some-Replay.ensures)
 
 pub returns-in-Some-Init-clause-ends : goal.returns-in-Some-Init-clause-ends
-returns-in-Some-Init-clause-ends g c =
-    ran-made (spelled c.args.words.now) c.in-Some-Init.config _ _ _ (rw c.in-Some-Init.field-0-is at c.in-Some-Init.ensures)
-    (job-moved (Init c.in-Some-Init.config) [] c.init.result _ _ _ _ _ _ _ _ _ _ _ _ _ _ _ _ c.init.ensures.ends)
+returns-in-Some-Init-clause-ends g c = (
+  c.init.result,
+  c.code-in-Some-Init.ensures,
+  ran-made (spelled c.args.words.now) c.in-Some-Init.config _ _ _ (rw c.in-Some-Init.field-0-is at c.in-Some-Init.ensures)
+      (job-moved (Init c.in-Some-Init.config) [] c.init.result _ _ _ _ _ _ _ _ _ _ _ _ _ _ _ _ c.init.ensures.ends),
+)
 
 pub returns-in-Some-Deliver-clause-ends : goal.returns-in-Some-Deliver-clause-ends
-returns-in-Some-Deliver-clause-ends g c = ran-delivered (spelled c.args.words.now) _ _ _ (rw c.in-Some-Deliver.field-0-is at c.in-Some-Deliver.ensures) c.deliver_input.ensures.ends
+returns-in-Some-Deliver-clause-ends g c =
+    (c.deliver_input.result, c.code-in-Some-Deliver.ensures, ran-delivered (spelled c.args.words.now) _ _ _ (rw c.in-Some-Deliver.field-0-is at c.in-Some-Deliver.ensures) c.deliver_input.ensures.ends)
 
 pub init-requires : goal.init-requires
 init-requires g c = init-config (spelled c.args.words.now) c.in-Some-Init.config (rw c.in-Some-Init.field-0-is at c.in-Some-Init.ensures)
@@ -47,8 +54,8 @@ pub returns-in-Some-Init-clause-init : goal.returns-in-Some-Init-clause-init
 returns-in-Some-Init-clause-init g c = λ asked.
     let config = c.in-Some-Init.config in
     let coming = g.C.Clock.coming c.args.clock.now in
-    let k0 = g.D.Disk.content c.args.disk.now in
-    weaker g.D.Disk.moment g.D.Disk.left_since c.args.disk.now c.init.new.disk (InitLeaves config coming k0) (WordsLeave (spelled c.args.words.now) coming k0) c.init.ensures.any_moment
+    let k0 = g.D.Disk.content c.args.disk in
+    weaker g.D.Disk.moment g.D.Disk.left_since c.args.disk c.init.new.disk (InitLeaves config coming k0) (WordsLeave (spelled c.args.words.now) coming k0) c.init.ensures.any_moment
     (λ image leaves. (config, rw c.in-Some-Init.field-0-is at c.in-Some-Init.ensures, leaves))
 
 pub returns-in-Some-Deliver-clause-deliver : goal.returns-in-Some-Deliver-clause-deliver
@@ -56,9 +63,12 @@ returns-in-Some-Deliver-clause-deliver g c = λ may asked all room. c.deliver_in
 
 pub returns-in-Some-Check-clause-ends : goal.returns-in-Some-Check-clause-ends
 returns-in-Some-Check-clause-ends g c =
-    let some = some-moment (g.C.Clock.coming c.args.clock.now) in
-    ran-checked (spelled c.args.words.now) _ _ _ c.check.result (rw c.in-Some-Check.field-0-is at c.in-Some-Check.ensures)
-    (λ input. record { moment = some.0; first = some.1; acts = (c.check.ensures.done, c.check.ensures.answer, c.check.ensures.unopened); fault = c.check.ensures.cause.failed }) c.print_outcome.ensures.printed
+    let some = some-moment (g.C.Clock.coming c.args.clock.now) in (
+      c.print_outcome.result,
+      c.code-in-Some-Check.ensures,
+      ran-checked (spelled c.args.words.now) _ _ _ c.check.result (rw c.in-Some-Check.field-0-is at c.in-Some-Check.ensures)
+          (λ input. record { moment = some.0; first = some.1; acts = (c.check.ensures.done, c.check.ensures.answer, c.check.ensures.unopened); fault = c.check.ensures.cause.failed }) c.print_outcome.ensures.printed,
+    )
 
 pub returns-in-Some-Check-clause-check : goal.returns-in-Some-Check-clause-check
 returns-in-Some-Check-clause-check g c = λ may asked all. c.check.ensures.any_moment may all

@@ -1,4 +1,4 @@
-use Rattle.std.proofs.Common.{◌≡◌, false, [], Some, None, refl, ap, sym, ◌∙◌}
+use Rattle.std.proofs.Common.{false, [], Some, None, refl, ap, sym}
 use Rattle.archive_cli.proofs.Playing.{prints-silent, shows-session}
 use Rattle.archive_cli.proofs.player.Player.turn.Goals as goal
 

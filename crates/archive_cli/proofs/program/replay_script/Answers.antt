@@ -1,0 +1,5 @@
+use Rattle.archive_cli.proofs.Printed.{printed-as, due-none}
+use Rattle.archive_cli.proofs.program.replay_script.Goals as goal
+
+pub returns-in-Err-clause-printed : goal.returns-in-Err-clause-printed
+returns-in-Err-clause-printed g c = λ text script short. printed-as _ _ _ _ _ _ _ c.print_no_memory.ensures.printed (due-none c.args.config text)

@@ -1,0 +1,54 @@
+//! The statuses that the program ends with.
+ghost use Rattle.std.specs.Prelude.{◌≡◌, is_ok, if◌then◌else◌};
+ghost use Rattle.archive_cli.specs.Statuses.{code_of};
+
+use edge_io::SinkFault;
+
+/// A status that the program ends with.
+#[derive(Clone, Copy, Debug, PartialEq, Eq, Drop)]
+pub enum Status {
+    /// All is done, or the message is there already.
+    Done,
+    /// The message is refused.
+    Refused,
+    /// The words aren't in the grammar.
+    NotRead,
+    /// There is no archive, or already one, or a damaged one.
+    Archive,
+    /// The disk failed.
+    Disk,
+    /// The input, the clock or the output failed.
+    Edges,
+    /// An allocation failed.
+    Memory,
+    /// The input is too long or not a script.
+    Script,
+}
+
+impl Status {
+    /// Returns the number of the status.
+    pub(crate) fn code(self) -> u8
+        ensures { result ≡ code_of self }
+    {
+        match self {
+            Status::Done => 0,
+            Status::Refused => 1,
+            Status::NotRead => 2,
+            Status::Archive => 3,
+            Status::Disk => 4,
+            Status::Edges => 6,
+            Status::Memory => 7,
+            Status::Script => 9,
+        }
+    }
+
+    /// Returns this status if all words were taken, otherwise `Edges`.
+    pub(crate) fn if_taken(self, said: Result<(), SinkFault>) -> Status
+        ensures { result ≡ (if is_ok said then self else Status.Edges) }
+    {
+        match said {
+            Ok(()) => self,
+            Err(SinkFault) => Status::Edges,
+        }
+    }
+}
