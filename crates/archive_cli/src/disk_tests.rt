@@ -1,7 +1,7 @@
 //! Runs of the program over a disk in memory: an archive is made, messages are delivered, and it is
 //! checked.
 use crate::program::run;
-use crate::tests::{bytes, numbers};
+use crate::tests::{Due, bytes, numbers};
 use arch_base::Numbers;
 use disk_model::{Disk, FileKind, FileName, FuseDisk, MemDisk};
 use edge_io::{Clock, ClockFault, MemSink, MemSource};
@@ -77,32 +77,22 @@ fn empty(alloc: Global) -> MemDisk {
     MemDisk::new(alloc, Numbers::new(alloc))
 }
 
-/// Runs words on an input over a disk. Returns the disk if the run ends with this status and prints
-/// this.
-fn printing<D: Disk + Drop>(
-    alloc: Global,
-    disk: D,
-    words: &[&str],
-    input: &[u8],
-    status: u8,
-    printed: &[u8],
-) -> Option<D> {
-    let (ended, disk, sink) = ran_on(alloc, disk, words, input)?;
-    if ended == status && sink.taken() == printed {
+/// Runs words on an input over a disk. Returns the disk if the run ends with the status that is due
+/// and prints what is due.
+fn printing(alloc: Global, disk: MemDisk, due: &Due<'_>) -> Option<MemDisk> {
+    let (status, disk, sink) = ran_on(alloc, disk, due.words, due.input)?;
+    if status == due.status && sink.taken() == due.printed {
         Some(disk)
     } else {
         None
     }
 }
 
-/// Words, an input, a status and what is printed.
-type Row<'a> = (&'a [&'a str], &'a [u8], u8, &'a [u8]);
-
-/// Runs rows in turn over a disk. Returns the disk if each ends and prints as it should.
-fn printing_all(alloc: Global, disk: MemDisk, rows: &[Row<'_>]) -> Option<MemDisk> {
+/// Makes the runs in turn over one disk. Returns the disk if each ends and prints as is due.
+fn printing_all(alloc: Global, disk: MemDisk, runs: &[Due<'_>]) -> Option<MemDisk> {
     let mut disk = disk;
-    for (words, input, status, printed) in rows {
-        disk = printing(alloc, disk, words, input, *status, printed)?;
+    for due in runs {
+        disk = printing(alloc, disk, due)?;
     }
     Some(disk)
 }
@@ -125,48 +115,96 @@ fn has_files_of_one(disk: &mut MemDisk) -> bool {
     root && map && epoch
 }
 
-/// Makes an archive and fills it, each way that a run may end. Returns the disk if each ends so.
-fn made_and_filled(alloc: Global) -> Option<MemDisk> {
-    let rows: [Row<'_>; 8] = [
-        (&["check"], b"", 3, b"no archive\n"),
-        (&["deliver"], MAIL, 3, b"no archive\n"),
-        (&["init", "list"], b"", 0, b"made list\n"),
-        (&["init", "list"], b"", 3, b"exists\n"),
-        (&["deliver"], b"", 1, b"3 no fields\n"),
-        (&["deliver"], MAIL, 0, TAKEN),
-        (&["deliver"], MAIL, 0, b"2 duplicate 1\n"),
-        (&["check"], b"", 0, ONE),
-    ];
-    printing_all(alloc, empty(alloc), &rows)
-}
+/// A run that makes an archive.
+const MADE: Due<'_> = Due {
+    words: &["init", "list"],
+    input: b"",
+    status: 0,
+    printed: b"made list\n",
+};
+
+/// A check of an archive with one message.
+const CHECKED: Due<'_> = Due {
+    words: &["check"],
+    input: b"",
+    status: 0,
+    printed: ONE,
+};
+
+/// Runs that make an archive and fill it, each way that a run may end.
+const FILLED: [Due<'_>; 8] = [
+    Due {
+        words: &["check"],
+        input: b"",
+        status: 3,
+        printed: b"no archive\n",
+    },
+    Due {
+        words: &["deliver"],
+        input: MAIL,
+        status: 3,
+        printed: b"no archive\n",
+    },
+    MADE,
+    Due {
+        words: &["init", "list"],
+        input: b"",
+        status: 3,
+        printed: b"exists\n",
+    },
+    Due {
+        words: &["deliver"],
+        input: b"",
+        status: 1,
+        printed: b"3 no fields\n",
+    },
+    Due {
+        words: &["deliver"],
+        input: MAIL,
+        status: 0,
+        printed: TAKEN,
+    },
+    Due {
+        words: &["deliver"],
+        input: MAIL,
+        status: 0,
+        printed: b"2 duplicate 1\n",
+    },
+    CHECKED,
+];
 
 #[test]
 fn an_archive_is_made_filled_and_checked(rt: HostRuntime) {
-    let Some(mut disk) = made_and_filled(rt.alloc()) else {
+    let Some(mut disk) = printing_all(rt.alloc(), empty(rt.alloc()), &FILLED) else {
         return assert!(rt; false);
     };
     assert!(rt; has_files_of_one(&mut disk));
 }
 
+/// Runs that make a mirror and deliver to it.
+const MIRRORED: [Due<'_>; 2] = [
+    Due {
+        words: &["init", "list", "mirror"],
+        input: b"",
+        status: 0,
+        printed: b"made list\n",
+    },
+    Due {
+        words: &["deliver"],
+        input: MAIL,
+        status: 1,
+        printed: b"9 is mirror\n",
+    },
+];
+
 #[test]
 fn a_mirror_takes_no_message(rt: HostRuntime) {
-    let rows: [Row<'_>; 2] = [
-        (&["init", "list", "mirror"], b"", 0, b"made list\n"),
-        (&["deliver"], MAIL, 1, b"9 is mirror\n"),
-    ];
-    assert!(rt; printing_all(rt.alloc(), empty(rt.alloc()), &rows).is_some());
+    assert!(rt; printing_all(rt.alloc(), empty(rt.alloc()), &MIRRORED).is_some());
 }
 
 /// Makes an archive without messages on a new disk.
 fn with_archive(alloc: Global) -> Option<MemDisk> {
-    printing(
-        alloc,
-        empty(alloc),
-        &["init", "list"],
-        b"",
-        0,
-        b"made list\n",
-    )
+    printing(alloc, empty(alloc), &MADE)
 }
 
 /// Returns whether the archive on a disk has no message or one, and one where its delivery is done.
@@ -289,7 +327,7 @@ fn failing_twice(alloc: Global, disk: MemDisk) -> Option<MemDisk> {
 fn failing_and_done(alloc: Global) -> Option<MemDisk> {
     let made = with_archive(alloc)?;
     let disk = failing_twice(alloc, made)?;
-    printing(alloc, disk, &["check"], b"", 0, ONE)
+    printing(alloc, disk, &CHECKED)
 }
 
 #[test]

@@ -5,7 +5,7 @@ ghost use Rattle.arch_base.specs.Configs.{IsConfig};
 
 use crate::player::CountedKeep;
 use crate::program::play_script;
-use crate::tests::{Run, WORKED, numbers, ran};
+use crate::tests::{Due, WORKED, numbers, ran};
 use arch_base::{Config, Name, Numbers};
 use archive_core::Engine;
 use disk_model::MemDisk;
@@ -59,20 +59,19 @@ fn same(alloc: Global, words: &[&str], config: Config, input: &[u8]) -> Option<b
 }
 
 /// Returns whether a worked run with these settings prints the same over both.
-fn agrees(alloc: Global, worked: Run, limit: u64, max: u32) -> bool
+fn agrees(alloc: Global, worked: &Due<'_>, limit: u64, max: u32) -> bool
     requires limit { (1 ≤ limit) × (limit ≤ 1099511627776) }
     requires max { (1 ≤ max) × (max ≤ 2147483647) }
 {
-    let (words, input, _printed) = worked;
     match settings(limit, max) {
         None => false,
-        Some(config) => same(alloc, words, config, input) == Some(true),
+        Some(config) => same(alloc, worked.words, config, worked.input) == Some(true),
     }
 }
 
 /// Returns whether each worked run prints the same over both.
 fn all_agree(alloc: Global) -> bool {
-    let [first, made, full, two, one] = WORKED;
+    let [first, made, full, two, one] = &WORKED;
     let first = agrees(alloc, first, 1_073_741_824, 2_147_483_647);
     let made = agrees(alloc, made, 1_073_741_824, 2_147_483_647);
     let full = agrees(alloc, full, 1_073_741_824, 2);

@@ -21,20 +21,44 @@ use std::alloc::Global;
 /// Prints blobs, trees of one file, commits without a parent, and a chain of commits.
 fn main(rt: HostRuntime) -> anyhow::Result<()> {
     let alloc = rt.alloc();
+    print_blobs(&rt, alloc)?;
+    let kept = print_named(
+        &rt,
+        alloc,
+        "tree",
+        &tree_bytes(EntryKind::Message, &blob_id(b"hello\n")),
+    )?;
+    let dropped = print_named(
+        &rt,
+        alloc,
+        "tree",
+        &tree_bytes(EntryKind::Deletion, &blob_id(b"")),
+    )?;
+    print_alone(&rt, alloc, &dropped)?;
+    print_chain(&rt, alloc, &kept)
+}
+
+/// Prints the blobs.
+fn print_blobs(rt: &impl Print, alloc: Global) -> anyhow::Result<()> {
     for content in &BLOBS {
-        print_blob(&rt, alloc, content)?;
+        print_blob(rt, alloc, content)?;
     }
-    print_blob(&rt, alloc, every_byte(alloc)?.as_slice())?;
-    let kept = tree_bytes(EntryKind::Message, &blob_id(b"hello\n"));
-    let dropped = tree_bytes(EntryKind::Deletion, &blob_id(b""));
-    print_object(&rt, alloc, "tree", &object_id(&kept), &kept)?;
-    print_object(&rt, alloc, "tree", &object_id(&dropped), &dropped)?;
+    print_blob(rt, alloc, every_byte(alloc)?.as_slice())
+}
+
+/// Prints the commits without a parent, each with this tree.
+fn print_alone(rt: &impl Print, alloc: Global, tree: &ObjectId) -> anyhow::Result<()> {
     for sample in &ALONE {
-        print_commit(&rt, alloc, &object_id(&dropped), None, sample)?;
+        print_commit(rt, alloc, tree, None, sample)?;
     }
+    Ok(())
+}
+
+/// Prints the chain of commits, each with this tree.
+fn print_chain(rt: &impl Print, alloc: Global, tree: &ObjectId) -> anyhow::Result<()> {
     let mut parent = None;
     for sample in &CHAIN {
-        parent = Some(print_commit(&rt, alloc, &object_id(&kept), parent, sample)?);
+        parent = Some(print_commit(rt, alloc, tree, parent, sample)?);
     }
     Ok(())
 }
@@ -50,12 +74,18 @@ fn every_byte(alloc: Global) -> Result<Bytes, NoMemory> {
 
 /// Prints the blob of a content.
 fn print_blob(rt: &impl Print, alloc: Global, content: &[u8]) -> anyhow::Result<()> {
+    let spelling = blob_spelling(alloc, content)?;
+    print_object(rt, alloc, "blob", &blob_id(content), spelling.as_slice())
+}
+
+/// Returns the spelling of the blob of a content.
+fn blob_spelling(alloc: Global, content: &[u8]) -> Result<Bytes, NoMemory> {
     let mut spelling = Bytes::new(alloc);
     spelling.push_slice(b"blob ")?;
     spelling.push_slice(decimal(alloc, content.len() as u64)?.as_slice())?;
     spelling.push(0)?;
     spelling.push_slice(content)?;
-    print_object(rt, alloc, "blob", &blob_id(content), spelling.as_slice())
+    Ok(spelling)
 }
 
 /// Prints a commit, and returns its id.
@@ -66,7 +96,21 @@ fn print_commit(
     parent: Option<ObjectId>,
     sample: &Sample,
 ) -> anyhow::Result<ObjectId> {
-    let commit = Commit {
+    let commit = commit_of(alloc, tree, parent, sample)?;
+    match spelled(alloc, &commit)? {
+        Some(spelling) => print_named(rt, alloc, "commit", spelling.as_slice()),
+        None => Err(anyhow!("a sample is not clean")),
+    }
+}
+
+/// Returns the commit of a sample.
+fn commit_of(
+    alloc: Global,
+    tree: &ObjectId,
+    parent: Option<ObjectId>,
+    sample: &Sample,
+) -> Result<Commit, NoMemory> {
+    Ok(Commit {
         tree: *tree,
         parent,
         author: text(alloc, sample.author)?,
@@ -75,13 +119,7 @@ fn print_commit(
         zone: sample.zone,
         committed: sample.committed,
         subject: text(alloc, sample.subject)?,
-    };
-    let Some(spelling) = spelled(alloc, &commit)? else {
-        return Err(anyhow!("a sample is not clean"));
-    };
-    let id = object_id(spelling.as_slice());
-    print_object(rt, alloc, "commit", &id, spelling.as_slice())?;
-    Ok(id)
+    })
 }
 
 /// Returns the bytes of a text.
@@ -135,6 +173,18 @@ fn is_clean_byte(byte: u8) -> bool
     ensures { result ≡ clean_byte byte }
 {
     byte >= 32 && byte != 127 && byte != b'<' && byte != b'>'
+}
+
+/// Prints an object, and returns its id.
+fn print_named(
+    rt: &impl Print,
+    alloc: Global,
+    kind: &str,
+    spelling: &[u8],
+) -> anyhow::Result<ObjectId> {
+    let id = object_id(spelling);
+    print_object(rt, alloc, kind, &id, spelling)?;
+    Ok(id)
 }
 
 /// Prints the line of an object.

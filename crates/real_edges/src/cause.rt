@@ -75,16 +75,24 @@ fn refused_words(
     spot: Spot,
     error: &io::Error,
 ) -> Result<String, AllocError> {
+    let path = path_of(alloc, folder, spot)?;
     let words = system_words(alloc, error)?;
+    format!(in alloc; "{path}: {words}")
+}
+
+/// Returns the path of a spot.
+fn path_of(alloc: Global, folder: &str, spot: Spot) -> Result<String, AllocError> {
     match spot {
-        Spot::Folder => format!(in alloc; "{folder}: {words}"),
-        Spot::Above => format!(in alloc; "{}: {words}", above(folder).unwrap_or(folder)),
-        Spot::Mark => format!(in alloc; "{folder}/{MARK}: {words}"),
-        Spot::File(name) => {
-            let path = path_in(alloc, folder, name)?;
-            format!(in alloc; "{path}: {words}")
-        }
+        Spot::Folder => String::from_str(alloc, folder),
+        Spot::Above => String::from_str(alloc, above(folder).unwrap_or(folder)),
+        Spot::Mark => mark_in(alloc, folder),
+        Spot::File(name) => path_in(alloc, folder, name),
     }
+}
+
+/// Returns the path of the mark in a folder.
+pub(crate) fn mark_in(alloc: Global, folder: &str) -> Result<String, AllocError> {
+    format!(in alloc; "{folder}/{MARK}")
 }
 
 /// Returns the system's words for an error, without its number.

@@ -5,6 +5,7 @@ ghost use Rattle.disk_model.specs.Laws.{untold_fits};
 ghost use Rattle.real_edges.specs.Counted.{Counted};
 
 use crate::cause::Failure;
+use crate::faults::Faults;
 use crate::folder::Folder;
 use arch_base::NoMemory;
 use disk_model::{Disk, DiskFault, FileName};
@@ -23,10 +24,8 @@ const WAIT_SECONDS: u64 = 10;
 #[derive(Drop)]
 pub struct FolderDisk {
     folder: Folder,
-    faults: u64,
+    faults: Faults<Failure>,
     reads: u64,
-    // The reason of the first call that failed.
-    cause: Option<Failure>,
 }
 
 // Contracts see the two counts.
@@ -60,9 +59,8 @@ impl FolderDisk {
         let folder = Folder::new(rt, alloc, path, wait)?;
         Ok(FolderDisk {
             folder,
-            faults: 0,
+            faults: Faults::new(),
             reads: 0,
-            cause: None,
         })
     }
 
@@ -70,8 +68,8 @@ impl FolderDisk {
     ///
     /// The reason is a path and the system's words, as in `piv2-store/root: Permission denied`.
     pub fn cause(&self) -> Result<Option<String>, NoMemory> {
-        match &self.cause {
-            Some(failure) => Ok(Some(self.folder.words(failure)?)),
+        match self.faults.first() {
+            Some(failure) => Ok(Some(self.folder.words(&failure)?)),
             None => Ok(None),
         }
     }
@@ -82,8 +80,7 @@ impl FolderDisk {
         ensures later { self.old.faults ≤ self.new.faults }
         ensures reads { self.new.reads ≡ self.old.reads }
     {
-        self.cause = self.cause.or(Some(failure));
-        self.faults = self.faults.saturating_add(1);
+        self.faults.add(failure);
         DiskFault
     }
 }

@@ -9,8 +9,7 @@ use crate::open_file::OpenFile;
 use disk_model::FileName;
 use std::alloc::Global;
 use std::collections::{BTreeMap, BTreeSet};
-use std::fs;
-use std::fs::{File, OpenOptions};
+use std::fs::{self, DirEntry, File, OpenOptions};
 use std::io::{self, ErrorKind};
 use std::time::Duration;
 
@@ -49,6 +48,29 @@ struct Listing {
     marked: bool,
 }
 
+impl Listing {
+    /// Adds an entry of the folder. Skips names that aren't UTF-8: they aren't ours.
+    fn add_entry(&mut self, entry: io::Result<DirEntry>) -> io::Result<()> {
+        match entry {
+            Ok(entry) => self.add_name(entry.file_name()),
+            Err(refused) if refused.kind() == ErrorKind::InvalidFilename => Ok(()),
+            Err(refused) => Err(refused),
+        }
+    }
+
+    /// Adds the name of an entry. Skips a name that isn't the mark's or spelled as that of a file
+    /// of an archive.
+    fn add_name(&mut self, text: &str) -> io::Result<()> {
+        match name_of(text) {
+            Some(name) => {
+                self.names.insert(name)?;
+            }
+            None => self.marked = self.marked || text == MARK,
+        }
+        Ok(())
+    }
+}
+
 impl HeldFolder {
     /// Opens a folder and takes its lock, or returns `None` if the folder is missing.
     ///
@@ -63,17 +85,14 @@ impl HeldFolder {
         let Some(folder) = lock_folder(rt, path, wait)? else {
             return Ok(None);
         };
-        let listing = list(rt, alloc, path)?;
-        if listing.marked {
-            write_again(rt, alloc, path, &folder, &listing.names)?;
-        }
+        let has_files = settle(rt, alloc, path, &folder)?;
         Ok(Some(HeldFolder {
             rt: *rt,
             alloc,
             path: String::from_str(alloc, path)?,
             folder,
             open_files: BTreeMap::new(alloc),
-            has_files: !listing.names.is_empty(),
+            has_files,
             above_synced: false,
             settled: false,
             failed: false,
@@ -285,6 +304,16 @@ impl HeldFolder {
     }
 }
 
+/// Writes every file of a locked folder again if the mark is there. Returns whether the folder has
+/// files.
+fn settle(rt: &HostRuntime, alloc: Global, path: &str, folder: &File) -> Result<bool, Failure> {
+    let listing = list(rt, alloc, path)?;
+    if listing.marked {
+        write_again(rt, alloc, path, folder, &listing.names)?;
+    }
+    Ok(!listing.names.is_empty())
+}
+
 /// Syncs and closes the last of the open files, in the order of names.
 fn close_last(files: &mut BTreeMap<FileName, OpenFile>) -> Result<(), Failure> {
     let Some(mut last) = files.last_entry() else {
@@ -315,22 +344,14 @@ fn list(rt: &HostRuntime, alloc: Global, path: &str) -> Result<Listing, Failure>
     }
 }
 
-/// Returns what a folder holds. Skips names that aren't spelled as those of files of an archive.
+/// Returns what a folder holds.
 fn read_names(rt: &HostRuntime, alloc: Global, path: &str) -> io::Result<Listing> {
-    let mut names = BTreeSet::new(alloc);
-    let mut marked = false;
+    let mut listing = Listing {
+        names: BTreeSet::new(alloc),
+        marked: false,
+    };
     for entry in fs::read_dir(rt, path)? {
-        match entry {
-            Ok(entry) => match name_of(entry.file_name()) {
-                Some(name) => {
-                    names.insert(name)?;
-                }
-                None => marked = marked || entry.file_name() == MARK,
-            },
-            // Skips names that aren't UTF-8: they aren't ours.
-            Err(refused) if refused.kind() == ErrorKind::InvalidFilename => {}
-            Err(refused) => return Err(refused),
-        }
+        listing.add_entry(entry)?;
     }
-    Ok(Listing { names, marked })
+    Ok(listing)
 }

@@ -3,6 +3,7 @@
 #![tactic(auto)]
 
 mod cause;
+mod faults;
 mod folder;
 mod folder_disk;
 mod folder_lock;

@@ -1,7 +1,7 @@
 //! The mark that a failed sync leaves in a folder, and what the next run does about it.
 ghost use Rattle.std.specs.Prelude.{◌≡◌, IfOk, length};
 
-use crate::cause::{Failure, MARK, Spot};
+use crate::cause::{Failure, Spot, mark_in};
 use crate::names::path_in;
 use disk_model::FileName;
 use std::alloc::{AllocError, Global};
@@ -20,7 +20,7 @@ pub(crate) fn leave_mark(
     path: &str,
     folder: &File,
 ) -> io::Result<()> {
-    let mark = format!(in alloc; "{path}/{MARK}")?;
+    let mark = mark_in(alloc, path)?;
     File::create(rt, mark.as_str())?.sync_all()?;
     folder.sync_all()
 }
@@ -51,7 +51,7 @@ pub(crate) fn write_again(
 
 /// Removes the mark, and syncs the folder.
 fn remove_mark(rt: &HostRuntime, alloc: Global, path: &str, folder: &File) -> io::Result<()> {
-    let mark = format!(in alloc; "{path}/{MARK}")?;
+    let mark = mark_in(alloc, path)?;
     fs::remove_file(rt, mark.as_str())?;
     folder.sync_all()
 }
@@ -73,17 +73,23 @@ fn write_files(
     Ok(())
 }
 
-/// Writes all bytes of a file again, each at its offset, and syncs the file.
+/// Writes all bytes of a file again, and syncs the file.
 fn write_file(rt: &HostRuntime, alloc: Global, path: &str) -> io::Result<()> {
     let mut buffer = new_buffer(alloc)?;
     let file = OpenOptions::new().read(true).write(true).open(rt, path)?;
+    write_pieces(&file, buffer.as_mut_slice())?;
+    file.sync_all()
+}
+
+/// Writes all bytes of an open file again, each at its offset.
+fn write_pieces(file: &File, buffer: &mut [u8]) -> io::Result<()> {
     let length = file.metadata()?.len();
     let mut offset = 0u64;
     for _ in 0..length / PIECE + 1 {
-        write_piece(&file, length, offset, buffer.as_mut_slice())?;
+        write_piece(file, length, offset, buffer)?;
         offset = offset.saturating_add(PIECE);
     }
-    file.sync_all()
+    Ok(())
 }
 
 /// Writes the bytes of a file of this length from an offset again, as many as the buffer holds.

@@ -12,8 +12,9 @@ pub(crate) fn path_in(alloc: Global, folder: &str, name: FileName) -> Result<Str
     let FileName { number, gen_, .. } = name;
     match name.kind {
         FileKind::Root if number == 0 && gen_ == 0 => format!(in alloc; "{folder}/{word}"),
-        FileKind::Map if number == 0 => format!(in alloc; "{folder}/{word}.{gen_}"),
-        FileKind::Cache if number == 0 => format!(in alloc; "{folder}/{word}.{gen_}"),
+        FileKind::Map | FileKind::Cache if number == 0 => format!(in alloc;
+            "{folder}/{word}.{gen_}"
+        ),
         _ => format!(in alloc; "{folder}/{word}-{number}.{gen_}"),
     }
 }
@@ -60,12 +61,17 @@ fn numbered(front: &str, gen_: u64) -> Option<FileName> {
     let (word, number) = front.split_once('-')?;
     let number = read_decimal(number.as_bytes())?;
     let number = u32::try_from(number).ok()?;
-    let kind = match word {
-        "root" if number != 0 || gen_ != 0 => FileKind::Root,
-        "map" if number != 0 => FileKind::Map,
-        "epoch" => FileKind::Epoch,
-        "cache" if number != 0 => FileKind::Cache,
-        _ => return None,
-    };
+    let kind = kind_of(word, number, gen_)?;
     Some(FileName { kind, number, gen_ })
+}
+
+/// Returns the kind of a file whose name is spelled with its number, or `None` if none is.
+fn kind_of(word: &str, number: u32, gen_: u64) -> Option<FileKind> {
+    match word {
+        "root" if number != 0 || gen_ != 0 => Some(FileKind::Root),
+        "map" if number != 0 => Some(FileKind::Map),
+        "epoch" => Some(FileKind::Epoch),
+        "cache" if number != 0 => Some(FileKind::Cache),
+        _ => None,
+    }
 }

@@ -1,7 +1,7 @@
 //! The standard output as a sink.
 ghost use Rattle.std.specs.Prelude.{◌≡◌, None, IfOk};
 
-use crate::cause::system_words;
+use crate::faults::Faults;
 use arch_base::NoMemory;
 use edge_io::{Sink, SinkFault};
 use std::alloc::Global;
@@ -12,9 +12,7 @@ use std::marker::Model;
 #[derive(Drop)]
 pub struct StdSink<P> {
     printer: P,
-    faults: u64,
-    // The error of the first write that failed.
-    cause: Option<io::Error>,
+    faults: Faults<io::Error>,
 }
 
 // Contracts see the number of writes that failed.
@@ -33,8 +31,7 @@ impl<P: Print> StdSink<P> {
     {
         Ok(StdSink {
             printer: rt,
-            faults: 0,
-            cause: None,
+            faults: Faults::new(),
         })
     }
 }
@@ -43,10 +40,7 @@ impl<P> StdSink<P> {
     /// Returns the system's words for the first write that failed, or `None` if no write has
     /// failed.
     pub fn cause(&self, alloc: Global) -> Result<Option<String>, NoMemory> {
-        match &self.cause {
-            Some(error) => Ok(Some(system_words(alloc, error)?)),
-            None => Ok(None),
-        }
+        self.faults.words(alloc)
     }
 }
 
@@ -63,8 +57,7 @@ impl<P: Print> Sink for StdSink<P> {
         match self.printer.write_all(bytes) {
             Ok(()) => Ok(()),
             Err(refused) => {
-                self.cause = self.cause.or(Some(refused));
-                self.faults = self.faults.saturating_add(1);
+                self.faults.add(refused);
                 Err(SinkFault)
             }
         }

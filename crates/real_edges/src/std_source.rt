@@ -1,7 +1,7 @@
 //! The standard input as a source.
 ghost use Rattle.std.specs.Prelude.{◌≡◌, None, IfOk};
 
-use crate::cause::system_words;
+use crate::faults::Faults;
 use arch_base::NoMemory;
 use edge_io::{Source, SourceFault};
 use std::alloc::Global;
@@ -12,9 +12,7 @@ use std::marker::Model;
 #[derive(Drop)]
 pub struct StdSource<R = StdinLock<'static>> {
     reader: R,
-    faults: u64,
-    // The error of the first read that failed.
-    cause: Option<io::Error>,
+    faults: Faults<io::Error>,
 }
 
 // Contracts see the number of reads that failed.
@@ -33,8 +31,7 @@ impl<R: Read> StdSource<R> {
     {
         Ok(StdSource {
             reader: rt.reader(),
-            faults: 0,
-            cause: None,
+            faults: Faults::new(),
         })
     }
 }
@@ -42,10 +39,7 @@ impl<R: Read> StdSource<R> {
 impl<R> StdSource<R> {
     /// Returns the system's words for the first read that failed, or `None` if no read has failed.
     pub fn cause(&self, alloc: Global) -> Result<Option<String>, NoMemory> {
-        match &self.cause {
-            Some(error) => Ok(Some(system_words(alloc, error)?)),
-            None => Ok(None),
-        }
+        self.faults.words(alloc)
     }
 }
 
@@ -58,8 +52,7 @@ impl<R: Read> Source for StdSource<R> {
         match self.reader.read(into) {
             Ok(count) => Ok(count),
             Err(refused) => {
-                self.cause = self.cause.or(Some(refused));
-                self.faults = self.faults.saturating_add(1);
+                self.faults.add(refused);
                 Err(SourceFault)
             }
         }

@@ -2,7 +2,7 @@
 ghost use Rattle.std.specs.Prelude.{◌≡◌, None, IfOk};
 ghost use Rattle.arch_base.specs.Moments.{IsMoment};
 
-use crate::cause::system_words;
+use crate::faults::Faults;
 use arch_base::{LAST_MOMENT, NoMemory};
 use edge_io::ClockFault;
 use std::alloc::Global;
@@ -14,9 +14,7 @@ use std::time::{Clock, SystemTime, UNIX_EPOCH};
 #[derive(Drop)]
 pub struct SystemClock<C> {
     clock: C,
-    faults: u64,
-    // The error of the first call that failed.
-    cause: Option<io::Error>,
+    faults: Faults<io::Error>,
 }
 
 // Contracts see the number of calls that failed.
@@ -35,8 +33,7 @@ impl<C: Clock> SystemClock<C> {
     {
         Ok(SystemClock {
             clock: rt,
-            faults: 0,
-            cause: None,
+            faults: Faults::new(),
         })
     }
 }
@@ -44,10 +41,7 @@ impl<C: Clock> SystemClock<C> {
 impl<C> SystemClock<C> {
     /// Returns the words for the first call that failed, or `None` if no call has failed.
     pub fn cause(&self, alloc: Global) -> Result<Option<String>, NoMemory> {
-        match &self.cause {
-            Some(error) => Ok(Some(system_words(alloc, error)?)),
-            None => Ok(None),
-        }
+        self.faults.words(alloc)
     }
 }
 
@@ -60,8 +54,7 @@ impl<C: Clock> edge_io::Clock for SystemClock<C> {
         match moment_of(SystemTime::now(&self.clock)) {
             Ok(moment) => Ok(moment),
             Err(refused) => {
-                self.cause = self.cause.or(Some(refused));
-                self.faults = self.faults.saturating_add(1);
+                self.faults.add(refused);
                 Err(ClockFault)
             }
         }

@@ -74,14 +74,22 @@ fn is_cut(disk: &mut FolderDisk) -> Result<bool, DiskFault> {
     Ok(length == 5 && empty == 0 && name == Some(epoch(3, 9)))
 }
 
-/// Returns whether the root has the bytes `abcdE`, and removes it.
-fn is_removed(disk: &mut FolderDisk) -> Result<bool, DiskFault> {
+/// Returns the disk over a folder that has the root of an earlier run.
+fn opened_again(rt: &HostRuntime) -> Result<FolderDisk, Fail> {
+    make_files(rt, "again", &[])?;
+    fs::write(rt, "again/root", b"abcdE".as_slice())?;
+    Ok(FolderDisk::open(rt, rt.alloc(), "again")?)
+}
+
+/// Returns whether that root has its bytes, and is gone once it is removed.
+fn is_removed(rt: &HostRuntime, disk: &mut FolderDisk) -> Result<bool, Fail> {
     let kept = reads(disk, 0, 5, b"abcdE...")?;
     disk.remove(ROOT)?;
     let length = disk.length(ROOT)?;
     let name = disk.name_at(1)?;
     disk.sync()?;
-    Ok(kept && length == 0 && name.is_none())
+    let gone = !fs::exists(rt, "again/root")?;
+    Ok(kept && length == 0 && name.is_none() && gone)
 }
 
 /// Returns whether a file has these bytes.
@@ -89,26 +97,27 @@ fn holds(rt: &HostRuntime, path: &str, wanted: &[u8]) -> io::Result<bool> {
     Ok(fs::read(rt, path)?.as_slice() == wanted)
 }
 
+/// Returns whether a disk over a missing folder keeps files.
+fn keeps_files(rt: &HostRuntime, disk: &mut FolderDisk) -> Result<bool, Fail> {
+    let bare = is_bare(disk)?;
+    // None of these calls creates the folder.
+    let made = fs::exists(rt, "kept")?;
+    let written = is_written(disk)?;
+    let cut = is_cut(disk)?;
+    Ok(bare && !made && written && cut)
+}
+
 #[test]
 fn a_folder_keeps_files(rt: HostRuntime) -> Result<(), Fail> {
     let mut disk = FolderDisk::open(&rt, rt.alloc(), "kept")?;
-    assert_eq!(rt; is_bare(&mut disk), Ok(true));
-    // None of these calls creates the folder.
-    assert!(rt; !fs::exists(&rt, "kept")?);
-    assert_eq!(rt; is_written(&mut disk), Ok(true));
-    assert_eq!(rt; is_cut(&mut disk), Ok(true));
-    fs::remove_dir_all(&rt, "kept")?;
+    assert!(rt; keeps_files(&rt, &mut disk)?);
     Ok(())
 }
 
 #[test]
 fn a_folder_is_opened_again(rt: HostRuntime) -> Result<(), Fail> {
-    fs::create_dir(&rt, "again")?;
-    fs::write(&rt, "again/root", b"abcdE".as_slice())?;
-    let mut disk = FolderDisk::open(&rt, rt.alloc(), "again")?;
-    assert_eq!(rt; is_removed(&mut disk), Ok(true));
-    assert!(rt; !fs::exists(&rt, "again/root")?);
-    fs::remove_dir_all(&rt, "again")?;
+    let mut disk = opened_again(&rt)?;
+    assert!(rt; is_removed(&rt, &mut disk)?);
     Ok(())
 }
 
@@ -130,14 +139,24 @@ fn is_long(disk: &mut FolderDisk, into: &mut [u8]) -> Result<bool, DiskFault> {
     Ok(count == 3_000_003 && written == 3_000_000 && left == 999_997)
 }
 
+/// Writes the long epoch.
+fn write_pieces(alloc: Global, disk: &mut FolderDisk) -> Result<(), Fail> {
+    let piece = vec![in alloc; b'x'; 1_000_000]?;
+    write_long(disk, &piece)?;
+    Ok(())
+}
+
+/// Writes the long epoch and reads it, and returns whether all its bytes are there.
+fn keeps_long(alloc: Global, disk: &mut FolderDisk) -> Result<bool, Fail> {
+    write_pieces(alloc, disk)?;
+    let mut into = vec![in alloc; b'.'; 4_000_000]?;
+    Ok(is_long(disk, &mut into)?)
+}
+
 #[test]
 fn a_long_file_is_read_whole(rt: HostRuntime) -> Result<(), Fail> {
     let mut disk = FolderDisk::open(&rt, rt.alloc(), "long")?;
-    let piece = vec![in rt.alloc(); b'x'; 1_000_000]?;
-    assert_eq!(rt; write_long(&mut disk, &piece), Ok(()));
-    let mut into = vec![in rt.alloc(); b'.'; 4_000_000]?;
-    assert_eq!(rt; is_long(&mut disk, &mut into), Ok(true));
-    fs::remove_dir_all(&rt, "long")?;
+    assert!(rt; keeps_long(rt.alloc(), &mut disk)?);
     Ok(())
 }
 
@@ -167,69 +186,110 @@ fn is_named(
     Ok(found == wanted && read == found)
 }
 
+/// Names of files of an archive, in any order, and names of no such file.
+const SPELLED: [&str; 29] = [
+    "cache.7",
+    "epoch-10.2",
+    "epoch-2.11",
+    "epoch-2.3",
+    "map.18446744073709551615",
+    "map.2",
+    "root",
+    "root-1.0",
+    "map-4.0",
+    "cache-4294967295.1",
+    "epoch-0.0",
+    // Names of no file of an archive.
+    "root.0",
+    "root-0.0",
+    "map",
+    "map.",
+    "map.01",
+    "map.18446744073709551616",
+    "map-0.1",
+    "epoch.1",
+    "epoch-.1",
+    "epoch-1",
+    "epoch-01.1",
+    "epoch-1.2.3",
+    "epoch-4294967296.1",
+    "Root",
+    "cache.1 ",
+    "cache.x",
+    "note.txt",
+    ".root",
+];
+
+/// The files of an archive among them, in the order of names.
+const ORDERED: [FileName; 11] = [
+    ROOT,
+    FileName {
+        kind: FileKind::Root,
+        number: 1,
+        gen_: 0,
+    },
+    FileName {
+        kind: FileKind::Map,
+        number: 0,
+        gen_: 2,
+    },
+    FileName {
+        kind: FileKind::Map,
+        number: 0,
+        gen_: u64::MAX,
+    },
+    FileName {
+        kind: FileKind::Map,
+        number: 4,
+        gen_: 0,
+    },
+    FileName {
+        kind: FileKind::Epoch,
+        number: 0,
+        gen_: 0,
+    },
+    FileName {
+        kind: FileKind::Epoch,
+        number: 2,
+        gen_: 3,
+    },
+    FileName {
+        kind: FileKind::Epoch,
+        number: 2,
+        gen_: 11,
+    },
+    FileName {
+        kind: FileKind::Epoch,
+        number: 10,
+        gen_: 2,
+    },
+    FileName {
+        kind: FileKind::Cache,
+        number: 0,
+        gen_: 7,
+    },
+    FileName {
+        kind: FileKind::Cache,
+        number: u32::MAX,
+        gen_: 1,
+    },
+];
+
+/// Returns whether a disk has these names, in this order, and no others.
+fn are_named(rt: &HostRuntime, disk: &mut FolderDisk, ordered: &[FileName]) -> Result<bool, Fail> {
+    for (index, name) in ordered.iter().enumerate() {
+        if !is_named(rt, disk, index as u64, Some(*name))? {
+            return Ok(false);
+        }
+    }
+    is_named(rt, disk, ordered.len() as u64, None)
+}
+
 #[test]
 fn names_come_in_order(rt: HostRuntime) -> Result<(), Fail> {
-    make_files(
-        &rt,
-        "names",
-        &[
-            "cache.7",
-            "epoch-10.2",
-            "epoch-2.11",
-            "epoch-2.3",
-            "map.18446744073709551615",
-            "map.2",
-            "root",
-            "root-1.0",
-            "map-4.0",
-            "cache-4294967295.1",
-            "epoch-0.0",
-            // Names of no file of an archive.
-            "root.0",
-            "root-0.0",
-            "map",
-            "map.",
-            "map.01",
-            "map.18446744073709551616",
-            "map-0.1",
-            "epoch.1",
-            "epoch-.1",
-            "epoch-1",
-            "epoch-01.1",
-            "epoch-1.2.3",
-            "epoch-4294967296.1",
-            "Root",
-            "cache.1 ",
-            "cache.x",
-            "note.txt",
-            ".root",
-        ],
-    )?;
+    make_files(&rt, "names", &SPELLED)?;
     let mut disk = FolderDisk::open(&rt, rt.alloc(), "names")?;
-    for (index, (kind, number, gen_)) in [
-        (FileKind::Root, 0, 0),
-        (FileKind::Root, 1, 0),
-        (FileKind::Map, 0, 2),
-        (FileKind::Map, 0, u64::MAX),
-        (FileKind::Map, 4, 0),
-        (FileKind::Epoch, 0, 0),
-        (FileKind::Epoch, 2, 3),
-        (FileKind::Epoch, 2, 11),
-        (FileKind::Epoch, 10, 2),
-        (FileKind::Cache, 0, 7),
-        (FileKind::Cache, u32::MAX, 1),
-    ]
-    .into_iter()
-    .enumerate()
-    {
-        let wanted = FileName { kind, number, gen_ };
-        assert!(rt;
-            is_named(&rt, &mut disk, index as u64, Some(wanted))?,
-            "at {index}"
-        );
-    }
-    assert!(rt; is_named(&rt, &mut disk, 11, None)?);
-    fs::remove_dir_all(&rt, "names")?;
+    assert!(rt; are_named(&rt, &mut disk, &ORDERED)?);
     Ok(())
 }
 
@@ -252,8 +312,7 @@ fn keeps_many(disk: &mut FolderDisk) -> Result<bool, DiskFault> {
 #[test]
 fn more_files_than_are_kept_open(rt: HostRuntime) -> Result<(), Fail> {
     let mut disk = FolderDisk::open(&rt, rt.alloc(), "many")?;
-    assert_eq!(rt; keeps_many(&mut disk), Ok(true));
-    fs::remove_dir_all(&rt, "many")?;
+    assert!(rt; keeps_many(&mut disk)?);
     Ok(())
 }
 
@@ -289,15 +348,19 @@ fn is_refused(rt: &HostRuntime, path: &str, words: &str) -> Result<bool, NoMemor
     Ok(failed && is_told(disk.cause()?, words))
 }
 
+/// Returns whether a write to a folder fails whose parent is missing, with its cause told.
+fn is_refused_below(rt: &HostRuntime) -> Result<bool, NoMemory> {
+    let mut disk = other(rt, "missing/refused")?;
+    let failed = disk.write_at(ROOT, 0, b"a").is_err();
+    Ok(failed && is_told(disk.cause()?, "missing/refused: No such file or directory"))
+}
+
 #[test]
 fn what_the_system_refuses_is_a_fault(rt: HostRuntime) -> Result<(), Fail> {
     // One path has a file instead of a folder, and the other's parent is missing.
     fs::write(&rt, "refused", b"".as_slice())?;
     assert!(rt; is_refused(&rt, "refused", "refused: not a directory")?);
-    let mut disk = other(&rt, "missing/refused")?;
-    assert_eq!(rt; disk.write_at(ROOT, 0, b"a"), Err(DiskFault));
-    assert!(rt; is_told(disk.cause()?, "missing/refused: No such file or directory"));
-    fs::remove_file(&rt, "refused")?;
+    assert!(rt; is_refused_below(&rt)?);
     Ok(())
 }
 
@@ -306,19 +369,29 @@ fn length_for_other(rt: &HostRuntime, path: &str) -> Result<Option<u64>, NoMemor
     Ok(other(rt, path)?.length(ROOT).ok())
 }
 
+/// Returns whether another run is refused after each of two calls.
+fn keeps_out(rt: &HostRuntime, first: &mut FolderDisk) -> Result<bool, Fail> {
+    let words = "locked is in use by another run";
+    first.write_at(ROOT, 0, b"abc")?;
+    let written = is_refused(rt, "locked", words)?;
+    first.sync()?;
+    let synced = is_refused(rt, "locked", words)?;
+    Ok(written && synced)
+}
+
+/// Returns whether other runs are refused as long as a run holds the lock.
+fn keeps_lock(rt: &HostRuntime) -> Result<bool, Fail> {
+    let mut first = FolderDisk::open(rt, rt.alloc(), "locked")?;
+    keeps_out(rt, &mut first)
+}
+
 // No contract can see the lock itself. That it is taken, and that no call releases it, shows in
 // what another run gets between two calls and after the last. That each call asks for the folder
 // first, and never asks anew, is in the clauses of the call that finds it.
 #[test]
 fn a_second_run_waits_and_gives_up(rt: HostRuntime) -> Result<(), Fail> {
-    let mut first = FolderDisk::open(&rt, rt.alloc(), "locked")?;
-    assert_eq!(rt; first.write_at(ROOT, 0, b"abc"), Ok(()));
-    assert!(rt; is_refused(&rt, "locked", "locked is in use by another run")?);
-    assert_eq!(rt; first.sync(), Ok(()));
-    assert!(rt; is_refused(&rt, "locked", "locked is in use by another run")?);
-    drop(first);
+    assert!(rt; keeps_lock(&rt)?);
     assert_eq!(rt; length_for_other(&rt, "locked")?, Some(3));
-    fs::remove_dir_all(&rt, "locked")?;
     Ok(())
 }
 
@@ -331,17 +404,22 @@ fn is_too_late(late: &mut FolderDisk) -> Result<bool, NoMemory> {
     Ok(refused && length == Ok(0) && told)
 }
 
+/// Puts a root into a folder that a run has found missing, and removes it. Returns whether the run
+/// leaves the root alone, and accepts the folder without it.
+fn spares_filled(rt: &HostRuntime, late: &mut FolderDisk) -> Result<bool, Fail> {
+    let length = late.length(ROOT)?;
+    make_files(rt, "filled", &["root"])?;
+    let refused = is_too_late(late)?;
+    let same = holds(rt, "filled/root", b"")?;
+    fs::remove_file(rt, "filled/root")?;
+    let accepted = late.write_at(ROOT, 0, b"x").is_ok();
+    Ok(length == 0 && refused && same && accepted)
+}
+
 #[test]
 fn a_folder_that_was_filled_meanwhile_is_refused(rt: HostRuntime) -> Result<(), Fail> {
     let mut late = other(&rt, "filled")?;
-    assert_eq!(rt; late.length(ROOT), Ok(0));
-    make_files(&rt, "filled", &["root"])?;
-    assert!(rt; is_too_late(&mut late)?);
-    assert!(rt; holds(&rt, "filled/root", b"")?);
-    // A folder that was made meanwhile without a file is accepted.
-    fs::remove_file(&rt, "filled/root")?;
-    assert_eq!(rt; late.write_at(ROOT, 0, b"x"), Ok(()));
-    fs::remove_dir_all(&rt, "filled")?;
+    assert!(rt; spares_filled(&rt, &mut late)?);
     Ok(())
 }
 
@@ -359,14 +437,19 @@ fn fails_to_sync(rt: &HostRuntime, disk: &mut FolderDisk) -> io::Result<bool> {
     Ok(failed && opened && disk.sync().is_err())
 }
 
+/// Returns whether a failed sync is told, and leaves the mark.
+fn tells_failed_sync(rt: &HostRuntime, disk: &mut FolderDisk) -> Result<bool, Fail> {
+    disk.write_at(ROOT, 0, b"a")?;
+    let failed = fails_to_sync(rt, disk)?;
+    let told = is_told(disk.cause()?, "failed/epoch-0.1: Invalid argument");
+    let marked = fs::exists(rt, "failed/sync-failed")?;
+    Ok(failed && told && marked)
+}
+
 #[test]
 fn after_a_failed_sync_none_is_answered(rt: HostRuntime) -> Result<(), Fail> {
     let mut disk = other(&rt, "failed")?;
-    assert_eq!(rt; disk.write_at(ROOT, 0, b"a"), Ok(()));
-    assert!(rt; fails_to_sync(&rt, &mut disk)?);
-    assert!(rt; is_told(disk.cause()?, "failed/epoch-0.1: Invalid argument"));
-    assert!(rt; fs::exists(&rt, "failed/sync-failed")?);
-    fs::remove_dir_all(&rt, "failed")?;
+    assert!(rt; tells_failed_sync(&rt, &mut disk)?);
     Ok(())
 }
 
@@ -387,23 +470,30 @@ fn mends(rt: &HostRuntime) -> io::Result<bool> {
 }
 
 /// Writes four bytes of the root in a run of its own, and returns whether it did.
-fn writes(rt: &HostRuntime, path: &str, offset: u32) -> Result<bool, NoMemory> {
-    Ok(
-        other(rt, path)?
-            .write_at(ROOT, u64::from(offset), b"tail")
-            .is_ok(),
-    )
+fn writes(rt: &HostRuntime, offset: u32) -> Result<bool, NoMemory> {
+    let mut disk = other(rt, "marked")?;
+    Ok(disk.write_at(ROOT, u64::from(offset), b"tail").is_ok())
+}
+
+/// Offsets at which the root is written, in its pieces of 65,536 bytes and across their ends.
+const OFFSETS: [u32; 5] = [0, 65_532, 65_533, 131_068, 200_000];
+
+/// Returns whether a run mends the root after a write at each offset.
+fn mends_each(rt: &HostRuntime) -> Result<bool, Fail> {
+    for offset in &OFFSETS {
+        let written = writes(rt, *offset)?;
+        if !mends(rt)? || !written {
+            return Ok(false);
+        }
+    }
+    Ok(true)
 }
 
 #[test]
 fn behind_a_mark_all_is_written_again(rt: HostRuntime) -> Result<(), Fail> {
     make_files(&rt, "marked", &["root", "epoch-0.1"])?;
     assert!(rt; mends(&rt)?);
-    for offset in [0, 65_532, 65_533, 131_068, 200_000] {
-        assert!(rt; writes(&rt, "marked", offset)?);
-        assert!(rt; mends(&rt)?, "at {offset}");
-    }
-    fs::remove_dir_all(&rt, "marked")?;
+    assert!(rt; mends_each(&rt)?);
     Ok(())
 }
 
@@ -414,14 +504,19 @@ fn stays(rt: &HostRuntime, stays: bool) -> io::Result<bool> {
     Ok(failed == stays && marked == stays)
 }
 
+/// Returns whether the mark stays as long as a device is there, and no longer.
+fn stays_with_device(rt: &HostRuntime) -> io::Result<bool> {
+    plant_device(rt, "stays/epoch-0.1")?;
+    let with = stays(rt, true)?;
+    fs::remove_file(rt, "stays/epoch-0.1")?;
+    let without = stays(rt, false)?;
+    Ok(with && without)
+}
+
 #[test]
 fn a_mark_stays_where_a_file_cannot_be_synced(rt: HostRuntime) -> Result<(), Fail> {
     make_files(&rt, "stays", &["sync-failed"])?;
-    plant_device(&rt, "stays/epoch-0.1")?;
-    assert!(rt; stays(&rt, true)?);
-    fs::remove_file(&rt, "stays/epoch-0.1")?;
-    assert!(rt; stays(&rt, false)?);
-    fs::remove_dir_all(&rt, "stays")?;
+    assert!(rt; stays_with_device(&rt)?);
     Ok(())
 }
 
@@ -441,15 +536,19 @@ fn is_made_when_readable(rt: &HostRuntime, disk: &mut FolderDisk) -> io::Result<
     Ok(refused && gone && made && synced)
 }
 
+/// Returns whether a run creates the folder so, and tells why it couldn't at first.
+fn is_made_below(rt: &HostRuntime) -> Result<bool, Fail> {
+    let mut disk = other(rt, "above/below")?;
+    let made = is_made_when_readable(rt, &mut disk)?;
+    Ok(made && is_told(disk.cause()?, "above: Permission denied"))
+}
+
 /// Returns whether a folder below a parent that may be searched but not read is used, though it
 /// can't be created there.
 fn is_used_below(rt: &HostRuntime) -> Result<bool, Fail> {
-    let mut disk = other(rt, "above/below")?;
-    let made = is_made_when_readable(rt, &mut disk)?;
-    let told = is_told(disk.cause()?, "above: Permission denied");
-    drop(disk);
+    let made = is_made_below(rt)?;
     let synced = other(rt, "above/below")?.sync().is_ok();
-    Ok(made && told && synced)
+    Ok(made && synced)
 }
 
 #[test]
@@ -460,7 +559,6 @@ fn a_folder_above_that_may_not_be_read(rt: HostRuntime) -> Result<(), Fail> {
     let used = File::open(&rt, "above").is_ok() || is_used_below(&rt)?;
     permit(&rt, "above", 0o700)?;
     assert!(rt; used);
-    fs::remove_dir_all(&rt, "above")?;
     Ok(())
 }
 
@@ -490,19 +588,51 @@ impl std::time::Clock for Stands {
     }
 }
 
+/// A time in seconds since 1970, if it can be read, and what the clock returns of it.
+#[derive(Clone, Copy)]
+struct Time {
+    seconds: Option<u64>,
+    wanted: Result<u64, ClockFault>,
+}
+
+/// The first and the last moment, times after it, and one that can't be read.
+const TIMES: [Time; 5] = [
+    Time {
+        seconds: Some(0),
+        wanted: Ok(0),
+    },
+    Time {
+        seconds: Some(253_402_300_799),
+        wanted: Ok(253_402_300_799),
+    },
+    Time {
+        seconds: Some(253_402_300_800),
+        wanted: Err(ClockFault),
+    },
+    Time {
+        seconds: Some(u64::MAX),
+        wanted: Err(ClockFault),
+    },
+    Time {
+        seconds: None,
+        wanted: Err(ClockFault),
+    },
+];
+
+/// Returns whether a clock that stands at a time returns what it should, and tells a cause only of
+/// a fault.
+fn is_right_at(alloc: Global, time: &Time) -> Result<bool, NoMemory> {
+    let stands = Stands(time.seconds);
+    let mut clock = SystemClock::new(&stands, alloc)?;
+    let found = clock.now();
+    let cause = clock.cause(alloc)?;
+    Ok(found == time.wanted && cause.is_none() == time.wanted.is_ok())
+}
+
 #[test]
 fn a_time_that_is_no_moment_is_a_fault(rt: HostRuntime) -> Result<(), Fail> {
-    for (seconds, found) in [
-        (Some(0), Ok(0)),
-        (Some(253402300799), Ok(253402300799)),
-        (Some(253402300800), Err(ClockFault)),
-        (Some(u64::MAX), Err(ClockFault)),
-        (None, Err(ClockFault)),
-    ] {
-        let stands = Stands(seconds);
-        let mut clock = SystemClock::new(&stands, rt.alloc())?;
-        assert_eq!(rt; clock.now(), found);
-        assert_eq!(rt; clock.cause(rt.alloc())?.is_none(), found.is_ok());
+    for time in &TIMES {
+        assert!(rt; is_right_at(rt.alloc(), time)?);
     }
     Ok(())
 }
