@@ -22,4 +22,4 @@ returns-clause-any_moment g c = λ may all room.
 
 pub returns-clause-ends : goal.returns-clause-ends
 returns-clause-ends g c = λ input is.
-    inl (outcome-due Deliver input _ _ _ c.deliver.result (record { moment = c.in-Ok.moment; first = c.in-Ok.ensures.first; acts = (rw is at c.deliver.ensures.done, c.deliver.ensures.answer, c.deliver.ensures.unopened); fault = c.deliver.ensures.fault }) c.print_outcome.ensures.printed)
+    inl (outcome-due Deliver input _ _ _ c.deliver.result (record { moment = c.in-Ok.moment; first = c.in-Ok.ensures.first; acts = (rw is at c.deliver.ensures.done, c.deliver.ensures.answer, c.deliver.ensures.unopened); fault = c.deliver.ensures.cause.failed }) c.print_outcome.ensures.printed)

@@ -26,4 +26,4 @@ returns-clause-any_moment g c =
 
 pub returns-clause-ends : goal.returns-clause-ends
 returns-clause-ends g c =
-    inl (outcome-due (Init c.args.config) [] _ _ _ c.make.result (record { moment = c.in-Ok.moment; first = c.in-Ok.ensures.first; acts = rw c.config_at-config.ensures.at at c.make.ensures.made; fault = c.make.ensures.fault }) c.print_outcome.ensures.printed)
+    inl (outcome-due (Init c.args.config) [] _ _ _ c.make.result (record { moment = c.in-Ok.moment; first = c.in-Ok.ensures.first; acts = rw c.config_at-config.ensures.at at c.make.ensures.made; fault = c.make.ensures.cause.failed }) c.print_outcome.ensures.printed)
