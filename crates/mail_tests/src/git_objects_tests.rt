@@ -124,7 +124,7 @@ fn has_fields(commit: &Commit, row: &Row<'_>) -> bool {
 }
 
 /// Commits as git gives them.
-const COMMITS: [Row<'static>; 4] = [
+static COMMITS: [Row<'static>; 4] = [
     Row {
         content: b"tree ff904aaaf3647f5d5e49c759a67194e6c0ea3fa7\n\
             author Ann B <ann@x.y> 1700000000 +0130\n\

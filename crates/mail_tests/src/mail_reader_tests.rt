@@ -268,21 +268,18 @@ fn is_found(alloc: Global, len: usize) -> Result<bool, NoMemory> {
     Ok(own_id(text.as_slice()).is_some())
 }
 
-/// Returns whether ids of these numbers of bytes are found.
-fn are_found(alloc: Global, lens: [usize; 4]) -> Result<[bool; 4], NoMemory> {
-    let [a, b, c, d] = lens;
-    Ok([
-        is_found(alloc, a)?,
-        is_found(alloc, b)?,
-        is_found(alloc, c)?,
-        is_found(alloc, d)?,
-    ])
+/// Returns whether ids of 1 and of 248 bytes are found, and those of 0 and of 249 are not.
+fn finds_1_to_248(alloc: Global) -> Result<bool, NoMemory> {
+    let none = is_found(alloc, 0)?;
+    let least = is_found(alloc, 1)?;
+    let most = is_found(alloc, 248)?;
+    let more = is_found(alloc, 249)?;
+    Ok(!none && least && most && !more)
 }
 
 #[test]
 fn ids_have_up_to_248_bytes_between_their_brackets(rt: HostRuntime) {
-    let found = are_found(rt.alloc(), [0, 1, 248, 249]);
-    assert!(rt; matches!(found, Ok([false, true, true, false])));
+    assert!(rt; matches!(finds_1_to_248(rt.alloc()), Ok(true)));
 }
 
 /// Returns whether the next of the fields that are left has this name, this value and these bytes.

@@ -1,5 +1,5 @@
 -- What an archive in memory tells a verdict, and the answer that a refusal gives.
-use Rattle.std.specs.Prelude.{◌≡◌, ℕ, List, length, Ok, refl}
+use Rattle.std.specs.Prelude.{◌≡◌, ℕ, List, length, refl}
 use Rattle.std.proofs.Common.{◌∙◌, sym, ap, subst}
 use Rattle.arch_base.specs.declared.config.Config.{Config}
 use Rattle.arch_model.specs.Archives.{Archive}
