@@ -1,5 +1,5 @@
 //! A keeper of an archive of which one kind of call fails.
-ghost use Rattle.std.specs.Prelude.{true};
+ghost use Rattle.std.specs.Prelude.{◌≡◌, true, false};
 
 use arch_base::{Bytes, NoMemory};
 use arch_model::{Answer, Command, Keep, OpenRefusal, TextRefusal};
@@ -30,8 +30,10 @@ pub struct FailingKeep {
 }
 
 impl FailingKeep {
-    /// Keeps an archive, and fails at this call.
-    pub fn new(archive: MemArchive, failing: Failing) -> Self {
+    /// Keeps an archive, and fails at this call. It isn't stale.
+    pub fn new(archive: MemArchive, failing: Failing) -> Self
+        ensures { result.stale ≡ false }
+    {
         FailingKeep {
             archive,
             failing,
