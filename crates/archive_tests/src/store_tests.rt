@@ -282,9 +282,12 @@ fn is_first_epoch(alloc: Global, limit: u64, bytes: &[u8]) -> Result<bool, NoMem
 
 /// Returns whether the file of the first epoch has the bytes of the archive in memory.
 fn is_epoch_file<D: Disk>(alloc: Global, disk: &mut D) -> Result<bool, TextRefusal> {
-    let mut bytes = [b'>'; 674];
-    let count = disk.read(FIRST_EPOCH, 0, &mut bytes[1..])?;
-    let same = is_first_epoch(alloc, 317, &bytes[..673])?;
+    let mut file = [0; 673];
+    let count = disk.read(FIRST_EPOCH, 0, &mut file)?;
+    let mut bytes = Bytes::new(alloc);
+    bytes.push(b'>')?;
+    bytes.push_slice(file.split_at(672).0)?;
+    let same = is_first_epoch(alloc, 317, bytes.as_slice())?;
     Ok(count == 672 && same)
 }
 
