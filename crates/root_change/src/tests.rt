@@ -263,11 +263,11 @@ fn look(rt: &impl Abort, stopped: &Stopped, command: Command) -> Result<(), Fail
     Ok(())
 }
 
-/// Stops a command after each number of calls, and checks that the last ones are of the command.
-fn stop_each(rt: &impl Abort, alloc: Global, command: Command, calls: u64) -> Result<(), Fail> {
-    for passes in 69..=69 + calls {
+/// Stops a command after each number of calls from 69 on, and checks that it takes `last` calls.
+fn stop_each(rt: &impl Abort, alloc: Global, command: Command, last: u64) -> Result<(), Fail> {
+    for passes in 69..=last {
         let mut stopped = stop(alloc, command, passes)?;
-        assert_eq!(rt; stopped.done, passes == 69 + calls);
+        assert_eq!(rt; stopped.done, passes == last);
         look(rt, &stopped, command)?;
         assert!(rt; !stopped.done || is_exact(&mut stopped.disk, command)?);
     }
@@ -277,18 +277,18 @@ fn stop_each(rt: &impl Abort, alloc: Global, command: Command, calls: u64) -> Re
 #[test]
 fn an_epoch_grows_or_stays(rt: HostRuntime) -> Result<(), Fail> {
     // The calls are two writes, a sync, the six calls of a commit, and a sync.
-    stop_each(&rt, rt.alloc(), Command::Grow, 10)
+    stop_each(&rt, rt.alloc(), Command::Grow, 79)
 }
 
 #[test]
 fn an_epoch_gets_its_first_file_or_none(rt: HostRuntime) -> Result<(), Fail> {
-    stop_each(&rt, rt.alloc(), Command::Begin, 10)
+    stop_each(&rt, rt.alloc(), Command::Begin, 79)
 }
 
 #[test]
 fn an_epoch_is_written_anew_and_another_one_dropped(rt: HostRuntime) -> Result<(), Fail> {
     // The calls are a write, a sync, the six calls of a commit, two removals, and a sync.
-    stop_each(&rt, rt.alloc(), Command::Remake, 11)
+    stop_each(&rt, rt.alloc(), Command::Remake, 80)
 }
 
 /// Returns whether the root names the files that it has bytes in.

@@ -21,7 +21,9 @@ loop-epoch-preserved g c =
     let one = subst (λ (p : Place). WhereTold (IsAtMostLength (epoch_name e p.gen_) p.length) m) c.epoch_place-place.ensures named in
     record { long = epochs_more root e m (epochs_still root e k m c.loop-epoch.invariant.long c.in_ok-long.ensures.same) one }
 
-pub returns-clause-long : goal.returns-clause-long
-returns-clause-long g c = λ is.
-    let all : c.loop-epoch.epoch ≡ 64 = omega arith in
-    subst (λ (n : ℕ). WhereTold (EpochsAreLong c.args.root.now n) (g.D.Disk.content c.loop-epoch.disk)) all c.loop-epoch.invariant.long
+pub returns : goal.returns
+returns g c = record {
+  long = λ is.
+      let all : c.loop-epoch.epoch ≡ 64 = omega arith in
+      subst (λ (n : ℕ). WhereTold (EpochsAreLong c.args.root.now n) (g.D.Disk.content c.loop-epoch.disk)) all c.loop-epoch.invariant.long;
+}
