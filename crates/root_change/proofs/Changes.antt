@@ -1,17 +1,13 @@
 -- Files that are written beside the texts of a root become those of the next one.
-use Rattle.std.specs.Prelude.{◌≡◌, ◌≢◌, ◌⊎◌, ◌+◌, ◌-◌, ◌<◌, ◌≤◌, ℕ, Bool, true, false, cond, if◌then◌else◌, List, [], ◌∷◌, ◌++◌, length, take, drop, Option, Some, None, Result, OnOk, refl}
-use Rattle.std.specs.BTreeMap.{is_at}
+use Rattle.std.specs.Prelude.{◌≡◌, ◌≢◌, ◌+◌, ◌-◌, ◌<◌, ℕ, Bool, true, false, cond, if◌then◌else◌, List, [], ◌++◌, length, Option, Some, None, refl}
 use Rattle.std.proofs.Common.{◌∙◌, sym, ap, subst, inl, inr, arith, length-append}
 use Rattle.std.proofs.lemmas.Grind.{common_steps}
 use Rattle.disk_model.specs.declared.name.FileName.{FileName}
-use Rattle.disk_model.specs.Name.{name_cmp}
-use Rattle.disk_model.specs.Disk.{File, Files, Kept, Content, Image, Told, WhereTold, OneFile, Wrote, Fits, LeavesOnly, bytes_of, overlay}
+use Rattle.disk_model.specs.Disk.{Files, Kept, Content, Told, WhereTold, OneFile, Wrote, LeavesOnly, bytes_of, overlay}
 use Rattle.disk_model.specs.Images.{same_or_other, at_itself, at_other}
 use Rattle.disk_model.specs.Moments.{weaker, joined}
 use Rattle.root_slots.specs.declared.root.Root.{Root}
 use Rattle.root_slots.specs.RootName.{root_name}
-use Rattle.root_slots.specs.Each.{IfThere, EachRoot}
-use Rattle.root_slots.specs.Slots.{Ready}
 use Rattle.root_slots.specs.Spelling.{spelling}
 use Rattle.root_slots.specs.Valid.{RootFits, IsRoot}
 use Rattle.root_change.specs.Tells.{told_where}
@@ -19,7 +15,7 @@ use Rattle.root_change.specs.Beside.{StaysUpTo, Beside, WentBeside, RunsBeside}
 use Rattle.root_change.specs.Names.{place_of, names_file, named_end, bounds_of, other_bound}
 use Rattle.root_change.specs.Texts.{Texts, StandsFor, IsOn, OnDisk, Measures}
 use Rattle.root_change.specs.Replacing.{ToReplace, IsToReplace, StandsForEither}
-use Rattle.root_change.specs.Parts.{Parts, texts_of, PartsFit, RecoversBy, Recovers, RecoversEither, IsOwn}
+use Rattle.root_change.specs.Parts.{Parts, texts_of, PartsFit, RecoversEither, IsOwn}
 use Rattle.root_change.specs.Changing.{ReadsAs, with_more, Becomes}
 use Rattle.root_change.proofs.Drops.{true_or_false}
 use Rattle.root_change.proofs.Phases.{ready_has, front_kept, stands_beside}

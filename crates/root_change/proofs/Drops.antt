@@ -13,7 +13,7 @@ use Rattle.root_slots.specs.RootName.{root_name}
 use Rattle.root_slots.specs.Valid.{no_place}
 use Rattle.root_change.specs.Tells.{told_weaker, told_then}
 use Rattle.root_change.specs.Beside.{Respects}
-use Rattle.root_change.specs.Names.{map_name, epoch_name, cache_name, has_place, named_by, names_file, named_end, bounds_of, other_bound, named_none}
+use Rattle.root_change.specs.Names.{map_name, epoch_name, cache_name, has_place, named_by, names_file, bounds_of, other_bound, named_none}
 use Rattle.root_change.specs.Replacing.{drops, Dropped, IsOne, IsEpochBelow, IsAny}
 
 -- Tests on numbers, and what they say.

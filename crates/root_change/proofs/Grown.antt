@@ -1,5 +1,5 @@
 -- One more message in an epoch: what is written becomes the texts of the next root.
-use Rattle.std.specs.Prelude.{◌≡◌, ◌≢◌, ◌⊎◌, ◌+◌, ◌-◌, ◌^◌, ◌<◌, ◌≤◌, ◌==◌, ◌&&◌, nat_lt, ℕ, Bool, true, false, if◌then◌else◌, List, [], ◌∷◌, ◌++◌, length, get_or, set, Option, Some, None, refl}
+use Rattle.std.specs.Prelude.{◌≡◌, ◌≢◌, ◌+◌, ◌<◌, ◌==◌, ◌&&◌, nat_lt, ℕ, Bool, true, false, if◌then◌else◌, List, [], ◌∷◌, ◌++◌, length, Option, refl}
 use Rattle.std.proofs.Common.{◌∙◌, sym, ap, subst, inl, inr, arith, length-append}
 use Rattle.std.proofs.lemmas.Bool.{cases_lt, and_from}
 use Rattle.disk_model.specs.declared.name.FileKind.{FileKind}
@@ -11,12 +11,10 @@ use Rattle.disk_model.specs.Images.{same_or_other}
 use Rattle.root_slots.specs.declared.root.Place.{Place}
 use Rattle.root_slots.specs.declared.root.Root.{Root}
 use Rattle.root_slots.specs.RootName.{root_name}
-use Rattle.root_slots.specs.Slots.{sequence_of}
 use Rattle.root_slots.specs.Sizes.{sequence-spelling}
-use Rattle.root_slots.specs.Spelling.{spelling}
 use Rattle.root_slots.specs.Valid.{RootFits, no_place}
 use Rattle.root_change.specs.Names.{map_name, epoch_name, place_of, has_place, named_by, names_file, named_end}
-use Rattle.root_change.specs.Texts.{Texts, OnDisk, Measures}
+use Rattle.root_change.specs.Texts.{Texts, OnDisk}
 use Rattle.root_change.specs.Parts.{Parts, texts_of, PartsFit}
 use Rattle.root_change.specs.Changing.{ReadsAs, with_more, Becomes, grown, place_after, root_grown}
 use Rattle.root_change.proofs.Drops.{not_both, true_or_false, named, named_map, named_epoch}

@@ -1,16 +1,15 @@
 -- What lookups of lengths say of the files that a root names.
-use Rattle.std.specs.Prelude.{◌≡◌, ◌≢◌, ◌⊎◌, ℕ, ◌+◌, ◌<◌, ◌≤◌, Bool, true, false, length, Option, Some, None, refl}
-use Rattle.std.proofs.Common.{◌∙◌, sym, ap, subst, inl, inr, arith}
+use Rattle.std.specs.Prelude.{◌≡◌, ◌≢◌, ℕ, ◌+◌, ◌≤◌, true, length, Option, Some, None}
+use Rattle.std.proofs.Common.{sym, subst, inl, inr, arith}
 use Rattle.std.proofs.lemmas.Bool.{cases_lt}
 use Rattle.disk_model.specs.declared.name.FileKind.{FileKind}
 use Rattle.disk_model.specs.declared.name.FileKind.TheVariants as kind
 use Rattle.disk_model.specs.declared.name.FileName.{FileName}
 use Rattle.disk_model.specs.Disk.{Kept, Content, Told, WhereTold, Unchanged, IsLength, IsAtMostLength, bytes_of}
-use Rattle.root_slots.specs.declared.root.Place.{Place}
 use Rattle.root_slots.specs.declared.root.Root.{Root}
 use Rattle.root_slots.specs.RootName.{root_name}
 use Rattle.root_change.specs.Tells.{told_where}
-use Rattle.root_change.specs.Names.{map_name, epoch_name, cache_name, place_of, named_by, names_file, named_end, named_none}
+use Rattle.root_change.specs.Names.{map_name, epoch_name, cache_name, place_of, named_by, names_file, named_none}
 use Rattle.root_change.specs.Texts.{EpochsAreLong, HasSizes}
 use Rattle.root_change.proofs.Drops.{true_or_false, named, named_root, named_map, named_cache, named_number, named_epoch}
 use Rattle.root_change.proofs.Sizes.{end_at_most}

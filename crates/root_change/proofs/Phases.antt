@@ -1,9 +1,9 @@
 -- A replacement of the root, phase by phase: what a crash leaves during each, and what holds after
 -- it.
-use Rattle.std.specs.Prelude.{◌≡◌, ◌≢◌, ◌⊎◌, ℕ, ◌+◌, ◌-◌, ◌<◌, ◌≤◌, Bool, true, false, List, [], ◌∷◌, length, take, Option, Some, None, refl}
+use Rattle.std.specs.Prelude.{◌≡◌, ◌≢◌, ℕ, ◌-◌, ◌<◌, ◌≤◌, false, List, [], ◌∷◌, length, take, Option, Some, None, refl}
 use Rattle.std.proofs.Common.{◌∙◌, sym, ap, subst, inl, inr, arith, take_all}
 use Rattle.disk_model.specs.declared.name.FileName.{FileName}
-use Rattle.disk_model.specs.Disk.{File, Files, Sure, Kept, Content, Image, Told, WhereTold, Synced, Fits, Within, ReadsFit, Elapses, LeavesOnly, bytes_of, exact, overlay}
+use Rattle.disk_model.specs.Disk.{File, Files, Sure, Kept, Content, Image, Told, WhereTold, Synced, Fits, ReadsFit, Elapses, LeavesOnly, bytes_of, exact, overlay}
 use Rattle.disk_model.specs.Laws.{FrontOrigin, Fits-Within, Fits-exact, overlay-size}
 use Rattle.disk_model.specs.Synced.{IsSettled}
 use Rattle.disk_model.specs.Moments.{started, goes_on, joined}
@@ -12,10 +12,9 @@ use Rattle.root_slots.specs.RootName.{root_name}
 use Rattle.root_slots.specs.Each.{IfThere, EachRoot}
 use Rattle.root_slots.specs.Slots.{HasRootSize, Current, HasRoot, Ready, OldOrNew, IsOldOrNew, HasNewRoot, IsCommitted, with_root, body_place, sequence_of}
 use Rattle.root_slots.specs.Spelling.{spelling}
-use Rattle.root_change.specs.Tells.{told_then, told_both}
 use Rattle.root_change.specs.Beside.{StaysUpTo, AreBeside, Beside, RunsBeside}
 use Rattle.root_change.specs.Names.{names_file, named_end, bounds_of, other_bound, named_none}
-use Rattle.root_change.specs.Texts.{Texts, Fronts, StandsFor, IsExact, IsOn, OnDisk, Measures, EachFronts, HasLengths, HasSizes}
+use Rattle.root_change.specs.Texts.{Texts, Fronts, StandsFor, IsOn, OnDisk, Measures, EachFronts, HasLengths, HasSizes}
 use Rattle.root_change.specs.Replacing.{IsToReplace, ToReplace, StandsForEither, Dropped, IsAny}
 use Rattle.root_change.proofs.Drops.{true_or_false, alone_from, unnamed_apart}
 

@@ -1,5 +1,5 @@
 -- An epoch written anew and another one dropped: what is written becomes the texts of the next root.
-use Rattle.std.specs.Prelude.{◌≡◌, ◌≢◌, ◌⊎◌, ◌+◌, ◌-◌, ◌<◌, ◌≤◌, ◌==◌, ◌&&◌, nat_lt, ℕ, Bool, true, false, if◌then◌else◌, List, [], ◌∷◌, ◌++◌, length, get_or, set, Option, Some, None, refl}
+use Rattle.std.specs.Prelude.{◌≡◌, ◌≢◌, ◌+◌, ◌<◌, ◌==◌, ◌&&◌, nat_lt, ℕ, Bool, true, false, if◌then◌else◌, List, [], ◌++◌, length, set, Option, refl}
 use Rattle.std.proofs.Common.{◌∙◌, sym, ap, subst, inl, inr, arith}
 use Rattle.std.proofs.lemmas.List.{length-set}
 use Rattle.disk_model.specs.declared.name.FileKind.{FileKind}
@@ -9,15 +9,13 @@ use Rattle.disk_model.specs.Disk.{Content, Told, WhereTold, OneFile, Wrote}
 use Rattle.disk_model.specs.Images.{same_or_other}
 use Rattle.root_slots.specs.declared.root.Place.{Place}
 use Rattle.root_slots.specs.declared.root.Root.{Root}
-use Rattle.root_slots.specs.Slots.{sequence_of}
 use Rattle.root_slots.specs.Sizes.{sequence-spelling}
-use Rattle.root_slots.specs.Spelling.{spelling}
 use Rattle.root_slots.specs.Valid.{IsRoot, RootFits, no_place}
 use Rattle.root_change.specs.Names.{epoch_name, place_of, has_place, named_by, names_file, named_end}
 use Rattle.root_change.specs.Texts.{Texts, OnDisk}
 use Rattle.root_change.specs.Parts.{Parts, texts_of, PartsFit}
 use Rattle.root_change.specs.Changing.{ReadsAs, with_more, Becomes, remade, root_remade}
-use Rattle.root_change.proofs.Drops.{both, not_both, true_or_false, is_less, named, named_number, named_epoch}
+use Rattle.root_change.proofs.Drops.{both, not_both, true_or_false, is_less, named, named_epoch}
 use Rattle.root_change.proofs.Roots.{equal_or_not, same_test, other_test, set_here, set_elsewhere}
 use Rattle.root_change.proofs.Changes.{text_named, text_unnamed, parts_measure, more_here, more_elsewhere, put_told, own_reads}
 use Rattle.root_change.proofs.Grown.{epoch_isnt_root, epoch_is_named}

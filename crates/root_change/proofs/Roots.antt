@@ -1,6 +1,6 @@
 -- The root after a change of its epochs.
-use Rattle.std.specs.Prelude.{◌≡◌, ◌≢◌, ◌⊎◌, ◌+◌, ◌-◌, ◌*◌, ◌^◌, ◌<◌, ◌≤◌, ◌==◌, nat_lt, Bool, true, false, if◌then◌else◌, ℕ, List, length, get_or, set, refl}
-use Rattle.std.proofs.Common.{◌∙◌, sym, ap, subst, inl, inr, arith}
+use Rattle.std.specs.Prelude.{◌≡◌, ◌≢◌, ◌⊎◌, ◌+◌, ◌<◌, ◌≤◌, ◌==◌, nat_lt, Bool, true, false, if◌then◌else◌, ℕ, List, length, get_or, set, refl}
+use Rattle.std.proofs.Common.{sym, ap, subst, inl, inr, arith}
 use Rattle.std.proofs.lemmas.Bool.{cases_lt}
 use Rattle.std.proofs.lemmas.Bool.Decides.{nat_tests}
 use Rattle.std.proofs.lemmas.List.{get_or-set_same, get_or-set_other, length-set}
@@ -9,7 +9,7 @@ use Rattle.std.specs.List.{All}
 use Rattle.disk_model.specs.declared.name.FileKind.TheVariants as kind
 use Rattle.root_slots.specs.declared.root.Place.{Place}
 use Rattle.root_slots.specs.declared.root.Root.{Root}
-use Rattle.root_slots.specs.Valid.{IsRoot, RootFits, PlaceIsValid, no_place}
+use Rattle.root_slots.specs.Valid.{IsRoot, PlaceIsValid, no_place}
 use Rattle.root_change.specs.Names.{place_of}
 use Rattle.root_change.specs.Changing.{place_after, root_grown, root_remade}
 

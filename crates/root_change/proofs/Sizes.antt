@@ -1,8 +1,8 @@
 -- The lengths of files while bytes are appended beside what a root names.
-use Rattle.std.specs.Prelude.{◌≡◌, ◌≢◌, ◌⊎◌, ℕ, ◌+◌, ◌-◌, ◌<◌, ◌≤◌, min, Bool, true, false, if◌then◌else◌, List, length, Option, Some, None, refl}
+use Rattle.std.specs.Prelude.{◌≢◌, ℕ, ◌≤◌, Bool, true, false, if◌then◌else◌, List, length, Option, Some, None}
 use Rattle.std.proofs.Common.{◌∙◌, sym, ap, subst, inl, inr, arith}
 use Rattle.disk_model.specs.declared.name.FileName.{FileName}
-use Rattle.disk_model.specs.Disk.{File, Kept, Content, Told, WhereTold, OneFile, Wrote, IsAtMostLength, bytes_of, overlay}
+use Rattle.disk_model.specs.Disk.{File, Kept, Content, Told, WhereTold, OneFile, Wrote, IsAtMostLength, bytes_of}
 use Rattle.disk_model.specs.Images.{same_or_other}
 use Rattle.disk_model.specs.Laws.{overlay_length}
 use Rattle.root_slots.specs.declared.root.Root.{Root}

@@ -1,14 +1,14 @@
 -- Every call of a disk respects the bounds that its offset respects, and so does a run of calls.
-use Rattle.std.specs.Prelude.{◌≡◌, ◌≢◌, ℕ, ◌≤◌, min, Option, Some, None, List, length, take, Result, Ok, Err, OnOk, OnErr, refl}
+use Rattle.std.specs.Prelude.{◌≡◌, ◌≢◌, ℕ, ◌≤◌, Option, Some, None, List, length, take, Result, Ok, Err, OnOk, OnErr, refl}
 use Rattle.std.proofs.Common.{◌∙◌, sym, ap, subst, inl, inr, arith, length-take}
 use Rattle.std.proofs.lemmas.Grind.{common_steps}
 use Rattle.disk_model.specs.declared.name.FileName.{FileName}
-use Rattle.disk_model.specs.Disk.{File, Files, Sure, Kept, Content, Image, Told, WhereTold, OneFile, Unchanged, Wrote, Tore, Removed, TornRemoval, Synced, NotSynced, Fits, Within, ReadsFit, IsAtMostLength, Elapses, LeavesOnly, bytes_of, exact, write_sure, remove_sure}
+use Rattle.disk_model.specs.Disk.{File, Files, Sure, Kept, Content, Image, Told, WhereTold, OneFile, Unchanged, Wrote, Tore, Removed, TornRemoval, Synced, NotSynced, Fits, Within, ReadsFit, IsAtMostLength, Elapses, bytes_of, exact, write_sure}
 use Rattle.disk_model.specs.Laws.{FrontOrigin, Fits-Within, Fits-exact, write_front}
 use Rattle.disk_model.specs.Images.{same_or_other}
 use Rattle.disk_model.specs.Moments.{started, goes_on, joined}
 use Rattle.root_change.specs.Tells.{told_weaker, told_then}
-use Rattle.root_change.specs.Beside.{Bounds, Respects, StaysUpTo, AreBeside, Beside, WentBeside, RunsBeside}
+use Rattle.root_change.specs.Beside.{Bounds, Respects, StaysUpTo, Beside, WentBeside, RunsBeside}
 
 -- A shorter prefix of a shared prefix.
 take_shorter : (m n : ℕ) (a b : List ℕ) → m ≤ n → take n a ≡ take n b → take m a ≡ take m b

@@ -1,7 +1,6 @@
 -- What is written for a next root beside the texts of the current one.
-use Rattle.std.specs.Prelude.{◌≡◌, ◌≢◌, ◌⊎◌, ◌<◌, ◌==◌, ◌+◌, nat_lt, ℕ, Bool, true, false, cond, if◌then◌else◌, List, [], ◌++◌, length, set, Option, Some, None}
+use Rattle.std.specs.Prelude.{◌≡◌, ◌≢◌, ◌⊎◌, ◌<◌, ◌==◌, ◌+◌, nat_lt, ℕ, true, false, cond, if◌then◌else◌, List, [], ◌++◌, length, set, None}
 use Rattle.std.specs.BTreeMap.{is_at}
-use Rattle.disk_model.specs.declared.name.FileKind.{FileKind}
 use Rattle.disk_model.specs.declared.name.FileKind.TheVariants as kind
 use Rattle.disk_model.specs.declared.name.FileName.{FileName}
 use Rattle.disk_model.specs.Name.{name_cmp}

@@ -1,5 +1,5 @@
 -- Which files a root names, and how many bytes of each count.
-use Rattle.std.specs.Prelude.{◌≡◌, ◌≢◌, ◌==◌, ◌&&◌, nat_lt, Bool, true, false, cond, if◌then◌else◌, ℕ, get_or, Option, Some, None, refl}
+use Rattle.std.specs.Prelude.{◌≡◌, ◌≢◌, ◌==◌, ◌&&◌, nat_lt, Bool, true, false, cond, if◌then◌else◌, ℕ, get_or, Some, None, refl}
 use Rattle.std.specs.BTreeMap.{is_at}
 use Rattle.std.proofs.Common.{ap}
 use Rattle.disk_model.specs.declared.name.FileKind.{FileKind}

@@ -1,5 +1,5 @@
 -- The parts of an archive, the files that hold them by a root, and what a command on them promises.
-use Rattle.std.specs.Prelude.{◌≡◌, ◌⊎◌, ℕ, ◌-◌, Bool, true, false, if◌then◌else◌, List, [], length, Option, Result, IfOk, OnOk, refl}
+use Rattle.std.specs.Prelude.{◌≡◌, ◌⊎◌, ℕ, ◌-◌, if◌then◌else◌, List, [], length, Option, Result, IfOk, OnOk}
 use Rattle.arch_base.specs.Counts.{IsCaused}
 use Rattle.disk_model.specs.declared.name.FileKind.{FileKind}
 use Rattle.disk_model.specs.Disk.{Files, Content, WhereTold, LeavesOnly}
@@ -7,7 +7,7 @@ use Rattle.disk_model.specs.Synced.{IsSettled}
 use Rattle.root_slots.specs.declared.root.Root.{Root}
 use Rattle.root_slots.specs.Valid.{RootFits, IsRoot}
 use Rattle.root_change.specs.Names.{place_of, names_file}
-use Rattle.root_change.specs.Texts.{Texts, StandsFor, OnDisk, HasSizes}
+use Rattle.root_change.specs.Texts.{Texts, StandsFor, OnDisk}
 
 -- The bytes of each part of an archive, by its kind and its number: of the map and the cache, whose
 -- number is 0, and of each epoch. All other parts are empty.

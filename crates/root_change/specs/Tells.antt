@@ -24,10 +24,3 @@ told_where P Q R None None step told before = tt
 told_where P Q R None (Some m) step told before = absurd told
 told_where P Q R (Some k) None step told before = absurd told
 told_where P Q R (Some k) (Some m) step told before = step k m refl refl told before
-
--- Two relations of one call.
-pub told_both : (P Q : Content → Content → Type 0) (old new : Option Content) → Told P old new → Told Q old new → Told (λ (k m : Content). P k m × Q k m) old new
-told_both P Q None None one two = tt
-told_both P Q None (Some m) one two = absurd one
-told_both P Q (Some k) None one two = absurd one
-told_both P Q (Some k) (Some m) one two = (one, two)

@@ -1,7 +1,7 @@
 -- The write respects the bounds of the root, and keeps the lengths.
-use Rattle.std.proofs.Common.{◌≡◌, ◌≢◌, ◌∙◌, sym, subst, ap, ℕ}
+use Rattle.std.proofs.Common.{sym, subst, ℕ}
 use Rattle.std.proofs.lemmas.Result.{on_ok_weaker}
-use Rattle.disk_model.specs.Disk.{Told, WhereTold, OneFile, Wrote, Tore, IsAtMostLength}
+use Rattle.disk_model.specs.Disk.{Told, WhereTold, OneFile, Wrote, IsAtMostLength}
 use Rattle.root_change.specs.BesideLaws.{write_told, run_started, run_on}
 use Rattle.root_change.specs.Beside.{Respects}
 use Rattle.root_change.specs.Names.{bounds_of}

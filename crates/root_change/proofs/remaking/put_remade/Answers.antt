@@ -1,7 +1,6 @@
 -- One append beside the old root's texts, and the replacement of the root.
-use Rattle.std.proofs.Common.{◌≡◌, ◌≢◌, ◌+◌, ◌<◌, ◌∙◌, sym, ap, subst, arith, ℕ, length}
+use Rattle.std.proofs.Common.{◌≡◌, ◌+◌, ◌∙◌, sym, ap, subst, arith, length}
 use Rattle.std.proofs.lemmas.Result.{on_ok_weaker}
-use Rattle.disk_model.specs.declared.name.FileName.{FileName}
 use Rattle.root_slots.specs.declared.root.Root.{Root}
 use Rattle.root_slots.specs.Slots.{slot_number}
 use Rattle.root_slots.specs.Valid.{IsRoot}

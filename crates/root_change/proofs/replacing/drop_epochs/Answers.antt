@@ -1,6 +1,6 @@
 -- One more epoch.
 use Rattle.std.specs.Prelude.{refl}
-use Rattle.std.proofs.Common.{◌≡◌, ◌≤◌, ◌∙◌, ap, subst, arith}
+use Rattle.std.proofs.Common.{◌∙◌, ap, subst, arith}
 use Rattle.disk_model.specs.declared.name.FileName.{FileName}
 use Rattle.disk_model.specs.Disk.{Told}
 use Rattle.root_slots.specs.declared.root.Place.{Place}
