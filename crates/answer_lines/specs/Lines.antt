@@ -22,12 +22,14 @@ disk_word = reply_line (codes "10 disk fault")
 -- A text or an epoch was not read. If it is damaged, its id is said, and the id of what was found.
 abbrev pub unread_words : TextRefusal → List ℕ
 unread_words reading.DiskFault = disk_word
-unread_words (reading.Damaged named found) = reply_line (codes "11 damaged " ++ (encode_lower named.0 ++ 32 ∷ encode_lower found.0))
+unread_words (reading.Damaged named found) =
+    reply_line (codes "11 damaged " ++ (encode_lower named.0 ++ 32 ∷ encode_lower found.0))
 unread_words reading.NoMemory = memory_word
 
 -- An archive was not opened. If there is none, its root is damaged.
 abbrev pub unopened_words : OpenRefusal → List ℕ
 unopened_words opening.NoArchive = reply_line (codes "11 damaged root 0")
-unopened_words (opening.Damaged file at) = reply_line (codes "11 damaged " ++ (file_words file ++ 32 ∷ decimal at))
+unopened_words (opening.Damaged file at) =
+    reply_line (codes "11 damaged " ++ (file_words file ++ 32 ∷ decimal at))
 unopened_words opening.DiskFault = disk_word
 unopened_words opening.NoMemory = memory_word

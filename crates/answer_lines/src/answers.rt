@@ -15,7 +15,8 @@ use itoa::Buffer;
 
 /// Writes the line of an answer.
 pub fn say_answer<O: Sink>(answer: Answer, out: &mut O) -> Result<(), SinkFault>
-    ensures said { Says (reply_line (answer_line answer)) (O.taken out.old) (O.faults out.old) (O.taken out.new) (O.faults out.new) result }
+    ensures said { Says (reply_line (answer_line answer)) (O.taken out.old) (O.faults out.old)
+        (O.taken out.new) (O.faults out.new) result }
     ensures sink { O.alike out.old out.new }
 {
     match answer {
@@ -36,7 +37,8 @@ pub fn say_answer<O: Sink>(answer: Answer, out: &mut O) -> Result<(), SinkFault>
 
 /// Writes that a message was accepted: its number, and the id of its text in hexadecimal.
 fn say_accepted<O: Sink>(number: u32, id: &ObjectId, out: &mut O) -> Result<(), SinkFault>
-    ensures said { Says (reply_line (codes "1 ok " ++ (decimal number ++ 32 ∷ encode_lower id.now.0))) (O.taken out.old) (O.faults out.old) (O.taken out.new) (O.faults out.new) result }
+    ensures said { Says (reply_line (codes "1 ok " ++ (decimal number ++ 32 ∷ encode_lower id.now.0)))
+        (O.taken out.old) (O.faults out.old) (O.taken out.new) (O.faults out.new) result }
     ensures sink { O.alike out.old out.new }
 {
     let mut buffer = Buffer::new();

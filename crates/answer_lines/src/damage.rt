@@ -11,7 +11,8 @@ use itoa::Buffer;
 
 /// Writes the line of the answer that a file is damaged.
 pub(crate) fn say_damaged<O: Sink>(file: FileName, at: u64, out: &mut O) -> Result<(), SinkFault>
-    ensures said { Says (reply_line (codes "11 damaged " ++ (file_words file ++ 32 ∷ decimal at))) (O.taken out.old) (O.faults out.old) (O.taken out.new) (O.faults out.new) result }
+    ensures said { Says (reply_line (codes "11 damaged " ++ (file_words file ++ 32 ∷ decimal at)))
+        (O.taken out.old) (O.faults out.old) (O.taken out.new) (O.faults out.new) result }
     ensures sink { O.alike out.old out.new }
 {
     say(b"11 ", out)?;
@@ -20,7 +21,8 @@ pub(crate) fn say_damaged<O: Sink>(file: FileName, at: u64, out: &mut O) -> Resu
 
 /// Writes a line that names a damaged file of an archive and the offset of the damage.
 pub fn say_damage<O: Sink>(file: FileName, at: u64, out: &mut O) -> Result<(), SinkFault>
-    ensures said { Says (reply_line (codes "damaged " ++ (file_words file ++ 32 ∷ decimal at))) (O.taken out.old) (O.faults out.old) (O.taken out.new) (O.faults out.new) result }
+    ensures said { Says (reply_line (codes "damaged " ++ (file_words file ++ 32 ∷ decimal at)))
+        (O.taken out.old) (O.faults out.old) (O.taken out.new) (O.faults out.new) result }
     ensures sink { O.alike out.old out.new }
 {
     say(b"damaged ", out)?;
@@ -30,7 +32,8 @@ pub fn say_damage<O: Sink>(file: FileName, at: u64, out: &mut O) -> Result<(), S
 
 /// Writes the words for a file of an archive.
 fn say_file<O: Sink>(file: FileName, out: &mut O) -> Result<(), SinkFault>
-    ensures said { Says (file_words file) (O.taken out.old) (O.faults out.old) (O.taken out.new) (O.faults out.new) result }
+    ensures said { Says (file_words file) (O.taken out.old) (O.faults out.old) (O.taken out.new)
+        (O.faults out.new) result }
     ensures sink { O.alike out.old out.new }
 {
     match file.kind {
@@ -43,7 +46,8 @@ fn say_file<O: Sink>(file: FileName, out: &mut O) -> Result<(), SinkFault>
 
 /// Writes the word for an epoch, and its number.
 fn say_epoch<O: Sink>(number: u32, out: &mut O) -> Result<(), SinkFault>
-    ensures said { Says (codes "epoch " ++ decimal number) (O.taken out.old) (O.faults out.old) (O.taken out.new) (O.faults out.new) result }
+    ensures said { Says (codes "epoch " ++ decimal number) (O.taken out.old) (O.faults out.old)
+        (O.taken out.new) (O.faults out.new) result }
     ensures sink { O.alike out.old out.new }
 {
     let mut buffer = Buffer::new();

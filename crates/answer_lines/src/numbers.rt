@@ -9,7 +9,8 @@ use itoa::Buffer;
 
 /// Writes words, a number in decimal and a line feed.
 pub fn say_number<O: Sink>(words: &[u8], number: u64, out: &mut O) -> Result<(), SinkFault>
-    ensures said { Says (words.now ++ decimal number ++ 10 ∷ []) (O.taken out.old) (O.faults out.old) (O.taken out.new) (O.faults out.new) result }
+    ensures said { Says (words.now ++ decimal number ++ 10 ∷ []) (O.taken out.old)
+        (O.faults out.old) (O.taken out.new) (O.faults out.new) result }
     ensures sink { O.alike out.old out.new }
 {
     let mut buffer = Buffer::new();
@@ -19,7 +20,8 @@ pub fn say_number<O: Sink>(words: &[u8], number: u64, out: &mut O) -> Result<(),
 
 /// Writes a space, an id in hexadecimal and a line feed.
 pub(crate) fn say_id<O: Sink>(id: &ObjectId, out: &mut O) -> Result<(), SinkFault>
-    ensures said { Says (32 ∷ (encode_lower id.now.0 ++ 10 ∷ [])) (O.taken out.old) (O.faults out.old) (O.taken out.new) (O.faults out.new) result }
+    ensures said { Says (32 ∷ (encode_lower id.now.0 ++ 10 ∷ [])) (O.taken out.old)
+        (O.faults out.old) (O.taken out.new) (O.faults out.new) result }
     ensures sink { O.alike out.old out.new }
 {
     say(b" ", out)?;

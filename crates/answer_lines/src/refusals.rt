@@ -12,7 +12,8 @@ use edge_io::{Sink, SinkFault, say, say_line};
 
 /// Writes that memory ran out.
 pub fn say_memory<O: Sink>(out: &mut O) -> Result<(), SinkFault>
-    ensures said { Says memory_word (O.taken out.old) (O.faults out.old) (O.taken out.new) (O.faults out.new) result }
+    ensures said { Says memory_word (O.taken out.old) (O.faults out.old) (O.taken out.new)
+        (O.faults out.new) result }
     ensures sink { O.alike out.old out.new }
 {
     say_line(b"12 no memory", out)
@@ -20,7 +21,8 @@ pub fn say_memory<O: Sink>(out: &mut O) -> Result<(), SinkFault>
 
 /// Writes that the disk failed.
 pub(crate) fn say_disk<O: Sink>(out: &mut O) -> Result<(), SinkFault>
-    ensures said { Says disk_word (O.taken out.old) (O.faults out.old) (O.taken out.new) (O.faults out.new) result }
+    ensures said { Says disk_word (O.taken out.old) (O.faults out.old) (O.taken out.new)
+        (O.faults out.new) result }
     ensures sink { O.alike out.old out.new }
 {
     say_line(b"10 disk fault", out)
@@ -28,7 +30,8 @@ pub(crate) fn say_disk<O: Sink>(out: &mut O) -> Result<(), SinkFault>
 
 /// Writes why a text, or an epoch, was not read.
 pub fn say_unread<O: Sink>(refusal: TextRefusal, out: &mut O) -> Result<(), SinkFault>
-    ensures said { Says (unread_words refusal) (O.taken out.old) (O.faults out.old) (O.taken out.new) (O.faults out.new) result }
+    ensures said { Says (unread_words refusal) (O.taken out.old) (O.faults out.old)
+        (O.taken out.new) (O.faults out.new) result }
     ensures sink { O.alike out.old out.new }
 {
     match refusal {
@@ -40,7 +43,9 @@ pub fn say_unread<O: Sink>(refusal: TextRefusal, out: &mut O) -> Result<(), Sink
 
 /// Writes that a text is damaged: its id, and the id of the bytes found in its place.
 fn say_other_text<O: Sink>(named: &ObjectId, found: &ObjectId, out: &mut O) -> Result<(), SinkFault>
-    ensures said { Says (reply_line (codes "11 damaged " ++ (encode_lower named.now.0 ++ 32 ∷ encode_lower found.now.0))) (O.taken out.old) (O.faults out.old) (O.taken out.new) (O.faults out.new) result }
+    ensures said { Says (reply_line (codes "11 damaged "
+        ++ (encode_lower named.now.0 ++ 32 ∷ encode_lower found.now.0))) (O.taken out.old)
+        (O.faults out.old) (O.taken out.new) (O.faults out.new) result }
     ensures sink { O.alike out.old out.new }
 {
     say(b"11 damaged ", out)?;
@@ -50,7 +55,8 @@ fn say_other_text<O: Sink>(named: &ObjectId, found: &ObjectId, out: &mut O) -> R
 
 /// Writes why an archive was not opened.
 pub fn say_unopened<O: Sink>(refusal: OpenRefusal, out: &mut O) -> Result<(), SinkFault>
-    ensures said { Says (unopened_words refusal) (O.taken out.old) (O.faults out.old) (O.taken out.new) (O.faults out.new) result }
+    ensures said { Says (unopened_words refusal) (O.taken out.old) (O.faults out.old)
+        (O.taken out.new) (O.faults out.new) result }
     ensures sink { O.alike out.old out.new }
 {
     match refusal {

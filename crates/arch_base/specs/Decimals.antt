@@ -10,7 +10,8 @@ read_on n (c ∷ cs) = read_on (10 * n + (c - 48)) cs
 -- The text is `0`, or digits without a leading zero, and its value is below 2^64.
 abbrev pub is_decimal : List ℕ → Bool
 is_decimal text =
-    nat_lt 0 (length text) && not (slice_index text 0 == 48 && nat_lt 1 (length text)) && all_ascii_digits text && nat_lt (read_on 0 text) 18446744073709551616
+    nat_lt 0 (length text) && not (slice_index text 0 == 48 && nat_lt 1 (length text))
+    && all_ascii_digits text && nat_lt (read_on 0 text) 18446744073709551616
 
 -- The number that a text spells, if it is a decimal.
 abbrev pub decimal_of : List ℕ → Option ℕ

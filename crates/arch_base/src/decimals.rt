@@ -62,7 +62,8 @@ fn value_of(text: &[u8]) -> Option<u64>
 /// `None` if the result does not fit in a `u64`.
 fn with_digit(value: u64, digit: u8) -> Option<u64>
     requires { 48 ≤ digit }
-    ensures { MatchOption result (2 ^ 64 ≤ 10 * value + (digit - 48)) (λ next. next ≡ 10 * value + (digit - 48)) }
+    ensures { MatchOption result (2 ^ 64 ≤ 10 * value + (digit - 48)) (λ next.
+        next ≡ 10 * value + (digit - 48)) }
 {
     match value.checked_mul(10) {
         None => None,

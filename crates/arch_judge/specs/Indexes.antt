@@ -32,13 +32,17 @@ pub record IsIndex (entries : List Entry) (index : Index) : Type 0 where
 
 -- One id and one blob id were put into the index.
 pub record Puts (old new : Index) (id : List ℕ) (blob : Id20) (message : Owner) : Type 0 where
-  pub owners : (q : List ℕ) → owner_in new.owners q ≡ (if bytes_eq q id then Some message else owner_in old.owners q)
-  pub blobs : (q : List ℕ) → number_in new.blobs q ≡ (if bytes_eq q blob.0 then Some message.number else number_in old.blobs q)
+  pub owners : (q : List ℕ)
+      → owner_in new.owners q ≡ (if bytes_eq q id then Some message else owner_in old.owners q)
+  pub blobs : (q : List ℕ) → number_in new.blobs q
+      ≡ (if bytes_eq q blob.0 then Some message.number else number_in old.blobs q)
 
 -- An id and a blob id were removed from the index.
 pub record Loses (old new : Index) (id : List ℕ) (blob : Id20) : Type 0 where
-  pub owners : (q : List ℕ) → owner_in new.owners q ≡ (if bytes_eq q id then None else owner_in old.owners q)
-  pub blobs : (q : List ℕ) → number_in new.blobs q ≡ (if bytes_eq q blob.0 then None else number_in old.blobs q)
+  pub owners : (q : List ℕ)
+      → owner_in new.owners q ≡ (if bytes_eq q id then None else owner_in old.owners q)
+  pub blobs : (q : List ℕ)
+      → number_in new.blobs q ≡ (if bytes_eq q blob.0 then None else number_in old.blobs q)
 
 -- Two indexes have the same content.
 pub record HasSame (old new : Index) : Type 0 where
@@ -47,7 +51,8 @@ pub record HasSame (old new : Index) : Type 0 where
 
 -- The index has the content from before a new id and a new blob id were put into it.
 abbrev pub TakesBack : Index → Index → List ℕ → Id20 → Type 0
-TakesBack put new id blob = (old : Index) (message : Owner) → Puts old put id blob message → owner_in old.owners id ≡ None → number_in old.blobs blob.0 ≡ None → HasSame old new
+TakesBack put new id blob = (old : Index) (message : Owner) → Puts old put id blob message
+    → owner_in old.owners id ≡ None → number_in old.blobs blob.0 ≡ None → HasSame old new
 
 -- How a candidate for an id meets the message that has it.
 abbrev pub met_owner : Owner → List ℕ → Meeting

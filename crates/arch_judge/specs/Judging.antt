@@ -29,12 +29,18 @@ pub record IsKnownBy (config : Config) (index : Index) (count next : ℕ) (a : A
 -- answer that isn't for a delivery never comes.
 abbrev pub RefusesBy : Archive → List ℕ → Answer → Type 0
 RefusesBy a bytes answer.NoMemory = Unit {0}
-RefusesBy a bytes (answer.Duplicate number) = (moment : ℕ) → delivered a bytes moment ≡ refused a (answer.Duplicate number)
-RefusesBy a bytes answer.NoFields = (moment : ℕ) → delivered a bytes moment ≡ refused a answer.NoFields
-RefusesBy a bytes (answer.TooLarge len) = (moment : ℕ) → delivered a bytes moment ≡ refused a (answer.TooLarge len)
-RefusesBy a bytes (answer.Full max) = (moment : ℕ) → delivered a bytes moment ≡ refused a (answer.Full max)
-RefusesBy a bytes (answer.Collision number) = (moment : ℕ) → delivered a bytes moment ≡ refused a (answer.Collision number)
-RefusesBy a bytes answer.IsMirror = (moment : ℕ) → delivered a bytes moment ≡ refused a answer.IsMirror
+RefusesBy a bytes (answer.Duplicate number) = (moment : ℕ)
+    → delivered a bytes moment ≡ refused a (answer.Duplicate number)
+RefusesBy a bytes answer.NoFields = (moment : ℕ)
+    → delivered a bytes moment ≡ refused a answer.NoFields
+RefusesBy a bytes (answer.TooLarge len) = (moment : ℕ)
+    → delivered a bytes moment ≡ refused a (answer.TooLarge len)
+RefusesBy a bytes (answer.Full max) = (moment : ℕ)
+    → delivered a bytes moment ≡ refused a (answer.Full max)
+RefusesBy a bytes (answer.Collision number) = (moment : ℕ)
+    → delivered a bytes moment ≡ refused a (answer.Collision number)
+RefusesBy a bytes answer.IsMirror = (moment : ℕ)
+    → delivered a bytes moment ≡ refused a answer.IsMirror
 RefusesBy a bytes (answer.Ok number id) = ⊥
 RefusesBy a bytes (answer.NotLive number) = ⊥
 RefusesBy a bytes (answer.NoText number) = ⊥
@@ -43,12 +49,14 @@ RefusesBy a bytes (answer.Damaged file place) = ⊥
 
 -- The verdict is what the definition says of the delivery, at each moment.
 abbrev pub Judges : Archive → List ℕ → Verdict → Type 0
-Judges a bytes (Take text blob number) = (moment : ℕ) → delivered a bytes moment ≡ record { archive = with_entry a (new_epoch a) text moment; answer = answer.Ok number blob }
+Judges a bytes (Take text blob number) = (moment : ℕ) → delivered a bytes moment
+    ≡ record { archive = with_entry a (new_epoch a) text moment; answer = answer.Ok number blob }
 Judges a bytes (Refuse reply) = RefusesBy a bytes reply
 
 -- The text may be kept: the archive is not a mirror and has a number left, the text is a storage
 -- text, and no message has its own id or its blob id.
-pub record MayBeKept (config : Config) (index : Index) (next : ℕ) (text : List ℕ) (blob : Id20) (number : ℕ) : Type 0 where
+pub record MayBeKept (config : Config) (index : Index) (next : ℕ) (text : List ℕ) (blob : Id20)
+    (number : ℕ) : Type 0 where
   pub writable : config.mirror ≡ false
   pub number_left : next ≤ config.max
   pub number_is : number ≡ next

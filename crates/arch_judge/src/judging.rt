@@ -42,7 +42,8 @@ pub fn judge(
 ) -> Verdict
     // For each archive with these settings, messages and next number, the definition decides the
     // same.
-    ensures judged { (a : Archive) → IsKnownBy config.now index.now count next a → Judges a bytes.now result }
+    ensures judged { (a : Archive) → IsKnownBy config.now index.now count next a
+        → Judges a bytes.now result }
     // For any index: a text that is taken may be kept.
     ensures taken { MayTake config.now index.now next result }
 {
@@ -68,7 +69,8 @@ fn judge_text(
 ) -> Verdict
     requires writable { config.now.mirror ≡ false }
     requires stored { IsStored text }
-    ensures judged { (a : Archive) (bytes : List ℕ) → IsKnownBy config.now index.now count next a → stored_of bytes ≡ Ok text → Judges a bytes result }
+    ensures judged { (a : Archive) (bytes : List ℕ) → IsKnownBy config.now index.now count next a
+        → stored_of bytes ≡ Ok text → Judges a bytes result }
     ensures taken { MayTake config.now index.now next result }
 {
     match choose(alloc, config, index, count, text) {
@@ -87,7 +89,8 @@ fn choose(
     text: Bytes,
 ) -> Result<Choice, NoMemory>
     requires stored { IsStored text }
-    ensures choice { (a : Archive) → IsKnownBy config.now index.now count a.next a → IfOk result (λ choice. choice ≡ choice_of a text) }
+    ensures choice { (a : Archive) → IsKnownBy config.now index.now count a.next a
+        → IfOk result (λ choice. choice ≡ choice_of a text) }
     ensures new { IfOk result (TakesNewText index.now) }
 {
     law_of_taken_texts();
@@ -113,7 +116,8 @@ fn choose_made(
 ) -> Result<Choice, NoMemory>
     requires stored { IsStored text.now }
     requires content { content.now ≡ content_id_of text.now }
-    ensures choice { (a : Archive) → IsKnownBy config.now index.now count a.next a → IfOk result (λ choice. choice ≡ made_choice a.entries a.config.name text.now 0 (length a.entries)) }
+    ensures choice { (a : Archive) → IsKnownBy config.now index.now count a.next a → IfOk result
+        (λ choice. choice ≡ made_choice a.entries a.config.name text.now 0 (length a.entries)) }
     ensures new { IfOk result (TakesNewText index.now) }
 {
     match first_made(alloc, config, index, count, text, content)? {
@@ -136,7 +140,9 @@ fn first_made(
 ) -> Result<Option<Choice>, NoMemory>
     requires stored { IsStored text.now }
     requires content { content.now ≡ content_id_of text.now }
-    ensures choice { (a : Archive) → IsKnownBy config.now index.now count a.next a → IfOk result (λ found. found ≡ Some (made_choice a.entries a.config.name text.now 0 (length a.entries))) }
+    ensures choice { (a : Archive) → IsKnownBy config.now index.now count a.next a
+        → IfOk result (λ found.
+        found ≡ Some (made_choice a.entries a.config.name text.now 0 (length a.entries))) }
     ensures new { IfOk result (λ found. IfSome found (TakesNewText index.now)) }
 {
     law_of_taken_texts();
@@ -157,7 +163,9 @@ fn first_made(
 fn judge_new(config: &Config, index: &Index, next: u32, text: Bytes) -> Verdict
     requires writable { config.now.mirror ≡ false }
     requires new { IsNewText index.now text }
-    ensures judged { (a : Archive) (bytes form : List ℕ) → IsKnownBy config.now index.now (length a.entries) next a → stored_of bytes ≡ Ok form → choice_of a form ≡ Take text → Judges a bytes result }
+    ensures judged { (a : Archive) (bytes form : List ℕ)
+        → IsKnownBy config.now index.now (length a.entries) next a → stored_of bytes ≡ Ok form
+        → choice_of a form ≡ Take text → Judges a bytes result }
     ensures taken { MayTake config.now index.now next result }
 {
     let blob = blob_id(text.as_slice());

@@ -29,7 +29,8 @@ empty_archive config = record { config = config; entries = []; next = 1 }
 abbrev pub with_entry : Archive → ℕ → List ℕ → ℕ → Archive
 with_entry a epoch text moment = record {
   config = a.config;
-  entries = a.entries ++ record { number = a.next; epoch = epoch; text = text; moment = moment } ∷ [];
+  entries =
+      a.entries ++ record { number = a.next; epoch = epoch; text = text; moment = moment } ∷ [];
   next = a.next + 1;
 }
 
@@ -55,7 +56,8 @@ IsFree entries text = (id : List ℕ) × (own_id text ≡ Some id) × (owner ent
 -- The number of the first entry with a blob id.
 abbrev pub blob_number : List Entry → List ℕ → Option ℕ
 blob_number [] blob = None
-blob_number (e ∷ es) blob = if bytes_eq blob (blob_id_of e.text).0 then Some e.number else blob_number es blob
+blob_number (e ∷ es) blob =
+    if bytes_eq blob (blob_id_of e.text).0 then Some e.number else blob_number es blob
 
 -- The entries of an epoch, in order.
 abbrev pub in_epoch : List Entry → ℕ → List Entry

@@ -48,13 +48,15 @@ decided Other text passed = passed
 abbrev pub made_choice : List Entry → List ℕ → List ℕ → ℕ → ℕ → Choice
 made_choice entries name text k zero = Take (with_made name text k)
 made_choice entries name text k (suc left) =
-    decided (met (owner entries (made_id name text k)) (content_id_of text)) (with_made name text k) (made_choice entries name text (k + 1) left)
+    decided (met (owner entries (made_id name text k)) (content_id_of text)) (with_made name text k)
+    (made_choice entries name text (k + 1) left)
 
 -- The own id of a text, if it has one, comes before the made ids.
 abbrev pub choice_from : List Entry → List ℕ → List ℕ → Option (List ℕ) → Choice
 choice_from entries name text None = made_choice entries name text 0 (length entries)
 choice_from entries name text (Some id) =
-    decided (met (owner entries id) (content_id_of text)) text (made_choice entries name text 0 (length entries))
+    decided (met (owner entries id) (content_id_of text)) text
+    (made_choice entries name text 0 (length entries))
 
 -- What the candidate ids of a storage text decide in an archive: the text to keep, or the number of
 -- a message that is the same.

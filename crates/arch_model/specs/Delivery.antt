@@ -38,7 +38,8 @@ takes_more limit epoch len = epoch == greatest_epoch || nat_lt len limit
 -- (public-inbox-v2-format, "GIT EPOCHS").
 abbrev pub new_epoch : Archive → ℕ
 new_epoch a =
-    if takes_more a.config.limit (last_epoch a.entries) (length (epoch_bytes (in_epoch a.entries (last_epoch a.entries)))) then last_epoch a.entries
+    if takes_more a.config.limit (last_epoch a.entries) (length (epoch_bytes (in_epoch a.entries
+    (last_epoch a.entries)))) then last_epoch a.entries
     else last_epoch a.entries + 1
 
 -- The entry has the blob id of the text, and another text.
@@ -63,7 +64,10 @@ refused a answer = record { archive = a; answer = answer }
 abbrev pub delivered_new : Archive → List ℕ → ℕ → Done
 delivered_new a text moment =
     if nat_lt a.config.max a.next then refused a (answer.Full a.config.max)
-    else record { archive = with_entry a (new_epoch a) text moment; answer = answer.Ok a.next (blob_id_of text) }
+    else record {
+      archive = with_entry a (new_epoch a) text moment;
+      answer = answer.Ok a.next (blob_id_of text);
+    }
 
 -- The text is delivered, unless another text has its blob id.
 abbrev pub delivered_kept : Archive → List ℕ → ℕ → Option ℕ → Done
@@ -84,7 +88,8 @@ delivered_form a moment (Err stored_refusal.NoMemory) = refused a answer.NoMemor
 
 -- The delivery of bytes at a moment. A mirror takes none.
 abbrev pub delivered : Archive → List ℕ → ℕ → Done
-delivered a bytes moment = if a.config.mirror then refused a answer.IsMirror else delivered_form a moment (stored bytes)
+delivered a bytes moment =
+    if a.config.mirror then refused a answer.IsMirror else delivered_form a moment (stored bytes)
 
 -- A command at a moment.
 abbrev pub applied : Archive → Command → ℕ → Done
@@ -95,14 +100,21 @@ applied a (Deliver bytes) moment = delivered a bytes.now moment
 -- damaged.
 abbrev pub Delivers : Archive → Answer → Archive → Done → Type 0
 Delivers old answer.NoMemory new wanted = new ≡ old
-Delivers old (answer.Ok number id) new wanted = wanted ≡ record { archive = new; answer = answer.Ok number id }
-Delivers old (answer.Duplicate number) new wanted = wanted ≡ record { archive = new; answer = answer.Duplicate number }
+Delivers old (answer.Ok number id) new wanted =
+    wanted ≡ record { archive = new; answer = answer.Ok number id }
+Delivers old (answer.Duplicate number) new wanted =
+    wanted ≡ record { archive = new; answer = answer.Duplicate number }
 Delivers old answer.NoFields new wanted = wanted ≡ record { archive = new; answer = answer.NoFields }
-Delivers old (answer.TooLarge len) new wanted = wanted ≡ record { archive = new; answer = answer.TooLarge len }
-Delivers old (answer.Full max) new wanted = wanted ≡ record { archive = new; answer = answer.Full max }
-Delivers old (answer.Collision number) new wanted = wanted ≡ record { archive = new; answer = answer.Collision number }
-Delivers old (answer.NotLive number) new wanted = wanted ≡ record { archive = new; answer = answer.NotLive number }
-Delivers old (answer.NoText number) new wanted = wanted ≡ record { archive = new; answer = answer.NoText number }
+Delivers old (answer.TooLarge len) new wanted =
+    wanted ≡ record { archive = new; answer = answer.TooLarge len }
+Delivers old (answer.Full max) new wanted =
+    wanted ≡ record { archive = new; answer = answer.Full max }
+Delivers old (answer.Collision number) new wanted =
+    wanted ≡ record { archive = new; answer = answer.Collision number }
+Delivers old (answer.NotLive number) new wanted =
+    wanted ≡ record { archive = new; answer = answer.NotLive number }
+Delivers old (answer.NoText number) new wanted =
+    wanted ≡ record { archive = new; answer = answer.NoText number }
 Delivers old answer.IsMirror new wanted = wanted ≡ record { archive = new; answer = answer.IsMirror }
 Delivers old answer.DiskFault new wanted = ⊥
 Delivers old (answer.Damaged file place) new wanted = ⊥
@@ -130,5 +142,6 @@ answer_line (answer.NotLive number) = codes "7 not live " ++ decimal number
 answer_line (answer.NoText number) = codes "8 no text " ++ decimal number
 answer_line answer.IsMirror = codes "9 is mirror"
 answer_line answer.DiskFault = codes "10 disk fault"
-answer_line (answer.Damaged file place) = codes "11 damaged " ++ (file_words file ++ 32 ∷ decimal place)
+answer_line (answer.Damaged file place) =
+    codes "11 damaged " ++ (file_words file ++ 32 ∷ decimal place)
 answer_line answer.NoMemory = codes "12 no memory"

@@ -7,7 +7,8 @@ use Rattle.arch_model.specs.Validity.{IsArchive}
 -- next of `a` is the one that `a` showed.
 pub record Follows (a b : Archive) : Type 0 where
   pub next : a.next ≤ b.next
-  pub texts : (n : ℕ) (text : List ℕ) → n < a.next → text_of b.entries n ≡ Some text → text_of a.entries n ≡ Some text
+  pub texts : (n : ℕ) (text : List ℕ) → n < a.next → text_of b.entries n ≡ Some text
+      → text_of a.entries n ≡ Some text
 
 -- An archive follows itself.
 abbrev pub FollowsItself : Type 0
@@ -19,8 +20,10 @@ FollowsThrough = (a b c : Archive) → Follows a b → Follows b c → Follows a
 
 -- An archive with one more entry follows the one without it.
 abbrev pub FollowsWithEntry : Type 0
-FollowsWithEntry = (a : Archive) (epoch : ℕ) (text : List ℕ) (moment : ℕ) → Follows a (with_entry a epoch text moment)
+FollowsWithEntry = (a : Archive) (epoch : ℕ) (text : List ℕ) (moment : ℕ)
+    → Follows a (with_entry a epoch text moment)
 
 -- A number names the same text in an archive and in one that follows it, if both show a text.
 abbrev pub NumbersStay : Type 0
-NumbersStay = (a b : Archive) → IsArchive a → Follows a b → (n : ℕ) (old new : List ℕ) → text_of a.entries n ≡ Some old → text_of b.entries n ≡ Some new → new ≡ old
+NumbersStay = (a b : Archive) → IsArchive a → Follows a b → (n : ℕ) (old new : List ℕ)
+    → text_of a.entries n ≡ Some old → text_of b.entries n ≡ Some new → new ≡ old

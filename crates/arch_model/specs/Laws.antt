@@ -26,34 +26,41 @@ IsNumbered a = (n : ℕ) (text : List ℕ) → text_of a.entries n ≡ Some text
 -- A delivery leaves each number with its text.
 abbrev pub KeepsNumbers : Type 0
 KeepsNumbers =
-    (a : Archive) (bytes : List ℕ) (moment n : ℕ) (text : List ℕ) → text_of a.entries n ≡ Some text → text_of (delivered a bytes moment).archive.entries n ≡ Some text
+    (a : Archive) (bytes : List ℕ) (moment n : ℕ) (text : List ℕ) → text_of a.entries n ≡ Some text
+    → text_of (delivered a bytes moment).archive.entries n ≡ Some text
 
 -- A command leaves each number that has a text below the next one.
 abbrev pub StaysNumbered : Type 0
-StaysNumbered = (a : Archive) (command : Command) (moment : ℕ) → 1 ≤ a.next → IsNumbered a → (1 ≤ (applied a command moment).archive.next) × IsNumbered (applied a command moment).archive
+StaysNumbered = (a : Archive) (command : Command) (moment : ℕ) → 1 ≤ a.next → IsNumbered a
+    → (1 ≤ (applied a command moment).archive.next) × IsNumbered (applied a command moment).archive
 
 -- The storage form of bytes is a storage text if it has an own id, and it is one with a made id at
 -- the front.
 abbrev pub TakenAreStorage : Type 0
 TakenAreStorage =
     (name bytes text : List ℕ) → stored bytes ≡ Ok text
-    → (IsSome (own_id text) → IsStorageText text) × (IsName name → (k : ℕ) → k < 2 ^ 64 → IsStorageText (with_made name text k))
+    → (IsSome (own_id text) → IsStorageText text)
+    × (IsName name → (k : ℕ) → k < 2 ^ 64 → IsStorageText (with_made name text k))
 
 -- A command up to the last moment leaves a valid archive valid.
 abbrev pub KeepsValid : Type 0
-KeepsValid = (a : Archive) (command : Command) (moment : ℕ) → moment ≤ last_moment → IsArchive a → IsArchive (applied a command moment).archive
+KeepsValid = (a : Archive) (command : Command) (moment : ℕ) → moment ≤ last_moment → IsArchive a
+    → IsArchive (applied a command moment).archive
 
 -- The archive after a command follows the one before it.
 abbrev pub CommandFollows : Type 0
-CommandFollows = (a : Archive) (command : Command) (moment : ℕ) → Follows a (applied a command moment).archive
+CommandFollows = (a : Archive) (command : Command) (moment : ℕ)
+    → Follows a (applied a command moment).archive
 
 -- The message that goes in comes out: the number of an accepted message has the text that the
 -- candidate ids decided on. That is the storage form of its bytes, with a Message-ID field at the
 -- front or not.
 abbrev pub ShowsDelivered : Type 0
 ShowsDelivered =
-    (a : Archive) (bytes : List ℕ) (moment number : ℕ) (id : Id20) → IsNumbered a → (delivered a bytes moment).answer ≡ answer.Ok number id →
-    (text : List ℕ) × (kept : List ℕ) × (stored bytes ≡ Ok text) × (choice_of a text ≡ Take kept) × (text_of (delivered a bytes moment).archive.entries number ≡ Some kept)
+    (a : Archive) (bytes : List ℕ) (moment number : ℕ) (id : Id20) → IsNumbered a
+    → (delivered a bytes moment).answer ≡ answer.Ok number id →
+    (text : List ℕ) × (kept : List ℕ) × (stored bytes ≡ Ok text) × (choice_of a text ≡ Take kept)
+    × (text_of (delivered a bytes moment).archive.entries number ≡ Some kept)
 
 -- The candidate ids of a text in order: its own id, if it has one, and then the made ids.
 abbrev pub candidate : List ℕ → List ℕ → Option (List ℕ) → ℕ → List ℕ
@@ -69,7 +76,8 @@ kept_with name text (Some id) (suc k) = with_made name text k
 
 -- How the k-th candidate meets the messages of an archive.
 abbrev pub meeting : Archive → List ℕ → ℕ → Meeting
-meeting a text k = met (owner a.entries (candidate a.config.name text (own_id text) k)) (content_id_of text)
+meeting a text k =
+    met (owner a.entries (candidate a.config.name text (own_id text) k)) (content_id_of text)
 
 -- What a candidate that isn't skipped decides.
 abbrev pub Decides : Meeting → List ℕ → Choice → Type 0
@@ -80,10 +88,13 @@ Decides Other text choice = ⊥
 -- The k-th candidate decides, and all before it are skipped.
 abbrev pub IsChosenAt : Archive → List ℕ → ℕ → Choice → Type 0
 IsChosenAt a text k choice =
-    ((j : ℕ) → j < k → meeting a text j ≡ Other) × Decides (meeting a text k) (kept_with a.config.name text (own_id text) k) choice
+    ((j : ℕ) → j < k → meeting a text j ≡ Other)
+    × Decides (meeting a text k) (kept_with a.config.name text (own_id text) k) choice
 
 -- Among fewer than 2^63 entries some candidate decides on the choice, and no candidate after
 -- skipped ones decides otherwise.
 abbrev pub FirstDecides : Type 0
 FirstDecides =
-    (a : Archive) (text : List ℕ) → length a.entries < 2 ^ 63 → ((k : ℕ) × IsChosenAt a text k (choice_of a text)) × ((k : ℕ) (choice : Choice) → IsChosenAt a text k choice → choice ≡ choice_of a text)
+    (a : Archive) (text : List ℕ) → length a.entries < 2 ^ 63
+    → ((k : ℕ) × IsChosenAt a text k (choice_of a text))
+    × ((k : ℕ) (choice : Choice) → IsChosenAt a text k choice → choice ≡ choice_of a text)

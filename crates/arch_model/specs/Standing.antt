@@ -39,7 +39,8 @@ only-one m a same = (0, omega arith, λ i. Some (same i))
 -- messages can be removed.
 abbrev pub IsLeastLive : List Entry → ℕ → Option ℕ → Type 0
 IsLeastLive entries n None = (m : ℕ) → n ≤ m → text_of entries m ≡ None
-IsLeastLive entries n (Some found) = (n ≤ found) × (is_some (text_of entries found) ≡ true) × ((m : ℕ) → n ≤ m → m < found → text_of entries m ≡ None)
+IsLeastLive entries n (Some found) = (n ≤ found) × (is_some (text_of entries found) ≡ true)
+    × ((m : ℕ) → n ≤ m → m < found → text_of entries m ≡ None)
 
 -- A number that was found has a message.
 abbrev pub IsKnownLive : (ℕ → Bool) → Option ℕ → Type 0
@@ -48,7 +49,8 @@ IsKnownLive live (Some n) = live n ≡ true
 
 -- The result of reading the text of a number: the text is appended, and no damage is found.
 abbrev pub GivesTextIn : List Entry → ℕ → List ℕ → List ℕ → Result Unit TextRefusal → Type 0
-GivesTextIn entries n old new (Ok _) = (text : List ℕ) × (text_of entries n ≡ Some text) × (new ≡ old ++ text)
+GivesTextIn entries n old new (Ok _) = (text : List ℕ) × (text_of entries n ≡ Some text)
+    × (new ≡ old ++ text)
 GivesTextIn entries n old new (Err (text_refusal.Damaged named found)) = ⊥
 GivesTextIn entries n old new (Err text_refusal.DiskFault) = Unit {0}
 GivesTextIn entries n old new (Err text_refusal.NoMemory) = Unit {0}
@@ -56,7 +58,8 @@ GivesTextIn entries n old new (Err text_refusal.NoMemory) = Unit {0}
 -- The result of reading an epoch of these entries: its bytes are appended, and it is told whether
 -- it has an entry.
 abbrev pub GivesEpochIn : List Entry → List ℕ → List ℕ → Result Bool TextRefusal → Type 0
-GivesEpochIn entries old new (Ok found) = (new ≡ old ++ epoch_bytes entries) × (found ≡ has_entry entries)
+GivesEpochIn entries old new (Ok found) = (new ≡ old ++ epoch_bytes entries)
+    × (found ≡ has_entry entries)
 GivesEpochIn entries old new (Err (text_refusal.Damaged named found)) = ⊥
 GivesEpochIn entries old new (Err text_refusal.DiskFault) = Unit {0}
 GivesEpochIn entries old new (Err text_refusal.NoMemory) = Unit {0}
@@ -103,7 +106,8 @@ IsFound s b = (b ≡ s.archive) ⊎ (s.doubt ≡ Some b)
 
 -- A keeper: the archives that it holds, whether it is stale, its moment, and what each crash since
 -- a moment may have left.
-module _ {K : Type 0} (holds : K → Archive → Type 0) (stale : K → Bool) (clock : K → ℕ) (leaves : K → ℕ → List (Option Archive) → Type 0) where
+module _ {K : Type 0} (holds : K → Archive → Type 0)
+    (stale : K → Bool) (clock : K → ℕ) (leaves : K → ℕ → List (Option Archive) → Type 0) where
   -- The keeper fits a standing: if it isn't stale, it holds the archive and nothing is in doubt;
   -- and a crash now leaves the archive or the one in doubt.
   pub record Fits (k : K) (s : Standing) : Type 0 where

@@ -30,7 +30,8 @@ IdsDiffer (e ∷ es) = AllByRecursion (λ (f : Entry). own_id f.text ≢ own_id 
 -- Entries with the same blob id have the same text.
 abbrev pub BlobsAgree : List Entry → Type 0
 BlobsAgree [] = Unit {0}
-BlobsAgree (e ∷ es) = AllByRecursion (λ (f : Entry). blob_id_of f.text ≡ blob_id_of e.text → f.text ≡ e.text) es × BlobsAgree es
+BlobsAgree (e ∷ es) = AllByRecursion (λ (f : Entry). blob_id_of f.text ≡ blob_id_of e.text
+    → f.text ≡ e.text) es × BlobsAgree es
 
 -- The archive is valid: its settings are in their ranges, its entries are in order, their numbers
 -- are at least 1 and below the next one, their own ids differ, and each blob id has one text.

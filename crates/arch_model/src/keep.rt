@@ -59,12 +59,15 @@ pub trait Keep {
     fn text(&mut self, n: u32, into: &mut Bytes) -> Result<(), TextRefusal>
         requires ready { stale self.old ≡ false }
         requires live { live self.old n ≡ true }
-        ensures text { (a : Archive) → holds self.old a → GivesTextIn a.entries n into.old into.new result }
+        ensures text { (a : Archive) → holds self.old a
+            → GivesTextIn a.entries n into.old into.new result }
         ensures same { (a : Archive) → holds self.old a → holds self.new a }
         ensures refused { OnErr result (into.new ≡ into.old) }
         ensures ready { stale self.new ≡ false }
-        ensures any_moment { (a : Archive) → holds self.old a → leaves self.new (clock self.old) (one_of (standing a None)) }
-        ensures cause { RoseIf (result ≡ Err TextRefusal.DiskFault) (faults self.old) (faults self.new) };
+        ensures any_moment { (a : Archive) → holds self.old a
+            → leaves self.new (clock self.old) (one_of (standing a None)) }
+        ensures cause { RoseIf (result ≡ Err TextRefusal.DiskFault) (faults self.old)
+            (faults self.new) };
 
     /// Appends the bytes of an epoch, and returns whether the epoch has an entry.
     ///
@@ -73,12 +76,15 @@ pub trait Keep {
     /// entry, leave `into` unchanged.
     fn epoch_bytes(&mut self, epoch: u32, into: &mut Bytes) -> Result<bool, TextRefusal>
         requires ready { stale self.old ≡ false }
-        ensures bytes { (a : Archive) → holds self.old a → GivesEpochIn (in_epoch a.entries epoch) into.old into.new result }
+        ensures bytes { (a : Archive) → holds self.old a
+            → GivesEpochIn (in_epoch a.entries epoch) into.old into.new result }
         ensures same { (a : Archive) → holds self.old a → holds self.new a }
         ensures kept { KeepsUnlessFound into.old into.new result }
         ensures ready { stale self.new ≡ false }
-        ensures any_moment { (a : Archive) → holds self.old a → leaves self.new (clock self.old) (one_of (standing a None)) }
-        ensures cause { RoseIf (result ≡ Err TextRefusal.DiskFault) (faults self.old) (faults self.new) };
+        ensures any_moment { (a : Archive) → holds self.old a
+            → leaves self.new (clock self.old) (one_of (standing a None)) }
+        ensures cause { RoseIf (result ≡ Err TextRefusal.DiskFault) (faults self.old)
+            (faults self.new) };
 
     /// Carries out a command at a moment, in seconds since 1970 UTC.
     ///
@@ -89,10 +95,12 @@ pub trait Keep {
     fn command(&mut self, command: &Command<'_>, moment: u64) -> Answer
         requires ready { stale self.old ≡ false }
         requires moment { moment ≤ last_moment }
-        ensures done { (a : Archive) → holds self.old a → DoesBy holds stale clock leaves a (applied a command.now moment) result self.new }
+        ensures done { (a : Archive) → holds self.old a
+            → DoesBy holds stale clock leaves a (applied a command.now moment) result self.new }
         ensures ready { StaysReady result (stale self.new) }
         ensures untouched { IsUntouched result self.old self.new }
-        ensures any_moment { (a : Archive) → holds self.old a → leaves self.new (clock self.old) (one_of (standing a (Some (applied a command.now moment).archive))) }
+        ensures any_moment { (a : Archive) → holds self.old a → leaves self.new (clock self.old)
+            (one_of (standing a (Some (applied a command.now moment).archive))) }
         ensures cause { RoseIf (result ≡ Answer.DiskFault) (faults self.old) (faults self.new) };
 
     /// Reopens the archive if the keeper is stale, and otherwise does nothing.
@@ -102,11 +110,15 @@ pub trait Keep {
     /// faults rose. `NoMemory` if an allocation fails.
     fn fresh(&mut self) -> Result<(), OpenRefusal>
         ensures nothing { stale self.old ≡ false → (is_ok result ≡ true) × (self.new ≡ self.old) }
-        ensures found { (s : Standing) → Fits holds stale clock leaves self.old s → Reopens holds stale clock leaves s result self.new }
+        ensures found { (s : Standing) → Fits holds stale clock leaves self.old s
+            → Reopens holds stale clock leaves s result self.new }
         ensures ready { OnOk result (stale self.new ≡ false) }
-        ensures any_moment { (s : Standing) → Fits holds stale clock leaves self.old s → leaves self.new (clock self.old) (one_of s) }
-        ensures cause { RoseIf (result ≡ Err OpenRefusal.DiskFault) (faults self.old) (faults self.new) };
+        ensures any_moment { (s : Standing) → Fits holds stale clock leaves self.old s
+            → leaves self.new (clock self.old) (one_of s) }
+        ensures cause { RoseIf (result ≡ Err OpenRefusal.DiskFault) (faults self.old)
+            (faults self.new) };
 
     /// A crash leaves the archive that a keeper holds.
-    ghost holds_left: { (k : Self) (a : Archive) → holds k a → leaves k (clock k) (one_of (standing a None)) };
+    ghost holds_left: { (k : Self) (a : Archive) → holds k a
+        → leaves k (clock k) (one_of (standing a None)) };
 }

@@ -27,13 +27,17 @@ IsOwn a content = (v : View) × IsStoreOf v a content
 
 -- The sequence of the disk's current root can still be raised.
 abbrev pub HasRoom : Option Content → Type 0
-HasRoom content = WhereTold (λ k. (root : Root) (slot : ℕ) → IsCurrentRoot root slot (as_read k) → root.sequence + 1 < 2 ^ 64) content
+HasRoom content = WhereTold (λ k. (root : Root) (slot : ℕ) → IsCurrentRoot root slot (as_read k)
+    → root.sequence + 1 < 2 ^ 64) content
 
 -- How `init` ends. An archive is made if no slot is open, and the disk is its own. Otherwise there
 -- is one already, or memory ran out, and the disk is synced and nothing more; or the disk failed.
 abbrev pub Makes : Config → Outcome → Option Content → Option Content → Type 0
-Makes config (Made name) old new = (name ≡ config.name) × WhereTold (λ k. IsShutFile (k root_name).seen) old × WhereTold (λ k. (v : View) × IsDiskOf v (empty_archive config) k) new
-Makes config Exists old new = WhereTold (λ k. IsShutFile (k root_name).seen → ⊥) old × Told IsOnlySynced old new
+Makes config (Made name) old new = (name ≡ config.name)
+    × WhereTold (λ k. IsShutFile (k root_name).seen) old
+    × WhereTold (λ k. (v : View) × IsDiskOf v (empty_archive config) k) new
+Makes config Exists old new = WhereTold (λ k. IsShutFile (k root_name).seen → ⊥) old
+    × Told IsOnlySynced old new
 Makes config (Answered answer.DiskFault) old new = Unit {0}
 Makes config (Answered answer.NoMemory) old new = Told IsOnlySynced old new
 Makes config (Answered (answer.Ok number id)) old new = ⊥
@@ -84,7 +88,8 @@ DeliversTo a bytes moment (Checked entries live next) new = ⊥
 
 -- How `check` ends on the disk of an archive, each of whose entries is a message.
 abbrev pub ChecksTo : Archive → Outcome → Option Content → Type 0
-ChecksTo a (Checked entries live next) new = (entries ≡ length a.entries) × (live ≡ length a.entries) × (next ≡ a.next) × IsOwn a new
+ChecksTo a (Checked entries live next) new = (entries ≡ length a.entries)
+    × (live ≡ length a.entries) × (next ≡ a.next) × IsOwn a new
 ChecksTo a (Unopened refusal.DiskFault) new = Unit {0}
 ChecksTo a (Unopened refusal.NoMemory) new = ReadsAs a new
 ChecksTo a (Unopened refusal.NoArchive) new = ⊥
@@ -97,7 +102,8 @@ ChecksTo a (Answered reply) new = ⊥
 -- open them, or with what was done with what was found.
 abbrev pub IsOpenedAs : Files → Outcome → Type 0
 IsOpenedAs files (Unopened why) = Opens files (Err why)
-IsOpenedAs files (Checked entries live next) = (v : View) × Opens files (Ok v) × (entries ≡ length v.entries) × (next ≡ v.root.next)
+IsOpenedAs files (Checked entries live next) = (v : View) × Opens files (Ok v)
+    × (entries ≡ length v.entries) × (next ≡ v.root.next)
 IsOpenedAs files (Answered reply) = (v : View) × Opens files (Ok v)
 IsOpenedAs files (Made name) = ⊥
 IsOpenedAs files Exists = ⊥
@@ -114,7 +120,8 @@ LeavesUnopened Exists old new = Unit {0}
 
 -- The files stand for one of these archives, or for what a delivery to one of them leaves.
 abbrev pub RecoversBehind : List (Option Archive) → List ℕ → ℕ → Files → Type 0
-RecoversBehind may bytes moment image = RecoversOf may image ⊎ ((a : Archive) × Contains may (Some a) × Recovers image (delivered a bytes moment).archive)
+RecoversBehind may bytes moment image = RecoversOf may image
+    ⊎ ((a : Archive) × Contains may (Some a) × Recovers image (delivered a bytes moment).archive)
 
 -- The outcome tells that the disk failed.
 abbrev pub IsFault : Outcome → Type 0

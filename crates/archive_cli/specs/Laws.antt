@@ -6,4 +6,5 @@ use Rattle.archive_cli.specs.Turns.{World, Transcript, plain_transcript}
 -- What the plain function prints of events is a transcript of them: the one in which no allocation
 -- fails.
 abbrev pub PlainIsTranscript : Type 0
-PlainIsTranscript = (arrivals : List Arrival) (w : World) → Transcript arrivals w (plain_transcript arrivals w).0 (plain_transcript arrivals w).1
+PlainIsTranscript = (arrivals : List Arrival) (w : World)
+    → Transcript arrivals w (plain_transcript arrivals w).0 (plain_transcript arrivals w).1

@@ -30,7 +30,8 @@ abbrev pub HoldsTwo : Settings → Setting → Type 0
 HoldsTwo held setting =
     (1 < length (option_to_list held.limit ++ limit_of setting))
     ⊎ ((1 < length (option_to_list held.slice ++ slice_of setting))
-    ⊎ ((1 < length (option_to_list held.max ++ max_of setting)) ⊎ (1 < length (marks held.mirror ++ mirror_of setting))))
+    ⊎ ((1 < length (option_to_list held.max ++ max_of setting))
+    ⊎ (1 < length (marks held.mirror ++ mirror_of setting))))
 
 -- One more setting is held, or it is refused as the second of its kind.
 abbrev pub IsWith : Settings → Setting → Option Settings → Type 0
@@ -47,7 +48,8 @@ pub record Collects (words : List (List ℕ)) (held : Settings) : Type 0 where
 -- The settings that words spell, or none if they spell none, or two of one kind.
 abbrev pub IsCollected : List (List ℕ) → Option Settings → Type 0
 IsCollected words (Some held) = Collects words held
-IsCollected words None = (settings : List Setting) → words ≡ map setting_word settings → All IsSetting settings → EachOnce settings → ⊥
+IsCollected words None = (settings : List Setting) → words ≡ map setting_word settings
+    → All IsSetting settings → EachOnce settings → ⊥
 
 -- The settings of an archive with this name, by the held values.
 abbrev pub config_by : List ℕ → Settings → Config
@@ -64,4 +66,5 @@ config_by name held = record {
 -- it.
 abbrev pub IsConfigured : List (List ℕ) → Option Config → Type 0
 IsConfigured words (Some config) = (settings : List Setting) × IsMade words settings config
-IsConfigured words None = (settings : List Setting) (config : Config) → IsMade words settings config → ⊥
+IsConfigured words None = (settings : List Setting) (config : Config)
+    → IsMade words settings config → ⊥

@@ -12,7 +12,8 @@ use Rattle.archive_cli.specs.declared.status.Status.TheVariants as exit
 
 -- The line of a check of an archive.
 abbrev pub checked_line : ℕ → ℕ → ℕ → List ℕ
-checked_line entries live next = codes "entries " ++ (decimal entries ++ (codes " live " ++ (decimal live ++ (codes " next " ++ decimal next))))
+checked_line entries live next = codes "entries " ++ (decimal entries
+    ++ (codes " live " ++ (decimal live ++ (codes " next " ++ decimal next))))
 
 -- The line of an archive that could not be opened.
 abbrev pub refusal_line : OpenRefusal → List ℕ

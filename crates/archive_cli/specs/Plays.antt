@@ -12,7 +12,8 @@ pub record Played (K : Type 0) : Type 0 where
   pub keep : K
 
 -- A keeper: see the trait.
-module _ {K : Type 0} (holds : K → Archive → Type 0) (stale : K → Bool) (clock : K → ℕ) (leaves : K → ℕ → List (Option Archive) → Type 0) (faults : K → ℕ) where
+module _ {K : Type 0} (holds : K → Archive → Type 0) (stale : K → Bool) (clock : K → ℕ)
+    (leaves : K → ℕ → List (Option Archive) → Type 0) (faults : K → ℕ) where
   -- The keeper fits the world's standing, the session is the world's, and the disk hasn't failed.
   pub record Shows (p : Played K) (w : World) : Type 0 where
     pub session_is : w.session ≡ p.session
@@ -20,7 +21,8 @@ module _ {K : Type 0} (holds : K → Archive → Type 0) (stale : K → Bool) (c
     pub unfailed : faults p.keep ≡ 0
 
   -- An event was played in this world, and the frame of what it wrote is appended.
-  pub record Prints (arrival : Arrival) (w : World) (old : List ℕ) (p : Played K) (new : List ℕ) : Type 0 where
+  pub record Prints (arrival : Arrival) (w : World) (old : List ℕ) (p : Played K) (new : List ℕ)
+      : Type 0 where
     pub after : World
     pub shows : Shows p after
     pub printed : List ℕ
@@ -28,7 +30,8 @@ module _ {K : Type 0} (holds : K → Archive → Type 0) (stale : K → Bool) (c
     pub frames : new ≡ old ++ printed
 
   -- A piece came to the session, if there is one, and the frame of what that wrote is appended.
-  pub record PrintsPiece (conn moment : ℕ) (piece : List ℕ) (w : World) (old : List ℕ) (p : Played K) (new : List ℕ) : Type 0 where
+  pub record PrintsPiece (conn moment : ℕ) (piece : List ℕ) (w : World) (old : List ℕ)
+      (p : Played K) (new : List ℕ) : Type 0 where
     pub after : World
     pub shows : Shows p after
     pub bytes : List ℕ

@@ -22,7 +22,8 @@ use Rattle.archive_cli.specs.declared.reading.InputRefusal.TheVariants.{Fault, T
 
 -- Something was due, with a status. It was printed whole, and that is the status, or the output
 -- failed.
-pub record Printed (due : Status → List ℕ → Type 0) (status : Status) (out : Option (List ℕ)) (lost : ℕ) (out' : Option (List ℕ)) (lost' : ℕ) : Type 0 where
+pub record Printed (due : Status → List ℕ → Type 0) (status : Status) (out : Option (List ℕ))
+    (lost : ℕ) (out' : Option (List ℕ)) (lost' : ℕ) : Type 0 where
   pub due_status : Status
   pub words : List ℕ
   pub is_due : due due_status words
@@ -37,15 +38,20 @@ pub record Exactly (words : List ℕ) (status due_status : Status) (printed : Li
 
 -- What a script on an input is due to print, over an archive with these settings.
 abbrev pub IsReplayDue : Config → List ℕ → Status → List ℕ → Type 0
-IsReplayDue config input status printed = Replays config input status printed ⊎ StopsShort config input status printed
+IsReplayDue config input status printed = Replays config input status printed
+    ⊎ StopsShort config input status printed
 
 -- One more piece of the input was appended, and the bytes are at most `most`; or none remains; or
 -- the source failed; or memory ran out for a piece, which was taken all the same.
-abbrev pub IsPieceRead : ℕ → Result Piece InputRefusal → Option (List ℕ) → Option (List ℕ) → List ℕ → List ℕ → ℕ → ℕ → Type 0
-IsPieceRead most (Ok End) left left' bytes bytes' faults faults' = (left ≡ left') × IsUsedUp left' × (bytes' ≡ bytes)
+abbrev pub IsPieceRead : ℕ → Result Piece InputRefusal → Option (List ℕ) → Option (List ℕ) → List ℕ
+    → List ℕ → ℕ → ℕ → Type 0
+IsPieceRead most (Ok End) left left' bytes bytes' faults faults' = (left ≡ left') × IsUsedUp left'
+    × (bytes' ≡ bytes)
 IsPieceRead most (Ok More) left left' bytes bytes' faults faults' =
-    (piece : List ℕ) × (left ≡ before piece left') × (bytes' ≡ bytes ++ piece) × (0 < length piece) × (length bytes + length piece ≤ most)
-IsPieceRead most (Err Fault) left left' bytes bytes' faults faults' = (left' ≡ left) × Rose faults faults'
+    (piece : List ℕ) × (left ≡ before piece left') × (bytes' ≡ bytes ++ piece) × (0 < length piece)
+    × (length bytes + length piece ≤ most)
+IsPieceRead most (Err Fault) left left' bytes bytes' faults faults' = (left' ≡ left)
+    × Rose faults faults'
 IsPieceRead most (Err TooLong) left left' bytes bytes' faults faults' = ⊥
 IsPieceRead most (Err NoMemory) left left' bytes bytes' faults faults' =
     (piece : List ℕ) × (left ≡ before piece left') × (length bytes + length piece ≤ most)
@@ -53,7 +59,8 @@ IsPieceRead most (Err NoMemory) left left' bytes bytes' faults faults' =
 -- The first `most` bytes of the input were read, or all of it; or the source failed. Memory may run
 -- out at any time.
 abbrev pub IsFrontRead : ℕ → Option (List ℕ) → ℕ → Result (List ℕ) InputRefusal → ℕ → Type 0
-IsFrontRead most left faults (Ok bytes) faults' = (input : List ℕ) × IsInput left input × (bytes ≡ take most input)
+IsFrontRead most left faults (Ok bytes) faults' = (input : List ℕ) × IsInput left input
+    × (bytes ≡ take most input)
 IsFrontRead most left faults (Err TooLong) faults' = ⊥
 IsFrontRead most left faults (Err Fault) faults' = Rose faults faults'
 IsFrontRead most left faults (Err NoMemory) faults' = Unit {0}
@@ -62,7 +69,8 @@ IsFrontRead most left faults (Err NoMemory) faults' = Unit {0}
 -- time.
 abbrev pub IsRead : Option (List ℕ) → ℕ → Result (List ℕ) InputRefusal → ℕ → Type 0
 IsRead left faults (Ok bytes) faults' = IsInput left bytes × (length bytes ≤ input_limit)
-IsRead left faults (Err TooLong) faults' = (input : List ℕ) × IsInput left input × (input_limit < length input)
+IsRead left faults (Err TooLong) faults' = (input : List ℕ) × IsInput left input
+    × (input_limit < length input)
 IsRead left faults (Err Fault) faults' = Rose faults faults'
 IsRead left faults (Err NoMemory) faults' = Unit {0}
 
@@ -70,7 +78,8 @@ IsRead left faults (Err NoMemory) faults' = Unit {0}
 -- printed.
 abbrev pub Replayed : Config → Status → Edges → Edges → Type 0
 Replayed config status i j =
-    ((input : List ℕ) × IsInput i.left input × Printed (IsReplayDue config input) status i.taken i.lost j.taken j.lost)
+    ((input : List ℕ) × IsInput i.left input
+    × Printed (IsReplayDue config input) status i.taken i.lost j.taken j.lost)
     ⊎ ((status ≡ exit.Edges) × Rose i.unread j.unread × (j.taken ≡ i.taken) × (j.lost ≡ i.lost))
 
 -- A job over the disk is due to print its outcome.
@@ -83,11 +92,13 @@ MissesMoment status i j = IsSilent status i j × Rose i.missed j.missed
 
 -- A job over the disk at the clock's moment: what was due is printed, or the clock failed.
 abbrev pub JobDone : Job → List ℕ → Status → Edges → Edges → Type 0
-JobDone job input status i j = Printed (IsOutcomeDue job input i j) status i.taken i.lost j.taken j.lost ⊎ MissesMoment status i j
+JobDone job input status i j = Printed (IsOutcomeDue job input i j)
+    status i.taken i.lost j.taken j.lost ⊎ MissesMoment status i j
 
 -- What a crash leaves while a message is delivered at the first moment to come.
 abbrev pub BytesLeave : List (Option Archive) → List ℕ → Option Moments → Files → Type 0
-BytesLeave may bytes coming image = (moment : ℕ) × IsFirst moment coming × RecoversBehind may bytes moment image
+BytesLeave may bytes coming image = (moment : ℕ) × IsFirst moment coming
+    × RecoversBehind may bytes moment image
 
 -- The message was not read, because memory ran out.
 pub record IsUnread (i j : Edges) (status : Status) (printed : List ℕ) : Type 0 where
@@ -100,4 +111,5 @@ pub record IsUnread (i j : Edges) (status : Status) (printed : List ℕ) : Type 
 abbrev pub InputDone : Status → Edges → Edges → Type 0
 InputDone status i j =
     ((input : List ℕ) × IsInput i.left input × JobDone Deliver input status i j)
-    ⊎ (Printed (IsUnread i j) status i.taken i.lost j.taken j.lost ⊎ (IsSilent status i j × Rose i.unread j.unread))
+    ⊎ (Printed (IsUnread i j) status i.taken i.lost j.taken j.lost
+    ⊎ (IsSilent status i j × Rose i.unread j.unread))

@@ -53,7 +53,8 @@ pub record IsBadScript (input : List ℕ) (status : Status) (printed : List ℕ)
   pub printed_is : printed ≡ line (codes "bad script " ++ decimal event)
 
 -- The input is a script, whose events up to the first stop are played.
-pub record IsPlayed (config : Config) (input : List ℕ) (status : Status) (printed : List ℕ) : Type 0 where
+pub record IsPlayed (config : Config) (input : List ℕ) (status : Status) (printed : List ℕ)
+    : Type 0 where
   pub short : length input ≤ input_limit
   pub arrivals : List Arrival
   pub script : IsScript arrivals input
@@ -63,7 +64,8 @@ pub record IsPlayed (config : Config) (input : List ℕ) (status : Status) (prin
 
 -- How a script on an input ends, over an empty archive with these settings.
 abbrev pub Replays : Config → List ℕ → Status → List ℕ → Type 0
-Replays config input status printed = IsTooLong input status printed ⊎ (IsBadScript input status printed ⊎ IsPlayed config input status printed)
+Replays config input status printed = IsTooLong input status printed
+    ⊎ (IsBadScript input status printed ⊎ IsPlayed config input status printed)
 
 -- The remaining input, what the output took, the moments to come, the content of the disk, and the
 -- count of faults of each.
@@ -79,17 +81,43 @@ pub record Edges : Type 0 where
 
 -- The edges of a job without a disk.
 abbrev pub edges : Option (List ℕ) → ℕ → Option (List ℕ) → ℕ → Edges
-edges left unread taken lost = record { left = left; unread = unread; taken = taken; lost = lost; coming = None; missed = 0; content = None; broken = 0 }
+edges left unread taken lost = record {
+  left = left;
+  unread = unread;
+  taken = taken;
+  lost = lost;
+  coming = None;
+  missed = 0;
+  content = None;
+  broken = 0;
+}
 
 -- The edges of a run.
-abbrev pub all_edges : Option (List ℕ) → ℕ → Option (List ℕ) → ℕ → Option Moments → ℕ → Option Content → ℕ → Edges
+abbrev pub all_edges : Option (List ℕ) → ℕ → Option (List ℕ) → ℕ → Option Moments → ℕ
+    → Option Content → ℕ → Edges
 all_edges left unread taken lost coming missed content broken =
-    record { left = left; unread = unread; taken = taken; lost = lost; coming = coming; missed = missed; content = content; broken = broken }
+    record {
+      left = left;
+      unread = unread;
+      taken = taken;
+      lost = lost;
+      coming = coming;
+      missed = missed;
+      content = content;
+      broken = broken;
+    }
 
 -- The settings of an archive that is made at a moment. `born` is that moment, but at least 1 and at
 -- most 2^32 - 1.
 abbrev pub made_at : Config → ℕ → Config
-made_at config moment = record { name = config.name; limit = config.limit; slice = config.slice; max = config.max; mirror = config.mirror; born = max 1 (min moment 4294967295) }
+made_at config moment = record {
+  name = config.name;
+  limit = config.limit;
+  slice = config.slice;
+  max = config.max;
+  mirror = config.mirror;
+  born = max 1 (min moment 4294967295);
+}
 
 -- The message on an input.
 abbrev pub message_of : List ℕ → List ℕ
@@ -99,8 +127,10 @@ message_of input = take message_limit input
 abbrev pub ActsBy : Job → List ℕ → ℕ → Option Content → Option Content → Outcome → Type 0
 ActsBy (Init config) input moment old new o = Makes (made_at config moment) o old new
 ActsBy Deliver input moment old new o =
-    ((a : Archive) → ReadsAs a old → HasRoom old → DeliversTo a (message_of input) moment o new) × WhereTold (λ k. IsOpenedAs (as_read k) o) old × LeavesUnopened o old new
-ActsBy Check input moment old new o = ((a : Archive) → ReadsAs a old → ChecksTo a o new) × WhereTold (λ k. IsOpenedAs (as_read k) o) old × LeavesUnopened o old new
+    ((a : Archive) → ReadsAs a old → HasRoom old → DeliversTo a (message_of input) moment o new)
+    × WhereTold (λ k. IsOpenedAs (as_read k) o) old × LeavesUnopened o old new
+ActsBy Check input moment old new o = ((a : Archive) → ReadsAs a old → ChecksTo a o new)
+    × WhereTold (λ k. IsOpenedAs (as_read k) o) old × LeavesUnopened o old new
 ActsBy Help input moment old new o = ⊥
 ActsBy Version input moment old new o = ⊥
 ActsBy (Replay config) input moment old new o = ⊥
@@ -113,7 +143,8 @@ pub record Acts (job : Job) (input : List ℕ) (i j : Edges) (o : Outcome) : Typ
   pub fault : IsFault o → Rose i.broken j.broken
 
 -- What a job over the archive on a disk ends with.
-pub record EndsBy (job : Job) (input : List ℕ) (i j : Edges) (status : Status) (printed : List ℕ) : Type 0 where
+pub record EndsBy (job : Job) (input : List ℕ) (i j : Edges) (status : Status) (printed : List ℕ)
+    : Type 0 where
   pub outcome : Outcome
   pub acts : Acts job input i j outcome
   pub status_is : status ≡ status_of outcome
@@ -121,7 +152,8 @@ pub record EndsBy (job : Job) (input : List ℕ) (i j : Edges) (status : Status)
 
 -- What a job on an input ends with.
 abbrev pub Ends : Option Job → List ℕ → Edges → Edges → Status → List ℕ → Type 0
-Ends None input i j status printed = (status ≡ exit.NotRead) × (printed ≡ line (codes "words not read"))
+Ends None input i j status printed = (status ≡ exit.NotRead)
+    × (printed ≡ line (codes "words not read"))
 Ends (Some Help) input i j status printed = (status ≡ exit.Done) × (printed ≡ HELP.now)
 Ends (Some Version) input i j status printed = (status ≡ exit.Done) × (printed ≡ VERSION.now)
 Ends (Some (Replay config)) input i j status printed = Replays config input status printed
@@ -130,7 +162,8 @@ Ends (Some Deliver) input i j status printed = EndsBy Deliver input i j status p
 Ends (Some Check) input i j status printed = EndsBy Check input i j status printed
 
 -- What a run of words on an input ends with, by the rules.
-pub record Does (words : List (List ℕ)) (input : List ℕ) (i j : Edges) (status : Status) (printed : List ℕ) : Type 0 where
+pub record Does (words : List (List ℕ)) (input : List ℕ) (i j : Edges) (status : Status)
+    (printed : List ℕ) : Type 0 where
   pub job : Option Job
   pub asked : IsJob words job
   pub ends : Ends job input i j status printed
@@ -144,20 +177,23 @@ pub record PlaysPart (config : Config) (input : List ℕ) (frames : List ℕ) : 
 
 -- Out of memory, a script stops after some of its events, or before it is read. What these events
 -- wrote is printed, and then a line that tells of it.
-pub record StopsShort (config : Config) (input : List ℕ) (status : Status) (printed : List ℕ) : Type 0 where
+pub record StopsShort (config : Config) (input : List ℕ) (status : Status) (printed : List ℕ)
+    : Type 0 where
   pub status_is : status ≡ exit.Memory
   pub frames : List ℕ
   pub played : (frames ≡ []) ⊎ PlaysPart config input frames
   pub printed_is : printed ≡ frames ++ line (codes "12 no memory")
 
 -- The words ask for a replay, which ran out of memory.
-pub record ReplayRunsOut (words : List (List ℕ)) (input : List ℕ) (status : Status) (printed : List ℕ) : Type 0 where
+pub record ReplayRunsOut (words : List (List ℕ)) (input : List ℕ) (status : Status)
+    (printed : List ℕ) : Type 0 where
   pub config : Config
   pub asked : AsksFor words (Replay config)
   pub stops : StopsShort config input status printed
 
 -- Out of memory, a message isn't read, and the disk is unchanged.
-pub record DeliverRunsOut (words : List (List ℕ)) (i j : Edges) (status : Status) (printed : List ℕ) : Type 0 where
+pub record DeliverRunsOut (words : List (List ℕ)) (i j : Edges) (status : Status) (printed : List ℕ)
+    : Type 0 where
   pub asked : AsksFor words Deliver
   pub status_is : status ≡ exit.Memory
   pub printed_is : printed ≡ line (codes "12 no memory")
@@ -165,11 +201,13 @@ pub record DeliverRunsOut (words : List (List ℕ)) (i j : Edges) (status : Stat
 
 -- A replay or a delivery ran out of memory.
 abbrev pub RunsOut : List (List ℕ) → List ℕ → Edges → Edges → Status → List ℕ → Type 0
-RunsOut words input i j status printed = ReplayRunsOut words input status printed ⊎ DeliverRunsOut words i j status printed
+RunsOut words input i j status printed = ReplayRunsOut words input status printed
+    ⊎ DeliverRunsOut words i j status printed
 
 -- What a run is to print, and its status if all of that is taken.
 abbrev pub IsDue : List (List ℕ) → List ℕ → Edges → Edges → Status → List ℕ → Type 0
-IsDue words input i j status printed = Does words input i j status printed ⊎ RunsOut words input i j status printed
+IsDue words input i j status printed = Does words input i j status printed
+    ⊎ RunsOut words input i j status printed
 
 -- The bytes are the input, if the source is told.
 abbrev pub IsInput : Option (List ℕ) → List ℕ → Type 0
@@ -225,7 +263,8 @@ pub record OutputFailed (words : List (List ℕ)) (status : Status) (i j : Edges
 
 -- How a run of words ends, by the edges before and after it.
 abbrev pub Ran : List (List ℕ) → Status → Edges → Edges → Type 0
-Ran words status i j = IsPrinted words status i j ⊎ (InputFailed words status i j ⊎ (ClockFailed words status i j ⊎ OutputFailed words status i j))
+Ran words status i j = IsPrinted words status i j ⊎ (InputFailed words status i j
+    ⊎ (ClockFailed words status i j ⊎ OutputFailed words status i j))
 
 -- A run of words ends so, and this is the number of its status.
 abbrev pub RanTo : List (List ℕ) → ℕ → Edges → Edges → Type 0
@@ -242,12 +281,14 @@ pub record TookAtMost (most : ℕ) (old new : Option (List ℕ)) : Type 0 where
 abbrev pub TakesInput : List (List ℕ) → Option (List ℕ) → ℕ → Option (List ℕ) → ℕ → Type 0
 TakesInput words left unread left' unread' =
     ((left' ≡ left) × (unread' ≡ unread))
-    ⊎ (((config : Config) × AsksFor words (Replay config) × TookAtMost (input_limit + 1) left left' × (unread ≤ unread'))
+    ⊎ (((config : Config) × AsksFor words (Replay config) × TookAtMost (input_limit + 1) left left'
+    × (unread ≤ unread'))
     ⊎ (AsksFor words Deliver × TookAtMost message_limit left left' × (unread ≤ unread')))
 
 -- What a crash leaves while an archive is made at the first moment to come.
 abbrev pub InitLeaves : Config → Option Moments → Option Content → Files → Type 0
-InitLeaves config coming old image = (moment : ℕ) × IsFirst moment coming × MakingLeaves (empty_archive (made_at config moment)) old image
+InitLeaves config coming old image = (moment : ℕ) × IsFirst moment coming
+    × MakingLeaves (empty_archive (made_at config moment)) old image
 
 -- The words ask to make an archive.
 abbrev pub AsksForInit : List (List ℕ) → Type 0
@@ -255,13 +296,16 @@ AsksForInit words = (config : Config) × AsksFor words (Init config)
 
 -- What a crash leaves while the archive that the words ask for is made.
 abbrev pub WordsLeave : List (List ℕ) → Option Moments → Option Content → Files → Type 0
-WordsLeave words coming old image = (config : Config) × AsksFor words (Init config) × InitLeaves config coming old image
+WordsLeave words coming old image = (config : Config) × AsksFor words (Init config)
+    × InitLeaves config coming old image
 
 -- What a crash leaves while the message on the input is delivered at the first moment to come: one
 -- of the archives that the disk may have stood for, or the one that the delivery leaves.
 abbrev pub DeliverLeaves : List (Option Archive) → Option (List ℕ) → Option Moments → Files → Type 0
-DeliverLeaves may left coming image = (input : List ℕ) × IsInput left input × ((moment : ℕ) × IsFirst moment coming × RecoversBehind may (message_of input) moment image)
+DeliverLeaves may left coming image = (input : List ℕ) × IsInput left input
+    × ((moment : ℕ) × IsFirst moment coming × RecoversBehind may (message_of input) moment image)
 
 -- The words ask for a job without a disk.
 abbrev pub LeavesDisk : List (List ℕ) → Type 0
-LeavesDisk words = ((config : Config) → AsksFor words (Init config) → ⊥) × (AsksFor words Deliver → ⊥) × (AsksFor words Check → ⊥)
+LeavesDisk words = ((config : Config) → AsksFor words (Init config) → ⊥)
+    × (AsksFor words Deliver → ⊥) × (AsksFor words Check → ⊥)

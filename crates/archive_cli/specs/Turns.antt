@@ -36,7 +36,8 @@ pub record Passed (w : World) (bytes : List ℕ) (closed : Bool) (v : World) : T
   pub same : v ≡ w
 
 -- The session of the connection is now this one.
-pub record Changed (w : World) (session : Option (List ℕ)) (bytes : List ℕ) (closed : Bool) (v : World) : Type 0 where
+pub record Changed (w : World) (session : Option (List ℕ)) (bytes : List ℕ) (closed : Bool)
+    (v : World) : Type 0 where
   pub silent : Silent bytes closed
   pub same : v ≡ record { session = session; standing = w.standing }
 
@@ -48,10 +49,13 @@ waiting_if (Some bytes) opened = Some (waiting bytes opened)
 
 -- A session took a piece. Its requests were answered, and the connection is closed if no session is
 -- left. The disk did not fail.
-pub record FedTo (moment : ℕ) (held piece : List ℕ) (w : World) (bytes : List ℕ) (closed : Bool) (v : World) : Type 0 where
+pub record FedTo (moment : ℕ) (held piece : List ℕ) (w : World) (bytes : List ℕ) (closed : Bool)
+    (v : World) : Type 0 where
   pub closed_is : closed ≡ is_none v.session
   pub opened : Bool
-  pub fed : Fed (said moment) has_request (talk (Some (waiting (held ++ piece) true)) w.standing (outside (Some []) 0 0)) (talk (waiting_if v.session opened) v.standing (outside (Some bytes) 0 0))
+  pub fed : Fed (said moment) has_request
+      (talk (Some (waiting (held ++ piece) true)) w.standing (outside (Some []) 0 0))
+      (talk (waiting_if v.session opened) v.standing (outside (Some bytes) 0 0))
 
 -- A piece comes to the open session. Without a session it is skipped.
 abbrev pub CameTo : Option (List ℕ) → ℕ → List ℕ → World → List ℕ → Bool → World → Type 0
@@ -62,7 +66,8 @@ CameTo (Some held) moment piece w bytes closed v = FedTo moment held piece w byt
 -- Opening a connection that is open ends its session without a word.
 abbrev pub TurnedBy : What → ℕ → List ℕ → World → List ℕ → Bool → World → Type 0
 TurnedBy (Opened conn door) moment piece w bytes closed v = Changed w (Some []) bytes closed v
-TurnedBy (Bytes conn len) moment piece w bytes closed v = CameTo w.session moment piece w bytes closed v
+TurnedBy (Bytes conn len) moment piece w bytes closed v =
+    CameTo w.session moment piece w bytes closed v
 TurnedBy (Ended conn) moment piece w bytes closed v = Changed w None bytes closed v
 TurnedBy Quiet moment piece w bytes closed v = Passed w bytes closed v
 TurnedBy Stop moment piece w bytes closed v = Passed w bytes closed v
@@ -83,7 +88,8 @@ kept_unless false arrival arrivals = arrival ∷ arrivals
 -- The events before the first stop.
 abbrev pub before_stop : List Arrival → List Arrival
 before_stop [] = []
-before_stop (arrival ∷ arrivals) = kept_unless (is_stop arrival.0.what) arrival (before_stop arrivals)
+before_stop (arrival ∷ arrivals) =
+    kept_unless (is_stop arrival.0.what) arrival (before_stop arrivals)
 
 -- One event, with what it printed.
 pub record Turned (arrival : Arrival) (w : World) (printed : List ℕ) (v : World) : Type 0 where
@@ -96,7 +102,8 @@ pub record Turned (arrival : Arrival) (w : World) (printed : List ℕ) (v : Worl
 abbrev pub Transcript : List Arrival → World → List ℕ → World → Type 0
 Transcript [] w printed v = (printed ≡ []) × (v ≡ w)
 Transcript (arrival ∷ arrivals) w printed v =
-    (m : World) × (first : List ℕ) × (rest : List ℕ) × Turned arrival w first m × Transcript arrivals m rest v × (printed ≡ first ++ rest)
+    (m : World) × (first : List ℕ) × (rest : List ℕ) × Turned arrival w first m
+    × Transcript arrivals m rest v × (printed ≡ first ++ rest)
 
 -- The same as a function, in which no allocation fails.
 
@@ -116,12 +123,17 @@ silent_turn v = record { bytes = []; closed = false; after = v }
 
 -- The turn of what a session said.
 abbrev pub said_turn : Said Waiting Standing → Turn
-said_turn s = record { bytes = s.words; closed = is_none (bytes_of s.next); after = world (bytes_of s.next) s.after }
+said_turn s = record {
+  bytes = s.words;
+  closed = is_none (bytes_of s.next);
+  after = world (bytes_of s.next) s.after;
+}
 
 -- A piece comes to the session, if there is one.
 abbrev pub plain_piece : Option (List ℕ) → ℕ → List ℕ → World → Turn
 plain_piece None moment piece w = silent_turn w
-plain_piece (Some held) moment piece w = said_turn (plain (said moment) has_request left w.standing (waiting (held ++ piece) true))
+plain_piece (Some held) moment piece w =
+    said_turn (plain (said moment) has_request left w.standing (waiting (held ++ piece) true))
 
 -- One event, by the rules.
 abbrev pub plain_turn : What → ℕ → List ℕ → World → Turn

@@ -21,7 +21,8 @@ use std::alloc::Global;
 /// Makes an archive with these settings on a disk that has none.
 pub(crate) fn make<D: Disk>(alloc: Global, disk: &mut D, config: &Config) -> Outcome
     requires config { IsConfig config.now }
-    ensures any_moment { LeavesOnly D.moment D.left_since disk.old disk.new (MakingLeaves (empty_archive config.now) (D.content disk.old)) }
+    ensures any_moment { LeavesOnly D.moment D.left_since disk.old disk.new
+        (MakingLeaves (empty_archive config.now) (D.content disk.old)) }
     ensures made { Makes config.now result (D.content disk.old) (D.content disk.new) }
     ensures cause { RoseIf (IsFault result) (D.faults disk.old) (D.faults disk.new) }
 {
@@ -36,9 +37,11 @@ pub(crate) fn make<D: Disk>(alloc: Global, disk: &mut D, config: &Config) -> Out
 /// Delivers a message to the archive on a disk, at a moment in seconds since 1970 UTC.
 pub(crate) fn deliver<D: Disk>(alloc: Global, disk: &mut D, bytes: &[u8], moment: u64) -> Outcome
     requires moment { moment ≤ last_moment }
-    ensures any_moment { (may : List (Option Archive)) → AllRecoverOf may (D.content disk.old) → HasRoom (D.content disk.old)
+    ensures any_moment { (may : List (Option Archive)) → AllRecoverOf may (D.content disk.old)
+        → HasRoom (D.content disk.old)
         → LeavesOnly D.moment D.left_since disk.old disk.new (RecoversBehind may bytes.now moment) }
-    ensures done { (a : Archive) → ReadsAs a (D.content disk.old) → HasRoom (D.content disk.old) → DeliversTo a bytes.now moment result (D.content disk.new) }
+    ensures done { (a : Archive) → ReadsAs a (D.content disk.old) → HasRoom (D.content disk.old)
+        → DeliversTo a bytes.now moment result (D.content disk.new) }
     ensures answer { WhereTold (λ k. IsOpenedAs (as_read k) result) (D.content disk.old) }
     ensures unopened { LeavesUnopened result (D.content disk.old) (D.content disk.new) }
     ensures cause { RoseIf (IsFault result) (D.faults disk.old) (D.faults disk.new) }
@@ -54,8 +57,10 @@ pub(crate) fn deliver<D: Disk>(alloc: Global, disk: &mut D, bytes: &[u8], moment
 
 /// Reads the whole archive on a disk, and counts its entries and messages.
 pub(crate) fn check<D: Disk>(alloc: Global, disk: &mut D) -> Outcome
-    ensures any_moment { (may : List (Option Archive)) → AllRecoverOf may (D.content disk.old) → LeavesOnly D.moment D.left_since disk.old disk.new (RecoversOf may) }
-    ensures done { (a : Archive) → ReadsAs a (D.content disk.old) → ChecksTo a result (D.content disk.new) }
+    ensures any_moment { (may : List (Option Archive)) → AllRecoverOf may (D.content disk.old)
+        → LeavesOnly D.moment D.left_since disk.old disk.new (RecoversOf may) }
+    ensures done { (a : Archive) → ReadsAs a (D.content disk.old)
+        → ChecksTo a result (D.content disk.new) }
     ensures answer { WhereTold (λ k. IsOpenedAs (as_read k) result) (D.content disk.old) }
     ensures unopened { LeavesUnopened result (D.content disk.old) (D.content disk.new) }
     ensures cause { RoseIf (IsFault result) (D.faults disk.old) (D.faults disk.new) }

@@ -17,7 +17,8 @@ pub(crate) fn push_frame(
     bytes: &[u8],
     closed: bool,
 ) -> Result<(), NoMemory>
-    ensures { frames.new ≡ (if is_ok result then frames.old ++ frame conn bytes.now closed else frames.old) }
+    ensures { frames.new
+        ≡ (if is_ok result then frames.old ++ frame conn bytes.now closed else frames.old) }
 {
     let before = frames.as_slice().len();
     match push_parts(alloc, frames, conn, bytes, closed) {

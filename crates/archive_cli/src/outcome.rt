@@ -42,7 +42,8 @@ impl Outcome {
 
     /// Writes the line of the outcome.
     pub(crate) fn say<O: Sink>(&self, out: &mut O) -> Result<(), SinkFault>
-        ensures said { Says (line (outcome_line self.now)) (O.taken out.old) (O.faults out.old) (O.taken out.new) (O.faults out.new) result }
+        ensures said { Says (line (outcome_line self.now)) (O.taken out.old) (O.faults out.old)
+            (O.taken out.new) (O.faults out.new) result }
         ensures sink { O.alike out.old out.new }
     {
         match self {
@@ -85,7 +86,8 @@ fn status_of_refusal(refusal: &OpenRefusal) -> Status
 
 /// Writes that an archive with this name was made.
 fn say_made<O: Sink>(name: &Name, out: &mut O) -> Result<(), SinkFault>
-    ensures said { Says (line (codes "made " ++ name.now)) (O.taken out.old) (O.faults out.old) (O.taken out.new) (O.faults out.new) result }
+    ensures said { Says (line (codes "made " ++ name.now)) (O.taken out.old) (O.faults out.old)
+        (O.taken out.new) (O.faults out.new) result }
     ensures sink { O.alike out.old out.new }
 {
     say(b"made ", out)?;
@@ -94,7 +96,8 @@ fn say_made<O: Sink>(name: &Name, out: &mut O) -> Result<(), SinkFault>
 
 /// Writes the counts of an archive's entries and messages, and its next number.
 fn say_checked<O: Sink>(entries: u64, live: u32, next: u32, out: &mut O) -> Result<(), SinkFault>
-    ensures said { Says (line (checked_line entries live next)) (O.taken out.old) (O.faults out.old) (O.taken out.new) (O.faults out.new) result }
+    ensures said { Says (line (checked_line entries live next)) (O.taken out.old) (O.faults out.old)
+        (O.taken out.new) (O.faults out.new) result }
     ensures sink { O.alike out.old out.new }
 {
     let mut buffer = Buffer::new();
@@ -105,7 +108,8 @@ fn say_checked<O: Sink>(entries: u64, live: u32, next: u32, out: &mut O) -> Resu
 
 /// Writes the count of an archive's messages, and its next number.
 fn say_numbers<O: Sink>(live: u32, next: u32, out: &mut O) -> Result<(), SinkFault>
-    ensures said { Says (line (codes " live " ++ (decimal live ++ (codes " next " ++ decimal next)))) (O.taken out.old) (O.faults out.old) (O.taken out.new) (O.faults out.new) result }
+    ensures said { Says (line (codes " live " ++ (decimal live ++ (codes " next " ++ decimal next))))
+        (O.taken out.old) (O.faults out.old) (O.taken out.new) (O.faults out.new) result }
     ensures sink { O.alike out.old out.new }
 {
     let mut buffer = Buffer::new();
@@ -116,7 +120,8 @@ fn say_numbers<O: Sink>(live: u32, next: u32, out: &mut O) -> Result<(), SinkFau
 
 /// Writes why an archive could not be opened.
 fn say_refusal<O: Sink>(refusal: &OpenRefusal, out: &mut O) -> Result<(), SinkFault>
-    ensures said { Says (line (refusal_line refusal.now)) (O.taken out.old) (O.faults out.old) (O.taken out.new) (O.faults out.new) result }
+    ensures said { Says (line (refusal_line refusal.now)) (O.taken out.old) (O.faults out.old)
+        (O.taken out.new) (O.faults out.new) result }
     ensures sink { O.alike out.old out.new }
 {
     match refusal {

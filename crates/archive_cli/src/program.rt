@@ -42,20 +42,28 @@ pub fn run<D: Disk, S: Source, O: Sink, C: Clock>(
     clock: &mut C,
 ) -> (u8, D)
     ensures ends { RanTo (spelled words.now) result.0
-        (all_edges (S.left input.old) (S.faults input.old) (O.taken out.old) (O.faults out.old) (C.coming clock.old) (C.faults clock.old) (D.content disk) (D.faults disk))
-        (all_edges (S.left input.new) (S.faults input.new) (O.taken out.new) (O.faults out.new) (C.coming clock.new) (C.faults clock.new) (D.content result.1) (D.faults result.1)) }
-    ensures input { TakesInput (spelled words.now) (S.left input.old) (S.faults input.old) (S.left input.new) (S.faults input.new) }
+        (all_edges (S.left input.old) (S.faults input.old) (O.taken out.old) (O.faults out.old)
+        (C.coming clock.old) (C.faults clock.old) (D.content disk) (D.faults disk))
+        (all_edges (S.left input.new) (S.faults input.new) (O.taken out.new) (O.faults out.new)
+        (C.coming clock.new) (C.faults clock.new) (D.content result.1) (D.faults result.1)) }
+    ensures input { TakesInput (spelled words.now) (S.left input.old) (S.faults input.old)
+        (S.left input.new) (S.faults input.new) }
     ensures sink { O.alike out.old out.new }
     ensures disk { LeavesDisk (spelled words.now) → result.1 ≡ disk }
     // A crash while an archive is made leaves what it might have left before, no archive, or that
     // one.
-    ensures init { AsksForInit (spelled words.now) → LeavesOnly D.moment D.left_since disk result.1 (WordsLeave (spelled words.now) (C.coming clock.old) (D.content disk)) }
+    ensures init { AsksForInit (spelled words.now) → LeavesOnly D.moment D.left_since disk result.1
+        (WordsLeave (spelled words.now) (C.coming clock.old) (D.content disk)) }
     // A crash while a message is delivered leaves an archive that the disk may have stood for, or
     // the one with the message.
-    ensures deliver { (may : List (Option Archive)) → AsksFor (spelled words.now) Deliver → AllRecoverOf may (D.content disk) → HasRoom (D.content disk)
-        → LeavesOnly D.moment D.left_since disk result.1 (DeliverLeaves may (S.left input.old) (C.coming clock.old)) }
+    ensures deliver { (may : List (Option Archive)) → AsksFor (spelled words.now) Deliver
+        → AllRecoverOf may (D.content disk) → HasRoom (D.content disk)
+        → LeavesOnly D.moment D.left_since disk result.1
+        (DeliverLeaves may (S.left input.old) (C.coming clock.old)) }
     // A crash while an archive is checked leaves one that the disk may have stood for.
-    ensures check { (may : List (Option Archive)) → AsksFor (spelled words.now) Check → AllRecoverOf may (D.content disk) → LeavesOnly D.moment D.left_since disk result.1 (RecoversOf may) }
+    ensures check { (may : List (Option Archive)) → AsksFor (spelled words.now) Check
+        → AllRecoverOf may (D.content disk)
+        → LeavesOnly D.moment D.left_since disk result.1 (RecoversOf may) }
 {
     let mut disk = disk;
     match read_words(words) {
@@ -85,9 +93,12 @@ fn init<D: Disk, O: Sink, C: Clock>(
 ) -> Status
     requires { IsConfig config }
     ensures ends { JobDone (Init config) [] result
-        (all_edges None 0 (O.taken out.old) (O.faults out.old) (C.coming clock.old) (C.faults clock.old) (D.content disk.old) (D.faults disk.old))
-        (all_edges None 0 (O.taken out.new) (O.faults out.new) (C.coming clock.new) (C.faults clock.new) (D.content disk.new) (D.faults disk.new)) }
-    ensures any_moment { LeavesOnly D.moment D.left_since disk.old disk.new (InitLeaves config (C.coming clock.old) (D.content disk.old)) }
+        (all_edges None 0 (O.taken out.old) (O.faults out.old) (C.coming clock.old)
+        (C.faults clock.old) (D.content disk.old) (D.faults disk.old))
+        (all_edges None 0 (O.taken out.new) (O.faults out.new) (C.coming clock.new)
+        (C.faults clock.new) (D.content disk.new) (D.faults disk.new)) }
+    ensures any_moment { LeavesOnly D.moment D.left_since disk.old disk.new
+        (InitLeaves config (C.coming clock.old) (D.content disk.old)) }
     ensures sink { O.alike out.old out.new }
 {
     let moment = match clock.now() {
@@ -117,12 +128,16 @@ fn deliver_input<D: Disk, S: Source, O: Sink, C: Clock>(
     clock: &mut C,
 ) -> Status
     ensures ends { InputDone result
-        (all_edges (S.left input.old) (S.faults input.old) (O.taken out.old) (O.faults out.old) (C.coming clock.old) (C.faults clock.old) (D.content disk.old) (D.faults disk.old))
-        (all_edges (S.left input.new) (S.faults input.new) (O.taken out.new) (O.faults out.new) (C.coming clock.new) (C.faults clock.new) (D.content disk.new) (D.faults disk.new)) }
+        (all_edges (S.left input.old) (S.faults input.old) (O.taken out.old) (O.faults out.old)
+        (C.coming clock.old) (C.faults clock.old) (D.content disk.old) (D.faults disk.old))
+        (all_edges (S.left input.new) (S.faults input.new) (O.taken out.new) (O.faults out.new)
+        (C.coming clock.new) (C.faults clock.new) (D.content disk.new) (D.faults disk.new)) }
     ensures later { S.faults input.old ≤ S.faults input.new }
     ensures few { TookAtMost message_limit (S.left input.old) (S.left input.new) }
-    ensures any_moment { (may : List (Option Archive)) → AllRecoverOf may (D.content disk.old) → HasRoom (D.content disk.old)
-        → LeavesOnly D.moment D.left_since disk.old disk.new (DeliverLeaves may (S.left input.old) (C.coming clock.old)) }
+    ensures any_moment { (may : List (Option Archive)) → AllRecoverOf may (D.content disk.old)
+        → HasRoom (D.content disk.old)
+        → LeavesOnly D.moment D.left_since disk.old disk.new
+        (DeliverLeaves may (S.left input.old) (C.coming clock.old)) }
     ensures sink { O.alike out.old out.new }
 {
     match read_message(alloc, input) {
@@ -141,10 +156,14 @@ fn deliver_bytes<D: Disk, O: Sink, C: Clock>(
     clock: &mut C,
 ) -> Status
     ensures ends { (input : List ℕ) → bytes.now ≡ message_of input → JobDone Deliver input result
-        (all_edges None 0 (O.taken out.old) (O.faults out.old) (C.coming clock.old) (C.faults clock.old) (D.content disk.old) (D.faults disk.old))
-        (all_edges None 0 (O.taken out.new) (O.faults out.new) (C.coming clock.new) (C.faults clock.new) (D.content disk.new) (D.faults disk.new)) }
-    ensures any_moment { (may : List (Option Archive)) → AllRecoverOf may (D.content disk.old) → HasRoom (D.content disk.old)
-        → LeavesOnly D.moment D.left_since disk.old disk.new (BytesLeave may bytes.now (C.coming clock.old)) }
+        (all_edges None 0 (O.taken out.old) (O.faults out.old) (C.coming clock.old)
+        (C.faults clock.old) (D.content disk.old) (D.faults disk.old))
+        (all_edges None 0 (O.taken out.new) (O.faults out.new) (C.coming clock.new)
+        (C.faults clock.new) (D.content disk.new) (D.faults disk.new)) }
+    ensures any_moment { (may : List (Option Archive)) → AllRecoverOf may (D.content disk.old)
+        → HasRoom (D.content disk.old)
+        → LeavesOnly D.moment D.left_since disk.old disk.new
+        (BytesLeave may bytes.now (C.coming clock.old)) }
     ensures sink { O.alike out.old out.new }
 {
     let moment = match clock.now() {
@@ -156,7 +175,8 @@ fn deliver_bytes<D: Disk, O: Sink, C: Clock>(
 
 /// Prints how a command over the disk ended, and returns its status.
 fn print_outcome<O: Sink>(outcome: &Outcome, out: &mut O) -> Status
-    ensures printed { Printed (Exactly (line (outcome_line outcome.now)) (status_of outcome.now)) result (O.taken out.old) (O.faults out.old) (O.taken out.new) (O.faults out.new) }
+    ensures printed { Printed (Exactly (line (outcome_line outcome.now)) (status_of outcome.now))
+        result (O.taken out.old) (O.faults out.old) (O.taken out.new) (O.faults out.new) }
     ensures sink { O.alike out.old out.new }
 {
     outcome.status().if_taken(outcome.say(out))
@@ -184,7 +204,8 @@ fn replay<S: Source, O: Sink>(alloc: Global, config: Config, input: &mut S, out:
 fn replay_text<O: Sink>(alloc: Global, config: Config, text: &[u8], out: &mut O) -> Status
     requires valid { IsConfig config }
     requires short { length text.now ≤ input_limit }
-    ensures printed { Printed (IsReplayDue config text.now) result (O.taken out.old) (O.faults out.old) (O.taken out.new) (O.faults out.new) }
+    ensures printed { Printed (IsReplayDue config text.now) result (O.taken out.old)
+        (O.faults out.old) (O.taken out.new) (O.faults out.new) }
     ensures sink { O.alike out.old out.new }
 {
     match script(alloc, text) {
@@ -200,7 +221,8 @@ fn replay_script<O: Sink>(alloc: Global, config: Config, events: &Script, out: &
     requires valid { IsConfig config }
     requires script { All IsArrival events.now }
     ensures printed { (text : List ℕ) → IsScript events.now text → length text ≤ input_limit →
-        Printed (IsReplayDue config text) result (O.taken out.old) (O.faults out.old) (O.taken out.new) (O.faults out.new) }
+        Printed (IsReplayDue config text) result (O.taken out.old) (O.faults out.old)
+        (O.taken out.new) (O.faults out.new) }
     ensures sink { O.alike out.old out.new }
 {
     let disk = MemDisk::new(alloc, Numbers::new(alloc));
@@ -220,7 +242,8 @@ pub(crate) fn play_script<K: CountedKeep + Drop, O: Sink>(
     requires script { All IsArrival events.now }
     ensures printed { (config : Config) → K.holds keep (empty_archive config) → K.stale keep ≡ false
         → (text : List ℕ) → IsScript events.now text → length text ≤ input_limit
-        → Printed (IsReplayDue config text) result (O.taken out.old) (O.faults out.old) (O.taken out.new) (O.faults out.new) }
+        → Printed (IsReplayDue config text) result (O.taken out.old) (O.faults out.old)
+        (O.taken out.new) (O.faults out.new) }
     ensures sink { O.alike out.old out.new }
 {
     if keep.failed() > 0 {
@@ -236,7 +259,8 @@ pub(crate) fn play_script<K: CountedKeep + Drop, O: Sink>(
 
 /// Writes the frames of a script, and that memory ran out after them.
 fn say_cut<O: Sink>(frames: &[u8], out: &mut O) -> Result<(), SinkFault>
-    ensures said { Says (frames.now ++ line (codes "12 no memory")) (O.taken out.old) (O.faults out.old) (O.taken out.new) (O.faults out.new) result }
+    ensures said { Says (frames.now ++ line (codes "12 no memory")) (O.taken out.old)
+        (O.faults out.old) (O.taken out.new) (O.faults out.new) result }
     ensures sink { O.alike out.old out.new }
 {
     say(frames, out)?;
@@ -245,7 +269,8 @@ fn say_cut<O: Sink>(frames: &[u8], out: &mut O) -> Result<(), SinkFault>
 
 /// Prints the line of a script that is bad at an event.
 fn print_bad<O: Sink>(event: u64, out: &mut O) -> Status
-    ensures printed { Printed (Exactly (line (codes "bad script " ++ decimal event)) Status.Script) result (O.taken out.old) (O.faults out.old) (O.taken out.new) (O.faults out.new) }
+    ensures printed { Printed (Exactly (line (codes "bad script " ++ decimal event)) Status.Script)
+        result (O.taken out.old) (O.faults out.old) (O.taken out.new) (O.faults out.new) }
     ensures sink { O.alike out.old out.new }
 {
     Status::Script.if_taken(say_number(b"bad script ", event, out))
@@ -253,7 +278,8 @@ fn print_bad<O: Sink>(event: u64, out: &mut O) -> Status
 
 /// Prints that memory ran out.
 pub(crate) fn print_no_memory<O: Sink>(out: &mut O) -> Status
-    ensures printed { Printed (Exactly (line (codes "12 no memory")) Status.Memory) result (O.taken out.old) (O.faults out.old) (O.taken out.new) (O.faults out.new) }
+    ensures printed { Printed (Exactly (line (codes "12 no memory")) Status.Memory) result
+        (O.taken out.old) (O.faults out.old) (O.taken out.new) (O.faults out.new) }
     ensures sink { O.alike out.old out.new }
 {
     Status::Memory.if_taken(say_memory(out))
@@ -261,7 +287,8 @@ pub(crate) fn print_no_memory<O: Sink>(out: &mut O) -> Status
 
 /// Prints bytes, and returns the status if all were taken, otherwise `Edges`.
 fn print<O: Sink>(bytes: &[u8], status: Status, out: &mut O) -> Status
-    ensures printed { Printed (Exactly bytes.now status) result (O.taken out.old) (O.faults out.old) (O.taken out.new) (O.faults out.new) }
+    ensures printed { Printed (Exactly bytes.now status) result (O.taken out.old) (O.faults out.old)
+        (O.taken out.new) (O.faults out.new) }
     ensures sink { O.alike out.old out.new }
 {
     status.if_taken(say(bytes, out))

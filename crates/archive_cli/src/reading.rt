@@ -50,7 +50,8 @@ pub(crate) fn read_input<S: Source>(alloc: Global, input: &mut S) -> Result<Byte
 
 /// Reads the message on the input: its first 9,000,001 bytes. Leaves the rest unread.
 pub(crate) fn read_message<S: Source>(alloc: Global, input: &mut S) -> Result<Bytes, InputRefusal>
-    ensures read { IsFrontRead message_limit (S.left input.old) (S.faults input.old) result (S.faults input.new) }
+    ensures read { IsFrontRead message_limit (S.left input.old) (S.faults input.old) result
+        (S.faults input.new) }
     ensures later { S.faults input.old ≤ S.faults input.new }
     ensures few { TookAtMost message_limit (S.left input.old) (S.left input.new) }
 {
@@ -59,7 +60,8 @@ pub(crate) fn read_message<S: Source>(alloc: Global, input: &mut S) -> Result<By
 
 /// Reads the first `most` bytes of the input, or all of it if it has fewer.
 fn read_front<S: Source>(alloc: Global, input: &mut S, most: usize) -> Result<Bytes, InputRefusal>
-    ensures read { IsFrontRead most (S.left input.old) (S.faults input.old) result (S.faults input.new) }
+    ensures read { IsFrontRead most (S.left input.old) (S.faults input.old) result
+        (S.faults input.new) }
     ensures later { S.faults input.old ≤ S.faults input.new }
     ensures few { TookAtMost most (S.left input.old) (S.left input.new) }
 {
@@ -96,7 +98,8 @@ fn read_piece<S: Source>(
 ) -> Result<Piece, InputRefusal>
     requires buffer { 0 < length buffer.old }
     requires room { length bytes.old < most }
-    ensures read { IsPieceRead most result (S.left input.old) (S.left input.new) bytes.old bytes.new (S.faults input.old) (S.faults input.new) }
+    ensures read { IsPieceRead most result (S.left input.old) (S.left input.new) bytes.old bytes.new
+        (S.faults input.old) (S.faults input.new) }
     ensures later { S.faults input.old ≤ S.faults input.new }
 {
     let room = (most - bytes.as_slice().len()).min(buffer.len());

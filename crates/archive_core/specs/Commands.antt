@@ -11,7 +11,8 @@ use Rattle.epoch_store.specs.Stores.{View, IsStoreOf}
 
 -- The definition's answer was given, and the disk is the own one of a store that keeps the
 -- definition's archive.
-pub record IsDone (v : View) (wanted : Done) (reply : Answer) (content : Option Content) : Type 0 where
+pub record IsDone (v : View) (wanted : Done) (reply : Answer) (content : Option Content)
+    : Type 0 where
   pub answer_is : wanted.answer ≡ reply
   pub store : IsStoreOf v wanted.archive content
 
@@ -22,11 +23,13 @@ abbrev pub DoneBy : View → Archive → Done → Answer → Option Content → 
 DoneBy v a wanted answer.NoMemory content = IsStoreOf v a content
 DoneBy v a wanted answer.DiskFault content = Unit {0}
 DoneBy v a wanted (answer.Ok number id) content = IsDone v wanted (answer.Ok number id) content
-DoneBy v a wanted (answer.Duplicate number) content = IsDone v wanted (answer.Duplicate number) content
+DoneBy v a wanted (answer.Duplicate number) content =
+    IsDone v wanted (answer.Duplicate number) content
 DoneBy v a wanted answer.NoFields content = IsDone v wanted answer.NoFields content
 DoneBy v a wanted (answer.TooLarge len) content = IsDone v wanted (answer.TooLarge len) content
 DoneBy v a wanted (answer.Full max) content = IsDone v wanted (answer.Full max) content
-DoneBy v a wanted (answer.Collision number) content = IsDone v wanted (answer.Collision number) content
+DoneBy v a wanted (answer.Collision number) content =
+    IsDone v wanted (answer.Collision number) content
 DoneBy v a wanted answer.IsMirror content = IsDone v wanted answer.IsMirror content
 DoneBy v a wanted (answer.NotLive number) content = ⊥
 DoneBy v a wanted (answer.NoText number) content = ⊥

@@ -35,7 +35,18 @@ needs_opening (answer.Damaged file at) = true
 needs_opening answer.NoMemory = false
 
 -- A crash of a store's own disk leaves the archive.
-pub store_left : (v : View) (a : Archive) (k : Option Content) (image : Files) → IsStoreOf v a k → Image k image → RecoversOf (one_of (standing a None)) image
+pub store_left : (v : View) (a : Archive) (k : Option Content) (image : Files) → IsStoreOf v a k
+    → Image k image → RecoversOf (one_of (standing a None)) image
 store_left v a None image store left = absurd store
-store_left v a (Some k) image store left =
-    (Some a, (0, omega arith, refl), (v.root, record { valid = store.keeps.valid; names = store.keeps.names; stands = store.on.images image left }))
+store_left v a (Some k) image store left = (
+  Some a,
+  (0, omega arith, refl),
+  (
+    v.root,
+    record {
+      valid = store.keeps.valid;
+      names = store.keeps.names;
+      stands = store.on.images image left;
+    },
+  ),
+)

@@ -22,11 +22,13 @@ owner_kept e = record { number = e.number; content = e.seen.content }
 
 -- The message of the first entry with an own id (RFC 5322, section 3.6.4).
 abbrev pub stored_owner : List StoredEntry → List ℕ → Option Owner
-stored_owner entries id = option_map owner_kept (find (λ (e : StoredEntry). bytes_eq id e.seen.id) entries)
+stored_owner entries id =
+    option_map owner_kept (find (λ (e : StoredEntry). bytes_eq id e.seen.id) entries)
 
 -- The number of the first entry with a blob id.
 abbrev pub stored_number : List StoredEntry → List ℕ → Option ℕ
-stored_number entries blob = option_map (λ (e : StoredEntry). e.number) (find (λ (e : StoredEntry). bytes_eq blob e.seen.blob.0) entries)
+stored_number entries blob = option_map (λ (e : StoredEntry).
+    e.number) (find (λ (e : StoredEntry). bytes_eq blob e.seen.blob.0) entries)
 
 -- An index has the entries that are kept by their ids, and their numbers by their blob ids.
 pub record IndexesStored (entries : List StoredEntry) (index : Index) : Type 0 where
@@ -35,7 +37,8 @@ pub record IndexesStored (entries : List StoredEntry) (index : Index) : Type 0 w
 
 -- A text's own id and its blob id were put into an index.
 abbrev pub PutsText : Index → Index → List ℕ → Id20 → ℕ → Type 0
-PutsText old new text blob number = (id : List ℕ) → own_id text ≡ Some id → Puts old new id blob (record { number = number; content = content_id_of text })
+PutsText old new text blob number = (id : List ℕ) → own_id text ≡ Some id
+    → Puts old new id blob (record { number = number; content = content_id_of text })
 
 -- An index has the same as before a text's own id and blob id, both new to it, were put into it.
 abbrev pub TakesBackText : Index → Index → List ℕ → Id20 → Type 0

@@ -20,9 +20,11 @@ IsNumberAt entries n place = (e : StoredEntry) × (slice_get entries place ≡ S
 
 -- Before this index the numbers are below n, and from it on they are not.
 abbrev pub IsCountBelow : List StoredEntry → ℕ → ℕ → Type 0
-IsCountBelow entries n count = (place : ℕ) (e : StoredEntry) → slice_get entries place ≡ Some e → (place < count → e.number < n) × (count ≤ place → n ≤ e.number)
+IsCountBelow entries n count = (place : ℕ) (e : StoredEntry) → slice_get entries place ≡ Some e
+    → (place < count → e.number < n) × (count ≤ place → n ≤ e.number)
 
 -- The results of reading the text of a number by what is kept of its entry: a text of its size and
 -- blob id, or the other id that was found.
 abbrev pub GivesTextKept : List StoredEntry → ℕ → List ℕ → List ℕ → Result Unit TextRefusal → Type 0
-GivesTextKept entries n old new result = (place : ℕ) × (e : StoredEntry) × (slice_get entries place ≡ Some e) × (e.number ≡ n) × GivesText e old new result
+GivesTextKept entries n old new result = (place : ℕ) × (e : StoredEntry)
+    × (slice_get entries place ≡ Some e) × (e.number ≡ n) × GivesText e old new result

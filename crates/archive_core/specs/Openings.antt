@@ -19,6 +19,7 @@ LeavesKindly DiskFault old new = Unit {0}
 LeavesKindly NoMemory old new = StillReads old new
 
 -- The same for a result.
-abbrev pub RefusesKindly : {T : Type 0} → Result T OpenRefusal → Option Content → Option Content → Type 0
+abbrev pub RefusesKindly : {T : Type 0} → Result T OpenRefusal → Option Content → Option Content
+    → Type 0
 RefusesKindly (Ok made) old new = Unit {0}
 RefusesKindly (Err refusal) old new = LeavesKindly refusal old new

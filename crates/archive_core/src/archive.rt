@@ -67,15 +67,18 @@ impl DiskArchive {
         config: &Config,
     ) -> Result<DiskArchive, InitRefusal>
         requires config { IsConfig config.now }
-        ensures any_moment { LeavesOnly D.moment D.left_since disk.old disk.new (MakingLeaves (empty_archive config.now) (D.content disk.old)) }
+        ensures any_moment { LeavesOnly D.moment D.left_since disk.old disk.new
+            (MakingLeaves (empty_archive config.now) (D.content disk.old)) }
         ensures answer { WhereTold (MakingAnswers result) (D.content disk.old) }
         // After `Exists` and `NoMemory` the disk is synced, and otherwise unchanged.
         ensures refused { RefusesToMake result (D.content disk.old) (D.content disk.new) }
-        ensures done { IfOk result (λ made. WhereTold (IsDiskOf made (empty_archive config.now)) (D.content disk.new)) }
+        ensures done { IfOk result (λ made.
+            WhereTold (IsDiskOf made (empty_archive config.now)) (D.content disk.new)) }
         ensures sizes { IfOk result (λ made. WhereTold (HasSizes made) (D.content disk.new)) }
         ensures first { IfOk result (λ made. made.root.sequence ≡ 1) }
         ensures none { IfOk result (λ made. made.entries ≡ []) }
-        ensures cause { RoseIf (result ≡ Err InitRefusal.DiskFault) (D.faults disk.old) (D.faults disk.new) }
+        ensures cause { RoseIf (result ≡ Err InitRefusal.DiskFault) (D.faults disk.old)
+            (D.faults disk.new) }
     {
         let store = Store::init(alloc, disk, config)?;
         Ok(DiskArchive {
@@ -98,13 +101,16 @@ impl DiskArchive {
     /// read as before. `DiskFault` comes only if the disk's count of faults rose. `NoMemory` comes
     /// only if memory runs out, and the files still stand for the archive that they stood for.
     pub fn open<D: Disk>(alloc: Global, disk: &mut D) -> Result<DiskArchive, OpenRefusal>
-        ensures any_moment { (may : List (Option Archive)) → AllRecoverOf may (D.content disk.old) → LeavesOnly D.moment D.left_since disk.old disk.new (RecoversOf may) }
+        ensures any_moment { (may : List (Option Archive)) → AllRecoverOf may (D.content disk.old)
+            → LeavesOnly D.moment D.left_since disk.old disk.new (RecoversOf may) }
         ensures answer { WhereTold (λ k. Opens (as_read k) result) (D.content disk.old) }
-        ensures done { (a : Archive) → ReadsAs a (D.content disk.old) → IfOk result (λ opened. IsStoreOf opened a (D.content disk.new)) }
+        ensures done { (a : Archive) → ReadsAs a (D.content disk.old)
+            → IfOk result (λ opened. IsStoreOf opened a (D.content disk.new)) }
         ensures well { (a : Archive) → ReadsAs a (D.content disk.old) → OpensWell result }
         ensures refused { RefusesKindly result (D.content disk.old) (D.content disk.new) }
         ensures sizes { IfOk result (λ opened. WhereTold (HasSizes opened) (D.content disk.new)) }
-        ensures cause { RoseIf (result ≡ Err OpenRefusal.DiskFault) (D.faults disk.old) (D.faults disk.new) }
+        ensures cause { RoseIf (result ≡ Err OpenRefusal.DiskFault) (D.faults disk.old)
+            (D.faults disk.new) }
     {
         law_of_stores();
         let store = match Store::open(alloc, disk) {
@@ -135,13 +141,17 @@ impl DiskArchive {
         requires moment { moment ≤ last_moment }
         requires sizes { WhereTold (HasSizes self.old) (D.content disk.old) }
         // At each moment a crash leaves the archive before the command, or the one after it.
-        ensures any_moment { (a : Archive) → IsStoreOf self.old a (D.content disk.old) → self.old.root.sequence + 1 < 2 ^ 64
-            → LeavesOnly D.moment D.left_since disk.old disk.new (RecoversEither a (applied a command.now moment).archive) }
+        ensures any_moment { (a : Archive) → IsStoreOf self.old a (D.content disk.old)
+            → self.old.root.sequence + 1 < 2 ^ 64
+            → LeavesOnly D.moment D.left_since disk.old disk.new
+            (RecoversEither a (applied a command.now moment).archive) }
         // The answer is the definition's, and the disk is then the own one of the definition's
         // archive.
-        ensures done { (a : Archive) → IsStoreOf self.old a (D.content disk.old) → self.old.root.sequence + 1 < 2 ^ 64
+        ensures done { (a : Archive) → IsStoreOf self.old a (D.content disk.old)
+            → self.old.root.sequence + 1 < 2 ^ 64
             → DoneBy self.new a (applied a command.now moment) result (D.content disk.new) }
-        ensures sequence { OnDone result (self.new.root.sequence ≡ next_sequence self.old.root.sequence) }
+        ensures sequence { OnDone result (self.new.root.sequence
+            ≡ next_sequence self.old.root.sequence) }
         ensures same { OnRefusal result (self.new ≡ self.old) }
         ensures untouched { OnRefusal result (UnlessFault result (disk.new ≡ disk.old)) }
         ensures sizes { UnlessFault result (WhereTold (HasSizes self.new) (D.content disk.new)) }
@@ -158,11 +168,15 @@ impl DiskArchive {
     fn deliver<D: Disk>(&mut self, disk: &mut D, bytes: &[u8], moment: u64) -> Answer
         requires moment { moment ≤ last_moment }
         requires sizes { WhereTold (HasSizes self.old) (D.content disk.old) }
-        ensures any_moment { (a : Archive) → IsStoreOf self.old a (D.content disk.old) → self.old.root.sequence + 1 < 2 ^ 64
-            → LeavesOnly D.moment D.left_since disk.old disk.new (RecoversEither a (delivered a bytes.now moment).archive) }
-        ensures done { (a : Archive) → IsStoreOf self.old a (D.content disk.old) → self.old.root.sequence + 1 < 2 ^ 64
+        ensures any_moment { (a : Archive) → IsStoreOf self.old a (D.content disk.old)
+            → self.old.root.sequence + 1 < 2 ^ 64
+            → LeavesOnly D.moment D.left_since disk.old disk.new
+            (RecoversEither a (delivered a bytes.now moment).archive) }
+        ensures done { (a : Archive) → IsStoreOf self.old a (D.content disk.old)
+            → self.old.root.sequence + 1 < 2 ^ 64
             → DoneBy self.new a (delivered a bytes.now moment) result (D.content disk.new) }
-        ensures sequence { OnDone result (self.new.root.sequence ≡ next_sequence self.old.root.sequence) }
+        ensures sequence { OnDone result (self.new.root.sequence
+            ≡ next_sequence self.old.root.sequence) }
         ensures same { OnRefusal result (self.new ≡ self.old) }
         ensures untouched { OnRefusal result (UnlessFault result (disk.new ≡ disk.old)) }
         ensures sizes { UnlessFault result (WhereTold (HasSizes self.new) (D.content disk.new)) }
@@ -210,16 +224,22 @@ impl DiskArchive {
         requires may { MayGoIn self.old text.now blob }
         requires moment { moment ≤ last_moment }
         requires sizes { WhereTold (HasSizes self.old) (D.content disk.old) }
-        ensures any_moment { (a : Archive) → IsStoreOf self.old a (D.content disk.old) → self.old.root.sequence + 1 < 2 ^ 64
-            → LeavesOnly D.moment D.left_since disk.old disk.new (RecoversEither a (with_entry a (new_epoch a) text.now moment)) }
-        ensures done { (a : Archive) → IsStoreOf self.old a (D.content disk.old) → self.old.root.sequence + 1 < 2 ^ 64
-            → OnOk result (IsStoreOf self.new (with_entry a (new_epoch a) text.now moment) (D.content disk.new)) }
+        ensures any_moment { (a : Archive) → IsStoreOf self.old a (D.content disk.old)
+            → self.old.root.sequence + 1 < 2 ^ 64
+            → LeavesOnly D.moment D.left_since disk.old disk.new
+            (RecoversEither a (with_entry a (new_epoch a) text.now moment)) }
+        ensures done { (a : Archive) → IsStoreOf self.old a (D.content disk.old)
+            → self.old.root.sequence + 1 < 2 ^ 64
+            → OnOk result (IsStoreOf self.new (with_entry a (new_epoch a) text.now moment)
+            (D.content disk.new)) }
         ensures sizes { OnOk result (WhereTold (HasSizes self.new) (D.content disk.new)) }
-        ensures sequence { OnOk result (self.new.root.sequence ≡ next_sequence self.old.root.sequence) }
+        ensures sequence { OnOk result (self.new.root.sequence
+            ≡ next_sequence self.old.root.sequence) }
         ensures same { OnErr result (self.new ≡ self.old) }
         ensures refused { result ≡ Err StoreRefusal.NoMemory → disk.new ≡ disk.old }
         ensures undamaged { SeesNoDamage result }
-        ensures cause { RoseIf (result ≡ Err StoreRefusal.DiskFault) (D.faults disk.old) (D.faults disk.new) }
+        ensures cause { RoseIf (result ≡ Err StoreRefusal.DiskFault) (D.faults disk.old)
+            (D.faults disk.new) }
         ensures count { D.reads disk.new ≡ D.reads disk.old }
     {
         law_of_stores();

@@ -22,7 +22,8 @@ pub(crate) fn index_of(alloc: Global, entries: &[StoredEntry]) -> Result<Index, 
 
 /// Adds an entry to an index. It replaces those with its ids.
 fn put_entry(index: &mut Index, entry: &StoredEntry) -> Result<(), NoMemory>
-    ensures { OnOk result (Puts index.old index.new entry.now.seen.id entry.now.seen.blob (owner_kept entry.now)) }
+    ensures { OnOk result (Puts index.old index.new entry.now.seen.id entry.now.seen.blob
+        (owner_kept entry.now)) }
 {
     let id = entry.seen.id.copy()?.into_vec();
     let owner = Owner {

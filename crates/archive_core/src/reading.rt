@@ -43,12 +43,15 @@ impl DiskArchive {
     /// runs out. An error leaves the bytes unchanged.
     pub fn text<D: Disk>(&self, disk: &mut D, n: u32, into: &mut Bytes) -> Result<(), TextRefusal>
         requires live { has_number self.now.entries n ≡ true }
-        ensures text { (a : Archive) → IsStoreOf self.now a (D.content disk.old) → GivesTextIn a.entries n into.old into.new result }
+        ensures text { (a : Archive) → IsStoreOf self.now a (D.content disk.old)
+            → GivesTextIn a.entries n into.old into.new result }
         ensures kept { GivesTextKept self.now.entries n into.old into.new result }
         ensures refused { OnErr result (into.new ≡ into.old) }
         ensures same { Told Unchanged (D.content disk.old) (D.content disk.new) }
-        ensures any_moment { LeavesOnly D.moment D.left_since disk.old disk.new (Image (D.content disk.old)) }
-        ensures cause { RoseIf (result ≡ Err TextRefusal.DiskFault) (D.faults disk.old) (D.faults disk.new) }
+        ensures any_moment { LeavesOnly D.moment D.left_since disk.old disk.new
+            (Image (D.content disk.old)) }
+        ensures cause { RoseIf (result ≡ Err TextRefusal.DiskFault) (D.faults disk.old)
+            (D.faults disk.new) }
         ensures fewest { D.reads disk.old ≤ D.reads disk.new }
         ensures count { D.reads disk.new ≤ D.reads disk.old + 1 }
     {
@@ -70,12 +73,15 @@ impl DiskArchive {
         epoch: u32,
         into: &mut Bytes,
     ) -> Result<bool, TextRefusal>
-        ensures bytes { (a : Archive) → IsStoreOf self.now a (D.content disk.old) → GivesEpochIn (in_epoch a.entries epoch) into.old into.new result }
+        ensures bytes { (a : Archive) → IsStoreOf self.now a (D.content disk.old)
+            → GivesEpochIn (in_epoch a.entries epoch) into.old into.new result }
         ensures kept { KeepsUnlessFound into.old into.new result }
         ensures undamaged { AnswersQuietly result }
         ensures same { Told Unchanged (D.content disk.old) (D.content disk.new) }
-        ensures any_moment { LeavesOnly D.moment D.left_since disk.old disk.new (Image (D.content disk.old)) }
-        ensures cause { RoseIf (result ≡ Err TextRefusal.DiskFault) (D.faults disk.old) (D.faults disk.new) }
+        ensures any_moment { LeavesOnly D.moment D.left_since disk.old disk.new
+            (Image (D.content disk.old)) }
+        ensures cause { RoseIf (result ≡ Err TextRefusal.DiskFault) (D.faults disk.old)
+            (D.faults disk.new) }
         ensures fewest { D.reads disk.old ≤ D.reads disk.new }
         ensures count { D.reads disk.new ≤ D.reads disk.old + 1 }
     {

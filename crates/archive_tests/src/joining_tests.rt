@@ -367,7 +367,8 @@ const OWN: [Case; 7] = [
 ///
 /// No file can show this, since no two texts of one blob id are known.
 fn a_blob_id_stands_once()
-    ensures { (old new : Joined) (epoch : ℕ) (seen : Seen) → IsTrue (has_blob old.entries seen.blob.0) → JoinsOne old epoch seen (Ok new) → ⊥ }
+    ensures { (old new : Joined) (epoch : ℕ) (seen : Seen)
+        → IsTrue (has_blob old.entries seen.blob.0) → JoinsOne old epoch seen (Ok new) → ⊥ }
 {}
 
 #[test]

@@ -76,7 +76,8 @@ pub(crate) fn begin<D: Disk>(
 ) -> Result<Option<Store>, StoreRefusal>
     requires low { 1 ≤ limit }
     requires high { limit ≤ 1099511627776 }
-    ensures sizes { IfOk result (λ begun. IfSome begun (λ store. WhereTold (HasSizes store) (D.content disk.new))) }
+    ensures sizes { IfOk result (λ begun.
+        IfSome begun (λ store. WhereTold (HasSizes store) (D.content disk.new))) }
 {
     if calls == 0 {
         return Ok(None);

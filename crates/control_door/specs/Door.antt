@@ -22,7 +22,8 @@ shown number (Some text) = reply_line (codes "text " ++ decimal (length text)) +
 
 -- An epoch: a line with its number and the length of its bytes, and then the bytes and a line feed.
 abbrev pub epoch_words : ℕ → List ℕ → List ℕ
-epoch_words epoch bytes = reply_line (codes "epoch " ++ (decimal epoch ++ 32 ∷ decimal (length bytes))) ++ reply_line bytes
+epoch_words epoch bytes = reply_line (codes "epoch "
+    ++ (decimal epoch ++ 32 ∷ decimal (length bytes))) ++ reply_line bytes
 
 -- The words of an epoch. One without an entry has none.
 abbrev pub listed : ℕ → List Entry → List ℕ
@@ -32,7 +33,8 @@ listed epoch (e ∷ es) = epoch_words epoch (epoch_bytes (e ∷ es))
 -- The words of the epochs with numbers below the given one, in order.
 abbrev pub listed_below : ℕ → List Entry → List ℕ
 listed_below zero entries = []
-listed_below (suc epoch) entries = listed_below epoch entries ++ listed epoch (in_epoch entries epoch)
+listed_below (suc epoch) entries =
+    listed_below epoch entries ++ listed epoch (in_epoch entries epoch)
 
 -- The words of all epochs, 0 to 63, in order, and a last line.
 abbrev pub epochs_words : List Entry → List ℕ
@@ -54,7 +56,8 @@ Says = Said Waiting Standing
 
 -- The session continues with these bytes.
 abbrev pub goes_on : List ℕ → List ℕ → Standing → Says
-goes_on rest words s = record { next = Some (waiting rest false); words = words; streamed = false; after = s }
+goes_on rest words s =
+    record { next = Some (waiting rest false); words = words; streamed = false; after = s }
 
 -- The session is closed.
 abbrev pub closes : List ℕ → Standing → Says
@@ -67,7 +70,8 @@ delivers done rest = goes_on rest (reply_line (answer_line done.answer)) (standi
 -- The answer to a request at a moment, by the rules.
 abbrev pub answered : ℕ → Standing → Request → List ℕ → Says
 answered moment s (Delivers message) rest = delivers (delivered s.archive message moment) rest
-answered moment s (Shows number) rest = goes_on rest (shown number (text_of s.archive.entries number)) s
+answered moment s (Shows number) rest =
+    goes_on rest (shown number (text_of s.archive.entries number)) s
 answered moment s Lists rest = goes_on rest (epochs_words s.archive.entries) s
 answered moment s Quits rest = closes [] s
 answered moment s Mistakes rest = goes_on rest bad_word s
@@ -87,7 +91,8 @@ refused_memory moment s Exceeds rest = answered moment s Exceeds rest
 -- carried out. A text or a list of epochs is said whole or not at all. Other requests don't use the
 -- disk.
 abbrev pub refused_disk : ℕ → Standing → Request → List ℕ → Says
-refused_disk moment s (Delivers message) rest = goes_on rest disk_word (standing s.archive (Some (delivered s.archive message moment).archive))
+refused_disk moment s (Delivers message) rest =
+    goes_on rest disk_word (standing s.archive (Some (delivered s.archive message moment).archive))
 refused_disk moment s (Shows number) rest = goes_on rest disk_word s
 refused_disk moment s Lists rest = goes_on rest disk_word s
 refused_disk moment s Quits rest = answered moment s Quits rest
@@ -112,7 +117,12 @@ newer s = newer_of s.archive s.doubt
 
 -- Reopening found this archive, and nothing is in doubt.
 abbrev pub opens : Archive → List ℕ → Says
-opens a bytes = record { next = Some (waiting bytes true); words = []; streamed = false; after = standing a None }
+opens a bytes = record {
+  next = Some (waiting bytes true);
+  words = [];
+  streamed = false;
+  after = standing a None;
+}
 
 -- Reopening finds the older archive or the one in doubt, or it closes the session because memory
 -- ran out or the disk failed.

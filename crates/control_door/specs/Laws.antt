@@ -24,7 +24,8 @@ pub record SaysTheSame (s t : Said Waiting Standing) : Type 0 where
 abbrev pub OpeningIsSilent : Type 0
 OpeningIsSilent =
     (moment : ℕ) (a : Archive) (bytes : List ℕ) →
-    SaysTheSame (plain (said moment) has_request left (standing a None) (waiting bytes false)) (plain (said moment) has_request left (standing a None) (waiting bytes true))
+    SaysTheSame (plain (said moment) has_request left (standing a None) (waiting bytes false))
+    (plain (said moment) has_request left (standing a None) (waiting bytes true))
 
 -- A reopening before a piece that completes a request, and then the acts of the piece, make one
 -- course. The reopening is the one before that request in the joined piece.

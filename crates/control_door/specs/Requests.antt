@@ -23,7 +23,8 @@ pub data Ahead : Type 0 where
 -- The request of an order that these bytes follow. `deliver SIZE` is whole once its SIZE bytes are
 -- there.
 abbrev pub asked_by : Order → List ℕ → Ahead
-asked_by (Deliver size) rest = if nat_le size (length rest) then Asked (Delivers (take size rest)) (drop size rest) else Unfinished
+asked_by (Deliver size) rest = if nat_le size (length rest)
+    then Asked (Delivers (take size rest)) (drop size rest) else Unfinished
 asked_by TooMuch rest = Asked Exceeds rest
 asked_by (Show number) rest = Asked (Shows number) rest
 asked_by Epochs rest = Asked Lists rest

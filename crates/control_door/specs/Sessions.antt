@@ -67,14 +67,19 @@ IsFront held piece (found.Whole request taken) = IsRequested held piece request 
 -- One act on the bytes at the front, given whether the archive was already reopened. It is the
 -- reopening, or a request that took `n` bytes of the piece and left the session open, or the
 -- keeping of the piece, or the close.
-abbrev pub IsTurn : ℕ → Bool → Standing → List ℕ → List ℕ → Outside → Turn → Standing → List ℕ → Outside → Type 0
+abbrev pub IsTurn : ℕ → Bool → Standing → List ℕ → List ℕ → Outside → Turn → Standing → List ℕ
+    → Outside → Type 0
 IsTurn moment opened s old piece i Opened t new j =
-    (is_request (old ++ piece) ≡ true) × Acts (said moment s (waiting (old ++ piece) opened)) i (Some (waiting (new ++ piece) true)) t j
+    (is_request (old ++ piece) ≡ true) × Acts (said moment s (waiting (old ++ piece) opened)) i
+    (Some (waiting (new ++ piece) true)) t j
 IsTurn moment opened s old piece i (Went n) t new j =
-    (is_request (old ++ piece) ≡ true) × Acts (said moment s (waiting (old ++ piece) opened)) i (Some (waiting (new ++ drop n piece) false)) t j
+    (is_request (old ++ piece) ≡ true) × Acts (said moment s (waiting (old ++ piece) opened)) i
+    (Some (waiting (new ++ drop n piece) false)) t j
 IsTurn moment opened s old piece i Kept t new j =
-    (is_request (old ++ piece) ≡ false) × Acts (said moment s (waiting (old ++ piece) opened)) i (Some (waiting new opened)) t j
-IsTurn moment opened s old piece i Closed t new j = Acts (said moment s (waiting (old ++ piece) opened)) i None t j
+    (is_request (old ++ piece) ≡ false)
+    × Acts (said moment s (waiting (old ++ piece) opened)) i (Some (waiting new opened)) t j
+IsTurn moment opened s old piece i Closed t new j =
+    Acts (said moment s (waiting (old ++ piece) opened)) i None t j
 
 -- A reopening comes only if there was none yet, and a request takes bytes of the piece.
 abbrev pub Takes : Bool → List ℕ → Turn → Type 0
@@ -85,19 +90,25 @@ Takes opened piece Closed = Unit {0}
 
 -- A keeper: the archives that it holds, whether it has to be reopened, its moment, and what each
 -- crash since a moment may have left.
-module _ {K : Type 0} (holds : K → Archive → Type 0) (stale : K → Bool) (clock : K → ℕ) (leaves : K → ℕ → List (Option Archive) → Type 0) where
+module _ {K : Type 0} (holds : K → Archive → Type 0)
+    (stale : K → Bool) (clock : K → ℕ) (leaves : K → ℕ → List (Option Archive) → Type 0) where
   -- Whichever archive is held, a request to it is answered, and the keeper fits the archive after
   -- it.
   abbrev pub Answers : ℕ → Request → K → Outside → Bool → K → Outside → Type 0
   Answers moment request old i goes_on new j =
-      (a : Archive) (rest : List ℕ) → holds old a → (t : Standing) × Fits holds stale clock leaves new t × Acts (said_to moment (standing a None) request rest) i (held_if goes_on (waiting rest false)) t j
+      (a : Archive) (rest : List ℕ) → holds old a → (t : Standing)
+      × Fits holds stale clock leaves new t × Acts (said_to moment (standing a None)
+      request rest) i (held_if goes_on (waiting rest false)) t j
 
   -- Whatever the keeper fits, it is reopened, or reopening is refused.
   abbrev pub Opens : K → Outside → Bool → K → Outside → Type 0
   Opens old i opened new j =
-      (s : Standing) (bytes : List ℕ) → Fits holds stale clock leaves old s → (t : Standing) × Fits holds stale clock leaves new t × Acts (said_opening s bytes) i (held_if opened (waiting bytes true)) t j
+      (s : Standing) (bytes : List ℕ) → Fits holds stale clock leaves old s → (t : Standing)
+      × Fits holds stale clock leaves new t
+      × Acts (said_opening s bytes) i (held_if opened (waiting bytes true)) t j
 
   -- Whatever the keeper fits, one act is done, and the keeper fits what the act leaves.
   abbrev pub Turns : ℕ → Bool → List ℕ → List ℕ → K → Outside → Turn → List ℕ → K → Outside → Type 0
   Turns moment opened held piece old i turn left new j =
-      (s : Standing) → Fits holds stale clock leaves old s → (t : Standing) × Fits holds stale clock leaves new t × IsTurn moment opened s held piece i turn t left j
+      (s : Standing) → Fits holds stale clock leaves old s → (t : Standing)
+      × Fits holds stale clock leaves new t × IsTurn moment opened s held piece i turn t left j

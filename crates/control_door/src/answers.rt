@@ -51,7 +51,8 @@ pub(crate) fn say_requested<K: Keep, O: Sink>(
     requires ready { K.stale keep.old ≡ false }
     requires moment { moment ≤ last_moment }
     requires starts { StartsWithin held.old request }
-    ensures acts { Answers K.holds K.stale K.clock K.leaves moment (request_of held.old request.entry) keep.old
+    ensures acts { Answers K.holds K.stale K.clock K.leaves moment
+        (request_of held.old request.entry) keep.old
         (outside (O.taken out.old) (K.faults keep.old) (O.faults out.old))
         (continues result) keep.new
         (outside (O.taken out.new) (K.faults keep.new) (O.faults out.new)) }
@@ -109,7 +110,8 @@ fn say_joined<K: Keep, O: Sink>(
     requires ready { K.stale keep.old ≡ false }
     requires moment { moment ≤ last_moment }
     requires starts { start ≤ length held.old }
-    ensures acts { Answers K.holds K.stale K.clock K.leaves moment (Delivers (drop start (held.old ++ last.now))) keep.old
+    ensures acts { Answers K.holds K.stale K.clock K.leaves moment
+        (Delivers (drop start (held.old ++ last.now))) keep.old
         (outside (O.taken out.old) (K.faults keep.old) (O.faults out.old))
         (is_ok result) keep.new
         (outside (O.taken out.new) (K.faults keep.new) (O.faults out.new)) }
@@ -130,7 +132,8 @@ fn say_message<K: Keep, O: Sink>(
     out: &mut O,
 ) -> Result<(), SinkFault>
     requires { K.stale keep.old ≡ false }
-    ensures acts { (moment : ℕ) → Answers K.holds K.stale K.clock K.leaves moment (Shows number) keep.old
+    ensures acts { (moment : ℕ)
+        → Answers K.holds K.stale K.clock K.leaves moment (Shows number) keep.old
         (outside (O.taken out.old) (K.faults keep.old) (O.faults out.old))
         (is_ok result) keep.new
         (outside (O.taken out.new) (K.faults keep.new) (O.faults out.new)) }

@@ -40,7 +40,8 @@ pub(crate) fn epochs_of<K: Keep>(alloc: Global, keep: &mut K) -> Result<Bytes, T
 fn push_epochs<K: Keep>(alloc: Global, keep: &mut K, into: &mut Bytes) -> Result<(), TextRefusal>
     requires ready { K.stale keep.old ≡ false }
     requires empty { into.old ≡ [] }
-    ensures words { (a : Archive) → K.holds keep.old a → PutsBehind (listed_below epoch_count a.entries) [] into.new result }
+    ensures words { (a : Archive) → K.holds keep.old a
+        → PutsBehind (listed_below epoch_count a.entries) [] into.new result }
     ensures same { (a : Archive) → K.holds keep.old a → K.holds keep.new a }
     ensures ready { K.stale keep.new ≡ false }
     ensures cause { RoseIf (result ≡ Err TextRefusal.DiskFault) (K.faults keep.old) (K.faults keep.new) }
@@ -64,7 +65,8 @@ fn push_listed<K: Keep>(
     into: &mut Bytes,
 ) -> Result<(), TextRefusal>
     requires { K.stale keep.old ≡ false }
-    ensures words { (a : Archive) → K.holds keep.old a → PutsBehind (listed epoch (in_epoch a.entries epoch)) into.old into.new result }
+    ensures words { (a : Archive) → K.holds keep.old a
+        → PutsBehind (listed epoch (in_epoch a.entries epoch)) into.old into.new result }
     ensures same { (a : Archive) → K.holds keep.old a → K.holds keep.new a }
     ensures ready { K.stale keep.new ≡ false }
     ensures cause { RoseIf (result ≡ Err TextRefusal.DiskFault) (K.faults keep.old) (K.faults keep.new) }

@@ -8,7 +8,8 @@ use edge_io::{Sink, SinkFault, say, say_line};
 
 /// Writes that a line is not an order.
 pub(crate) fn say_bad<O: Sink>(out: &mut O) -> Result<(), SinkFault>
-    ensures said { Says bad_word (O.taken out.old) (O.faults out.old) (O.taken out.new) (O.faults out.new) result }
+    ensures said { Says bad_word (O.taken out.old) (O.faults out.old) (O.taken out.new)
+        (O.faults out.new) result }
     ensures sink { O.alike out.old out.new }
 {
     say_line(b"13 bad line", out)
@@ -16,7 +17,8 @@ pub(crate) fn say_bad<O: Sink>(out: &mut O) -> Result<(), SinkFault>
 
 /// Writes that a number has no text.
 pub(crate) fn say_not_live<O: Sink>(number: u32, out: &mut O) -> Result<(), SinkFault>
-    ensures said { Says (shown number None) (O.taken out.old) (O.faults out.old) (O.taken out.new) (O.faults out.new) result }
+    ensures said { Says (shown number None) (O.taken out.old) (O.faults out.old) (O.taken out.new)
+        (O.faults out.new) result }
     ensures sink { O.alike out.old out.new }
 {
     say_number(b"7 not live ", u64::from(number), out)
@@ -24,7 +26,8 @@ pub(crate) fn say_not_live<O: Sink>(number: u32, out: &mut O) -> Result<(), Sink
 
 /// Writes a line with the length of a text, and then the text.
 pub(crate) fn say_text<O: Sink>(text: &[u8], out: &mut O) -> Result<(), SinkFault>
-    ensures said { Says (shown 0 (Some text.now)) (O.taken out.old) (O.faults out.old) (O.taken out.new) (O.faults out.new) result }
+    ensures said { Says (shown 0 (Some text.now)) (O.taken out.old) (O.faults out.old)
+        (O.taken out.new) (O.faults out.new) result }
     ensures sink { O.alike out.old out.new }
 {
     say_number(b"text ", text.len() as u64, out)?;

@@ -107,8 +107,10 @@ impl Session {
         ensures fed { (s : Standing) → Fits K.holds K.stale K.clock K.leaves keep.old s →
             (t : Standing) × (opened : Bool) × Fits K.holds K.stale K.clock K.leaves keep.new t
             × Fed (said_of moment) has_request
-            (talk (Some (waiting (self.old ++ piece.now) true)) s (outside (O.taken out.old) (K.faults keep.old) (O.faults out.old)))
-            (talk (held_if (continues result) (waiting self.new opened)) t (outside (O.taken out.new) (K.faults keep.new) (O.faults out.new))) }
+            (talk (Some (waiting (self.old ++ piece.now) true)) s
+            (outside (O.taken out.old) (K.faults keep.old) (O.faults out.old)))
+            (talk (held_if (continues result) (waiting self.new opened)) t
+            (outside (O.taken out.new) (K.faults keep.new) (O.faults out.new))) }
         ensures later { K.faults keep.old ≤ K.faults keep.new }
         ensures sink { O.alike out.old out.new }
     {
@@ -166,7 +168,8 @@ impl Session {
     /// Keeps a piece that doesn't end a request. An empty piece needs no memory.
     fn hold<O: Sink>(&mut self, piece: &[u8], payload: Option<Payload>, out: &mut O) -> Turn
         requires { IsHeld (self.old ++ piece.now) payload }
-        ensures turn { (moment disk : ℕ) (opened : Bool) (s : Standing) → IsTurn moment opened s self.old piece.now
+        ensures turn { (moment disk : ℕ) (opened : Bool) (s : Standing)
+            → IsTurn moment opened s self.old piece.now
             (outside (O.taken out.old) disk (O.faults out.old))
             result s self.new
             (outside (O.taken out.new) disk (O.faults out.new)) }
@@ -216,7 +219,8 @@ impl Session {
     fn line<'a>(&self, len: usize, piece: &'a [u8]) -> Front<'a>
         requires within { len < length piece.now }
         requires short { length self.now + len < line_limit }
-        requires line { front line_limit (self.now ++ piece.now) ≡ Whole (self.now ++ take len piece.now) (drop (len + 1) piece.now) }
+        requires line { front line_limit (self.now ++ piece.now)
+            ≡ Whole (self.now ++ take len piece.now) (drop (len + 1) piece.now) }
         ensures { IsFront self.now piece.now result }
     {
         match line_order(self.held.as_slice(), &piece[..len]) {
@@ -233,7 +237,8 @@ impl Session {
     fn message<'a>(&self, size: u32, len: usize, piece: &'a [u8]) -> Front<'a>
         requires within { len < length piece.now }
         requires short { length self.now + len < line_limit }
-        requires line { front line_limit (self.now ++ piece.now) ≡ Whole (self.now ++ take len piece.now) (drop (len + 1) piece.now) }
+        requires line { front line_limit (self.now ++ piece.now)
+            ≡ Whole (self.now ++ take len piece.now) (drop (len + 1) piece.now) }
         requires order { order_of (content (self.now ++ take len piece.now)) ≡ Order.Deliver size }
         ensures { IsFront self.now piece.now result }
     {

@@ -15,7 +15,8 @@ pub record TrimmedTo (n : ℕ) (old new : Kept) : Type 0 where
 -- What a crash leaves during the cut of one file.
 pub record IsCutting (part : FilePart) (k : Content) (image : Files) : Type 0 where
   pub here : Fits (cut_sure part.length (k part.file).sure) (image part.file)
-  pub alone : length (bytes_of (k part.file).seen) ≤ part.length → Fits (k part.file).sure (image part.file)
+  pub alone : length (bytes_of (k part.file).seen) ≤ part.length
+      → Fits (k part.file).sure (image part.file)
   pub elsewhere : (other : FileName) → other ≢ part.file → Fits (k other).sure (image other)
 
 -- The same, if the disk tells its content.
@@ -25,13 +26,15 @@ Cutting part (Some k) image = IsCutting part k image
 
 -- No listed part is shorter than this file: the file isn't listed, or isn't longer than its parts.
 abbrev pub IsLeftAlone : List FilePart → Content → FileName → Type 0
-IsLeftAlone parts k name = (part : FilePart) → Contains parts part → part.file ≡ name → length (bytes_of (k name).seen) ≤ part.length
+IsLeftAlone parts k name = (part : FilePart) → Contains parts part → part.file ≡ name
+    → length (bytes_of (k name).seen) ≤ part.length
 
 -- A listed part such that no shorter one is listed for its file. Every part is one if no file is
 -- listed twice.
 pub record IsShortest (parts : List FilePart) (part : FilePart) : Type 0 where
   pub listed : Contains parts part
-  pub least : (other : FilePart) → Contains parts other → other.file ≡ part.file → part.length ≤ other.length
+  pub least : (other : FilePart) → Contains parts other → other.file ≡ part.file
+      → part.length ≤ other.length
 
 -- What a crash leaves while files are cut. A crash may undo a cut in part: it may leave any length
 -- from the lesser of the part's length and the least before, up to the greatest before. So no
@@ -40,7 +43,8 @@ pub record IsShortest (parts : List FilePart) (part : FilePart) : Type 0 where
 -- this one has it too.
 pub record KeepsFronts (parts : List FilePart) (k : Content) (image : Files) : Type 0 where
   -- The part is that of a file from before.
-  pub fronts : (part : FilePart) → IsShortest parts part → FrontOrigin part.length (k part.file).sure (image part.file)
+  pub fronts : (part : FilePart) → IsShortest parts part
+      → FrontOrigin part.length (k part.file).sure (image part.file)
   -- No file is lost.
   pub there : (name : FileName) → image name ≡ None → Fits (k name).sure None
   -- All other files are as before.
@@ -53,7 +57,8 @@ HasFronts parts (Some k) image = KeepsFronts parts k image
 
 -- Each of these files is cut to its part, and the others are as they were.
 pub record AreCut (parts : List FilePart) (old new : Content) : Type 0 where
-  pub listed : (part : FilePart) → IsShortest parts part → CutTo part.length (old part.file) (new part.file)
+  pub listed : (part : FilePart) → IsShortest parts part
+      → CutTo part.length (old part.file) (new part.file)
   pub others : (name : FileName) → IsLeftAlone parts old name → new name ≡ old name
 
 -- A file that starts with this text.
@@ -63,7 +68,8 @@ pub record BeginsWith (text : List ℕ) (file : File) : Type 0 where
 
 -- If all files from before start with a text, so does one that has the prefix of such a file.
 abbrev pub FrontsStay : Type 0
-FrontsStay = (text : List ℕ) (s : Sure) (image : File) → ((file : File) → Fits s file → BeginsWith text file) → FrontOrigin (length text) s image → BeginsWith text image
+FrontsStay = (text : List ℕ) (s : Sure) (image : File) → ((file : File) → Fits s file
+    → BeginsWith text file) → FrontOrigin (length text) s image → BeginsWith text image
 
 -- The law holds.
 pub begins_still : FrontsStay

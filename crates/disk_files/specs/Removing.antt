@@ -6,7 +6,8 @@ use Rattle.disk_model.specs.declared.name.FileName.{FileName}
 
 -- Some of these files are missing, and all others are as before.
 pub record IsFewer (names : List FileName) (k : Content) (image : Files) : Type 0 where
-  pub listed : (name : FileName) → Contains names name → (image name ≡ None) ⊎ Fits (k name).sure (image name)
+  pub listed : (name : FileName) → Contains names name → (image name ≡ None)
+      ⊎ Fits (k name).sure (image name)
   pub others : (name : FileName) → (Contains names name → ⊥) → Fits (k name).sure (image name)
 
 -- The same, if the disk tells its content.

@@ -17,8 +17,10 @@ pub struct FilePart {
 
 /// Cuts a file to its part if it is longer, and otherwise leaves it alone.
 fn trim<D: Disk>(disk: &mut D, part: FilePart) -> Result<(), DiskFault>
-    ensures any_moment { LeavesOnly D.moment D.left_since disk.old disk.new (Cutting part (D.content disk.old)) }
-    ensures done { OnOk result (Told (OneFile part.file (TrimmedTo part.length)) (D.content disk.old) (D.content disk.new)) }
+    ensures any_moment { LeavesOnly D.moment D.left_since disk.old disk.new
+        (Cutting part (D.content disk.old)) }
+    ensures done { OnOk result (Told (OneFile part.file (TrimmedTo part.length))
+        (D.content disk.old) (D.content disk.new)) }
     ensures cause { IsCaused (D.faults disk.old) (D.faults disk.new) result }
     ensures count { D.reads disk.new ≡ D.reads disk.old }
 {
@@ -35,7 +37,8 @@ fn trim<D: Disk>(disk: &mut D, part: FilePart) -> Result<(), DiskFault>
 pub fn cut_files<D: Disk>(disk: &mut D, parts: &[FilePart]) -> Result<(), DiskFault>
     // At each moment a crash leaves the part of each file as it might have left it before, and all
     // other files as before.
-    ensures any_moment { LeavesOnly D.moment D.left_since disk.old disk.new (HasFronts parts.now (D.content disk.old)) }
+    ensures any_moment { LeavesOnly D.moment D.left_since disk.old disk.new
+        (HasFronts parts.now (D.content disk.old)) }
     // After `Ok` each file reads as its part, and the others are as they were.
     ensures done { OnOk result (Told (AreCut parts.now) (D.content disk.old) (D.content disk.new)) }
     ensures cause { IsCaused (D.faults disk.old) (D.faults disk.new) result }

@@ -19,7 +19,8 @@ pub type FileNames = Sequence<FileName>;
 pub fn file_names<D: Disk>(alloc: Global, disk: &mut D) -> Result<FileNames, WalkRefusal>
     ensures names { IfOk result (λ names. WhereTold (AreAllNames names) (D.content disk.old)) }
     ensures same { Told Unchanged (D.content disk.old) (D.content disk.new) }
-    ensures any_moment { LeavesOnly D.moment D.left_since disk.old disk.new (Image (D.content disk.old)) }
+    ensures any_moment { LeavesOnly D.moment D.left_since disk.old disk.new
+        (Image (D.content disk.old)) }
     ensures cause { RoseIf (result ≡ Err WalkRefusal.DiskFault) (D.faults disk.old) (D.faults disk.new) }
     ensures never_damaged { (place : ℕ) → result ≢ Err (WalkRefusal.Damaged place) }
     ensures count { D.reads disk.new ≡ D.reads disk.old }

@@ -9,9 +9,11 @@ use disk_model::{Disk, DiskFault, FileName};
 /// Removes files, in order. A missing file stays missing.
 pub fn remove_files<D: Disk>(disk: &mut D, names: &[FileName]) -> Result<(), DiskFault>
     // At each moment a crash leaves each of them as before or not at all, and all others as before.
-    ensures any_moment { LeavesOnly D.moment D.left_since disk.old disk.new (Fewer names.now (D.content disk.old)) }
+    ensures any_moment { LeavesOnly D.moment D.left_since disk.old disk.new
+        (Fewer names.now (D.content disk.old)) }
     // After `Ok` none of them is there, and the others are as they were.
-    ensures done { OnOk result (Told (AreRemoved names.now) (D.content disk.old) (D.content disk.new)) }
+    ensures done { OnOk result
+        (Told (AreRemoved names.now) (D.content disk.old) (D.content disk.new)) }
     ensures cause { IsCaused (D.faults disk.old) (D.faults disk.new) result }
     ensures count { D.reads disk.new ≡ D.reads disk.old }
 {

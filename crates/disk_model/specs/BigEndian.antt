@@ -24,29 +24,47 @@ unfolding be64
 be64_length n = refl
 
 -- The first n bytes are the prefix of that length.
-pub front_is : (n : ℕ) (bytes front rest : List ℕ) → length front ≡ n → bytes ≡ front ++ rest → take n bytes ≡ front
-front_is n bytes front rest size is = ap (λ (b : List ℕ). take n b) is ∙ (ap (λ (m : ℕ). take m (front ++ rest)) (sym size) ∙ take-append_seam front rest)
+pub front_is : (n : ℕ) (bytes front rest : List ℕ) → length front ≡ n → bytes ≡ front ++ rest
+    → take n bytes ≡ front
+front_is n bytes front rest size is = ap (λ (b : List ℕ). take n b) is
+    ∙ (ap (λ (m : ℕ). take m (front ++ rest)) (sym size) ∙ take-append_seam front rest)
 
 -- The bytes after the first n are the rest.
-pub rest_is : (n : ℕ) (bytes front rest : List ℕ) → length front ≡ n → bytes ≡ front ++ rest → drop n bytes ≡ rest
-rest_is n bytes front rest size is = ap (λ (b : List ℕ). drop n b) is ∙ (ap (λ (m : ℕ). drop m (front ++ rest)) (sym size) ∙ drop-append_seam front rest)
+pub rest_is : (n : ℕ) (bytes front rest : List ℕ) → length front ≡ n → bytes ≡ front ++ rest
+    → drop n bytes ≡ rest
+rest_is n bytes front rest size is = ap (λ (b : List ℕ). drop n b) is
+    ∙ (ap (λ (m : ℕ). drop m (front ++ rest)) (sym size) ∙ drop-append_seam front rest)
 
 -- A number of 64 bits is read back.
-pub read64 : (bytes rest : List ℕ) (n : ℕ) → n < 2 ^ 64 → bytes ≡ be64 n ++ rest → from_be_bytes w64 (take 8 bytes) ≡ n
+pub read64 : (bytes rest : List ℕ) (n : ℕ) → n < 2 ^ 64 → bytes ≡ be64 n ++ rest
+    → from_be_bytes w64 (take 8 bytes) ≡ n
 unfolding be64
-read64 bytes rest n fits is = ap (from_be_bytes w64) (front_is 8 bytes (be64 n) rest (be64_length n) is) ∙ from_be_bytes-to_be_bytes_8 n fits
+read64 bytes rest n fits is = ap (from_be_bytes w64)
+    (front_is 8 bytes (be64 n) rest (be64_length n) is) ∙ from_be_bytes-to_be_bytes_8 n fits
 
 -- A number of 32 bits is read back.
-pub read32 : (bytes rest : List ℕ) (n : ℕ) → n < 2 ^ 32 → bytes ≡ be32 n ++ rest → from_be_bytes w32 (take 4 bytes) ≡ n
+pub read32 : (bytes rest : List ℕ) (n : ℕ) → n < 2 ^ 32 → bytes ≡ be32 n ++ rest
+    → from_be_bytes w32 (take 4 bytes) ≡ n
 unfolding be32
-read32 bytes rest n fits is = ap (from_be_bytes w32) (front_is 4 bytes (be32 n) rest (be32_length n) is) ∙ from_be_bytes-to_be_bytes_4 n fits
+read32 bytes rest n fits is = ap (from_be_bytes w32)
+    (front_is 4 bytes (be32 n) rest (be32_length n) is) ∙ from_be_bytes-to_be_bytes_4 n fits
 
 -- Equal bytes that start with two numbers of 64 bits have equal numbers and equal rests.
-pub apart64 : (m n : ℕ) (x y : List ℕ) → m < 2 ^ 64 → n < 2 ^ 64 → be64 m ++ x ≡ be64 n ++ y → (m ≡ n) × (x ≡ y)
-apart64 m n x y a b is =
-    (sym (read64 (be64 m ++ x) x m a refl) ∙ read64 (be64 m ++ x) y n b is, sym (rest_is 8 (be64 m ++ x) (be64 m) x (be64_length m) refl) ∙ rest_is 8 (be64 m ++ x) (be64 n) y (be64_length n) is)
+pub apart64 : (m n : ℕ) (x y : List ℕ) → m < 2 ^ 64 → n < 2 ^ 64 → be64 m ++ x ≡ be64 n ++ y
+    → (m ≡ n) × (x ≡ y)
+apart64 m n x y a b is = (
+  sym (read64 (be64 m ++ x) x m a refl) ∙ read64 (be64 m ++ x) y n b is,
+  sym
+      (rest_is 8 (be64 m ++ x) (be64 m) x (be64_length m) refl)
+      ∙ rest_is 8 (be64 m ++ x) (be64 n) y (be64_length n) is,
+)
 
 -- Equal bytes that start with two numbers of 32 bits have equal numbers and equal rests.
-pub apart32 : (m n : ℕ) (x y : List ℕ) → m < 2 ^ 32 → n < 2 ^ 32 → be32 m ++ x ≡ be32 n ++ y → (m ≡ n) × (x ≡ y)
-apart32 m n x y a b is =
-    (sym (read32 (be32 m ++ x) x m a refl) ∙ read32 (be32 m ++ x) y n b is, sym (rest_is 4 (be32 m ++ x) (be32 m) x (be32_length m) refl) ∙ rest_is 4 (be32 m ++ x) (be32 n) y (be32_length n) is)
+pub apart32 : (m n : ℕ) (x y : List ℕ) → m < 2 ^ 32 → n < 2 ^ 32 → be32 m ++ x ≡ be32 n ++ y
+    → (m ≡ n) × (x ≡ y)
+apart32 m n x y a b is = (
+  sym (read32 (be32 m ++ x) x m a refl) ∙ read32 (be32 m ++ x) y n b is,
+  sym
+      (rest_is 4 (be32 m ++ x) (be32 m) x (be32_length m) refl)
+      ∙ rest_is 4 (be32 m ++ x) (be32 n) y (be32_length n) is,
+)

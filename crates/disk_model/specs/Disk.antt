@@ -54,7 +54,14 @@ Fits s (Some bytes) = Holds s bytes
 -- What a crash may leave of a file that is on the disk as it reads: this file and no other.
 abbrev pub exact : File → Sure
 exact None = record { there = false; gone = true; least = 0; greatest = 0; written = []; bytes = [] }
-exact (Some bytes) = record { there = true; gone = false; least = length bytes; greatest = length bytes; written = []; bytes = bytes }
+exact (Some bytes) = record {
+  there = true;
+  gone = false;
+  least = length bytes;
+  greatest = length bytes;
+  written = [];
+  bytes = bytes;
+}
 
 -- The least length before a write, which is 0 if the write creates the file.
 abbrev pub least_made : File → Sure → ℕ
@@ -63,15 +70,36 @@ least_made (Some bytes) s = s.least
 
 -- What a crash may leave after a write of n bytes to a file that read so.
 abbrev pub write_sure : ℕ → ℕ → File → Sure → Sure
-write_sure at n seen s = record { there = true; gone = s.gone; least = least_made seen s; greatest = max s.greatest (at + n); written = (at, n) ∷ s.written; bytes = s.bytes }
+write_sure at n seen s = record {
+  there = true;
+  gone = s.gone;
+  least = least_made seen s;
+  greatest = max s.greatest (at + n);
+  written = (at, n) ∷ s.written;
+  bytes = s.bytes;
+}
 
 -- What a crash may leave after a cut to n bytes.
 abbrev pub cut_sure : ℕ → Sure → Sure
-cut_sure n s = record { there = s.there; gone = s.gone; least = min s.least n; greatest = s.greatest; written = s.written; bytes = s.bytes }
+cut_sure n s = record {
+  there = s.there;
+  gone = s.gone;
+  least = min s.least n;
+  greatest = s.greatest;
+  written = s.written;
+  bytes = s.bytes;
+}
 
 -- What a crash may leave after a removal.
 abbrev pub remove_sure : Sure → Sure
-remove_sure s = record { there = s.there; gone = true; least = s.least; greatest = s.greatest; written = s.written; bytes = s.bytes }
+remove_sure s = record {
+  there = s.there;
+  gone = true;
+  least = s.least;
+  greatest = s.greatest;
+  written = s.written;
+  bytes = s.bytes;
+}
 
 -- The first allows no more files than the second, and the same calls keep it so.
 pub record Within (s t : Sure) : Type 0 where
@@ -79,7 +107,8 @@ pub record Within (s t : Sure) : Type 0 where
   pub gone : s.gone ≡ true → t.gone ≡ true
   pub least : t.least ≤ s.least
   pub greatest : s.greatest ≤ t.greatest
-  pub outside : (i : ℕ) → i < t.least → Outside t.written i → Outside s.written i × (get_or s.bytes i 0 ≡ get_or t.bytes i 0)
+  pub outside : (i : ℕ) → i < t.least → Outside t.written i → Outside s.written i
+      × (get_or s.bytes i 0 ≡ get_or t.bytes i 0)
 
 -- A file as it reads, and what a crash may leave of it.
 pub record Kept : Type 0 where
@@ -169,7 +198,8 @@ pub record NotSynced (old new : Content) : Type 0 where
 
 -- The n bytes of a file from an offset on are copied to the front of a buffer, as many as fit and
 -- as there are.
-pub record HasRead (name : FileName) (place n : ℕ) (before after : List ℕ) (k : Content) : Type 0 where
+pub record HasRead (name : FileName) (place n : ℕ) (before after : List ℕ) (k : Content)
+    : Type 0 where
   pub count : n ≡ min (length before) (length (bytes_of (k name).seen) - place)
   pub bytes : after ≡ take n (drop place (bytes_of (k name).seen)) ++ drop n before
 
@@ -190,18 +220,23 @@ pub record IsNameAt (index : ℕ) (name : Option FileName) (k : Content) : Type 
 
 -- Time advances over a call: a crash at some moment since t may have left what it might have left
 -- before the call, or what it may leave now, and nothing that it might have left is lost.
-pub record Elapses (before now : ℕ) (past since : ℕ → Files → Type 0) (content : Option Content) : Type 0 where
+pub record Elapses (before now : ℕ) (past since : ℕ → Files → Type 0) (content : Option Content)
+    : Type 0 where
   pub later : before ≤ now
-  pub nothing_else : (t : ℕ) (image : Files) → t ≤ before → since t image → past t image ⊎ Image content image
+  pub nothing_else : (t : ℕ) (image : Files) → t ≤ before → since t image → past t image
+      ⊎ Image content image
   pub keeps : (t : ℕ) (image : Files) → t ≤ before → past t image → since t image
 
 -- A crash at any moment since the first state leaves files that have a property.
-pub record LeavesOnly {D : Type 0} (moment : D → ℕ) (left_since : D → ℕ → Files → Type 0) (old new : D) (P : Files → Type 0) : Type 0 where
+pub record LeavesOnly {D : Type 0} (moment : D → ℕ) (left_since : D → ℕ → Files → Type 0)
+    (old new : D) (P : Files → Type 0) : Type 0 where
   pub later : moment old ≤ moment new
   pub each : (image : Files) → left_since new (moment old) image → P image
   -- For a run that began earlier: an image is one of those before this run, or has the property.
-  pub before : (t : ℕ) (image : Files) → t ≤ moment old → left_since new t image → left_since old t image ⊎ P image
+  pub before : (t : ℕ) (image : Files) → t ≤ moment old → left_since new t image
+      → left_since old t image ⊎ P image
 
 -- The files as they read are one of the images.
 abbrev pub ReadsFit : Option Content → Type 0
-ReadsFit content = (k : Content) → content ≡ Some k → (name : FileName) → Fits (k name).sure (k name).seen
+ReadsFit content = (k : Content) → content ≡ Some k → (name : FileName)
+    → Fits (k name).sure (k name).seen

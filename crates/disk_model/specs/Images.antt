@@ -16,7 +16,9 @@ use Rattle.disk_model.specs.Disk.{File, Files, Content, Image, Fits}
 
 -- The order of names is total.
 pub names_total : IsTotalOrder name_cmp
-names_total = then_total (on_total (λ (n : FileName). kind_place n.kind) nat_cmp_total) (then_total (on_total (λ (n : FileName). n.number) nat_cmp_total) (on_total (λ (n : FileName). n.gen_) nat_cmp_total))
+names_total = then_total (on_total (λ (n : FileName). kind_place n.kind) nat_cmp_total)
+    (then_total (on_total (λ (n : FileName). n.number) nat_cmp_total)
+    (on_total (λ (n : FileName). n.gen_) nat_cmp_total))
 
 -- Kinds with equal indices are equal.
 pub exact_kinds : (a b : FileKind) → nat_cmp (kind_place a) (kind_place b) ≡ Equal → a ≡ b
@@ -50,26 +52,31 @@ false_from_not false isnt = refl
 
 -- A name is not found at another one.
 pub at_other : (name other : FileName) → other ≢ name → is_at (name_cmp name) other ≡ false
-at_other name other apart = false_from_not (is_at (name_cmp name) other) (λ e. apart (same_name name other e))
+at_other name other apart =
+    false_from_not (is_at (name_cmp name) other) (λ e. apart (same_name name other e))
 
 -- A name is this one or another.
 pub same_or_other : (name other : FileName) → (other ≡ name) ⊎ (other ≢ name)
 same_or_other name other = same_or_not (is_at (name_cmp name) other) refl where
   same_or_not : (b : Bool) → is_at (name_cmp name) other ≡ b → (other ≡ name) ⊎ (other ≢ name)
   same_or_not true e = inl (same_name name other e)
-  same_or_not false e = inr (λ same. let back : is_at (name_cmp name) other ≡ true = rw same (at_itself name) in cc)
+  same_or_not false e =
+      inr (λ same. let back : is_at (name_cmp name) other ≡ true = rw same (at_itself name) in cc)
 
 -- An image with one file replaced.
 abbrev pub with_file : Files → FileName → File → Files
 with_file image name file other = cond (is_at (name_cmp name) other) file (image other)
 
 -- An image with one file replaced has that file.
-pub with_file-here : (image : Files) (name : FileName) (file : File) → with_file image name file name ≡ file
+pub with_file-here : (image : Files) (name : FileName) (file : File)
+    → with_file image name file name ≡ file
 with_file-here image name file = rw (at_itself name) refl
 
 -- The files of an image are independent: one can be replaced by any other that a crash may leave.
-pub Image-with_file : (k : Content) (image : Files) (name : FileName) (file : File) → Image (Some k) image → Fits (k name).sure file → Image (Some k) (with_file image name file)
+pub Image-with_file : (k : Content) (image : Files) (name : FileName) (file : File)
+    → Image (Some k) image → Fits (k name).sure file → Image (Some k) (with_file image name file)
 Image-with_file k image name file left fits other = cases (is_at (name_cmp name) other) refl where
-  cases : (b : Bool) → is_at (name_cmp name) other ≡ b → Fits (k other).sure (cond b file (image other))
+  cases : (b : Bool) → is_at (name_cmp name) other ≡ b
+      → Fits (k other).sure (cond b file (image other))
   cases true e = rw (same_name name other e) fits
   cases false e = left other

@@ -11,7 +11,8 @@ use Rattle.disk_model.specs.declared.name.FileName.{FileName}
 use Rattle.disk_model.specs.Disk.{File, Files, Sure, Holds, Fits, exact, write_sure, cut_sure, remove_sure, Within, Kept, Content, Image, Told, WhereTold, Unchanged, bytes_of, overlay, Synced, NotSynced, ReadsFit, IsLength, IsAtMostLength}
 
 -- The content that a disk tells after a call, if it told one before.
-pub record After (P : Content → Content → Type 0) (old : Content) (new : Option Content) : Type 0 where
+pub record After (P : Content → Content → Type 0) (old : Content) (new : Option Content)
+    : Type 0 where
   pub content : Content
   pub told : new ≡ Some content
   pub holds : P old content
@@ -57,7 +58,13 @@ Fits-Within s t (Some bytes) w fits = record {
 
 -- `Within` is reflexive.
 pub Within-refl : (s : Sure) → Within s s
-Within-refl s = record { there = λ e. e; gone = λ e. e; least = omega arith; greatest = omega arith; outside = λ i below out. (out, refl) }
+Within-refl s = record {
+  there = λ e. e;
+  gone = λ e. e;
+  least = omega arith;
+  greatest = omega arith;
+  outside = λ i below out. (out, refl);
+}
 
 -- `Within` is transitive.
 pub Within-trans : (s t u : Sure) → Within s t → Within t u → Within s u
@@ -74,7 +81,8 @@ Within-trans s t u p q = record {
 }
 
 -- A write preserves `Within`.
-pub write_within : (at n : ℕ) (seen : File) (s t : Sure) → Within s t → Within (write_sure at n seen s) (write_sure at n seen t)
+pub write_within : (at n : ℕ) (seen : File) (s t : Sure) → Within s t
+    → Within (write_sure at n seen s) (write_sure at n seen t)
 write_within at n None s t w = record {
   there = λ e. refl;
   gone = w.gone;
@@ -97,25 +105,56 @@ cut_within n s t w = record {
   gone = w.gone;
   least = let l = w.least in omega arith;
   greatest = w.greatest;
-  outside = λ i below out. let shorter : i < t.least = omega (arith, below) in w.outside i shorter out;
+  outside = λ i below out. let shorter : i < t.least = omega (arith, below) in
+      w.outside i shorter out;
 }
 
 -- A removal preserves `Within`.
 pub remove_within : (s t : Sure) → Within s t → Within (remove_sure s) (remove_sure t)
-remove_within s t w = record { there = w.there; gone = λ e. refl; least = w.least; greatest = w.greatest; outside = w.outside }
+remove_within s t w = record {
+  there = w.there;
+  gone = λ e. refl;
+  least = w.least;
+  greatest = w.greatest;
+  outside = w.outside;
+}
 
 -- A write that failed may have done nothing.
 pub write_wider : (at n : ℕ) (seen : File) (s : Sure) → Within s (write_sure at n seen s)
-write_wider at n None s = record { there = λ e. refl; gone = λ e. e; least = omega arith; greatest = omega arith; outside = λ i below out. absurd (omega (arith, below)) }
-write_wider at n (Some bytes) s = record { there = λ e. refl; gone = λ e. e; least = omega arith; greatest = omega arith; outside = λ i below out. (out.1, refl) }
+write_wider at n None s = record {
+  there = λ e. refl;
+  gone = λ e. e;
+  least = omega arith;
+  greatest = omega arith;
+  outside = λ i below out. absurd (omega (arith, below));
+}
+write_wider at n (Some bytes) s = record {
+  there = λ e. refl;
+  gone = λ e. e;
+  least = omega arith;
+  greatest = omega arith;
+  outside = λ i below out. (out.1, refl);
+}
 
 -- A cut that failed may have done nothing.
 pub cut_wider : (n : ℕ) (s : Sure) → Within s (cut_sure n s)
-cut_wider n s = record { there = λ e. e; gone = λ e. e; least = omega arith; greatest = omega arith; outside = λ i below out. (out, refl) }
+cut_wider n s = record {
+  there = λ e. e;
+  gone = λ e. e;
+  least = omega arith;
+  greatest = omega arith;
+  outside = λ i below out. (out, refl);
+}
 
 -- A removal that failed may have done nothing.
 pub remove_wider : (s : Sure) → Within s (remove_sure s)
-remove_wider s = record { there = λ e. e; gone = λ e. refl; least = omega arith; greatest = omega arith; outside = λ i below out. (out, refl) }
+remove_wider s = record {
+  there = λ e. e;
+  gone = λ e. refl;
+  least = omega arith;
+  greatest = omega arith;
+  outside = λ i below out. (out, refl);
+}
 
 -- A failed sync may change nothing.
 pub NotSynced-same : (content : Option Content) → ReadsFit content → Told NotSynced content content
@@ -123,9 +162,16 @@ NotSynced-same None fit = tt
 NotSynced-same (Some k) fit = record { seen = fit k refl; crash = λ name. Within-refl (k name).sure }
 
 -- A disk that told its content before a call tells one after it.
-pub told_after : (P : Content → Content → Type 0) (old new : Option Content) (k : Content) → old ≡ Some k → Told P old new → After P k new
-told_after P old None k is told = let bad : Told P (Some k) None = subst (λ (o : Option Content). Told P o None) is told in absurd bad
-told_after P old (Some m) k is told = record { content = m; told = refl; holds = subst (λ (o : Option Content). Told P o (Some m)) is told }
+pub told_after : (P : Content → Content → Type 0) (old new : Option Content) (k : Content)
+    → old ≡ Some k → Told P old new → After P k new
+told_after P old None k is told =
+    let bad : Told P (Some k) None = subst (λ (o : Option Content). Told P o None) is told in
+    absurd bad
+told_after P old (Some m) k is told = record {
+  content = m;
+  told = refl;
+  holds = subst (λ (o : Option Content). Told P o (Some m)) is told;
+}
 
 -- A file that is on the disk as it reads has one image, itself.
 pub Fits-exact : (seen image : File) → Fits (exact seen) image → image ≡ seen
@@ -136,12 +182,18 @@ Fits-exact (Some seen) (Some bytes) fits =
     let short = fits.no_shorter in
     let long = fits.no_longer in
     let size : length bytes ≡ length seen = omega arith in
-    ap (λ (b : List ℕ). Some b) (same_number_lists bytes seen size (λ i below. fits.outside i (omega (arith, size, below)) tt))
+    ap (λ (b : List ℕ). Some b) (same_number_lists bytes seen size (λ i below.
+    fits.outside i (omega (arith, size, below)) tt))
 
 -- A file that is on the disk as it reads is an image of itself.
 pub exact-fits : (seen : File) → Fits (exact seen) seen
 exact-fits None = refl
-exact-fits (Some seen) = record { there = refl; no_shorter = omega arith; no_longer = omega arith; outside = λ i below out. refl }
+exact-fits (Some seen) = record {
+  there = refl;
+  no_shorter = omega arith;
+  no_longer = omega arith;
+  outside = λ i below out. refl;
+}
 
 -- Whether an offset is in a range.
 abbrev pub is_in : ℕ → ℕ → ℕ → Bool
@@ -158,23 +210,35 @@ chosen_out at n i a b (inr high) = grind (arith, nat_tests)
 
 -- An offset is in a range or outside it.
 pub in_or_out : (at n i : ℕ) → ((at ≤ i) × (i < at + n)) ⊎ ((i < at) ⊎ (at + n ≤ i))
-in_or_out at n i = elim (cases_lt i at) [ inl low ↦ inr (inl low) | inr above ↦ elim (cases_lt i (at + n)) [ inl below ↦ inl (above, below) | inr high ↦ inr (inr high) ] ]
+in_or_out at n i = elim (cases_lt i at) [
+  | inl low ↦ inr (inl low)
+  | inr above ↦ elim (cases_lt i
+      (at + n)) [ inl below ↦ inl (above, below) | inr high ↦ inr (inr high) ]
+]
 
 -- Bytes from before a write: those of the last sync in its range, and elsewhere those from after
 -- it.
 abbrev pub unwritten : ℕ → ℕ → Sure → List ℕ → List ℕ
-unwritten at n s bytes = map (λ i. cond (is_in at n i) (get_or s.bytes i 0) (get_or bytes i 0)) (range_with_len 0 (min (length bytes) s.greatest))
+unwritten at n s bytes = map (λ i. cond (is_in at n i) (get_or s.bytes i 0) (get_or bytes i 0))
+    (range_with_len 0 (min (length bytes) s.greatest))
 
 -- The length of these bytes.
-pub unwritten_length : (at n : ℕ) (s : Sure) (bytes : List ℕ) → length (unwritten at n s bytes) ≡ min (length bytes) s.greatest
-unwritten_length at n s bytes = length-map-range_with_len (λ i. cond (is_in at n i) (get_or s.bytes i 0) (get_or bytes i 0)) 0 (min (length bytes) s.greatest)
+pub unwritten_length : (at n : ℕ) (s : Sure) (bytes : List ℕ)
+    → length (unwritten at n s bytes) ≡ min (length bytes) s.greatest
+unwritten_length at n s bytes = length-map-range_with_len (λ i. cond (is_in at n i)
+    (get_or s.bytes i 0) (get_or bytes i 0)) 0 (min (length bytes) s.greatest)
 
 -- The byte at an offset.
-pub unwritten_at : (at n : ℕ) (s : Sure) (bytes : List ℕ) (i : ℕ) → i < min (length bytes) s.greatest → get_or (unwritten at n s bytes) i 0 ≡ cond (is_in at n i) (get_or s.bytes i 0) (get_or bytes i 0)
-unwritten_at at n s bytes i below = get_or-map-range_with_len (λ i. cond (is_in at n i) (get_or s.bytes i 0) (get_or bytes i 0)) 0 (min (length bytes) s.greatest) i i 0 below (omega arith)
+pub unwritten_at : (at n : ℕ) (s : Sure) (bytes : List ℕ) (i : ℕ)
+    → i < min (length bytes) s.greatest → get_or (unwritten at n s bytes) i 0
+    ≡ cond (is_in at n i) (get_or s.bytes i 0) (get_or bytes i 0)
+unwritten_at at n s bytes i below =
+    get_or-map-range_with_len (λ i. cond (is_in at n i) (get_or s.bytes i 0) (get_or bytes i 0)) 0
+    (min (length bytes) s.greatest) i i 0 below (omega arith)
 
 -- A crash before the write might have left these bytes.
-pub unwritten_fits : (at n : ℕ) (s : Sure) (seen bytes : List ℕ) → Holds s seen → Holds (write_sure at n (Some seen) s) bytes → Holds s (unwritten at n s bytes)
+pub unwritten_fits : (at n : ℕ) (s : Sure) (seen bytes : List ℕ) → Holds s seen
+    → Holds (write_sure at n (Some seen) s) bytes → Holds s (unwritten at n s bytes)
 unwritten_fits at n s seen bytes h w =
     let size = unwritten_length at n s bytes in
     let least = w.no_shorter in
@@ -194,7 +258,8 @@ unwritten_fits at n s seen bytes h w =
     }
 
 -- Each file after a write inside it is a file from before, with other bytes in the range.
-pub write_origin : (at n : ℕ) (s : Sure) (seen : List ℕ) (image : File) → Holds s seen → at + n ≤ length seen → Fits (write_sure at n (Some seen) s) image → Origin at n s image
+pub write_origin : (at n : ℕ) (s : Sure) (seen : List ℕ) (image : File) → Holds s seen
+    → at + n ≤ length seen → Fits (write_sure at n (Some seen) s) image → Origin at n s image
 write_origin at n s seen None h inside fits = record { file = None; fits = fits; torn = tt }
 write_origin at n s seen (Some bytes) h inside fits =
     let size = unwritten_length at n s bytes in
@@ -208,16 +273,20 @@ write_origin at n s seen (Some bytes) h inside fits =
         size = same;
         bytes = λ i apart.
             elim (cases_lt i (length bytes)) [
-              | inl below ↦ sym (unwritten_at at n s bytes i (omega (arith, size, same, below)) ∙ chosen_out at n i _ _ apart)
-              | inr past ↦ get_or_past bytes i 0 past ∙ sym (get_or_past (unwritten at n s bytes) i 0 (omega (arith, same, past)))
+              | inl below ↦ sym (unwritten_at at n s bytes i (omega (arith, size, same, below))
+                  ∙ chosen_out at n i _ _ apart)
+              | inr past ↦ get_or_past bytes i 0 past
+                  ∙ sym (get_or_past (unwritten at n s bytes) i 0 (omega (arith, same, past)))
             ];
       };
     }
 
 -- Each file after a write at an offset or after it starts with the same bytes as a file from
 -- before.
-pub write_front : (at n : ℕ) (s : Sure) (seen image : File) → Fits s seen → at ≤ length (bytes_of seen) → Fits (write_sure at n seen s) image → FrontOrigin at s image
-write_front at n s seen None h behind fits = record { file = None; fits = fits; same = refl; long = λ l. l }
+pub write_front : (at n : ℕ) (s : Sure) (seen image : File) → Fits s seen
+    → at ≤ length (bytes_of seen) → Fits (write_sure at n seen s) image → FrontOrigin at s image
+write_front at n s seen None h behind fits =
+    record { file = None; fits = fits; same = refl; long = λ l. l }
 write_front at n s None (Some bytes) h behind fits =
     let empty : at ≡ 0 = omega arith in
     record { file = None; fits = h; same = rw empty refl; long = λ l. omega (arith, behind) }
@@ -227,47 +296,63 @@ write_front at n s (Some seen) (Some bytes) h behind fits =
     record {
       file = Some (unwritten at n s bytes);
       fits = unwritten_fits at n s seen bytes h fits;
-      same = same_number_lists (take at bytes) (take at (unwritten at n s bytes)) (omega (arith, size, behind, high, length-take {A = ℕ}))
+      same = same_number_lists (take at bytes) (take at (unwritten at n s bytes))
+          (omega (arith, size, behind, high, length-take {A = ℕ}))
           (λ i below.
           let front : i < at = omega (arith, below, length-take {A = ℕ}) in
           let there : i < length bytes = omega (arith, below, length-take {A = ℕ}) in
           let held : i < min (length bytes) s.greatest = omega (arith, front, there, behind, high) in
-          get_or-take at bytes i 0 front ∙ sym (get_or-take at (unwritten at n s bytes) i 0 front ∙ (unwritten_at at n s bytes i held ∙ chosen_out at n i _ _ (inl front))));
+          get_or-take at bytes i 0 front ∙ sym (get_or-take at (unwritten at n s bytes) i 0 front
+          ∙ (unwritten_at at n s bytes i held ∙ chosen_out at n i _ _ (inl front))));
       long = λ l. omega (arith, size, l);
     }
 
 -- The length after a write.
-pub overlay_length : (at : ℕ) (bytes old : List ℕ) → length (overlay at bytes old) ≡ min at (length old) + length bytes + (length old - (at + length bytes))
-overlay_length at bytes old = omega (arith, length-append {A = ℕ}, length-take {A = ℕ}, length-drop {A = ℕ})
+pub overlay_length : (at : ℕ) (bytes old : List ℕ) → length (overlay at bytes old)
+    ≡ min at (length old) + length bytes + (length old - (at + length bytes))
+overlay_length at bytes old =
+    omega (arith, length-append {A = ℕ}, length-take {A = ℕ}, length-drop {A = ℕ})
 
 -- A write keeps each byte outside its range.
-pub overlay_kept : (at : ℕ) (bytes old : List ℕ) (i : ℕ) → at ≤ length old → (i < at) ⊎ (at + length bytes ≤ i) → get_or (overlay at bytes old) i 0 ≡ get_or old i 0
+pub overlay_kept : (at : ℕ) (bytes old : List ℕ) (i : ℕ) → at ≤ length old → (i < at)
+    ⊎ (at + length bytes ≤ i) → get_or (overlay at bytes old) i 0 ≡ get_or old i 0
 overlay_kept at bytes old i inside (inl low) = grind (arith, common_steps)
 overlay_kept at bytes old i inside (inr high) = grind (arith, common_steps)
 
 -- A write inside a file keeps the file's length.
-pub overlay-size : (at : ℕ) (bytes old : List ℕ) → at + length bytes ≤ length old → length (overlay at bytes old) ≡ length old
+pub overlay-size : (at : ℕ) (bytes old : List ℕ) → at + length bytes ≤ length old
+    → length (overlay at bytes old) ≡ length old
 overlay-size at bytes old inside = omega (arith, overlay_length at bytes old)
 
 -- A write puts the bytes into its range.
-pub overlay-inside : (at : ℕ) (bytes old : List ℕ) → at ≤ length old → take (length bytes) (drop at (overlay at bytes old)) ≡ bytes
+pub overlay-inside : (at : ℕ) (bytes old : List ℕ) → at ≤ length old
+    → take (length bytes) (drop at (overlay at bytes old)) ≡ bytes
 overlay-inside at bytes old inside = grind (arith, common_steps)
 
 -- A write keeps the bytes before its offset.
-pub overlay-front : (at : ℕ) (bytes old : List ℕ) → at ≤ length old → take at (overlay at bytes old) ≡ take at old
+pub overlay-front : (at : ℕ) (bytes old : List ℕ) → at ≤ length old
+    → take at (overlay at bytes old) ≡ take at old
 overlay-front at bytes old inside = grind (arith, common_steps)
 
 -- A write inside a file changes at most its range.
-pub overlay-torn : (at : ℕ) (bytes old : List ℕ) → at + length bytes ≤ length old → SameOutside at (length bytes) old (overlay at bytes old)
-overlay-torn at bytes old inside = record { size = overlay-size at bytes old inside; bytes = λ i apart. overlay_kept at bytes old i (omega arith) apart }
+pub overlay-torn : (at : ℕ) (bytes old : List ℕ) → at + length bytes ≤ length old
+    → SameOutside at (length bytes) old (overlay at bytes old)
+overlay-torn at bytes old inside = record {
+  size = overlay-size at bytes old inside;
+  bytes = λ i apart. overlay_kept at bytes old i (omega arith) apart;
+}
 
 -- After a sync that returns `Ok` a crash leaves what reads give.
-pub synced_image : (old new : Content) (image : Files) → Synced old new → Image (Some new) image → (name : FileName) → image name ≡ (new name).seen
+pub synced_image : (old new : Content) (image : Files) → Synced old new → Image (Some new) image
+    → (name : FileName) → image name ≡ (new name).seen
 synced_image old new image synced left name =
-    Fits-exact (old name).seen (image name) (Fits-Within (new name).sure (exact (old name).seen) (image name) (synced.crash name) (left name)) ∙ sym (synced.seen name)
+    Fits-exact (old name).seen (image name) (Fits-Within (new name).sure (exact (old name).seen)
+    (image name) (synced.crash name) (left name)) ∙ sym (synced.seen name)
 
 -- A sync adds no image, whatever it returns.
-pub sync_image : {T E : Type 0} (result : Result T E) (old new : Option Content) (image : Files) → ReadsFit old → OnOk result (Told Synced old new) → OnErr result (Told NotSynced old new) → Image new image → Image old image
+pub sync_image : {T E : Type 0} (result : Result T E) (old new : Option Content) (image : Files)
+    → ReadsFit old → OnOk result (Told Synced old new) → OnErr result (Told NotSynced old new)
+    → Image new image → Image old image
 sync_image (Ok v) None None image fit ok err left = tt
 sync_image (Ok v) None (Some k) image fit ok err left = absurd ok
 sync_image (Ok v) (Some k) None image fit ok err left = absurd ok
@@ -278,14 +363,16 @@ sync_image (Ok v) (Some old) (Some new) image fit ok err left = λ name.
 sync_image (Err e) None None image fit ok err left = tt
 sync_image (Err e) None (Some k) image fit ok err left = absurd err
 sync_image (Err e) (Some k) None image fit ok err left = absurd err
-sync_image (Err e) (Some old) (Some new) image fit ok err left = λ name. Fits-Within (new name).sure (old name).sure (image name) (err.crash name) (left name)
+sync_image (Err e) (Some old) (Some new) image fit ok err left =
+    λ name. Fits-Within (new name).sure (old name).sure (image name) (err.crash name) (left name)
 
 -- A disk that doesn't tell its content reads as one of its images.
 pub untold_fits : ReadsFit None
 untold_fits k is name = let wrong : None ≡ Some k = is in cc
 
 -- A length that was read stays until the disk changes.
-pub IsLength-unchanged : (name : FileName) (n : ℕ) (old new : Option Content) → WhereTold (IsLength name n) old → Told Unchanged old new → WhereTold (IsLength name n) new
+pub IsLength-unchanged : (name : FileName) (n : ℕ) (old new : Option Content)
+    → WhereTold (IsLength name n) old → Told Unchanged old new → WhereTold (IsLength name n) new
 IsLength-unchanged name n None None is same = tt
 IsLength-unchanged name n None (Some m) is same = absurd same
 IsLength-unchanged name n (Some k) None is same = absurd same
@@ -294,7 +381,9 @@ IsLength-unchanged name n (Some k) (Some m) is same =
     subst P (sym (same name)) is
 
 -- So does each offset up to it.
-pub IsAtMostLength-unchanged : (name : FileName) (n place : ℕ) (old new : Option Content) → WhereTold (IsLength name n) old → Told Unchanged old new → place ≤ n → WhereTold (IsAtMostLength name place) new
+pub IsAtMostLength-unchanged : (name : FileName) (n place : ℕ) (old new : Option Content)
+    → WhereTold (IsLength name n) old → Told Unchanged old new → place ≤ n
+    → WhereTold (IsAtMostLength name place) new
 IsAtMostLength-unchanged name n place None None is same below = tt
 IsAtMostLength-unchanged name n place None (Some m) is same below = absurd same
 IsAtMostLength-unchanged name n place (Some k) None is same below = absurd same

@@ -15,4 +15,5 @@ kind_place Cache = 3
 
 -- How two names compare.
 abbrev pub name_cmp : FileName → FileName → Ordering
-name_cmp a b = ordering_then (nat_cmp (kind_place a.kind) (kind_place b.kind)) (ordering_then (nat_cmp a.number b.number) (nat_cmp a.gen_ b.gen_))
+name_cmp a b = ordering_then (nat_cmp (kind_place a.kind) (kind_place b.kind))
+    (ordering_then (nat_cmp a.number b.number) (nat_cmp a.gen_ b.gen_))

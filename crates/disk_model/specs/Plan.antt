@@ -40,6 +40,8 @@ pub record Starves (old new : Plan) : Type 0 where
 pub record FailsAsListed (old : Plan) (answers : Bool) (new : Plan) : Type 0 where
   pub same : new.listed ≡ old.listed
   pub calls : new.calls ≡ counted old.calls
-  pub listed : IsListed old → (answers ≡ false) × (new.starved ≡ old.starved) × (new.faults ≡ counted old.faults)
+  pub listed : IsListed old → (answers ≡ false) × (new.starved ≡ old.starved)
+      × (new.faults ≡ counted old.faults)
   pub ok : answers ≡ true → (new.starved ≡ old.starved) × (new.faults ≡ old.faults)
-  pub unlisted : answers ≡ false → IsListed old ⊎ ((new.starved ≡ counted old.starved) × (new.faults ≡ counted old.faults))
+  pub unlisted : answers ≡ false → IsListed old
+      ⊎ ((new.starved ≡ counted old.starved) × (new.faults ≡ counted old.faults))

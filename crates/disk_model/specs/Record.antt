@@ -17,8 +17,10 @@ abbrev pub file_at : BTreeMap FileName (Vec ℕ Global) → Files
 file_at files name = option_map (λ v. v.items) (get name_cmp files name)
 
 -- One file is replaced, and the others stay.
-abbrev pub SetsFile : BTreeMap FileName (Vec ℕ Global) → BTreeMap FileName (Vec ℕ Global) → FileName → File → Type 0
-SetsFile old new name file = (other : FileName) → file_at new other ≡ cond (is_at (name_cmp name) other) file (file_at old other)
+abbrev pub SetsFile : BTreeMap FileName (Vec ℕ Global) → BTreeMap FileName (Vec ℕ Global) → FileName
+    → File → Type 0
+SetsFile old new name file = (other : FileName)
+    → file_at new other ≡ cond (is_at (name_cmp name) other) file (file_at old other)
 
 -- No file changes.
 abbrev pub SameFiles : BTreeMap FileName (Vec ℕ Global) → BTreeMap FileName (Vec ℕ Global) → Type 0
@@ -26,9 +28,15 @@ SameFiles old new = (other : FileName) → file_at new other ≡ file_at old oth
 
 -- A file as it reads, and what a crash may leave of it, after a change.
 abbrev pub step : FileName → Kept → Change → Kept
-step name k (Write other place bytes) = cond (is_at (name_cmp other) name) (record { seen = Some (overlay place bytes.items (bytes_of k.seen)); sure = write_sure place (length bytes.items) k.seen k.sure }) k
-step name k (Cut other n) = cond (is_at (name_cmp other) name) (record { seen = cut_file n k.seen; sure = cut_sure n k.sure }) k
-step name k (Remove other) = cond (is_at (name_cmp other) name) (record { seen = None; sure = remove_sure k.sure }) k
+step name k (Write other place bytes) = cond (is_at (name_cmp other) name)
+    (record {
+      seen = Some (overlay place bytes.items (bytes_of k.seen));
+      sure = write_sure place (length bytes.items) k.seen k.sure;
+    }) k
+step name k (Cut other n) = cond (is_at (name_cmp other) name)
+    (record { seen = cut_file n k.seen; sure = cut_sure n k.sure }) k
+step name k (Remove other) =
+    cond (is_at (name_cmp other) name) (record { seen = None; sure = remove_sure k.sure }) k
 step name k Sync = record { seen = k.seen; sure = exact k.seen }
 
 -- The same after all changes.
@@ -52,42 +60,56 @@ pub record LeftSince (base : Files) (changes : List Change) (t : ℕ) (image : F
   pub left : Image (Some (content_of base (take at changes))) image
 
 -- One more change at the end of the record is one more step.
-pub replay_push : (name : FileName) (k : Kept) (changes : List Change) (change : Change) → replay name k (changes ++ change ∷ []) ≡ step name (replay name k changes) change
+pub replay_push : (name : FileName) (k : Kept) (changes : List Change) (change : Change)
+    → replay name k (changes ++ change ∷ []) ≡ step name (replay name k changes) change
 replay_push name k [] change = refl
 replay_push name k (first ∷ changes) change = replay_push name (step name k first) changes change
 
 -- The same for all files.
-pub content_of-push : (base : Files) (changes : List Change) (change : Change) (name : FileName) → content_of base (changes ++ change ∷ []) name ≡ step name (content_of base changes name) change
+pub content_of-push : (base : Files) (changes : List Change) (change : Change) (name : FileName)
+    → content_of base (changes ++ change ∷ []) name ≡ step name (content_of base changes name) change
 unfolding content_of
 content_of-push base changes change name = replay_push name (at_rest (base name)) changes change
 
 -- Without changes each file is at rest.
-pub content_of-none : (base : Files) (name : FileName) → content_of base [] name ≡ at_rest (base name)
+pub content_of-none : (base : Files) (name : FileName)
+    → content_of base [] name ≡ at_rest (base name)
 unfolding content_of
 content_of-none base name = refl
 
 -- What a crash may leave now is one of the images since each earlier moment.
-pub record_counts_now : (base : Files) (changes : List Change) (t : ℕ) (image : Files) → t ≤ length changes → Image (Some (content_of base changes)) image → LeftSince base changes t image
+pub record_counts_now : (base : Files) (changes : List Change) (t : ℕ) (image : Files)
+    → t ≤ length changes → Image (Some (content_of base changes)) image
+    → LeftSince base changes t image
 record_counts_now base changes t image le now = record {
   at = length changes;
   from = le;
   to = omega arith;
-  left = let P : List Change → Type 0 = λ cs. Image (Some (content_of base cs)) image in subst P (sym (take_all (length changes) changes (omega arith))) now;
+  left = let P : List Change → Type 0 = λ cs. Image (Some (content_of base cs)) image in
+      subst P (sym (take_all (length changes) changes (omega arith))) now;
 }
 
 -- An image since this moment is one that a crash may leave now.
-pub record_only_now : (base : Files) (changes : List Change) (image : Files) → LeftSince base changes (length changes) image → Image (Some (content_of base changes)) image
+pub record_only_now : (base : Files) (changes : List Change) (image : Files)
+    → LeftSince base changes (length changes) image → Image (Some (content_of base changes)) image
 record_only_now base changes image since =
     let from = since.from in
     let P : List Change → Type 0 = λ cs. Image (Some (content_of base cs)) image in
     subst P (take_all since.at changes from) since.left
 
 -- Without a change time stands still.
-pub elapses_same : (base : Files) (changes : List Change) → Elapses (length changes) (length changes) (LeftSince base changes) (LeftSince base changes) (Some (content_of base changes))
-elapses_same base changes = record { later = omega arith; nothing_else = λ t image le since. inl since; keeps = λ t image le past. past }
+pub elapses_same : (base : Files) (changes : List Change) → Elapses (length changes) (length changes)
+    (LeftSince base changes) (LeftSince base changes) (Some (content_of base changes))
+elapses_same base changes = record {
+  later = omega arith;
+  nothing_else = λ t image le since. inl since;
+  keeps = λ t image le past. past;
+}
 
 -- One change advances time by one.
-pub elapses_push : (base : Files) (changes : List Change) (change : Change) → Elapses (length changes) (length (changes ++ change ∷ [])) (LeftSince base changes) (LeftSince base (changes ++ change ∷ [])) (Some (content_of base (changes ++ change ∷ [])))
+pub elapses_push : (base : Files) (changes : List Change) (change : Change)
+    → Elapses (length changes) (length (changes ++ change ∷ [])) (LeftSince base changes)
+    (LeftSince base (changes ++ change ∷ [])) (Some (content_of base (changes ++ change ∷ [])))
 elapses_push base changes change =
     let more = changes ++ change ∷ [] in
     let size : length more ≡ length changes + 1 = omega (arith, length-append {A = Change} changes (change ∷ [])) in
@@ -97,11 +119,23 @@ elapses_push base changes change =
           let P : List Change → Type 0 = λ cs. Image (Some (content_of base cs)) image in
           let to = since.to in
           elim (cases_lt (length changes) since.at) [
-            | inl past ↦ inr (subst P (take_all since.at more (omega (arith, size, past, to))) since.left)
-            | inr within ↦ inl (record { at = since.at; from = since.from; to = within; left = subst P (take-append-le since.at changes (change ∷ []) within) since.left })
+            | inl past ↦ inr (subst P (take_all since.at more (omega (arith, size, past, to)))
+                since.left)
+            | inr within ↦ inl (record {
+              at = since.at;
+              from = since.from;
+              to = within;
+              left =
+                  subst P (take-append-le since.at changes (change ∷ []) within) since.left;
+            })
           ];
       keeps = λ t image le past.
           let P : List Change → Type 0 = λ cs. Image (Some (content_of base cs)) image in
           let to = past.to in
-          record { at = past.at; from = past.from; to = omega (arith, size, to); left = subst P (sym (take-append-le past.at changes (change ∷ []) to)) past.left };
+          record {
+            at = past.at;
+            from = past.from;
+            to = omega (arith, size, to);
+            left = subst P (sym (take-append-le past.at changes (change ∷ []) to)) past.left;
+          };
     }

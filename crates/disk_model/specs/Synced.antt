@@ -28,35 +28,46 @@ pub record IsWritten (name : FileName) (at : ℕ) (bytes : List ℕ) (old new : 
   pub settled : IsSettled new
 
 -- An image from before the write is one during the write.
-pub writing_at_start : (name : FileName) (at n : ℕ) (content : Option Content) (image : Files) → Image content image → Writing name at n content image
+pub writing_at_start : (name : FileName) (at n : ℕ) (content : Option Content) (image : Files)
+    → Image content image → Writing name at n content image
 writing_at_start name at n None image left = tt
 writing_at_start name at n (Some k) image left = record {
-  here = Fits-Within (k name).sure (write_sure at n (k name).seen (k name).sure) (image name) (write_wider at n (k name).seen (k name).sure) (left name);
+  here = Fits-Within (k name).sure (write_sure at n (k name).seen (k name).sure) (image name)
+      (write_wider at n (k name).seen (k name).sure) (left name);
   elsewhere = λ other apart. left other;
 }
 
 -- An image after a write that returns `Ok` is one during the write.
-pub writing_wrote : (name : FileName) (at : ℕ) (bytes : List ℕ) (old new : Option Content) (image : Files) → Told (OneFile name (Wrote at bytes)) old new → Image new image → Writing name at (length bytes) old image
+pub writing_wrote : (name : FileName) (at : ℕ) (bytes : List ℕ) (old new : Option Content)
+    (image : Files) → Told (OneFile name (Wrote at bytes)) old new → Image new image
+    → Writing name at (length bytes) old image
 writing_wrote name at bytes None None image told left = tt
 writing_wrote name at bytes None (Some m) image told left = absurd told
 writing_wrote name at bytes (Some k) None image told left = absurd told
 writing_wrote name at bytes (Some k) (Some m) image told left = record {
-  here = Fits-Within (m name).sure (write_sure at (length bytes) (k name).seen (k name).sure) (image name) told.here.crash (left name);
-  elsewhere = λ other apart. let P : Kept → Type 0 = λ kept. Fits kept.sure (image other) in subst P (told.elsewhere other apart) (left other);
+  here = Fits-Within (m name).sure (write_sure at (length bytes) (k name).seen (k name).sure)
+      (image name) told.here.crash (left name);
+  elsewhere = λ other apart. let P : Kept → Type 0 = λ kept. Fits kept.sure (image other) in
+      subst P (told.elsewhere other apart) (left other);
 }
 
 -- An image after a write that fails is one during the write.
-pub writing_tore : (name : FileName) (at n : ℕ) (old new : Option Content) (image : Files) → Told (OneFile name (Tore at n)) old new → Image new image → Writing name at n old image
+pub writing_tore : (name : FileName) (at n : ℕ) (old new : Option Content) (image : Files)
+    → Told (OneFile name (Tore at n)) old new → Image new image → Writing name at n old image
 writing_tore name at n None None image told left = tt
 writing_tore name at n None (Some m) image told left = absurd told
 writing_tore name at n (Some k) None image told left = absurd told
 writing_tore name at n (Some k) (Some m) image told left = record {
-  here = Fits-Within (m name).sure (write_sure at n (k name).seen (k name).sure) (image name) told.here.crash (left name);
-  elsewhere = λ other apart. let P : Kept → Type 0 = λ kept. Fits kept.sure (image other) in subst P (told.elsewhere other apart) (left other);
+  here = Fits-Within (m name).sure (write_sure at n (k name).seen (k name).sure) (image name)
+      told.here.crash (left name);
+  elsewhere = λ other apart. let P : Kept → Type 0 = λ kept. Fits kept.sure (image other) in
+      subst P (told.elsewhere other apart) (left other);
 }
 
 -- A write and a sync after it that both return `Ok` leave the range written and synced.
-pub written_synced : (name : FileName) (at : ℕ) (bytes : List ℕ) (old mid new : Option Content) → Told (OneFile name (Wrote at bytes)) old mid → Told Synced mid new → Told (IsWritten name at bytes) old new
+pub written_synced : (name : FileName) (at : ℕ) (bytes : List ℕ) (old mid new : Option Content)
+    → Told (OneFile name (Wrote at bytes)) old mid → Told Synced mid new
+    → Told (IsWritten name at bytes) old new
 written_synced name at bytes None None None wrote synced = tt
 written_synced name at bytes None None (Some n) wrote synced = absurd synced
 written_synced name at bytes None (Some m) new wrote synced = absurd wrote
@@ -64,22 +75,35 @@ written_synced name at bytes (Some k) None new wrote synced = absurd wrote
 written_synced name at bytes (Some k) (Some m) None wrote synced = absurd synced
 written_synced name at bytes (Some k) (Some m) (Some n) wrote synced = record {
   here = synced.seen name ∙ wrote.here.seen;
-  elsewhere = λ other apart. synced.seen other ∙ ap (λ (kept : Kept). kept.seen) (wrote.elsewhere other apart);
-  settled = λ other. let P : File → Type 0 = λ file. Within (n other).sure (exact file) in subst P (sym (synced.seen other)) (synced.crash other);
+  elsewhere = λ other apart.
+      synced.seen other ∙ ap (λ (kept : Kept). kept.seen) (wrote.elsewhere other apart);
+  settled = λ other. let P : File → Type 0 = λ file. Within (n other).sure (exact file) in
+      subst P (sym (synced.seen other)) (synced.crash other);
 }
 
 -- A write inside a file leaves a file from before it, with other bytes in the range.
-pub writing_inside : (name : FileName) (at n : ℕ) (k : Content) (image : Files) → ReadsFit (Some k) → at + n ≤ length (bytes_of (k name).seen) → 0 < n → IsWriting name at n k image → Origin at n (k name).sure (image name)
-writing_inside name at n k image fit inside some w = of_seen (k name).seen (fit k refl name) inside w.here where
-  of_seen : (seen : File) → Fits (k name).sure seen → at + n ≤ length (bytes_of seen) → Fits (write_sure at n seen (k name).sure) (image name) → Origin at n (k name).sure (image name)
-  of_seen None fits within here = absurd (omega (arith, within, some))
-  of_seen (Some seen) fits within here = write_origin at n (k name).sure seen (image name) fits within here
+pub writing_inside : (name : FileName) (at n : ℕ) (k : Content) (image : Files) → ReadsFit (Some k)
+    → at + n ≤ length (bytes_of (k name).seen) → 0 < n → IsWriting name at n k image
+    → Origin at n (k name).sure (image name)
+writing_inside name at n k image fit inside some w =
+    of_seen (k name).seen (fit k refl name) inside w.here where
+      of_seen : (seen : File) → Fits (k name).sure seen → at + n ≤ length (bytes_of seen)
+          → Fits (write_sure at n seen (k name).sure) (image name)
+          → Origin at n (k name).sure (image name)
+      of_seen None fits within here = absurd (omega (arith, within, some))
+      of_seen (Some seen) fits within here =
+          write_origin at n (k name).sure seen (image name) fits within here
 
 -- A write at an offset or after it leaves a file that starts with the same bytes as one from before
 -- it.
-pub writing_behind : (name : FileName) (at n : ℕ) (k : Content) (image : Files) → ReadsFit (Some k) → at ≤ length (bytes_of (k name).seen) → IsWriting name at n k image → FrontOrigin at (k name).sure (image name)
-writing_behind name at n k image fit behind w = write_front at n (k name).sure (k name).seen (image name) (fit k refl name) behind w.here
+pub writing_behind : (name : FileName) (at n : ℕ) (k : Content) (image : Files) → ReadsFit (Some k)
+    → at ≤ length (bytes_of (k name).seen) → IsWriting name at n k image
+    → FrontOrigin at (k name).sure (image name)
+writing_behind name at n k image fit behind w =
+    write_front at n (k name).sure (k name).seen (image name) (fit k refl name) behind w.here
 
 -- A crash leaves settled files as they read.
-pub settled_image : (k : Content) (image : Files) → IsSettled k → Image (Some k) image → (name : FileName) → image name ≡ (k name).seen
-settled_image k image settled left name = Fits-exact (k name).seen (image name) (Fits-Within (k name).sure (exact (k name).seen) (image name) (settled name) (left name))
+pub settled_image : (k : Content) (image : Files) → IsSettled k → Image (Some k) image
+    → (name : FileName) → image name ≡ (k name).seen
+settled_image k image settled left name = Fits-exact (k name).seen (image name)
+    (Fits-Within (k name).sure (exact (k name).seen) (image name) (settled name) (left name))

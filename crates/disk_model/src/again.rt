@@ -46,7 +46,8 @@ fn put_filled(
     bytes: &[u8],
     fill: bool,
 ) -> Result<(), AllocError>
-    ensures { OnOk result (SetsFile files.old files.new name (Some (overlay place (filled fill bytes.now) (bytes_of (file_at files.old name))))) }
+    ensures { OnOk result (SetsFile files.old files.new name
+        (Some (overlay place (filled fill bytes.now) (bytes_of (file_at files.old name))))) }
 {
     if fill {
         let ones = vec![in alloc; 255; bytes.len()]?;
@@ -59,7 +60,8 @@ fn put_filled(
 ///
 /// With `fill` a write puts bytes of the value 255 in place of its own.
 fn apply(alloc: Global, files: &mut Contents, change: &Change, fill: bool) -> Result<(), AllocError>
-    ensures { OnOk result ((name : FileName) → file_at files.new name ≡ apply_file fill name (file_at files.old name) change.now) }
+    ensures { OnOk result ((name : FileName)
+        → file_at files.new name ≡ apply_file fill name (file_at files.old name) change.now) }
 {
     match change {
         Change::Write { name, place, bytes } => put_filled(
@@ -86,7 +88,8 @@ pub fn apply_all(
     changes: &[Change],
     fill: bool,
 ) -> Result<(), AllocError>
-    ensures { OnOk result ((name : FileName) → file_at files.new name ≡ applied fill name (file_at files.old name) changes.now) }
+    ensures { OnOk result ((name : FileName)
+        → file_at files.new name ≡ applied fill name (file_at files.old name) changes.now) }
 {
     for change in changes {
         apply(alloc, files, change, fill)?;

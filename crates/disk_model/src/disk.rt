@@ -53,9 +53,11 @@ pub trait Disk {
     /// anything.
     fn read(&mut self, name: FileName, place: u64, into: &mut [u8]) -> Result<usize, DiskFault>
         ensures bound { IfOk result (λ n. n ≤ length into.new) }
-        ensures bytes { IfOk result (λ n. WhereTold (HasRead name place n into.old into.new) (content self.old)) }
+        ensures bytes { IfOk result (λ n.
+            WhereTold (HasRead name place n into.old into.new) (content self.old)) }
         ensures same { Told Unchanged (content self.old) (content self.new) }
-        ensures time { Elapses (moment self.old) (moment self.new) (left_since self.old) (left_since self.new) (content self.new) }
+        ensures time { Elapses (moment self.old) (moment self.new) (left_since self.old)
+            (left_since self.new) (content self.new) }
         ensures cause { IsCaused (faults self.old) (faults self.new) result }
         ensures plan { fails_by self.old (is_ok result) self.new }
         ensures fewest { reads self.old ≤ reads self.new }
@@ -65,7 +67,8 @@ pub trait Disk {
     fn length(&mut self, name: FileName) -> Result<u64, DiskFault>
         ensures length { IfOk result (λ n. WhereTold (IsLength name n) (content self.old)) }
         ensures same { Told Unchanged (content self.old) (content self.new) }
-        ensures time { Elapses (moment self.old) (moment self.new) (left_since self.old) (left_since self.new) (content self.new) }
+        ensures time { Elapses (moment self.old) (moment self.new) (left_since self.old)
+            (left_since self.new) (content self.new) }
         ensures cause { IsCaused (faults self.old) (faults self.new) result }
         ensures plan { fails_by self.old (is_ok result) self.new }
         ensures count { reads self.new ≡ reads self.old };
@@ -77,9 +80,12 @@ pub trait Disk {
     fn write_at(&mut self, name: FileName, place: u64, bytes: &[u8]) -> Result<(), DiskFault>
         requires inside { WhereTold (IsAtMostLength name place) (content self.old) }
         requires end { place + length bytes.now < 2 ^ 63 }
-        ensures written { OnOk result (Told (OneFile name (Wrote place bytes.now)) (content self.old) (content self.new)) }
-        ensures torn { OnErr result (Told (OneFile name (Tore place (length bytes.now))) (content self.old) (content self.new)) }
-        ensures time { Elapses (moment self.old) (moment self.new) (left_since self.old) (left_since self.new) (content self.new) }
+        ensures written { OnOk result (Told (OneFile name (Wrote place bytes.now))
+            (content self.old) (content self.new)) }
+        ensures torn { OnErr result (Told (OneFile name (Tore place (length bytes.now)))
+            (content self.old) (content self.new)) }
+        ensures time { Elapses (moment self.old) (moment self.new) (left_since self.old)
+            (left_since self.new) (content self.new) }
         ensures cause { IsCaused (faults self.old) (faults self.new) result }
         ensures plan { fails_by self.old (is_ok result) self.new }
         ensures count { reads self.new ≡ reads self.old };
@@ -87,18 +93,24 @@ pub trait Disk {
     /// Cuts a file to a length of at most its own. A missing file stays missing.
     fn cut(&mut self, name: FileName, length: u64) -> Result<(), DiskFault>
         requires inside { WhereTold (IsAtMostLength name length) (content self.old) }
-        ensures cut { OnOk result (Told (OneFile name (CutTo length)) (content self.old) (content self.new)) }
-        ensures torn { OnErr result (Told (OneFile name (TornCut length)) (content self.old) (content self.new)) }
-        ensures time { Elapses (moment self.old) (moment self.new) (left_since self.old) (left_since self.new) (content self.new) }
+        ensures cut { OnOk result
+            (Told (OneFile name (CutTo length)) (content self.old) (content self.new)) }
+        ensures torn { OnErr result
+            (Told (OneFile name (TornCut length)) (content self.old) (content self.new)) }
+        ensures time { Elapses (moment self.old) (moment self.new) (left_since self.old)
+            (left_since self.new) (content self.new) }
         ensures cause { IsCaused (faults self.old) (faults self.new) result }
         ensures plan { fails_by self.old (is_ok result) self.new }
         ensures count { reads self.new ≡ reads self.old };
 
     /// Removes a file. A missing file stays missing.
     fn remove(&mut self, name: FileName) -> Result<(), DiskFault>
-        ensures removed { OnOk result (Told (OneFile name Removed) (content self.old) (content self.new)) }
-        ensures torn { OnErr result (Told (OneFile name TornRemoval) (content self.old) (content self.new)) }
-        ensures time { Elapses (moment self.old) (moment self.new) (left_since self.old) (left_since self.new) (content self.new) }
+        ensures removed { OnOk result
+            (Told (OneFile name Removed) (content self.old) (content self.new)) }
+        ensures torn { OnErr result
+            (Told (OneFile name TornRemoval) (content self.old) (content self.new)) }
+        ensures time { Elapses (moment self.old) (moment self.new) (left_since self.old)
+            (left_since self.new) (content self.new) }
         ensures cause { IsCaused (faults self.old) (faults self.new) result }
         ensures plan { fails_by self.old (is_ok result) self.new }
         ensures count { reads self.new ≡ reads self.old };
@@ -109,7 +121,8 @@ pub trait Disk {
     fn name_at(&mut self, index: u64) -> Result<Option<FileName>, DiskFault>
         ensures name { IfOk result (λ name. WhereTold (IsNameAt index name) (content self.old)) }
         ensures same { Told Unchanged (content self.old) (content self.new) }
-        ensures time { Elapses (moment self.old) (moment self.new) (left_since self.old) (left_since self.new) (content self.new) }
+        ensures time { Elapses (moment self.old) (moment self.new) (left_since self.old)
+            (left_since self.new) (content self.new) }
         ensures cause { IsCaused (faults self.old) (faults self.new) result }
         ensures plan { fails_by self.old (is_ok result) self.new }
         ensures count { reads self.new ≡ reads self.old };
@@ -121,17 +134,21 @@ pub trait Disk {
     fn sync(&mut self) -> Result<(), DiskFault>
         ensures durable { OnOk result (Told Synced (content self.old) (content self.new)) }
         ensures torn { OnErr result (Told NotSynced (content self.old) (content self.new)) }
-        ensures time { Elapses (moment self.old) (moment self.new) (left_since self.old) (left_since self.new) (content self.new) }
+        ensures time { Elapses (moment self.old) (moment self.new) (left_since self.old)
+            (left_since self.new) (content self.new) }
         ensures cause { IsCaused (faults self.old) (faults self.new) result }
         ensures plan { fails_by self.old (is_ok result) self.new }
         ensures count { reads self.new ≡ reads self.old };
 
     /// An image that a crash may leave now is one of those since each earlier moment.
-    ghost counts_now: { (disk : Self) (t : ℕ) (image : Files) → t ≤ moment disk → Image (content disk) image → left_since disk t image };
+    ghost counts_now: { (disk : Self) (t : ℕ) (image : Files) → t ≤ moment disk
+        → Image (content disk) image → left_since disk t image };
 
     /// An image since this moment is one that a crash may leave now.
-    ghost only_now: { (disk : Self) (image : Files) → left_since disk (moment disk) image → Image (content disk) image };
+    ghost only_now: { (disk : Self) (image : Files) → left_since disk (moment disk) image
+        → Image (content disk) image };
 
     /// The files as they read are one of the images that a crash may leave.
-    ghost reads_fit: { (disk : Self) (k : Content) → content disk ≡ Some k → (name : FileName) → Fits (k name).sure (k name).seen };
+    ghost reads_fit: { (disk : Self) (k : Content) → content disk ≡ Some k → (name : FileName)
+        → Fits (k name).sure (k name).seen };
 }

@@ -42,7 +42,8 @@ pub fn put(
     place: u64,
     bytes: &[u8],
 ) -> Result<(), AllocError>
-    ensures ok { OnOk result (SetsFile files.old files.new name (Some (overlay place bytes.now (bytes_of (file_at files.old name))))) }
+    ensures ok { OnOk result (SetsFile files.old files.new name
+        (Some (overlay place bytes.now (bytes_of (file_at files.old name))))) }
     ensures err { OnErr result (SameFiles files.old files.new) }
 {
     match files.get_mut(&name) {

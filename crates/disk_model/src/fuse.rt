@@ -45,7 +45,8 @@ impl<D: Disk> FuseDisk<D> {
     /// Counts a call, and returns whether it fails without being passed.
     fn is_spent(&mut self) -> bool
         ensures inner { inner_of self.new ≡ inner_of self.old }
-        ensures passed { result ≡ false → (passes_of self.new + 1 ≡ passes_of self.old) × (refused_by self.new ≡ refused_by self.old) }
+        ensures passed { result ≡ false → (passes_of self.new + 1 ≡ passes_of self.old)
+            × (refused_by self.new ≡ refused_by self.old) }
         ensures spent { result ≡ true → (passes_of self.old ≡ 0) × (passes_of self.new ≡ 0) }
         ensures rose { result ≡ true → Rose (refused_by self.old) (refused_by self.new) }
         ensures later { refused_by self.old ≤ refused_by self.new }

@@ -79,8 +79,10 @@ impl MemDisk {
     pub fn image(&self, at: u64, pick: u64) -> Result<MemDisk, NoMemory>
         requires at { at ≤ length (changes_of self.now) }
         requires pick { pick ≤ 3 }
-        ensures image { IfOk result (λ disk. Image (Some (content_then self.now at)) (files_of disk)) }
-        ensures picked { IfOk result (λ disk. IsPicked pick (base_of self.now) (take at (changes_of self.now)) (files_of disk)) }
+        ensures image { IfOk result (λ disk.
+            Image (Some (content_then self.now at)) (files_of disk)) }
+        ensures picked { IfOk result (λ disk.
+            IsPicked pick (base_of self.now) (take at (changes_of self.now)) (files_of disk)) }
         ensures fresh { IfOk result (λ disk. IsFresh (files_of disk) [] disk) }
     {
         let changes = &self.changes[..at as usize];
@@ -112,7 +114,8 @@ impl MemDisk {
         ensures base { self.new.base ≡ self.old.base }
         ensures plan { self.new.plan ≡ self.old.plan }
         ensures reads { self.new.reads ≡ self.old.reads }
-        ensures ok { OnOk result ((v : _) × (v.items ≡ bytes.now) × (self.new.changes.items ≡ self.old.changes.items ++ Change.Write name place v ∷ [])) }
+        ensures ok { OnOk result ((v : _) × (v.items ≡ bytes.now) × (self.new.changes.items
+            ≡ self.old.changes.items ++ Change.Write name place v ∷ [])) }
         ensures err { OnErr result (self.new.changes.items ≡ self.old.changes.items) }
     {
         let piece = bytes.to_vec(self.alloc)?;
@@ -131,7 +134,8 @@ impl MemDisk {
         ensures base { self.new.base ≡ self.old.base }
         ensures plan { self.new.plan ≡ self.old.plan }
         ensures reads { self.new.reads ≡ self.old.reads }
-        ensures ok { OnOk result (self.new.changes.items ≡ self.old.changes.items ++ Change.Cut name length ∷ []) }
+        ensures ok { OnOk result (self.new.changes.items
+            ≡ self.old.changes.items ++ Change.Cut name length ∷ []) }
         ensures err { OnErr result (self.new.changes.items ≡ self.old.changes.items) }
     {
         self.changes.reserve(1)?;
@@ -145,7 +149,8 @@ impl MemDisk {
         ensures base { self.new.base ≡ self.old.base }
         ensures plan { self.new.plan ≡ self.old.plan }
         ensures reads { self.new.reads ≡ self.old.reads }
-        ensures ok { OnOk result (self.new.changes.items ≡ self.old.changes.items ++ Change.Remove name ∷ []) }
+        ensures ok { OnOk result (self.new.changes.items
+            ≡ self.old.changes.items ++ Change.Remove name ∷ []) }
         ensures err { OnErr result (self.new.changes.items ≡ self.old.changes.items) }
     {
         self.changes.reserve(1)?;
@@ -159,7 +164,8 @@ impl MemDisk {
         ensures base { self.new.base ≡ self.old.base }
         ensures plan { self.new.plan ≡ self.old.plan }
         ensures reads { self.new.reads ≡ self.old.reads }
-        ensures ok { OnOk result (self.new.changes.items ≡ self.old.changes.items ++ Change.Sync ∷ []) }
+        ensures ok { OnOk result (self.new.changes.items
+            ≡ self.old.changes.items ++ Change.Sync ∷ []) }
         ensures err { OnErr result (self.new.changes.items ≡ self.old.changes.items) }
     {
         self.changes.push(Change::Sync)?;

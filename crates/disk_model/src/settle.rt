@@ -18,8 +18,10 @@ pub fn write_and_sync<D: Disk>(
 ) -> Result<(), DiskFault>
     requires inside { WhereTold (IsAtMostLength name place) (D.content disk.old) }
     requires end { place + length bytes.now < 2 ^ 63 }
-    ensures any_moment { LeavesOnly D.moment D.left_since disk.old disk.new (Writing name place (length bytes.now) (D.content disk.old)) }
-    ensures written { OnOk result (Told (IsWritten name place bytes.now) (D.content disk.old) (D.content disk.new)) }
+    ensures any_moment { LeavesOnly D.moment D.left_since disk.old disk.new
+        (Writing name place (length bytes.now) (D.content disk.old)) }
+    ensures written { OnOk result
+        (Told (IsWritten name place bytes.now) (D.content disk.old) (D.content disk.new)) }
     ensures cause { IsCaused (D.faults disk.old) (D.faults disk.new) result }
     ensures count { D.reads disk.new ≡ D.reads disk.old }
 {

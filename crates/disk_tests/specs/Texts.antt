@@ -33,4 +33,5 @@ EachFile name P (Some k) = (file : File) → Fits (k name).sure file → IfThere
 
 -- The file stands for one text or the other.
 abbrev pub StandsForEither : FileName → List ℕ → List ℕ → Files → Type 0
-StandsForEither name old new image = IfThere (λ file. StandsFor old file ⊎ StandsFor new file) (image name)
+StandsForEither name old new image =
+    IfThere (λ file. StandsFor old file ⊎ StandsFor new file) (image name)

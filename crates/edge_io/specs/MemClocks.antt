@@ -23,5 +23,6 @@ ticked s = record s { coming = passed s.coming; calls = raised s.calls }
 -- removes it unless it is the last.
 abbrev pub Ticks : {E : Type 0} → Result ℕ E → Ticking → Ticking → Type 0
 Ticks result s s' =
-    MatchResult result (λ moment. (is_listed s.listed s.calls ≡ false) × (moment ≡ s.coming.next) × (s' ≡ ticked s))
+    MatchResult result (λ moment. (is_listed s.listed s.calls ≡ false) × (moment ≡ s.coming.next)
+    × (s' ≡ ticked s))
     (λ _. (is_listed s.listed s.calls ≡ true) × (s' ≡ failed_tick s))

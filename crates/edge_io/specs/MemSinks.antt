@@ -21,7 +21,8 @@ failed_write s = record s { calls = raised s.calls; faults = raised s.faults }
 
 -- The state after a call that ran out of memory, which takes nothing.
 abbrev pub starved_write : Writing → Writing
-starved_write s = record s { calls = raised s.calls; faults = raised s.faults; starved = raised s.starved }
+starved_write s =
+    record s { calls = raised s.calls; faults = raised s.faults; starved = raised s.starved }
 
 -- A listed call fails. Any other takes all bytes, or runs out of memory.
 abbrev pub Writes : {T E : Type 0} → Result T E → List ℕ → Writing → Writing → Type 0

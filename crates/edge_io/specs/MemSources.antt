@@ -23,6 +23,7 @@ taken_off count s = record s { left = drop count s.left; calls = raised s.calls 
 abbrev pub Reads : {E : Type 0} → Result ℕ E → List ℕ → List ℕ → Reading → Reading → Type 0
 Reads result into into' s s' =
     MatchResult result
-    (λ count. (is_listed s.listed s.calls ≡ false) × (count ≡ min (length into) (length s.left)) × (into' ≡ take count s.left ++ drop count into)
+    (λ count. (is_listed s.listed s.calls ≡ false) × (count ≡ min (length into) (length s.left))
+    × (into' ≡ take count s.left ++ drop count into)
     × (s' ≡ taken_off count s))
     (λ _. (is_listed s.listed s.calls ≡ true) × (into' ≡ into) × (s' ≡ failed_read s))

@@ -14,11 +14,13 @@ Lacks byte (b ∷ bs) = ((b == byte) ≡ false) × Lacks byte bs
 
 -- The parts of a text before and after the first such byte, or none if it has no such byte.
 abbrev pub Divides : ℕ → List ℕ → Option Parts → Type 0
-Divides byte text found = MatchOption found (Lacks byte text) (λ parts. Lacks byte parts.before.now × (text ≡ parts.before.now ++ byte ∷ parts.behind.now))
+Divides byte text found = MatchOption found (Lacks byte text) (λ parts. Lacks byte parts.before.now
+    × (text ≡ parts.before.now ++ byte ∷ parts.behind.now))
 
 -- The value of a kind that a text spells, or none if it spells no value of that kind.
 abbrev pub Spells : {A : Type 0} → (A → Type 0) → (A → List ℕ) → List ℕ → Option A → Type 0
-Spells Is spelling text found = MatchOption found ((x : _) → Is x → text ≢ spelling x) (λ x. Is x × (text ≡ spelling x))
+Spells Is spelling text found =
+    MatchOption found ((x : _) → Is x → text ≢ spelling x) (λ x. Is x × (text ≡ spelling x))
 
 -- A connection and a door that a script may have.
 abbrev pub IsOpening : ℕ × Door → Type 0
@@ -47,4 +49,5 @@ HasPiece len text found =
 abbrev pub IsFirst : List ℕ → Option First → Type 0
 IsFirst bytes found =
     MatchOption found (HasNoFirst bytes)
-    (λ first. IsEvent first.event first.piece.now × (bytes ≡ spelled first.event first.piece.now ++ first.rest.now) × (length first.rest.now < length bytes))
+    (λ first. IsEvent first.event first.piece.now × (bytes ≡ spelled first.event first.piece.now
+    ++ first.rest.now) × (length first.rest.now < length bytes))

@@ -7,4 +7,5 @@ use Rattle.edge_io.specs.declared.sink.SinkFault.{SinkFault}
 -- All words were taken. If the write failed, a prefix of them was, and the count of faults rose.
 abbrev pub Says : List ℕ → Option (List ℕ) → ℕ → Option (List ℕ) → ℕ → Result Unit SinkFault → Type 0
 Says words out lost out' lost' (Ok done) = (lost' ≡ lost) × (out' ≡ plus out words)
-Says words out lost out' lost' (Err fault) = (lost ≤ lost') × Rose lost lost' × ((n : ℕ) × (out' ≡ plus out (take n words)))
+Says words out lost out' lost' (Err fault) = (lost ≤ lost') × Rose lost lost'
+    × ((n : ℕ) × (out' ≡ plus out (take n words)))

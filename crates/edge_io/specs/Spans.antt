@@ -6,7 +6,8 @@ use Rattle.edge_io.specs.declared.scripts.Placed.{Placed}
 
 -- The event with its piece, which starts at its offset.
 abbrev pub arrival_of : List ℕ → Placed → Arrival
-arrival_of pieces placed = (placed.event, take (piece_len placed.event.what) (drop placed.start pieces))
+arrival_of pieces placed =
+    (placed.event, take (piece_len placed.event.what) (drop placed.start pieces))
 
 -- The events with their pieces.
 abbrev pub arrivals_of : List ℕ → List Placed → List Arrival

@@ -31,7 +31,12 @@ impl Model for MemClock {
 
     ghost Value = { Ticking };
 
-    ghost view = { λ s. record { coming = moments_of (drop s.at s.moments); listed = s.listed; calls = s.calls; faults = s.faults } };
+    ghost view = { λ s. record {
+      coming = moments_of (drop s.at s.moments);
+      listed = s.listed;
+      calls = s.calls;
+      faults = s.faults;
+    } };
 
     ghost invariant = { λ s. (s.at < length s.moments) × All IsMoment s.moments };
 }
@@ -44,7 +49,8 @@ impl MemClock {
     pub fn new(_alloc: Global, moments: Numbers, faults: Numbers) -> Self
         requires some { 0 < length moments }
         requires each { All IsMoment moments }
-        ensures { result ≡ record { coming = moments_of moments; listed = faults; calls = 0; faults = 0 } }
+        ensures { result
+            ≡ record { coming = moments_of moments; listed = faults; calls = 0; faults = 0 } }
     {
         MemClock {
             moments,

@@ -30,7 +30,13 @@ impl Model for MemSink {
 
     ghost Value = { Writing };
 
-    ghost view = { λ s. record { taken = s.bytes; listed = s.listed; calls = s.calls; faults = s.faults; starved = s.starved } };
+    ghost view = { λ s. record {
+      taken = s.bytes;
+      listed = s.listed;
+      calls = s.calls;
+      faults = s.faults;
+      starved = s.starved;
+    } };
 
     ghost invariant = { λ s. s.listed ≡ [] → s.starved ≡ s.faults };
 }
@@ -38,7 +44,8 @@ impl Model for MemSink {
 impl MemSink {
     /// Returns an empty sink that fails the writes whose ordinals, from 1, are among `faults`.
     pub fn new(alloc: Global, faults: Numbers) -> Self
-        ensures { result ≡ record { taken = []; listed = faults; calls = 0; faults = 0; starved = 0 } }
+        ensures { result
+            ≡ record { taken = []; listed = faults; calls = 0; faults = 0; starved = 0 } }
     {
         MemSink {
             bytes: Bytes::new(alloc),

@@ -27,7 +27,12 @@ impl Model for MemSource {
 
     ghost Value = { Reading };
 
-    ghost view = { λ s. record { left = drop s.at s.bytes; listed = s.listed; calls = s.calls; faults = s.faults } };
+    ghost view = { λ s. record {
+      left = drop s.at s.bytes;
+      listed = s.listed;
+      calls = s.calls;
+      faults = s.faults;
+    } };
 
     ghost invariant = { λ s. s.at ≤ length s.bytes };
 }
@@ -63,7 +68,8 @@ impl Source for MemSource {
     fn read(&mut self, into: &mut [u8]) -> Result<usize, SourceFault>
         requires { 0 < length into.old }
         ensures within { IfOk result (λ count. count ≤ length into.new) }
-        ensures gave { IfOk result (λ count. Gave count into.new (Some self.old.left) (Some self.new.left)) }
+        ensures gave { IfOk result (λ count.
+            Gave count into.new (Some self.old.left) (Some self.new.left)) }
         ensures failed { OnErr result (Some self.new.left ≡ Some self.old.left) }
         ensures cause { IsCaused self.old.faults self.new.faults result }
         ensures reads { Reads result into.old into.new self.old self.new }

@@ -9,7 +9,8 @@ use crate::{Sink, SinkFault};
 /// `SinkFault` if a prefix of them was taken. The sink's count of faults rose, and a session closes
 /// then.
 pub fn say<O: Sink>(words: &[u8], out: &mut O) -> Result<(), SinkFault>
-    ensures said { Says words.now (O.taken out.old) (O.faults out.old) (O.taken out.new) (O.faults out.new) result }
+    ensures said { Says words.now (O.taken out.old) (O.faults out.old) (O.taken out.new)
+        (O.faults out.new) result }
     ensures sink { O.alike out.old out.new }
 {
     out.write(words)
@@ -19,7 +20,8 @@ pub fn say<O: Sink>(words: &[u8], out: &mut O) -> Result<(), SinkFault>
 ///
 /// `SinkFault` if a prefix of them was taken. The sink's count of faults rose.
 pub fn say_line<O: Sink>(words: &[u8], out: &mut O) -> Result<(), SinkFault>
-    ensures said { Says (words.now ++ 10 ∷ []) (O.taken out.old) (O.faults out.old) (O.taken out.new) (O.faults out.new) result }
+    ensures said { Says (words.now ++ 10 ∷ []) (O.taken out.old) (O.faults out.old)
+        (O.taken out.new) (O.faults out.new) result }
     ensures sink { O.alike out.old out.new }
 {
     say(words, out)?;

@@ -33,8 +33,11 @@ written_of place new = record {
 
 -- What an append leaves of the disk: the bytes are written, or the write failed, or nothing was
 -- done.
-abbrev pub AppendLeaves : {D : Type 0} → FileName → ℕ → List ℕ → (D → Option Content) → D → D → Result Written StoreRefusal → Type 0
-AppendLeaves file place piece content old new (Ok written) = Told (OneFile file (Wrote place piece)) (content old) (content new)
-AppendLeaves file place piece content old new (Err DiskFault) = Told (OneFile file (Tore place (length piece))) (content old) (content new)
+abbrev pub AppendLeaves : {D : Type 0} → FileName → ℕ → List ℕ → (D → Option Content) → D → D
+    → Result Written StoreRefusal → Type 0
+AppendLeaves file place piece content old new (Ok written) =
+    Told (OneFile file (Wrote place piece)) (content old) (content new)
+AppendLeaves file place piece content old new (Err DiskFault) =
+    Told (OneFile file (Tore place (length piece))) (content old) (content new)
 AppendLeaves file place piece content old new (Err NoMemory) = new ≡ old
 AppendLeaves file place piece content old new (Err (Damaged name at)) = ⊥

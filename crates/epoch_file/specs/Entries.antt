@@ -50,11 +50,13 @@ epoch_of es = magic ++ chain None es
 -- Two lists of entries whose epochs have the same bytes, fewer than 2^64, are equal.
 abbrev pub EpochsDiffer : Type 0
 EpochsDiffer =
-    (es fs : List EpochEntry) → AreEpochEntries es → AreEpochEntries fs → length (epoch_of es) < 2 ^ 64
+    (es fs : List EpochEntry) → AreEpochEntries es → AreEpochEntries fs
+    → length (epoch_of es) < 2 ^ 64
     → epoch_of es ≡ epoch_of fs → es ≡ fs
 
 -- Bytes determine the first entry that they start with, and the rest after it.
 abbrev pub EntriesDiffer : Type 0
 EntriesDiffer =
-    (parent : Option Id20) (e f : EpochEntry) (x y : List ℕ) → IsEpochEntry e → IsEpochEntry f → length (bytes_behind parent e ++ x) < 2 ^ 64
+    (parent : Option Id20) (e f : EpochEntry) (x y : List ℕ) → IsEpochEntry e → IsEpochEntry f
+    → length (bytes_behind parent e ++ x) < 2 ^ 64
     → bytes_behind parent e ++ x ≡ bytes_behind parent f ++ y → (e ≡ f) × (x ≡ y)

@@ -25,28 +25,34 @@ pub record HasParts (parent : Option Id20) (e : EpochEntry) (parts : Parts) : Ty
   pub kind : parts.kind ≡ e.kind
   pub text : parts.text.now ≡ e.text
   pub front : parts.front ≡ blob_front e.text
-  pub commit : parts.commit.now ≡ commit_content (commit_of e.text (id_of (tree_of e.kind e.text)) parent e.moment)
+  pub commit : parts.commit.now
+      ≡ commit_content (commit_of e.text (id_of (tree_of e.kind e.text)) parent e.moment)
   pub size : parts.size ≡ length (bytes_behind parent e)
 
 -- The parts of an entry are found whatever follows it.
 abbrev pub PartsAgain : List ℕ → Option Parts → Type 0
 PartsAgain bytes found =
-    (parent : Option Id20) (e : EpochEntry) (rest : List ℕ) → IsEpochEntry e → bytes ≡ bytes_behind parent e ++ rest
+    (parent : Option Id20) (e : EpochEntry) (rest : List ℕ) → IsEpochEntry e
+    → bytes ≡ bytes_behind parent e ++ rest
     → MatchOption found ⊥ (HasParts parent e)
 
 -- The ids of an entry.
-pub record AreIds (kind : EntryKind) (text : List ℕ) (moment : ℕ) (parent : Option Id20) (ids : EntryIds) : Type 0 where
+pub record AreIds (kind : EntryKind) (text : List ℕ) (moment : ℕ) (parent : Option Id20)
+    (ids : EntryIds) : Type 0 where
   pub blob : ids.blob ≡ blob_id_of text
   pub commit : ids.commit ≡ commit_id kind text moment parent
 
 -- The bytes are those of an entry with these ids, or they are others.
-abbrev pub Respells : List ℕ → EntryKind → List ℕ → ℕ → Option Id20 → Result (Option EntryIds) NoMemory → Type 0
+abbrev pub Respells : List ℕ → EntryKind → List ℕ → ℕ → Option Id20
+    → Result (Option EntryIds) NoMemory → Type 0
 Respells bytes kind text moment parent (Ok None) = bytes ≢ entry_bytes kind text moment parent
-Respells bytes kind text moment parent (Ok (Some ids)) = (bytes ≡ entry_bytes kind text moment parent) × AreIds kind text moment parent ids
+Respells bytes kind text moment parent (Ok (Some ids)) =
+    (bytes ≡ entry_bytes kind text moment parent) × AreIds kind text moment parent ids
 Respells bytes kind text moment parent (Err e) = Unit {0}
 
 -- An entry that bytes start with: what is recorded of it at its offset, and its length.
-pub record IsRead (place : ℕ) (parent : Option Id20) (bytes : List ℕ) (found : Seen × ℕ) : Type 0 where
+pub record IsRead (place : ℕ) (parent : Option Id20) (bytes : List ℕ) (found : Seen × ℕ)
+    : Type 0 where
   pub entry : EpochEntry
   pub valid : IsEpochEntry entry
   pub rest : List ℕ
@@ -62,9 +68,11 @@ Reads place parent bytes (Ok (Some found)) = IsRead place parent bytes found
 Reads place parent bytes (Err e) = Unit {0}
 
 -- The same for entries with a property.
-abbrev pub ReadsWhere : (EpochEntry → Type 0) → ℕ → Option Id20 → List ℕ → Result (Option (Seen × ℕ)) NoMemory → Type 0
+abbrev pub ReadsWhere : (EpochEntry → Type 0) → ℕ → Option Id20 → List ℕ
+    → Result (Option (Seen × ℕ)) NoMemory → Type 0
 ReadsWhere P place parent bytes (Ok None) =
-    IsParent parent → (e : EpochEntry) (rest : List ℕ) → IsEpochEntry e → bytes ≡ bytes_behind parent e ++ rest → P e → ⊥
+    IsParent parent → (e : EpochEntry) (rest : List ℕ) → IsEpochEntry e
+    → bytes ≡ bytes_behind parent e ++ rest → P e → ⊥
 ReadsWhere P place parent bytes (Ok (Some found)) = IsRead place parent bytes found
 ReadsWhere P place parent bytes (Err e) = Unit {0}
 

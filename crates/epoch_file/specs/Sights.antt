@@ -8,17 +8,20 @@ use Rattle.epoch_file.specs.Entries.{EpochEntry, IsEpochEntry, bytes_behind}
 use Rattle.epoch_file.specs.Walking.{blob_front}
 
 -- The held bytes start with an entry, and they are the first of the bytes that are left.
-pub record Starts (parent : Option Id20) (e : EpochEntry) (held more rest : List ℕ) (left : ℕ) : Type 0 where
+pub record Starts (parent : Option Id20) (e : EpochEntry) (held more rest : List ℕ) (left : ℕ)
+    : Type 0 where
   pub valid : IsEpochEntry e
   pub is : held ++ more ≡ bytes_behind parent e ++ rest
   pub all : length (held ++ more) ≡ left
 
 -- What a result says of the entries with a property.
 abbrev pub SeesWhere : (Option Id20 → EpochEntry → Type 0) → List ℕ → ℕ → Sight → Type 0
-SeesWhere P held left Lacks = (parent : Option Id20) (e : EpochEntry) (more rest : List ℕ) → P parent e → Starts parent e held more rest left → ⊥
+SeesWhere P held left Lacks = (parent : Option Id20) (e : EpochEntry) (more rest : List ℕ)
+    → P parent e → Starts parent e held more rest left → ⊥
 SeesWhere P held left Short = length held < left
 SeesWhere P held left Whole =
-    (parent : Option Id20) (e : EpochEntry) (more rest : List ℕ) → P parent e → Starts parent e held more rest left → length (bytes_behind parent e) ≤ length held
+    (parent : Option Id20) (e : EpochEntry) (more rest : List ℕ) → P parent e
+    → Starts parent e held more rest left → length (bytes_behind parent e) ≤ length held
 
 -- What a result says of any entry.
 abbrev pub Sees : List ℕ → ℕ → Sight → Type 0
@@ -44,5 +47,7 @@ IsRoomFor held left count false = (count ≤ length held) ⊎ (left ≤ length h
 -- If there is a commit's type and size at an offset, the result is the offset after its content.
 abbrev pub EndsCommit : ℕ → List ℕ → Option ℕ → Type 0
 EndsCommit at held found =
-    (size : ℕ) (rest : List ℕ) → at ≤ length held → at + length (codes "commit " ++ decimal size) + 1 + size < 2 ^ 64
-    → drop at held ≡ codes "commit " ++ (decimal size ++ 0 ∷ rest) → found ≡ Some (at + length (codes "commit " ++ decimal size) + 1 + size)
+    (size : ℕ) (rest : List ℕ) → at ≤ length held
+    → at + length (codes "commit " ++ decimal size) + 1 + size < 2 ^ 64
+    → drop at held ≡ codes "commit " ++ (decimal size ++ 0 ∷ rest)
+    → found ≡ Some (at + length (codes "commit " ++ decimal size) + 1 + size)

@@ -25,13 +25,17 @@ abbrev pub Brings : Part → List ℕ → List ℕ → Result Bool WalkRefusal �
 Brings part old new (Ok true) k =
     Shows (bytes_of (k part.file).seen) part old
     → Shows (bytes_of (k part.file).seen) part new
-    × ((parent : Option Id20) (e : EpochEntry) (rest : List ℕ) → IsEpochEntry e → left_of (bytes_of (k part.file).seen) part ≡ bytes_behind parent e ++ rest → length (bytes_behind parent e) ≤ length new)
-Brings part old new (Ok false) k = Shows (bytes_of (k part.file).seen) part old → (parent : Option Id20) → LacksEntry parent (left_of (bytes_of (k part.file).seen) part)
+    × ((parent : Option Id20) (e : EpochEntry) (rest : List ℕ) → IsEpochEntry e
+    → left_of (bytes_of (k part.file).seen) part ≡ bytes_behind parent e ++ rest
+    → length (bytes_behind parent e) ≤ length new)
+Brings part old new (Ok false) k = Shows (bytes_of (k part.file).seen) part old
+    → (parent : Option Id20) → LacksEntry parent (left_of (bytes_of (k part.file).seen) part)
 Brings part old new (Err e) k = Unit {0}
 
 -- A window that showed a part of a file still shows it.
 abbrev pub KeepsShown : Part → List ℕ → List ℕ → Content → Type 0
-KeepsShown part old new k = Shows (bytes_of (k part.file).seen) part old → Shows (bytes_of (k part.file).seen) part new
+KeepsShown part old new k = Shows (bytes_of (k part.file).seen) part old
+    → Shows (bytes_of (k part.file).seen) part new
 
 -- So far a walk has found entries from the front of a file on.
 pub record Walked (bytes : List ℕ) (s : State) : Type 0 where
@@ -54,14 +58,17 @@ next_state s found = record {
 
 -- The entry at the front of the window is taken, or there is none.
 abbrev pub Takes : State → State → Result Bool NoRoom → Type 0
-Takes old new (Ok true) = (found : Seen × ℕ) × IsRead old.part.place old.parent old.window found × (new ≡ next_state old found)
+Takes old new (Ok true) = (found : Seen × ℕ) × IsRead old.part.place old.parent old.window found
+    × (new ≡ next_state old found)
 Takes old new (Ok false) = (IsParent old.parent → LacksEntry old.parent old.window) × (new ≡ old)
 Takes old new (Err e) = Unit {0}
 
 -- A turn of a walk finds one more entry, or that there is none.
 abbrev pub Turns : State → State → Result Bool WalkRefusal → Content → Type 0
-Turns old new (Ok true) k = Walked (bytes_of (k old.part.file).seen) old → Walked (bytes_of (k old.part.file).seen) new
-Turns old new (Ok false) k = Walked (bytes_of (k old.part.file).seen) old → LacksEntry old.parent (left_of (bytes_of (k old.part.file).seen) old.part)
+Turns old new (Ok true) k = Walked (bytes_of (k old.part.file).seen) old
+    → Walked (bytes_of (k old.part.file).seen) new
+Turns old new (Ok false) k = Walked (bytes_of (k old.part.file).seen) old
+    → LacksEntry old.parent (left_of (bytes_of (k old.part.file).seen) old.part)
 Turns old new (Err e) k = Unit {0}
 
 -- The part that is walked keeps its file and its end.
@@ -96,7 +103,16 @@ HasMagic window false = (rest : List ℕ) → window ≢ magic ++ rest
 abbrev pub BeginsWith : Part → List ℕ → Option State → Type 0
 BeginsWith part window None = (rest : List ℕ) → window ≢ magic ++ rest
 BeginsWith part window (Some s) =
-    (rest : List ℕ) × (window ≡ magic ++ rest) × (s ≡ record { part = record { file = part.file; place = 8; end = part.end }; window = rest; parent = None; seen = [] })
+    (rest : List ℕ) × (window ≡ magic ++ rest) × (s ≡ record {
+      part = record {
+        file = part.file;
+        place = 8;
+        end = part.end;
+      };
+      window = rest;
+      parent = None;
+      seen = [];
+    })
 
 -- A walk starts in a part of this file, with at most n bytes.
 abbrev pub BeginsIn : FileName → ℕ → Result (Option State) WalkRefusal → Type 0
@@ -111,7 +127,8 @@ IsWanted s n false = (s.part.place ≡ n) × (0 < length s.seen)
 
 -- A walk that led from one state to another.
 abbrev pub KeepsWalked : State → State → Content → Type 0
-KeepsWalked old new k = Walked (bytes_of (k old.part.file).seen) old → Walked (bytes_of (k old.part.file).seen) new
+KeepsWalked old new k = Walked (bytes_of (k old.part.file).seen) old
+    → Walked (bytes_of (k old.part.file).seen) new
 
 -- The result of a walk over the first n bytes, continued from a state.
 abbrev pub GoesOn : ℕ → List ℕ → State → Result (List Seen) WalkRefusal → Type 0

@@ -33,7 +33,8 @@ seen_at place parent e = record {
 abbrev pub seen_from : ℕ → Option Id20 → List EpochEntry → List Seen
 seen_from place parent [] = []
 seen_from place parent (e ∷ es) =
-    seen_at place parent e ∷ seen_from (place + length (bytes_behind parent e)) (Some (commit_behind parent e)) es
+    seen_at place parent e
+    ∷ seen_from (place + length (bytes_behind parent e)) (Some (commit_behind parent e)) es
 
 -- The first n bytes of a file are there, and are an epoch of at least one entry, with these
 -- records.
@@ -47,7 +48,8 @@ pub record IsEpoch (n : ℕ) (bytes : List ℕ) (seen : List Seen) : Type 0 wher
 
 -- The bytes start with no entry after this parent.
 abbrev pub LacksEntry : Option Id20 → List ℕ → Type 0
-LacksEntry parent bytes = (e : EpochEntry) (rest : List ℕ) → IsEpochEntry e → bytes ≢ bytes_behind parent e ++ rest
+LacksEntry parent bytes = (e : EpochEntry) (rest : List ℕ) → IsEpochEntry e
+    → bytes ≢ bytes_behind parent e ++ rest
 
 -- The first n bytes of a file start with the magic and these entries, and there is no entry at the
 -- offset after them, although there is none yet or the bytes go on.

@@ -15,7 +15,8 @@ pub record Shows (bytes : List ℕ) (part : Part) (window : List ℕ) : Type 0 w
 -- More bytes of a file came into a window, as many as it has room for or as are left; or none came.
 abbrev pub Comes : Part → ℕ → List ℕ → List ℕ → Result Bool WalkRefusal → Content → Type 0
 Comes part room old new (Ok true) k =
-    Shows (bytes_of (k part.file).seen) part old → Shows (bytes_of (k part.file).seen) part new × (min (length old + room) (part.end - part.place) ≤ length new)
+    Shows (bytes_of (k part.file).seen) part old → Shows (bytes_of (k part.file).seen) part new
+    × (min (length old + room) (part.end - part.place) ≤ length new)
 Comes part room old new (Ok false) k = Shows (bytes_of (k part.file).seen) part old → ⊥
 Comes part room old new (Err e) k = Unit {0}
 

@@ -36,7 +36,8 @@ pub fn append_entry<D: Disk>(
     requires place { at < 2 ^ 62 }
     ensures written { IfOk result (λ written. written ≡ written_of at entry.now) }
     ensures left { AppendLeaves file at (appended at entry.now) D.content disk.old disk.new result }
-    ensures time { Elapses (D.moment disk.old) (D.moment disk.new) (D.left_since disk.old) (D.left_since disk.new) (D.content disk.new) }
+    ensures time { Elapses (D.moment disk.old) (D.moment disk.new) (D.left_since disk.old)
+        (D.left_since disk.new) (D.content disk.new) }
     ensures cause { RoseIf (result ≡ Err StoreRefusal.DiskFault) (D.faults disk.old) (D.faults disk.new) }
     ensures count { D.reads disk.new ≡ D.reads disk.old }
 {
@@ -57,7 +58,8 @@ pub fn append_entry<D: Disk>(
 fn entry_piece(alloc: Global, at: u64, entry: &NewEntry<'_>) -> Result<(Bytes, EntryIds), NoMemory>
     ensures piece { IfOk result (λ made. made.0 ≡ appended at entry.now) }
     ensures blob { IfOk result (λ made. made.1.blob ≡ blob_id_of entry.now.text.now) }
-    ensures commit { IfOk result (λ made. made.1.commit ≡ commit_behind entry.now.parent (entry_of entry.now)) }
+    ensures commit { IfOk result (λ made.
+        made.1.commit ≡ commit_behind entry.now.parent (entry_of entry.now)) }
 {
     let mut piece = front(alloc, at)?;
     let ids = push_entry(

@@ -54,9 +54,12 @@ fn read_parts(bytes: &[u8]) -> Option<Parts<'_>>
 
 /// Reads the content of the blob that bytes start with, and the blob's length.
 fn blob_ahead(bytes: &[u8]) -> Option<(&[u8], usize)>
-    ensures inside { IfSome result (λ found. (length found.0.now ≤ found.1) × (found.1 ≤ length bytes.now)) }
-    ensures again { (content rest : List ℕ) → HasSize content → bytes.now ≡ blob_spelling content ++ rest
-        → MatchOption result ⊥ (λ found. (found.0.now ≡ content) × (found.1 ≡ length (blob_spelling content))) }
+    ensures inside { IfSome result (λ found. (length found.0.now ≤ found.1)
+        × (found.1 ≤ length bytes.now)) }
+    ensures again { (content rest : List ℕ) → HasSize content
+        → bytes.now ≡ blob_spelling content ++ rest
+        → MatchOption result ⊥ (λ found. (found.0.now ≡ content)
+        × (found.1 ≡ length (blob_spelling content))) }
 {
     match read_object(bytes)? {
         (Object::Blob(content), len) => Some((content, len)),
@@ -67,8 +70,10 @@ fn blob_ahead(bytes: &[u8]) -> Option<(&[u8], usize)>
 /// Reads the kind of entry in the tree that bytes start with, and the tree's length.
 fn tree_ahead(bytes: &[u8]) -> Option<(EntryKind, usize)>
     ensures inside { IfSome result (λ found. found.1 ≤ length bytes.now) }
-    ensures again { (kind : EntryKind) (id : Id20) (rest : List ℕ) → IsId id → bytes.now ≡ tree_spelling kind id ++ rest
-        → MatchOption result ⊥ (λ found. (found.0 ≡ kind) × (found.1 ≡ length (tree_spelling kind id))) }
+    ensures again { (kind : EntryKind) (id : Id20) (rest : List ℕ) → IsId id
+        → bytes.now ≡ tree_spelling kind id ++ rest
+        → MatchOption result ⊥ (λ found. (found.0 ≡ kind)
+        × (found.1 ≡ length (tree_spelling kind id))) }
 {
     match read_object(bytes)? {
         (Object::Tree { kind, id: _ }, len) => Some((kind, len)),
@@ -79,8 +84,10 @@ fn tree_ahead(bytes: &[u8]) -> Option<(EntryKind, usize)>
 /// Reads the content of the commit that bytes start with, and the commit's length.
 fn commit_ahead(bytes: &[u8]) -> Option<(&[u8], usize)>
     ensures inside { IfSome result (λ found. found.1 ≤ length bytes.now) }
-    ensures again { (content rest : List ℕ) → HasSize content → bytes.now ≡ spelling (CommitOf content) ++ rest
-        → MatchOption result ⊥ (λ found. (found.0.now ≡ content) × (found.1 ≡ length (spelling (CommitOf content)))) }
+    ensures again { (content rest : List ℕ) → HasSize content
+        → bytes.now ≡ spelling (CommitOf content) ++ rest
+        → MatchOption result ⊥ (λ found. (found.0.now ≡ content)
+        × (found.1 ≡ length (spelling (CommitOf content)))) }
 {
     match read_object(bytes)? {
         (Object::Commit(content), len) => Some((content, len)),
@@ -93,7 +100,8 @@ fn commit_ahead(bytes: &[u8]) -> Option<(&[u8], usize)>
 /// The result is `None` if the content is no commit's, or the moment is after the last.
 fn moment_of(alloc: Global, content: &[u8]) -> Result<Option<u64>, NoMemory>
     ensures bound { IfOk result (λ found. IfSome found (λ moment. moment ≤ last_moment)) }
-    ensures again { (c : CommitRecord) → IsCommit c → content.now ≡ commit_content c → c.committed ≤ last_moment → IfOk result (λ found. found ≡ Some c.committed) }
+    ensures again { (c : CommitRecord) → IsCommit c → content.now ≡ commit_content c
+        → c.committed ≤ last_moment → IfOk result (λ found. found ≡ Some c.committed) }
 {
     match read_commit(alloc, content)? {
         Some(commit) => {
@@ -187,7 +195,8 @@ fn read_at_moment(
     requires parted { IsParted bytes.now parts.now }
     requires again { PartsAgain bytes.now (Some parts.now) }
     requires moment { moment ≤ last_moment }
-    ensures { ReadsWhere (λ e. HasParts parent e parts.now × (moment ≡ e.moment)) place parent bytes.now result }
+    ensures { ReadsWhere (λ e. HasParts parent e parts.now
+        × (moment ≡ e.moment)) place parent bytes.now result }
 {
     if !is_stored(parts.text) {
         return Ok(None);

@@ -50,7 +50,8 @@ fn is_short(held: &[u8], left: u64, count: usize) -> bool
 /// Returns the offset of an entry's commit, by the size of its blob.
 fn commit_at(held: &[u8]) -> Option<usize>
     ensures bound { IfSome result (λ at. at < 2 ^ 62) }
-    ensures again { (text rest : List ℕ) → length text ≤ max_text_len → held.now ≡ codes "blob " ++ (decimal (length text) ++ 0 ∷ rest) → result ≡ Some (commit_place text) }
+    ensures again { (text rest : List ℕ) → length text ≤ max_text_len → held.now ≡ codes "blob "
+        ++ (decimal (length text) ++ 0 ∷ rest) → result ≡ Some (commit_place text) }
 {
     let (front, size) = head(b"blob ", held)?;
     if size > MAX_TEXT_LEN {
@@ -102,7 +103,8 @@ fn look_at_all(held: &[u8], left: u64, len: u64) -> Sight
 fn head(word: &[u8], bytes: &[u8]) -> Option<(usize, u64)>
     requires { length word.now ≤ 16 }
     ensures bound { IfSome result (λ found. found.0 ≤ 37) }
-    ensures again { (size : ℕ) (rest : List ℕ) → size < 2 ^ 64 → bytes.now ≡ word.now ++ (decimal size ++ 0 ∷ rest)
+    ensures again { (size : ℕ) (rest : List ℕ) → size < 2 ^ 64
+        → bytes.now ≡ word.now ++ (decimal size ++ 0 ∷ rest)
         → result ≡ Some (length word.now + length (decimal size) + 1, size) }
 {
     let digits = after(word, bytes)?;
@@ -112,7 +114,8 @@ fn head(word: &[u8], bytes: &[u8]) -> Option<(usize, u64)>
 
 /// Returns the bytes after a word that they start with.
 pub(crate) fn after<'a>(word: &[u8], bytes: &'a [u8]) -> Option<&'a [u8]>
-    ensures { MatchOption result ((rest : List ℕ) → bytes.now ≢ word.now ++ rest) (λ rest. bytes.now ≡ word.now ++ rest.now) }
+    ensures { MatchOption result ((rest : List ℕ)
+        → bytes.now ≢ word.now ++ rest) (λ rest. bytes.now ≡ word.now ++ rest.now) }
 {
     bytes.strip_prefix(word)
 }
@@ -120,7 +123,8 @@ pub(crate) fn after<'a>(word: &[u8], bytes: &'a [u8]) -> Option<&'a [u8]>
 /// Returns the number of digits before the first NUL, and the number that they spell.
 fn number(bytes: &[u8]) -> Option<(usize, u64)>
     ensures bound { IfSome result (λ found. found.0 ≤ 20) }
-    ensures again { (size : ℕ) (rest : List ℕ) → size < 2 ^ 64 → bytes.now ≡ decimal size ++ 0 ∷ rest → result ≡ Some (length (decimal size), size) }
+    ensures again { (size : ℕ) (rest : List ℕ) → size < 2 ^ 64
+        → bytes.now ≡ decimal size ++ 0 ∷ rest → result ≡ Some (length (decimal size), size) }
 {
     let len = memchr(0, bytes)?;
     let size = read_decimal(bytes.split_at(len).0)?;

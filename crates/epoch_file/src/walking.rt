@@ -32,9 +32,11 @@ pub fn walk<D: Disk>(
     file: FileName,
     length: u64,
 ) -> Result<SeenList, WalkRefusal>
-    ensures walked { WhereTold (λ k. Walks length (bytes_of (k file).seen) result) (D.content disk.old) }
+    ensures walked { WhereTold (λ k.
+        Walks length (bytes_of (k file).seen) result) (D.content disk.old) }
     ensures same { Told Unchanged (D.content disk.old) (D.content disk.new) }
-    ensures any_moment { LeavesOnly D.moment D.left_since disk.old disk.new (Image (D.content disk.old)) }
+    ensures any_moment { LeavesOnly D.moment D.left_since disk.old disk.new
+        (Image (D.content disk.old)) }
     ensures cause { RoseIf (result ≡ Err WalkRefusal.DiskFault) (D.faults disk.old) (D.faults disk.new) }
 {
     let mut piece = piece_room(alloc, length)?;
@@ -54,7 +56,8 @@ fn begin<D: Disk>(
     piece: &mut [u8],
 ) -> Result<Option<State>, WalkRefusal>
     requires room { 8 ≤ length piece.old }
-    ensures begins { WhereTold (λ k. Begins count (bytes_of (k file).seen) result) (D.content disk.old) }
+    ensures begins { WhereTold (λ k.
+        Begins count (bytes_of (k file).seen) result) (D.content disk.old) }
     ensures inside { BeginsIn file count result }
     ensures reads { OnlyReads D.content D.moment D.left_since D.faults disk.old disk.new }
     ensures fault { StopRose (D.faults disk.old) (D.faults disk.new) result }
@@ -82,7 +85,8 @@ fn begin_in<D: Disk>(
     requires room { 8 ≤ length piece.old }
     requires front { part.now.place ≡ 0 }
     requires some { 8 ≤ part.now.end }
-    ensures begins { WhereTold (λ k. BeginsAt part.now.end (bytes_of (k part.now.file).seen) result) (D.content disk.old) }
+    ensures begins { WhereTold (λ k.
+        BeginsAt part.now.end (bytes_of (k part.now.file).seen) result) (D.content disk.old) }
     ensures inside { BeginsIn part.now.file part.now.end result }
     ensures reads { OnlyReads D.content D.moment D.left_since D.faults disk.old disk.new }
     ensures fault { StopRose (D.faults disk.old) (D.faults disk.new) result }
@@ -133,7 +137,8 @@ fn go_on<D: Disk>(
     requires room { 8 ≤ length piece.old }
     requires inside { IsInside start.part start.window }
     requires end { start.part.end ≤ count }
-    ensures walked { WhereTold (λ k. GoesOn count (bytes_of (k start.part.file).seen) start result) (D.content disk.old) }
+    ensures walked { WhereTold (λ k.
+        GoesOn count (bytes_of (k start.part.file).seen) start result) (D.content disk.old) }
     ensures reads { OnlyReads D.content D.moment D.left_since D.faults disk.old disk.new }
     ensures fault { FaultRose (D.faults disk.old) (D.faults disk.new) result }
 {

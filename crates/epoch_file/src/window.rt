@@ -110,7 +110,8 @@ pub(crate) fn read_on<D: Disk>(
 ) -> Result<bool, WalkRefusal>
     requires room { 0 < length piece.old }
     requires wanted { part.now.place + length window.old < part.now.end }
-    ensures came { WhereTold (Comes part.now (length piece.old) window.old window.new result) (D.content disk.old) }
+    ensures came { WhereTold (Comes part.now (length piece.old) window.old window.new result)
+        (D.content disk.old) }
     ensures grows { Grows window.old window.new result }
     ensures inside { IsInside part.now window.new }
     ensures reads { OnlyReads D.content D.moment D.left_since D.faults disk.old disk.new }
@@ -131,7 +132,8 @@ fn read_into<D: Disk>(
 ) -> Result<bool, WalkRefusal>
     requires some { 0 < length room.old }
     requires fits { part.now.place + length window.old + length room.old ≤ part.now.end }
-    ensures came { WhereTold (Comes part.now (length room.old) window.old window.new result) (D.content disk.old) }
+    ensures came { WhereTold (Comes part.now (length room.old) window.old window.new result)
+        (D.content disk.old) }
     ensures grows { Grows window.old window.new result }
     ensures inside { IsInside part.now window.new }
     ensures reads { OnlyReads D.content D.moment D.left_since D.faults disk.old disk.new }

@@ -51,17 +51,20 @@ named_bytes root files e = take (named_length root e) (bytes_of (files (epoch_fi
 pub record AreWhole (root : Root) (files : Files) (epoch : ℕ) (entries : List Entry) : Type 0 where
   pub below : AllByRecursion (λ (e : Entry). e.epoch < epoch) entries
   pub lengths : (e : ℕ) → e < epoch → named_length root e ≡ length (epoch_bytes (in_epoch entries e))
-  pub fronts : (e : ℕ) → e < epoch → Fronts (epoch_bytes (in_epoch entries e)) (files (epoch_file_of root e))
+  pub fronts : (e : ℕ) → e < epoch
+      → Fronts (epoch_bytes (in_epoch entries e)) (files (epoch_file_of root e))
 
 -- The files of all epochs are those of these entries, and they have all records of the map that
 -- have a message.
-pub record AreOpened (root : Root) (files : Files) (rs : List Record) (entries : List Entry) : Type 0 where
+pub record AreOpened (root : Root) (files : Files) (rs : List Record) (entries : List Entry)
+    : Type 0 where
   pub first : AreFirst rs [] entries
   pub whole : AreWhole root files epoch_count entries
 
 -- The epochs below this one are whole, and have the first entries of the map. This one doesn't
 -- start with the magic.
-pub record LacksFront (root : Root) (files : Files) (rs : List Record) (epoch place : ℕ) : Type 0 where
+pub record LacksFront (root : Root) (files : Files) (rs : List Record) (epoch place : ℕ)
+    : Type 0 where
   pub before : List Entry
   pub behind : List Record
   pub first : AreFirst rs behind before
@@ -84,7 +87,8 @@ pub record LacksNext (root : Root) (files : Files) (rs : List Record) (epoch pla
   pub spelled : named_bytes root files epoch ≡ (magic ++ entries_bytes None here) ++ rest
   pub place_is : place ≡ 8 + length (entries_bytes None here)
   pub wanted : (here ≡ []) ⊎ (place < named_length root epoch)
-  pub lacks : (next : Entry) (others : List Record) (more : List ℕ) → next.epoch ≡ epoch → AreFirst rs others ((before ++ here) ++ next ∷ [])
+  pub lacks : (next : Entry) (others : List Record) (more : List ℕ) → next.epoch ≡ epoch
+      → AreFirst rs others ((before ++ here) ++ next ∷ [])
       → rest ≢ bytes_behind (last_commit None here) (in_file next) ++ more
 
 -- All epochs are whole, and have the first entries of the map. The map has one more record, whose
@@ -103,4 +107,5 @@ pub record LacksLast (root : Root) (files : Files) (rs : List Record) (epoch pla
 -- that should have the map's next message.
 abbrev pub IsFirstDamage : Root → Files → List Record → ℕ → ℕ → Type 0
 IsFirstDamage root files rs epoch place =
-    ((epoch < epoch_count) × LacksFront root files rs epoch place) ⊎ (((epoch < epoch_count) × LacksNext root files rs epoch place) ⊎ LacksLast root files rs epoch place)
+    ((epoch < epoch_count) × LacksFront root files rs epoch place) ⊎ (((epoch < epoch_count)
+    × LacksNext root files rs epoch place) ⊎ LacksLast root files rs epoch place)

@@ -55,7 +55,8 @@ IsCache root name = (0 < root.cache.length) × (name ≡ cache_name root.cache.g
 
 -- A root names a file.
 abbrev pub IsNamed : Root → FileName → Type 0
-IsNamed root name = (name ≡ root_name) ⊎ ((name ≡ map_file_of root) ⊎ (((e : ℕ) × (e < epoch_count) × (name ≡ epoch_file_of root e)) ⊎ IsCache root name))
+IsNamed root name = (name ≡ root_name) ⊎ ((name ≡ map_file_of root)
+    ⊎ (((e : ℕ) × (e < epoch_count) × (name ≡ epoch_file_of root e)) ⊎ IsCache root name))
 
 -- Files are exactly those of a map and epochs of these bytes by a root: each file that it names
 -- ends where its bytes end, and there is no other file. An empty map has a file without bytes, or
@@ -73,7 +74,8 @@ as_read k name = (k name).seen
 -- A disk is exactly that of a map and epochs by a root in a slot: a crash leaves files that stand
 -- for them, the other slot is ready for the next root, and the files as reads give them are exactly
 -- these.
-pub record IsOn (root : Root) (slot : ℕ) (map : List ℕ) (epochs : ℕ → List ℕ) (k : Content) : Type 0 where
+pub record IsOn (root : Root) (slot : ℕ) (map : List ℕ) (epochs : ℕ → List ℕ) (k : Content)
+    : Type 0 where
   pub images : (image : Files) → Image (Some k) image → StandsFor root map epochs image
   pub roots : EachRoot (Ready (1 - slot) (spelling root)) (Some k)
   pub exact : IsExact root map epochs (as_read k)

@@ -73,7 +73,8 @@ pub record IsDamagedEpoch (files : Files) (file : FileName) (at : ℕ) : Type 0 
 
 -- A file is the first one that is damaged, at this offset.
 abbrev pub IsDamagedFile : Files → FileName → ℕ → Type 0
-IsDamagedFile files file at = IsDamagedRoot files file at ⊎ (IsDamagedMap files file at ⊎ IsDamagedEpoch files file at)
+IsDamagedFile files file at = IsDamagedRoot files file at
+    ⊎ (IsDamagedMap files file at ⊎ IsDamagedEpoch files file at)
 
 -- The results of reading files.
 abbrev pub Finds : Files → Result Found OpenRefusal → Type 0
@@ -95,13 +96,15 @@ FindsRoot files (Err NoMemory) = Unit {0}
 abbrev pub FindsRecords : Root → Files → Result (List Record) OpenRefusal → Type 0
 FindsRecords root files (Ok rs) = HasRecords root files rs
 FindsRecords root files (Err NoArchive) = ⊥
-FindsRecords root files (Err (Damaged file at)) = (file ≡ map_file_of root) × map_walks.IsDamaged (root.next - 1) at (bytes_of (files (map_file_of root)))
+FindsRecords root files (Err (Damaged file at)) = (file ≡ map_file_of root)
+    × map_walks.IsDamaged (root.next - 1) at (bytes_of (files (map_file_of root)))
 FindsRecords root files (Err DiskFault) = Unit {0}
 FindsRecords root files (Err NoMemory) = Unit {0}
 
 -- A file is that of an epoch, and it is the first one that is damaged.
 abbrev pub IsEpochDamage : Root → Files → List Record → FileName → ℕ → Type 0
-IsEpochDamage root files rs file at = (epoch : ℕ) × (file ≡ epoch_file_of root epoch) × IsFirstDamage root files rs epoch at
+IsEpochDamage root files rs file at = (epoch : ℕ) × (file ≡ epoch_file_of root epoch)
+    × IsFirstDamage root files rs epoch at
 
 -- Why the epochs of a root are not read.
 abbrev pub StopsBy : Root → Files → List Record → OpenRefusal → Type 0
@@ -117,29 +120,36 @@ ReadsUpTo root files rs epoch (Err refusal) = StopsBy root files rs refusal
 
 -- One more epoch is read, or why not, whatever was read before.
 abbrev pub ReadsEpoch : Root → ℕ → Joined → Result Joined OpenRefusal → Files → Type 0
-ReadsEpoch root epoch old result files = (rs : List Record) → RootFits root → IsReadUpTo root files rs epoch old → ReadsUpTo root files rs (epoch + 1) result
+ReadsEpoch root epoch old result files = (rs : List Record) → RootFits root
+    → IsReadUpTo root files rs epoch old → ReadsUpTo root files rs (epoch + 1) result
 
 -- The same if the entries of its file are known.
 abbrev pub ReadsSeen : Root → ℕ → Joined → List Seen → Result Joined OpenRefusal → Files → Type 0
 ReadsSeen root epoch old seen result files =
-    (rs : List Record) → RootFits root → IsReadUpTo root files rs epoch old → IsEpoch (named_length root epoch) (bytes_of (files (epoch_file_of root epoch))) seen
+    (rs : List Record) → RootFits root → IsReadUpTo root files rs epoch old
+    → IsEpoch (named_length root epoch) (bytes_of (files (epoch_file_of root epoch))) seen
     → ReadsUpTo root files rs (epoch + 1) result
 
 -- Why an epoch isn't read whose file is no epoch from an offset on, whatever was read before.
 abbrev pub StopsEpoch : Root → ℕ → Joined → ℕ → OpenRefusal → Files → Type 0
 StopsEpoch root epoch old place refusal files =
-    (rs : List Record) → RootFits root → 0 < named_length root epoch → IsReadUpTo root files rs epoch old
-    → IsDamagedAt (named_length root epoch) (bytes_of (files (epoch_file_of root epoch))) place → StopsBy root files rs refusal
+    (rs : List Record) → RootFits root → 0 < named_length root epoch
+    → IsReadUpTo root files rs epoch old
+    → IsDamagedAt (named_length root epoch) (bytes_of (files (epoch_file_of root epoch))) place
+    → StopsBy root files rs refusal
 
 -- The same if the entries before that offset are known.
 abbrev pub StopsSeen : Root → ℕ → Joined → ℕ → List Seen → OpenRefusal → Files → Type 0
 StopsSeen root epoch old place seen refusal files =
-    (rs : List Record) → RootFits root → IsReadUpTo root files rs epoch old → IsDamagedAt (named_length root epoch) (bytes_of (files (epoch_file_of root epoch))) place
-    → IsEpoch place (bytes_of (files (epoch_file_of root epoch))) seen → StopsBy root files rs refusal
+    (rs : List Record) → RootFits root → IsReadUpTo root files rs epoch old
+    → IsDamagedAt (named_length root epoch) (bytes_of (files (epoch_file_of root epoch))) place
+    → IsEpoch place (bytes_of (files (epoch_file_of root epoch))) seen
+    → StopsBy root files rs refusal
 
 -- All epochs are read, or why not, if none was read before.
 abbrev pub ReadsEach : Root → Joined → Result Joined OpenRefusal → Files → Type 0
-ReadsEach root old result files = (rs : List Record) → RootFits root → IsReadUpTo root files rs 0 old → ReadsUpTo root files rs epoch_count result
+ReadsEach root old result files = (rs : List Record) → RootFits root
+    → IsReadUpTo root files rs 0 old → ReadsUpTo root files rs epoch_count result
 
 -- What is kept of the entries of all epochs, or why they are not read.
 abbrev pub KeepsAll : Root → Files → List Record → Result (Vec StoredEntry) OpenRefusal → Type 0
@@ -148,11 +158,13 @@ KeepsAll root files rs (Err refusal) = StopsBy root files rs refusal
 
 -- The same if the epochs are read.
 abbrev pub EndsWith : Root → Joined → Result (Vec StoredEntry) OpenRefusal → Type 0
-EndsWith root joined result = (rs : List Record) (files : Files) → IsReadUpTo root files rs epoch_count joined → KeepsAll root files rs result
+EndsWith root joined result = (rs : List Record) (files : Files)
+    → IsReadUpTo root files rs epoch_count joined → KeepsAll root files rs result
 
 -- The same if the records of the map are these.
 abbrev pub KeepsBy : Root → List Record → Result (Vec StoredEntry) OpenRefusal → Files → Type 0
-KeepsBy root rs result files = RootFits root → HasRecords root files rs → KeepsAll root files rs result
+KeepsBy root rs result files = RootFits root → HasRecords root files rs
+    → KeepsAll root files rs result
 
 -- The map is whole, and what is kept of the entries of all epochs.
 pub record HasEntries (root : Root) (files : Files) (kept : List StoredEntry) : Type 0 where
@@ -170,6 +182,8 @@ pub record LacksEntries (root : Root) (files : Files) (file : FileName) (at : �
 abbrev pub FindsEntries : Root → Files → Result (Vec StoredEntry) OpenRefusal → Type 0
 FindsEntries root files (Ok kept) = HasEntries root files kept.items
 FindsEntries root files (Err NoArchive) = ⊥
-FindsEntries root files (Err (Damaged file at)) = ((file ≡ map_file_of root) × map_walks.IsDamaged (root.next - 1) at (bytes_of (files (map_file_of root)))) ⊎ LacksEntries root files file at
+FindsEntries root files (Err (Damaged file at)) = ((file ≡ map_file_of root)
+    × map_walks.IsDamaged (root.next - 1) at (bytes_of (files (map_file_of root))))
+    ⊎ LacksEntries root files file at
 FindsEntries root files (Err DiskFault) = Unit {0}
 FindsEntries root files (Err NoMemory) = Unit {0}

@@ -34,7 +34,8 @@ ShutOrFirst body (Some k) image = IsShutOrFirst body k image
 -- What a crash leaves while an archive is created: what it might have left before; and if no slot
 -- was open, no open slot, or the archive without entries.
 abbrev pub MakingLeaves : Archive → Option Content → Files → Type 0
-MakingLeaves a content image = Image content image ⊎ (WhereTold (λ k. IsShutFile (k root_name).seen) content × (IsShutFile (image root_name) ⊎ Recovers image a))
+MakingLeaves a content image = Image content image ⊎ (WhereTold (λ k.
+    IsShutFile (k root_name).seen) content × (IsShutFile (image root_name) ⊎ Recovers image a))
 
 -- No slot is open, or the root of this body is there.
 abbrev pub ShutOrRoot : List ℕ → Files → Type 0
@@ -78,6 +79,7 @@ OnlySyncs DiskFault old new = Unit {0}
 OnlySyncs NoMemory old new = Told IsOnlySynced old new
 
 -- An error of creating an archive, except a fault of the disk, comes before anything is changed.
-abbrev pub RefusesToMake : {T : Type 0} → Result T InitRefusal → Option Content → Option Content → Type 0
+abbrev pub RefusesToMake : {T : Type 0} → Result T InitRefusal → Option Content → Option Content
+    → Type 0
 RefusesToMake (Ok made) old new = Unit {0}
 RefusesToMake (Err why) old new = OnlySyncs why old new

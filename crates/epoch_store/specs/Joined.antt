@@ -75,7 +75,8 @@ entry_seen number epoch seen = record { number = number; epoch = epoch; seen = s
 -- The next record is that of an entry of this epoch, and has this number; the entry is a message.
 pub record IsWanted (v : Joined) (epoch : ℕ) (seen : Seen) (number : ℕ) : Type 0 where
   pub message : seen.kind ≡ message_kind
-  pub next : slice_get v.records (length v.entries) ≡ Some (record { number = number; epoch = epoch; blob = seen.blob })
+  pub next : slice_get v.records (length v.entries)
+      ≡ Some (record { number = number; epoch = epoch; blob = seen.blob })
 
 -- The results of asking for an entry: its number, or that it isn't the next.
 abbrev pub Wants : Joined → ℕ → Seen → Option ℕ → Type 0
@@ -90,16 +91,20 @@ pub record JoinsNext (v : Joined) (epoch : ℕ) (seen : Seen) (number : ℕ) : T
 
 -- The entries with one more joined.
 abbrev pub with_seen : Joined → ℕ → ℕ → Seen → Joined
-with_seen v number epoch seen = record { records = v.records; entries = v.entries ++ entry_seen number epoch seen ∷ [] }
+with_seen v number epoch seen =
+    record { records = v.records; entries = v.entries ++ entry_seen number epoch seen ∷ [] }
 
 -- An entry was joined, or can't be and its offset is the result.
 abbrev pub JoinsOne : Joined → ℕ → Seen → Result Joined JoinRefusal → Type 0
-JoinsOne old epoch seen (Ok new) = (number : ℕ) × JoinsNext old epoch seen number × (new ≡ with_seen old number epoch seen)
-JoinsOne old epoch seen (Err (Damaged at)) = (at ≡ seen.at) × ((number : ℕ) → JoinsNext old epoch seen number → ⊥)
+JoinsOne old epoch seen (Ok new) = (number : ℕ) × JoinsNext old epoch seen number
+    × (new ≡ with_seen old number epoch seen)
+JoinsOne old epoch seen (Err (Damaged at)) = (at ≡ seen.at)
+    × ((number : ℕ) → JoinsNext old epoch seen number → ⊥)
 JoinsOne old epoch seen (Err NoMemory) = Unit {0}
 
 -- The entries of an epoch are all joined to others.
-pub record AreJoined (new : Joined) (rs : List Record) (others : List Entry) (epoch : ℕ) (here : List EpochEntry) : Type 0 where
+pub record AreJoined (new : Joined) (rs : List Record) (others : List Entry) (epoch : ℕ)
+    (here : List EpochEntry) : Type 0 where
   pub more : List Entry
   pub behind : List Record
   pub stand : AllByRecursion (λ (e : Entry). e.epoch ≡ epoch) more
@@ -109,7 +114,8 @@ pub record AreJoined (new : Joined) (rs : List Record) (others : List Entry) (ep
 -- Some first entries of an epoch can be joined to others, and the one after them, at this offset,
 -- can't: whatever entry it is, it isn't the map's next one, or it lacks an own id and a blob id of
 -- its own.
-pub record StopsAt (rs : List Record) (others : List Entry) (epoch : ℕ) (here : List EpochEntry) (place : ℕ) : Type 0 where
+pub record StopsAt (rs : List Record) (others : List Entry) (epoch : ℕ) (here : List EpochEntry)
+    (place : ℕ) : Type 0 where
   pub more : List Entry
   pub behind : List Record
   pub wrong : EpochEntry
@@ -118,11 +124,13 @@ pub record StopsAt (rs : List Record) (others : List Entry) (epoch : ℕ) (here 
   pub are : here ≡ map in_file more ++ wrong ∷ rest
   pub first : AreFirst rs behind (others ++ more)
   pub place_is : place ≡ 8 + length (entries_bytes None more)
-  pub no_next : (next : Entry) (left : List Record) → next.epoch ≡ epoch → in_file next ≡ wrong → AreFirst rs left ((others ++ more) ++ next ∷ []) → ⊥
+  pub no_next : (next : Entry) (left : List Record) → next.epoch ≡ epoch → in_file next ≡ wrong
+      → AreFirst rs left ((others ++ more) ++ next ∷ []) → ⊥
 
 -- The results of joining the entries of an epoch: all of them, or the offset of the first one that
 -- can't be joined.
-abbrev pub JoinsAll : List Record → List Entry → ℕ → List EpochEntry → Result Joined JoinRefusal → Type 0
+abbrev pub JoinsAll : List Record → List Entry → ℕ → List EpochEntry → Result Joined JoinRefusal
+    → Type 0
 JoinsAll rs others epoch here (Ok new) = AreJoined new rs others epoch here
 JoinsAll rs others epoch here (Err (Damaged at)) = StopsAt rs others epoch here at
 JoinsAll rs others epoch here (Err NoMemory) = Unit {0}
@@ -132,10 +140,14 @@ JoinsAll rs others epoch here (Err NoMemory) = Unit {0}
 abbrev pub TakesEpoch : Joined → ℕ → List Seen → Result Joined JoinRefusal → Type 0
 TakesEpoch old epoch seen result =
     (rs behind : List Record) (others : List Entry) (here : List EpochEntry)
-    → Holds old rs behind others → AreEpochEntries here → seen ≡ seen_from 8 None here → JoinsAll rs others epoch here result
+    → Holds old rs behind others → AreEpochEntries here → seen ≡ seen_from 8 None here
+    → JoinsAll rs others epoch here result
 
 -- All records of the map that have a message have an entry, and this is what is kept; or the first
 -- one without an entry should be in this epoch.
 abbrev pub Finishes : Joined → Result (Vec StoredEntry) Unmatched → Type 0
-Finishes v (Ok kept) = (rs behind : List Record) (entries : List Entry) → Holds v rs behind entries → (kept.items ≡ stored_behind [] entries) × AreFirst rs [] entries
-Finishes v (Err refusal) = (rs behind : List Record) (entries : List Entry) → Holds v rs behind entries → (next : Record) × (left : List Record) × AreFirst rs (next ∷ left) entries × (next.epoch ≡ refusal.epoch)
+Finishes v (Ok kept) = (rs behind : List Record) (entries : List Entry) → Holds v rs behind entries
+    → (kept.items ≡ stored_behind [] entries) × AreFirst rs [] entries
+Finishes v (Err refusal) = (rs behind : List Record) (entries : List Entry)
+    → Holds v rs behind entries → (next : Record) × (left : List Record)
+    × AreFirst rs (next ∷ left) entries × (next.epoch ≡ refusal.epoch)

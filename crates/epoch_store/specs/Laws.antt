@@ -12,7 +12,8 @@ RecoversOne = (image : Files) (a b : Archive) → Recovers image a → Recovers 
 
 -- Files never stand both for an archive and for none.
 abbrev pub RecoversSomeOne : Type 0
-RecoversSomeOne = (image : Files) (a b : Option Archive) → RecoversSome image a → RecoversSome image b → a ≡ b
+RecoversSomeOne = (image : Files) (a b : Option Archive) → RecoversSome image a
+    → RecoversSome image b → a ≡ b
 
 -- Files that are exactly those of an archive stand for it.
 abbrev pub ExactRecovers : Type 0
@@ -21,4 +22,5 @@ ExactRecovers = (files : Files) (a : Archive) → Exact files a → Recovers fil
 -- Each crash of a store's own disk leaves files that stand for its archive, and its files as they
 -- read are exactly the archive's.
 abbrev pub StoreRecovers : Type 0
-StoreRecovers = (v : View) (a : Archive) (k : Content) → IsDiskOf v a k → ((image : Files) → Image (Some k) image → Recovers image a) × Exact (as_read k) a
+StoreRecovers = (v : View) (a : Archive) (k : Content) → IsDiskOf v a k
+    → ((image : Files) → Image (Some k) image → Recovers image a) × Exact (as_read k) a

@@ -32,37 +32,46 @@ pub record HasMap (root : Root) (files : Files) (rs : List Record) : Type 0 wher
 
 -- The epochs below one are read and whole, and their entries are joined to the first records of the
 -- map.
-pub record IsReadUpTo (root : Root) (files : Files) (rs : List Record) (epoch : ℕ) (v : Joined) : Type 0 where
+pub record IsReadUpTo (root : Root) (files : Files) (rs : List Record) (epoch : ℕ) (v : Joined)
+    : Type 0 where
   pub entries : List Entry
   pub behind : List Record
   pub holds : Holds v rs behind entries
   pub whole : AreWhole root files epoch entries
 
 -- All epochs are read, and this is kept of their entries.
-pub record AreRead (root : Root) (files : Files) (rs : List Record) (kept : List StoredEntry) : Type 0 where
+pub record AreRead (root : Root) (files : Files) (rs : List Record) (kept : List StoredEntry)
+    : Type 0 where
   pub entries : List Entry
   pub opened : AreOpened root files rs entries
   pub kept_are : kept ≡ stored_behind [] entries
 
 -- Files that are opened stand for the archive of what was found.
 abbrev pub OpenedRecovers : Type 0
-OpenedRecovers = (root : Root) (files : Files) (rs : List Record) (entries : List Entry) → HasMap root files rs → AreOpened root files rs entries → RecoversBy root files (archive_of root entries)
+OpenedRecovers = (root : Root) (files : Files) (rs : List Record) (entries : List Entry)
+    → HasMap root files rs → AreOpened root files rs entries
+    → RecoversBy root files (archive_of root entries)
 
 -- Files that stand for an archive are opened with its entries.
 abbrev pub RecoversOpened : Type 0
-RecoversOpened = (root : Root) (files : Files) (rs : List Record) (a : Archive) → HasMap root files rs → RecoversBy root files a → AreOpened root files rs a.entries
+RecoversOpened = (root : Root) (files : Files) (rs : List Record) (a : Archive)
+    → HasMap root files rs → RecoversBy root files a → AreOpened root files rs a.entries
 
 -- Files that are opened have no damage.
 abbrev pub OpenedUndamaged : Type 0
-OpenedUndamaged = (root : Root) (files : Files) (rs : List Record) (entries : List Entry) (epoch place : ℕ) → HasMap root files rs → AreOpened root files rs entries → IsFirstDamage root files rs epoch place → ⊥
+OpenedUndamaged = (root : Root) (files : Files) (rs : List Record) (entries : List Entry)
+    (epoch place : ℕ) → HasMap root files rs → AreOpened root files rs entries
+    → IsFirstDamage root files rs epoch place → ⊥
 
 -- Files that stand for an archive have its map.
 abbrev pub RecoversMap : Type 0
-RecoversMap = (root : Root) (files : Files) (a : Archive) → RecoversBy root files a → HasMap root files (records_of a)
+RecoversMap = (root : Root) (files : Files) (a : Archive) → RecoversBy root files a
+    → HasMap root files (records_of a)
 
 -- Files that stand for an archive have no damage, neither in their map nor in an epoch.
 abbrev pub RecoversUndamaged : Type 0
 RecoversUndamaged =
     (root : Root) (files : Files) (a : Archive) → RecoversBy root files a
     → ((place : ℕ) → IsDamaged (root.next - 1) place (bytes_of (files (map_file_of root))) → ⊥)
-    × ((rs : List Record) (epoch place : ℕ) → HasMap root files rs → IsFirstDamage root files rs epoch place → ⊥)
+    × ((rs : List Record) (epoch place : ℕ) → HasMap root files rs
+    → IsFirstDamage root files rs epoch place → ⊥)

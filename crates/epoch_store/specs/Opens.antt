@@ -73,7 +73,8 @@ SyncsBy (Err DiskFault) old new = Unit {0}
 SyncsBy (Err NoMemory) old new = Told IsOnlySynced old new
 
 -- An error, except a fault of the disk, comes before anything is changed.
-abbrev pub RefusesBefore : {T : Type 0} → Result T OpenRefusal → Option Content → Option Content → Type 0
+abbrev pub RefusesBefore : {T : Type 0} → Result T OpenRefusal → Option Content → Option Content
+    → Type 0
 RefusesBefore (Ok store) old new = Unit {0}
 RefusesBefore (Err NoArchive) old new = Told IsOnlySynced old new
 RefusesBefore (Err (Damaged file at)) old new = Told IsOnlySynced old new

@@ -14,7 +14,15 @@ use Rattle.epoch_store.specs.Files.{epoch_file_of}
 
 -- An entry without its text.
 abbrev pub line_of : StoredEntry → EntryLine
-line_of s = record { kind = s.seen.kind; number = s.number; epoch = s.epoch; secs = s.seen.moment; blob = s.seen.blob; size = s.seen.size; commit = s.seen.commit }
+line_of s = record {
+  kind = s.seen.kind;
+  number = s.number;
+  epoch = s.epoch;
+  secs = s.seen.moment;
+  blob = s.seen.blob;
+  size = s.seen.size;
+  commit = s.seen.commit;
+}
 
 -- The same for an entry that may be missing.
 abbrev pub line_if : Option StoredEntry → Option EntryLine
@@ -35,7 +43,8 @@ pub record IsTextOf (s : StoredEntry) (text : List ℕ) : Type 0 where
 -- If a text with another id was found, both ids are told. No error changes the bytes.
 abbrev pub GivesText : StoredEntry → List ℕ → List ℕ → Result Unit TextRefusal → Type 0
 GivesText s old new (Ok _) = (text : List ℕ) × IsTextOf s text × (new ≡ old ++ text)
-GivesText s old new (Err (Damaged named found)) = (new ≡ old) × (named ≡ s.seen.blob) × (found ≢ named)
+GivesText s old new (Err (Damaged named found)) = (new ≡ old) × (named ≡ s.seen.blob)
+    × (found ≢ named)
 GivesText s old new (Err DiskFault) = new ≡ old
 GivesText s old new (Err NoMemory) = new ≡ old
 
@@ -45,9 +54,14 @@ StandsAt file place size text = place + size ≤ length file → text ≡ take s
 
 -- What is read and what is found are the bytes at the offset of an entry's text, in the file of its
 -- epoch.
-abbrev pub FindsText : Root → StoredEntry → List ℕ → List ℕ → Result Unit TextRefusal → Content → Type 0
-FindsText root s old new (Ok _) k = (text : List ℕ) × StandsAt (bytes_of (k (epoch_file_of root s.epoch)).seen) s.seen.text_at s.seen.size text × (new ≡ old ++ text)
-FindsText root s old new (Err (Damaged named found)) k = (text : List ℕ) × StandsAt (bytes_of (k (epoch_file_of root s.epoch)).seen) s.seen.text_at s.seen.size text × (found ≡ blob_id_of text)
+abbrev pub FindsText : Root → StoredEntry → List ℕ → List ℕ → Result Unit TextRefusal → Content
+    → Type 0
+FindsText root s old new (Ok _) k = (text : List ℕ)
+    × StandsAt (bytes_of (k (epoch_file_of root s.epoch)).seen) s.seen.text_at s.seen.size text
+    × (new ≡ old ++ text)
+FindsText root s old new (Err (Damaged named found)) k = (text : List ℕ)
+    × StandsAt (bytes_of (k (epoch_file_of root s.epoch)).seen) s.seen.text_at s.seen.size text
+    × (found ≡ blob_id_of text)
 FindsText root s old new (Err DiskFault) k = Unit {0}
 FindsText root s old new (Err NoMemory) k = Unit {0}
 
@@ -59,7 +73,8 @@ text_if (Some e) = Some e.text
 -- The results of reading on the disk of an archive: the text of the entry at an index, and no
 -- damage.
 abbrev pub GivesTextOf : Archive → ℕ → List ℕ → List ℕ → Result Unit TextRefusal → Type 0
-GivesTextOf a i old new (Ok _) = (text : List ℕ) × (text_if (slice_get a.entries i) ≡ Some text) × (new ≡ old ++ text)
+GivesTextOf a i old new (Ok _) = (text : List ℕ) × (text_if (slice_get a.entries i) ≡ Some text)
+    × (new ≡ old ++ text)
 GivesTextOf a i old new (Err (Damaged named found)) = ⊥
 GivesTextOf a i old new (Err DiskFault) = Unit {0}
 GivesTextOf a i old new (Err NoMemory) = Unit {0}
@@ -78,12 +93,15 @@ AnswersQuietly (Err e) = IsQuiet e
 -- The results of reading an epoch by what the root names: that many bytes are appended, or the root
 -- names none.
 abbrev pub IsEpochFound : Root → ℕ → List ℕ → List ℕ → Result Bool TextRefusal → Type 0
-IsEpochFound root e old new (Ok true) = (bytes : List ℕ) × (length bytes ≡ (get_or root.epochs e no_place).length) × (0 < length bytes) × (new ≡ old ++ bytes)
+IsEpochFound root e old new (Ok true) = (bytes : List ℕ) × (length bytes
+    ≡ (get_or root.epochs e no_place).length) × (0 < length bytes) × (new ≡ old ++ bytes)
 IsEpochFound root e old new (Ok false) = (get_or root.epochs e no_place).length ≡ 0
 IsEpochFound root e old new (Err refused) = Unit {0}
 
 -- The bytes that are read are those at the front of the epoch's file.
 abbrev pub FindsEpoch : Root → ℕ → List ℕ → List ℕ → Result Bool TextRefusal → Content → Type 0
-FindsEpoch root e old new (Ok true) k = (bytes : List ℕ) × StandsAt (bytes_of (k (epoch_file_of root e)).seen) 0 (get_or root.epochs e no_place).length bytes × (new ≡ old ++ bytes)
+FindsEpoch root e old new (Ok true) k = (bytes : List ℕ)
+    × StandsAt (bytes_of (k (epoch_file_of root e)).seen) 0
+    (get_or root.epochs e no_place).length bytes × (new ≡ old ++ bytes)
 FindsEpoch root e old new (Ok false) k = Unit {0}
 FindsEpoch root e old new (Err refused) k = Unit {0}

@@ -28,7 +28,8 @@ record_for n (Some e) = record { number = n; epoch = e.epoch; blob = blob_id_of 
 -- The records of `count` numbers from one on.
 abbrev pub records_from : List Entry → ℕ → ℕ → List Record
 records_from entries n zero = []
-records_from entries n (suc count) = record_for n (entry_of entries n) ∷ records_from entries (n + 1) count
+records_from entries n (suc count) =
+    record_for n (entry_of entries n) ∷ records_from entries (n + 1) count
 
 -- The records of an archive: one for each number below the next one.
 abbrev pub records_of : Archive → List Record
@@ -49,7 +50,8 @@ pub record Names (root : Root) (a : Archive) : Type 0 where
   pub fits : RootFits root
   pub config : root.config ≡ a.config
   pub next : root.next ≡ a.next
-  pub epochs : (e : ℕ) → e < epoch_count → (get_or root.epochs e no_place).length ≡ length (bytes_in a e)
+  pub epochs : (e : ℕ) → e < epoch_count
+      → (get_or root.epochs e no_place).length ≡ length (bytes_in a e)
   pub cache : root.cache.length ≡ 0
 
 -- Files stand for an archive by a root that names it.

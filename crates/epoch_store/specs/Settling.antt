@@ -56,15 +56,18 @@ pub record IsReadied (slot : ℕ) (body : List ℕ) (old new : Content) : Type 0
 -- that has bytes.
 abbrev pub IsKept : Root → (ℕ → List ℕ) → FileName → Type 0
 IsKept root epochs name =
-    (name ≡ root_name) ⊎ ((name ≡ map_file_of root) ⊎ (((e : ℕ) × (e < epoch_count) × (name ≡ epoch_file_of root e) × (epochs e ≢ [])) ⊎ IsCache root name))
+    (name ≡ root_name) ⊎ ((name ≡ map_file_of root) ⊎ (((e : ℕ) × (e < epoch_count)
+    × (name ≡ epoch_file_of root e) × (epochs e ≢ [])) ⊎ IsCache root name))
 
 -- A disk on which all is synced stands for a map and epochs of these bytes, with the lengths that
 -- the root names.
-pub record IsFound (root : Root) (slot : ℕ) (map : List ℕ) (epochs : ℕ → List ℕ) (k : Content) : Type 0 where
+pub record IsFound (root : Root) (slot : ℕ) (map : List ℕ) (epochs : ℕ → List ℕ) (k : Content)
+    : Type 0 where
   pub rests : RestsOn slot (spelling root) k
   pub stands : StandsFor root map epochs (as_read k)
   pub map_long : root.map.length ≡ length map
-  pub epochs_long : (e : ℕ) → e < epoch_count → (get_or root.epochs e no_place).length ≡ length (epochs e)
+  pub epochs_long : (e : ℕ) → e < epoch_count
+      → (get_or root.epochs e no_place).length ≡ length (epochs e)
 
 -- The same for a disk that tells its content.
 abbrev pub FoundOn : Root → ℕ → List ℕ → (ℕ → List ℕ) → Option Content → Type 0
@@ -73,10 +76,12 @@ FoundOn root slot map epochs (Some k) = IsFound root slot map epochs k
 
 -- What settling a disk requires: it stands for a map and epochs of these bytes, and the other files
 -- are exactly those that are there and aren't named.
-pub record IsToSweep (root : Root) (slot : ℕ) (map : List ℕ) (epochs : ℕ → List ℕ) (others : List FileName) (k : Content) : Type 0 where
+pub record IsToSweep (root : Root) (slot : ℕ) (map : List ℕ) (epochs : ℕ → List ℕ)
+    (others : List FileName) (k : Content) : Type 0 where
   pub found : IsFound root slot map epochs k
   pub spared : (name : FileName) → Contains others name → IsKept root epochs name → ⊥
-  pub listed : (name : FileName) → IsSome (k name).seen → IsKept root epochs name ⊎ Contains others name
+  pub listed : (name : FileName) → IsSome (k name).seen → IsKept root epochs name
+      ⊎ Contains others name
 
 -- The same for a disk that tells its content.
 abbrev pub ToSweep : Root → ℕ → List ℕ → (ℕ → List ℕ) → List FileName → Option Content → Type 0
@@ -90,11 +95,13 @@ OnDisk root slot map epochs (Some k) = IsOn root slot map epochs k
 
 -- The part of an epoch's file that a root names.
 abbrev pub epoch_part_of : Root → ℕ → FilePart
-epoch_part_of root e = record { file = epoch_file_of root e; length = (get_or root.epochs e no_place).length }
+epoch_part_of root e =
+    record { file = epoch_file_of root e; length = (get_or root.epochs e no_place).length }
 
 -- The parts of the files that a root names: the map's, and those of the epochs.
 abbrev pub named_parts_of : Root → List FilePart
-named_parts_of root = record { file = map_file_of root; length = root.map.length } ∷ mapped (epoch_part_of root) (range_with_len 0 epoch_count)
+named_parts_of root = record { file = map_file_of root; length = root.map.length }
+    ∷ mapped (epoch_part_of root) (range_with_len 0 epoch_count)
 
 -- A `Place` has bytes and this generation.
 abbrev pub has_place : Place → ℕ → Bool
@@ -105,7 +112,8 @@ has_place place gen_ = nat_lt 0 place.length && place.gen_ == gen_
 abbrev pub named_by : Root → FileKind → ℕ → ℕ → Bool
 named_by root kind.Root number gen_ = number == 0 && gen_ == 0
 named_by root kind.Map number gen_ = number == 0 && gen_ == root.map.gen_
-named_by root kind.Epoch number gen_ = nat_lt number epoch_count && has_place (get_or root.epochs number no_place) gen_
+named_by root kind.Epoch number gen_ =
+    nat_lt number epoch_count && has_place (get_or root.epochs number no_place) gen_
 named_by root kind.Cache number gen_ = number == 0 && has_place root.cache gen_
 
 -- Whether a root names a file.
@@ -114,4 +122,5 @@ names_file root name = named_by root name.kind name.number name.gen_
 
 -- These are the files of a disk that a root doesn't name.
 abbrev pub AreOthers : Root → List FileName → Content → Type 0
-AreOthers root others k = (names : List FileName) × AreAllNames names k × (others ≡ filter (λ (name : FileName). not (names_file root name)) names)
+AreOthers root others k = (names : List FileName) × AreAllNames names k
+    × (others ≡ filter (λ (name : FileName). not (names_file root name)) names)

@@ -43,7 +43,8 @@ abbrev pub stored_at : List Entry → Entry → StoredEntry
 stored_at before e = record {
   number = e.number;
   epoch = e.epoch;
-  seen = seen_at (8 + length (entries_bytes None (in_epoch before e.epoch))) (last_commit None (in_epoch before e.epoch)) (in_file e);
+  seen = seen_at (8 + length (entries_bytes None (in_epoch before e.epoch)))
+      (last_commit None (in_epoch before e.epoch)) (in_file e);
 }
 
 -- What is kept of entries after others.
@@ -77,7 +78,8 @@ RecoversEither a b image = Recovers image a ⊎ Recovers image b
 pub record HasSizes (v : View) (k : Content) : Type 0 where
   pub root : HasRootSize k
   pub map_long : v.root.map.length ≤ length (bytes_of (k (map_file_of v.root)).seen)
-  pub epochs_long : (e : ℕ) → e < epoch_count → (get_or v.root.epochs e no_place).length ≤ length (bytes_of (k (epoch_file_of v.root e)).seen)
+  pub epochs_long : (e : ℕ) → e < epoch_count → (get_or v.root.epochs e no_place).length
+      ≤ length (bytes_of (k (epoch_file_of v.root e)).seen)
 
 -- A new text would be accepted: the archive is no mirror and has a number left, the text is a
 -- storage text, and no entry has its own id or its blob id.
@@ -90,7 +92,8 @@ pub record Accepts (v : View) (text : List ℕ) : Type 0 where
 
 -- The entries of a store are in epochs 0 to 63.
 abbrev pub InEpochs : List StoredEntry → Type 0
-InEpochs entries = (i : ℕ) (e : StoredEntry) → slice_get entries i ≡ Some e → e.epoch ≤ greatest_epoch
+InEpochs entries = (i : ℕ) (e : StoredEntry) → slice_get entries i ≡ Some e
+    → e.epoch ≤ greatest_epoch
 
 -- The epoch of the last entry of an archive, or 0, and its last commit.
 pub record IsEnd (a : Archive) (end_ : End) : Type 0 where
@@ -125,7 +128,8 @@ root_after root p end_ = record {
 abbrev pub place_of : Root → ℕ → Option Id20 → NextPlace
 place_of root epoch parent = record {
   epoch = epoch;
-  gen_ = if (get_or root.epochs epoch no_place).length == 0 then next_sequence root.sequence else (get_or root.epochs epoch no_place).gen_;
+  gen_ = if (get_or root.epochs epoch no_place).length == 0 then next_sequence root.sequence
+      else (get_or root.epochs epoch no_place).gen_;
   length = (get_or root.epochs epoch no_place).length;
   parent = parent;
 }
@@ -151,7 +155,12 @@ abbrev pub view_after : View → Archive → Root → NextPlace → NewEntry →
 view_after v a root p entry = record {
   root = root;
   slot = 1 - v.slot;
-  entries = v.entries ++ stored_at a.entries (record { number = a.next; epoch = p.epoch; text = entry.text.now; moment = entry.moment }) ∷ [];
+  entries = v.entries ++ stored_at a.entries (record {
+    number = a.next;
+    epoch = p.epoch;
+    text = entry.text.now;
+    moment = entry.moment;
+  }) ∷ [];
 }
 
 -- One more entry follows those that were kept. It has the next number and the ids of a text. The

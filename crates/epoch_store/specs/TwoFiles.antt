@@ -13,7 +13,8 @@ use Rattle.epoch_store.specs.declared.putting.Part.{Part}
 pub record IsAppending (first second : Part) (k : Content) (image : Files) : Type 0 where
   pub first_front : FrontOrigin first.place (k first.file).sure (image first.file)
   pub second_front : FrontOrigin second.place (k second.file).sure (image second.file)
-  pub elsewhere : (other : FileName) → other ≢ first.file → other ≢ second.file → Fits (k other).sure (image other)
+  pub elsewhere : (other : FileName) → other ≢ first.file → other ≢ second.file
+      → Fits (k other).sure (image other)
 
 -- The same, if the disk tells its content.
 abbrev pub Appending : Part → Part → Option Content → Files → Type 0
@@ -22,12 +23,17 @@ Appending first second (Some k) image = IsAppending first second k image
 
 -- After the appends both files have the bytes at their offsets, every other file reads as before,
 -- and all of it is on the disk.
-pub record AreAppended (first : Part) (bytes : List ℕ) (second : Part) (more : List ℕ) (old new : Content) : Type 0 where
-  pub first_file : (new first.file).seen ≡ Some (overlay first.place bytes (bytes_of (old first.file).seen))
-  pub second_file : (new second.file).seen ≡ Some (overlay second.place more (bytes_of (old second.file).seen))
-  pub elsewhere : (other : FileName) → other ≢ first.file → other ≢ second.file → (new other).seen ≡ (old other).seen
+pub record AreAppended (first : Part) (bytes : List ℕ) (second : Part) (more : List ℕ)
+    (old new : Content) : Type 0 where
+  pub first_file : (new first.file).seen
+      ≡ Some (overlay first.place bytes (bytes_of (old first.file).seen))
+  pub second_file : (new second.file).seen
+      ≡ Some (overlay second.place more (bytes_of (old second.file).seen))
+  pub elsewhere : (other : FileName) → other ≢ first.file → other ≢ second.file
+      → (new other).seen ≡ (old other).seen
   pub settled : IsSettled new
 
 -- The record of a number whose message is a new entry of the epoch with this file.
 abbrev pub line_of : ℕ → Part → NewEntry → Record
-line_of number epoch entry = record { number = number; epoch = epoch.file.number; blob = blob_id_of entry.text.now }
+line_of number epoch entry =
+    record { number = number; epoch = epoch.file.number; blob = blob_id_of entry.text.now }

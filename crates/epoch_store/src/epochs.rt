@@ -48,14 +48,18 @@ impl Store {
         epoch: u32,
         into: &mut Bytes,
     ) -> Result<bool, TextRefusal>
-        ensures bytes { (a : Archive) → IsStoreOf self.now a (D.content disk.old) → GivesEpochIn (in_epoch a.entries epoch) into.old into.new result }
+        ensures bytes { (a : Archive) → IsStoreOf self.now a (D.content disk.old)
+            → GivesEpochIn (in_epoch a.entries epoch) into.old into.new result }
         ensures named { IsEpochFound self.now.root epoch into.old into.new result }
-        ensures found { WhereTold (FindsEpoch self.now.root epoch into.old into.new result) (D.content disk.old) }
+        ensures found { WhereTold (FindsEpoch self.now.root epoch into.old into.new result)
+            (D.content disk.old) }
         ensures kept { KeepsUnlessFound into.old into.new result }
         ensures undamaged { AnswersQuietly result }
         ensures same { Told Unchanged (D.content disk.old) (D.content disk.new) }
-        ensures any_moment { LeavesOnly D.moment D.left_since disk.old disk.new (Image (D.content disk.old)) }
-        ensures cause { RoseIf (result ≡ Err TextRefusal.DiskFault) (D.faults disk.old) (D.faults disk.new) }
+        ensures any_moment { LeavesOnly D.moment D.left_since disk.old disk.new
+            (Image (D.content disk.old)) }
+        ensures cause { RoseIf (result ≡ Err TextRefusal.DiskFault) (D.faults disk.old)
+            (D.faults disk.new) }
         ensures fewest { D.reads disk.old ≤ D.reads disk.new }
         ensures count { D.reads disk.new ≤ D.reads disk.old + 1 }
     {

@@ -66,7 +66,8 @@ fn find_root<D: Disk>(disk: &mut D) -> Result<(Slot, Root), OpenRefusal>
     ensures valid { IfOk result (λ found. IsRoot found.1) }
     ensures fits { IfOk result (λ found. RootFits found.1) }
     ensures reads { OnlyReads D.content D.moment D.left_since D.faults disk.old disk.new }
-    ensures fault { result ≡ Err OpenRefusal.DiskFault → Rose (D.faults disk.old) (D.faults disk.new) }
+    ensures fault { result ≡ Err OpenRefusal.DiskFault
+        → Rose (D.faults disk.old) (D.faults disk.new) }
 {
     match root_slots::read(disk) {
         Ok(Some((slot, root))) => {
@@ -87,7 +88,8 @@ fn find_records<D: Disk>(alloc: Global, disk: &mut D, root: &Root) -> Result<Rec
     requires root { IsRoot root.now }
     ensures found { WhereTold (λ k. FindsRecords root.now (as_read k) result) (D.content disk.old) }
     ensures reads { OnlyReads D.content D.moment D.left_since D.faults disk.old disk.new }
-    ensures fault { result ≡ Err OpenRefusal.DiskFault → Rose (D.faults disk.old) (D.faults disk.new) }
+    ensures fault { result ≡ Err OpenRefusal.DiskFault
+        → Rose (D.faults disk.old) (D.faults disk.new) }
 {
     let file = map_file(root.map.gen_);
     match number_map::walk(alloc, disk, file, root.next - 1) {
@@ -154,7 +156,8 @@ fn stop_at<D: Disk>(
 ) -> OpenRefusal
     requires small { epoch ≤ greatest_epoch }
     requires before { AreBefore epoch joining.entries }
-    ensures stops { WhereTold (λ k. StopsEpoch root.now epoch joining at result (as_read k)) (D.content disk.old) }
+    ensures stops { WhereTold (λ k.
+        StopsEpoch root.now epoch joining at result (as_read k)) (D.content disk.old) }
     ensures reads { OnlyReads D.content D.moment D.left_since D.faults disk.old disk.new }
     ensures fault { result ≡ OpenRefusal.DiskFault → Rose (D.faults disk.old) (D.faults disk.new) }
 {
@@ -184,10 +187,12 @@ fn join_epoch<D: Disk>(
 ) -> Result<Joining, OpenRefusal>
     requires small { epoch ≤ greatest_epoch }
     requires before { AreBefore epoch joining.entries }
-    ensures joined { WhereTold (λ k. ReadsEpoch root.now epoch joining result (as_read k)) (D.content disk.old) }
+    ensures joined { WhereTold (λ k.
+        ReadsEpoch root.now epoch joining result (as_read k)) (D.content disk.old) }
     ensures behind { IfOk result (λ joined. AreBefore (epoch + 1) joined.entries) }
     ensures reads { OnlyReads D.content D.moment D.left_since D.faults disk.old disk.new }
-    ensures fault { result ≡ Err OpenRefusal.DiskFault → Rose (D.faults disk.old) (D.faults disk.new) }
+    ensures fault { result ≡ Err OpenRefusal.DiskFault
+        → Rose (D.faults disk.old) (D.faults disk.new) }
 {
     let length = named_place(root, epoch).length;
     if length == 0 {
@@ -209,10 +214,12 @@ fn join_all<D: Disk>(
     joining: Joining,
 ) -> Result<Joining, OpenRefusal>
     requires before { AreBefore 0 joining.entries }
-    ensures joined { WhereTold (λ k. ReadsEach root.now joining result (as_read k)) (D.content disk.old) }
+    ensures joined { WhereTold (λ k.
+        ReadsEach root.now joining result (as_read k)) (D.content disk.old) }
     ensures behind { IfOk result (λ joined. AreBefore epoch_count joined.entries) }
     ensures reads { OnlyReads D.content D.moment D.left_since D.faults disk.old disk.new }
-    ensures fault { result ≡ Err OpenRefusal.DiskFault → Rose (D.faults disk.old) (D.faults disk.new) }
+    ensures fault { result ≡ Err OpenRefusal.DiskFault
+        → Rose (D.faults disk.old) (D.faults disk.new) }
 {
     let mut joining = joining;
     for epoch in 0..EPOCHS {
@@ -248,10 +255,12 @@ fn read_epochs<D: Disk>(
     root: &Root,
     records: &Records,
 ) -> Result<Vec<StoredEntry>, OpenRefusal>
-    ensures kept { WhereTold (λ k. KeepsBy root.now records.now result (as_read k)) (D.content disk.old) }
+    ensures kept { WhereTold (λ k.
+        KeepsBy root.now records.now result (as_read k)) (D.content disk.old) }
     ensures small { IfOk result (λ kept. AreBefore epoch_count kept.items) }
     ensures reads { OnlyReads D.content D.moment D.left_since D.faults disk.old disk.new }
-    ensures fault { result ≡ Err OpenRefusal.DiskFault → Rose (D.faults disk.old) (D.faults disk.new) }
+    ensures fault { result ≡ Err OpenRefusal.DiskFault
+        → Rose (D.faults disk.old) (D.faults disk.new) }
 {
     let Ok(joining) = Joining::new(alloc, records) else {
         return Err(OpenRefusal::NoMemory);
@@ -273,7 +282,8 @@ fn find_entries<D: Disk>(
     ensures found { WhereTold (λ k. FindsEntries root.now (as_read k) result) (D.content disk.old) }
     ensures small { IfOk result (λ kept. AreBefore epoch_count kept.items) }
     ensures reads { OnlyReads D.content D.moment D.left_since D.faults disk.old disk.new }
-    ensures fault { result ≡ Err OpenRefusal.DiskFault → Rose (D.faults disk.old) (D.faults disk.new) }
+    ensures fault { result ≡ Err OpenRefusal.DiskFault
+        → Rose (D.faults disk.old) (D.faults disk.new) }
 {
     match find_records(alloc, disk, root) {
         Ok(records) => read_epochs(alloc, disk, root, &records),
@@ -295,7 +305,8 @@ pub(crate) fn find<D: Disk>(alloc: Global, disk: &mut D) -> Result<Found, OpenRe
     ensures root { IfOk result (λ found. IsRoot found.root) }
     ensures epochs { IfOk result (λ found. AreBefore epoch_count found.entries.items) }
     ensures same { Told Unchanged (D.content disk.old) (D.content disk.new) }
-    ensures any_moment { LeavesOnly D.moment D.left_since disk.old disk.new (Image (D.content disk.old)) }
+    ensures any_moment { LeavesOnly D.moment D.left_since disk.old disk.new
+        (Image (D.content disk.old)) }
     ensures cause { RoseIf (result ≡ Err OpenRefusal.DiskFault) (D.faults disk.old) (D.faults disk.new) }
 {
     match find_root(disk) {

@@ -44,10 +44,13 @@ pub fn first_root(config: &Config) -> Root
 pub fn make<D: Disk>(disk: &mut D, names: &[FileName], root: &Root) -> Result<(), DiskFault>
     requires root { IsRoot root.now }
     // If no crash leaves an open slot before, at each moment a crash leaves none, or the root.
-    ensures any_moment { EachShut (D.content disk.old) → LeavesOnly D.moment D.left_since disk.old disk.new (MakesRoot (spelling root.now) (D.content disk.old)) }
+    ensures any_moment { EachShut (D.content disk.old) → LeavesOnly D.moment D.left_since disk.old
+        disk.new (MakesRoot (spelling root.now) (D.content disk.old)) }
     // After `Ok` a crash leaves the root, the other slot is ready, and there is no other file.
-    ensures done { WhereTold (AreAllNames names.now) (D.content disk.old) → 0 < root.now.sequence → OnOk result (WhereTold (HasOnly (spelling root.now)) (D.content disk.new)) }
-    ensures told { OnOk result (Told (λ old new. Unit {0}) (D.content disk.old) (D.content disk.new)) }
+    ensures done { WhereTold (AreAllNames names.now) (D.content disk.old) → 0 < root.now.sequence
+        → OnOk result (WhereTold (HasOnly (spelling root.now)) (D.content disk.new)) }
+    ensures told { OnOk result
+        (Told (λ old new. Unit {0}) (D.content disk.old) (D.content disk.new)) }
     ensures cause { IsCaused (D.faults disk.old) (D.faults disk.new) result }
     ensures count { D.reads disk.new ≡ D.reads disk.old }
 {
@@ -61,9 +64,11 @@ pub fn make<D: Disk>(disk: &mut D, names: &[FileName], root: &Root) -> Result<()
 pub fn raise_first<D: Disk>(disk: &mut D, root: &Root) -> Result<(), DiskFault>
     requires size { WhereTold HasRootSize (D.content disk.old) }
     requires root { IsRoot root.now }
-    ensures any_moment { EachRoot AreZeros (D.content disk.old) → LeavesOnly D.moment D.left_since disk.old disk.new (ShutOrFirst (spelling root.now) (D.content disk.old)) }
+    ensures any_moment { EachRoot AreZeros (D.content disk.old) → LeavesOnly D.moment D.left_since
+        disk.old disk.new (ShutOrFirst (spelling root.now) (D.content disk.old)) }
     ensures time { D.moment disk.old ≤ D.moment disk.new }
-    ensures done { EachRoot AreZeros (D.content disk.old) → 0 < root.now.sequence → OnOk result (EachRoot (Ready 1 (spelling root.now)) (D.content disk.new)) }
+    ensures done { EachRoot AreZeros (D.content disk.old) → 0 < root.now.sequence
+        → OnOk result (EachRoot (Ready 1 (spelling root.now)) (D.content disk.new)) }
     ensures committed { OnOk result (Told IsCommitted (D.content disk.old) (D.content disk.new)) }
     ensures cause { IsCaused (D.faults disk.old) (D.faults disk.new) result }
     ensures count { D.reads disk.new ≡ D.reads disk.old }
@@ -77,7 +82,8 @@ pub fn raise_first<D: Disk>(disk: &mut D, root: &Root) -> Result<(), DiskFault>
 ///
 /// `Exists` comes exactly if a slot is open. Nothing is done but the sync.
 pub fn no_archive<D: Disk>(disk: &mut D) -> Result<(), InitRefusal>
-    ensures any_moment { LeavesOnly D.moment D.left_since disk.old disk.new (Image (D.content disk.old)) }
+    ensures any_moment { LeavesOnly D.moment D.left_since disk.old disk.new
+        (Image (D.content disk.old)) }
     ensures answer { WhereTold (MakingAnswers result) (D.content disk.old) }
     ensures synced { OnOk result (Told Synced (D.content disk.old) (D.content disk.new)) }
     ensures refused { RefusesToMake result (D.content disk.old) (D.content disk.new) }
@@ -96,7 +102,8 @@ pub fn no_archive<D: Disk>(disk: &mut D) -> Result<(), InitRefusal>
 pub fn all_names<D: Disk>(alloc: Global, disk: &mut D) -> Result<FileNames, InitRefusal>
     ensures names { IfOk result (λ names. WhereTold (AreAllNames names) (D.content disk.old)) }
     ensures same { Told Unchanged (D.content disk.old) (D.content disk.new) }
-    ensures any_moment { LeavesOnly D.moment D.left_since disk.old disk.new (Image (D.content disk.old)) }
+    ensures any_moment { LeavesOnly D.moment D.left_since disk.old disk.new
+        (Image (D.content disk.old)) }
     ensures cause { RoseIf (result ≡ Err InitRefusal.DiskFault) (D.faults disk.old) (D.faults disk.new) }
     ensures none { result ≢ Err InitRefusal.Exists }
 {

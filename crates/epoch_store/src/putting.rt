@@ -41,9 +41,12 @@ pub fn put_both<D: Disk>(
     requires epoch_place { epoch.place < 2 ^ 62 }
     requires map_inside { WhereTold (IsAtMostLength map.file map.place) (D.content disk.old) }
     requires map_place { map.place + record_size < 2 ^ 63 }
-    ensures any_moment { LeavesOnly D.moment D.left_since disk.old disk.new (Appending epoch map (D.content disk.old)) }
+    ensures any_moment { LeavesOnly D.moment D.left_since disk.old disk.new
+        (Appending epoch map (D.content disk.old)) }
     ensures written { IfOk result (λ written. written ≡ written_of epoch.place entry.now) }
-    ensures appended { OnOk result (Told (AreAppended epoch (appended epoch.place entry.now) map (record_bytes (line_of number epoch entry.now))) (D.content disk.old) (D.content disk.new)) }
+    ensures appended { OnOk result (Told (AreAppended epoch (appended epoch.place entry.now) map
+        (record_bytes (line_of number epoch entry.now))) (D.content disk.old)
+        (D.content disk.new)) }
     ensures refused { result ≡ Err StoreRefusal.NoMemory → disk.new ≡ disk.old }
     ensures undamaged { SeesNoDamage result }
     ensures cause { RoseIf (result ≡ Err StoreRefusal.DiskFault) (D.faults disk.old) (D.faults disk.new) }

@@ -87,13 +87,17 @@ impl Store {
         into: &mut Bytes,
     ) -> Result<(), TextRefusal>
         requires there { index < length self.now.entries }
-        ensures text { (s : StoredEntry) → slice_get self.now.entries index ≡ Some s → GivesText s into.old into.new result }
+        ensures text { (s : StoredEntry) → slice_get self.now.entries index ≡ Some s
+            → GivesText s into.old into.new result }
         ensures found { (s : StoredEntry) → slice_get self.now.entries index ≡ Some s
             → WhereTold (FindsText self.now.root s into.old into.new result) (D.content disk.old) }
-        ensures archive { (a : Archive) → IsStoreOf self.now a (D.content disk.old) → GivesTextOf a index into.old into.new result }
+        ensures archive { (a : Archive) → IsStoreOf self.now a (D.content disk.old)
+            → GivesTextOf a index into.old into.new result }
         ensures same { Told Unchanged (D.content disk.old) (D.content disk.new) }
-        ensures any_moment { LeavesOnly D.moment D.left_since disk.old disk.new (Image (D.content disk.old)) }
-        ensures cause { RoseIf (result ≡ Err TextRefusal.DiskFault) (D.faults disk.old) (D.faults disk.new) }
+        ensures any_moment { LeavesOnly D.moment D.left_since disk.old disk.new
+            (Image (D.content disk.old)) }
+        ensures cause { RoseIf (result ≡ Err TextRefusal.DiskFault) (D.faults disk.old)
+            (D.faults disk.new) }
         ensures fewest { D.reads disk.old ≤ D.reads disk.new }
         ensures count { D.reads disk.new ≤ D.reads disk.old + 1 }
     {
@@ -146,10 +150,12 @@ pub(crate) fn read_text<D: Disk>(
     size: u64,
 ) -> Result<Vec<u8>, TextRefusal>
     ensures size { IfOk result (λ text. length text.items ≡ size) }
-    ensures found { IfOk result (λ text. WhereTold (λ k. StandsAt (bytes_of (k file).seen) place size text.items) (D.content disk.old)) }
+    ensures found { IfOk result (λ text. WhereTold (λ k.
+        StandsAt (bytes_of (k file).seen) place size text.items) (D.content disk.old)) }
     ensures other { AnswersQuietly result }
     ensures same { Told Unchanged (D.content disk.old) (D.content disk.new) }
-    ensures any_moment { LeavesOnly D.moment D.left_since disk.old disk.new (Image (D.content disk.old)) }
+    ensures any_moment { LeavesOnly D.moment D.left_since disk.old disk.new
+        (Image (D.content disk.old)) }
     ensures cause { RoseIf (result ≡ Err TextRefusal.DiskFault) (D.faults disk.old) (D.faults disk.new) }
     ensures fewest { D.reads disk.old ≤ D.reads disk.new }
     ensures count { D.reads disk.new ≤ D.reads disk.old + 1 }

@@ -23,8 +23,12 @@ use std::alloc::{AllocError, Global};
 pub(crate) fn ready_other<D: Disk>(disk: &mut D, slot: Slot, root: &Root) -> Result<(), DiskFault>
     requires size { WhereTold HasRootSize (D.content disk.old) }
     requires root { IsRoot root.now }
-    ensures any_moment { Rests (slot_number slot) (spelling root.now) (D.content disk.old) → LeavesOnly D.moment D.left_since disk.old disk.new (StaysCurrent (slot_number slot) (spelling root.now) (D.content disk.old)) }
-    ensures done { Rests (slot_number slot) (spelling root.now) (D.content disk.old) → OnOk result (Told (IsReadied (slot_number slot) (spelling root.now)) (D.content disk.old) (D.content disk.new)) }
+    ensures any_moment { Rests (slot_number slot) (spelling root.now) (D.content disk.old)
+        → LeavesOnly D.moment D.left_since disk.old disk.new
+        (StaysCurrent (slot_number slot) (spelling root.now) (D.content disk.old)) }
+    ensures done { Rests (slot_number slot) (spelling root.now) (D.content disk.old)
+        → OnOk result (Told (IsReadied (slot_number slot) (spelling root.now)) (D.content disk.old)
+        (D.content disk.new)) }
     ensures told { OnOk result (TellsAs (D.content disk.old) (D.content disk.new)) }
     ensures cause { IsCaused (D.faults disk.old) (D.faults disk.new) result }
 {
@@ -77,9 +81,13 @@ pub(crate) fn sweep<D: Disk>(
     requires root { IsRoot root.now }
     requires parts { parts.now ≡ named_parts_of root.now }
     // At each moment a crash leaves files that stand for the same map and epochs.
-    ensures any_moment { (map : List ℕ) (epochs : ℕ → List ℕ) → ToSweep root.now (slot_number slot) map epochs others.now (D.content disk.old) → LeavesOnly D.moment D.left_since disk.old disk.new (StandsFor root.now map epochs) }
+    ensures any_moment { (map : List ℕ) (epochs : ℕ → List ℕ)
+        → ToSweep root.now (slot_number slot) map epochs others.now (D.content disk.old)
+        → LeavesOnly D.moment D.left_since disk.old disk.new (StandsFor root.now map epochs) }
     // After `Ok` the disk is exactly theirs.
-    ensures done { (map : List ℕ) (epochs : ℕ → List ℕ) → ToSweep root.now (slot_number slot) map epochs others.now (D.content disk.old) → OnOk result (OnDisk root.now (slot_number slot) map epochs (D.content disk.new)) }
+    ensures done { (map : List ℕ) (epochs : ℕ → List ℕ)
+        → ToSweep root.now (slot_number slot) map epochs others.now (D.content disk.old)
+        → OnOk result (OnDisk root.now (slot_number slot) map epochs (D.content disk.new)) }
     ensures told { OnOk result (TellsAs (D.content disk.old) (D.content disk.new)) }
     ensures cause { IsCaused (D.faults disk.old) (D.faults disk.new) result }
 {
@@ -118,7 +126,8 @@ pub(crate) fn unnamed(
     names: &[FileName],
     root: &Root,
 ) -> Result<Vec<FileName>, AllocError>
-    ensures { IfOk result (λ others. others.items ≡ filter (λ (name : FileName). not (names_file root.now name)) names.now) }
+    ensures { IfOk result (λ others.
+        others.items ≡ filter (λ (name : FileName). not (names_file root.now name)) names.now) }
 {
     names
         .iter()

@@ -52,7 +52,8 @@ impl Model for Store {
 
     ghost Value = { View };
 
-    ghost view = { λ s. record { root = s.root; slot = slot_number s.slot; entries = s.entries.items } };
+    ghost view = { λ s.
+        record { root = s.root; slot = slot_number s.slot; entries = s.entries.items } };
 
     ghost invariant = { λ s. IsRoot s.root × InEpochs s.entries.items };
 }
@@ -69,15 +70,18 @@ impl Store {
     /// anything is written.
     pub fn init<D: Disk>(alloc: Global, disk: &mut D, config: &Config) -> Result<Store, InitRefusal>
         requires config { IsConfig config.now }
-        ensures any_moment { LeavesOnly D.moment D.left_since disk.old disk.new (MakingLeaves (empty_archive config.now) (D.content disk.old)) }
+        ensures any_moment { LeavesOnly D.moment D.left_since disk.old disk.new
+            (MakingLeaves (empty_archive config.now) (D.content disk.old)) }
         ensures answer { WhereTold (MakingAnswers result) (D.content disk.old) }
         // After `Exists` and `NoMemory` the disk is synced, and otherwise unchanged.
         ensures refused { RefusesToMake result (D.content disk.old) (D.content disk.new) }
-        ensures done { IfOk result (λ store. WhereTold (IsDiskOf store (empty_archive config.now)) (D.content disk.new)) }
+        ensures done { IfOk result (λ store.
+            WhereTold (IsDiskOf store (empty_archive config.now)) (D.content disk.new)) }
         ensures sizes { IfOk result (λ store. WhereTold (HasSizes store) (D.content disk.new)) }
         ensures first { IfOk result (λ store. store.root.sequence ≡ 1) }
         ensures none { IfOk result (λ store. store.entries ≡ []) }
-        ensures cause { RoseIf (result ≡ Err InitRefusal.DiskFault) (D.faults disk.old) (D.faults disk.new) }
+        ensures cause { RoseIf (result ≡ Err InitRefusal.DiskFault) (D.faults disk.old)
+            (D.faults disk.new) }
     {
         no_archive(disk)?;
         let names = all_names(alloc, disk)?;
@@ -111,7 +115,8 @@ impl Store {
     fn next_place(&self) -> NextPlace
         ensures small { result.epoch ≤ greatest_epoch }
         ensures place { result ≡ place_of self.now.root result.epoch result.parent }
-        ensures next { (a : Archive) → Keeps self.now a → IsNextPlace self.now.root a (next_sequence self.now.root.sequence) result }
+        ensures next { (a : Archive) → Keeps self.now a
+            → IsNextPlace self.now.root a (next_sequence self.now.root.sequence) result }
     {
         let end = self.end();
         let place = self.root.epochs[end.epoch as usize];
@@ -176,17 +181,26 @@ impl Store {
         requires sizes { WhereTold (HasSizes self.now) (D.content disk.old) }
         requires entry { IsMessage place.now entry.now }
         requires moment { entry.now.moment ≤ last_moment }
-        ensures any_moment { (a : Archive) → IsStoreOf self.now a (D.content disk.old) → GoesNext self.now a place.now entry.now
-            → LeavesOnly D.moment D.left_since disk.old disk.new (RecoversEither a (with_message a place.now entry.now)) }
-        ensures done { (a : Archive) → IsStoreOf self.now a (D.content disk.old) → GoesNext self.now a place.now entry.now
-            → IfOk result (λ made. IsStoreOf (view_after self.now a made.0 place.now entry.now) (with_message a place.now entry.now) (D.content disk.new)) }
-        ensures sizes { IfOk result (λ made. WhereTold (HasSizes (record { root = made.0; slot = 1 - self.now.slot; entries = self.now.entries })) (D.content disk.new)) }
+        ensures any_moment { (a : Archive) → IsStoreOf self.now a (D.content disk.old)
+            → GoesNext self.now a place.now entry.now
+            → LeavesOnly D.moment D.left_since disk.old disk.new
+            (RecoversEither a (with_message a place.now entry.now)) }
+        ensures done { (a : Archive) → IsStoreOf self.now a (D.content disk.old)
+            → GoesNext self.now a place.now entry.now
+            → IfOk result (λ made. IsStoreOf (view_after self.now a made.0 place.now entry.now)
+            (with_message a place.now entry.now) (D.content disk.new)) }
+        ensures sizes { IfOk result (λ made. WhereTold (HasSizes (record {
+          root = made.0;
+          slot = 1 - self.now.slot;
+          entries = self.now.entries;
+        })) (D.content disk.new)) }
         ensures root { IfOk result (λ made. made.0 ≡ root_after self.now.root place.now made.1.end) }
         ensures written { IfOk result (λ made. made.1 ≡ written_of place.now.length entry.now) }
         ensures valid { IfOk result (λ made. IsRoot made.0) }
         ensures refused { result ≡ Err StoreRefusal.NoMemory → disk.new ≡ disk.old }
         ensures undamaged { SeesNoDamage result }
-        ensures cause { RoseIf (result ≡ Err StoreRefusal.DiskFault) (D.faults disk.old) (D.faults disk.new) }
+        ensures cause { RoseIf (result ≡ Err StoreRefusal.DiskFault) (D.faults disk.old)
+            (D.faults disk.new) }
         ensures count { D.reads disk.new ≡ D.reads disk.old }
     {
         let epoch = Part {
@@ -221,8 +235,14 @@ impl Store {
         ensures id { result.seen.id ≡ id }
         ensures blob { result.seen.blob ≡ blob_id_of entry.now.text.now }
         ensures content { result.seen.content ≡ content_id_of entry.now.text.now }
-        ensures stored { (a : Archive) → Keeps self.now a → IsNextPlace self.now.root a (next_sequence self.now.root.sequence) place.now
-            → result ≡ stored_at a.entries (record { number = a.next; epoch = place.now.epoch; text = entry.now.text.now; moment = entry.now.moment }) }
+        ensures stored { (a : Archive) → Keeps self.now a
+            → IsNextPlace self.now.root a (next_sequence self.now.root.sequence) place.now
+            → result ≡ stored_at a.entries (record {
+              number = a.next;
+              epoch = place.now.epoch;
+              text = entry.now.text.now;
+              moment = entry.now.moment;
+            }) }
     {
         let at = front_place(place.length);
         StoredEntry {
@@ -258,17 +278,23 @@ impl Store {
         requires accepts { Accepts self.old text.now }
         requires moment { moment ≤ last_moment }
         requires sizes { WhereTold (HasSizes self.old) (D.content disk.old) }
-        ensures any_moment { (a : Archive) → IsStoreOf self.old a (D.content disk.old) → self.old.root.sequence + 1 < 2 ^ 64
-            → LeavesOnly D.moment D.left_since disk.old disk.new (RecoversEither a (with_entry a (new_epoch a) text.now moment)) }
-        ensures done { (a : Archive) → IsStoreOf self.old a (D.content disk.old) → self.old.root.sequence + 1 < 2 ^ 64
-            → OnOk result (IsStoreOf self.new (with_entry a (new_epoch a) text.now moment) (D.content disk.new)) }
+        ensures any_moment { (a : Archive) → IsStoreOf self.old a (D.content disk.old)
+            → self.old.root.sequence + 1 < 2 ^ 64
+            → LeavesOnly D.moment D.left_since disk.old disk.new
+            (RecoversEither a (with_entry a (new_epoch a) text.now moment)) }
+        ensures done { (a : Archive) → IsStoreOf self.old a (D.content disk.old)
+            → self.old.root.sequence + 1 < 2 ^ 64
+            → OnOk result (IsStoreOf self.new (with_entry a (new_epoch a) text.now moment)
+            (D.content disk.new)) }
         ensures sizes { OnOk result (WhereTold (HasSizes self.new) (D.content disk.new)) }
-        ensures sequence { OnOk result (self.new.root.sequence ≡ next_sequence self.old.root.sequence) }
+        ensures sequence { OnOk result (self.new.root.sequence
+            ≡ next_sequence self.old.root.sequence) }
         ensures added { OnOk result (AddsEntry self.old self.new text.now) }
         ensures same { OnErr result (self.new ≡ self.old) }
         ensures refused { result ≡ Err StoreRefusal.NoMemory → disk.new ≡ disk.old }
         ensures undamaged { SeesNoDamage result }
-        ensures cause { RoseIf (result ≡ Err StoreRefusal.DiskFault) (D.faults disk.old) (D.faults disk.new) }
+        ensures cause { RoseIf (result ≡ Err StoreRefusal.DiskFault) (D.faults disk.old)
+            (D.faults disk.new) }
         ensures count { D.reads disk.new ≡ D.reads disk.old }
     {
         let place = self.next_place();

@@ -32,7 +32,8 @@ fn find_synced<D: Disk>(alloc: Global, disk: &mut D) -> Result<Found, OpenRefusa
     ensures synced { SyncsBy result (D.content disk.old) (D.content disk.new) }
     ensures root { IfOk result (λ found. IsRoot found.root) }
     ensures epochs { IfOk result (λ found. AreBefore epoch_count found.entries.items) }
-    ensures any_moment { LeavesOnly D.moment D.left_since disk.old disk.new (Image (D.content disk.old)) }
+    ensures any_moment { LeavesOnly D.moment D.left_since disk.old disk.new
+        (Image (D.content disk.old)) }
     ensures cause { RoseIf (result ≡ Err OpenRefusal.DiskFault) (D.faults disk.old) (D.faults disk.new) }
 {
     disk.sync()?;
@@ -45,10 +46,12 @@ fn other_files<D: Disk>(
     disk: &mut D,
     root: &Root,
 ) -> Result<Vec<FileName>, OpenRefusal>
-    ensures others { IfOk result (λ others. WhereTold (AreOthers root.now others.items) (D.content disk.old)) }
+    ensures others { IfOk result (λ others.
+        WhereTold (AreOthers root.now others.items) (D.content disk.old)) }
     ensures reads { OnlyReads D.content D.moment D.left_since D.faults disk.old disk.new }
     ensures well { OpensWell result }
-    ensures fault { result ≡ Err OpenRefusal.DiskFault → Rose (D.faults disk.old) (D.faults disk.new) }
+    ensures fault { result ≡ Err OpenRefusal.DiskFault
+        → Rose (D.faults disk.old) (D.faults disk.new) }
 {
     match file_names(alloc, disk) {
         Ok(names) => match unnamed(alloc, names.as_slice(), root) {
@@ -64,11 +67,16 @@ fn other_files<D: Disk>(
 fn settle<D: Disk>(alloc: Global, disk: &mut D, slot: Slot, root: &Root) -> Result<(), OpenRefusal>
     requires size { WhereTold HasRootSize (D.content disk.old) }
     requires root { IsRoot root.now }
-    ensures any_moment { (map : List ℕ) (epochs : ℕ → List ℕ) → FoundOn root.now (slot_number slot) map epochs (D.content disk.old) → LeavesOnly D.moment D.left_since disk.old disk.new (StandsFor root.now map epochs) }
-    ensures done { (map : List ℕ) (epochs : ℕ → List ℕ) → FoundOn root.now (slot_number slot) map epochs (D.content disk.old) → OnOk result (OnDisk root.now (slot_number slot) map epochs (D.content disk.new)) }
+    ensures any_moment { (map : List ℕ) (epochs : ℕ → List ℕ)
+        → FoundOn root.now (slot_number slot) map epochs (D.content disk.old)
+        → LeavesOnly D.moment D.left_since disk.old disk.new (StandsFor root.now map epochs) }
+    ensures done { (map : List ℕ) (epochs : ℕ → List ℕ)
+        → FoundOn root.now (slot_number slot) map epochs (D.content disk.old)
+        → OnOk result (OnDisk root.now (slot_number slot) map epochs (D.content disk.new)) }
     ensures told { OnOk result (TellsAs (D.content disk.old) (D.content disk.new)) }
     ensures well { OpensWell result }
-    ensures unchanged { result ≡ Err OpenRefusal.NoMemory → Told Unchanged (D.content disk.old) (D.content disk.new) }
+    ensures unchanged { result ≡ Err OpenRefusal.NoMemory
+        → Told Unchanged (D.content disk.old) (D.content disk.new) }
     ensures cause { RoseIf (result ≡ Err OpenRefusal.DiskFault) (D.faults disk.old) (D.faults disk.new) }
 {
     let Ok(parts) = named_parts(alloc, root) else {
@@ -97,13 +105,16 @@ impl Store {
     /// the disk's count of faults rose, and `NoMemory` only if memory runs out. Every error but
     /// `DiskFault` leaves all files as they read.
     pub fn open<D: Disk>(alloc: Global, disk: &mut D) -> Result<Store, OpenRefusal>
-        ensures any_moment { (may : List (Option Archive)) → AllRecoverOf may (D.content disk.old) → LeavesOnly D.moment D.left_since disk.old disk.new (RecoversOf may) }
+        ensures any_moment { (may : List (Option Archive)) → AllRecoverOf may (D.content disk.old)
+            → LeavesOnly D.moment D.left_since disk.old disk.new (RecoversOf may) }
         ensures answer { WhereTold (λ k. Opens (as_read k) result) (D.content disk.old) }
-        ensures done { (a : Archive) → ReadsAs a (D.content disk.old) → IfOk result (λ store. IsStoreOf store a (D.content disk.new)) }
+        ensures done { (a : Archive) → ReadsAs a (D.content disk.old)
+            → IfOk result (λ store. IsStoreOf store a (D.content disk.new)) }
         ensures well { (a : Archive) → ReadsAs a (D.content disk.old) → OpensWell result }
         ensures refused { RefusesBefore result (D.content disk.old) (D.content disk.new) }
         ensures sizes { IfOk result (λ store. WhereTold (HasSizes store) (D.content disk.new)) }
-        ensures cause { RoseIf (result ≡ Err OpenRefusal.DiskFault) (D.faults disk.old) (D.faults disk.new) }
+        ensures cause { RoseIf (result ≡ Err OpenRefusal.DiskFault) (D.faults disk.old)
+            (D.faults disk.new) }
     {
         law_of_recovery();
         law_of_opening();

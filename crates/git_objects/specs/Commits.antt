@@ -68,11 +68,13 @@ number_part end n rest = decimal n ++ end ∷ rest
 -- The bytes between the author's time zone and the subject: the archive as the committer, and the
 -- time at which it took the message.
 abbrev pub committed_part : ℕ → List ℕ → List ℕ
-committed_part moment rest = codes "\ncommitter piv2 <piv2@localhost> " ++ number_part 32 moment (codes "+0000\n\n" ++ rest)
+committed_part moment rest =
+    codes "\ncommitter piv2 <piv2@localhost> " ++ number_part 32 moment (codes "+0000\n\n" ++ rest)
 
 -- The line that names the author: name, address, seconds since 1970 and time zone.
 abbrev pub author_line : List ℕ → List ℕ → ℕ → ℤ → List ℕ → List ℕ
-author_line name email secs zone rest = codes "author " ++ name_part name (email_part email (number_part 32 secs (zone_text zone rest)))
+author_line name email secs zone rest =
+    codes "author " ++ name_part name (email_part email (number_part 32 secs (zone_text zone rest)))
 
 -- The content of a commit: the lines of tree, parent, author and committer, an empty line, and the
 -- subject on a line.

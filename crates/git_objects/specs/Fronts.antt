@@ -7,7 +7,8 @@ abbrev pub Lacks : {V : Type 0} → (V → Type 0) → (V → List ℕ → List 
 Lacks {V} valid spell bytes = (v : V) (rest : List ℕ) → valid v → bytes ≢ spell v rest
 
 -- The bytes start with the piece of this value, followed by this rest, and with no other.
-pub record Begins {V : Type 0} (valid : V → Type 0) (spell : V → List ℕ → List ℕ) (bytes : List ℕ) (v : V) (rest : List ℕ) : Type 0 where
+pub record Begins {V : Type 0} (valid : V → Type 0) (spell : V → List ℕ → List ℕ) (bytes : List ℕ)
+    (v : V) (rest : List ℕ) : Type 0 where
   pub valid_one : valid v
   pub spelled : bytes ≡ spell v rest
   pub only : (w : V) (more : List ℕ) → valid w → bytes ≡ spell w more → (v ≡ w) × (rest ≡ more)
@@ -21,7 +22,8 @@ abbrev pub followed : {V : Type 0} → (V → List ℕ → List ℕ) → List �
 followed spell word v rest = spell v (word ++ rest)
 
 -- The pieces of two values, one after the other.
-abbrev pub in_turn : {A B : Type 0} → (A → List ℕ → List ℕ) → (B → List ℕ → List ℕ) → A × B → List ℕ → List ℕ
+abbrev pub in_turn : {A B : Type 0} → (A → List ℕ → List ℕ) → (B → List ℕ → List ℕ) → A × B → List ℕ
+    → List ℕ
 in_turn first second pair rest = first pair.0 (second pair.1 rest)
 
 -- Both values have a piece.

@@ -22,17 +22,21 @@ pub record IsFront (bytes : List ℕ) (object : GitObject) (len : ℕ) : Type 0 
 
 -- The borrowed content is the piece of the bytes that ends where the object ends.
 abbrev pub LendsPiece : List ℕ → Object → ℕ → Type 0
-LendsPiece bytes (Blob content) len = (length content.now ≤ len) × (content.now ≡ slice_range bytes (len - length content.now) len)
+LendsPiece bytes (Blob content) len = (length content.now ≤ len)
+    × (content.now ≡ slice_range bytes (len - length content.now) len)
 LendsPiece bytes (Tree kind id) len = Unit {0}
-LendsPiece bytes (Commit content) len = (length content.now ≤ len) × (content.now ≡ slice_range bytes (len - length content.now) len)
+LendsPiece bytes (Commit content) len = (length content.now ≤ len)
+    × (content.now ≡ slice_range bytes (len - length content.now) len)
 
 -- The bytes start with no object's spelling.
 abbrev pub HasNoObject : List ℕ → Type 0
-HasNoObject bytes = (object : GitObject) (rest : List ℕ) → IsObject object → bytes ≢ spelling object ++ rest
+HasNoObject bytes = (object : GitObject) (rest : List ℕ) → IsObject object
+    → bytes ≢ spelling object ++ rest
 
 -- The result is this object and the length of its spelling.
 abbrev pub Finds : Option (Object × ℕ) → GitObject → Type 0
-Finds found object = MatchOption found ⊥ (λ f. (shown f.0 ≡ object) × (f.1 ≡ length (spelling object)))
+Finds found object =
+    MatchOption found ⊥ (λ f. (shown f.0 ≡ object) × (f.1 ≡ length (spelling object)))
 
 -- The commit of the parts that a reader borrows.
 abbrev pub commit_of : Parts → CommitRecord

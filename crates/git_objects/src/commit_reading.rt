@@ -18,7 +18,8 @@ use std::alloc::Global;
 /// A commit that was spelled is read back.
 pub fn read_commit(alloc: Global, content: &[u8]) -> Result<Option<Commit>, NoMemory>
     ensures exact { ReadsCommit content.now result }
-    ensures again { (c : CommitRecord) → IsCommit c → content.now ≡ commit_content c → IfOk result (λ found. found ≡ Some c) }
+    ensures again { (c : CommitRecord) → IsCommit c → content.now ≡ commit_content c
+        → IfOk result (λ found. found ≡ Some c) }
 {
     let Some(parts) = read_parts(content) else {
         return Ok(None);
@@ -57,7 +58,8 @@ struct Parts<'a> {
 
 /// Reads the parts of a commit's content.
 fn read_parts(content: &[u8]) -> Option<Parts<'_>>
-    ensures { MatchOption result (HoldsNoCommit content.now) (λ parts. IsContentOf content.now (commit_of parts)) }
+    ensures { MatchOption result (HoldsNoCommit content.now) (λ parts.
+        IsContentOf content.now (commit_of parts)) }
 {
     let (tree, parent, rest) = read_ids(content)?;
     let (author, email, rest) = read_person(rest)?;
@@ -80,8 +82,10 @@ fn read_parts(content: &[u8]) -> Option<Parts<'_>>
 
 /// Reads the ids of tree and parent, up to the author's name.
 fn read_ids(bytes: &[u8]) -> Option<(ObjectId, Option<ObjectId>, &[u8])>
-    ensures { MatchOption result (Lacks (Both IsId IsParent) (in_turn tree_line parent_part) bytes.now)
-        (λ found. Begins (Both IsId IsParent) (in_turn tree_line parent_part) bytes.now (found.0, found.1) found.2.now) }
+    ensures { MatchOption result
+        (Lacks (Both IsId IsParent) (in_turn tree_line parent_part) bytes.now)
+        (λ found. Begins (Both IsId IsParent) (in_turn tree_line parent_part) bytes.now
+        (found.0, found.1) found.2.now) }
 {
     let (tree, rest) = read_id(b"tree ", bytes)?;
     let (parent, rest) = read_parent(rest)?;
@@ -118,8 +122,10 @@ fn are_bytes(bytes: &[u8])
 
 /// Reads the author's name and address, up to the seconds.
 fn read_person(bytes: &[u8]) -> Option<(&[u8], &[u8], &[u8])>
-    ensures { MatchOption result (Lacks (Both IsClean IsClean) (in_turn name_part email_part) bytes.now)
-        (λ found. Begins (Both IsClean IsClean) (in_turn name_part email_part) bytes.now (found.0.now, found.1.now) found.2.now) }
+    ensures { MatchOption result
+        (Lacks (Both IsClean IsClean) (in_turn name_part email_part) bytes.now)
+        (λ found. Begins (Both IsClean IsClean) (in_turn name_part email_part) bytes.now
+        (found.0.now, found.1.now) found.2.now) }
 {
     let (name, rest) = read_name(bytes)?;
     let (email, rest) = read_text(b'>', rest)?;
@@ -154,8 +160,10 @@ fn read_text(end: u8, bytes: &[u8]) -> Option<(&[u8], &[u8])>
 
 /// Reads the author's seconds and time zone.
 fn read_time(bytes: &[u8]) -> Option<(u64, i16, &[u8])>
-    ensures { MatchOption result (Lacks (Both IsNumber IsZone) (in_turn (number_part 32) zone_text) bytes.now)
-        (λ found. Begins (Both IsNumber IsZone) (in_turn (number_part 32) zone_text) bytes.now (found.0, found.1) found.2.now) }
+    ensures { MatchOption result
+        (Lacks (Both IsNumber IsZone) (in_turn (number_part 32) zone_text) bytes.now)
+        (λ found. Begins (Both IsNumber IsZone) (in_turn (number_part 32) zone_text) bytes.now
+        (found.0, found.1) found.2.now) }
 {
     let (secs, rest) = read_number(b' ', bytes)?;
     let (zone, rest) = read_zone(rest)?;
@@ -194,8 +202,10 @@ fn read_two_digits(bytes: &[u8]) -> Option<(u8, &[u8])>
 
 /// Reads the moment of the commit, and the subject, which ends the content.
 fn read_end(bytes: &[u8]) -> Option<(u64, &[u8], &[u8])>
-    ensures { MatchOption result (Lacks (Both IsNumber IsClean) (in_turn committed_part (text_part 10)) bytes.now)
-        (λ found. Begins (Both IsNumber IsClean) (in_turn committed_part (text_part 10)) bytes.now (found.0, found.1.now) found.2.now) }
+    ensures { MatchOption result
+        (Lacks (Both IsNumber IsClean) (in_turn committed_part (text_part 10)) bytes.now)
+        (λ found. Begins (Both IsNumber IsClean) (in_turn committed_part (text_part 10)) bytes.now
+        (found.0, found.1.now) found.2.now) }
 {
     let (committed, rest) = read_committed(bytes)?;
     let (subject, rest) = read_subject(rest)?;

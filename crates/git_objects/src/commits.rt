@@ -81,7 +81,8 @@ fn push_parent(into: &mut Bytes, parent: &Option<ObjectId>) -> Result<(), NoMemo
 /// Appends the line that names the author, without its line feed.
 fn push_author(into: &mut Bytes, commit: &Commit) -> Result<(), NoMemory>
     requires { IsZone commit.now.zone }
-    ensures { OnOk result (Appends into.old into.new (author_line commit.now.author commit.now.email commit.now.secs commit.now.zone)) }
+    ensures { OnOk result (Appends into.old into.new
+        (author_line commit.now.author commit.now.email commit.now.secs commit.now.zone)) }
 {
     into.push_slice(b"author ")?;
     push_text(into, commit.author.as_slice(), b" <")?;

@@ -25,7 +25,8 @@ impl EntryKind {
 
     /// Returns the kind whose file has this name, if there is one.
     pub(crate) fn of_name(name: u8) -> Option<EntryKind>
-        ensures { MatchOption result ((kind : EntryKind) → name ≢ entry_name kind) (λ kind. name ≡ entry_name kind) }
+        ensures { MatchOption result ((kind : EntryKind)
+            → name ≢ entry_name kind) (λ kind. name ≡ entry_name kind) }
     {
         if name == b'm' {
             return Some(EntryKind::Message);

@@ -8,14 +8,16 @@ use memchr::memchr;
 
 /// Returns the bytes after a word that they start with.
 pub(crate) fn after<'a>(word: &[u8], bytes: &'a [u8]) -> Option<&'a [u8]>
-    ensures { MatchOption result ((rest : List ℕ) → bytes.now ≢ word.now ++ rest) (λ rest. bytes.now ≡ word.now ++ rest.now) }
+    ensures { MatchOption result ((rest : List ℕ)
+        → bytes.now ≢ word.now ++ rest) (λ rest. bytes.now ≡ word.now ++ rest.now) }
 {
     bytes.strip_prefix(word)
 }
 
 /// Returns the bytes before a word that they end with.
 pub(crate) fn before<'a>(word: &[u8], bytes: &'a [u8]) -> Option<&'a [u8]>
-    ensures { MatchOption result ((front : List ℕ) → bytes.now ≢ front ++ word.now) (λ front. bytes.now ≡ front.now ++ word.now) }
+    ensures { MatchOption result ((front : List ℕ)
+        → bytes.now ≢ front ++ word.now) (λ front. bytes.now ≡ front.now ++ word.now) }
 {
     bytes.strip_suffix(word)
 }

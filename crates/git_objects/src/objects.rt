@@ -72,7 +72,8 @@ pub fn read_object(bytes: &[u8]) -> Option<(Object<'_>, usize)>
     ensures lent { IfSome result (λ found. LendsPiece bytes.now found.0 found.1) }
     ensures none { IfNone result (HasNoObject bytes.now) }
     // A spelled object is read back whatever follows it.
-    ensures again { (object : GitObject) (rest : List ℕ) → IsObject object → bytes.now ≡ spelling object ++ rest → Finds result object }
+    ensures again { (object : GitObject) (rest : List ℕ) → IsObject object
+        → bytes.now ≡ spelling object ++ rest → Finds result object }
 {
     let (kind, behind) = read_kind(bytes)?;
     let (content, rest) = read_content(behind)?;

@@ -37,7 +37,8 @@ held_if false h = None
 
 module _ {H A : Type 0} where
   -- All words reached the connection.
-  pub record SaidWhole (s : Said H A) (i : Outside) (held : Option H) (a : A) (j : Outside) : Type 0 where
+  pub record SaidWhole (s : Said H A) (i : Outside) (held : Option H) (a : A) (j : Outside)
+      : Type 0 where
     pub held_is : held ≡ s.next
     pub after_is : a ≡ s.after
     pub out_is : j.out ≡ plus i.out s.words
@@ -45,7 +46,8 @@ module _ {H A : Type 0} where
 
   -- A send was lost: a prefix of the words reached the connection, and the session is closed. The
   -- request was carried out all the same.
-  pub record SaidLost (s : Said H A) (i : Outside) (held : Option H) (a : A) (j : Outside) : Type 0 where
+  pub record SaidLost (s : Said H A) (i : Outside) (held : Option H) (a : A) (j : Outside)
+      : Type 0 where
     pub lost_rose : Rose i.lost j.lost
     pub held_is : held ≡ None
     pub after_is : a ≡ s.after
@@ -53,7 +55,8 @@ module _ {H A : Type 0} where
     pub out_is : j.out ≡ plus i.out (take count s.words)
 
   -- A streamed reply stopped after a nonempty proper prefix, and the session is closed.
-  pub record SaidShort (s : Said H A) (i : Outside) (held : Option H) (a : A) (j : Outside) : Type 0 where
+  pub record SaidShort (s : Said H A) (i : Outside) (held : Option H) (a : A) (j : Outside)
+      : Type 0 where
     pub streamed : s.streamed ≡ true
     pub held_is : held ≡ None
     pub after_is : a ≡ s.after
@@ -68,7 +71,8 @@ module _ {H A : Type 0} where
 
   -- One act, in one of its ways. The word for the disk is said only if the disk's count rose in
   -- this act.
-  pub record Acts (words : Way → Said H A) (i : Outside) (held : Option H) (a : A) (j : Outside) : Type 0 where
+  pub record Acts (words : Way → Said H A) (i : Outside) (held : Option H) (a : A) (j : Outside)
+      : Type 0 where
     pub way : Way
     pub disk_cause : way ≡ Disk → Rose i.disk j.disk
     pub disk_later : i.disk ≤ j.disk
@@ -76,6 +80,7 @@ module _ {H A : Type 0} where
     pub sent : Sent (words way) i held a j
 
   -- One act by the rules, all of whose words reached the connection.
-  pub record PlainActs (s : Said H A) (i : Outside) (held : Option H) (a : A) (j : Outside) : Type 0 where
+  pub record PlainActs (s : Said H A) (i : Outside) (held : Option H) (a : A) (j : Outside)
+      : Type 0 where
     pub disk_later : i.disk ≤ j.disk
     pub whole : SaidWhole s i held a j

@@ -50,7 +50,8 @@ module _ {H A : Type 0} (said : A → H → Way → Said H A) (is_request : H �
   -- These requests were answered in order, by plain acts.
   abbrev pub PlainRequests : Talk H A → List (Talk H A) → Talk H A → Type 0
   PlainRequests w [] v = v ≡ w
-  PlainRequests w (m ∷ ms) v = ((h : H) × (is_request h ≡ true) × PlainStep h w m) × PlainRequests m ms v
+  PlainRequests w (m ∷ ms) v = ((h : H) × (is_request h ≡ true) × PlainStep h w m)
+      × PlainRequests m ms v
 
   -- The last act of a plain course closes the session, or keeps a rest without a whole request.
   pub record PlainLast (w v : Talk H A) : Type 0 where

@@ -11,29 +11,35 @@ more_of more (Some h) = Some (more h)
 
 -- The same words, where the session after them has more bytes.
 abbrev pub said_with : {H A : Type 0} → (H → H) → Said H A → Said H A
-said_with more s = record { next = more_of more s.next; words = s.words; streamed = s.streamed; after = s.after }
+said_with more s =
+    record { next = more_of more s.next; words = s.words; streamed = s.streamed; after = s.after }
 
-module _ {H A : Type 0} (said : A → H → Way → Said H A) (is_request : H → Bool) (more : List ℕ → H → H) (size : H → ℕ) where
+module _ {H A : Type 0} (said : A → H → Way → Said H A)
+    (is_request : H → Bool) (more : List ℕ → H → H) (size : H → ℕ) where
   -- The laws of a door whose pieces may be cut anywhere. `more q h` is `h` with `q` after its
   -- bytes.
   pub record CutDoor : Type 0 where
     -- A whole request stays one, and says the same, when more bytes follow it.
     pub request_stays : (q : List ℕ) (h : H) → is_request h ≡ true → is_request (more q h) ≡ true
-    pub said_stays : (q : List ℕ) (a : A) (h : H) (way : Way) → is_request h ≡ true → said a (more q h) way ≡ said_with (more q) (said a h way)
+    pub said_stays : (q : List ℕ) (a : A) (h : H) (way : Way) → is_request h ≡ true
+        → said a (more q h) way ≡ said_with (more q) (said a h way)
     -- A rest is kept without a word, or the session is closed.
     pub rest_plain : (a : A) (h : H) → is_request h ≡ false → said a h Plain ≡ silent a h
-    pub rest_kept : (a : A) (h : H) (way : Way) → is_request h ≡ false → ((said a h way).next ≡ None) ⊎ (said a h way ≡ silent a h)
+    pub rest_kept : (a : A) (h : H) (way : Way) → is_request h ≡ false
+        → ((said a h way).next ≡ None) ⊎ (said a h way ≡ silent a h)
     -- Two pieces in order are one joined piece.
     pub more_joined : (p q : List ℕ) (h : H) → more q (more p h) ≡ more (p ++ q) h
     -- A request that leaves the session open makes it smaller.
-    pub shorter : (a : A) (h k : H) → is_request h ≡ true → (said a h Plain).next ≡ Some k → size k < size h
+    pub shorter : (a : A) (h k : H) → is_request h ≡ true → (said a h Plain).next ≡ Some k
+        → size k < size h
 
   -- Feeding `p` and then `q` says and leaves the same as feeding both at once.
   abbrev pub CutLaw : Type 0
   CutLaw =
       (a : A) (h : H) (p q : List ℕ) →
       plain said is_request size a (more (p ++ q) h)
-      ≡ then_say (plain said is_request size a (more p h)) (λ b k. plain said is_request size b (more q k))
+      ≡ then_say (plain said is_request size a (more p h)) (λ b k.
+      plain said is_request size b (more q k))
 
   -- A course of `p` whose rest was kept, and then a course of `q`, make a course of both at once,
   -- whatever ways their acts took.
@@ -50,7 +56,8 @@ module _ {H A : Type 0} (said : A → H → Way → Said H A) (is_request : H �
   PlainLaw =
       (h : H) (w v : Talk H A) →
       w.held ≡ Some h →
-      PlainFed said is_request w v ↔ PlainActs (plain said is_request size w.after h) w.outside v.held v.after v.outside
+      PlainFed said is_request w v ↔ PlainActs (plain said is_request size w.after h)
+      w.outside v.held v.after v.outside
 
   -- A plain course is a course.
   abbrev pub PlainIsFed : Type 0

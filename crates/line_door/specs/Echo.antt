@@ -22,12 +22,14 @@ is_quit line = (length line == 4) && starts_with nat_eq line (codes "quit")
 -- The answer to a line: `quit` closes, and any other line is counted and sent back.
 abbrev pub echo_plain : Bool → ℕ → List ℕ → List ℕ → Said (List ℕ) ℕ
 echo_plain true a line rest = record { next = None; words = []; streamed = false; after = a }
-echo_plain false a line rest = record { next = Some rest; words = line ++ 10 ∷ []; streamed = false; after = a + 1 }
+echo_plain false a line rest =
+    record { next = Some rest; words = line ++ 10 ∷ []; streamed = false; after = a + 1 }
 
 -- What a line says in each way. Out of memory, the line is skipped with a word.
 abbrev pub echo_line : ℕ → List ℕ → List ℕ → Way → Said (List ℕ) ℕ
 echo_line a line rest Plain = echo_plain (is_quit line) a line rest
-echo_line a line rest Memory = record { next = Some rest; words = memory_word; streamed = false; after = a }
+echo_line a line rest Memory =
+    record { next = Some rest; words = memory_word; streamed = false; after = a }
 echo_line a line rest Disk = echo_plain (is_quit line) a line rest
 echo_line a line rest Newer = echo_plain (is_quit line) a line rest
 
@@ -68,4 +70,5 @@ EchoPieces = PiecesLaw echo_said echo_request echo_more length
 
 -- A plain course is what the plain function says, and it is a course.
 abbrev pub EchoPlain : Type 0
-EchoPlain = PlainLaw echo_said echo_request echo_more length × PlainIsFed echo_said echo_request echo_more length
+EchoPlain = PlainLaw echo_said echo_request echo_more length
+    × PlainIsFed echo_said echo_request echo_more length

@@ -12,7 +12,8 @@ use Rattle.mail_address.specs.Items.{items_of, is_grouped_behind, name_bytes, ad
 -- 5322, section 4.4).
 abbrev pub without_route : List ℕ → List ℕ
 without_route [] = []
-without_route (b ∷ bs) = if b == 64 then part_behind (b ∷ bs) (split_last (is_this 58) (b ∷ bs)) else b ∷ bs
+without_route (b ∷ bs) =
+    if b == 64 then part_behind (b ∷ bs) (split_last (is_this 58) (b ∷ bs)) else b ∷ bs
 
 -- The part of an address before its last `@`, or all of it if it has none.
 abbrev pub mailbox_of : List ℕ → List ℕ
@@ -26,11 +27,17 @@ host_of address = part_behind [] (split_last (is_this 64) address)
 abbrev pub mailbox_with : List ℕ → List ℕ → List Address
 mailbox_with name address =
     if length name == 0 && length address == 0 then []
-    else record { kind = Mailbox; name = name; mailbox = mailbox_of address; host = host_of address } ∷ []
+    else record {
+      kind = Mailbox;
+      name = name;
+      mailbox = mailbox_of address;
+      host = host_of address;
+    } ∷ []
 
 -- The mailbox of an item that isn't a group's name.
 abbrev pub mailbox_in : List ℕ → List Address
-mailbox_in item = mailbox_with (name_text (name_bytes item)) (without_route (address_text (address_bytes item)))
+mailbox_in item =
+    mailbox_with (name_text (name_bytes item)) (without_route (address_text (address_bytes item)))
 
 -- The start of a group, whose name is before its colon.
 abbrev pub group_start : List ℕ → Address
@@ -38,7 +45,8 @@ group_start item = record { kind = GroupStart; name = name_text item; mailbox = 
 
 -- The end of a group if a group is open.
 abbrev pub group_end : Bool → List Address
-group_end grouped = if grouped then record { kind = GroupEnd; name = []; mailbox = []; host = [] } ∷ [] else []
+group_end grouped =
+    if grouped then record { kind = GroupEnd; name = []; mailbox = []; host = [] } ∷ [] else []
 
 -- The addresses of an item, by its end. `grouped` says whether a group is open.
 abbrev pub told_by : Bool → List ℕ → Ending → List Address
@@ -49,7 +57,8 @@ told_by grouped item Semicolon = mailbox_in item ++ group_end grouped
 -- The addresses of items, one after another.
 abbrev pub told : Bool → List (List ℕ × Ending) → List Address
 told grouped [] = []
-told grouped (item ∷ items) = told_by grouped item.0 item.1 ++ told (is_grouped_behind grouped item.1) items
+told grouped (item ∷ items) =
+    told_by grouped item.0 item.1 ++ told (is_grouped_behind grouped item.1) items
 
 -- The addresses of a flat value: mailboxes, and the starts and ends of groups, in order.
 abbrev pub addresses_of : List ℕ → List Address

@@ -19,6 +19,7 @@ gap_behind Space b = if b == 32 then Space else Word
 
 -- A byte of a name at a place is appended to the text: the text before and after, and what precedes
 -- the next byte.
-pub record PutsOfName (old new : List ℕ) (gap : Gap) (place : Place) (b : ℕ) (behind : Gap) : Type 0 where
+pub record PutsOfName (old new : List ℕ) (gap : Gap) (place : Place) (b : ℕ) (behind : Gap)
+    : Type 0 where
   pub text : new ≡ (if stays_in_name place b then old ++ given gap b else old)
   pub behind_gap : behind ≡ (if stays_in_name place b then gap_behind gap b else gap)

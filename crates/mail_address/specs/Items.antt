@@ -14,7 +14,8 @@ use Rattle.mail_address.specs.Splits.{split_last, part_behind}
 -- quoted strings, of comments and of `<` to `>`.
 abbrev pub ends_item : Bool → Bool → ℕ × Place → Bool
 ends_item grouped bracketed mark =
-    not bracketed && is_outside mark.1 && (mark.0 == 44 || mark.0 == 59 || (mark.0 == 58 && not grouped))
+    not bracketed && is_outside mark.1
+    && (mark.0 == 44 || mark.0 == 59 || (mark.0 == 58 && not grouped))
 
 -- The kind of end that a byte is.
 abbrev pub ending_of : ℕ → Ending
@@ -76,7 +77,8 @@ behind_comment_start marks = part_behind [] (split_last is_comment_start marks)
 
 -- The inside of the last comment, or nothing if there is none.
 abbrev pub last_comment : List ℕ → List ℕ
-last_comment item = bytes_of (before_first (is_sought CommentEnd) (behind_comment_start (marked item)))
+last_comment item =
+    bytes_of (before_first (is_sought CommentEnd) (behind_comment_start (marked item)))
 
 -- The bytes from which an item's name is read: those before `<`, otherwise the inside of the last
 -- comment.
@@ -89,6 +91,8 @@ abbrev pub address_bytes : List ℕ → List ℕ
 address_bytes item = if has_bracket item then up_to_bracket (behind_bracket item) else item
 
 -- The first item of bytes: its own bytes, its end, and the bytes of the other items.
-pub record IsFirstItem (grouped : Bool) (bytes item : List ℕ) (ending : Ending) (rest : List ℕ) : Type 0 where
-  pub items : items_of grouped bytes ≡ (item, ending) ∷ items_of (is_grouped_behind grouped ending) rest
+pub record IsFirstItem (grouped : Bool) (bytes item : List ℕ) (ending : Ending) (rest : List ℕ)
+    : Type 0 where
+  pub items : items_of grouped bytes
+      ≡ (item, ending) ∷ items_of (is_grouped_behind grouped ending) rest
   pub shorter : length rest < length bytes

@@ -27,7 +27,8 @@ outside_flags (CommentText inside) = map (λ (b : ℕ). false) (piece_bytes (Com
 -- closed there.
 abbrev pub EveryValueIsFront : Type 0
 EveryValueIsFront =
-    (value : List ℕ) → (pieces : List Piece) × (more : List ℕ) × ArePieces is_outer_byte pieces × (spelled_pieces pieces ≡ value ++ more)
+    (value : List ℕ) → (pieces : List Piece) × (more : List ℕ) × ArePieces is_outer_byte pieces
+    × (spelled_pieces pieces ≡ value ++ more)
 
 -- What is taken as outside is just what stands outside of the quoted strings and comments that a
 -- value, or a text that it is the front of, is spelled with.
@@ -41,7 +42,8 @@ OutsideIsBetween =
 -- `<`, `>`, `@` and `\` (RFC 5322, section 3.2.3).
 abbrev pub is_plain : ℕ → Bool
 is_plain b =
-    not (b == 34) && not (b == 40) && not (b == 41) && not (b == 44) && not (b == 58) && not (b == 59) && not (b == 60) && not (b == 62)
+    not (b == 34) && not (b == 40) && not (b == 41) && not (b == 44) && not (b == 58)
+    && not (b == 59) && not (b == 60) && not (b == 62)
     && not (b == 64)
     && not (b == 92)
 
@@ -64,18 +66,26 @@ pub record IsPlain (mailbox : PlainMailbox) : Type 0 where
 
 -- `NAME <LOCAL@HOST>`.
 abbrev pub spelled : PlainMailbox → List ℕ
-spelled mailbox = mailbox.name ++ (codes " <" ++ (mailbox.local_part ++ (codes "@" ++ (mailbox.host ++ codes ">"))))
+spelled mailbox = mailbox.name
+    ++ (codes " <" ++ (mailbox.local_part ++ (codes "@" ++ (mailbox.host ++ codes ">"))))
 
 -- Mailboxes as they are spelled, joined by `, `.
 abbrev pub spelled_list : List PlainMailbox → List ℕ
 spelled_list [] = []
 spelled_list (mailbox ∷ []) = spelled mailbox
-spelled_list (mailbox ∷ next ∷ mailboxes) = spelled mailbox ++ (codes ", " ++ spelled_list (next ∷ mailboxes))
+spelled_list (mailbox ∷ next ∷ mailboxes) =
+    spelled mailbox ++ (codes ", " ++ spelled_list (next ∷ mailboxes))
 
 -- The address that a mailbox is read as.
 abbrev pub address_with : PlainMailbox → Address
-address_with mailbox = record { kind = Mailbox; name = mailbox.name; mailbox = mailbox.local_part; host = mailbox.host }
+address_with mailbox = record {
+  kind = Mailbox;
+  name = mailbox.name;
+  mailbox = mailbox.local_part;
+  host = mailbox.host;
+}
 
 -- A list of plain mailboxes is read back as they are.
 abbrev pub PlainReadBack : Type 0
-PlainReadBack = (mailboxes : List PlainMailbox) → All IsPlain mailboxes → addresses_of (spelled_list mailboxes) ≡ map address_with mailboxes
+PlainReadBack = (mailboxes : List PlainMailbox) → All IsPlain mailboxes
+    → addresses_of (spelled_list mailboxes) ≡ map address_with mailboxes

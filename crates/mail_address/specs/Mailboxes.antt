@@ -75,7 +75,8 @@ pub record IsWritten (mailbox : WrittenMailbox) : Type 0 where
 -- `NAME<ROUTE LOCAL@HOST>`.
 abbrev pub written : WrittenMailbox → List ℕ
 written m =
-    spelled_pieces m.name ++ 60 ∷ (m.route ++ (spelled_pieces m.local_part ++ 64 ∷ (spelled_pieces m.host ++ 62 ∷ [])))
+    spelled_pieces m.name ++ 60
+    ∷ (m.route ++ (spelled_pieces m.local_part ++ 64 ∷ (spelled_pieces m.host ++ 62 ∷ [])))
 
 -- Mailboxes joined by `, `.
 abbrev pub written_list : List WrittenMailbox → List ℕ
@@ -113,21 +114,33 @@ member_bytes (Group name mailboxes) = spelled_pieces name ++ 58 ∷ (written_lis
 abbrev pub member_list : List Member → List ℕ
 member_list [] = []
 member_list (member ∷ []) = member_bytes member
-member_list (member ∷ next ∷ members) = member_bytes member ++ (codes ", " ++ member_list (next ∷ members))
+member_list (member ∷ next ∷ members) =
+    member_bytes member ++ (codes ", " ++ member_list (next ∷ members))
 
 -- The address that a mailbox is read as.
 abbrev pub mailbox_said : WrittenMailbox → Address
 mailbox_said m =
-    record { kind = Mailbox; name = name_said m.name; mailbox = address_said m.local_part; host = address_said m.host }
+    record {
+      kind = Mailbox;
+      name = name_said m.name;
+      mailbox = address_said m.local_part;
+      host = address_said m.host;
+    }
 
 -- The addresses that a member is read as: a group as its start, its mailboxes and its end.
 abbrev pub member_said : Member → List Address
 member_said (One m) = mailbox_said m ∷ []
 member_said (Group name mailboxes) =
     record { kind = GroupStart; name = name_said name; mailbox = []; host = [] }
-    ∷ (map mailbox_said mailboxes ++ record { kind = GroupEnd; name = []; mailbox = []; host = [] } ∷ [])
+    ∷ (map mailbox_said mailboxes ++ record {
+      kind = GroupEnd;
+      name = [];
+      mailbox = [];
+      host = [];
+    } ∷ [])
 
 -- A list of such members is read back as they are: names without quotes, backslashes and comments,
 -- addresses without comments, spaces and routes, and groups with their mailboxes.
 abbrev pub MembersReadBack : Type 0
-MembersReadBack = (members : List Member) → AreMembers members → addresses_of (member_list members) ≡ flat_map member_said members
+MembersReadBack = (members : List Member) → AreMembers members
+    → addresses_of (member_list members) ≡ flat_map member_said members

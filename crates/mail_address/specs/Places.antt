@@ -29,7 +29,8 @@ next_place Pair b = Outside
 next_place Quoted b = if b == 92 then QuotedPair else (if b == 34 then Outside else Quoted)
 next_place QuotedPair b = Quoted
 next_place (Comment depth) b =
-    if b == 92 then CommentPair depth else (if b == 40 then Comment (depth + 1) else (if b == 41 then place_behind_comment depth else Comment depth))
+    if b == 92 then CommentPair depth else (if b == 40 then Comment (depth + 1)
+    else (if b == 41 then place_behind_comment depth else Comment depth))
 next_place (CommentPair depth) b = Comment depth
 
 -- The place of the byte after a byte of a name. There a backslash quotes the next byte outside of

@@ -19,7 +19,8 @@ last_inside (CommentText inside ∷ pieces) found = last_inside pieces (inside_b
 -- What an item without `<` says: the last comment is the name, and all outside of comments the
 -- address.
 abbrev pub bare_said : List Piece → List Address
-bare_said pieces = mailbox_with (name_text (last_inside pieces [])) (without_route (address_said pieces))
+bare_said pieces =
+    mailbox_with (name_text (last_inside pieces [])) (without_route (address_said pieces))
 
 -- A byte outside that neither ends an item nor begins an address between brackets: none of `,`,
 -- `:`, `;` and `<`.
@@ -28,7 +29,8 @@ is_bare_byte b = is_outer_byte b && not (b == 44) && not (b == 58) && not (b == 
 
 -- An item without `<` is read as what it says.
 abbrev pub BareReads : Type 0
-BareReads = (pieces : List Piece) → ArePieces is_bare_byte pieces → addresses_of (spelled_pieces pieces) ≡ bare_said pieces
+BareReads = (pieces : List Piece) → ArePieces is_bare_byte pieces
+    → addresses_of (spelled_pieces pieces) ≡ bare_said pieces
 
 -- A byte between brackets: any byte outside but `>`.
 abbrev pub is_inner_byte : ℕ → Bool
@@ -37,7 +39,8 @@ is_inner_byte b = is_outer_byte b && not (b == 62)
 -- In `NAME<INSIDE>REST` the rest says nothing.
 abbrev pub ItemReads : Type 0
 ItemReads =
-    (name inside rest : List Piece) → ArePieces is_plain name → ArePieces is_inner_byte inside → ArePieces is_plain rest
+    (name inside rest : List Piece) → ArePieces is_plain name → ArePieces is_inner_byte inside
+    → ArePieces is_plain rest
     → addresses_of (spelled_pieces name ++ 60 ∷ (spelled_pieces inside ++ 62 ∷ spelled_pieces rest))
     ≡ mailbox_with (name_said name) (without_route (address_said inside))
 
@@ -45,7 +48,8 @@ ItemReads =
 abbrev pub OpenItemReads : Type 0
 OpenItemReads =
     (name inside : List Piece) → ArePieces is_plain name → ArePieces is_inner_byte inside
-    → addresses_of (spelled_pieces name ++ 60 ∷ spelled_pieces inside) ≡ mailbox_with (name_said name) (without_route (address_said inside))
+    → addresses_of (spelled_pieces name ++ 60 ∷ spelled_pieces inside)
+    ≡ mailbox_with (name_said name) (without_route (address_said inside))
 
 -- A byte of an item without `<` in a group, where a colon ends no item: none of `,`, `;` and `<`.
 abbrev pub is_grouped_byte : ℕ → Bool
@@ -63,13 +67,15 @@ GroupReads =
 abbrev pub AddressIsSplit : Type 0
 AddressIsSplit =
     (name local_part host : List ℕ) → HasNo 64 host
-    → mailbox_with name (local_part ++ 64 ∷ host) ≡ record { kind = Mailbox; name = name; mailbox = local_part; host = host } ∷ []
+    → mailbox_with name (local_part ++ 64 ∷ host)
+    ≡ record { kind = Mailbox; name = name; mailbox = local_part; host = host } ∷ []
 
 -- An address without `@` has no host, and a name or an address alone is a mailbox.
 abbrev pub AloneIsMailbox : Type 0
 AloneIsMailbox =
     (name address : List ℕ) → HasNo 64 address → 0 < length name + length address
-    → mailbox_with name address ≡ record { kind = Mailbox; name = name; mailbox = address; host = [] } ∷ []
+    → mailbox_with name address
+    ≡ record { kind = Mailbox; name = name; mailbox = address; host = [] } ∷ []
 
 -- Without a name and without an address there is no mailbox.
 abbrev pub NothingIsNoMailbox : Type 0

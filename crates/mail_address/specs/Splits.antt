@@ -2,7 +2,8 @@
 use Rattle.std.specs.Prelude.{ℕ, Bool, true, false, ◌==◌, List, [], ◌∷◌, Option, None, Some}
 
 -- The split of a list with one more element at the front, from the split of the list.
-abbrev pub split_with : {X : Type 0} → Bool → X → List X → Option (List X × List X) → Option (List X × List X)
+abbrev pub split_with : {X : Type 0} → Bool → X → List X → Option (List X × List X)
+    → Option (List X × List X)
 split_with passes x xs (Some parts) = Some (x ∷ parts.0, parts.1)
 split_with true x xs None = Some ([], xs)
 split_with false x xs None = None

@@ -17,7 +17,8 @@ spread part = 32 ∷ (replicate part.0 32 ++ part.1)
 -- removed.
 abbrev pub WordsAreJoined : Type 0
 WordsAreJoined =
-    (first : List ℕ) (more : List (ℕ × List ℕ)) (front end : ℕ) → IsWord first → All (λ (part : ℕ × List ℕ). IsWord part.1) more
+    (first : List ℕ) (more : List (ℕ × List ℕ)) (front end : ℕ) → IsWord first
+    → All (λ (part : ℕ × List ℕ). IsWord part.1) more
     → joined_words (replicate front 32 ++ (first ++ (flat_map spread more ++ replicate end 32)))
     ≡ first ++ flat_map (λ (part : ℕ × List ℕ). 32 ∷ part.1) more
 
@@ -54,8 +55,10 @@ part_said (Taken b) = b ∷ []
 -- The text of a name is what its parts say, its words joined.
 abbrev pub NameTextIsSaid : Type 0
 NameTextIsSaid =
-    (parts : List NamePart) → AreNameParts parts → name_text (flat_map part_bytes parts) ≡ joined_words (flat_map part_said parts)
+    (parts : List NamePart) → AreNameParts parts
+    → name_text (flat_map part_bytes parts) ≡ joined_words (flat_map part_said parts)
 
 -- The text of an address is what its pieces say.
 abbrev pub AddressTextIsSaid : Type 0
-AddressTextIsSaid = (pieces : List Piece) → ArePieces is_outer_byte pieces → address_text (spelled_pieces pieces) ≡ address_said pieces
+AddressTextIsSaid = (pieces : List Piece) → ArePieces is_outer_byte pieces
+    → address_text (spelled_pieces pieces) ≡ address_said pieces

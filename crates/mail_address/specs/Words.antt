@@ -17,7 +17,8 @@ stays_in_name (CommentPair depth) b = false
 
 -- The bytes of a name that stay, in order. The first byte is at `place`.
 abbrev pub spoken_from : Place → List ℕ → List ℕ
-spoken_from place bytes = bytes_of (filter (λ (mark : ℕ × Place). stays_in_name mark.1 mark.0) (marked_by next_name_place place bytes))
+spoken_from place bytes = bytes_of (filter (λ (mark : ℕ × Place).
+    stays_in_name mark.1 mark.0) (marked_by next_name_place place bytes))
 
 -- The text starts with a byte other than a space.
 abbrev pub begins_word : List ℕ → Bool
@@ -53,7 +54,8 @@ stays_in_address (CommentPair depth) b = false
 
 -- The bytes of an address that stay, in order. The first byte is at `place`.
 abbrev pub address_from : Place → List ℕ → List ℕ
-address_from place bytes = bytes_of (filter (λ (mark : ℕ × Place). stays_in_address mark.1 mark.0) (marked_by next_place place bytes))
+address_from place bytes = bytes_of (filter (λ (mark : ℕ × Place).
+    stays_in_address mark.1 mark.0) (marked_by next_place place bytes))
 
 -- The address that bytes spell (RFC 5322, section 3.4.1).
 abbrev pub address_text : List ℕ → List ℕ

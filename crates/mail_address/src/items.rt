@@ -136,7 +136,8 @@ fn last_comment(item: &[u8]) -> &[u8]
 
 /// Returns the bytes after the `(` of an item's last comment, or nothing if it has no comment.
 fn behind_last_start(item: &[u8]) -> &[u8]
-    ensures { marked_by next_place (Place.Comment 1) result.now ≡ behind_comment_start (marked item.now) }
+    ensures { marked_by next_place (Place.Comment 1) result.now
+        ≡ behind_comment_start (marked item.now) }
 {
     let mut inside: &[u8] = &[];
     let mut place = Place::Outside;

@@ -93,7 +93,8 @@ pub(crate) fn address_text(alloc: Global, bytes: &[u8]) -> Result<Bytes, NoMemor
 
 /// Appends a byte of an address to its text if the byte stays.
 fn push_of_address(text: &mut Bytes, place: Place, byte: u8) -> Result<(), NoMemory>
-    ensures { OnOk result (text.new ≡ (if stays_in_address_at place byte then text.old ++ byte ∷ [] else text.old)) }
+    ensures { OnOk result (text.new
+        ≡ (if stays_in_address_at place byte then text.old ++ byte ∷ [] else text.old)) }
 {
     if stays_in_address(place, byte) {
         text.push(byte)

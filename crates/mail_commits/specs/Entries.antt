@@ -18,7 +18,8 @@ tree_of kind text = tree_spelling kind (blob_id_of text)
 -- The form of the commit that keeps a text in an entry of a kind, taken at a moment, after a parent or
 -- none.
 unfoldable pub commit_text : EntryKind → List ℕ → ℕ → Option Id20 → List ℕ
-commit_text kind text moment parent = commit_spelling (commit_of text (id_of (tree_of kind text)) parent moment)
+commit_text kind text moment parent =
+    commit_spelling (commit_of text (id_of (tree_of kind text)) parent moment)
 
 -- The id of that commit.
 unfoldable pub commit_id : EntryKind → List ℕ → ℕ → Option Id20 → Id20
@@ -26,7 +27,8 @@ commit_id kind text moment parent = id_of (commit_text kind text moment parent)
 
 -- The bytes of an entry of a kind: its blob, its tree and its commit.
 unfoldable pub entry_bytes : EntryKind → List ℕ → ℕ → Option Id20 → List ℕ
-entry_bytes kind text moment parent = blob_spelling text ++ (tree_of kind text ++ commit_text kind text moment parent)
+entry_bytes kind text moment parent =
+    blob_spelling text ++ (tree_of kind text ++ commit_text kind text moment parent)
 
 -- The first bytes of an epoch.
 abbrev pub magic : List ℕ

@@ -17,7 +17,8 @@ use Rattle.mime_words.specs.Decoding.{decoded}
 abbrev pub values_of : List ℕ → List FieldText → List (List ℕ)
 values_of name [] = []
 values_of name (field ∷ fields) =
-    if str_eq_ignore_ascii_case field.name name then flat_of field.value ∷ values_of name fields else values_of name fields
+    if str_eq_ignore_ascii_case field.name name then flat_of field.value ∷ values_of name fields
+    else values_of name fields
 
 -- The value after a comma and a space.
 abbrev pub behind_comma : List ℕ → List ℕ
@@ -87,4 +88,5 @@ subject_fact text = subject_of (first_named (codes "Subject") (fields_of text))
 -- When a text was written, and in which zone: what its first Date field spells, if it spells a
 -- moment (RFC 5322, section 3.6.1).
 unfoldable pub date_fact : List ℕ → Option Moment
-date_fact text = option_and_then (λ (field : FieldText). moment_in field.value) (first_named (codes "Date") (fields_of text))
+date_fact text = option_and_then (λ (field : FieldText).
+    moment_in field.value) (first_named (codes "Date") (fields_of text))

@@ -129,7 +129,8 @@ fn push_all(
     tree: &[u8],
     commit: &[u8],
 ) -> Result<(), NoMemory>
-    ensures { into.new ≡ (if is_ok result then into.old ++ (head.now ++ (text.now ++ (tree.now ++ commit.now))) else into.old) }
+    ensures { into.new ≡ (if is_ok result
+        then into.old ++ (head.now ++ (text.now ++ (tree.now ++ commit.now))) else into.old) }
 {
     let len = into.as_slice().len();
     let pushed = push_each(into, head, text, tree, commit);
@@ -149,7 +150,8 @@ fn push_each(
     tree: &[u8],
     commit: &[u8],
 ) -> Result<(), NoMemory>
-    ensures ok { OnOk result (into.new ≡ into.old ++ (head.now ++ (text.now ++ (tree.now ++ commit.now)))) }
+    ensures ok { OnOk result (into.new
+        ≡ into.old ++ (head.now ++ (text.now ++ (tree.now ++ commit.now)))) }
     ensures err { take (length into.old) into.new ≡ into.old }
 {
     into.push_slice(head)?;

@@ -74,7 +74,8 @@ fn from_addresses(alloc: Global, text: &[u8]) -> Result<Addresses, NoMemory>
 
 /// Returns the flat values of all From fields of a text, each after a comma and a space.
 fn from_values(alloc: Global, text: &[u8]) -> Result<Bytes, NoMemory>
-    ensures { IfOk result (λ made. made ≡ flat_map behind_comma (values_of (codes "From") (fields_of text.now))) }
+    ensures { IfOk result (λ made.
+        made ≡ flat_map behind_comma (values_of (codes "From") (fields_of text.now))) }
 {
     let mut values = Bytes::new(alloc);
     for field in fields(text) {
@@ -238,7 +239,8 @@ fn clean_flat(alloc: Global, value: &[u8]) -> Result<Bytes, NoMemory>
 
 /// Returns the value of the first field with a name.
 fn first_value<'a>(text: &'a [u8], name: &[u8]) -> Option<&'a [u8]>
-    ensures { option_copied result ≡ option_map (λ (field : FieldText). field.value) (first_named name.now (fields_of text.now)) }
+    ensures { option_copied result ≡ option_map (λ (field : FieldText).
+        field.value) (first_named name.now (fields_of text.now)) }
 {
     for field in fields(text) {
         if is_same_name(field.name, name) {

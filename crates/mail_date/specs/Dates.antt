@@ -13,7 +13,15 @@ last_second = 253402300799
 -- The date of these pieces, if each is there.
 abbrev pub joined : Option ℕ → Option ℕ → Option ℕ → Option Clock → Option ℤ → Option CivilDate
 joined (Some day) (Some month) (Some year) (Some clock) (Some zone) =
-    Some (record { year = year; month = month; day = day; hour = clock.hour; minute = clock.minute; second = clock.second; zone = zone })
+    Some (record {
+      year = year;
+      month = month;
+      day = day;
+      hour = clock.hour;
+      minute = clock.minute;
+      second = clock.second;
+      zone = zone;
+    })
 joined _ _ _ _ _ = None
 
 -- The calendar has the day, in a year from 1970 to 9999.

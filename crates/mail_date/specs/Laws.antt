@@ -14,20 +14,24 @@ SpelledMomentIsOne = (text : List ℕ) (a b : Moment) → Spells text a → Spel
 
 -- A clock in a moment's zone shows one date.
 abbrev pub PrintedDateIsOne : Type 0
-PrintedDateIsOne = (moment : Moment) (a b : CivilDate) → IsDateAt moment a → IsDateAt moment b → a ≡ b
+PrintedDateIsOne = (moment : Moment) (a b : CivilDate) → IsDateAt moment a
+    → IsDateAt moment b → a ≡ b
 
 -- A Date that is written for a moment, in a zone less than a day from UTC, spells that moment.
 abbrev pub WrittenDateIsSpelled : Type 0
 WrittenDateIsSpelled =
     (moment : Moment) (date : CivilDate)
-    → IsDateAt moment date → moment.secs ≤ last_second → IsZone moment.zone → Spells (mail_text date) moment
+    → IsDateAt moment date → moment.secs ≤ last_second → IsZone moment.zone
+    → Spells (mail_text date) moment
 
 -- If a text is such a Date, the answer is that moment.
 abbrev pub GivesWrittenMoment : List ℕ → Option Moment → Type 0
 GivesWrittenMoment text answer =
     (moment : Moment) (date : CivilDate)
-    → IsDateAt moment date → moment.secs ≤ last_second → IsZone moment.zone → text ≡ mail_text date → answer ≡ Some moment
+    → IsDateAt moment date → moment.secs ≤ last_second → IsZone moment.zone → text ≡ mail_text date
+    → answer ≡ Some moment
 
 -- The moment in a text is the one that it spells, and there is none if it spells none.
 abbrev pub MomentIsSpelled : Type 0
-MomentIsSpelled = (text : List ℕ) (moment : Moment) → moment_in text ≡ Some moment ↔ Spells text moment
+MomentIsSpelled = (text : List ℕ) (moment : Moment)
+    → moment_in text ≡ Some moment ↔ Spells text moment

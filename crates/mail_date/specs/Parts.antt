@@ -62,7 +62,8 @@ pub record DateParts (text : List ℕ) (date : CivilDate) : Type 0 where
   pub after_clock : List ℕ
   pub zone : List ℕ
   pub ending : List ℕ
-  pub whole : text ≡ opening ++ (day ++ (after_day ++ (month ++ (after_month ++ (year ++ (after_year ++ (clock ++ (after_clock ++ (zone ++ ending)))))))))
+  pub whole : text ≡ opening ++ (day ++ (after_day ++ (month ++ (after_month
+      ++ (year ++ (after_year ++ (clock ++ (after_clock ++ (zone ++ ending)))))))))
   pub opens : IsOpening opening
   pub is_day : IsWord day
   pub gap_after_day : IsGap after_day
@@ -74,7 +75,8 @@ pub record DateParts (text : List ℕ) (date : CivilDate) : Type 0 where
   pub gap_after_clock : IsGap after_clock
   pub is_zone : IsWord zone
   pub ends : IsEnding ending
-  pub value : joined (day_of day) (month_of month) (year_of year) (clock_of clock) (zone_of zone) ≡ Some date
+  pub value : joined (day_of day) (month_of month) (year_of year) (clock_of clock) (zone_of zone)
+      ≡ Some date
 
 -- The text spells the moment: it consists of the parts of a date that names the moment.
 abbrev pub Spells : List ℕ → Moment → Type 0

@@ -25,7 +25,8 @@ month_names =
 
 -- The number of a month, from 1, by its name in any case.
 abbrev pub month_of : List ℕ → Option ℕ
-month_of word = option_map (λ place. place + 1) (position (λ name. str_eq_ignore_ascii_case word name) month_names)
+month_of word = option_map (λ place.
+    place + 1) (position (λ name. str_eq_ignore_ascii_case word name) month_names)
 
 -- The year of two pairs of digits.
 abbrev pub joined_year : ℕ → ℕ → ℕ
@@ -39,12 +40,14 @@ year_of _ = None
 
 -- The time of day, if hour, minute and second are each there.
 abbrev pub clock_at : Option ℕ → Option ℕ → Option ℕ → Option Clock
-clock_at (Some hour) (Some minute) (Some second) = Some (record { hour = hour; minute = minute; second = second })
+clock_at (Some hour) (Some minute) (Some second) =
+    Some (record { hour = hour; minute = minute; second = second })
 clock_at _ _ _ = None
 
 -- The time of day, `hh:mm` or `hh:mm:ss`.
 abbrev pub clock_of : List ℕ → Option Clock
-clock_of (a ∷ b ∷ p ∷ c ∷ d ∷ []) = if p == 58 then clock_at (number_of a b) (number_of c d) (Some 0) else None
+clock_of (a ∷ b ∷ p ∷ c ∷ d ∷ []) =
+    if p == 58 then clock_at (number_of a b) (number_of c d) (Some 0) else None
 clock_of (a ∷ b ∷ p ∷ c ∷ d ∷ q ∷ e ∷ f ∷ []) =
     if p == 58 && q == 58 then clock_at (number_of a b) (number_of c d) (number_of e f) else None
 clock_of _ = None
@@ -52,7 +55,8 @@ clock_of _ = None
 -- The minutes east of UTC by the sign of a zone: positive after a plus, negative after a minus.
 abbrev pub signed : ℕ → ℕ → Option ℤ
 signed sign minutes =
-    if sign == 43 then Some (pos minutes) else (if sign == 45 then Some (neg_ℤ (pos minutes)) else None)
+    if sign == 43 then Some (pos minutes)
+    else (if sign == 45 then Some (neg_ℤ (pos minutes)) else None)
 
 -- The minutes east of UTC by a sign, hours up to 23 and minutes up to 59.
 abbrev pub offset_at : ℕ → Option ℕ → Option ℕ → Option ℤ
@@ -63,7 +67,8 @@ offset_at _ _ _ = None
 -- The names of the zones of North America.
 abbrev pub zone_names : List (List ℕ)
 zone_names =
-    codes "EST" ∷ codes "EDT" ∷ codes "CST" ∷ codes "CDT" ∷ codes "MST" ∷ codes "MDT" ∷ codes "PST" ∷ codes "PDT" ∷ []
+    codes "EST" ∷ codes "EDT" ∷ codes "CST" ∷ codes "CDT" ∷ codes "MST" ∷ codes "MDT" ∷ codes "PST"
+    ∷ codes "PDT" ∷ []
 
 -- The minutes east of UTC of these zones. They are 5, 4, 6, 5, 7, 6, 8 and 7 hours west of it.
 abbrev pub zone_minutes : List ℤ
@@ -76,7 +81,8 @@ zone_at place = slice_index_or zone_minutes place (pos 0)
 -- The minutes of a zone's name, in any case. UTC has two names, and each zone of North America one.
 abbrev pub named_zone : List ℕ → Option ℤ
 named_zone word =
-    if str_eq_ignore_ascii_case word (codes "GMT") || str_eq_ignore_ascii_case word (codes "UT") then Some (pos 0)
+    if str_eq_ignore_ascii_case word (codes "GMT") || str_eq_ignore_ascii_case word (codes "UT")
+    then Some (pos 0)
     else option_map zone_at (position (λ name. str_eq_ignore_ascii_case word name) zone_names)
 
 -- The minutes east of UTC of `+hhmm`, `-hhmm` or a name.

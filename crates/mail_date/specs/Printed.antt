@@ -47,7 +47,8 @@ sign_of (negsuc n) = 45
 
 -- A zone as `+hhmm` or `-hhmm`.
 abbrev pub zone_text : ℤ → List ℕ
-zone_text zone = sign_of zone ∷ (two_digits (unsigned_abs zone / 60) ++ two_digits (unsigned_abs zone % 60))
+zone_text zone =
+    sign_of zone ∷ (two_digits (unsigned_abs zone / 60) ++ two_digits (unsigned_abs zone % 60))
 
 -- The hour and the minute as `hh:mm`.
 abbrev pub minute_text : CivilDate → List ℕ
@@ -59,12 +60,14 @@ clock_text date = minute_text date ++ codes ":" ++ two_digits date.second
 
 -- The day as `YYYY-MM-DD`.
 abbrev pub day_text : CivilDate → List ℕ
-day_text date = four_digits date.year ++ codes "-" ++ two_digits date.month ++ codes "-" ++ two_digits date.day
+day_text date =
+    four_digits date.year ++ codes "-" ++ two_digits date.month ++ codes "-" ++ two_digits date.day
 
 -- The date as `dd-Mon-yyyy hh:mm:ss +zzzz` (RFC 3501, 9, date-time without its quotes).
 abbrev pub imap_text : CivilDate → List ℕ
 imap_text date =
-    two_places date.day ++ codes "-" ++ month_name date.month ++ codes "-" ++ four_digits date.year ++ codes " "
+    two_places date.day ++ codes "-" ++ month_name date.month ++ codes "-" ++ four_digits date.year
+    ++ codes " "
     ++ clock_text date ++ codes " " ++ zone_text date.zone
 
 -- The date as `YYYY-MM-DDThh:mm:ssZ` (RFC 3339, 5.6).
@@ -100,5 +103,6 @@ plain_day n = if nat_lt n 10 then (48 + n) ∷ [] else two_digits n
 -- The value of a Date field: `D Mon YYYY hh:mm:ss +hhmm` (RFC 5322, 3.3).
 abbrev pub mail_text : CivilDate → List ℕ
 mail_text date =
-    plain_day date.day ++ codes " " ++ month_name date.month ++ codes " " ++ four_digits date.year ++ codes " "
+    plain_day date.day ++ codes " " ++ month_name date.month ++ codes " " ++ four_digits date.year
+    ++ codes " "
     ++ clock_text date ++ codes " " ++ zone_text date.zone

@@ -17,7 +17,8 @@ is_comment (word ∷ words) = slice_index word 0 == 40
 -- follow.
 abbrev pub date_of_words : List (List ℕ) → Option CivilDate
 date_of_words (day ∷ month ∷ year ∷ clock ∷ zone ∷ others) =
-    if is_comment others then joined (day_of day) (month_of month) (year_of year) (clock_of clock) (zone_of zone)
+    if is_comment others
+    then joined (day_of day) (month_of month) (year_of year) (clock_of clock) (zone_of zone)
     else None
 date_of_words _ = None
 
@@ -28,7 +29,8 @@ date_of text = date_of_words (words_of (without_day text))
 -- The calendar has the day, in a year from 1970 to 9999.
 abbrev pub is_valid_day : CivilDate → Bool
 is_valid_day date =
-    nat_le 1970 date.year && nat_le date.year 9999 && nat_le 1 date.month && nat_le date.month 12 && nat_le 1 date.day
+    nat_le 1970 date.year && nat_le date.year 9999 && nat_le 1 date.month && nat_le date.month 12
+    && nat_le 1 date.day
     && nat_le date.day (days_in_month (pos date.year) date.month)
 
 -- A clock shows the time, which may be that of a leap second.
@@ -37,12 +39,14 @@ is_valid_time date = nat_le date.hour 23 && nat_le date.minute 59 && nat_le date
 
 -- The moment of these seconds since 1970, up to the end of the year 9999.
 abbrev pub moment_from : ℤ → ℤ → Option Moment
-moment_from (pos secs) zone = if nat_le secs last_second then Some (record { secs = secs; zone = zone }) else None
+moment_from (pos secs) zone =
+    if nat_le secs last_second then Some (record { secs = secs; zone = zone }) else None
 moment_from (negsuc n) zone = None
 
 -- The moment of a date, if the date is valid.
 abbrev pub moment_at : CivilDate → Option Moment
-moment_at date = if is_valid_day date && is_valid_time date then moment_from (seconds_of date) date.zone else None
+moment_at date = if is_valid_day date && is_valid_time date
+    then moment_from (seconds_of date) date.zone else None
 
 -- The moment that a text spells, if it spells one.
 unfoldable pub moment_in : List ℕ → Option Moment

@@ -30,7 +30,8 @@ words_of (b ∷ bs) =
 -- The names of the days (RFC 5322, 3.3).
 abbrev pub day_names : List (List ℕ)
 day_names =
-    codes "Mon" ∷ codes "Tue" ∷ codes "Wed" ∷ codes "Thu" ∷ codes "Fri" ∷ codes "Sat" ∷ codes "Sun" ∷ []
+    codes "Mon" ∷ codes "Tue" ∷ codes "Wed" ∷ codes "Thu" ∷ codes "Fri" ∷ codes "Sat"
+    ∷ codes "Sun" ∷ []
 
 -- The word is the name of a day, in any case.
 abbrev pub is_day_name : List ℕ → Bool

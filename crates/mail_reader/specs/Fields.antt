@@ -46,4 +46,5 @@ fields_of text = map field_of (parts_of (header_lines (lines_of text))).1
 -- The first field with a name.
 abbrev pub first_named : List ℕ → List FieldText → Option FieldText
 first_named name [] = None
-first_named name (field ∷ fields) = if str_eq_ignore_ascii_case field.name name then Some field else first_named name fields
+first_named name (field ∷ fields) =
+    if str_eq_ignore_ascii_case field.name name then Some field else first_named name fields

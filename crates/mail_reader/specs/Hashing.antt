@@ -16,7 +16,8 @@ waiting false = []
 
 -- What a byte adds. The flag says whether a space waits before it.
 abbrev pub given_at : Bool → ℕ → List ℕ
-given_at spaced b = if b == 10 then [] else if space_for b == 32 then [] else waiting spaced ++ space_for b ∷ []
+given_at spaced b =
+    if b == 10 then [] else if space_for b == 32 then [] else waiting spaced ++ space_for b ∷ []
 
 -- A space waits after the byte. The flag says whether one waits before it.
 abbrev pub waits_behind : Bool → ℕ → Bool

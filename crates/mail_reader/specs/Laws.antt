@@ -30,11 +30,13 @@ wholes fields = concat (map (λ (field : FieldText). field.whole) fields)
 -- The fields of any text, one after another, are its front: each starts at the offset where those
 -- before it end.
 abbrev pub FieldsAreFront : Type 0
-FieldsAreFront = (text : List ℕ) → text ≡ wholes (fields_of text) ++ concat (after_header (lines_of text))
+FieldsAreFront = (text : List ℕ)
+    → text ≡ wholes (fields_of text) ++ concat (after_header (lines_of text))
 
 -- The fields of a storage form in order, an empty line and the body are the form.
 abbrev pub FormIsParts : Type 0
-FormIsParts = (bytes text : List ℕ) → storage_form bytes ≡ Some text → text ≡ wholes (fields_of text) ++ 10 ∷ body_of text
+FormIsParts = (bytes text : List ℕ) → storage_form bytes ≡ Some text
+    → text ≡ wholes (fields_of text) ++ 10 ∷ body_of text
 
 -- A field on one line that is kept as it is.
 pub record IsKeptLine (line : List ℕ) : Type 0 where
@@ -47,11 +49,13 @@ pub record IsKeptLine (line : List ℕ) : Type 0 where
 
 -- A storage form with a kept field on one line at its front is a storage form.
 abbrev pub FieldInFront : Type 0
-FieldInFront = (bytes text line : List ℕ) → storage_form bytes ≡ Some text → IsKeptLine line → storage_form (line ++ text) ≡ Some (line ++ text)
+FieldInFront = (bytes text line : List ℕ) → storage_form bytes ≡ Some text → IsKeptLine line
+    → storage_form (line ++ text) ≡ Some (line ++ text)
 
 -- A storage form is at most two bytes longer than what it is made of.
 abbrev pub FormsAreShort : Type 0
-FormsAreShort = (bytes text : List ℕ) → storage_form bytes ≡ Some text → length text ≤ length bytes + 2
+FormsAreShort = (bytes text : List ℕ) → storage_form bytes ≡ Some text
+    → length text ≤ length bytes + 2
 
 -- A byte of an id between its brackets: printable ASCII other than a space, `<` and `>`.
 abbrev pub IsIdByte : ℕ → Type 0
@@ -90,7 +94,8 @@ IdsArePieces = (value id : List ℕ) → Contains (ids_of value) id ↔ IsId id 
 -- The ids come in the order of these pieces, and as often: at each piece that is an id, the ids are
 -- those before it, it, and those after it.
 abbrev pub IdsInOrder : Type 0
-IdsInOrder = (before id after : List ℕ) → IsId id → ids_of (before ++ (id ++ after)) ≡ ids_of before ++ id ∷ ids_of after
+IdsInOrder = (before id after : List ℕ) → IsId id
+    → ids_of (before ++ (id ++ after)) ≡ ids_of before ++ id ∷ ids_of after
 
 -- A line feed, or nothing.
 abbrev pub IsFeedOrNone : List ℕ → Type 0
@@ -109,7 +114,8 @@ pub record IsFieldIn (text : List ℕ) (field : FieldText) : Type 0 where
   pub whole : field.whole ≡ field.name ++ 58 ∷ (field.value ++ end)
   pub some_name : 0 < length field.name
   pub name_bytes : All IsNameByte field.name
-  pub continued : (k : ℕ) → slice_index field.value k ≡ 10 → (slice_index field.value (k + 1) ≡ 32) ⊎ (slice_index field.value (k + 1) ≡ 9)
+  pub continued : (k : ℕ) → slice_index field.value k ≡ 10 → (slice_index field.value (k + 1) ≡ 32)
+      ⊎ (slice_index field.value (k + 1) ≡ 9)
   pub lies : LiesIn field.whole text
   pub name : LiesIn field.name text
   pub value : LiesIn field.value text
@@ -121,7 +127,8 @@ pub record IsOfParts (text : List ℕ) : Type 0 where
   pub is_empty : IsFeedOrNone empty_line
   pub whole : text ≡ wholes (fields_of text) ++ (empty_line ++ body_of text)
   pub fields : (field : FieldText) → Contains (fields_of text) field → IsFieldIn text field
-  pub own_id : (id : List ℕ) → own_id text ≡ Some id → (field : FieldText) × Contains (fields_of text) field × LiesIn id field.value × LiesIn id text
+  pub own_id : (id : List ℕ) → own_id text ≡ Some id → (field : FieldText)
+      × Contains (fields_of text) field × LiesIn id field.value × LiesIn id text
 
 -- The fields, the body and the own id of any text are pieces of it.
 abbrev pub PartsLieIn : Type 0
@@ -132,7 +139,8 @@ pub record IsFirstMessageId (fields : List FieldText) (field : FieldText) : Type
   pub front : List FieldText
   pub later : List FieldText
   pub split : fields ≡ front ++ field ∷ later
-  pub others : (other : FieldText) → Contains front other → str_to_ascii_lowercase other.name ≢ codes "message-id"
+  pub others : (other : FieldText) → Contains front other
+      → str_to_ascii_lowercase other.name ≢ codes "message-id"
   pub name : str_to_ascii_lowercase field.name ≡ codes "message-id"
 
 -- The first id of that field of a text.

@@ -35,7 +35,8 @@ front (line ∷ lines) = if is_field_line line || is_continuation line then line
 -- The lines from the first one on that is neither a field line nor a continuation line.
 abbrev pub behind : List (List ℕ) → List (List ℕ)
 behind [] = []
-behind (line ∷ lines) = if is_field_line line || is_continuation line then behind lines else line ∷ lines
+behind (line ∷ lines) =
+    if is_field_line line || is_continuation line then behind lines else line ∷ lines
 
 -- The header: the longest run of lines from the start whose first line is a field line and each
 -- later one a field line or a continuation line (RFC 5322, section 2.2).

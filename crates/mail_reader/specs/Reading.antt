@@ -12,7 +12,8 @@ shown field = record { name = field.name.now; value = field.value.now; whole = f
 -- The first `len` bytes are continuation lines, and no such line follows them.
 pub record Continues (bytes : List ℕ) (len : ℕ) : Type 0 where
   pub within : len ≤ length bytes
-  pub parts : parts_of (front (lines_of bytes)) ≡ (take len bytes, (parts_of (header_lines (lines_of (drop len bytes)))).1)
+  pub parts : parts_of (front (lines_of bytes))
+      ≡ (take len bytes, (parts_of (header_lines (lines_of (drop len bytes)))).1)
   pub behind : behind (lines_of bytes) ≡ after_header (lines_of (drop len bytes))
 
 -- The first `len` bytes are the first field of a header.

@@ -22,7 +22,8 @@ ends_line (b ∷ bs) = b == 10 || (b == 13 && ends_line bs)
 -- The bytes without each run of carriage returns directly before a line feed.
 abbrev pub without_returns : List ℕ → List ℕ
 without_returns [] = []
-without_returns (b ∷ bs) = if b == 13 && ends_line bs then without_returns bs else b ∷ without_returns bs
+without_returns (b ∷ bs) =
+    if b == 13 && ends_line bs then without_returns bs else b ∷ without_returns bs
 
 -- All elements of the list are this byte.
 abbrev pub all_of : ℕ → List ℕ → Bool
@@ -54,7 +55,8 @@ after_mailbox_line (line ∷ lines) = if is_mailbox_line line then lines else li
 -- The field is one of those that are dropped with their continuation lines.
 unfoldable pub is_dropped : List ℕ → Bool
 is_dropped field =
-    is_named (codes "Bytes") field || is_named (codes "Lines") field || is_named (codes "Content-Length") field || is_named (codes "Status") field
+    is_named (codes "Bytes") field || is_named (codes "Lines") field
+    || is_named (codes "Content-Length") field || is_named (codes "Status") field
 
 -- The fields that stay.
 unfoldable pub kept_fields : List (List ℕ) → List (List ℕ)
@@ -78,7 +80,8 @@ form_of (field ∷ fields) body = Some (joined (field ∷ fields) body)
 -- `None` if no field stays.
 unfoldable pub storage_form : List ℕ → Option (List ℕ)
 storage_form bytes =
-    let lines = after_mailbox_line (clean_lines bytes) in form_of (kept_fields lines) (concat (body_lines lines))
+    let lines = after_mailbox_line (clean_lines bytes) in
+    form_of (kept_fields lines) (concat (body_lines lines))
 
 -- The greatest length of a message that is accepted, in bytes.
 abbrev pub max_len : ℕ

@@ -16,7 +16,8 @@ pub struct Line<'a> {
 /// Returns the first line of bytes that aren't empty.
 pub fn first_line(bytes: &[u8]) -> Line<'_>
     requires { 0 < length bytes.now }
-    ensures lines { clean_lines bytes.now ≡ (result.content.now ++ 10 ∷ []) ∷ clean_lines result.rest.now }
+    ensures lines { clean_lines bytes.now
+        ≡ (result.content.now ++ 10 ∷ []) ∷ clean_lines result.rest.now }
     ensures shorter { length result.rest.now < length bytes.now }
 {
     match memchr(b'\n', bytes) {

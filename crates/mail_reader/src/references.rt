@@ -31,7 +31,8 @@ pub fn refs_of(alloc: Global, text: &[u8]) -> Result<Texts, NoMemory>
 
 /// Appends the ids of the fields with a name.
 fn push_named<'a>(found: &mut Distinct<'a>, text: &'a [u8], name: &[u8]) -> Result<(), NoMemory>
-    ensures { OnOk result (found.new ≡ fold put_new found.old (ids_in name.now (fields_of text.now))) }
+    ensures { OnOk result (found.new
+        ≡ fold put_new found.old (ids_in name.now (fields_of text.now))) }
 {
     for field in Fields::of(text) {
         if is_same_name(field.name, name) {

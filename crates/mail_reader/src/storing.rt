@@ -131,7 +131,8 @@ fn is_dropped(content: &[u8]) -> bool
 
 /// Appends the fields that stay to a text, and returns the bytes after the header.
 fn keep_fields<'a>(text: &mut Bytes, bytes: &'a [u8]) -> Result<&'a [u8], NoMemory>
-    ensures fields { OnOk result (text.new ≡ text.old ++ concat (kept_fields (clean_lines bytes.now))) }
+    ensures fields { OnOk result (text.new
+        ≡ text.old ++ concat (kept_fields (clean_lines bytes.now))) }
     ensures rest { IfOk result (λ rest. clean_lines rest.now ≡ after_header (clean_lines bytes.now)) }
 {
     let mut rest = bytes;

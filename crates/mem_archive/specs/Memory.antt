@@ -17,11 +17,13 @@ use Rattle.arch_judge.specs.declared.index.Index.{Index}
 -- The entries of kept messages, the first of which has this number.
 abbrev pub entries_from : ℕ → List Kept → List Entry
 entries_from n [] = []
-entries_from n (k ∷ ks) = record { number = n; epoch = k.epoch; text = k.text; moment = k.moment } ∷ entries_from (n + 1) ks
+entries_from n (k ∷ ks) = record { number = n; epoch = k.epoch; text = k.text; moment = k.moment }
+    ∷ entries_from (n + 1) ks
 
 -- The archive of kept messages.
 abbrev pub archive_of : Config → List Kept → Archive
-archive_of config kept = record { config = config; entries = entries_from 1 kept; next = length kept + 1 }
+archive_of config kept =
+    record { config = config; entries = entries_from 1 kept; next = length kept + 1 }
 
 -- The end holds the room and the last commit of its epoch.
 pub record IsEnd (limit : ℕ) (entries : List Entry) (end_ : End) : Type 0 where
@@ -45,7 +47,8 @@ front_bytes (Some id) = []
 
 -- The end to which a new entry is appended, if the last epoch has `room` bytes left.
 abbrev pub end_by_room : ℕ → ℕ → End → End
-end_by_room room limit end_ = if end_.epoch == greatest_epoch || nat_lt 0 room then end_ else record { epoch = end_.epoch + 1; room = limit; parent = None }
+end_by_room room limit end_ = if end_.epoch == greatest_epoch || nat_lt 0 room then end_
+    else record { epoch = end_.epoch + 1; room = limit; parent = None }
 
 -- The same, by the end's own room.
 abbrev pub end_for_new : ℕ → End → End
@@ -55,7 +58,8 @@ end_for_new limit end_ = end_by_room end_.room limit end_
 abbrev pub end_after : End → List ℕ → ℕ → End
 end_after end_ text moment = record {
   epoch = end_.epoch;
-  room = end_.room - length (front_bytes end_.parent ++ entry_bytes message_kind text moment end_.parent);
+  room = end_.room
+      - length (front_bytes end_.parent ++ entry_bytes message_kind text moment end_.parent);
   parent = Some (commit_id message_kind text moment end_.parent);
 }
 
@@ -66,5 +70,6 @@ Grows old new = take (length old) new ≡ old
 -- The bytes of an epoch were appended, and it is told whether it has an entry. `NoMemory` leaves
 -- the bytes unchanged.
 abbrev pub GivesEpoch : List ℕ → List ℕ → Result Bool NoMemory → List Entry → Type 0
-GivesEpoch old new (Ok found) entries = (new ≡ old ++ epoch_bytes entries) × (found ≡ has_entry entries)
+GivesEpoch old new (Ok found) entries = (new ≡ old ++ epoch_bytes entries)
+    × (found ≡ has_entry entries)
 GivesEpoch old new (Err refused) entries = new ≡ old

@@ -94,7 +94,8 @@ pub(crate) fn push_behind(
     into: &mut Bytes,
 ) -> Result<ObjectId, NoMemory>
     ensures id { IfOk result (λ id. id ≡ commit_id message_kind text.now moment parent) }
-    ensures ok { OnOk result (into.new ≡ into.old ++ (front_bytes parent ++ entry_bytes message_kind text.now moment parent)) }
+    ensures ok { OnOk result (into.new
+        ≡ into.old ++ (front_bytes parent ++ entry_bytes message_kind text.now moment parent)) }
     ensures err { OnErr result (Grows into.old into.new) }
 {
     push_front(parent, into)?;

@@ -107,7 +107,8 @@ impl MemArchive {
     /// `NoMemory` may leave a part appended.
     fn push_entries(&self, epoch: u32, into: &mut Bytes) -> Result<bool, NoMemory>
         ensures found { IfOk result (λ found. found ≡ has_entry (in_epoch self.now.entries epoch)) }
-        ensures ok { OnOk result (into.new ≡ into.old ++ epoch_bytes (in_epoch self.now.entries epoch)) }
+        ensures ok { OnOk result (into.new
+            ≡ into.old ++ epoch_bytes (in_epoch self.now.entries epoch)) }
         ensures err { OnErr result (Grows into.old into.new) }
     {
         let mut parent = None;
@@ -159,7 +160,11 @@ impl MemArchive {
         requires blob { blob ≡ blob_id_of text }
         requires unseen { blob_number self.old.entries blob.0 ≡ None }
         requires room { self.old.next ≤ self.old.config.max }
-        ensures done { Delivers self.old result self.new (record { archive = with_entry self.old (new_epoch self.old) text moment; answer = Answer.Ok number blob }) }
+        ensures done { Delivers self.old result self.new (record {
+          archive = with_entry self.old
+              (new_epoch self.old) text moment;
+          answer = Answer.Ok number blob;
+        }) }
         ensures untouched { IsUntouched result self.old self.new }
     {
         match self.keep(text, blob, moment) {

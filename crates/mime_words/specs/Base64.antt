@@ -29,7 +29,8 @@ packed [] = []
 packed (a ∷ []) = []
 packed (a ∷ b ∷ []) = (4 * a + b / 16) ∷ []
 packed (a ∷ b ∷ c ∷ []) = (4 * a + b / 16) ∷ (b % 16 * 16 + c / 4) ∷ []
-packed (a ∷ b ∷ c ∷ d ∷ rest) = (4 * a + b / 16) ∷ (b % 16 * 16 + c / 4) ∷ (c % 4 * 64 + d) ∷ packed rest
+packed (a ∷ b ∷ c ∷ d ∷ rest) =
+    (4 * a + b / 16) ∷ (b % 16 * 16 + c / 4) ∷ (c % 4 * 64 + d) ∷ packed rest
 
 -- The bytes that a base64 text encodes.
 unfoldable pub unbase64 : List ℕ → List ℕ

@@ -56,7 +56,8 @@ same_charset (Some Latin1) (Some Latin1) = true
 abbrev pub before : Piece → List Piece → List Piece
 before piece [] = piece ∷ []
 before piece (first ∷ later) =
-    if same_charset piece.charset first.charset then record { charset = piece.charset; bytes = piece.bytes ++ first.bytes } ∷ later
+    if same_charset piece.charset first.charset
+    then record { charset = piece.charset; bytes = piece.bytes ++ first.bytes } ∷ later
     else piece ∷ first ∷ later
 
 -- Neighbours of one charset are joined, so that a character may be split between them.

@@ -24,7 +24,8 @@ EncodedBytes = (bytes : List ℕ) → IsBytes bytes → unbase64 (encode_of stan
 -- A byte of base64: a capital letter, a small letter, a digit, `+`, `/` or `=`.
 abbrev pub is_base64_byte : ℕ → Bool
 is_base64_byte b =
-    (nat_le 65 b && nat_le b 90) || ((nat_le 97 b && nat_le b 122) || ((nat_le 48 b && nat_le b 57) || (b == 43 || (b == 47 || b == 61))))
+    (nat_le 65 b && nat_le b 90) || ((nat_le 97 b && nat_le b 122)
+    || ((nat_le 48 b && nat_le b 57) || (b == 43 || (b == 47 || b == 61))))
 
 -- Nothing, or `=` and any bytes after it.
 abbrev pub IsPadding : List ℕ → Type 0
@@ -42,7 +43,8 @@ pub record IsBase64Of (bytes text : List ℕ) : Type 0 where
   pub whole_bytes : 6 * count / 8 ≡ length bytes
   pub padding : List ℕ
   pub is_padding : IsPadding padding
-  pub symbols : filter is_base64_byte text ≡ take count (encode_symbols standard.encode_table (bytes ++ more)) ++ padding
+  pub symbols : filter is_base64_byte text
+      ≡ take count (encode_symbols standard.encode_table (bytes ++ more)) ++ padding
 
 -- Such a text encodes the bytes.
 abbrev pub LooseBase64 : Type 0
@@ -53,7 +55,8 @@ LooseBase64 = (bytes text : List ℕ) → IsBase64Of bytes text → unbase64 tex
 pub record IsSpelled (bytes : List ℕ) (word : EncodedText) : Type 0 where
   pub letter : ℕ
   pub behind : List ℕ
-  pub spelling : bytes ≡ 61 ∷ 63 ∷ (word.charset ++ (63 ∷ letter ∷ 63 ∷ (word.text ++ (63 ∷ 61 ∷ behind))))
+  pub spelling : bytes
+      ≡ 61 ∷ 63 ∷ (word.charset ++ (63 ∷ letter ∷ 63 ∷ (word.text ++ (63 ∷ 61 ∷ behind))))
   pub named : 0 < length word.charset
   pub name : list_all is_charset_byte word.charset ≡ true
   pub encoding : encoding_of letter ≡ Some word.encoding
@@ -61,4 +64,5 @@ pub record IsSpelled (bytes : List ℕ) (word : EncodedText) : Type 0 where
 
 -- A word is found at the front of bytes exactly if they start with its spelling.
 abbrev pub WordsAreSpelled : Type 0
-WordsAreSpelled = (bytes : List ℕ) (word : EncodedText) → (word_at bytes ≡ Some word) ↔ IsSpelled bytes word
+WordsAreSpelled = (bytes : List ℕ) (word : EncodedText)
+    → (word_at bytes ≡ Some word) ↔ IsSpelled bytes word

@@ -36,4 +36,5 @@ abbrev pub unquoted : List ℕ → List ℕ
 unquoted [] = []
 unquoted (b ∷ []) = plain_byte b ∷ []
 unquoted (b ∷ x ∷ []) = plain_byte b ∷ plain_byte x ∷ []
-unquoted (b ∷ x ∷ y ∷ bs) = escape_or_plain (escape (b ∷ x ∷ y ∷ bs)) b (unquoted (x ∷ y ∷ bs)) (unquoted bs)
+unquoted (b ∷ x ∷ y ∷ bs) =
+    escape_or_plain (escape (b ∷ x ∷ y ∷ bs)) b (unquoted (x ∷ y ∷ bs)) (unquoted bs)

@@ -36,14 +36,16 @@ quoted_bytes (Equals ∷ parts) = 61 ∷ quoted_bytes parts
 
 -- The bytes start with two hexadecimal digits.
 abbrev pub BeginsWithDigits : List ℕ → Type 0
-BeginsWithDigits bytes = (high : ℕ) × (low : ℕ) × IsDigit high (slice_index bytes 0) × IsDigit low (slice_index bytes 1)
+BeginsWithDigits bytes = (high : ℕ) × (low : ℕ) × IsDigit high (slice_index bytes 0)
+    × IsDigit low (slice_index bytes 1)
 
 -- Parts of a text in Q. A lone `=` has no two digits after it.
 abbrev pub AreQuoted : List QuotedPart → Type 0
 AreQuoted [] = Unit {0}
 AreQuoted (Itself b ∷ parts) = (is_itself b ≡ true) × AreQuoted parts
 AreQuoted (Underscore ∷ parts) = AreQuoted parts
-AreQuoted (Digits high low first second ∷ parts) = IsDigit high first × IsDigit low second × AreQuoted parts
+AreQuoted (Digits high low first second ∷ parts) = IsDigit high first × IsDigit low second
+    × AreQuoted parts
 AreQuoted (Equals ∷ parts) = (BeginsWithDigits (quoted_bytes parts) → ⊥) × AreQuoted parts
 
 -- What such parts say: an underscore says a space.
@@ -61,7 +63,8 @@ HasNoDigits text = (k : ℕ) → slice_index text k ≡ 61 → BeginsWithDigits 
 -- In a text in Q, each `=` stays if none has two hexadecimal digits after it. Underscores are
 -- spaces, and all other bytes stay too.
 abbrev pub LoneEqualsStays : Type 0
-LoneEqualsStays = (text : List ℕ) → HasNoDigits text → unquoted text ≡ map (λ b. if b == 95 then 32 else b) text
+LoneEqualsStays = (text : List ℕ) → HasNoDigits text
+    → unquoted text ≡ map (λ b. if b == 95 then 32 else b) text
 
 -- A byte of an encoded text: printable ASCII but a space and `?`.
 abbrev pub IsTextByte : ℕ → Type 0
@@ -113,7 +116,8 @@ pub record IsWord (charset : Charset) (word : WrittenWord) : Type 0 where
 
 -- The bytes of a word: `=?NAME?LETTER?TEXT?=`.
 abbrev pub word_bytes : WrittenWord → List ℕ
-word_bytes word = 61 ∷ 63 ∷ (word.name ++ 63 ∷ word.letter ∷ 63 ∷ (coded_bytes word.coded ++ 63 ∷ 61 ∷ []))
+word_bytes word =
+    61 ∷ 63 ∷ (word.name ++ 63 ∷ word.letter ∷ 63 ∷ (coded_bytes word.coded ++ 63 ∷ 61 ∷ []))
 
 -- The bytes of a word with the spaces before it.
 abbrev pub spaced_word : WrittenWord → List ℕ
@@ -146,7 +150,8 @@ pub record IsAnyWord (word : AnyWord) : Type 0 where
 
 -- The bytes start with no word.
 abbrev pub BeginsNoWord : List ℕ → Type 0
-BeginsNoWord bytes = (word : AnyWord) (more : List ℕ) → IsAnyWord word → bytes ≡ any_bytes word ++ more → ⊥
+BeginsNoWord bytes = (word : AnyWord) (more : List ℕ) → IsAnyWord word
+    → bytes ≡ any_bytes word ++ more → ⊥
 
 -- A part of the text outside of words that are read: bytes without `=?`, a word of a charset that
 -- isn't read, or `=` alone that begins no word.
@@ -175,9 +180,12 @@ IsNoStretch (Stray ∷ later) = Unit {0}
 -- Parts of such a text, with bytes after them. No two neighbours are both bytes without `=?`.
 abbrev pub AreOuter : List OuterPart → List ℕ → Type 0
 AreOuter [] behind = Unit {0}
-AreOuter (Stretch text ∷ later) behind = HasNoOpening text × IsNoStretch later × AreOuter later behind
-AreOuter (Foreign word ∷ later) behind = IsAnyWord word × ((charset : Charset) → IsName charset word.name → ⊥) × AreOuter later behind
-AreOuter (Stray ∷ later) behind = BeginsNoWord (61 ∷ (outer_text later ++ behind)) × AreOuter later behind
+AreOuter (Stretch text ∷ later) behind = HasNoOpening text × IsNoStretch later
+    × AreOuter later behind
+AreOuter (Foreign word ∷ later) behind = IsAnyWord word
+    × ((charset : Charset) → IsName charset word.name → ⊥) × AreOuter later behind
+AreOuter (Stray ∷ later) behind = BeginsNoWord (61 ∷ (outer_text later ++ behind))
+    × AreOuter later behind
 
 -- A part of a value: text outside of words that are read, or words of one charset.
 pub data Run : Type 0 where
@@ -240,13 +248,16 @@ AllWords charset (word ∷ words) = IsWord charset word × AllWords charset word
 abbrev pub AreRuns : Before → List Run → Type 0
 AreRuns before [] = Unit {0}
 AreRuns before (Plain outer ∷ later) =
-    MayBeText before × (0 < length (outer_text outer)) × AreOuter outer (flat_map run_bytes later) × IsNoGap before (outer_text outer) later
+    MayBeText before × (0 < length (outer_text outer)) × AreOuter outer (flat_map run_bytes later)
+    × IsNoGap before (outer_text outer) later
     × AreRuns AfterText later
 AreRuns before (Words charset first more ∷ later) =
-    MayBeWords before charset first.gap × IsWord charset first × AllWords charset more × AreRuns (AfterWords charset) later
+    MayBeWords before charset first.gap × IsWord charset first × AllWords charset more
+    × AreRuns (AfterWords charset) later
 
 -- Decoding a value that is so spelled gives what its parts say: underscores are spaces, the spaces
 -- between two words are removed, neighbours of one charset are joined before they are read, and all
 -- other text stays, with the words of other charsets in it.
 abbrev pub SpelledIsSaid : Type 0
-SpelledIsSaid = (runs : List Run) → AreRuns Start runs → decoded (flat_map run_bytes runs) ≡ flat_map run_said runs
+SpelledIsSaid = (runs : List Run) → AreRuns Start runs
+    → decoded (flat_map run_bytes runs) ≡ flat_map run_said runs

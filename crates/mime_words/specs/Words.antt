@@ -26,7 +26,8 @@ is_text_byte b = nat_le 33 b && nat_le b 126 && not (b == 63)
 
 -- The encodings, by their letters.
 abbrev pub encoding_of : ℕ → Option Encoding
-encoding_of b = if b == 66 || b == 98 then Some Base64 else (if b == 81 || b == 113 then Some Quoted else None)
+encoding_of b =
+    if b == 66 || b == 98 then Some Base64 else (if b == 81 || b == 113 then Some Quoted else None)
 
 -- An encoded word: the name of its charset, its encoding and its encoded text.
 pub record EncodedText : Type 0 where
@@ -40,11 +41,13 @@ word_len word = length word.charset + length word.text + 7
 
 -- The bytes after `=?` at the front.
 abbrev pub behind_opening : List ℕ → Option (List ℕ)
-behind_opening bytes = if slice_index bytes 0 == 61 && slice_index bytes 1 == 63 then Some (drop 2 bytes) else None
+behind_opening bytes =
+    if slice_index bytes 0 == 61 && slice_index bytes 1 == 63 then Some (drop 2 bytes) else None
 
 -- The encoding whose letter is between two `?` at the front.
 abbrev pub encoding_at : List ℕ → Option Encoding
-encoding_at bytes = if slice_index bytes 0 == 63 && slice_index bytes 2 == 63 then encoding_of (slice_index bytes 1) else None
+encoding_at bytes = if slice_index bytes 0 == 63 && slice_index bytes 2 == 63
+    then encoding_of (slice_index bytes 1) else None
 
 -- The bytes start with `?=`.
 abbrev pub is_closing : List ℕ → Bool
@@ -54,7 +57,8 @@ is_closing bytes = slice_index bytes 0 == 63 && slice_index bytes 1 == 61
 abbrev pub closed_word : List ℕ → List ℕ → Encoding → Option EncodedText
 closed_word charset behind encoding =
     let n = prefix_len is_text_byte behind in
-    if is_closing (drop n behind) then Some (record { charset = charset; encoding = encoding; text = take n behind }) else None
+    if is_closing (drop n behind) then Some
+    (record { charset = charset; encoding = encoding; text = take n behind }) else None
 
 -- The encoded word after `=?`: one or more bytes of the charset's name, the encoding, and the rest
 -- of the word.
@@ -62,7 +66,8 @@ abbrev pub opened_word : List ℕ → Option EncodedText
 opened_word inside =
     let n = prefix_len is_charset_byte inside in
     if n == 0 then None
-    else option_and_then (closed_word (take n inside) (drop (n + 3) inside)) (encoding_at (drop n inside))
+    else option_and_then (closed_word (take n inside) (drop (n + 3) inside))
+    (encoding_at (drop n inside))
 
 -- The encoded word at the front: `=?`, the charset's name, `?`, the encoding's letter, `?`, the
 -- encoded text, `?=`.
@@ -88,12 +93,14 @@ plain text = map (λ b. record { charset = None; bytes = b ∷ [] }) text
 -- written.
 abbrev pub pieces_of_word : Option Charset → EncodedText → List ℕ → List Piece
 pieces_of_word None word written = plain written
-pieces_of_word (Some charset) word written = record { charset = Some charset; bytes = bytes_of word.encoding word.text } ∷ []
+pieces_of_word (Some charset) word written =
+    record { charset = Some charset; bytes = bytes_of word.encoding word.text } ∷ []
 
 -- The pieces of bytes that start with a word, or with another byte.
 abbrev pub pieces_at : Option EncodedText → List ℕ → (ℕ → List Piece) → List Piece
 pieces_at None bytes behind = plain (take 1 bytes) ++ behind 0
-pieces_at (Some word) bytes behind = pieces_of_word (charset_of word.charset) word (take (word_len word) bytes) ++ behind (word_len word - 1)
+pieces_at (Some word) bytes behind = pieces_of_word (charset_of word.charset) word
+    (take (word_len word) bytes) ++ behind (word_len word - 1)
 
 -- The pieces of bytes, of which the first `n` belong to the word before them.
 abbrev pub pieces_from : List ℕ → ℕ → List Piece

@@ -25,7 +25,8 @@ finished w = w.text ++ read_as w.charset w.held
 
 -- Bytes of a charset may follow: bytes that wait for another charset are read and appended first.
 abbrev pub turned : Written → Option Charset → Written
-turned w charset = if same_charset w.charset charset then w else record { text = finished w; charset = charset; held = [] }
+turned w charset = if same_charset w.charset charset then w
+    else record { text = finished w; charset = charset; held = [] }
 
 -- More bytes wait.
 abbrev pub with_held : Written → List ℕ → Written
@@ -54,16 +55,20 @@ shown word = record { charset = word.charset.now; encoding = word.encoding; text
 
 -- The wanted word is found, of at most `most` bytes, or none is wanted and none is found.
 abbrev pub IsWordOf : Option EncodedText → ℕ → Option EncodedWord → Type 0
-IsWordOf wanted most found = MatchOption found (wanted ≡ None) (λ word. (wanted ≡ Some (shown word)) × (word_len (shown word) ≤ most))
+IsWordOf wanted most found = MatchOption found (wanted ≡ None) (λ word. (wanted ≡ Some (shown word))
+    × (word_len (shown word) ≤ most))
 
 -- The front of some bytes: text of a length, or a word that is decoded.
 abbrev pub IsFront : List ℕ → Front → Type 0
-IsFront bytes (Text len) = (0 < len) × (len ≤ length bytes) × (pieces bytes ≡ plain (take len bytes) ++ pieces (drop len bytes))
-IsFront bytes (Decoded word len) = (0 < len) × (len ≤ length bytes) × (pieces bytes ≡ piece_of word ∷ pieces (drop len bytes))
+IsFront bytes (Text len) = (0 < len) × (len ≤ length bytes)
+    × (pieces bytes ≡ plain (take len bytes) ++ pieces (drop len bytes))
+IsFront bytes (Decoded word len) = (0 < len) × (len ≤ length bytes)
+    × (pieces bytes ≡ piece_of word ∷ pieces (drop len bytes))
 
 -- The first word that is decoded is found, with the text before it and the bytes after it;
 -- otherwise all is text.
 abbrev pub FindsWord : List ℕ → Option Found → Type 0
 FindsWord value found =
     MatchOption found (pieces value ≡ plain value)
-    (λ f. (pieces value ≡ plain f.before.now ++ piece_of f.word ∷ pieces f.rest.now) × (length f.rest.now < length value))
+    (λ f. (pieces value ≡ plain f.before.now ++ piece_of f.word ∷ pieces f.rest.now)
+    × (length f.rest.now < length value))

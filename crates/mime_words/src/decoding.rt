@@ -145,7 +145,8 @@ fn push_read(
     charset: Option<Charset>,
     bytes: &[u8],
 ) -> Result<(), NoMemory>
-    ensures { OnOk result (string_bytes text.new ≡ string_bytes text.old ++ read_as charset bytes.now) }
+    ensures { OnOk result (string_bytes text.new
+        ≡ string_bytes text.old ++ read_as charset bytes.now) }
 {
     match charset {
         Some(Charset::Latin1) => push_latin1(text, bytes),
@@ -164,7 +165,8 @@ fn push_lossy(alloc: Global, text: &mut String, bytes: &[u8]) -> Result<(), NoMe
 
 /// Appends the characters of ISO-8859-1 to a text.
 fn push_latin1(text: &mut String, bytes: &[u8]) -> Result<(), NoMemory>
-    ensures { OnOk result (string_bytes text.new ≡ string_bytes text.old ++ encode_utf8_all bytes.now) }
+    ensures { OnOk result (string_bytes text.new
+        ≡ string_bytes text.old ++ encode_utf8_all bytes.now) }
 {
     for byte in bytes {
         text.push(char::from(*byte))?;

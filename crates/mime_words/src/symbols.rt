@@ -47,7 +47,8 @@ fn symbols_of(alloc: Global, text: &[u8]) -> Result<Bytes, NoMemory>
 
 /// Appends a byte to symbols if it is one.
 fn push_symbol(symbols: &mut Bytes, byte: u8) -> Result<(), NoMemory>
-    ensures { OnOk result (symbols.new ≡ (if is_symbol byte then symbols.old ++ byte ∷ [] else symbols.old)) }
+    ensures { OnOk result (symbols.new
+        ≡ (if is_symbol byte then symbols.old ++ byte ∷ [] else symbols.old)) }
 {
     if is_symbol(byte) {
         symbols.push(byte)

@@ -107,7 +107,8 @@ fn closed_word<'a>(
     behind: &'a [u8],
     encoding: Encoding,
 ) -> Option<EncodedWord<'a>>
-    ensures { IsWordOf (closed_word charset.now behind.now encoding) (length charset.now + length behind.now + 5) result }
+    ensures { IsWordOf (closed_word charset.now behind.now encoding)
+        (length charset.now + length behind.now + 5) result }
 {
     let (text, end) = behind.split_at(text_len(behind));
     if !is_closing(end) {

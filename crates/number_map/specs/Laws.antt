@@ -8,16 +8,20 @@ use Rattle.number_map.specs.Walks.{Walks}
 
 -- Two lists of records with the same bytes are equal.
 abbrev pub RecordsDiffer : Type 0
-RecordsDiffer = (a b : List Record) → AreRecordsFrom 1 a → AreRecordsFrom 1 b → flat_map record_bytes a ≡ flat_map record_bytes b → a ≡ b
+RecordsDiffer = (a b : List Record) → AreRecordsFrom 1 a → AreRecordsFrom 1 b
+    → flat_map record_bytes a ≡ flat_map record_bytes b → a ≡ b
 
 -- The records read up to a number are one list.
 abbrev pub RecordsAreOne : Type 0
-RecordsAreOne = (count : ℕ) (bytes : List ℕ) (a b : List Record) → Walks count bytes (Ok a) → Walks count bytes (Ok b) → a ≡ b
+RecordsAreOne = (count : ℕ) (bytes : List ℕ) (a b : List Record) → Walks count bytes (Ok a)
+    → Walks count bytes (Ok b) → a ≡ b
 
 -- A map is damaged at one offset at most.
 abbrev pub DamageIsOne : Type 0
-DamageIsOne = (count : ℕ) (bytes : List ℕ) (a b : ℕ) → Walks count bytes (Err (Damaged a)) → Walks count bytes (Err (Damaged b)) → a ≡ b
+DamageIsOne = (count : ℕ) (bytes : List ℕ) (a b : ℕ) → Walks count bytes (Err (Damaged a))
+    → Walks count bytes (Err (Damaged b)) → a ≡ b
 
 -- A map whose records up to a number are read isn't damaged up to that number.
 abbrev pub ReadOrDamaged : Type 0
-ReadOrDamaged = (count : ℕ) (bytes : List ℕ) (lines : List Record) (at : ℕ) → Walks count bytes (Ok lines) → Walks count bytes (Err (Damaged at)) → ⊥
+ReadOrDamaged = (count : ℕ) (bytes : List ℕ) (lines : List Record) (at : ℕ)
+    → Walks count bytes (Ok lines) → Walks count bytes (Err (Damaged at)) → ⊥

@@ -18,11 +18,13 @@ pub record IsNext (bytes : List ℕ) (old new : List Record) : Type 0 where
 -- There is no record of the next number, and this is its offset.
 pub record IsLast (at : ℕ) (bytes : List ℕ) (old new : List Record) : Type 0 where
   pub place : at ≡ record_size * length old
-  pub none : (line : Record) → IsRecord (length old + 1) line → take record_size bytes ≢ record_bytes line
+  pub none : (line : Record) → IsRecord (length old + 1) line
+      → take record_size bytes ≢ record_bytes line
   pub lines : new ≡ old
 
 -- The results of reading the next number.
-abbrev pub ReadsNext : {T : Type 0} → Result T WalkRefusal → List ℕ → List Record → List Record → Type 0
+abbrev pub ReadsNext : {T : Type 0} → Result T WalkRefusal → List ℕ → List Record → List Record
+    → Type 0
 ReadsNext (Ok _) bytes old new = IsNext bytes old new
 ReadsNext (Err (Damaged at)) bytes old new = IsLast at bytes old new
 ReadsNext (Err DiskFault) bytes old new = ⊥

@@ -8,19 +8,39 @@ use Rattle.number_map.specs.declared.line.Record.{Record}
 use Rattle.number_map.specs.Records.{record_bytes, IsRecord, AreRecordsFrom}
 
 -- A record with an id of 20 bytes takes 28 bytes.
-pub record_length : (line : Record) → length line.blob.0 ≡ 20 → length (record_bytes line) ≡ record_size
+pub record_length : (line : Record) → length line.blob.0 ≡ 20
+    → length (record_bytes line) ≡ record_size
 unfolding record_bytes
 record_length line size =
     let front : List ℕ = be32 line.number ++ be32 line.epoch in
-    omega (arith, size, length-append front line.blob.0, length-append (be32 line.number) (be32 line.epoch), be32_length line.number, be32_length line.epoch)
+    omega (
+      arith,
+      size,
+      length-append front line.blob.0,
+      length-append (be32 line.number)
+          (be32 line.epoch),
+      be32_length line.number,
+      be32_length line.epoch,
+    )
 
 -- Each record of a list takes 28 bytes.
-pub records_length : (n : ℕ) (lines : List Record) → AreRecordsFrom n lines → length (flat_map record_bytes lines) ≡ record_size * length lines
+pub records_length : (n : ℕ) (lines : List Record) → AreRecordsFrom n lines
+    → length (flat_map record_bytes lines) ≡ record_size * length lines
 records_length n [] valid = omega arith
 records_length n (line ∷ lines) valid =
     let id = valid.0.blob in
-    omega (arith, length-append (record_bytes line) (flat_map record_bytes lines), record_length line id.len, records_length (n + 1) lines valid.1)
+    omega (
+      arith,
+      length-append (record_bytes line) (flat_map record_bytes lines),
+      record_length
+          line id.len,
+      records_length (n + 1) lines valid.1,
+    )
 
 -- An epoch fits its field.
 pub epoch_fits : (n : ℕ) (line : Record) → IsRecord n line → line.epoch < 2 ^ 32
-epoch_fits n line valid = elim valid.message [ inl low ↦ omega (arith, low) | inr none ↦ (let is : line.epoch ≡ 4294967295 = none.0 in omega (arith, is)) ]
+epoch_fits n line valid = elim valid.message [
+  | inl low ↦ omega (arith, low)
+  | inr none
+      ↦ (let is : line.epoch ≡ 4294967295 = none.0 in omega (arith, is))
+]

@@ -19,7 +19,8 @@ pub record IsDamaged (count at : ℕ) (bytes : List ℕ) : Type 0 where
   pub begins : BeginsWith before bytes
   pub fewer : length before < count
   pub place : at ≡ record_size * length before
-  pub none : (line : Record) → IsRecord (length before + 1) line → take record_size (drop at bytes) ≢ record_bytes line
+  pub none : (line : Record) → IsRecord (length before + 1) line
+      → take record_size (drop at bytes) ≢ record_bytes line
 
 -- The results of reading a map with these bytes up to a number.
 abbrev pub Walks : ℕ → List ℕ → Result (List Record) WalkRefusal → Type 0

@@ -50,8 +50,10 @@ fn any_record(bytes: &[u8]) -> Record
 
 /// Returns the valid record of a number at the front of bytes, if there is one.
 pub fn record_in_front(bytes: &[u8], number: u32) -> Option<Record>
-    ensures some { IfSome result (λ line. IsRecord number line × (take record_size bytes.now ≡ record_bytes line)) }
-    ensures none { IfNone result ((line : Record) → IsRecord number line → take record_size bytes.now ≢ record_bytes line) }
+    ensures some { IfSome result (λ line. IsRecord number line
+        × (take record_size bytes.now ≡ record_bytes line)) }
+    ensures none { IfNone result ((line : Record) → IsRecord number line
+        → take record_size bytes.now ≢ record_bytes line) }
 {
     if bytes.len() < RECORD_SIZE {
         return None;

@@ -32,10 +32,12 @@ fn read_more<D: Disk>(
 ) -> Result<(), WalkRefusal>
     requires room { length room.old ≡ record_size * wanted }
     requires count { length lines.old + wanted < 2 ^ 32 }
-    ensures read { WhereTold (λ k. BeginsWith lines.old (bytes_of (k file).seen) → ReadsOn result (length lines.old + wanted) (bytes_of (k file).seen) lines.new) (D.content disk.old) }
+    ensures read { WhereTold (λ k. BeginsWith lines.old (bytes_of (k file).seen) → ReadsOn result
+        (length lines.old + wanted) (bytes_of (k file).seen) lines.new) (D.content disk.old) }
     ensures size { OnOk result (length lines.new ≡ length lines.old + wanted) }
     ensures same { Told Unchanged (D.content disk.old) (D.content disk.new) }
-    ensures any_moment { LeavesOnly D.moment D.left_since disk.old disk.new (Image (D.content disk.old)) }
+    ensures any_moment { LeavesOnly D.moment D.left_since disk.old disk.new
+        (Image (D.content disk.old)) }
     ensures cause { RoseIf (result ≡ Err WalkRefusal.DiskFault) (D.faults disk.old) (D.faults disk.new) }
 {
     let place = RECORD_SIZE as u64 * lines.as_slice().len() as u64;
@@ -55,9 +57,11 @@ fn read_all<D: Disk>(
 ) -> Result<(), WalkRefusal>
     requires room { length room.old ≡ record_size * 2340 }
     requires none { lines.old ≡ [] }
-    ensures read { WhereTold (λ k. ReadsOn result count (bytes_of (k file).seen) lines.new) (D.content disk.old) }
+    ensures read { WhereTold (λ k.
+        ReadsOn result count (bytes_of (k file).seen) lines.new) (D.content disk.old) }
     ensures same { Told Unchanged (D.content disk.old) (D.content disk.new) }
-    ensures any_moment { LeavesOnly D.moment D.left_since disk.old disk.new (Image (D.content disk.old)) }
+    ensures any_moment { LeavesOnly D.moment D.left_since disk.old disk.new
+        (Image (D.content disk.old)) }
     ensures cause { RoseIf (result ≡ Err WalkRefusal.DiskFault) (D.faults disk.old) (D.faults disk.new) }
 {
     let mut done = 0;
@@ -82,9 +86,11 @@ pub fn walk<D: Disk>(
     file: FileName,
     count: u32,
 ) -> Result<Records, WalkRefusal>
-    ensures walked { WhereTold (λ k. Walks count (bytes_of (k file).seen) result) (D.content disk.old) }
+    ensures walked { WhereTold (λ k.
+        Walks count (bytes_of (k file).seen) result) (D.content disk.old) }
     ensures same { Told Unchanged (D.content disk.old) (D.content disk.new) }
-    ensures any_moment { LeavesOnly D.moment D.left_since disk.old disk.new (Image (D.content disk.old)) }
+    ensures any_moment { LeavesOnly D.moment D.left_since disk.old disk.new
+        (Image (D.content disk.old)) }
     ensures cause { RoseIf (result ≡ Err WalkRefusal.DiskFault) (D.faults disk.old) (D.faults disk.new) }
 {
     let mut room = room(alloc)?;

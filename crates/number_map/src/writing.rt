@@ -31,10 +31,13 @@ pub fn append<D: Disk>(
 ) -> Result<(), DiskFault>
     requires inside { WhereTold (IsAtMostLength file at) (D.content disk.old) }
     requires end { at + record_size < 2 ^ 63 }
-    ensures written { OnOk result (Told (OneFile file (Wrote at (record_bytes line.now))) (D.content disk.old) (D.content disk.new)) }
-    ensures torn { OnErr result (Told (OneFile file (Tore at record_size)) (D.content disk.old) (D.content disk.new)) }
+    ensures written { OnOk result (Told (OneFile file (Wrote at (record_bytes line.now)))
+        (D.content disk.old) (D.content disk.new)) }
+    ensures torn { OnErr result
+        (Told (OneFile file (Tore at record_size)) (D.content disk.old) (D.content disk.new)) }
     ensures size { length (record_bytes line.now) ≡ record_size }
-    ensures time { Elapses (D.moment disk.old) (D.moment disk.new) (D.left_since disk.old) (D.left_since disk.new) (D.content disk.new) }
+    ensures time { Elapses (D.moment disk.old) (D.moment disk.new) (D.left_since disk.old)
+        (D.left_since disk.new) (D.content disk.new) }
     ensures cause { IsCaused (D.faults disk.old) (D.faults disk.new) result }
     ensures count { D.reads disk.new ≡ D.reads disk.old }
 {

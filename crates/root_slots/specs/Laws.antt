@@ -6,7 +6,8 @@ use Rattle.root_slots.specs.Valid.{RootFits, IsRoot}
 
 -- Two roots with the same spelling are equal.
 abbrev pub SpellingsDiffer : Type 0
-SpellingsDiffer = (r s : Root) → RootFits r → RootFits s → IsRoot r → IsRoot s → spelling r ≡ spelling s → r ≡ s
+SpellingsDiffer = (r s : Root) → RootFits r → RootFits s → IsRoot r → IsRoot s
+    → spelling r ≡ spelling s → r ≡ s
 
 -- A spelling fills its slot.
 abbrev pub SpellingsFill : Type 0

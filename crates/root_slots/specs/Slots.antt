@@ -72,7 +72,8 @@ sequence_of body = from_be_bytes w64 (take 8 body)
 
 -- Of two open slots the other one is older. Of equal sequences slot 0 counts as the newer.
 abbrev pub Precedes : List ℕ → List ℕ → ℕ → Type 0
-Precedes other body slot = (sequence_of other < sequence_of body) ⊎ ((sequence_of other ≡ sequence_of body) × (slot ≡ 0))
+Precedes other body slot = (sequence_of other < sequence_of body)
+    ⊎ ((sequence_of other ≡ sequence_of body) × (slot ≡ 0))
 
 -- The current root of a file has this body and this slot: the open slot, and of two open ones the
 -- newer.
@@ -91,7 +92,8 @@ HasRoot body file = (slot : ℕ) × Current slot body file
 -- the body of the current root, or a body of a lesser sequence.
 pub record Ready (slot : ℕ) (old file : List ℕ) : Type 0 where
   pub current : Current (1 - slot) old file
-  pub other : (gate file slot ≡ 1) ⊎ ((body_at file slot ≡ old) ⊎ (sequence_of (body_at file slot) < sequence_of old))
+  pub other : (gate file slot ≡ 1)
+      ⊎ ((body_at file slot ≡ old) ⊎ (sequence_of (body_at file slot) < sequence_of old))
 
 -- The old root or the new one, and all other files as a crash before might have left them.
 pub record OldOrNew (old new : List ℕ) (k : Content) (image : Files) : Type 0 where
@@ -109,7 +111,8 @@ with_root slot body file = overlay slot (1 ∷ []) (overlay (body_place slot) bo
 
 -- After a commit the root file reads so.
 abbrev pub HasNewRoot : ℕ → List ℕ → Content → Content → Type 0
-HasNewRoot slot body old new = (new root_name).seen ≡ Some (with_root slot body (bytes_of (old root_name).seen))
+HasNewRoot slot body old new =
+    (new root_name).seen ≡ Some (with_root slot body (bytes_of (old root_name).seen))
 
 -- After a commit what reads give is on the disk, and every other file reads as before.
 pub record IsCommitted (old new : Content) : Type 0 where
@@ -130,15 +133,18 @@ pub record IsDamaged (at : ℕ) (file : List ℕ) : Type 0 where
 -- The results of reading a root file with these bytes.
 abbrev pub Answers : List ℕ → Result (Option (Slot × Root)) RootRefusal → Type 0
 Answers file (Ok None) = IsShut file
-Answers file (Ok (Some found)) = Current (slot_number found.0) (spelling found.1) file × IsRoot found.1
+Answers file (Ok (Some found)) = Current (slot_number found.0) (spelling found.1) file
+    × IsRoot found.1
 Answers file (Err (Damaged at)) = IsDamaged at file
 Answers file (Err DiskFault) = Unit {0}
 
 -- A current root that is spelled in the file is the one read, unless the disk failed.
 abbrev pub ReadsBack : List ℕ → Result (Option (Slot × Root)) RootRefusal → Type 0
 ReadsBack file (Err DiskFault) = Unit {0}
-ReadsBack file (Err (Damaged at)) = (slot : Slot) (r : Root) → RootFits r → IsRoot r → Current (slot_number slot) (spelling r) file → ⊥
-ReadsBack file (Ok found) = (slot : Slot) (r : Root) → RootFits r → IsRoot r → Current (slot_number slot) (spelling r) file → found ≡ Some (slot, r)
+ReadsBack file (Err (Damaged at)) = (slot : Slot) (r : Root) → RootFits r → IsRoot r
+    → Current (slot_number slot) (spelling r) file → ⊥
+ReadsBack file (Ok found) = (slot : Slot) (r : Root) → RootFits r → IsRoot r
+    → Current (slot_number slot) (spelling r) file → found ≡ Some (slot, r)
 
 -- No slot of this file is open.
 abbrev pub IsShutFile : File → Type 0

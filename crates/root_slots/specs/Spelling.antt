@@ -25,11 +25,13 @@ name_bytes name = (length name ∷ []) ++ name ++ replicate (64 - length name) 0
 
 -- The format, which is 1, and the settings.
 unfoldable pub config_bytes : Config → List ℕ
-config_bytes c = (1 ∷ flag c.mirror ∷ []) ++ name_bytes c.name ++ be64 c.limit ++ be32 c.slice ++ be32 c.max ++ be32 c.born
+config_bytes c = (1 ∷ flag c.mirror ∷ []) ++ name_bytes c.name ++ be64 c.limit ++ be32 c.slice
+    ++ be32 c.max ++ be32 c.born
 
 -- All fields of a root.
 unfoldable pub fields : Root → List ℕ
-fields r = be64 r.sequence ++ config_bytes r.config ++ be32 r.next ++ place_bytes r.map ++ flat_map place_bytes r.epochs ++ place_bytes r.cache
+fields r = be64 r.sequence ++ config_bytes r.config ++ be32 r.next ++ place_bytes r.map
+    ++ flat_map place_bytes r.epochs ++ place_bytes r.cache
 
 -- The fields, then zeros up to the length of a slot's body.
 unfoldable pub spelling : Root → List ℕ

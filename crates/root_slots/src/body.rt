@@ -27,7 +27,8 @@ impl Model for Body {
 
     ghost view = { λ b. take b.at b.bytes };
 
-    ghost invariant = { λ b. (b.at ≤ body_size) × (drop b.at b.bytes ≡ replicate (body_size - b.at) 0) };
+    ghost invariant = { λ b. (b.at ≤ body_size)
+        × (drop b.at b.bytes ≡ replicate (body_size - b.at) 0) };
 }
 
 impl Body {

@@ -87,7 +87,8 @@ fn sequence(file: &[u8], slot: Slot) -> u64
 /// Of equal sequences the first slot counts as the newer.
 fn newest_slot(file: &[u8]) -> Option<Slot>
     requires { length file.now ≡ root_size }
-    ensures some { IfSome result (λ s. Current (slot_number s) (body_at file.now (slot_number s)) file.now) }
+    ensures some { IfSome result (λ s.
+        Current (slot_number s) (body_at file.now (slot_number s)) file.now) }
     ensures none { IfNone result ((gate file.now 0 ≢ 1) × (gate file.now 1 ≢ 1)) }
 {
     match (file[0] == 1, file[1] == 1) {
@@ -124,9 +125,11 @@ fn find(file: &[u8]) -> Result<Option<(Slot, Root)>, RootRefusal>
 
 /// Reads the root file, and returns whether it has its size. With another size nothing is read.
 fn whole_file<D: Disk>(disk: &mut D, file: &mut [u8; ROOT_SIZE]) -> Result<bool, DiskFault>
-    ensures whole { IfOk result (λ whole. WhereTold (AreRootBytes whole file.new) (D.content disk.old)) }
+    ensures whole { IfOk result (λ whole.
+        WhereTold (AreRootBytes whole file.new) (D.content disk.old)) }
     ensures same { Told Unchanged (D.content disk.old) (D.content disk.new) }
-    ensures any_moment { LeavesOnly D.moment D.left_since disk.old disk.new (Image (D.content disk.old)) }
+    ensures any_moment { LeavesOnly D.moment D.left_since disk.old disk.new
+        (Image (D.content disk.old)) }
     ensures cause { IsCaused (D.faults disk.old) (D.faults disk.new) result }
 {
     if disk.length(root_file())? != ROOT_SIZE as u64 {
@@ -144,13 +147,16 @@ fn whole_file<D: Disk>(disk: &mut D, file: &mut [u8; ROOT_SIZE]) -> Result<bool,
 /// The result is `None` exactly if no slot is open, and `Damaged` exactly if the body of the
 /// current slot spells no root. A root file whose size isn't 4,096 bytes has no open slot.
 pub fn read<D: Disk>(disk: &mut D) -> Result<Option<(Slot, Root)>, RootRefusal>
-    ensures exact { WhereTold (λ k. Answers (bytes_of (k root_name).seen) result) (D.content disk.old) }
+    ensures exact { WhereTold (λ k.
+        Answers (bytes_of (k root_name).seen) result) (D.content disk.old) }
     // A root that is spelled there is read back.
-    ensures inverse { WhereTold (λ k. ReadsBack (bytes_of (k root_name).seen) result) (D.content disk.old) }
+    ensures inverse { WhereTold (λ k.
+        ReadsBack (bytes_of (k root_name).seen) result) (D.content disk.old) }
     // The result has each field in its range, whatever the disk tells.
     ensures valid { IfOk result (λ found. IfSome found (λ one. IsRoot one.1)) }
     ensures same { Told Unchanged (D.content disk.old) (D.content disk.new) }
-    ensures any_moment { LeavesOnly D.moment D.left_since disk.old disk.new (Image (D.content disk.old)) }
+    ensures any_moment { LeavesOnly D.moment D.left_since disk.old disk.new
+        (Image (D.content disk.old)) }
     ensures cause { RoseIf (result ≡ Err RootRefusal.DiskFault) (D.faults disk.old) (D.faults disk.new) }
 {
     let mut file = [0; ROOT_SIZE];

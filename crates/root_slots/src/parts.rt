@@ -23,7 +23,8 @@ use disk_model::EPOCHS;
 pub fn number64(bytes: &[u8]) -> (u64, &[u8])
     requires { 8 ≤ length bytes.now }
     ensures value { result.0 ≡ from_be_bytes w64 (take 8 bytes.now) }
-    ensures read { (n : ℕ) (rest : List ℕ) → n < 2 ^ 64 → bytes.now ≡ be64 n ++ rest → (result.0 ≡ n) × (result.1.now ≡ rest) }
+    ensures read { (n : ℕ) (rest : List ℕ) → n < 2 ^ 64 → bytes.now ≡ be64 n ++ rest
+        → (result.0 ≡ n) × (result.1.now ≡ rest) }
     ensures size { length result.1.now + 8 ≡ length bytes.now }
 {
     let (front, rest) = bytes.split_at(8);
@@ -35,7 +36,8 @@ pub fn number64(bytes: &[u8]) -> (u64, &[u8])
 /// Reads a number of 32 bits, the highest byte first.
 fn number32(bytes: &[u8]) -> (u32, &[u8])
     requires { 4 ≤ length bytes.now }
-    ensures read { (n : ℕ) (rest : List ℕ) → n < 2 ^ 32 → bytes.now ≡ be32 n ++ rest → (result.0 ≡ n) × (result.1.now ≡ rest) }
+    ensures read { (n : ℕ) (rest : List ℕ) → n < 2 ^ 32 → bytes.now ≡ be32 n ++ rest
+        → (result.0 ≡ n) × (result.1.now ≡ rest) }
     ensures size { length result.1.now + 4 ≡ length bytes.now }
 {
     let (front, rest) = bytes.split_at(4);
@@ -47,7 +49,8 @@ fn number32(bytes: &[u8]) -> (u32, &[u8])
 /// Reads a `Place`: the generation, then the length.
 fn place(bytes: &[u8]) -> (Place, &[u8])
     requires { 16 ≤ length bytes.now }
-    ensures read { (p : Place) (rest : List ℕ) → PlaceFits p → bytes.now ≡ place_bytes p ++ rest → (result.0 ≡ p) × (result.1.now ≡ rest) }
+    ensures read { (p : Place) (rest : List ℕ) → PlaceFits p → bytes.now ≡ place_bytes p ++ rest
+        → (result.0 ≡ p) × (result.1.now ≡ rest) }
     ensures size { length result.1.now + 16 ≡ length bytes.now }
 {
     let (gen_, rest) = number64(bytes);
@@ -58,7 +61,8 @@ fn place(bytes: &[u8]) -> (Place, &[u8])
 /// Reads a name, if there is one.
 fn name(bytes: &[u8]) -> (Option<Name>, &[u8])
     requires { 65 ≤ length bytes.now }
-    ensures read { (text rest : List ℕ) → IsName text → bytes.now ≡ name_bytes text ++ rest → (result.0 ≡ Some text) × (result.1.now ≡ rest) }
+    ensures read { (text rest : List ℕ) → IsName text → bytes.now ≡ name_bytes text ++ rest
+        → (result.0 ≡ Some text) × (result.1.now ≡ rest) }
     ensures size { length result.1.now + 65 ≡ length bytes.now }
 {
     let (front, rest) = bytes.split_at(65);
@@ -73,7 +77,8 @@ fn name(bytes: &[u8]) -> (Option<Name>, &[u8])
 /// Reads settings, if they have a name.
 fn config(bytes: &[u8]) -> (Option<Config>, &[u8])
     requires { 87 ≤ length bytes.now }
-    ensures read { (c : Config) (rest : List ℕ) → IsName c.name → IsConfig c → bytes.now ≡ config_bytes c ++ rest → (result.0 ≡ Some c) × (result.1.now ≡ rest) }
+    ensures read { (c : Config) (rest : List ℕ) → IsName c.name → IsConfig c
+        → bytes.now ≡ config_bytes c ++ rest → (result.0 ≡ Some c) × (result.1.now ≡ rest) }
     ensures size { length result.1.now + 87 ≡ length bytes.now }
 {
     let (front, rest) = bytes.split_at(2);
@@ -102,7 +107,8 @@ fn config(bytes: &[u8]) -> (Option<Config>, &[u8])
 /// Reads the places of the epochs.
 fn places(bytes: &[u8]) -> ([Place; EPOCHS as usize], &[u8])
     requires { 1024 ≤ length bytes.now }
-    ensures read { (ps : List Place) (rest : List ℕ) → ((i : ℕ) → i < epoch_count → PlaceFits (get_or ps i no_place)) → length ps ≡ epoch_count
+    ensures read { (ps : List Place) (rest : List ℕ)
+        → ((i : ℕ) → i < epoch_count → PlaceFits (get_or ps i no_place)) → length ps ≡ epoch_count
         → bytes.now ≡ flat_map place_bytes ps ++ rest → (result.0 ≡ ps) × (result.1.now ≡ rest) }
     ensures size { length result.1.now + 1024 ≡ length bytes.now }
 {

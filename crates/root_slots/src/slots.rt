@@ -27,9 +27,11 @@ pub fn root_file() -> FileName
 
 /// Returns whether the gate of a slot is open. The gate isn't open if the root file ends before it.
 pub fn is_open<D: Disk>(disk: &mut D, slot: Slot) -> Result<bool, DiskFault>
-    ensures gate { IfOk result (λ open_. WhereTold (IsGateOpen (slot_number slot) open_) (D.content disk.old)) }
+    ensures gate { IfOk result (λ open_.
+        WhereTold (IsGateOpen (slot_number slot) open_) (D.content disk.old)) }
     ensures same { Told Unchanged (D.content disk.old) (D.content disk.new) }
-    ensures any_moment { LeavesOnly D.moment D.left_since disk.old disk.new (Image (D.content disk.old)) }
+    ensures any_moment { LeavesOnly D.moment D.left_since disk.old disk.new
+        (Image (D.content disk.old)) }
     ensures cause { IsCaused (D.faults disk.old) (D.faults disk.new) result }
 {
     let mut gate = [0];
@@ -40,8 +42,10 @@ pub fn is_open<D: Disk>(disk: &mut D, slot: Slot) -> Result<bool, DiskFault>
 /// Shuts the gate of a slot, and syncs.
 pub fn shut<D: Disk>(disk: &mut D, slot: Slot) -> Result<(), DiskFault>
     requires size { WhereTold HasRootSize (D.content disk.old) }
-    ensures any_moment { LeavesOnly D.moment D.left_since disk.old disk.new (Writing root_name (slot_number slot) 1 (D.content disk.old)) }
-    ensures written { OnOk result (Told (IsWritten root_name (slot_number slot) (0 ∷ [])) (D.content disk.old) (D.content disk.new)) }
+    ensures any_moment { LeavesOnly D.moment D.left_since disk.old disk.new
+        (Writing root_name (slot_number slot) 1 (D.content disk.old)) }
+    ensures written { OnOk result (Told (IsWritten root_name (slot_number slot)
+        (0 ∷ [])) (D.content disk.old) (D.content disk.new)) }
     ensures cause { IsCaused (D.faults disk.old) (D.faults disk.new) result }
     ensures count { D.reads disk.new ≡ D.reads disk.old }
 {
@@ -52,8 +56,10 @@ pub fn shut<D: Disk>(disk: &mut D, slot: Slot) -> Result<(), DiskFault>
 pub fn fill<D: Disk>(disk: &mut D, slot: Slot, root: &Root) -> Result<(), DiskFault>
     requires size { WhereTold HasRootSize (D.content disk.old) }
     requires root { IsRoot root.now }
-    ensures any_moment { LeavesOnly D.moment D.left_since disk.old disk.new (Writing root_name (body_place (slot_number slot)) body_size (D.content disk.old)) }
-    ensures written { OnOk result (Told (IsWritten root_name (body_place (slot_number slot)) (spelling root.now)) (D.content disk.old) (D.content disk.new)) }
+    ensures any_moment { LeavesOnly D.moment D.left_since disk.old disk.new
+        (Writing root_name (body_place (slot_number slot)) body_size (D.content disk.old)) }
+    ensures written { OnOk result (Told (IsWritten root_name (body_place (slot_number slot))
+        (spelling root.now)) (D.content disk.old) (D.content disk.new)) }
     ensures whole { length (spelling root.now) ≡ body_size }
     ensures cause { IsCaused (D.faults disk.old) (D.faults disk.new) result }
     ensures count { D.reads disk.new ≡ D.reads disk.old }
@@ -64,8 +70,10 @@ pub fn fill<D: Disk>(disk: &mut D, slot: Slot, root: &Root) -> Result<(), DiskFa
 /// Opens the gate of a slot, and syncs.
 pub fn raise<D: Disk>(disk: &mut D, slot: Slot) -> Result<(), DiskFault>
     requires size { WhereTold HasRootSize (D.content disk.old) }
-    ensures any_moment { LeavesOnly D.moment D.left_since disk.old disk.new (Writing root_name (slot_number slot) 1 (D.content disk.old)) }
-    ensures written { OnOk result (Told (IsWritten root_name (slot_number slot) (1 ∷ [])) (D.content disk.old) (D.content disk.new)) }
+    ensures any_moment { LeavesOnly D.moment D.left_since disk.old disk.new
+        (Writing root_name (slot_number slot) 1 (D.content disk.old)) }
+    ensures written { OnOk result (Told (IsWritten root_name (slot_number slot)
+        (1 ∷ [])) (D.content disk.old) (D.content disk.new)) }
     ensures cause { IsCaused (D.faults disk.old) (D.faults disk.new) result }
     ensures count { D.reads disk.new ≡ D.reads disk.old }
 {
@@ -80,19 +88,27 @@ pub fn commit<D: Disk>(disk: &mut D, slot: Slot, root: &Root) -> Result<(), Disk
     requires root { IsRoot root.now }
 
     // At each moment a crash leaves the old root or the new one, and all other files as before.
-    ensures any_moment { (old : List ℕ) → EachRoot (Ready (slot_number slot) old) (D.content disk.old) → sequence_of old < root.now.sequence
-        → LeavesOnly D.moment D.left_since disk.old disk.new (IsOldOrNew old (spelling root.now) (D.content disk.old)) }
+    ensures any_moment { (old : List ℕ) → EachRoot (Ready (slot_number slot) old)
+        (D.content disk.old) → sequence_of old < root.now.sequence
+        → LeavesOnly D.moment D.left_since disk.old disk.new
+        (IsOldOrNew old (spelling root.now) (D.content disk.old)) }
     // After `Ok` a crash leaves the new one.
-    ensures done { (old : List ℕ) → EachRoot (Ready (slot_number slot) old) (D.content disk.old) → sequence_of old < root.now.sequence
-        → OnOk result (EachRoot (Current (slot_number slot) (spelling root.now)) (D.content disk.new)) }
+    ensures done { (old : List ℕ) → EachRoot (Ready (slot_number slot) old) (D.content disk.old)
+        → sequence_of old < root.now.sequence
+        → OnOk result
+        (EachRoot (Current (slot_number slot) (spelling root.now)) (D.content disk.new)) }
     // The slot of the old root is then ready for the next one.
-    ensures again { (old : List ℕ) → EachRoot (Ready (slot_number slot) old) (D.content disk.old) → sequence_of old < root.now.sequence
-        → OnOk result (EachRoot (Ready (1 - slot_number slot) (spelling root.now)) (D.content disk.new)) }
+    ensures again { (old : List ℕ) → EachRoot (Ready (slot_number slot) old) (D.content disk.old)
+        → sequence_of old < root.now.sequence
+        → OnOk result
+        (EachRoot (Ready (1 - slot_number slot) (spelling root.now)) (D.content disk.new)) }
     // No other file changes, whatever the root file holds.
-    ensures elsewhere { LeavesOnly D.moment D.left_since disk.old disk.new (OthersStay (D.content disk.old)) }
+    ensures elsewhere { LeavesOnly D.moment D.left_since disk.old disk.new
+        (OthersStay (D.content disk.old)) }
     // After `Ok` the slot has the body and an open gate, and the rest of the root file is as it
     // was.
-    ensures written { OnOk result (Told (HasNewRoot (slot_number slot) (spelling root.now)) (D.content disk.old) (D.content disk.new)) }
+    ensures written { OnOk result (Told (HasNewRoot (slot_number slot) (spelling root.now))
+        (D.content disk.old) (D.content disk.new)) }
     ensures whole { OnOk result (length (spelling root.now) ≡ body_size) }
     ensures committed { OnOk result (Told IsCommitted (D.content disk.old) (D.content disk.new)) }
     ensures cause { IsCaused (D.faults disk.old) (D.faults disk.new) result }

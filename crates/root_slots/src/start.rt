@@ -10,7 +10,8 @@ use disk_model::{Disk, DiskFault, write_and_sync};
 
 /// Removes the root file, and syncs.
 fn clear<D: Disk>(disk: &mut D) -> Result<(), DiskFault>
-    ensures any_moment { LeavesOnly D.moment D.left_since disk.old disk.new (Clearing (D.content disk.old)) }
+    ensures any_moment { LeavesOnly D.moment D.left_since disk.old disk.new
+        (Clearing (D.content disk.old)) }
     ensures cleared { OnOk result (Told IsCleared (D.content disk.old) (D.content disk.new)) }
     ensures cause { IsCaused (D.faults disk.old) (D.faults disk.new) result }
     ensures count { D.reads disk.new ≡ D.reads disk.old }
@@ -24,9 +25,11 @@ fn clear<D: Disk>(disk: &mut D) -> Result<(), DiskFault>
 /// Removes the file, writes two zeros and writes the others, with a sync after each.
 pub fn begin<D: Disk>(disk: &mut D) -> Result<(), DiskFault>
     // If no crash leaves an open slot before, none does at any moment.
-    ensures any_moment { EachShut (D.content disk.old) → LeavesOnly D.moment D.left_since disk.old disk.new (LeavesShut (D.content disk.old)) }
+    ensures any_moment { EachShut (D.content disk.old)
+        → LeavesOnly D.moment D.left_since disk.old disk.new (LeavesShut (D.content disk.old)) }
     // No other file changes, whatever the root file holds.
-    ensures elsewhere { LeavesOnly D.moment D.left_since disk.old disk.new (OthersStay (D.content disk.old)) }
+    ensures elsewhere { LeavesOnly D.moment D.left_since disk.old disk.new
+        (OthersStay (D.content disk.old)) }
     ensures made { OnOk result (Told IsBegun (D.content disk.old) (D.content disk.new)) }
     ensures cause { IsCaused (D.faults disk.old) (D.faults disk.new) result }
     ensures count { D.reads disk.new ≡ D.reads disk.old }
