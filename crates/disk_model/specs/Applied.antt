@@ -277,7 +277,8 @@ pub last_rest : (name : FileName) (file : File) (changes : List Change) (n : ℕ
 last_rest name file changes n last = elim last.synced [
   | inl none ↦ rw none refl
   | inr some ↦
-      let P : List Change → Type 0 = λ cs. replay name (at_rest file) cs ≡ at_rest (applied false name file cs) in
+      let P : List Change → Type 0 =
+      λ cs. replay name (at_rest file) cs ≡ at_rest (applied false name file cs) in
       subst P (sym some.1) (synced_rest name (at_rest file) some.0 ∙ ap at_rest (seen_before some.0))
 ] where
   seen_before : (front : List Change)
@@ -312,7 +313,8 @@ IsPicked-image pick base changes files picked name =
 pub by_tracks : (name : FileName) (k : Kept) (change : Change) → IsNoSync change
     → Fits k.sure k.seen → Fits (step name k change).sure (step name k change).seen
 by_tracks name k change plain fits =
-    let t = step_tracks false name k k.seen change plain (record { fits = fits; long = as_long k.seen }) in
+    let t =
+    step_tracks false name k k.seen change plain (record { fits = fits; long = as_long k.seen }) in
     let P : File → Type 0 = λ file. Fits (step name k change).sure file in
     subst P (sym (step_seen name k change)) t.fits
 

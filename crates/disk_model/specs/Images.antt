@@ -33,8 +33,11 @@ pub exact_names : CmpEqualImpliesEq name_cmp
 exact_names a b e =
     let kinds : FileKind → FileKind → Ordering = λ x y. nat_cmp (kind_place x) (kind_place y) in
     let numbers = exact_pairs nat_cmp nat_cmp exact_unsigned exact_unsigned in
-    let all = exact_pairs kinds (λ (x y : ℕ × ℕ). ordering_then (nat_cmp x.0 y.0) (nat_cmp x.1 y.1)) exact_kinds numbers in
-    let make : FileKind × (ℕ × ℕ) → FileName = λ p. record { kind = p.0; number = p.1.0; gen_ = p.1.1 } in
+    let all =
+    exact_pairs kinds (λ (x y : ℕ × ℕ). ordering_then (nat_cmp x.0 y.0) (nat_cmp x.1 y.1))
+    exact_kinds numbers in
+    let make : FileKind × (ℕ × ℕ) → FileName =
+    λ p. record { kind = p.0; number = p.1.0; gen_ = p.1.1 } in
     ap make (all (a.kind, (a.number, a.gen_)) (b.kind, (b.number, b.gen_)) e)
 
 -- A name found at a name is that name.

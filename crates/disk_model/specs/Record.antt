@@ -112,7 +112,8 @@ pub elapses_push : (base : Files) (changes : List Change) (change : Change)
     (LeftSince base (changes ++ change ∷ [])) (Some (content_of base (changes ++ change ∷ [])))
 elapses_push base changes change =
     let more = changes ++ change ∷ [] in
-    let size : length more ≡ length changes + 1 = omega (arith, length-append {A = Change} changes (change ∷ [])) in
+    let size : length more ≡ length changes + 1 =
+    omega (arith, length-append {A = Change} changes (change ∷ [])) in
     record {
       later = omega arith;
       nothing_else = λ t image le since.

@@ -21,7 +21,8 @@ pub struct MemDisk {
     files: Contents,
     plan: Plan,
     reads: u64,
-    ghost current: { (name : FileName) → file_at files name ≡ (content_of (file_at base) changes.items name).seen },
+    ghost current: { (name : FileName)
+        → file_at files name ≡ (content_of (file_at base) changes.items name).seen },
 }
 
 impl MemDisk {

@@ -50,8 +50,8 @@ fn a_stop_while_it_begins_opens_no_slot(rt: HostRuntime) -> Result<(), Fail> {
     Ok(())
 }
 
-/// Writes a current root to the first slot, its copy to the second slot with the gate shut if `twin` is set, and
-/// another file.
+/// Writes a current root to the first slot, its copy to the second slot with the gate shut if
+/// `twin` is set, and another file.
 fn settle(disk: &mut MemDisk, root: &Root, twin: bool) -> Result<(), DiskFault>
     requires { IsRoot root.now }
 {

@@ -57,8 +57,8 @@ first_root_of config = record {
   cache = no_place;
 }
 
--- A disk has a root of this body in the first slot, the other slot is ready for the next one, there is no
--- other file, and all that reads give is on the disk.
+-- A disk has a root of this body in the first slot, the other slot is ready for the next one, there
+-- is no other file, and all that reads give is on the disk.
 pub record HasOnly (body : List ℕ) (k : Content) : Type 0 where
   pub roots : (file : File) → Fits (k root_name).sure file → IfThere (Ready 1 body) file
   pub others : (name : FileName) → name ≢ root_name → (k name).seen ≡ None

@@ -27,7 +27,11 @@ part_stays at n old new from count same apart =
     (let s = same.size in omega (arith, length-take {A = ℕ}, length-drop {A = ℕ}))
     (λ i below.
     let front : i < count = omega (arith, below, length-take {A = ℕ}) in
-    let outside : (from + i < at) ⊎ (at + n ≤ from + i) = elim apart [ inl low ↦ inl (omega (arith, low, front)) | inr high ↦ inr (omega (arith, high)) ] in
+    let outside : (from + i < at) ⊎ (at + n ≤ from + i) =
+    elim apart [
+      | inl low ↦ inl (omega (arith, low, front))
+      | inr high ↦ inr (omega (arith, high))
+    ] in
     get_or-take count (drop from new) i 0 front
     ∙ (get_or-drop from new i 0 ∙ (same.bytes (from + i) outside
     ∙ sym (get_or-take count (drop from old) i 0 front ∙ get_or-drop from old i 0))))
@@ -55,7 +59,9 @@ pub each_written : (P Q : List ℕ → Type 0) (at : ℕ) (bytes : List ℕ) (ol
 each_written P Q at bytes None new fit each step written = absurd each
 each_written P Q at bytes (Some k) None fit each step written = absurd written
 each_written P Q at bytes (Some k) (Some m) fit each step written = λ file fits.
-    let is : file ≡ (m root_name).seen = Fits-exact (m root_name).seen file (Fits-Within (m root_name).sure (exact (m root_name).seen) file (written.settled root_name) fits) in
+    let is : file ≡ (m root_name).seen =
+    Fits-exact (m root_name).seen file
+    (Fits-Within (m root_name).sure (exact (m root_name).seen) file (written.settled root_name) fits) in
     subst (λ (f : File). IfThere Q f) (sym (is ∙ written.here)) (of_seen (k root_name).seen
     (each (k root_name).seen (fit k refl root_name))) where
       of_seen : (seen : File) → IfThere P seen → Q (overlay at bytes (bytes_of seen))
@@ -67,6 +73,8 @@ pub elsewhere_before : (at : ℕ) (bytes : List ℕ) (k m : Content) (image : Fi
     → IsWritten root_name at bytes k m → (other : FileName) → other ≢ root_name
     → Fits (m other).sure (image other) → Fits (k other).sure (image other)
 elsewhere_before at bytes k m image fit written other apart fits =
-    let is : image other ≡ (m other).seen = Fits-exact (m other).seen (image other) (Fits-Within (m other).sure (exact (m other).seen) (image other) (written.settled other) fits) in
+    let is : image other ≡ (m other).seen =
+    Fits-exact (m other).seen (image other)
+    (Fits-Within (m other).sure (exact (m other).seen) (image other) (written.settled other) fits) in
     subst (λ (f : File).
     Fits (k other).sure f) (sym (is ∙ written.elsewhere other apart)) (fit k refl other)
