@@ -1,5 +1,6 @@
-//! Tests of the archive's crates by their public calls: `arch_model`, `epoch_file`, `epoch_store`
-//! and `archive_core`.
+//! Tests of the archive's crates by their public calls: of commits and their objects
+//! (`mail_commits`), of deliveries in memory (`arch_model`, `arch_judge`, `mem_archive`), of the
+//! file of an epoch (`epoch_file`), and of archives on disks (`epoch_store`, `archive_core`).
 #![tactic(auto)]
 
 #[cfg(test)]

@@ -265,12 +265,12 @@ pub replay_append : (name : FileName) (k : Kept) (front back : List Change)
 replay_append name k [] back = refl
 replay_append name k (change ∷ front) back = replay_append name (step name k change) front back
 
--- After a sync all is at rest.
+-- After a sync all is on the disk as it reads.
 pub synced_rest : (name : FileName) (k : Kept) (front : List Change)
     → replay name k (front ++ Sync ∷ []) ≡ at_rest (replay name k front).seen
 synced_rest name k front = replay_append name k front (Sync ∷ [])
 
--- At the last sync each file is at rest.
+-- At the last sync each file is on the disk as it reads.
 pub last_rest : (name : FileName) (file : File) (changes : List Change) (n : ℕ)
     → IsLastSync changes n → replay name (at_rest file) (take n changes)
     ≡ at_rest (applied false name file (take n changes))

@@ -71,7 +71,7 @@ pub content_of-push : (base : Files) (changes : List Change) (change : Change) (
 unfolding content_of
 content_of-push base changes change name = replay_push name (at_rest (base name)) changes change
 
--- Without changes each file is at rest.
+-- Without changes each file is on the disk as it reads.
 pub content_of-none : (base : Files) (name : FileName)
     → content_of base [] name ≡ at_rest (base name)
 unfolding content_of
