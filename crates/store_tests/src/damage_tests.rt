@@ -1,13 +1,12 @@
 //! Tests of the disk of an archive of one message, damaged or with more than its root names: what
 //! is found when it is opened.
-use crate::mails::SECOND;
+use crate::making_tests::{FIRST_EPOCH, MAP, ROOT, SECOND_EPOCH, append, put};
 use crate::opening_tests::{begin, listed_after, opened};
-use crate::shared::{cut, empty_disk, write};
-use crate::store_tests::{FIRST_EPOCH, MAP, ROOT, SECOND_EPOCH, append, put};
 use arch_model::OpenRefusal;
 use disk_files::file_names;
 use disk_model::{Disk, DiskFault, FileKind, FileName, MemDisk};
 use epoch_store::Store;
+use epoch_tests::{SECOND, cut, empty_disk, write};
 use std::alloc::Global;
 use std::process::Abort;
 use std::test::Fail;

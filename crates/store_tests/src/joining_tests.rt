@@ -4,14 +4,13 @@ ghost use Rattle.std.specs.Prelude.{ℕ, IsTrue, Ok};
 ghost use Rattle.epoch_file.specs.declared.entry.Seen.{Seen};
 ghost use Rattle.epoch_store.specs.Joined.{Joined, JoinsOne, has_blob};
 
-use crate::mails::{FIRST, MOMENT, OTHER, SECOND, THIRD};
-use crate::shared::{add_entry, empty_disk, write};
-use crate::store_tests::{MAP, ROOT, epoch, make};
+use crate::making_tests::{MAP, ROOT, epoch, make};
 use arch_base::Id20;
 use arch_model::OpenRefusal;
 use disk_model::{Disk, DiskFault, FileKind, MemDisk};
 use epoch_file::{NewEntry, StoreRefusal};
 use epoch_store::{Store, StoredEntry};
+use epoch_tests::{FIRST, MOMENT, OTHER, SECOND, THIRD, add_entry, empty_disk, write};
 use git_objects::{EntryKind, blob_id};
 use number_map::{Record, append};
 use std::alloc::Global;
