@@ -12,7 +12,7 @@ use std::process::Abort;
 use std::test::Fail;
 
 /// A file: its name and its bytes.
-#[derive(Debug, PartialEq, Eq, Drop)]
+#[derive(PartialEq, Eq, Drop)]
 struct WholeFile {
     name: FileName,
     bytes: Vec<u8>,

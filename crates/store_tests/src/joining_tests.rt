@@ -28,7 +28,7 @@ struct Line(u32, &'static [u8]);
 struct Entry(EntryKind, &'static [u8]);
 
 /// What an opening finds.
-#[derive(Debug, PartialEq, Eq, Drop)]
+#[derive(PartialEq, Eq, Drop)]
 enum Outcome {
     /// This many entries.
     Joined(usize),

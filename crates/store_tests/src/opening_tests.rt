@@ -19,7 +19,7 @@ use std::test::Fail;
 pub(crate) const ENOUGH: u64 = 1000;
 
 /// What is asked of an archive: the number of the next message, and each entry.
-#[derive(Debug, PartialEq, Eq, Drop)]
+#[derive(PartialEq, Eq, Drop)]
 pub(crate) struct Listing {
     next: u32,
     entries: Vec<EntryLine>,
