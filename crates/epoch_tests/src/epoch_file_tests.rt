@@ -340,7 +340,7 @@ struct Alone {
 }
 
 /// Entries at the last moment and after it, without an id, and in their storage form or not.
-const ALONE: [Alone; 5] = [
+static ALONE: [Alone; 5] = [
     Alone {
         text: FIRST,
         moment: 253_402_300_799,

@@ -97,7 +97,7 @@ const ENTRY_DAMAGED: OpenRefusal = OpenRefusal::Damaged {
 };
 
 /// Damage of each file of an archive of one message.
-const OVERWRITES: [Overwrite; 9] = [
+static OVERWRITES: [Overwrite; 9] = [
     // Both slots are shut.
     Overwrite {
         file: ROOT,
@@ -184,7 +184,7 @@ struct Cut {
 }
 
 /// Each file of an archive of one message, cut short.
-const CUTS: [Cut; 5] = [
+static CUTS: [Cut; 5] = [
     Cut {
         file: ROOT,
         length: 4095,
@@ -257,7 +257,7 @@ fn one_is_swept(alloc: Global, file: FileName, files: &Vec<WholeFile>) -> Result
 
 /// Files whose bytes an opening cuts or removes: tails of the epoch and of the map, an epoch of
 /// another generation, and one that the archive has not reached.
-const SWEPT: [FileName; 4] = [
+static SWEPT: [FileName; 4] = [
     FIRST_EPOCH,
     MAP,
     FileName {

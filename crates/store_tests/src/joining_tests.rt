@@ -196,7 +196,7 @@ const TWO: &[Entry] = &[
 ];
 
 /// Records of three messages, with a number without a message after the first and after the last.
-const WITH_GAPS: Case = Case {
+static WITH_GAPS: Case = Case {
     records: &[
         Line(0, FIRST),
         Line(NONE, b""),
@@ -243,7 +243,7 @@ fn is_opened_so(alloc: Global, case: &Case) -> Result<bool, Fail> {
 }
 
 /// Archives whose entries should each be the next of the map.
-const WANTED: [Case; 9] = [
+static WANTED: [Case; 9] = [
     // All is well: no entry, and one in the epoch 1.
     Case {
         records: &[],
@@ -312,7 +312,7 @@ fn the_first_entry_that_does_not_belong_there_is_found(rt: HostRuntime) -> Resul
 }
 
 /// Archives whose entries should have ids of their own and be as many as the records.
-const OWN: [Case; 7] = [
+static OWN: [Case; 7] = [
     // One own id in two epochs and in one, one text in two, and none of these.
     Case {
         records: &[Line(0, FIRST), Line(1, OTHER)],

@@ -158,7 +158,7 @@ fn has_two_epochs(store: &Store) -> bool {
 }
 
 /// The files of an archive of two epochs, each of one message.
-const TWO_EPOCHS: [Length; 4] = [
+static TWO_EPOCHS: [Length; 4] = [
     Length {
         file: ROOT,
         length: 4096,
@@ -243,7 +243,7 @@ fn init_is_refused<D: Disk>(alloc: Global, disk: &mut D) -> bool {
 }
 
 /// The files of an archive without messages.
-const NO_EPOCH: [Length; 2] = [
+static NO_EPOCH: [Length; 2] = [
     Length {
         file: ROOT,
         length: 4096,
