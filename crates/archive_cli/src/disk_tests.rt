@@ -2,7 +2,7 @@
 //! checked.
 use crate::program::run;
 use crate::tests::{Due, bytes, numbers};
-use arch_base::Numbers;
+use arch_base::{NoMemory, Numbers};
 use disk_model::{Disk, FileKind, FileName, FuseDisk, MemDisk};
 use edge_io::{Clock, ClockFault, MemSink, MemSource};
 use std::alloc::Global;
@@ -219,6 +219,21 @@ fn has_one(alloc: Global, disk: MemDisk, done: bool) -> bool {
     }
 }
 
+/// Returns whether an image that a crash at a moment may leave has no message or one, and one where
+/// its delivery is done.
+fn image_has_one(
+    alloc: Global,
+    disk: &MemDisk,
+    (at, pick): (u64, u64),
+    done: bool,
+) -> Result<bool, NoMemory> {
+    if at > disk.moments() || pick > 3 {
+        return Ok(false);
+    }
+    let image = disk.image(at, pick)?;
+    Ok(has_one(alloc, image, done))
+}
+
 /// Checks each image that a crash at a moment may leave.
 fn check_moment(
     rt: &impl Abort,
@@ -226,11 +241,9 @@ fn check_moment(
     disk: &MemDisk,
     at: u64,
     done: bool,
-) -> Result<(), Fail> {
+) -> Result<(), NoMemory> {
     for pick in 0..4 {
-        assert!(rt; at <= disk.moments() && pick <= 3);
-        let image = disk.image(at, pick)?;
-        assert!(rt; has_one(alloc, image, done));
+        assert!(rt; image_has_one(alloc, disk, (at, pick), done)?);
     }
     Ok(())
 }
@@ -243,7 +256,7 @@ fn check_since(
     disk: &MemDisk,
     start: u64,
     done: bool,
-) -> Result<(), Fail> {
+) -> Result<(), NoMemory> {
     let end = disk.moments();
     for at in start..=end {
         check_moment(rt, alloc, disk, at, done && at == end)?;
@@ -272,20 +285,30 @@ fn delivered(alloc: Global, disk: MemDisk, passes: u64) -> Option<(MemDisk, bool
     }
 }
 
+/// A disk after a delivery that may have been stopped: how many changes it had before, and whether
+/// there was no stop.
+#[derive(Drop)]
+struct Delivered {
+    disk: MemDisk,
+    start: u64,
+    done: bool,
+}
+
+/// Delivers a message to an archive without any, over a disk that stops after this many calls. `None`
+/// if the answer is wrong.
+fn delivered_to_none(alloc: Global, passes: u64) -> Option<Delivered> {
+    let made = with_archive(alloc)?;
+    let start = made.moments();
+    let (disk, done) = delivered(alloc, made, passes)?;
+    Some(Delivered { disk, start, done })
+}
+
 /// Delivers a message to an archive without any, over a disk that stops after this many calls, and
 /// checks each image since. Returns whether there was no stop.
 fn deliver_stopped(rt: &impl Abort, alloc: Global, passes: u64) -> Result<bool, Fail> {
-    let Some(made) = with_archive(alloc) else {
-        assert!(rt; false);
-        return Ok(false);
-    };
-    let start = made.moments();
-    let Some((disk, done)) = delivered(alloc, made, passes) else {
-        assert!(rt; false);
-        return Ok(false);
-    };
-    check_since(rt, alloc, &disk, start, done)?;
-    Ok(done)
+    let delivered = delivered_to_none(alloc, passes).ok_or("a wrong answer")?;
+    check_since(rt, alloc, &delivered.disk, delivered.start, delivered.done)?;
+    Ok(delivered.done)
 }
 
 #[test]

@@ -12,7 +12,7 @@ use edge_io::{Sink, SinkFault, say, say_line};
 use itoa::Buffer;
 
 /// How a command over the archive on a disk ends.
-#[derive(Debug, Drop)]
+#[derive(Drop)]
 pub(crate) enum Outcome {
     /// An archive with this name was made.
     Made(Name),

@@ -5,7 +5,7 @@ ghost use Rattle.archive_cli.specs.Statuses.{code_of};
 use edge_io::SinkFault;
 
 /// A status that the program ends with.
-#[derive(Clone, Copy, Debug, PartialEq, Eq, Drop)]
+#[derive(Clone, Copy, PartialEq, Eq, Drop)]
 pub enum Status {
     /// All is done, or the message is there already.
     Done,

@@ -16,7 +16,7 @@ const MAX_SLICE: u64 = 1_000_000;
 const MAX_NUMBER: u64 = 2_147_483_647;
 
 /// What a command line asks for.
-#[derive(Debug, Drop)]
+#[derive(Drop)]
 pub enum Job {
     /// `--help`: prints what the program does.
     Help,
@@ -35,7 +35,7 @@ pub enum Job {
 }
 
 /// A setting of an archive, as an option gives it.
-#[derive(Debug, Drop)]
+#[derive(Drop)]
 pub enum Setting {
     /// `limit=N`: the length in bytes from which an epoch takes no further entry, unless it is the
     /// last that there may be.

@@ -5,15 +5,16 @@ ghost use Rattle.disk_model.specs.Disk.{WhereTold};
 ghost use Rattle.disk_model.specs.Memory.{changes_of};
 ghost use Rattle.epoch_store.specs.Stores.{HasSizes};
 
-use crate::mails::{FIRST, FIRST_ID, MOMENT, OTHER, OTHER_ID, SECOND, SECOND_ID};
-use crate::shared::{accepted, empty_disk, in_memory, settings};
+use crate::accepted::accepted;
 use arch_model::{Answer, Command, OpenRefusal};
 use archive_core::DiskArchive;
 use disk_model::{Disk, DiskFault, FuseDisk, MemDisk};
 use epoch_store::InitRefusal;
+use epoch_tests::{FIRST, FIRST_ID, MOMENT, OTHER, OTHER_ID, SECOND, SECOND_ID, empty_disk};
 use mem_archive::MemArchive;
 use std::alloc::Global;
 use std::test::Fail;
+use store_tests::{in_memory, settings};
 
 /// Makes an archive on a disk, whose epochs take one message each.
 fn made<D: Disk>(

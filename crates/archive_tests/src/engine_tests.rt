@@ -1,16 +1,17 @@
 //! An archive that owns its disk, by the trait of keepers: what it gives, and what it does after a
 //! fault.
-use crate::mails::{FIRST, FIRST_ID, MOMENT, SECOND, SECOND_ID};
-use crate::shared::{accepted, empty_disk, failing, in_memory, settings};
+use crate::accepted::accepted;
 use arch_base::Bytes;
 use arch_model::{Answer, Command, Keep, OpenRefusal};
 use archive_core::{Engine, NotMade, NotOpened};
 use disk_model::MemDisk;
 use epoch_store::InitRefusal;
+use epoch_tests::{FIRST, FIRST_ID, MOMENT, SECOND, SECOND_ID, empty_disk, failing};
 use mem_archive::MemArchive;
 use std::alloc::Global;
 use std::process::Abort;
 use std::test::Fail;
+use store_tests::{in_memory, settings};
 
 /// Makes an archive on a disk.
 fn made(alloc: Global, disk: MemDisk) -> Result<Engine<MemDisk>, InitRefusal> {

@@ -1,14 +1,14 @@
 //! Messages and epochs that are read of archives on disks in memory.
 use crate::core_tests::filled;
-use crate::mails::{FIRST, SECOND};
-use crate::shared::{empty_disk, failing, is_epoch_of, two_in_memory};
 use arch_base::Bytes;
 use arch_model::TextRefusal;
 use archive_core::DiskArchive;
 use disk_model::{Disk, MemDisk};
+use epoch_tests::{FIRST, SECOND, empty_disk, failing};
 use mem_archive::MemArchive;
 use std::alloc::Global;
 use std::test::Fail;
+use store_tests::{is_epoch_of, two_in_memory};
 
 /// Returns a byte and after it the text of the first message from a number on.
 fn text_from<D: Disk>(

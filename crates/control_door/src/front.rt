@@ -1,14 +1,14 @@
 //! The front of a session's bytes: a whole request, or the beginning of one.
 
 /// The offsets in what a session holds at which the message of a delivery starts and ends.
-#[derive(Clone, Copy, Debug, Drop)]
+#[derive(Clone, Copy, Drop)]
 pub(crate) struct Payload {
     pub(crate) start: usize,
     pub(crate) end: usize,
 }
 
 /// A whole request.
-#[derive(Clone, Copy, Debug, Drop)]
+#[derive(Clone, Copy, Drop)]
 pub(crate) enum Requested<'a> {
     /// Delivers this message.
     Message(&'a [u8]),
@@ -27,7 +27,7 @@ pub(crate) enum Requested<'a> {
 }
 
 /// The front of what is held and a piece.
-#[derive(Clone, Copy, Debug, Drop)]
+#[derive(Clone, Copy, Drop)]
 pub(crate) enum Front<'a> {
     /// The beginning of a request, and where the message of a delivery is.
     Rest(Option<Payload>),

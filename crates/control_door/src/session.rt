@@ -25,7 +25,7 @@ use std::marker::Model;
 const LINE_LIMIT: usize = 512;
 
 /// The result of one act on the bytes at the front.
-#[derive(Clone, Copy, Debug, Drop)]
+#[derive(Clone, Copy, Drop)]
 pub(crate) enum Turn {
     /// The archive was reopened, or nothing was in doubt.
     Opened,

@@ -48,7 +48,7 @@ pub fn read_in_one_way()
 {}
 
 /// The first event of some bytes, its piece, and the remaining bytes.
-#[derive(Clone, Copy, Debug, Drop)]
+#[derive(Clone, Copy, Drop)]
 pub struct First<'a> {
     pub event: Event,
     pub piece: &'a [u8],
@@ -56,7 +56,7 @@ pub struct First<'a> {
 }
 
 /// The parts of a text before and after a separator.
-#[derive(Clone, Copy, Debug, Drop)]
+#[derive(Clone, Copy, Drop)]
 pub struct Parts<'a> {
     pub before: &'a [u8],
     pub behind: &'a [u8],

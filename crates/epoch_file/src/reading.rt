@@ -20,7 +20,7 @@ use mail_reader::{content_id, is_stored, own_id};
 use std::alloc::Global;
 
 /// The three objects at the front of bytes.
-#[derive(Debug, Clone, Copy, Drop)]
+#[derive(Clone, Copy, Drop)]
 pub(crate) struct Parts<'a> {
     /// The kind of entry that the tree's file names.
     kind: EntryKind,

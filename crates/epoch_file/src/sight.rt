@@ -17,7 +17,7 @@ const TREE_LEN: usize = 37;
 const HEAD_LEN: usize = 28;
 
 /// How much of an entry is at the front of bytes.
-#[derive(Debug, Clone, Copy, PartialEq, Eq, Drop)]
+#[derive(Clone, Copy, PartialEq, Eq, Drop)]
 pub(crate) enum Sight {
     /// None: the bytes start with no entry, whatever follows.
     Lacks,

@@ -4,7 +4,7 @@ use crate::window::{Part, Window};
 use arch_base::ObjectId;
 
 /// The state of a walk over an epoch's file.
-#[derive(Debug, Drop)]
+#[derive(Drop)]
 pub(crate) struct State {
     /// The part of the file that is left.
     pub(crate) part: Part,

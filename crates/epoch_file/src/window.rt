@@ -21,7 +21,7 @@ pub(crate) fn piece_room(alloc: Global, length: u64) -> Result<Vec<u8>, NoMemory
 }
 
 /// A part of a file, from an offset up to an end.
-#[derive(Debug, Clone, Copy)]
+#[derive(Clone, Copy)]
 pub(crate) struct Part {
     /// The name of the file.
     pub(crate) file: FileName,
@@ -32,7 +32,7 @@ pub(crate) struct Part {
 }
 
 /// Bytes of a file from an offset on. Its contract view is a list.
-#[derive(Debug, Drop)]
+#[derive(Drop)]
 pub(crate) struct Window {
     held: Bytes,
     start: usize,

@@ -2,7 +2,7 @@
 use arch_base::ObjectId;
 
 /// The last epoch that has an entry, and its last commit.
-#[derive(Clone, Copy, Debug, Drop)]
+#[derive(Clone, Copy, Drop)]
 pub struct End {
     /// The epoch, or 0 if there is no entry.
     pub epoch: u32,
@@ -11,7 +11,7 @@ pub struct End {
 }
 
 /// Where an entry is written.
-#[derive(Clone, Copy, Debug, Drop)]
+#[derive(Clone, Copy, Drop)]
 pub struct NextPlace {
     /// The epoch.
     pub epoch: u32,

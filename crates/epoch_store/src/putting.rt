@@ -16,7 +16,7 @@ use number_map::{Record, append};
 use std::alloc::Global;
 
 /// A file, and the offset up to which it stays as it is.
-#[derive(Clone, Copy, Debug, Drop)]
+#[derive(Clone, Copy, Drop)]
 pub struct Part {
     /// The file.
     pub file: FileName,

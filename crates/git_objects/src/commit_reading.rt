@@ -44,7 +44,7 @@ fn copied(alloc: Global, bytes: &[u8]) -> Result<Bytes, NoMemory>
 }
 
 /// The parts of a commit as they are read; its texts are borrowed from the content.
-#[derive(Debug, Clone, Copy, Drop)]
+#[derive(Clone, Copy, Drop)]
 struct Parts<'a> {
     tree: ObjectId,
     parent: Option<ObjectId>,

@@ -6,7 +6,7 @@ ghost use Rattle.git_objects.specs.Objects.{AnyKind, kind_part};
 use crate::fronts::after;
 
 /// The type of an object.
-#[derive(Debug, Clone, Copy, PartialEq, Eq, Drop)]
+#[derive(Clone, Copy, PartialEq, Eq, Drop)]
 pub(crate) enum Kind {
     Blob,
     Tree,

@@ -6,7 +6,7 @@ ghost use Rattle.mail_address.specs.Places.{next_place, marked, marked_by};
 use crate::place::{Place, Sought, len_before};
 
 /// The end of an item.
-#[derive(Debug, Clone, Copy, Drop)]
+#[derive(Clone, Copy, Drop)]
 pub(crate) enum Ending {
     /// A comma.
     Comma,
@@ -30,7 +30,7 @@ impl Ending {
 }
 
 /// An item of an address list.
-#[derive(Debug, Clone, Copy, Drop)]
+#[derive(Clone, Copy, Drop)]
 pub(crate) struct Item<'a> {
     /// The bytes before its end.
     pub(crate) bytes: &'a [u8],
@@ -96,7 +96,7 @@ fn is_bracketed(bracketed: bool, place: Place, byte: u8) -> bool
 }
 
 /// The bytes of an item from which its name and its address are read.
-#[derive(Debug, Clone, Copy, Drop)]
+#[derive(Clone, Copy, Drop)]
 pub(crate) struct ItemParts<'a> {
     /// The bytes before the `<`, or the inside of the last comment if there is no `<`.
     pub(crate) name: &'a [u8],

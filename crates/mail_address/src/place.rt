@@ -5,7 +5,7 @@ ghost use Rattle.mail_address.specs.Places.{depth_of, next_place, next_name_plac
 ghost use Rattle.mail_address.specs.Items.{len_before as count_before};
 
 /// Where a byte is.
-#[derive(Debug, Clone, Copy, Drop)]
+#[derive(Clone, Copy, Drop)]
 pub(crate) enum Place {
     /// Outside of quoted strings and comments.
     Outside,
@@ -113,7 +113,7 @@ impl Place {
 }
 
 /// A byte that is searched for in an item.
-#[derive(Debug, Clone, Copy, Drop)]
+#[derive(Clone, Copy, Drop)]
 pub(crate) enum Sought {
     /// A `<` outside of quoted strings and comments.
     OpenBracket,

@@ -8,7 +8,7 @@ use arch_base::{Bytes, NoMemory};
 use std::alloc::Global;
 
 /// What precedes the next byte of a name.
-#[derive(Debug, Clone, Copy, Drop)]
+#[derive(Clone, Copy, Drop)]
 pub(crate) enum Gap {
     /// Nothing yet.
     Start,

@@ -19,7 +19,7 @@ use mime_words::decode;
 use std::alloc::{AllocError, Global};
 
 /// The name and the address by which a commit names its author.
-#[derive(Debug, Drop)]
+#[derive(Drop)]
 pub(crate) struct Signature {
     /// The name, which is clean and never empty.
     pub(crate) name: Bytes,

@@ -1,8 +1,8 @@
 //! Reads the value of a Date field.
 ghost use Rattle.std.specs.Prelude.{◌≡◌, ◌≤◌, IfSome, IfNone};
 ghost use Rattle.mail_date.specs.Words.{words_of};
-ghost use Rattle.mail_date.specs.Pieces.{IsZone};
-ghost use Rattle.mail_date.specs.Dates.{last_second};
+ghost use Rattle.mail_date.specs.Pieces.{day_of, month_of, year_of, clock_of, zone_of, IsZone};
+ghost use Rattle.mail_date.specs.Dates.{joined, last_second};
 ghost use Rattle.mail_date.specs.Reading.{is_comment, date_of, date_of_words, moment_in};
 ghost use Rattle.mail_date.specs.Parts.{Spells};
 ghost use Rattle.mail_date.specs.Laws.{GivesWrittenMoment};
@@ -52,6 +52,15 @@ fn date_of_words(text: &[u8]) -> Option<CivilDate>
     if !is_comment(text) {
         return None;
     }
+    joined(day, month, year, clock, zone)
+}
+
+/// Returns the date that its five words spell.
+fn joined(day: &[u8], month: &[u8], year: &[u8], clock: &[u8], zone: &[u8]) -> Option<CivilDate>
+    ensures value { result ≡ joined (day_of day.now) (month_of month.now) (year_of year.now)
+        (clock_of clock.now) (zone_of zone.now) }
+    ensures zone { IfSome result (λ date. IsZone date.zone) }
+{
     let day = day_of(day)?;
     let month = month_of(month)?;
     let year = year_of(year)?;

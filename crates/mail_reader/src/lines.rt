@@ -7,7 +7,7 @@ ghost use Rattle.mail_reader.specs.Stored.{clean_lines, content_of};
 use memchr::memchr;
 
 /// A line without its end, and the bytes after it.
-#[derive(Debug, Clone, Copy, Drop)]
+#[derive(Clone, Copy, Drop)]
 pub struct Line<'a> {
     pub content: &'a [u8],
     pub rest: &'a [u8],

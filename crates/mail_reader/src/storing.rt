@@ -87,7 +87,7 @@ fn is_mailbox_line(content: &[u8]) -> bool
 
 /// Where a line of a header is: before the first field, in a field that is kept, or in one that is
 /// dropped.
-#[derive(Debug, Clone, Copy, Drop)]
+#[derive(Clone, Copy, Drop)]
 pub(crate) enum Place {
     Start,
     Kept,

@@ -11,7 +11,7 @@ use mail_commits::{MAGIC, push_entry};
 use std::alloc::Global;
 
 /// A message as the archive in memory keeps it.
-#[derive(Debug, Drop)]
+#[derive(Drop)]
 pub(crate) struct Kept {
     /// The number of its epoch.
     pub(crate) epoch: u32,
@@ -22,7 +22,7 @@ pub(crate) struct Kept {
 }
 
 /// The end of an archive, to which the next entry is appended.
-#[derive(Clone, Copy, Debug, Drop)]
+#[derive(Clone, Copy, Drop)]
 pub(crate) struct End {
     /// The number of the last epoch.
     pub(crate) epoch: u32,

@@ -4,7 +4,7 @@ ghost use Rattle.mime_words.specs.Words.{charset_of};
 ghost use Rattle.mime_words.specs.Decoding.{same_charset};
 
 /// A charset that is decoded.
-#[derive(Debug, Clone, Copy, PartialEq, Eq, Drop)]
+#[derive(Clone, Copy, PartialEq, Eq, Drop)]
 pub enum Charset {
     Utf8,
     UsAscii,

@@ -44,7 +44,7 @@ fn decode_text(alloc: Global, value: &[u8]) -> Result<String, NoMemory>
 }
 
 /// The finished text, and bytes of one charset, or of none, that wait for more of it.
-#[derive(Debug, Drop)]
+#[derive(Drop)]
 struct Decoding {
     text: String,
     charset: Option<Charset>,

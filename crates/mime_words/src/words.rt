@@ -8,7 +8,7 @@ use crate::charset::{Charset, charset_of};
 use crate::encoding::{Encoding, encoding_of};
 
 /// A word of a charset that is decoded: its charset, its encoding and its encoded text.
-#[derive(Debug, Clone, Copy, Drop)]
+#[derive(Clone, Copy, Drop)]
 pub struct Word<'a> {
     pub charset: Charset,
     pub encoding: Encoding,
@@ -16,7 +16,7 @@ pub struct Word<'a> {
 }
 
 /// The first word of a value that is decoded, with the text before it and the bytes after it.
-#[derive(Debug, Clone, Copy, Drop)]
+#[derive(Clone, Copy, Drop)]
 pub struct Found<'a> {
     pub before: &'a [u8],
     pub word: Word<'a>,
@@ -24,7 +24,7 @@ pub struct Found<'a> {
 }
 
 /// The front of some bytes: text of a length, or a word that is decoded, with the word's length.
-#[derive(Debug, Clone, Copy, Drop)]
+#[derive(Clone, Copy, Drop)]
 pub enum Front<'a> {
     Text(usize),
     Decoded(Word<'a>, usize),
@@ -73,7 +73,7 @@ fn read_front(bytes: &[u8]) -> Front<'_>
 }
 
 /// An encoded word: the name of its charset, its encoding and its encoded text.
-#[derive(Debug, Clone, Copy, Drop)]
+#[derive(Clone, Copy, Drop)]
 pub struct EncodedWord<'a> {
     pub charset: &'a [u8],
     pub encoding: Encoding,

@@ -391,7 +391,7 @@ fn keeps_lock(rt: &HostRuntime) -> Result<bool, Fail> {
 #[test]
 fn a_second_run_waits_and_gives_up(rt: HostRuntime) -> Result<(), Fail> {
     assert!(rt; keeps_lock(&rt)?);
-    assert_eq!(rt; length_for_other(&rt, "locked")?, Some(3));
+    assert!(rt; length_for_other(&rt, "locked")? == Some(3));
     Ok(())
 }
 
@@ -562,12 +562,17 @@ fn a_folder_above_that_may_not_be_read(rt: HostRuntime) -> Result<(), Fail> {
     Ok(())
 }
 
+/// Returns whether a clock gives moments after 2023-11, the second not before the first.
+fn goes_on<C: Clock>(clock: &mut C) -> Result<bool, ClockFault> {
+    let first = clock.now()?;
+    let second = clock.now()?;
+    Ok(first > 1_700_000_000 && second >= first)
+}
+
 #[test]
 fn the_clock_gives_a_moment(rt: HostRuntime) -> Result<(), Fail> {
     let mut clock = SystemClock::new(&rt, rt.alloc())?;
-    let moment = clock.now()?;
-    assert!(rt; moment > 1_700_000_000);
-    assert!(rt; clock.now()? >= moment);
+    assert!(rt; goes_on(&mut clock)?);
     Ok(())
 }
 
@@ -667,7 +672,18 @@ fn what_is_not_printed_is_a_fault(rt: HostRuntime) -> Result<(), Fail> {
     let closed = Closed;
     let mut sink = StdSink::new(&closed, rt.alloc())?;
     assert!(rt; is_fault_told(&mut sink, rt.alloc())?);
-    assert_eq!(rt; StdSink::new(&rt, rt.alloc())?.write(b""), Ok(()));
+    Ok(())
+}
+
+/// Returns whether a write of no bytes to the standard output is taken.
+fn takes_nothing(rt: &HostRuntime) -> Result<bool, NoMemory> {
+    let mut sink = StdSink::new(rt, rt.alloc())?;
+    Ok(sink.write(b"") == Ok(()))
+}
+
+#[test]
+fn the_standard_streams_are_opened(rt: HostRuntime) -> Result<(), Fail> {
+    assert!(rt; takes_nothing(&rt)?);
     assert!(rt; StdSource::new(&rt, rt.alloc()).is_ok());
     Ok(())
 }

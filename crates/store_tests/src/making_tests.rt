@@ -5,13 +5,13 @@ ghost use Rattle.git_objects.specs.Objects.{blob_id_of};
 ghost use Rattle.mail_reader.specs.Ids.{own_id as own_id_in};
 ghost use Rattle.epoch_store.specs.Stores.{Accepts, HasSizes};
 
-use crate::mails::{FIRST, FIRST_ID, MOMENT, SECOND, SECOND_COMMIT, SECOND_ID};
-use crate::shared::{empty_disk, is_epoch_of, settings, two_in_memory, write};
+use crate::memory::{is_epoch_of, settings, two_in_memory};
 use arch_base::{Bytes, NoMemory, id_of_hex};
 use arch_model::TextRefusal;
 use disk_model::{Disk, DiskFault, FileKind, FileName, FuseDisk, MemDisk};
 use epoch_file::StoreRefusal;
 use epoch_store::{InitRefusal, Store, StoredEntry};
+use epoch_tests::{FIRST, FIRST_ID, MOMENT, SECOND, SECOND_COMMIT, SECOND_ID, empty_disk, write};
 use git_objects::{EntryKind, blob_id};
 use mail_reader::{is_stored, own_id};
 use std::alloc::Global;
@@ -158,7 +158,7 @@ fn has_two_epochs(store: &Store) -> bool {
 }
 
 /// The files of an archive of two epochs, each of one message.
-const TWO_EPOCHS: [Length; 4] = [
+static TWO_EPOCHS: [Length; 4] = [
     Length {
         file: ROOT,
         length: 4096,
@@ -243,7 +243,7 @@ fn init_is_refused<D: Disk>(alloc: Global, disk: &mut D) -> bool {
 }
 
 /// The files of an archive without messages.
-const NO_EPOCH: [Length; 2] = [
+static NO_EPOCH: [Length; 2] = [
     Length {
         file: ROOT,
         length: 4096,

@@ -1,10 +1,11 @@
 //! Epochs that are read whole, by disks in memory.
-use crate::shared::{empty_disk, failing, is_epoch_of, two_in_memory};
-use crate::store_tests::fill;
+use crate::making_tests::fill;
+use crate::memory::{is_epoch_of, two_in_memory};
 use arch_base::{Bytes, NoMemory};
 use arch_model::TextRefusal;
 use disk_model::Disk;
 use epoch_store::Store;
+use epoch_tests::{empty_disk, failing};
 use mem_archive::MemArchive;
 use std::alloc::Global;
 use std::process::Abort;

@@ -1,7 +1,7 @@
 //! Epochs of three entries whose bytes were made by another program: what is written, what is seen
 //! of them, and where they are damaged.
+use crate::disks::{add_entry, cut, empty_disk, write};
 use crate::mails::{FIRST, FIRST_COMMIT, FIRST_ID, MOMENT, SECOND, SECOND_COMMIT, SECOND_ID};
-use crate::shared::{add_entry, cut, empty_disk, write};
 use arch_base::{Bytes, NoMemory, ObjectId, id_of_hex};
 use disk_model::{Disk, DiskFault, FileKind, FileName, FuseDisk, WalkRefusal};
 use epoch_file::{NewEntry, Seen, StoreRefusal, Written, law_of_epochs, walk};
@@ -198,7 +198,7 @@ fn each_byte_that_is_another_one_is_damage_at_its_entry(rt: HostRuntime) -> Resu
     Ok(())
 }
 
-/// Returns what a walk over so many bytes of the epoch finds.
+/// Returns what a walk over so many bytes finds. No entry stands after the epoch.
 fn found_in(length: u64) -> Result<usize, WalkRefusal> {
     match length {
         0..8 => Err(WalkRefusal::Damaged { at: 0 }),
@@ -206,8 +206,9 @@ fn found_in(length: u64) -> Result<usize, WalkRefusal> {
         316 => Ok(1),
         317..672 => Err(WalkRefusal::Damaged { at: 316 }),
         672 => Ok(2),
+        673..1028 => Err(WalkRefusal::Damaged { at: 672 }),
         LENGTH => Ok(3),
-        _ => Err(WalkRefusal::Damaged { at: 672 }),
+        _ => Err(WalkRefusal::Damaged { at: LENGTH }),
     }
 }
 
@@ -215,13 +216,8 @@ fn found_in(length: u64) -> Result<usize, WalkRefusal> {
 fn walk_to_each<D: Disk>(rt: &impl Abort, alloc: Global, disk: &mut D) -> Result<(), DiskFault> {
     write(disk, FILE, LENGTH, b"more")?;
     for length in 0..1033 {
-        // No entry stands after the epoch.
-        let want = if length > LENGTH {
-            Err(WalkRefusal::Damaged { at: LENGTH })
-        } else {
-            found_in(length)
-        };
-        assert_eq!(rt; count(alloc, disk, length), want, "length {length}");
+        let same = count(alloc, disk, length) == found_in(length);
+        assert!(rt; same, "length {length}");
     }
     Ok(())
 }
@@ -244,19 +240,28 @@ fn cut_at(length: u64) -> u64 {
     }
 }
 
-/// Cuts the epoch's file to each length below its own, from the greatest on, removes it, and walks
-/// the epoch.
+/// Cuts the epoch's file to a length, and returns whether a walk finds the damage there.
+fn is_damaged_cut<D: Disk>(alloc: Global, disk: &mut D, length: u64) -> Result<bool, DiskFault> {
+    cut(disk, FILE, length)?;
+    let found = count(alloc, disk, LENGTH);
+    Ok(found == Err(WalkRefusal::Damaged { at: cut_at(length) }))
+}
+
+/// Cuts the epoch's file to each length below its own, from the greatest on, and walks the epoch.
 fn cut_each<D: Disk>(rt: &impl Abort, alloc: Global, disk: &mut D) -> Result<(), DiskFault> {
     for gone in 1..1029 {
-        let length = LENGTH - gone;
-        cut(disk, FILE, length)?;
-        let want = Err(WalkRefusal::Damaged { at: cut_at(length) });
-        assert_eq!(rt; count(alloc, disk, LENGTH), want, "length {length}");
+        assert!(rt;
+            is_damaged_cut(alloc, disk, LENGTH - gone)?,
+            "{gone} bytes fewer"
+        );
     }
-    disk.remove(FILE)?;
-    let want = Err(WalkRefusal::Damaged { at: 0 });
-    assert_eq!(rt; count(alloc, disk, LENGTH), want);
     Ok(())
+}
+
+/// Removes the epoch's file, and returns whether a walk finds damage at its start.
+fn is_damaged_removed<D: Disk>(alloc: Global, disk: &mut D) -> Result<bool, DiskFault> {
+    disk.remove(FILE)?;
+    Ok(count(alloc, disk, LENGTH) == Err(WalkRefusal::Damaged { at: 0 }))
 }
 
 #[test]
@@ -264,6 +269,7 @@ fn a_file_that_ends_early_is_damaged_where_it_ends(rt: HostRuntime) -> Result<()
     let mut disk = empty_disk(rt.alloc());
     fill(rt.alloc(), &mut disk)?;
     cut_each(&rt, rt.alloc(), &mut disk)?;
+    assert!(rt; is_damaged_removed(rt.alloc(), &mut disk)?);
     Ok(())
 }
 
@@ -334,7 +340,7 @@ struct Alone {
 }
 
 /// Entries at the last moment and after it, without an id, and in their storage form or not.
-const ALONE: [Alone; 5] = [
+static ALONE: [Alone; 5] = [
     Alone {
         text: FIRST,
         moment: 253_402_300_799,
@@ -475,18 +481,26 @@ fn is_wrong_size<D: Disk>(
     Ok(count(alloc, disk, length) == Err(WalkRefusal::Damaged { at: 8 }))
 }
 
-/// Appends a long entry and another one to the file, and walks them, also with wrong sizes.
-fn walk_long<D: Disk>(rt: &impl Abort, alloc: Global, disk: &mut D) -> Result<(), Fail> {
+/// Returns whether a size that a text can't have, and one that runs past the end, are damage at the
+/// first entry.
+fn are_wrong_sizes<D: Disk>(alloc: Global, disk: &mut D, length: u64) -> Result<bool, DiskFault> {
+    let too_large = is_wrong_size(alloc, disk, b"blob 9000000\0", length)?;
+    let too_long = is_wrong_size(alloc, disk, b"blob 3900019\0", length)?;
+    Ok(too_large && too_long)
+}
+
+/// Appends a long entry and another one to the file, and returns whether a walk sees them, and finds
+/// wrong sizes.
+fn walk_long<D: Disk>(alloc: Global, disk: &mut D) -> Result<bool, Fail> {
     let (long, last) = put_long(alloc, disk)?;
-    assert!(rt; sees_long(alloc, disk, &long, &last)?);
-    // A size that a text can't have, and one that runs past the end.
-    assert!(rt; is_wrong_size(alloc, disk, b"blob 9000000\0", last.end)?);
-    assert!(rt; is_wrong_size(alloc, disk, b"blob 3900019\0", last.end)?);
-    Ok(())
+    let seen = sees_long(alloc, disk, &long, &last)?;
+    let refused = are_wrong_sizes(alloc, disk, last.end)?;
+    Ok(seen && refused)
 }
 
 #[test]
 fn an_entry_may_be_longer_than_what_is_read_at_once(rt: HostRuntime) -> Result<(), Fail> {
     let mut disk = empty_disk(rt.alloc());
-    walk_long(&rt, rt.alloc(), &mut disk)
+    assert!(rt; walk_long(rt.alloc(), &mut disk)?);
+    Ok(())
 }

@@ -4,14 +4,13 @@ ghost use Rattle.std.specs.Prelude.{ℕ, IsTrue, Ok};
 ghost use Rattle.epoch_file.specs.declared.entry.Seen.{Seen};
 ghost use Rattle.epoch_store.specs.Joined.{Joined, JoinsOne, has_blob};
 
-use crate::mails::{FIRST, MOMENT, OTHER, SECOND, THIRD};
-use crate::shared::{add_entry, empty_disk, write};
-use crate::store_tests::{MAP, ROOT, epoch, make};
+use crate::making_tests::{MAP, ROOT, epoch, make};
 use arch_base::Id20;
 use arch_model::OpenRefusal;
 use disk_model::{Disk, DiskFault, FileKind, MemDisk};
 use epoch_file::{NewEntry, StoreRefusal};
 use epoch_store::{Store, StoredEntry};
+use epoch_tests::{FIRST, MOMENT, OTHER, SECOND, THIRD, add_entry, empty_disk, write};
 use git_objects::{EntryKind, blob_id};
 use number_map::{Record, append};
 use std::alloc::Global;
@@ -29,7 +28,7 @@ struct Line(u32, &'static [u8]);
 struct Entry(EntryKind, &'static [u8]);
 
 /// What an opening finds.
-#[derive(Debug, PartialEq, Eq, Drop)]
+#[derive(PartialEq, Eq, Drop)]
 enum Outcome {
     /// This many entries.
     Joined(usize),
@@ -197,7 +196,7 @@ const TWO: &[Entry] = &[
 ];
 
 /// Records of three messages, with a number without a message after the first and after the last.
-const WITH_GAPS: Case = Case {
+static WITH_GAPS: Case = Case {
     records: &[
         Line(0, FIRST),
         Line(NONE, b""),
@@ -244,7 +243,7 @@ fn is_opened_so(alloc: Global, case: &Case) -> Result<bool, Fail> {
 }
 
 /// Archives whose entries should each be the next of the map.
-const WANTED: [Case; 9] = [
+static WANTED: [Case; 9] = [
     // All is well: no entry, and one in the epoch 1.
     Case {
         records: &[],
@@ -313,7 +312,7 @@ fn the_first_entry_that_does_not_belong_there_is_found(rt: HostRuntime) -> Resul
 }
 
 /// Archives whose entries should have ids of their own and be as many as the records.
-const OWN: [Case; 7] = [
+static OWN: [Case; 7] = [
     // One own id in two epochs and in one, one text in two, and none of these.
     Case {
         records: &[Line(0, FIRST), Line(1, OTHER)],

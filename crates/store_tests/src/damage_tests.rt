@@ -1,19 +1,18 @@
 //! Tests of the disk of an archive of one message, damaged or with more than its root names: what
 //! is found when it is opened.
-use crate::mails::SECOND;
+use crate::making_tests::{FIRST_EPOCH, MAP, ROOT, SECOND_EPOCH, append, put};
 use crate::opening_tests::{begin, listed_after, opened};
-use crate::shared::{cut, empty_disk, write};
-use crate::store_tests::{FIRST_EPOCH, MAP, ROOT, SECOND_EPOCH, append, put};
 use arch_model::OpenRefusal;
 use disk_files::file_names;
 use disk_model::{Disk, DiskFault, FileKind, FileName, MemDisk};
 use epoch_store::Store;
+use epoch_tests::{SECOND, cut, empty_disk, write};
 use std::alloc::Global;
 use std::process::Abort;
 use std::test::Fail;
 
 /// A file: its name and its bytes.
-#[derive(Debug, PartialEq, Eq, Drop)]
+#[derive(PartialEq, Eq, Drop)]
 struct WholeFile {
     name: FileName,
     bytes: Vec<u8>,
@@ -98,7 +97,7 @@ const ENTRY_DAMAGED: OpenRefusal = OpenRefusal::Damaged {
 };
 
 /// Damage of each file of an archive of one message.
-const OVERWRITES: [Overwrite; 9] = [
+static OVERWRITES: [Overwrite; 9] = [
     // Both slots are shut.
     Overwrite {
         file: ROOT,
@@ -185,7 +184,7 @@ struct Cut {
 }
 
 /// Each file of an archive of one message, cut short.
-const CUTS: [Cut; 5] = [
+static CUTS: [Cut; 5] = [
     Cut {
         file: ROOT,
         length: 4095,
@@ -258,7 +257,7 @@ fn one_is_swept(alloc: Global, file: FileName, files: &Vec<WholeFile>) -> Result
 
 /// Files whose bytes an opening cuts or removes: tails of the epoch and of the map, an epoch of
 /// another generation, and one that the archive has not reached.
-const SWEPT: [FileName; 4] = [
+static SWEPT: [FileName; 4] = [
     FIRST_EPOCH,
     MAP,
     FileName {

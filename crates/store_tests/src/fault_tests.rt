@@ -2,13 +2,12 @@
 //! before.
 ghost use Rattle.std.specs.Prelude.{◌≤◌};
 
-use crate::mails::{FIRST, SECOND};
-use crate::opening_tests::{Change, Listing, open_since, opened};
-use crate::shared::{ENOUGH, failing, write};
-use crate::store_tests::{FIRST_EPOCH, MAP, ROOT, append, epoch, make, put};
+use crate::making_tests::{FIRST_EPOCH, MAP, ROOT, append, epoch, make, put};
+use crate::opening_tests::{Change, ENOUGH, Listing, open_since, opened};
 use arch_model::OpenRefusal;
 use disk_model::{Disk, DiskFault, MemDisk};
 use epoch_file::StoreRefusal;
+use epoch_tests::{FIRST, SECOND, failing, write};
 use std::alloc::Global;
 use std::process::Abort;
 use std::test::Fail;

@@ -4,20 +4,22 @@ ghost use Rattle.std.specs.Prelude.{◌≤◌, IfSome, IfOk, OnOk};
 ghost use Rattle.disk_model.specs.Disk.{WhereTold};
 ghost use Rattle.epoch_store.specs.Stores.{HasSizes};
 
-use crate::mails::{FIRST, SECOND};
-use crate::shared::{ENOUGH, empty_disk};
-use crate::store_tests::{make, put};
+use crate::making_tests::{make, put};
 use arch_base::NoMemory;
 use arch_model::{EntryLine, OpenRefusal};
 use disk_model::{Disk, FuseDisk, MemDisk};
 use epoch_file::StoreRefusal;
 use epoch_store::Store;
+use epoch_tests::{FIRST, SECOND, empty_disk};
 use std::alloc::Global;
 use std::process::Abort;
 use std::test::Fail;
 
+/// More calls than any test makes on a disk.
+pub(crate) const ENOUGH: u64 = 1000;
+
 /// What is asked of an archive: the number of the next message, and each entry.
-#[derive(Debug, PartialEq, Eq, Drop)]
+#[derive(PartialEq, Eq, Drop)]
 pub(crate) struct Listing {
     next: u32,
     entries: Vec<EntryLine>,
