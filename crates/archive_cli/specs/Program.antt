@@ -12,7 +12,7 @@ use Rattle.arch_model.specs.Archives.{Archive, empty_archive}
 use Rattle.epoch_store.specs.Files.{as_read}
 use Rattle.epoch_store.specs.First.{MakingLeaves}
 use Rattle.epoch_store.specs.Opens.{ReadsAs}
-use Rattle.archive_cli.specs.DiskCommands.{HasRoom, Makes, DeliversTo, ChecksTo, IsOpenedAs, IsFault, RecoversBehind, LeavesUnopened}
+use Rattle.archive_cli.specs.DiskCommands.{HasRoom, Makes, DeliversTo, ChecksTo, IsOpenedAs, IsFault, RecoversAfter, LeavesUnopened}
 use Rattle.archive_cli.specs.Outcomes.{outcome_line, status_of}
 use Rattle.archive_cli.specs.Statuses.{code_of}
 use Rattle.archive_cli.specs.Words.{IsJob, AsksFor}
@@ -303,7 +303,7 @@ WordsLeave words coming old image = (config : Config) × AsksFor words (Init con
 -- of the archives that the disk may have stood for, or the one that the delivery leaves.
 abbrev pub DeliverLeaves : List (Option Archive) → Option (List ℕ) → Option Moments → Files → Type 0
 DeliverLeaves may left coming image = (input : List ℕ) × IsInput left input
-    × ((moment : ℕ) × IsFirst moment coming × RecoversBehind may (message_of input) moment image)
+    × ((moment : ℕ) × IsFirst moment coming × RecoversAfter may (message_of input) moment image)
 
 -- The words ask for a job without a disk.
 abbrev pub LeavesDisk : List (List ℕ) → Type 0

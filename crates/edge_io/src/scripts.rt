@@ -110,8 +110,8 @@ impl Script {
     {
         match self.placed.as_slice().get(i as usize) {
             Some(placed) => {
-                let behind = &self.pieces.as_slice()[placed.start..];
-                &behind[..piece_len(placed.event.what)]
+                let after = &self.pieces.as_slice()[placed.start..];
+                &after[..piece_len(placed.event.what)]
             }
             None => &[],
         }

@@ -103,16 +103,16 @@ begins_some (Some k) part room window true s front comes b = λ whole.
     let got = comes (shows_first bytes part front whole) in
     let shown : take part.end bytes ≡ magic ++ (b.0 ++ got.0.rest) =
     sym (ap (λ (n : ℕ). drop n (take part.end bytes)) front) ∙ (got.0.is ∙ (ap (λ (l : List ℕ). l ++ got.0.rest) b.1 ∙ append_assoc magic b.0 got.0.rest)) in
-    let behind : drop 8 (take part.end bytes) ≡ b.0 ++ got.0.rest = ap (drop 8) shown ∙ drop_at magic (b.0 ++ got.0.rest) 8 refl in
+    let after : drop 8 (take part.end bytes) ≡ b.0 ++ got.0.rest = ap (drop 8) shown ∙ drop_at magic (b.0 ++ got.0.rest) 8 refl in
     let made : State = record { part = record { file = part.file; place = 8; end = part.end }; window = b.0; parent = None; seen = [] } in
     let walked : Walked bytes made = record {
       entries = [];
       valid = tt;
-      spelled = shown ∙ ap (λ (l : List ℕ). magic ++ l) (sym behind) ∙ ap (λ (l : List ℕ). l ++ drop 8 (take part.end bytes)) (sym (append-nil magic));
+      spelled = shown ∙ ap (λ (l : List ℕ). magic ++ l) (sym after) ∙ ap (λ (l : List ℕ). l ++ drop 8 (take part.end bytes)) (sym (append-nil magic));
       place = refl;
       parent = refl;
       seen = refl;
-      shows = record { rest = got.0.rest; is = behind; whole = whole; inside = omega (arith, ap length shown, length-append magic (b.0 ++ got.0.rest), length-take part.end bytes, whole) };
+      shows = record { rest = got.0.rest; is = after; whole = whole; inside = omega (arith, ap length shown, length-append magic (b.0 ++ got.0.rest), length-take part.end bytes, whole) };
     } in
     let Holds : State → Type 0 = λ t. Walked bytes t × (t.part.end ≡ part.end) in
     subst Holds (sym b.2) (walked, refl)

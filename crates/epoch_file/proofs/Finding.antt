@@ -14,7 +14,7 @@ use Rattle.mail_commits.specs.Commits.{commit_of}
 use Rattle.mail_commits.specs.Entries.{tree_of, entry_bytes}
 use Rattle.epoch_file.specs.declared.entry.Seen.{Seen}
 use Rattle.epoch_file.specs.declared.reading.Parts.{Parts}
-use Rattle.epoch_file.specs.Entries.{EpochEntry, IsEpochEntry, bytes_behind}
+use Rattle.epoch_file.specs.Entries.{EpochEntry, IsEpochEntry, bytes_after}
 use Rattle.arch_base.specs.Moments.{last_moment}
 use Rattle.epoch_file.specs.Reading.{IsParted, HasParts, PartsAgain, AreIds, IsRead, Reads, ReadsWhere, seen_by}
 use Rattle.epoch_file.specs.Walking.{seen_at}
@@ -63,7 +63,7 @@ reads-unstored place parent bytes parts moment none = λ p e rest valid is has. 
 pub reads-other : (place : ℕ) (parent : Option Id20) (bytes : List ℕ) (parts : Parts) (moment : ℕ) (front : List ℕ) → front ≡ take parts.size bytes → front ≢ entry_bytes parts.kind parts.text.now moment parent
     → ReadsWhere (λ e. HasParts parent e parts × (moment ≡ e.moment)) place parent bytes (Ok None)
 reads-other place parent bytes parts moment front cut other = λ p e rest valid is has.
-    let here : take parts.size bytes ≡ bytes_behind parent e = ap (take parts.size) is ∙ take_at (bytes_behind parent e) rest parts.size (sym has.0.size) in
+    let here : take parts.size bytes ≡ bytes_after parent e = ap (take parts.size) is ∙ take_at (bytes_after parent e) rest parts.size (sym has.0.size) in
     let n = has.0.kind in
     let t = has.0.text in
     let m = has.1 in
@@ -77,7 +77,7 @@ pub reads-entry : (place : ℕ) (parent : Option Id20) (bytes : List ℕ) (parts
 reads-entry place parent bytes parts moment front ids seen parted again small stored cut same are is =
     let e : EpochEntry = record { kind = parts.kind; text = parts.text.now; moment = moment } in
     let rest = drop parts.size bytes in
-    let whole : bytes ≡ bytes_behind parent e ++ rest = sym (take-append-drop parts.size bytes) ∙ ap (λ (l : List ℕ). l ++ rest) (sym cut ∙ same) in
+    let whole : bytes ≡ bytes_after parent e ++ rest = sym (take-append-drop parts.size bytes) ∙ ap (λ (l : List ℕ). l ++ rest) (sym cut ∙ same) in
     let valid : IsEpochEntry e = record { text = stored; moment = small } in
     let has : HasParts parent e parts = again parent e rest valid whole in
     let at : place + parts.front ≡ (seen_at place parent e).text_at = ap (λ (n : ℕ). place + n) has.front in

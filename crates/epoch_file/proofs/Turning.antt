@@ -9,7 +9,7 @@ use Rattle.mail_commits.specs.Entries.{magic}
 use Rattle.epoch_file.specs.declared.entry.Seen.{Seen}
 use Rattle.epoch_file.specs.declared.window.Part.{Part}
 use Rattle.epoch_file.specs.declared.state.State.{State}
-use Rattle.epoch_file.specs.Entries.{EpochEntry, IsEpochEntry, bytes_behind, commit_behind, chain, last_of, epoch_of}
+use Rattle.epoch_file.specs.Entries.{EpochEntry, IsEpochEntry, bytes_after, commit_after, chain, last_of, epoch_of}
 use Rattle.epoch_file.specs.Reading.{IsRead}
 use Rattle.epoch_file.specs.Walking.{seen_at, seen_from, LacksEntry, EndsEarly, IsEpoch, Walks}
 use Rattle.epoch_file.specs.Windows.{Shows, IsInside}
@@ -22,7 +22,7 @@ use Rattle.git_objects.specs.Commits.{IsParent}
 use Rattle.epoch_file.specs.Runs.{StopRose}
 use Rattle.epoch_file.proofs.Fronts.{within}
 use Rattle.epoch_file.proofs.Chains.{chain-push, last-push, valid-push, seen-push, epoch-push, length-seen}
-use Rattle.epoch_file.proofs.Showing.{part_behind, left-behind, shows-skip}
+use Rattle.epoch_file.proofs.Showing.{part_after, left-after, shows-skip}
 use Rattle.epoch_file.proofs.Sizes.{length-entry}
 use Rattle.epoch_file.proofs.Kept.{IsParent-last}
 
@@ -30,37 +30,37 @@ use Rattle.epoch_file.proofs.Kept.{IsParent-last}
 pub walked-more : (bytes : List ℕ) (s : State) (found : Seen × ℕ) → Walked bytes s → IsRead s.part.place s.parent s.window found → Walked bytes (next_state s found)
 walked-more bytes s found w r =
     let e = r.entry in
-    let piece = bytes_behind s.parent e in
-    let front : Option Id20 → List ℕ = λ parent. bytes_behind parent e in
+    let piece = bytes_after s.parent e in
+    let front : Option Id20 → List ℕ = λ parent. bytes_after parent e in
     let split : left_of bytes s.part ≡ piece ++ (r.rest ++ w.shows.rest) = w.shows.is ∙ (ap (λ (l : List ℕ). l ++ w.shows.rest) r.is ∙ append_assoc piece r.rest w.shows.rest) in
-    let behind : left_of bytes (part_behind s.part found.1) ≡ r.rest ++ w.shows.rest =
-    left-behind bytes s.part found.1 ∙ (ap (λ (n : ℕ). drop n (left_of bytes s.part)) r.size ∙ (ap (drop (length piece)) split ∙ drop_at piece (r.rest ++ w.shows.rest) (length piece) refl)) in
+    let after : left_of bytes (part_after s.part found.1) ≡ r.rest ++ w.shows.rest =
+    left-after bytes s.part found.1 ∙ (ap (λ (n : ℕ). drop n (left_of bytes s.part)) r.size ∙ (ap (drop (length piece)) split ∙ drop_at piece (r.rest ++ w.shows.rest) (length piece) refl)) in
     let grown : epoch_of w.entries ++ piece ≡ epoch_of (w.entries ++ e ∷ []) = ap (λ (p : Option Id20). epoch_of w.entries ++ front p) w.parent ∙ sym (epoch-push w.entries e) in
     let size : length (chain None (w.entries ++ e ∷ [])) ≡ length (chain None w.entries) + found.1 =
-    ap length (chain-push None w.entries e) ∙ (length-append (chain None w.entries) (bytes_behind (last_of None w.entries) e)
+    ap length (chain-push None w.entries e) ∙ (length-append (chain None w.entries) (bytes_after (last_of None w.entries) e)
     ∙ ap (λ (n : ℕ). length (chain None w.entries) + n) (ap (λ (p : Option Id20). length (front p)) (sym w.parent) ∙ sym r.size)) in
-    let commit : found.0.commit ≡ commit_behind (last_of None w.entries) e = ap (λ (seen : Seen). seen.commit) r.seen ∙ ap (λ (p : Option Id20). commit_behind p e) w.parent in
+    let commit : found.0.commit ≡ commit_after (last_of None w.entries) e = ap (λ (seen : Seen). seen.commit) r.seen ∙ ap (λ (p : Option Id20). commit_after p e) w.parent in
     let at : found.0 ≡ seen_at (8 + length (chain None w.entries)) (last_of None w.entries) e =
     r.seen ∙ (ap (λ (n : ℕ). seen_at n s.parent e) w.place ∙ ap (λ (p : Option Id20). seen_at (8 + length (chain None w.entries)) p e) w.parent) in
     let cut : drop found.1 s.window ≡ r.rest = ap (λ (n : ℕ). drop n s.window) r.size ∙ (ap (drop (length piece)) r.is ∙ drop_at piece r.rest (length piece) refl) in
-    let shows : Shows bytes (part_behind s.part (length piece)) r.rest = shows-skip bytes s.part s.window piece r.rest w.shows r.is in
-    let moved : Shows bytes (part_behind s.part found.1) r.rest = subst (λ (n : ℕ). Shows bytes (part_behind s.part n) r.rest) (sym r.size) shows in record {
+    let shows : Shows bytes (part_after s.part (length piece)) r.rest = shows-skip bytes s.part s.window piece r.rest w.shows r.is in
+    let moved : Shows bytes (part_after s.part found.1) r.rest = subst (λ (n : ℕ). Shows bytes (part_after s.part n) r.rest) (sym r.size) shows in record {
       entries = w.entries ++ e ∷ [];
       valid = valid-push w.entries e w.valid r.valid;
-      spelled = w.spelled ∙ (ap (λ (l : List ℕ). epoch_of w.entries ++ l) (split ∙ ap (λ (l : List ℕ). piece ++ l) (sym behind))
-          ∙ (sym (append_assoc (epoch_of w.entries) piece (left_of bytes (part_behind s.part found.1))) ∙ ap (λ (l : List ℕ). l ++ left_of bytes (part_behind s.part found.1)) grown));
+      spelled = w.spelled ∙ (ap (λ (l : List ℕ). epoch_of w.entries ++ l) (split ∙ ap (λ (l : List ℕ). piece ++ l) (sym after))
+          ∙ (sym (append_assoc (epoch_of w.entries) piece (left_of bytes (part_after s.part found.1))) ∙ ap (λ (l : List ℕ). l ++ left_of bytes (part_after s.part found.1)) grown));
       place = omega (arith, w.place, size);
       parent = ap Some commit ∙ sym (last-push None w.entries e);
       seen = ap (λ (seen : List Seen). seen ++ found.0 ∷ []) w.seen ∙ (ap (λ (one : Seen). seen_from 8 None w.entries ++ one ∷ []) at ∙ sym (seen-push 8 None w.entries e));
-      shows = subst (λ (l : List ℕ). Shows bytes (part_behind s.part found.1) l) (sym cut) moved;
+      shows = subst (λ (l : List ℕ). Shows bytes (part_after s.part found.1) l) (sym cut) moved;
     }
 
 -- No entry in a window that would have all of one.
 pub none-left : (bytes : List ℕ) (part : Part) (window : List ℕ) (parent : Option Id20) → Shows bytes part window
-    → ((p : Option Id20) (e : EpochEntry) (rest : List ℕ) → IsEpochEntry e → left_of bytes part ≡ bytes_behind p e ++ rest → length (bytes_behind p e) ≤ length window)
+    → ((p : Option Id20) (e : EpochEntry) (rest : List ℕ) → IsEpochEntry e → left_of bytes part ≡ bytes_after p e ++ rest → length (bytes_after p e) ≤ length window)
     → LacksEntry parent window → LacksEntry parent (left_of bytes part)
 none-left bytes part window parent s all none = λ e rest valid is.
-    none e (drop (length (bytes_behind parent e)) window) valid (within window s.rest (bytes_behind parent e) rest (sym s.is ∙ is) (all parent e rest valid is))
+    none e (drop (length (bytes_after parent e)) window) valid (within window s.rest (bytes_after parent e) rest (sym s.is ∙ is) (all parent e rest valid is))
 
 -- The first n bytes of a file are no more than those of the walked part.
 pub same_front : (bytes : List ℕ) (n end : ℕ) → end ≡ min n (length bytes) → take n bytes ≡ take end bytes
@@ -100,7 +100,7 @@ ends-early bytes n s w end wanted none =
       rest = left_of bytes s.part;
       valid = w.valid;
       spelled = same_front bytes n s.part.end end ∙ w.spelled;
-      behind = w.place;
+      offset_is = w.place;
       wanted = elim (cases_lt s.part.place n) [
         | inl below ↦ inr below
         | inr past ↦
@@ -123,7 +123,7 @@ moved_walk bytes old mid part parent seen w shows = record {
 }
 
 -- An entry has bytes.
-entry_some : (parent : Option Id20) (e : EpochEntry) → 0 < length (bytes_behind parent e)
+entry_some : (parent : Option Id20) (e : EpochEntry) → 0 < length (bytes_after parent e)
 entry_some parent e = omega (arith, length-entry parent e)
 
 -- A turn takes an entry, or finds none.
@@ -147,7 +147,7 @@ turns-either (Some k) old mid new true false yes_came part parent seen brings ta
 pub moves-either : (old mid new : State) (found : Bool) → mid.part ≡ old.part → IsInside mid.part mid.window → Takes mid new (Ok found) → Moves old new (Ok found)
 moves-either old mid new true part inside takes =
     let r = takes.1 in
-    let size : takes.0.1 ≤ length mid.window = omega (arith, r.size, ap length r.is, length-append (bytes_behind mid.parent r.entry) r.rest) in
+    let size : takes.0.1 ≤ length mid.window = omega (arith, r.size, ap length r.is, length-append (bytes_after mid.parent r.entry) r.rest) in
     let some : 0 < takes.0.1 = omega (arith, r.size, entry_some mid.parent r.entry) in
     let place : mid.part.place ≡ old.part.place = ap (λ (p : Part). p.place) part in
     let Holds : State → Type 0 = λ t. (old.part.place < t.part.place) × IsInside t.part t.window in

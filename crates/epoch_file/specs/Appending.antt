@@ -8,7 +8,7 @@ use Rattle.epoch_file.specs.declared.entry.NewEntry.{NewEntry}
 use Rattle.epoch_file.specs.declared.entry.Written.{Written}
 use Rattle.epoch_file.specs.declared.refusal.StoreRefusal.{StoreRefusal}
 use Rattle.epoch_file.specs.declared.refusal.StoreRefusal.TheVariants.{DiskFault, NoMemory, Damaged}
-use Rattle.epoch_file.specs.Entries.{EpochEntry, bytes_behind, commit_behind}
+use Rattle.epoch_file.specs.Entries.{EpochEntry, bytes_after, commit_after}
 
 -- The new entry.
 abbrev pub entry_of : NewEntry → EpochEntry
@@ -20,7 +20,7 @@ front_at place = if place == 0 then magic else []
 
 -- The bytes that are written for a new entry at an offset.
 abbrev pub appended : ℕ → NewEntry → List ℕ
-appended place new = front_at place ++ bytes_behind new.parent (entry_of new)
+appended place new = front_at place ++ bytes_after new.parent (entry_of new)
 
 -- The result of an append: the offset after the last byte, and the ids of the entry's blob and
 -- commit.
@@ -28,7 +28,7 @@ abbrev pub written_of : ℕ → NewEntry → Written
 written_of place new = record {
   end = place + length (appended place new);
   blob = blob_id_of new.text.now;
-  commit = commit_behind new.parent (entry_of new);
+  commit = commit_after new.parent (entry_of new);
 }
 
 -- What an append leaves of the disk: the bytes are written, or the write failed, or nothing was

@@ -10,7 +10,7 @@ use Rattle.mail_commits.specs.Entries.{magic}
 use Rattle.epoch_file.specs.declared.entry.Seen.{Seen}
 use Rattle.epoch_file.specs.declared.window.Part.{Part}
 use Rattle.epoch_file.specs.declared.state.State.{State}
-use Rattle.epoch_file.specs.Entries.{EpochEntry, IsEpochEntry, AreEpochEntries, bytes_behind, chain, last_of, epoch_of}
+use Rattle.epoch_file.specs.Entries.{EpochEntry, IsEpochEntry, AreEpochEntries, bytes_after, chain, last_of, epoch_of}
 use Rattle.epoch_file.specs.Reading.{IsRead}
 use Rattle.epoch_file.specs.Walking.{seen_from, LacksEntry, LacksMagic, Walks}
 use Rattle.epoch_file.specs.Windows.{Shows, IsInside}
@@ -26,8 +26,8 @@ Brings part old new (Ok true) k =
     Shows (bytes_of (k part.file).seen) part old
     → Shows (bytes_of (k part.file).seen) part new
     × ((parent : Option Id20) (e : EpochEntry) (rest : List ℕ) → IsEpochEntry e
-    → left_of (bytes_of (k part.file).seen) part ≡ bytes_behind parent e ++ rest
-    → length (bytes_behind parent e) ≤ length new)
+    → left_of (bytes_of (k part.file).seen) part ≡ bytes_after parent e ++ rest
+    → length (bytes_after parent e) ≤ length new)
 Brings part old new (Ok false) k = Shows (bytes_of (k part.file).seen) part old
     → (parent : Option Id20) → LacksEntry parent (left_of (bytes_of (k part.file).seen) part)
 Brings part old new (Err e) k = Unit {0}

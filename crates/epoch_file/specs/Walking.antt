@@ -9,7 +9,7 @@ use Rattle.mail_reader.specs.Ids.{own_id}
 use Rattle.mail_reader.specs.Content.{content_id_of}
 use Rattle.mail_commits.specs.Entries.{magic}
 use Rattle.epoch_file.specs.declared.entry.Seen.{Seen}
-use Rattle.epoch_file.specs.Entries.{EpochEntry, IsEpochEntry, AreEpochEntries, bytes_behind, commit_behind, chain, last_of, epoch_of}
+use Rattle.epoch_file.specs.Entries.{EpochEntry, IsEpochEntry, AreEpochEntries, bytes_after, commit_after, chain, last_of, epoch_of}
 
 -- The number of bytes before a text in its blob: `blob`, a space, the size in digits and NUL.
 abbrev pub blob_front : List ℕ → ℕ
@@ -23,7 +23,7 @@ seen_at place parent e = record {
   text_at = place + blob_front e.text;
   size = length e.text;
   blob = blob_id_of e.text;
-  commit = commit_behind parent e;
+  commit = commit_after parent e;
   moment = e.moment;
   id = unwrap_or (own_id e.text) [];
   content = content_id_of e.text;
@@ -34,7 +34,7 @@ abbrev pub seen_from : ℕ → Option Id20 → List EpochEntry → List Seen
 seen_from place parent [] = []
 seen_from place parent (e ∷ es) =
     seen_at place parent e
-    ∷ seen_from (place + length (bytes_behind parent e)) (Some (commit_behind parent e)) es
+    ∷ seen_from (place + length (bytes_after parent e)) (Some (commit_after parent e)) es
 
 -- The first n bytes of a file are there, and are an epoch of at least one entry, with these
 -- records.
@@ -49,7 +49,7 @@ pub record IsEpoch (n : ℕ) (bytes : List ℕ) (seen : List Seen) : Type 0 wher
 -- The bytes start with no entry after this parent.
 abbrev pub LacksEntry : Option Id20 → List ℕ → Type 0
 LacksEntry parent bytes = (e : EpochEntry) (rest : List ℕ) → IsEpochEntry e
-    → bytes ≢ bytes_behind parent e ++ rest
+    → bytes ≢ bytes_after parent e ++ rest
 
 -- The first n bytes of a file start with the magic and these entries, and there is no entry at the
 -- offset after them, although there is none yet or the bytes go on.
@@ -58,7 +58,7 @@ pub record EndsEarly (n : ℕ) (bytes : List ℕ) (place : ℕ) : Type 0 where
   pub rest : List ℕ
   pub valid : AreEpochEntries entries
   pub spelled : take n bytes ≡ epoch_of entries ++ rest
-  pub behind : place ≡ 8 + length (chain None entries)
+  pub offset_is : place ≡ 8 + length (chain None entries)
   pub wanted : (entries ≡ []) ⊎ (place < n)
   pub lacks : LacksEntry (last_of None entries) rest
 

@@ -8,7 +8,7 @@ ghost use Rattle.git_objects.specs.Commits.{IsCommit, commit_content};
 ghost use Rattle.git_objects.specs.Objects.{CommitOf, HasSize, blob_spelling, spelling, tree_spelling};
 ghost use Rattle.mail_commits.specs.Entries.{commit_id, entry_bytes};
 ghost use Rattle.mail_reader.specs.Ids.{own_id as own_id_of};
-ghost use Rattle.epoch_file.specs.Entries.{EpochEntry, IsEpochEntry, bytes_behind};
+ghost use Rattle.epoch_file.specs.Entries.{EpochEntry, IsEpochEntry, bytes_after};
 ghost use Rattle.arch_base.specs.Moments.{last_moment};
 ghost use Rattle.epoch_file.specs.Reading.{IsParted, HasParts, PartsAgain, Respells, Reads, ReadsWhere, seen_by};
 

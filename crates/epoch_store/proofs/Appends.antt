@@ -100,7 +100,7 @@ pub record Grows (root : Root) (epochs : ℕ → List ℕ) (epoch : ℕ) (first 
   pub small : epoch < 64
   pub gen_ : ℕ
   pub name : first.file ≡ epoch_name epoch gen_
-  pub behind : first.place ≡ length (epochs epoch)
+  pub offset_is : first.place ≡ length (epochs epoch)
   pub from : (first.file ≡ epoch_file_of root epoch) ⊎ ((epochs epoch ≡ []) × ((e : ℕ) → e < 64 → epoch_file_of root e ≢ first.file))
 
 -- The end of a map.
@@ -139,7 +139,7 @@ module _ (root : Root) (slot : ℕ) (map : List ℕ) (epochs : ℕ → List ℕ)
         let number : e ≡ epoch = first_number e (get_or root.epochs e no_place).gen_ is in
         let o = a.first_front in
         let old : Fronts (epochs e) o.file = each_file k (epoch_file_of root e) (Fronts (epochs e)) fit (λ i left. (on.images i left).epochs_front e below) o.file (subst (λ (n : FileName). Fits (k n).sure o.file) (sym is) o.fits) in
-        let place : first.place ≡ length (epochs e) = grows.behind ∙ ap (λ (n : ℕ). length (epochs n)) (sym number) in
+        let place : first.place ≡ length (epochs e) = grows.offset_is ∙ ap (λ (n : ℕ). length (epochs n)) (sym number) in
         subst (λ (n : FileName). Fronts (epochs e) (image n)) (sym is) (fronts_stay (epochs e) first.place o.file (image first.file) place old o.same o.long)
 
   -- The epoch's file reads as its bytes before.
@@ -162,7 +162,7 @@ module _ (root : Root) (slot : ℕ) (map : List ℕ) (epochs : ℕ → List ℕ)
     -- The epoch's file then.
     epoch_reads : (k2 first.file).seen ≡ Some (epochs epoch ++ bytes)
     epoch_reads =
-        did.first_file ∙ ap (λ (b : List ℕ). Some b) (ap (overlay first.place bytes) (first_reads k0 on) ∙ (ap (λ (n : ℕ). overlay n bytes (epochs epoch)) grows.behind ∙ exact_grow (epochs epoch) bytes))
+        did.first_file ∙ ap (λ (b : List ℕ). Some b) (ap (overlay first.place bytes) (first_reads k0 on) ∙ (ap (λ (n : ℕ). overlay n bytes (epochs epoch)) grows.offset_is ∙ exact_grow (epochs epoch) bytes))
 
     -- Files that read so stand for what they stood for before.
     pub reads_old : (image : Files) → ((other : FileName) → other ≢ root_name → image other ≡ (k2 other).seen) → IfThere (HasRoot (spelling root)) (image root_name) → StandsFor root map epochs image

@@ -119,7 +119,7 @@ missing root joined refusal file at is place ends =
 pub begun : (root : Root) (files : Files) (rs : List Record) (v : Joined) → HasRecords root files rs → v.records ≡ messages rs → v.entries ≡ [] → IsReadUpTo root files rs 0 v
 begun root files rs v has records entries = record {
   entries = [];
-  behind = messages rs;
+  after = messages rs;
   holds = record { numbered = has.begins.valid; records = records; entries_are = entries; first = record { valid = tt; order = tt; ids = tt; blobs = tt; records = refl } };
   whole = record { below = tt; lengths = λ e less. absurd (omega (arith, less)); fronts = λ e less. absurd (omega (arith, less)) };
 }

@@ -15,13 +15,13 @@ use Rattle.git_objects.specs.Objects.{blob_id_of}
 use Rattle.arch_model.specs.Archives.{Entry, Archive, in_epoch}
 use Rattle.arch_model.specs.Epochs.{epoch_bytes, entries_bytes, last_commit}
 use Rattle.mail_commits.specs.Entries.{entry_bytes, tree_of, commit_text, magic, message_kind, commit_id}
-use Rattle.epoch_file.specs.Entries.{bytes_behind}
+use Rattle.epoch_file.specs.Entries.{bytes_after}
 use Rattle.epoch_file.specs.Walking.{blob_front}
 use Rattle.epoch_store.specs.declared.entries.StoredEntry.{StoredEntry}
 use Rattle.epoch_store.specs.Files.{Fronts, epoch_file_of}
 use Rattle.arch_model.specs.Validity.{IsEntry}
 use Rattle.epoch_store.specs.Recovery.{bytes_in}
-use Rattle.epoch_store.specs.Stores.{View, IsDiskOf, in_file, stored_at, stored_behind}
+use Rattle.epoch_store.specs.Stores.{View, IsDiskOf, in_file, stored_at, stored_after}
 use Rattle.arch_model.specs.declared.text_refusal.TextRefusal.{TextRefusal}
 use Rattle.arch_model.specs.declared.text_refusal.TextRefusal.TheVariants.{DiskFault, Damaged, NoMemory}
 use Rattle.root_slots.specs.declared.root.Root.{Root}
@@ -43,7 +43,7 @@ record IsKeptOf (before es : List Entry) (i : ℕ) (s : StoredEntry) : Type 0 wh
   pub here : slice_get es i ≡ Some entry
   pub kept : s ≡ stored_at (before ++ front) entry
 
-kept_found : (before es : List Entry) (i : ℕ) (s : StoredEntry) → slice_get (stored_behind before es) i ≡ Some s → IsKeptOf before es i s
+kept_found : (before es : List Entry) (i : ℕ) (s : StoredEntry) → slice_get (stored_after before es) i ≡ Some s → IsKeptOf before es i s
 kept_found before [] i s is = let wrong = slice_get_within {A = StoredEntry} [] i s is in absurd (omega (arith, wrong))
 kept_found before (e ∷ es) zero s is = record {
   front = [];
@@ -72,45 +72,45 @@ one_of_all P (x ∷ xs) e ys all = one_of_all P xs e ys all.1
 -- Bytes have a text at an offset.
 record Divided (bytes : List ℕ) (place : ℕ) (text : List ℕ) : Type 0 where
   pub before : List ℕ
-  pub behind : List ℕ
-  pub is : bytes ≡ before ++ (text ++ behind)
+  pub after : List ℕ
+  pub is : bytes ≡ before ++ (text ++ after)
   pub len : length before ≡ place
 
-divided_behind : (front bytes : List ℕ) (place : ℕ) (text : List ℕ) → Divided bytes place text → Divided (front ++ bytes) (length front + place) text
-divided_behind front bytes place text d = record {
+divided_after : (front bytes : List ℕ) (place : ℕ) (text : List ℕ) → Divided bytes place text → Divided (front ++ bytes) (length front + place) text
+divided_after front bytes place text d = record {
   before = front ++ d.before;
-  behind = d.behind;
-  is = ap (λ (b : List ℕ). front ++ b) d.is ∙ sym (append_assoc front d.before (text ++ d.behind));
+  after = d.after;
+  is = ap (λ (b : List ℕ). front ++ b) d.is ∙ sym (append_assoc front d.before (text ++ d.after));
   len = length-append front d.before ∙ ap (λ (n : ℕ). length front + n) d.len;
 }
 
 divided_before : (bytes more : List ℕ) (place : ℕ) (text : List ℕ) → Divided bytes place text → Divided (bytes ++ more) place text
 divided_before bytes more place text d = record {
   before = d.before;
-  behind = d.behind ++ more;
-  is = ap (λ (b : List ℕ). b ++ more) d.is ∙ (append_assoc d.before (text ++ d.behind) more ∙ ap (λ (b : List ℕ). d.before ++ b) (append_assoc text d.behind more));
+  after = d.after ++ more;
+  is = ap (λ (b : List ℕ). b ++ more) d.is ∙ (append_assoc d.before (text ++ d.after) more ∙ ap (λ (b : List ℕ). d.before ++ b) (append_assoc text d.after more));
   len = d.len;
 }
 
 -- The bytes from there on, as many as the text has, are the text.
 divided_reads : (bytes : List ℕ) (place : ℕ) (text : List ℕ) → Divided bytes place text → (place + length text ≤ length bytes) × (take (length text) (drop place bytes) ≡ text)
 divided_reads bytes place text d =
-    let size : length bytes ≡ length (d.before ++ (text ++ d.behind)) = ap length d.is in
-    let parts = length-append d.before (text ++ d.behind) in
-    let rest = length-append text d.behind in
+    let size : length bytes ≡ length (d.before ++ (text ++ d.after)) = ap length d.is in
+    let parts = length-append d.before (text ++ d.after) in
+    let rest = length-append text d.after in
     let len = d.len in
-    let dropped : drop place bytes ≡ text ++ d.behind =
-    ap (λ (n : ℕ). drop n bytes) (sym len) ∙ (ap (drop (length d.before)) d.is ∙ drop-append_seam d.before (text ++ d.behind)) in
-    (omega (arith, size, parts, rest, len), ap (take (length text)) dropped ∙ take-append_seam text d.behind)
+    let dropped : drop place bytes ≡ text ++ d.after =
+    ap (λ (n : ℕ). drop n bytes) (sym len) ∙ (ap (drop (length d.before)) d.is ∙ drop-append_seam d.before (text ++ d.after)) in
+    (omega (arith, size, parts, rest, len), ap (take (length text)) dropped ∙ take-append_seam text d.after)
 
 -- The bytes of entries with one among them.
 entries_split : (parent : Option Id20) (xs : List Entry) (e : Entry) (ys : List Entry)
-    → entries_bytes parent (xs ++ e ∷ ys) ≡ entries_bytes parent xs ++ (bytes_behind (last_commit parent xs) (in_file e) ++ entries_bytes (Some (commit_id message_kind e.text e.moment (last_commit parent xs))) ys)
+    → entries_bytes parent (xs ++ e ∷ ys) ≡ entries_bytes parent xs ++ (bytes_after (last_commit parent xs) (in_file e) ++ entries_bytes (Some (commit_id message_kind e.text e.moment (last_commit parent xs))) ys)
 entries_split parent [] e ys = refl
 entries_split parent (x ∷ xs) e ys =
     let next : Option Id20 = Some (commit_id message_kind x.text x.moment parent) in
     ap (λ (b : List ℕ). entry_bytes message_kind x.text x.moment parent ++ b) (entries_split next xs e ys)
-    ∙ sym (append_assoc (entry_bytes message_kind x.text x.moment parent) (entries_bytes next xs) (bytes_behind (last_commit next xs) (in_file e) ++ entries_bytes (Some (commit_id message_kind e.text e.moment (last_commit next xs))) ys))
+    ∙ sym (append_assoc (entry_bytes message_kind x.text x.moment parent) (entries_bytes next xs) (bytes_after (last_commit next xs) (in_file e) ++ entries_bytes (Some (commit_id message_kind e.text e.moment (last_commit next xs))) ys))
 
 epoch_split : (xs : List Entry) (e : Entry) (ys : List Entry) → epoch_bytes (xs ++ e ∷ ys) ≡ magic ++ entries_bytes None (xs ++ e ∷ ys)
 epoch_split [] e ys = refl
@@ -125,7 +125,7 @@ in_epoch_split xs e ys =
 sized_text : (digits text more : List ℕ) → Divided ((codes "blob " ++ (digits ++ 0 ∷ text)) ++ more) (6 + length digits) text
 sized_text digits text more = record {
   before = codes "blob " ++ (digits ++ 0 ∷ []);
-  behind = more;
+  after = more;
   is = ap (λ (b : List ℕ). codes "blob " ++ b) (append_assoc digits (0 ∷ text) more ∙ sym (append_assoc digits (0 ∷ []) (text ++ more)));
   len = let size = length-append digits (0 ∷ []) in omega (arith, size);
 }
@@ -139,10 +139,10 @@ epoch_text : (xs : List Entry) (e : Entry) (ys : List Entry) → Divided (epoch_
 epoch_text xs e ys =
     let parent = last_commit None xs in
     let rest = entries_bytes (Some (commit_id message_kind e.text e.moment parent)) ys in
-    let all = entries_bytes None xs ++ (bytes_behind parent (in_file e) ++ rest) in
-    let here = divided_before (bytes_behind parent (in_file e)) rest (blob_front e.text) e.text (entry_text message_kind e.text e.moment parent) in
-    let behind = divided_behind (entries_bytes None xs) (bytes_behind parent (in_file e) ++ rest) (blob_front e.text) e.text here in
-    let whole : Divided (magic ++ all) (length magic + (length (entries_bytes None xs) + blob_front e.text)) e.text = divided_behind magic all (length (entries_bytes None xs) + blob_front e.text) e.text behind in
+    let all = entries_bytes None xs ++ (bytes_after parent (in_file e) ++ rest) in
+    let here = divided_before (bytes_after parent (in_file e)) rest (blob_front e.text) e.text (entry_text message_kind e.text e.moment parent) in
+    let after = divided_after (entries_bytes None xs) (bytes_after parent (in_file e) ++ rest) (blob_front e.text) e.text here in
+    let whole : Divided (magic ++ all) (length magic + (length (entries_bytes None xs) + blob_front e.text)) e.text = divided_after magic all (length (entries_bytes None xs) + blob_front e.text) e.text after in
     let place : length magic + (length (entries_bytes None xs) + blob_front e.text) ≡ 8 + length (entries_bytes None xs) + blob_front e.text = omega arith in
     subst (λ (n : ℕ). Divided (epoch_bytes (xs ++ e ∷ ys)) n e.text) place
     (subst (λ (b : List ℕ). Divided b (length magic + (length (entries_bytes None xs) + blob_front e.text)) e.text) (sym (epoch_split xs e ys ∙ ap (λ (b : List ℕ). magic ++ b) (entries_split None xs e ys))) whole)

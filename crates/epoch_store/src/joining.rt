@@ -127,7 +127,7 @@ impl Joining {
         requires small { epoch ≤ greatest_epoch }
         requires before { AreBefore epoch self.entries }
         ensures taken { TakesEpoch self epoch seen result }
-        ensures behind { IfOk result (λ joining. AreBefore (epoch + 1) joining.entries) }
+        ensures below { IfOk result (λ joining. AreBefore (epoch + 1) joining.entries) }
     {
         let mut joining = self;
         for entry in seen.into_vec() {

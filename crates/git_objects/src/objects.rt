@@ -75,8 +75,8 @@ pub fn read_object(bytes: &[u8]) -> Option<(Object<'_>, usize)>
     ensures again { (object : GitObject) (rest : List ℕ) → IsObject object
         → bytes.now ≡ spelling object ++ rest → Finds result object }
 {
-    let (kind, behind) = read_kind(bytes)?;
-    let (content, rest) = read_content(behind)?;
+    let (kind, unread) = read_kind(bytes)?;
+    let (content, rest) = read_content(unread)?;
     let len = bytes.len() - rest.len();
     match kind {
         Kind::Blob => Some((Object::Blob(content), len)),

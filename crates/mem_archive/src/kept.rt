@@ -73,7 +73,7 @@ impl End {
         ensures { IfOk result (λ made. made ≡ end_after self text.now moment) }
     {
         let mut bytes = Bytes::new(alloc);
-        let commit = push_behind(alloc, text, moment, self.parent, &mut bytes)?;
+        let commit = push_after(alloc, text, moment, self.parent, &mut bytes)?;
         Ok(End {
             epoch: self.epoch,
             room: self.room.saturating_sub(bytes.as_slice().len() as u64),
@@ -86,7 +86,7 @@ impl End {
 ///
 /// The first bytes of an epoch come before them if the entry has no parent. `NoMemory` may leave a
 /// part appended.
-pub(crate) fn push_behind(
+pub(crate) fn push_after(
     alloc: Global,
     text: &[u8],
     moment: u64,

@@ -13,9 +13,9 @@ use Rattle.number_map.specs.Pieces.{Stands, IsEnough, ReadsOn}
 use Rattle.number_map.proofs.Standing.{stands_of}
 
 -- A piece that was read follows the records before it.
-record PieceStands (wanted : ℕ) (lines : List Record) (piece behind map : List ℕ) : Type 0 where
-  stands : Stands lines (piece ++ behind) map
-  enough : IsEnough wanted piece behind
+record PieceStands (wanted : ℕ) (lines : List Record) (piece rest map : List ℕ) : Type 0 where
+  stands : Stands lines (piece ++ rest) map
+  enough : IsEnough wanted piece rest
 
 piece_stands : (lines : List Record) (map before after : List ℕ) (place n wanted : ℕ) → BeginsWith lines map → length before ≡ 28 * wanted → place ≡ 28 * length lines → n ≡ min (length before) (length map - place)
     → after ≡ take n (drop place map) ++ drop n before → PieceStands wanted lines (take n after) (drop n (drop place map)) map
@@ -33,7 +33,7 @@ piece_stands lines map before after place n wanted begins room at count is =
 -- One more piece.
 pub piece_read : {T : Type 0} (result : Result T WalkRefusal) (content : Option Content) (file : FileName) (place n wanted : ℕ) (before after : List ℕ) (lines new : List Record) → length before ≡ 28 * wanted → place ≡ 28 * length lines
     → WhereTold (HasRead file place n before after) content
-    → ((map behind : List ℕ) → Stands lines (take n after ++ behind) map → IsEnough wanted (take n after) behind → ReadsOn result (length lines + wanted) map new)
+    → ((map rest : List ℕ) → Stands lines (take n after ++ rest) map → IsEnough wanted (take n after) rest → ReadsOn result (length lines + wanted) map new)
     → WhereTold (λ k. BeginsWith lines (bytes_of (k file).seen) → ReadsOn result (length lines + wanted) (bytes_of (k file).seen) new) content
 piece_read result None file place n wanted before after lines new room at has read = tt
 piece_read result (Some k) file place n wanted before after lines new room at has read = λ begins.

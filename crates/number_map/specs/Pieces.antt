@@ -37,7 +37,7 @@ pub record Stands (lines : List Record) (rest bytes : List ℕ) : Type 0 where
 
 -- The piece has room for this many records, or nothing follows it.
 abbrev pub IsEnough : ℕ → List ℕ → List ℕ → Type 0
-IsEnough wanted bytes behind = (record_size * wanted ≤ length bytes) ⊎ (behind ≡ [])
+IsEnough wanted bytes after = (record_size * wanted ≤ length bytes) ⊎ (after ≡ [])
 
 -- The results of reading the records up to a number.
 abbrev pub ReadsOn : {T : Type 0} → Result T WalkRefusal → ℕ → List ℕ → List Record → Type 0

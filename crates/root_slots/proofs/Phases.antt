@@ -126,8 +126,8 @@ shut_written slot old a b in_range ready same shut = record {
   other_place s below = elim (cases_lt s 1) [ inl low ↦ inr (omega arith) | inr high ↦ inl (omega arith) ]
 
 -- An open gate of a slot with a body that a commit allows.
-opened_again : (slot : ℕ) (old a b : List ℕ) → slot < 2 → Ready slot old a → SameOutside slot 1 a b → gate b slot ≡ 1 → HasRoot old b
-opened_again slot old a b in_range ready same open_ =
+reopened : (slot : ℕ) (old a b : List ℕ) → slot < 2 → Ready slot old a → SameOutside slot 1 a b → gate b slot ≡ 1 → HasRoot old b
+reopened slot old a b in_range ready same open_ =
     elim ready.other [
       | inl was ↦ as_before (ready.current.newest (subst (λ (n : ℕ). gate a n ≡ 1) (sym (back slot in_range)) was))
       | inr rest ↦ elim rest [ inl twin ↦ of_twin twin | inr lesser ↦ keep (inl (subst (λ (body : List ℕ). sequence_of body < sequence_of old) (sym stays) lesser)) ]
@@ -177,7 +177,7 @@ opened_again slot old a b in_range ready same open_ =
 -- Any byte in the gate of the slot.
 pub shut_torn : (slot : ℕ) (old new a b : List ℕ) → slot < 2 → Ready slot old a → SameOutside slot 1 a b → Either old new b
 shut_torn slot old new a b in_range ready same =
-    elim (nat_eq_or_not (gate b slot) 1) [ inl open_ ↦ inl (opened_again slot old a b in_range ready same open_) | inr shut ↦ inl (shut_current slot old b (shut_written slot old a b in_range ready same shut)) ]
+    elim (nat_eq_or_not (gate b slot) 1) [ inl open_ ↦ inl (reopened slot old a b in_range ready same open_) | inr shut ↦ inl (shut_current slot old b (shut_written slot old a b in_range ready same shut)) ]
 
 -- Any bytes in the body of the slot.
 pub fill_torn : (slot : ℕ) (old a b : List ℕ) → Shut slot old a → SameOutside (body_place slot) 1536 a b → Shut slot old b

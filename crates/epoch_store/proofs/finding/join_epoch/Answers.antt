@@ -16,8 +16,8 @@ returns-then-length-eq0-clause-joined g c =
     let none : named_length c.args.root.now c.args.epoch ≡ 0 = ap (λ (p : Place). p.length) (sym c.named_place-length.ensures) ∙ c.if-length-eq0.true in
     told_any (ReadsEpoch c.args.root.now c.args.epoch c.args.joining (Ok c.args.joining)) (g.D.Disk.content c.args.disk.now) (empty_read c.args.root.now c.args.epoch c.args.joining none)
 
-pub returns-then-length-eq0-clause-behind : goal.returns-then-length-eq0-clause-behind
-returns-then-length-eq0-clause-behind g c = all_weaker (λ (e : StoredEntry). e.epoch < c.args.epoch) (λ (e : StoredEntry). e.epoch < c.args.epoch + 1) c.args.joining.entries (λ e less. omega (arith, less)) c.requires.before
+pub returns-then-length-eq0-clause-below : goal.returns-then-length-eq0-clause-below
+returns-then-length-eq0-clause-below g c = all_weaker (λ (e : StoredEntry). e.epoch < c.args.epoch) (λ (e : StoredEntry). e.epoch < c.args.epoch + 1) c.args.joining.entries (λ e less. omega (arith, less)) c.requires.before
 
 pub returns-in-Ok-clause-joined : goal.returns-in-Ok-clause-joined
 returns-in-Ok-clause-joined g c =
