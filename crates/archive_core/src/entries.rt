@@ -14,8 +14,8 @@ pub(crate) fn index_of(alloc: Global, entries: &[StoredEntry]) -> Result<Index, 
 {
     let mut index = Index::new(alloc);
     // From the last to the first, so that the first entry of an id is the one that is found.
-    for place in (0..entries.len()).rev() {
-        put_entry(&mut index, &entries[place])?;
+    for i in (0..entries.len()).rev() {
+        put_entry(&mut index, &entries[i])?;
     }
     Ok(index)
 }

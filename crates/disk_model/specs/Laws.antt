@@ -381,12 +381,12 @@ IsLength-unchanged name n (Some k) (Some m) is same =
     subst P (sym (same name)) is
 
 -- So does each offset up to it.
-pub IsAtMostLength-unchanged : (name : FileName) (n place : ℕ) (old new : Option Content)
-    → WhereTold (IsLength name n) old → Told Unchanged old new → place ≤ n
-    → WhereTold (IsAtMostLength name place) new
-IsAtMostLength-unchanged name n place None None is same below = tt
-IsAtMostLength-unchanged name n place None (Some m) is same below = absurd same
-IsAtMostLength-unchanged name n place (Some k) None is same below = absurd same
-IsAtMostLength-unchanged name n place (Some k) (Some m) is same below =
+pub IsAtMostLength-unchanged : (name : FileName) (n offset : ℕ) (old new : Option Content)
+    → WhereTold (IsLength name n) old → Told Unchanged old new → offset ≤ n
+    → WhereTold (IsAtMostLength name offset) new
+IsAtMostLength-unchanged name n offset None None is same below = tt
+IsAtMostLength-unchanged name n offset None (Some m) is same below = absurd same
+IsAtMostLength-unchanged name n offset (Some k) None is same below = absurd same
+IsAtMostLength-unchanged name n offset (Some k) (Some m) is same below =
     let length_is = IsLength-unchanged name n (Some k) (Some m) is same in
     omega (arith, length_is, below)

@@ -110,20 +110,20 @@ impl MemDisk {
     }
 
     /// Writes bytes to a file, and records the change.
-    fn write(&mut self, name: FileName, place: u64, bytes: &[u8]) -> Result<(), AllocError>
+    fn write(&mut self, name: FileName, offset: u64, bytes: &[u8]) -> Result<(), AllocError>
         ensures base { self.new.base ≡ self.old.base }
         ensures plan { self.new.plan ≡ self.old.plan }
         ensures reads { self.new.reads ≡ self.old.reads }
         ensures ok { OnOk result ((v : _) × (v.items ≡ bytes.now) × (self.new.changes.items
-            ≡ self.old.changes.items ++ Change.Write name place v ∷ [])) }
+            ≡ self.old.changes.items ++ Change.Write name offset v ∷ [])) }
         ensures err { OnErr result (self.new.changes.items ≡ self.old.changes.items) }
     {
         let piece = bytes.to_vec(self.alloc)?;
         self.changes.reserve(1)?;
-        put(self.alloc, &mut self.files, name, place, bytes)?;
+        put(self.alloc, &mut self.files, name, offset, bytes)?;
         self.changes.push(Change::Write {
             name,
-            place,
+            offset,
             bytes: piece,
         })?;
         Ok(())

@@ -87,10 +87,10 @@ fn first_event(bytes: &[u8]) -> Option<First<'_>>
 fn divide(byte: u8, text: &[u8]) -> Option<Parts<'_>>
     ensures { Divides byte text.now result }
 {
-    let place = memchr(byte, text)?;
+    let offset = memchr(byte, text)?;
     Some(Parts {
-        before: &text[..place],
-        after: &text[place + 1..],
+        before: &text[..offset],
+        after: &text[offset + 1..],
     })
 }
 

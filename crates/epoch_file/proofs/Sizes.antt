@@ -13,7 +13,7 @@ use Rattle.mail_commits.specs.Commits.{commit_of}
 use Rattle.mail_commits.specs.Entries.{tree_of, commit_text, entry_bytes}
 use Rattle.epoch_file.specs.Entries.{EpochEntry, bytes_after}
 use Rattle.epoch_file.specs.Walking.{blob_front}
-use Rattle.epoch_file.specs.Sights.{commit_place}
+use Rattle.epoch_file.specs.Sights.{commit_offset}
 
 -- The content of an entry's commit.
 abbrev pub content_after : Option Id20 → EpochEntry → List ℕ
@@ -60,7 +60,7 @@ length-tree kind text = length-tree_spelling kind (blob_id_of text) (IsId-id_of 
 
 -- The length of an entry.
 pub length-entry : (parent : Option Id20) (e : EpochEntry)
-    → length (bytes_after parent e) ≡ commit_place e.text + length (codes "commit " ++ decimal (length (content_after parent e))) + 1 + length (content_after parent e)
+    → length (bytes_after parent e) ≡ commit_offset e.text + length (codes "commit " ++ decimal (length (content_after parent e))) + 1 + length (content_after parent e)
 unfolding entry_bytes commit_text
 length-entry parent e =
     let content = content_after parent e in

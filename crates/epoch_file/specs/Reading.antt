@@ -51,37 +51,37 @@ Respells bytes kind text moment parent (Ok (Some ids)) =
 Respells bytes kind text moment parent (Err e) = Unit {0}
 
 -- An entry that bytes start with: what is recorded of it at its offset, and its length.
-pub record IsRead (place : ℕ) (parent : Option Id20) (bytes : List ℕ) (found : Seen × ℕ)
+pub record IsRead (offset : ℕ) (parent : Option Id20) (bytes : List ℕ) (found : Seen × ℕ)
     : Type 0 where
   pub entry : EpochEntry
   pub valid : IsEpochEntry entry
   pub rest : List ℕ
   pub is : bytes ≡ bytes_after parent entry ++ rest
-  pub seen : found.0 ≡ seen_at place parent entry
+  pub seen : found.0 ≡ seen_at offset parent entry
   pub size : found.1 ≡ length (bytes_after parent entry)
 
 -- The results of reading: the entry that bytes start with, or none if they start with none after a
 -- parent whose id has 20 bytes.
 abbrev pub Reads : ℕ → Option Id20 → List ℕ → Result (Option (Seen × ℕ)) NoMemory → Type 0
-Reads place parent bytes (Ok None) = IsParent parent → LacksEntry parent bytes
-Reads place parent bytes (Ok (Some found)) = IsRead place parent bytes found
-Reads place parent bytes (Err e) = Unit {0}
+Reads offset parent bytes (Ok None) = IsParent parent → LacksEntry parent bytes
+Reads offset parent bytes (Ok (Some found)) = IsRead offset parent bytes found
+Reads offset parent bytes (Err e) = Unit {0}
 
 -- The same for entries with a property.
 abbrev pub ReadsWhere : (EpochEntry → Type 0) → ℕ → Option Id20 → List ℕ
     → Result (Option (Seen × ℕ)) NoMemory → Type 0
-ReadsWhere P place parent bytes (Ok None) =
+ReadsWhere P offset parent bytes (Ok None) =
     IsParent parent → (e : EpochEntry) (rest : List ℕ) → IsEpochEntry e
     → bytes ≡ bytes_after parent e ++ rest → P e → ⊥
-ReadsWhere P place parent bytes (Ok (Some found)) = IsRead place parent bytes found
-ReadsWhere P place parent bytes (Err e) = Unit {0}
+ReadsWhere P offset parent bytes (Ok (Some found)) = IsRead offset parent bytes found
+ReadsWhere P offset parent bytes (Err e) = Unit {0}
 
 -- What is recorded of parts at an offset, with a moment and ids.
 abbrev pub seen_by : ℕ → Parts → ℕ → EntryIds → Seen
-seen_by place parts moment ids = record {
+seen_by offset parts moment ids = record {
   kind = parts.kind;
-  at = place;
-  text_at = place + parts.front;
+  at = offset;
+  text_at = offset + parts.front;
   size = length parts.text.now;
   blob = ids.blob;
   commit = ids.commit;

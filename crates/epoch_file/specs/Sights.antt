@@ -28,12 +28,12 @@ abbrev pub Sees : List ℕ → ℕ → Sight → Type 0
 Sees = SeesWhere (λ parent e. Unit {0})
 
 -- The offset of the commit in an entry of a text: after the blob and a tree of 37 bytes.
-abbrev pub commit_place : List ℕ → ℕ
-commit_place text = blob_front text + length text + 37
+abbrev pub commit_offset : List ℕ → ℕ
+commit_offset text = blob_front text + length text + 37
 
 -- What a result says of an entry whose commit has this offset.
 abbrev pub SeesCommit : ℕ → List ℕ → ℕ → Sight → Type 0
-SeesCommit at = SeesWhere (λ parent e. at ≡ commit_place e.text)
+SeesCommit at = SeesWhere (λ parent e. at ≡ commit_offset e.text)
 
 -- What a result says of an entry of this length.
 abbrev pub SeesAll : ℕ → List ℕ → ℕ → Sight → Type 0

@@ -33,7 +33,7 @@ pub fn append_entry<D: Disk>(
 ) -> Result<Written, StoreRefusal>
     requires moment { entry.now.moment ≤ last_moment }
     requires inside { WhereTold (IsAtMostLength file at) (D.content disk.old) }
-    requires place { at < 2 ^ 62 }
+    requires offset { at < 2 ^ 62 }
     ensures written { IfOk result (λ written. written ≡ written_of at entry.now) }
     ensures left { AppendLeaves file at (appended at entry.now) D.content disk.old disk.new result }
     ensures time { Elapses (D.moment disk.old) (D.moment disk.new) (D.left_since disk.old)

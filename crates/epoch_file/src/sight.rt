@@ -2,7 +2,7 @@
 ghost use Rattle.std.specs.Prelude.{◌≡◌, ◌+◌, ◌<◌, ◌≤◌, ◌^◌, ◌++◌, ◌∷◌, ℕ, List, Some, length, codes, IsTrue, IfSome, MatchOption, ◌≢◌};
 ghost use Rattle.std.specs.Fmt.{decimal};
 ghost use Rattle.mail_reader.specs.StorageTexts.{max_text_len};
-ghost use Rattle.epoch_file.specs.Sights.{Sees, SeesCommit, SeesAll, IsRoomFor, commit_place, EndsCommit};
+ghost use Rattle.epoch_file.specs.Sights.{Sees, SeesCommit, SeesAll, IsRoomFor, commit_offset, EndsCommit};
 
 use arch_base::read_decimal;
 use memchr::memchr;
@@ -51,7 +51,7 @@ fn is_short(held: &[u8], left: u64, count: usize) -> bool
 fn commit_at(held: &[u8]) -> Option<usize>
     ensures bound { IfSome result (λ at. at < 2 ^ 62) }
     ensures again { (text rest : List ℕ) → length text ≤ max_text_len → held.now ≡ codes "blob "
-        ++ (decimal (length text) ++ 0 ∷ rest) → result ≡ Some (commit_place text) }
+        ++ (decimal (length text) ++ 0 ∷ rest) → result ≡ Some (commit_offset text) }
 {
     let (front, size) = head(b"blob ", held)?;
     if size > MAX_TEXT_LEN {

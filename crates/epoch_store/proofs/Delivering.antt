@@ -24,7 +24,7 @@ use Rattle.root_slots.specs.declared.root.Place.{Place}
 use Rattle.root_slots.specs.declared.root.Root.{Root}
 use Rattle.root_slots.specs.RootName.{root_name}
 use Rattle.root_slots.specs.Each.{IfThere, EachRoot}
-use Rattle.root_slots.specs.Slots.{Ready, IsOldOrNew, IsCommitted, HasNewRoot, with_root, body_place}
+use Rattle.root_slots.specs.Slots.{Ready, IsOldOrNew, IsCommitted, HasNewRoot, with_root, body_offset}
 use Rattle.root_slots.specs.Spelling.{spelling}
 use Rattle.root_slots.specs.Valid.{IsRoot, RootFits, PlaceFits, PlaceIsValid, no_place}
 use Rattle.epoch_store.specs.declared.entries.StoredEntry.{StoredEntry}
@@ -60,7 +60,7 @@ new_line a p text moment = record_bytes (record_for a.next (Some (new_entry a p 
 
 -- The part of the epoch's file.
 abbrev pub epoch_part : NextPlace → Part
-epoch_part p = record { file = epoch_name p.epoch p.gen_; place = p.length }
+epoch_part p = record { file = epoch_name p.epoch p.gen_; offset = p.length }
 
 -- The own id of a text that has one is what is kept of it.
 kept_id : (text : List ℕ) → IsStorageText text → own_id text ≡ Some (unwrap_or (own_id text) [])
@@ -291,15 +291,15 @@ roots_stay v a first second bytes more one two (Some k) (Some m) fit store did =
     subst (IfThere (Ready (1 - v.slot) (spelling v.root))) (sym same) (store.on.roots (k root_name).seen (fit k refl root_name))
 
 -- The parts of the two files, and what is appended.
-pub map_part_is : (v : View) (a : Archive) (root : Root) (file : FileName) → Keeps v a → root ≡ v.root → file ≡ map_name root.map.gen_ → record { file = file; place = root.map.length } ≡ map_part v.root (map_bytes a)
+pub map_part_is : (v : View) (a : Archive) (root : Root) (file : FileName) → Keeps v a → root ≡ v.root → file ≡ map_name root.map.gen_ → record { file = file; offset = root.map.length } ≡ map_part v.root (map_bytes a)
 map_part_is v a root file keeps same is =
     let long : root.map.length ≡ length (map_bytes a) =
     ap (λ (r : Root). r.map.length) same ∙ (keeps.names.is_root.map_length ∙ (ap (λ (n : ℕ). 28 * (n - 1)) keeps.names.next ∙ sym (map_length a keeps.valid))) in
     let named : file ≡ map_file_of v.root = is ∙ ap map_file_of same in
-    λ i. record { file = named i; place = long i }
+    λ i. record { file = named i; offset = long i }
 
-pub epoch_part_is : (p : NextPlace) (file : FileName) → file ≡ epoch_name p.epoch p.gen_ → record { file = file; place = p.length } ≡ epoch_part p
-epoch_part_is p file is = ap (λ (f : FileName). record { file = f; place = p.length }) is
+pub epoch_part_is : (p : NextPlace) (file : FileName) → file ≡ epoch_name p.epoch p.gen_ → record { file = file; offset = p.length } ≡ epoch_part p
+epoch_part_is p file is = ap (λ (f : FileName). record { file = f; offset = p.length }) is
 
 pub piece_is : (v : View) (a : Archive) (p : NextPlace) (e : NewEntry) → IsMessage p e → IsNextPlace v.root a (next_sequence v.root.sequence) p → appended p.length e ≡ new_piece a p e.text.now e.moment
 piece_is v a p e message next =
@@ -317,12 +317,12 @@ reaches at bytes old inside = omega (arith, inside, overlay_length at bytes old)
 -- The root file keeps its size.
 root_size : (slot : ℕ) (body file : List ℕ) → slot < 2 → length body ≡ 1536 → length file ≡ 4096 → length (with_root slot body file) ≡ 4096
 root_size slot body file low whole size =
-    let inner : length (overlay (body_place slot) body file) ≡ 4096 = overlay-size (body_place slot) body file (omega (arith, low, whole, size)) ∙ size in
-    overlay-size slot (1 ∷ []) (overlay (body_place slot) body file) (omega (arith, low, inner)) ∙ inner
+    let inner : length (overlay (body_offset slot) body file) ≡ 4096 = overlay-size (body_offset slot) body file (omega (arith, low, whole, size)) ∙ size in
+    overlay-size slot (1 ∷ []) (overlay (body_offset slot) body file) (omega (arith, low, inner)) ∙ inner
 
 -- The files that the next root names have their sizes.
 pub sizes_after : (v : View) (p : NextPlace) (end_ slot at : ℕ) (entries : List StoredEntry) (piece line body : List ℕ) → p ≡ place_of v.root p.epoch p.parent → p.epoch ≤ 63 → length v.root.epochs ≡ 64 → slot < 2 → length body ≡ 1536 → end_ ≡ p.length + length piece → length line ≡ 28
-    → (k0 k2 k3 : Option Content) → WhereTold (HasSizes v) k0 → WhereTold (IsAtMostLength (epoch_name p.epoch p.gen_) p.length) k0 → Told (AreAppended (epoch_part p) piece (record { file = map_file_of v.root; place = v.root.map.length }) line) k0 k2 → Told IsCommitted k2 k3 → Told (HasNewRoot slot body) k2 k3
+    → (k0 k2 k3 : Option Content) → WhereTold (HasSizes v) k0 → WhereTold (IsAtMostLength (epoch_name p.epoch p.gen_) p.length) k0 → Told (AreAppended (epoch_part p) piece (record { file = map_file_of v.root; offset = v.root.map.length }) line) k0 k2 → Told IsCommitted k2 k3 → Told (HasNewRoot slot body) k2 k3
     → WhereTold (HasSizes (record { root = root_after v.root p end_; slot = at; entries = entries })) k3
 sizes_after v p end_ slot at entries piece line body is small count low whole ends size None None None sizes inside did committed rooted = tt
 sizes_after v p end_ slot at entries piece line body is small count low whole ends size None None (Some n) sizes inside did committed rooted = absurd committed

@@ -234,7 +234,7 @@ comes_more cur new left s after rs others epoch number here small comes is joins
     (all_weaker (λ (e : Entry). e.epoch ≡ epoch) (λ (e : Entry). e.epoch ≤ epoch) comes.more (λ e same. omega (arith, same)) comes.stand) in
     let one = one_more cur new rs comes.after all epoch number begin.x s comes.holds small older parts.0 (begin.first ∙ ap (λ (l : List Entry). seen_next l begin.x) (sym here_is)) joins new_is in
     let more = comes.more ++ one.entry ∷ [] in
-    let place : 8 + length (entries_bytes None comes.more) + length (bytes_after (last_commit None comes.more) begin.x) ≡ 8 + length (entries_bytes None more) =
+    let offset : 8 + length (entries_bytes None comes.more) + length (bytes_after (last_commit None comes.more) begin.x) ≡ 8 + length (entries_bytes None more) =
     ap (λ (x : EpochEntry). 8 + length (entries_bytes None comes.more) + length (bytes_after (last_commit None comes.more) x)) (sym one.file_is)
     ∙ (let size = size_more None comes.more one.entry in omega (arith, size)) in
     let parent : Some (commit_after (last_commit None comes.more) begin.x) ≡ last_commit None more =
@@ -247,7 +247,7 @@ comes_more cur new left s after rs others epoch number here small comes is joins
       stand = all_after (λ (e : Entry). e.epoch ≡ epoch) comes.more one.entry comes.stand one.epoch_is;
       are = comes.are ∙ (ap (λ (l : List EpochEntry). map in_file comes.more ++ l) begin.are ∙ (ap (λ (x : EpochEntry). map in_file comes.more ++ x ∷ begin.others) (sym one.file_is) ∙ sym (map_after in_file comes.more one.entry begin.others)));
       valid = parts.1;
-      seen = begin.seen_after ∙ (λ i. seen_from (place i) (parent i) begin.others);
+      seen = begin.seen_after ∙ (λ i. seen_from (offset i) (parent i) begin.others);
       holds = subst (Holds new rs one.left) (append_assoc others comes.more (one.entry ∷ [])) one.holds;
     }
 
@@ -265,9 +265,9 @@ all_come cur left rs others epoch here comes none = record {
   no_rest (x ∷ xs) is = absurd (cc)
 
 -- The next entry can't join.
-pub stops : (cur : Joined) (left : List Seen) (s : Seen) (after : List Seen) (rs : List Record) (others : List Entry) (epoch place : ℕ) (here : List EpochEntry) → Comes cur left rs others epoch here → left ≡ s ∷ after
-    → place ≡ s.at → ((number : ℕ) → JoinsNext cur epoch s number → ⊥) → StopsAt rs others epoch here place
-stops cur left s after rs others epoch place here comes is at none =
+pub stops : (cur : Joined) (left : List Seen) (s : Seen) (after : List Seen) (rs : List Record) (others : List Entry) (epoch offset : ℕ) (here : List EpochEntry) → Comes cur left rs others epoch here → left ≡ s ∷ after
+    → offset ≡ s.at → ((number : ℕ) → JoinsNext cur epoch s number → ⊥) → StopsAt rs others epoch here offset
+stops cur left s after rs others epoch offset here comes is at none =
     let begin = begins left s after comes.more comes.rest is comes.seen in
     let all = others ++ comes.more in
     let here_is : in_epoch all epoch ≡ comes.more = only_here others comes.more epoch comes.below comes.stand in
@@ -279,7 +279,7 @@ stops cur left s after rs others epoch place here comes is at none =
       stand = comes.stand;
       are = comes.are ∙ ap (λ (l : List EpochEntry). map in_file comes.more ++ l) begin.are;
       first = comes.holds.first;
-      place_is = at ∙ ap (λ (t : Seen). t.at) begin.first;
+      offset_is = at ∙ ap (λ (t : Seen). t.at) begin.first;
       no_next = λ next left_records same file first.
           none next.number (next_joins cur rs comes.after left_records all epoch next s comes.holds same
           (begin.first ∙ (ap (seen_next comes.more) (sym file) ∙ ap (λ (l : List Entry). seen_next l (in_file next)) (sym here_is))) first);
@@ -289,4 +289,4 @@ stops cur left s after rs others epoch place here comes is at none =
 pub joins_or_stops : (cur : Joined) (left : List Seen) (s : Seen) (after : List Seen) (rs : List Record) (others : List Entry) (epoch : ℕ) (here : List EpochEntry) (refusal : JoinRefusal) → Comes cur left rs others epoch here → left ≡ s ∷ after
     → JoinsOne cur epoch s (Err refusal) → JoinsAll rs others epoch here (Err refusal)
 joins_or_stops cur left s after rs others epoch here NoMemory comes is joins = tt
-joins_or_stops cur left s after rs others epoch here (Damaged place) comes is joins = stops cur left s after rs others epoch place here comes is joins.0 joins.1
+joins_or_stops cur left s after rs others epoch here (Damaged offset) comes is joins = stops cur left s after rs others epoch offset here comes is joins.0 joins.1

@@ -122,9 +122,9 @@ entry_some parent e is = absurd (cc)
 
 -- An epoch in which a walk ended early, and whose entries up to there were all joined, is damaged
 -- there.
-pub early_next : (root : Root) (files : Files) (epoch place : ℕ) (others more : List Entry) (rs after : List Record) → AreWhole root files epoch others → AllByRecursion (λ (e : Entry). e.epoch ≡ epoch) more
-    → AreFirst rs after (others ++ more) → (ends : EndsEarly (named_length root epoch) (bytes_of (files (epoch_file_of root epoch))) place) → ends.entries ≡ map in_file more → LacksNext root files rs epoch place
-early_next root files epoch place others more rs after whole stand first ends are =
+pub early_next : (root : Root) (files : Files) (epoch offset : ℕ) (others more : List Entry) (rs after : List Record) → AreWhole root files epoch others → AllByRecursion (λ (e : Entry). e.epoch ≡ epoch) more
+    → AreFirst rs after (others ++ more) → (ends : EndsEarly (named_length root epoch) (bytes_of (files (epoch_file_of root epoch))) offset) → ends.entries ≡ map in_file more → LacksNext root files rs epoch offset
+early_next root files epoch offset others more rs after whole stand first ends are =
     let chains : chain None ends.entries ≡ entries_bytes None more = ap (chain None) are ∙ sym (chain_of None more) in
     let parents : last_of None ends.entries ≡ last_commit None more = ap (last_of None) are ∙ sym (last_is None more) in
     record {
@@ -136,16 +136,16 @@ early_next root files epoch place others more rs after whole stand first ends ar
       whole = whole;
       stand = stand;
       spelled = ends.spelled ∙ ap (λ (b : List ℕ). (magic ++ b) ++ ends.rest) chains;
-      place_is = ends.offset_is ∙ ap (λ (b : List ℕ). 8 + length b) chains;
+      offset_is = ends.offset_is ∙ ap (λ (b : List ℕ). 8 + length b) chains;
       wanted = elim ends.wanted [ inl none ↦ inl (nil_from_length more (sym (count_files more) ∙ ap (λ (l : List EpochEntry). length l) (sym are ∙ none))) | inr less ↦ inr less ];
       lacks = λ next left tail same valid is.
           ends.lacks (in_file next) tail (file_valid next (all_last IsEntry (others ++ more) next valid.valid)) (is ∙ ap (λ (p : Option Id20). bytes_after p (in_file next) ++ tail) (sym parents));
     }
 
 -- An epoch whose entries could not all be joined is damaged at the first that could not.
-pub stops_next : EntriesDiffer → (root : Root) (files : Files) (epoch place : ℕ) (others : List Entry) (rs : List Record) (here : List EpochEntry) (after : List ℕ) → named_length root epoch < 2 ^ 64
-    → AreWhole root files epoch others → AreEpochEntries here → named_bytes root files epoch ≡ epoch_of here ++ after → StopsAt rs others epoch here place → LacksNext root files rs epoch place
-stops_next differ root files epoch place others rs here after short whole valid spelled stops =
+pub stops_next : EntriesDiffer → (root : Root) (files : Files) (epoch offset : ℕ) (others : List Entry) (rs : List Record) (here : List EpochEntry) (after : List ℕ) → named_length root epoch < 2 ^ 64
+    → AreWhole root files epoch others → AreEpochEntries here → named_bytes root files epoch ≡ epoch_of here ++ after → StopsAt rs others epoch here offset → LacksNext root files rs epoch offset
+stops_next differ root files epoch offset others rs here after short whole valid spelled stops =
     let parent = last_commit None stops.more in
     let wrong = bytes_after parent stops.wrong in
     let tail = chain (Some (commit_after parent stops.wrong)) stops.rest in
@@ -163,7 +163,7 @@ stops_next differ root files epoch place others rs here after short whole valid 
     let front = length-append (magic ++ entries_bytes None stops.more) rest in
     let head = length-append magic (entries_bytes None stops.more) in
     let step = length-append wrong (tail ++ after) in
-    let is = stops.place_is in
+    let is = stops.offset_is in
     let valid_wrong : IsEpochEntry stops.wrong = valid_after (map in_file stops.more) stops.wrong stops.rest (subst AreEpochEntries stops.are valid) in
     record {
       before = others;
@@ -174,7 +174,7 @@ stops_next differ root files epoch place others rs here after short whole valid 
       whole = whole;
       stand = stops.stand;
       spelled = split;
-      place_is = is;
+      offset_is = is;
       wanted = inr (elim (zero_or_not (length wrong)) [ inl none ↦ absurd (entry_some parent stops.wrong (nil_from_length wrong none)) | inr some ↦ omega (arith, size, most, front, head, step, is, some) ]);
       lacks = λ next left more same first stands.
           let one = differ parent stops.wrong (in_file next) (tail ++ after) more valid_wrong (file_valid next (all_last IsEntry (others ++ stops.more) next first.valid)) (omega (arith, size, most, front, short)) stands in

@@ -49,12 +49,12 @@ read_more root files rs epoch old new seen up walked takes =
     record { entries = up.entries ++ joined.more; after = joined.after; holds = joined.holds; whole = walked_whole root files epoch up.entries rs new seen up.whole walked joined }
 
 -- An epoch whose entries could not all be joined is damaged.
-pub read_stopped : EntriesDiffer → (root : Root) (files : Files) (rs : List Record) (epoch place : ℕ) (old : Joined) (seen : List Seen) → named_length root epoch < 2 ^ 64 → epoch < 64 → IsReadUpTo root files rs epoch old
-    → IsEpoch (named_length root epoch) (bytes_at root files epoch) seen → TakesEpoch old epoch seen (Err (Damaged place)) → IsFirstDamage root files rs epoch place
-read_stopped differ root files rs epoch place old seen short less up walked takes =
+pub read_stopped : EntriesDiffer → (root : Root) (files : Files) (rs : List Record) (epoch offset : ℕ) (old : Joined) (seen : List Seen) → named_length root epoch < 2 ^ 64 → epoch < 64 → IsReadUpTo root files rs epoch old
+    → IsEpoch (named_length root epoch) (bytes_at root files epoch) seen → TakesEpoch old epoch seen (Err (Damaged offset)) → IsFirstDamage root files rs epoch offset
+read_stopped differ root files rs epoch offset old seen short less up walked takes =
     inr (inl (
       less,
-      stops_next differ root files epoch place up.entries rs walked.entries [] short up.whole walked.valid (walked.spelled ∙ sym (append-nil (epoch_of walked.entries)))
+      stops_next differ root files epoch offset up.entries rs walked.entries [] short up.whole walked.valid (walked.spelled ∙ sym (append-nil (epoch_of walked.entries)))
           (takes rs up.after up.entries walked.entries up.holds walked.valid walked.is),
     ))
 
@@ -66,64 +66,64 @@ no_bytes parent (e ∷ es) none =
     absurd (entry_some parent e (nil_from_length (bytes_after parent e) (omega (arith, size, none))))
 
 -- An epoch in which a walk ended at the front or after the magic is damaged there.
-pub read_front : (root : Root) (files : Files) (rs : List Record) (epoch place : ℕ) (old : Joined) → epoch < 64 → 0 < named_length root epoch → place ≤ 8 → IsReadUpTo root files rs epoch old
-    → IsDamagedAt (named_length root epoch) (bytes_at root files epoch) place → IsFirstDamage root files rs epoch place
-read_front root files rs epoch place old less some low up (inl lacks) =
-    inl (less, record { before = up.entries; after = up.after; first = up.holds.first; whole = up.whole; some = some; lacks = lacks.1; place_is = lacks.0 })
-read_front root files rs epoch place old less some low up (inr ends) =
+pub read_front : (root : Root) (files : Files) (rs : List Record) (epoch offset : ℕ) (old : Joined) → epoch < 64 → 0 < named_length root epoch → offset ≤ 8 → IsReadUpTo root files rs epoch old
+    → IsDamagedAt (named_length root epoch) (bytes_at root files epoch) offset → IsFirstDamage root files rs epoch offset
+read_front root files rs epoch offset old less some low up (inl lacks) =
+    inl (less, record { before = up.entries; after = up.after; first = up.holds.first; whole = up.whole; some = some; lacks = lacks.1; offset_is = lacks.0 })
+read_front root files rs epoch offset old less some low up (inr ends) =
     let after = ends.offset_is in
     let none : ends.entries ≡ [] = no_bytes None ends.entries (omega (arith, after, low)) in
-    inr (inl (less, early_next root files epoch place up.entries [] rs up.after up.whole tt (subst (AreFirst rs up.after) (sym (append-nil up.entries)) up.holds.first) ends none))
+    inr (inl (less, early_next root files epoch offset up.entries [] rs up.after up.whole tt (subst (AreFirst rs up.after) (sym (append-nil up.entries)) up.holds.first) ends none))
 
 -- The bytes up to the offset at which a walk ended are an epoch's.
-left_bytes : (n place : ℕ) (bytes : List ℕ) → (ends : EndsEarly n bytes place) → take place bytes ≡ epoch_of ends.entries
-left_bytes n place bytes ends =
+left_bytes : (n offset : ℕ) (bytes : List ℕ) → (ends : EndsEarly n bytes offset) → take offset bytes ≡ epoch_of ends.entries
+left_bytes n offset bytes ends =
     let whole = epoch_of ends.entries in
-    let size : length whole ≡ place = (let is = ends.offset_is in omega (arith, is, length-append magic (chain None ends.entries))) in
+    let size : length whole ≡ offset = (let is = ends.offset_is in omega (arith, is, length-append magic (chain None ends.entries))) in
     let all : bytes ≡ whole ++ (ends.rest ++ drop n bytes) = sym (take-append-drop n bytes) ∙ (ap (λ (b : List ℕ). b ++ drop n bytes) ends.spelled ∙ append_assoc whole ends.rest (drop n bytes)) in
-    ap (take place) all ∙ (ap (λ (m : ℕ). take m (whole ++ (ends.rest ++ drop n bytes))) (sym size) ∙ take-append_seam whole (ends.rest ++ drop n bytes))
+    ap (take offset) all ∙ (ap (λ (m : ℕ). take m (whole ++ (ends.rest ++ drop n bytes))) (sym size) ∙ take-append_seam whole (ends.rest ++ drop n bytes))
 
 -- The offset at which a walk ended is within the bytes that count.
-left_within : (n place : ℕ) (bytes : List ℕ) → EndsEarly n bytes place → place ≤ n
-left_within n place bytes ends =
+left_within : (n offset : ℕ) (bytes : List ℕ) → EndsEarly n bytes offset → offset ≤ n
+left_within n offset bytes ends =
     let size : length (take n bytes) ≡ length (epoch_of ends.entries ++ ends.rest) = ap (λ (b : List ℕ). length b) ends.spelled in
     let is = ends.offset_is in
     omega (arith, size, is, length-take n bytes, length-append (epoch_of ends.entries) ends.rest, length-append magic (chain None ends.entries))
 
 -- So a walk up to there reads the same entries.
-again : EpochsDiffer → (n place : ℕ) (bytes : List ℕ) (seen : List Seen) → place < 2 ^ 64 → (ends : EndsEarly n bytes place) → (walked : IsEpoch place bytes seen) → ends.entries ≡ walked.entries
-again differ n place bytes seen short ends walked =
+again : EpochsDiffer → (n offset : ℕ) (bytes : List ℕ) (seen : List Seen) → offset < 2 ^ 64 → (ends : EndsEarly n bytes offset) → (walked : IsEpoch offset bytes seen) → ends.entries ≡ walked.entries
+again differ n offset bytes seen short ends walked =
     let is = ends.offset_is in
-    differ ends.entries walked.entries ends.valid walked.valid (omega (arith, short, is, length-append magic (chain None ends.entries))) (sym (left_bytes n place bytes ends) ∙ walked.spelled)
+    differ ends.entries walked.entries ends.valid walked.valid (omega (arith, short, is, length-append magic (chain None ends.entries))) (sym (left_bytes n offset bytes ends) ∙ walked.spelled)
 
 -- An epoch in which a walk ended later is damaged there if all entries up to there were joined.
-pub read_left : EpochsDiffer → (root : Root) (files : Files) (rs : List Record) (epoch place : ℕ) (old new : Joined) (seen : List Seen) → named_length root epoch < 2 ^ 64 → epoch < 64 → 8 < place → IsReadUpTo root files rs epoch old
-    → IsDamagedAt (named_length root epoch) (bytes_at root files epoch) place → IsEpoch place (bytes_at root files epoch) seen → TakesEpoch old epoch seen (Ok new) → IsFirstDamage root files rs epoch place
-read_left differ root files rs epoch place old new seen short less high up (inl lacks) walked takes = absurd (let zero_is = lacks.0 in omega (arith, zero_is, high))
-read_left differ root files rs epoch place old new seen short less high up (inr ends) walked takes =
+pub read_left : EpochsDiffer → (root : Root) (files : Files) (rs : List Record) (epoch offset : ℕ) (old new : Joined) (seen : List Seen) → named_length root epoch < 2 ^ 64 → epoch < 64 → 8 < offset → IsReadUpTo root files rs epoch old
+    → IsDamagedAt (named_length root epoch) (bytes_at root files epoch) offset → IsEpoch offset (bytes_at root files epoch) seen → TakesEpoch old epoch seen (Ok new) → IsFirstDamage root files rs epoch offset
+read_left differ root files rs epoch offset old new seen short less high up (inl lacks) walked takes = absurd (let zero_is = lacks.0 in omega (arith, zero_is, high))
+read_left differ root files rs epoch offset old new seen short less high up (inr ends) walked takes =
     let joined : AreJoined new rs up.entries epoch walked.entries = takes rs up.after up.entries walked.entries up.holds walked.valid walked.is in
-    let within = left_within (named_length root epoch) place (bytes_at root files epoch) ends in
-    let same = again differ (named_length root epoch) place (bytes_at root files epoch) seen (omega (arith, within, short)) ends walked in
-    inr (inl (less, early_next root files epoch place up.entries joined.more rs joined.after up.whole joined.stand joined.holds.first ends (same ∙ joined.are)))
+    let within = left_within (named_length root epoch) offset (bytes_at root files epoch) ends in
+    let same = again differ (named_length root epoch) offset (bytes_at root files epoch) seen (omega (arith, within, short)) ends walked in
+    inr (inl (less, early_next root files epoch offset up.entries joined.more rs joined.after up.whole joined.stand joined.holds.first ends (same ∙ joined.are)))
 
 -- Otherwise it is damaged before, at the first that could not be joined.
-pub read_left_stopped : EntriesDiffer → EpochsDiffer → (root : Root) (files : Files) (rs : List Record) (epoch left place : ℕ) (old : Joined) (seen : List Seen) → named_length root epoch < 2 ^ 64 → epoch < 64 → 8 < left → IsReadUpTo root files rs epoch old
-    → IsDamagedAt (named_length root epoch) (bytes_at root files epoch) left → IsEpoch left (bytes_at root files epoch) seen → TakesEpoch old epoch seen (Err (Damaged place)) → IsFirstDamage root files rs epoch place
-read_left_stopped entry differ root files rs epoch left place old seen short less high up (inl lacks) walked takes = absurd (let zero_is = lacks.0 in omega (arith, zero_is, high))
-read_left_stopped entry differ root files rs epoch left place old seen short less high up (inr ends) walked takes =
+pub read_left_stopped : EntriesDiffer → EpochsDiffer → (root : Root) (files : Files) (rs : List Record) (epoch left offset : ℕ) (old : Joined) (seen : List Seen) → named_length root epoch < 2 ^ 64 → epoch < 64 → 8 < left → IsReadUpTo root files rs epoch old
+    → IsDamagedAt (named_length root epoch) (bytes_at root files epoch) left → IsEpoch left (bytes_at root files epoch) seen → TakesEpoch old epoch seen (Err (Damaged offset)) → IsFirstDamage root files rs epoch offset
+read_left_stopped entry differ root files rs epoch left offset old seen short less high up (inl lacks) walked takes = absurd (let zero_is = lacks.0 in omega (arith, zero_is, high))
+read_left_stopped entry differ root files rs epoch left offset old seen short less high up (inr ends) walked takes =
     let within = left_within (named_length root epoch) left (bytes_at root files epoch) ends in
     let same = again differ (named_length root epoch) left (bytes_at root files epoch) seen (omega (arith, within, short)) ends walked in
     inr (inl (
       less,
-      stops_next entry root files epoch place up.entries rs walked.entries ends.rest short up.whole walked.valid (ends.spelled ∙ ap (λ (es : List EpochEntry). epoch_of es ++ ends.rest) same)
+      stops_next entry root files epoch offset up.entries rs walked.entries ends.rest short up.whole walked.valid (ends.spelled ∙ ap (λ (es : List EpochEntry). epoch_of es ++ ends.rest) same)
           (takes rs up.after up.entries walked.entries up.holds walked.valid walked.is),
     ))
 
 -- A walk up to the offset at which a walk ended isn't damaged.
-pub left_undamaged : EntriesDiffer → (n left place : ℕ) (bytes : List ℕ) → n < 2 ^ 64 → 8 < left → IsDamagedAt n bytes left → IsDamagedAt left bytes place → ⊥
-left_undamaged differ n left place bytes short high (inl lacks) other = absurd (let zero_is = lacks.0 in omega (arith, zero_is, high))
-left_undamaged differ n left place bytes short high (inr ends) (inl lacks) = lacks.1 (ap (take 8) (left_bytes n left bytes ends) ∙ take-append_seam magic (chain None ends.entries))
-left_undamaged differ n left place bytes short high (inr ends) (inr other) =
+pub left_undamaged : EntriesDiffer → (n left offset : ℕ) (bytes : List ℕ) → n < 2 ^ 64 → 8 < left → IsDamagedAt n bytes left → IsDamagedAt left bytes offset → ⊥
+left_undamaged differ n left offset bytes short high (inl lacks) other = absurd (let zero_is = lacks.0 in omega (arith, zero_is, high))
+left_undamaged differ n left offset bytes short high (inr ends) (inl lacks) = lacks.1 (ap (take 8) (left_bytes n left bytes ends) ∙ take-append_seam magic (chain None ends.entries))
+left_undamaged differ n left offset bytes short high (inr ends) (inr other) =
     let within = left_within n left bytes ends in
     let is = ends.offset_is in
     let split : magic ++ chain None ends.entries ≡ magic ++ (chain None other.entries ++ other.rest) = sym (left_bytes n left bytes ends) ∙ (other.spelled ∙ append_assoc magic (chain None other.entries) other.rest) in
@@ -152,7 +152,7 @@ read_all root files rs v kept up ends =
 pub read_missing : (root : Root) (files : Files) (rs : List Record) (v : Joined) (refusal : Unmatched) → IsReadUpTo root files rs 64 v → Finishes v (Err refusal) → IsFirstDamage root files rs refusal.epoch (named_length root refusal.epoch)
 read_missing root files rs v refusal up ends =
     let one = ends rs up.after up.entries up.holds in
-    inr (inr (record { before = up.entries; next = one.0; after = one.1; first = one.2; whole = up.whole; stands = sym one.3; place_is = refl }))
+    inr (inr (record { before = up.entries; next = one.0; after = one.1; first = one.2; whole = up.whole; stands = sym one.3; offset_is = refl }))
 
 -- What was read is the archive that the files stand for, and this is kept of its entries.
 pub read_recovers : (root : Root) (files : Files) (rs : List Record) (kept : List StoredEntry) → HasMap root files rs → (read : AreRead root files rs kept) → RecoversBy root files (archive_of root read.entries)

@@ -175,15 +175,15 @@ named_whole : (root : Root) (files : Files) (epoch : ℕ) (all : List Entry) →
 named_whole root files epoch all whole less = ap (λ (n : ℕ). take n (bytes_of (files (epoch_file_of root epoch)))) (whole.lengths epoch less) ∙ (whole.fronts epoch less).front
 
 -- No epoch lacks its magic.
-no_front_lost : (root : Root) (files : Files) (rs : List Record) (entries : List Entry) (epoch place : ℕ) → AreWhole root files 64 entries → epoch < 64 → LacksFront root files rs epoch place → ⊥
-no_front_lost root files rs entries epoch place whole less lost = by (in_epoch entries epoch) (named_whole root files epoch entries whole less) (whole.lengths epoch less) where
+no_front_lost : (root : Root) (files : Files) (rs : List Record) (entries : List Entry) (epoch offset : ℕ) → AreWhole root files 64 entries → epoch < 64 → LacksFront root files rs epoch offset → ⊥
+no_front_lost root files rs entries epoch offset whole less lost = by (in_epoch entries epoch) (named_whole root files epoch entries whole less) (whole.lengths epoch less) where
   by : (here : List Entry) → named_bytes root files epoch ≡ epoch_bytes here → named_length root epoch ≡ length (epoch_bytes here) → ⊥
   by [] is long = let some = lost.some in absurd (omega (arith, some, long))
   by (e ∷ es) is long = lost.lacks (ap (take 8) is ∙ take-append_seam magic (entries_bytes None (e ∷ es)))
 
 -- No message is missing.
-none_missing : EpochsDiffer → (root : Root) (files : Files) (rs : List Record) (entries : List Entry) (epoch place : ℕ) → RootFits root → AreOpened root files rs entries → LacksLast root files rs epoch place → ⊥
-none_missing differ root files rs entries epoch place fits opened lost =
+none_missing : EpochsDiffer → (root : Root) (files : Files) (rs : List Record) (entries : List Entry) (epoch offset : ℕ) → RootFits root → AreOpened root files rs entries → LacksLast root files rs epoch offset → ⊥
+none_missing differ root files rs entries epoch offset fits opened lost =
     let fronts : (d : ℕ) → d < 64 → IsFront (filed lost.before d) (filed entries d) =
     (λ d less. let one : IsFront (filed lost.before d) (filed entries d) = record {
       rest = [];
@@ -281,7 +281,7 @@ begins_here (e ∷ es) here rest is =
     (ap (λ (b : List ℕ). magic ++ b) (chain_of None (e ∷ es)), sym (chain_of None (e ∷ es)) ∙ (after ∙ ap (λ (b : List ℕ). b ++ rest) (chain_of None here)))
 
 -- What is known of an epoch that is said to lack its next entry, if all entries are known.
-record Meets (root : Root) (files : Files) (rs : List Record) (epoch place : ℕ) (entries : List Entry) (lost : LacksNext root files rs epoch place) : Type 0 where
+record Meets (root : Root) (files : Files) (rs : List Record) (epoch offset : ℕ) (entries : List Entry) (lost : LacksNext root files rs epoch offset) : Type 0 where
   back : List Entry
   is : entries ≡ (lost.before ++ lost.here) ++ back
   earlier : (d : ℕ) → d < epoch → filed back d ≡ []
@@ -289,8 +289,8 @@ record Meets (root : Root) (files : Files) (rs : List Record) (epoch place : ℕ
   rest_is : lost.rest ≡ chain (last_of None (map in_file lost.here)) (filed back epoch)
   long : named_length root epoch ≡ 8 + length (entries_bytes None lost.here) + length lost.rest
 
-meets : EntriesDiffer → EpochsDiffer → (root : Root) (files : Files) (rs : List Record) (entries : List Entry) (epoch place : ℕ) → RootFits root → AreOpened root files rs entries → epoch < 64 → (lost : LacksNext root files rs epoch place) → Meets root files rs epoch place entries lost
-meets entry epochs root files rs entries epoch place fits opened less lost =
+meets : EntriesDiffer → EpochsDiffer → (root : Root) (files : Files) (rs : List Record) (entries : List Entry) (epoch offset : ℕ) → RootFits root → AreOpened root files rs entries → epoch < 64 → (lost : LacksNext root files rs epoch offset) → Meets root files rs epoch offset entries lost
+meets entry epochs root files rs entries epoch offset fits opened less lost =
     let xs = lost.before ++ lost.here in
     let named = named_whole root files epoch entries opened.whole less in
     let begins = begins_here (in_epoch entries epoch) lost.here lost.rest (sym named ∙ lost.spelled) in
@@ -336,9 +336,9 @@ meets entry epochs root files rs entries epoch place fits opened less lost =
       ]
 
 -- No entry is missing.
-none_lost : EntriesDiffer → EpochsDiffer → (root : Root) (files : Files) (rs : List Record) (entries : List Entry) (epoch place : ℕ) → RootFits root → AreOpened root files rs entries → epoch < 64 → LacksNext root files rs epoch place → ⊥
-none_lost entry epochs root files rs entries epoch place fits opened less lost =
-    let met = meets entry epochs root files rs entries epoch place fits opened less lost in
+none_lost : EntriesDiffer → EpochsDiffer → (root : Root) (files : Files) (rs : List Record) (entries : List Entry) (epoch offset : ℕ) → RootFits root → AreOpened root files rs entries → epoch < 64 → LacksNext root files rs epoch offset → ⊥
+none_lost entry epochs root files rs entries epoch offset fits opened less lost =
+    let met = meets entry epochs root files rs entries epoch offset fits opened less lost in
     by met.back met.is met.earlier (filed met.back epoch) refl met.here_is met.rest_is met.long
   where
     -- The epoch has no entry.
@@ -353,10 +353,10 @@ none_lost entry epochs root files rs entries epoch place fits opened less lost =
         → lost.rest ≡ chain (last_of None (map in_file lost.here)) more → named_length root epoch ≡ 8 + length (entries_bytes None lost.here) + length lost.rest → ⊥
     by back is earlier [] there here rest long =
         let size : length lost.rest ≡ 0 = ap (λ (b : List ℕ). length b) rest in
-        let place_is = lost.place_is in
+        let offset_is = lost.offset_is in
         elim lost.wanted [
           | inl none ↦ empty none here (omega (arith, long))
-          | inr goes_on ↦ absurd (omega (arith, long, size, place_is, goes_on))
+          | inr goes_on ↦ absurd (omega (arith, long, size, offset_is, goes_on))
         ]
     by [] is earlier (f ∷ fs) there here rest long = let wrong : [] ≡ f ∷ fs = there in cc
     by (c ∷ cs) is earlier (f ∷ fs) there here rest long =
@@ -376,6 +376,6 @@ none_lost entry epochs root files rs entries epoch place fits opened less lost =
 
 -- Files that are opened have no damage.
 pub opened_undamaged : EntriesDiffer → EpochsDiffer → OpenedUndamaged
-opened_undamaged entry epochs root files rs entries epoch place has opened (inl front) = no_front_lost root files rs entries epoch place opened.whole front.0 front.1
-opened_undamaged entry epochs root files rs entries epoch place has opened (inr (inl next)) = none_lost entry epochs root files rs entries epoch place has.fits opened next.0 next.1
-opened_undamaged entry epochs root files rs entries epoch place has opened (inr (inr last)) = none_missing epochs root files rs entries epoch place has.fits opened last
+opened_undamaged entry epochs root files rs entries epoch offset has opened (inl front) = no_front_lost root files rs entries epoch offset opened.whole front.0 front.1
+opened_undamaged entry epochs root files rs entries epoch offset has opened (inr (inl next)) = none_lost entry epochs root files rs entries epoch offset has.fits opened next.0 next.1
+opened_undamaged entry epochs root files rs entries epoch offset has opened (inr (inr last)) = none_missing epochs root files rs entries epoch offset has.fits opened last

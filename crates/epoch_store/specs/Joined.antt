@@ -115,7 +115,7 @@ pub record AreJoined (new : Joined) (rs : List Record) (others : List Entry) (ep
 -- can't: whatever entry it is, it isn't the map's next one, or it lacks an own id and a blob id of
 -- its own.
 pub record StopsAt (rs : List Record) (others : List Entry) (epoch : ℕ) (here : List EpochEntry)
-    (place : ℕ) : Type 0 where
+    (offset : ℕ) : Type 0 where
   pub more : List Entry
   pub after : List Record
   pub wrong : EpochEntry
@@ -123,7 +123,7 @@ pub record StopsAt (rs : List Record) (others : List Entry) (epoch : ℕ) (here 
   pub stand : AllByRecursion (λ (e : Entry). e.epoch ≡ epoch) more
   pub are : here ≡ map in_file more ++ wrong ∷ rest
   pub first : AreFirst rs after (others ++ more)
-  pub place_is : place ≡ 8 + length (entries_bytes None more)
+  pub offset_is : offset ≡ 8 + length (entries_bytes None more)
   pub no_next : (next : Entry) (left : List Record) → next.epoch ≡ epoch → in_file next ≡ wrong
       → AreFirst rs left ((others ++ more) ++ next ∷ []) → ⊥
 

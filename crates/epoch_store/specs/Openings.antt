@@ -60,8 +60,8 @@ RecoversOpened = (root : Root) (files : Files) (rs : List Record) (a : Archive)
 -- Files that are opened have no damage.
 abbrev pub OpenedUndamaged : Type 0
 OpenedUndamaged = (root : Root) (files : Files) (rs : List Record) (entries : List Entry)
-    (epoch place : ℕ) → HasMap root files rs → AreOpened root files rs entries
-    → IsFirstDamage root files rs epoch place → ⊥
+    (epoch offset : ℕ) → HasMap root files rs → AreOpened root files rs entries
+    → IsFirstDamage root files rs epoch offset → ⊥
 
 -- Files that stand for an archive have its map.
 abbrev pub RecoversMap : Type 0
@@ -72,6 +72,6 @@ RecoversMap = (root : Root) (files : Files) (a : Archive) → RecoversBy root fi
 abbrev pub RecoversUndamaged : Type 0
 RecoversUndamaged =
     (root : Root) (files : Files) (a : Archive) → RecoversBy root files a
-    → ((place : ℕ) → IsDamaged (root.next - 1) place (bytes_of (files (map_file_of root))) → ⊥)
-    × ((rs : List Record) (epoch place : ℕ) → HasMap root files rs
-    → IsFirstDamage root files rs epoch place → ⊥)
+    → ((offset : ℕ) → IsDamaged (root.next - 1) offset (bytes_of (files (map_file_of root))) → ⊥)
+    × ((rs : List Record) (epoch offset : ℕ) → HasMap root files rs
+    → IsFirstDamage root files rs epoch offset → ⊥)

@@ -180,4 +180,4 @@ abbrev pub SeesNoDamage : {T : Type 0} → Result T StoreRefusal → Type 0
 SeesNoDamage (Ok given) = Unit {0}
 SeesNoDamage (Err DiskFault) = Unit {0}
 SeesNoDamage (Err NoMemory) = Unit {0}
-SeesNoDamage (Err (Damaged file place)) = ⊥
+SeesNoDamage (Err (Damaged file offset)) = ⊥

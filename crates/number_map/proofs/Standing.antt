@@ -55,10 +55,10 @@ front_of bytes after enough = elim enough [
 -- No more record.
 pub none_more : (count at : ℕ) (old new : List Record) (bytes after map : List ℕ) → length old < count → IsEnough 1 bytes after → Stands old (bytes ++ after) map → IsLast at bytes old new → IsDamaged count at map
 none_more count at old new bytes after map fewer enough stands last =
-    let place : drop at map ≡ bytes ++ after =
-    ap (λ (k : ℕ). drop k map) last.place ∙ rest_is (28 * length old) map (flat_map record_bytes old) (bytes ++ after) (records_length 1 old stands.valid) stands.spelled in
-    let front : take 28 (drop at map) ≡ take 28 bytes = ap (λ (l : List ℕ). take 28 l) place ∙ front_of bytes after enough in
-    record { before = old; begins = begins_of old (bytes ++ after) map stands; fewer = fewer; place = last.place; none = λ line valid is. last.none line valid (sym front ∙ is) }
+    let offset : drop at map ≡ bytes ++ after =
+    ap (λ (k : ℕ). drop k map) last.offset ∙ rest_is (28 * length old) map (flat_map record_bytes old) (bytes ++ after) (records_length 1 old stands.valid) stands.spelled in
+    let front : take 28 (drop at map) ≡ take 28 bytes = ap (λ (l : List ℕ). take 28 l) offset ∙ front_of bytes after enough in
+    record { before = old; begins = begins_of old (bytes ++ after) map stands; fewer = fewer; offset = last.offset; none = λ line valid is. last.none line valid (sym front ∙ is) }
 
 -- The rest of a piece has room for the remaining records.
 pub enough_left : (wanted done : ℕ) (bytes rest after : List ℕ) → done < wanted → length rest + 28 * done ≡ length bytes → IsEnough wanted bytes after → IsEnough 1 rest after

@@ -17,7 +17,7 @@ pub record IsNext (bytes : List ℕ) (old new : List Record) : Type 0 where
 
 -- There is no record of the next number, and this is its offset.
 pub record IsLast (at : ℕ) (bytes : List ℕ) (old new : List Record) : Type 0 where
-  pub place : at ≡ record_size * length old
+  pub offset : at ≡ record_size * length old
   pub none : (line : Record) → IsRecord (length old + 1) line
       → take record_size bytes ≢ record_bytes line
   pub lines : new ≡ old

@@ -7,7 +7,7 @@ ghost use Rattle.root_slots.specs.declared.root.Root.{Root};
 ghost use Rattle.root_slots.specs.RootName.{root_name};
 ghost use Rattle.root_slots.specs.Spelling.{body_size, spelling};
 ghost use Rattle.root_slots.specs.Valid.{RootFits, PlaceIsValid, IsRoot};
-ghost use Rattle.root_slots.specs.Slots.{root_size, slot_number, gate, body_at, sequence_of, body_place, Current, Answers, ReadsBack, AreRootBytes};
+ghost use Rattle.root_slots.specs.Slots.{root_size, slot_number, gate, body_at, sequence_of, body_offset, Current, Answers, ReadsBack, AreRootBytes};
 
 use crate::body::spell;
 use crate::parts::{number64, root_of};
