@@ -9,7 +9,7 @@ use borrow.Author.Count.{below_more}
 use Rattle.arch_base.specs.declared.ids.Id20.{Id20}
 use Rattle.disk_model.specs.Disk.{Files, File, bytes_of}
 use Rattle.arch_model.specs.Archives.{Entry, in_epoch}
-use Rattle.mail_commits.specs.Entries.{magic, message_kind, commit_id}
+use Rattle.mail_commits.specs.Entries.{magic}
 use Rattle.arch_model.specs.Epochs.{epoch_bytes, entries_bytes, last_commit}
 use Rattle.number_map.specs.declared.line.Record.{Record}
 use Rattle.epoch_file.specs.declared.entry.Seen.{Seen}

@@ -17,7 +17,7 @@ use Rattle.root_slots.specs.declared.root.Root.{Root}
 use Rattle.root_slots.specs.Laws.{SpellingsDiffer}
 use Rattle.root_slots.specs.RootName.{root_name}
 use Rattle.root_slots.specs.Each.{IfThere}
-use Rattle.root_slots.specs.Slots.{slot_number, HasRootSize, Current, HasRoot, body_at, IsShutFile}
+use Rattle.root_slots.specs.Slots.{slot_number, HasRootSize, Current, HasRoot, body_at}
 use Rattle.root_slots.specs.Slots as slots
 use Rattle.root_slots.specs.Spelling.{spelling}
 use Rattle.root_slots.specs.Valid.{no_place}
