@@ -1,5 +1,5 @@
 //! The index of the entries that an opened store keeps.
-ghost use Rattle.std.specs.Prelude.{◌≡◌, IfOk, OnOk};
+ghost use Rattle.std.specs.Prelude.{IfOk, OnOk};
 ghost use Rattle.arch_judge.specs.Indexes.{Puts};
 ghost use Rattle.archive_core.specs.Kept.{IndexesStored, owner_kept};
 

@@ -1,5 +1,5 @@
 //! Answers the requests of a control connection from a keeper.
-ghost use Rattle.std.specs.Prelude.{◌≡◌, ◌≤◌, ◌++◌, ℕ, List, length, drop, true, false, Option, Some, None, is_some, is_ok};
+ghost use Rattle.std.specs.Prelude.{◌≡◌, ◌≤◌, ◌++◌, ℕ, length, drop, true, false, Some, None, is_some, is_ok};
 ghost use Rattle.line_door.specs.Acts.{outside};
 ghost use Rattle.arch_model.specs.Archives.{Archive, text_of};
 ghost use Rattle.arch_base.specs.Moments.{last_moment};

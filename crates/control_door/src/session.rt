@@ -1,5 +1,5 @@
 //! A control connection: the bytes that are not answered yet, and the answer to a piece.
-ghost use Rattle.std.specs.Prelude.{◌≡◌, ◌⊎◌, ◌+◌, ◌<◌, ◌≤◌, ℕ, List, [], ◌++◌, ◌∷◌, length, take, drop, Bool, true, false, Option, Some, None, if◌then◌else◌};
+ghost use Rattle.std.specs.Prelude.{◌≡◌, ◌⊎◌, ◌+◌, ◌<◌, ◌≤◌, ℕ, List, [], ◌++◌, length, take, drop, Bool, true, false, Option, Some, None, if◌then◌else◌};
 ghost use Rattle.line_door.specs.Lines.{front, Whole, content};
 ghost use Rattle.line_door.specs.Acts.{outside, held_if};
 ghost use Rattle.line_door.specs.Course.{talk, Fed};

@@ -1,5 +1,5 @@
 //! Files in memory, by their names.
-ghost use Rattle.std.specs.Prelude.{◌≡◌, ◌+◌, ◌-◌, ℕ, Some, None, min, take, drop, length, ◌++◌, slice_get, IfOk, OnOk, OnErr};
+ghost use Rattle.std.specs.Prelude.{◌≡◌, ◌+◌, ◌-◌, Some, None, min, take, drop, length, ◌++◌, slice_get, IfOk, OnOk, OnErr};
 ghost use Rattle.std.specs.BTreeMap.{keys, IsOrdered};
 ghost use Rattle.disk_model.specs.declared.name.FileName.{FileName};
 ghost use Rattle.disk_model.specs.Disk.{bytes_of, overlay, cut_file};

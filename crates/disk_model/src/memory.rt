@@ -1,5 +1,5 @@
 //! A disk in memory that records its changes.
-ghost use Rattle.std.specs.Prelude.{◌≡◌, ℕ, Some, length};
+ghost use Rattle.std.specs.Prelude.{◌≡◌, Some, length};
 ghost use Rattle.disk_model.specs.declared.name.FileName.{FileName};
 ghost use Rattle.disk_model.specs.Record.{file_at, content_of, LeftSince, record_counts_now, record_only_now};
 ghost use Rattle.disk_model.specs.Applied.{record_reads_fit};
@@ -28,7 +28,7 @@ impl MemDisk {
     ghost use Rattle.std.specs.Prelude.{◌≤◌, ◌++◌, ◌∷◌, [], take, IfOk, OnOk, OnErr};
     ghost use Rattle.disk_model.specs.Disk.{Image};
     ghost use Rattle.disk_model.specs.Applied.{IsPicked};
-    ghost use Rattle.disk_model.specs.Memory.{base_of, files_of, changes_of, content_then, plan_of, starved_of, failed_of, reads_of, no_files, IsFresh};
+    ghost use Rattle.disk_model.specs.Memory.{base_of, files_of, changes_of, content_then, starved_of, failed_of, no_files, IsFresh};
 
     /// Creates a disk without files. It fails each call whose ordinal, from 1, is in `faults`.
     ///

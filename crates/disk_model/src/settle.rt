@@ -1,5 +1,5 @@
 //! One range of a file, written and synced.
-ghost use Rattle.std.specs.Prelude.{◌≡◌, ◌≤◌, ◌<◌, ◌+◌, ◌^◌, length, OnOk};
+ghost use Rattle.std.specs.Prelude.{◌≡◌, ◌<◌, ◌+◌, ◌^◌, length, OnOk};
 ghost use Rattle.arch_base.specs.Counts.{IsCaused};
 ghost use Rattle.disk_model.specs.Disk.{Told, WhereTold, IsAtMostLength, LeavesOnly};
 ghost use Rattle.disk_model.specs.Synced.{Writing, IsWritten};

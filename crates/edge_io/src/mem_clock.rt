@@ -1,9 +1,9 @@
 //! A clock in memory.
-ghost use Rattle.std.specs.Prelude.{◌≡◌, ◌≤◌, ◌<◌, ◌+◌, ◌-◌, ◌^◌, ℕ, List, Option, Some, length, min, All, IfOk, OnOk, OnErr};
+ghost use Rattle.std.specs.Prelude.{◌≡◌, ◌<◌, ◌+◌, ◌-◌, Some, length, min, All, IfOk, OnOk, OnErr};
 ghost use Rattle.arch_base.specs.Counts.{IsCaused};
 ghost use Rattle.arch_base.specs.Moments.{IsMoment};
-ghost use Rattle.edge_io.specs.Coming.{Moments, IsFirst, after_first, moments_of};
-ghost use Rattle.edge_io.specs.Listed.{raised, is_listed};
+ghost use Rattle.edge_io.specs.Coming.{IsFirst, after_first, moments_of};
+ghost use Rattle.edge_io.specs.Listed.{is_listed};
 ghost use Rattle.edge_io.specs.MemClocks.{Ticking, Ticks};
 
 use crate::mem_source::is_listed;

@@ -3,10 +3,10 @@
 //! An event is a line `T o C DOOR`, `T b C LEN`, `T e C`, `T q` or `T s`. The line of a `b` is
 //! followed by LEN bytes and a line feed. T is a moment and C a connection. Numbers are decimals
 //! without leading zeros.
-ghost use Rattle.std.specs.Prelude.{◌≡◌, ◌≤◌, ◌<◌, ℕ, List, length};
+ghost use Rattle.std.specs.Prelude.{◌<◌};
 ghost use Rattle.std.specs.Fmt.{decimal};
 ghost use Rattle.arch_base.specs.Moments.{IsMoment};
-ghost use Rattle.edge_io.specs.Events.{IsConnection, IsDoor, IsPieceLen, IsWhat, IsLine, door_word, words_of, line_of, after_line};
+ghost use Rattle.edge_io.specs.Events.{IsConnection, IsDoor, IsPieceLen, IsWhat, IsLine, door_word, words_of, line_of};
 ghost use Rattle.edge_io.specs.Scripts.{IsReading, ReadInOneWay};
 ghost use Rattle.edge_io.specs.Parsing.{Divides, Spells, HasPiece, IsFirst, IsOpening, opening_words, IsSending, sending_words};
 

@@ -1,14 +1,12 @@
 //! Reads an entry from the front of bytes.
-ghost use Rattle.std.specs.Prelude.{◌≡◌, ◌≢◌, ◌+◌, ◌-◌, ◌<◌, ◌≤◌, ◌^◌, ◌++◌, ◌↔◌, ℕ, List, [], Some, None, length, unwrap_or, IfSome, IfNone, IfOk, MatchOption};
+ghost use Rattle.std.specs.Prelude.{◌≡◌, ◌+◌, ◌-◌, ◌<◌, ◌≤◌, ◌^◌, ◌++◌, ℕ, List, [], Some, None, length, unwrap_or, IfSome, IfOk, MatchOption};
 ghost use Rattle.arch_base.specs.Ids.{IsId};
 ghost use Rattle.arch_base.specs.declared.ids.Id20.{Id20};
 ghost use Rattle.git_objects.specs.declared.commits.Commit.{Commit as CommitRecord};
 ghost use Rattle.git_objects.specs.declared.entry_kind.EntryKind.{EntryKind};
 ghost use Rattle.git_objects.specs.Commits.{IsCommit, commit_content};
 ghost use Rattle.git_objects.specs.Objects.{CommitOf, HasSize, blob_spelling, spelling, tree_spelling};
-ghost use Rattle.mail_commits.specs.Entries.{commit_id, entry_bytes};
 ghost use Rattle.mail_reader.specs.Ids.{own_id as own_id_of};
-ghost use Rattle.epoch_file.specs.Entries.{EpochEntry, IsEpochEntry, bytes_after};
 ghost use Rattle.arch_base.specs.Moments.{last_moment};
 ghost use Rattle.epoch_file.specs.Reading.{IsParted, HasParts, PartsAgain, Respells, Reads, ReadsWhere, seen_by};
 

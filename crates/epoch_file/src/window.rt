@@ -1,5 +1,5 @@
 //! A window over a part of a file: bytes that were read and are still in use.
-ghost use Rattle.std.specs.Prelude.{◌≡◌, ◌+◌, ◌-◌, ◌<◌, ◌≤◌, ◌++◌, ℕ, List, [], length, drop, vec_len, IfOk, OnOk, OnErr, Err};
+ghost use Rattle.std.specs.Prelude.{◌≡◌, ◌+◌, ◌-◌, ◌<◌, ◌≤◌, ◌++◌, ℕ, List, [], length, drop, vec_len, IfOk, OnOk, OnErr};
 ghost use Rattle.disk_model.specs.Disk.{WhereTold};
 ghost use Rattle.epoch_file.specs.Windows.{Comes, Grows, IsInside};
 ghost use Rattle.epoch_file.specs.Runs.{OnlyReads, StopRose};

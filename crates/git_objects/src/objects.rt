@@ -1,5 +1,5 @@
 //! Objects, their ids, and their reader.
-ghost use Rattle.std.specs.Prelude.{◌≡◌, ◌≢◌, ◌++◌, ℕ, List, IfSome, IfNone, length, MatchOption};
+ghost use Rattle.std.specs.Prelude.{◌≡◌, ◌++◌, ℕ, List, IfSome, IfNone, MatchOption};
 ghost use Rattle.arch_base.specs.Ids.{IsId};
 ghost use Rattle.git_objects.specs.Fronts.{Lacks, Begins};
 ghost use Rattle.git_objects.specs.Objects.{GitObject, IsObject, HasSize, sized_before, spelling, blob_id_of, id_of, tree_spelling, IsTreeContent};

@@ -1,5 +1,5 @@
 //! What a mail says of itself: its author, its subject and its date.
-ghost use Rattle.std.specs.Prelude.{◌≡◌, ◌++◌, ◌∷◌, ◌≤◌, length, drop, IfOk, IfSome, OnOk, codes, option_copied, option_map, Some};
+ghost use Rattle.std.specs.Prelude.{◌≡◌, ◌++◌, ◌≤◌, length, drop, IfOk, IfSome, OnOk, codes, option_copied, option_map, Some};
 ghost use Rattle.std.specs.List.{filter, flat_map, prefix_len, suffix_len};
 ghost use Rattle.std.specs.Str.{str_eq_ignore_ascii_case};
 ghost use Rattle.git_objects.specs.CleanText.{IsClean, is_clean_byte as clean_byte, clean as clean_of, trimmed as trimmed_of, is_space as space};

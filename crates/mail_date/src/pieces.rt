@@ -1,6 +1,5 @@
 //! The meaning of each word of a date.
 ghost use Rattle.std.specs.Prelude.{◌≡◌, ◌<◌, IfSome};
-ghost use Rattle.std.specs.List.{position};
 ghost use Rattle.mail_date.specs.Pieces.{number_of, day_of, month_of, year_of, clock_at, clock_of, zone_of, offset_at, named_zone, IsZone};
 
 use crate::words::{is_name, name_index};

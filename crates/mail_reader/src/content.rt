@@ -1,5 +1,5 @@
 //! Computes the content id of a message. It is the same for a message that was sent twice.
-ghost use Rattle.std.specs.Prelude.{◌≡◌, ◌++◌, ◌∷◌, []};
+ghost use Rattle.std.specs.Prelude.{◌≡◌, ◌∷◌, []};
 ghost use Rattle.std.specs.Str.{str_to_ascii_lowercase};
 ghost use Rattle.mail_reader.specs.Fields.{fields_of};
 ghost use Rattle.mail_reader.specs.Values.{flat_of};

@@ -1,5 +1,5 @@
 //! What the archive in memory keeps of each message, and of its last epoch.
-ghost use Rattle.std.specs.Prelude.{◌≡◌, ◌+◌, ◌-◌, ◌++◌, ◌≤◌, length, IfOk, OnOk, OnErr, is_ok, if◌then◌else◌};
+ghost use Rattle.std.specs.Prelude.{◌≡◌, ◌+◌, ◌-◌, ◌++◌, ◌≤◌, IfOk, OnOk, OnErr, is_ok, if◌then◌else◌};
 ghost use Rattle.disk_model.specs.Sizes.{greatest_epoch};
 ghost use Rattle.mail_commits.specs.Entries.{commit_id, entry_bytes, message_kind};
 ghost use Rattle.mem_archive.specs.Memory.{front_bytes, end_for_new, end_by_room, end_after, Grows};

@@ -1,5 +1,5 @@
 //! A plain archive in memory, which does what the definitions say, call by call.
-ghost use Rattle.std.specs.Prelude.{◌≡◌, ◌≢◌, ◌++◌, ◌≤◌, [], length, take, option_copied, IfOk, OnOk, OnErr, is_ok, IsSome, Some, None, IsTrue, ◌↔◌};
+ghost use Rattle.std.specs.Prelude.{◌≡◌, ◌++◌, ◌≤◌, take, option_copied, IfOk, OnOk, OnErr, IsSome, Some, None};
 ghost use Rattle.arch_base.specs.Configs.{IsConfig};
 ghost use Rattle.mail_reader.specs.Content.{content_id_of};
 ghost use Rattle.mail_reader.specs.Ids.{own_id as own_id_of};
