@@ -7,29 +7,29 @@ use Rattle.arch_model.specs.declared.opening.OpenRefusal.TheVariants as opening
 use Rattle.arch_model.specs.declared.text_refusal.TextRefusal.{TextRefusal}
 use Rattle.arch_model.specs.declared.text_refusal.TextRefusal.TheVariants as reading
 
--- A line of a reply ends with a line feed.
-abbrev pub reply_line : List ℕ → List ℕ
-reply_line words = words ++ 10 ∷ []
+-- Words as a whole line, which ends with a line feed.
+abbrev pub whole_line : List ℕ → List ℕ
+whole_line words = words ++ 10 ∷ []
 
 -- The word for out of memory.
 abbrev pub memory_word : List ℕ
-memory_word = reply_line (codes "12 no memory")
+memory_word = whole_line (codes "12 no memory")
 
 -- The word for a fault of the disk.
 abbrev pub disk_word : List ℕ
-disk_word = reply_line (codes "10 disk fault")
+disk_word = whole_line (codes "10 disk fault")
 
 -- A text or an epoch was not read. If it is damaged, its id is said, and the id of what was found.
 abbrev pub unread_words : TextRefusal → List ℕ
 unread_words reading.DiskFault = disk_word
 unread_words (reading.Damaged named found) =
-    reply_line (codes "11 damaged " ++ (encode_lower named.0 ++ 32 ∷ encode_lower found.0))
+    whole_line (codes "11 damaged " ++ (encode_lower named.0 ++ 32 ∷ encode_lower found.0))
 unread_words reading.NoMemory = memory_word
 
 -- An archive was not opened. If there is none, its root is damaged.
 abbrev pub unopened_words : OpenRefusal → List ℕ
-unopened_words opening.NoArchive = reply_line (codes "11 damaged root 0")
+unopened_words opening.NoArchive = whole_line (codes "11 damaged root 0")
 unopened_words (opening.Damaged file at) =
-    reply_line (codes "11 damaged " ++ (file_words file ++ 32 ∷ decimal at))
+    whole_line (codes "11 damaged " ++ (file_words file ++ 32 ∷ decimal at))
 unopened_words opening.DiskFault = disk_word
 unopened_words opening.NoMemory = memory_word

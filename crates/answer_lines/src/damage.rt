@@ -2,7 +2,7 @@
 ghost use Rattle.std.specs.Prelude.{◌++◌, ◌∷◌, codes, decimal};
 ghost use Rattle.edge_io.specs.Phrases.{Says};
 ghost use Rattle.arch_model.specs.Delivery.{file_words};
-ghost use Rattle.answer_lines.specs.Lines.{reply_line};
+ghost use Rattle.answer_lines.specs.Lines.{whole_line};
 
 use crate::numbers::say_number;
 use disk_model::{FileKind, FileName};
@@ -11,7 +11,7 @@ use itoa::Buffer;
 
 /// Writes the line of the answer that a file is damaged.
 pub(crate) fn say_damaged<O: Sink>(file: FileName, at: u64, out: &mut O) -> Result<(), SinkFault>
-    ensures said { Says (reply_line (codes "11 damaged " ++ (file_words file ++ 32 ∷ decimal at)))
+    ensures said { Says (whole_line (codes "11 damaged " ++ (file_words file ++ 32 ∷ decimal at)))
         (O.taken out.old) (O.faults out.old) (O.taken out.new) (O.faults out.new) result }
     ensures sink { O.alike out.old out.new }
 {
@@ -21,7 +21,7 @@ pub(crate) fn say_damaged<O: Sink>(file: FileName, at: u64, out: &mut O) -> Resu
 
 /// Writes a line that names a damaged file of an archive and the offset of the damage.
 pub fn say_damage<O: Sink>(file: FileName, at: u64, out: &mut O) -> Result<(), SinkFault>
-    ensures said { Says (reply_line (codes "damaged " ++ (file_words file ++ 32 ∷ decimal at)))
+    ensures said { Says (whole_line (codes "damaged " ++ (file_words file ++ 32 ∷ decimal at)))
         (O.taken out.old) (O.faults out.old) (O.taken out.new) (O.faults out.new) result }
     ensures sink { O.alike out.old out.new }
 {

@@ -2,7 +2,7 @@
 ghost use Rattle.std.specs.Prelude.{◌++◌, ◌∷◌, codes};
 ghost use Rattle.hex.specs.Hex.{encode_lower};
 ghost use Rattle.edge_io.specs.Phrases.{Says};
-ghost use Rattle.answer_lines.specs.Lines.{reply_line, memory_word, disk_word, unread_words, unopened_words};
+ghost use Rattle.answer_lines.specs.Lines.{whole_line, memory_word, disk_word, unread_words, unopened_words};
 
 use crate::damage::say_damaged;
 use crate::numbers::say_id;
@@ -43,7 +43,7 @@ pub fn say_unread<O: Sink>(refusal: TextRefusal, out: &mut O) -> Result<(), Sink
 
 /// Writes that a text is damaged: its id, and the id of the bytes found in its place.
 fn say_other_text<O: Sink>(named: &ObjectId, found: &ObjectId, out: &mut O) -> Result<(), SinkFault>
-    ensures said { Says (reply_line (codes "11 damaged "
+    ensures said { Says (whole_line (codes "11 damaged "
         ++ (encode_lower named.now.0 ++ 32 ∷ encode_lower found.now.0))) (O.taken out.old)
         (O.faults out.old) (O.taken out.new) (O.faults out.new) result }
     ensures sink { O.alike out.old out.new }

@@ -1,5 +1,5 @@
 //! A growable list over `Vec`. Contracts see it as the list of its items.
-ghost use Rattle.std.specs.Prelude.{◌≡◌, ◌++◌, [], ◌∷◌, List, length, take, IfOk, OnOk, OnErr, if◌then◌else◌, is_ok};
+ghost use Rattle.std.specs.Prelude.{◌≡◌, ◌++◌, [], ◌∷◌, List, take, IfOk, if◌then◌else◌, is_ok};
 
 use std::alloc::{AllocError, AllocFailed, Global};
 use std::marker::Model;

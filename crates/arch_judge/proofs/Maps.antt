@@ -61,8 +61,8 @@ module _ {K : Type 0} (bytes : K → List ℕ) where
       ∙ insert_step v e.1 (has q k) (has q e.0) (key_cmp k e.0) (lookup (has q) (insert_entry key_cmp es k v)) (lookup (has q) es) (has_same q k e.0) (has_apart q k e.0) (lookup_insert q k v es)
 
   -- An inserted key is found, and so is each that was there.
-  pub found_behind : {X : Type 0} (q : List ℕ) (k : K) (v : X) (old new : List (K × X)) → new ≡ insert_entry key_cmp old k v → lookup (has q) new ≡ (if bytes_eq q (bytes k) then Some v else lookup (has q) old)
-  found_behind q k v old new is = ap (lookup (has q)) is ∙ lookup_insert q k v old ∙ ap (λ (t : Bool). if t then Some v else lookup (has q) old) (is_eq-slice_cmp q (bytes k))
+  pub found_after : {X : Type 0} (q : List ℕ) (k : K) (v : X) (old new : List (K × X)) → new ≡ insert_entry key_cmp old k v → lookup (has q) new ≡ (if bytes_eq q (bytes k) then Some v else lookup (has q) old)
+  found_after q k v old new is = ap (lookup (has q)) is ∙ lookup_insert q k v old ∙ ap (λ (t : Bool). if t then Some v else lookup (has q) old) (is_eq-slice_cmp q (bytes k))
 
   lost_step : {X : Type 0} (t u : Bool) (x : X) (found : Option X) → (t ≡ true → u ≡ true → ⊥) → (later : Option X) → later ≡ found → (cond u found (cond t (Some x) later)) ≡ (cond t (Some x) found)
   lost_step true true x found apart later ih = absurd (apart refl refl)
@@ -88,8 +88,8 @@ module _ {K : Type 0} (bytes : K → List ℕ) where
           cc
 
   -- A removed key isn't found, and each other one is unchanged.
-  pub lost_behind : {X : Type 0} (q id : List ℕ) (old new : List (K × X)) → new ≡ remove_entry (has id) old → lookup (has id) new ≡ None → lookup (has q) new ≡ (if bytes_eq q id then None else lookup (has q) old)
-  lost_behind q id old new is none = by (bytes_eq q id) refl where
+  pub lost_after : {X : Type 0} (q id : List ℕ) (old new : List (K × X)) → new ≡ remove_entry (has id) old → lookup (has id) new ≡ None → lookup (has q) new ≡ (if bytes_eq q id then None else lookup (has q) old)
+  lost_after q id old new is none = by (bytes_eq q id) refl where
     by : (t : Bool) → bytes_eq q id ≡ t → lookup (has q) new ≡ (if t then None else lookup (has q) old)
     by true same = ap (λ (b : List ℕ). lookup (has b) new) ((bytes_eq-Decides q id).0 same) ∙ none
     by false other = ap (lookup (has q)) is ∙ lookup_remove q id old other
@@ -113,7 +113,7 @@ pub taken_back : (blob : List ℕ) (n : ℕ) (old mid new : BTreeMap (List ℕ) 
 taken_back blob n old mid new none put updates q =
     let same : is_at (slice_cmp nat_cmp blob) q ≡ bytes_eq q blob = is_eq-slice_cmp blob q ∙ both (bytes_eq blob q) (bytes_eq q blob) refl refl in
     updates.0 q
-    ∙ ap (λ (f : Option ℕ). cond (is_at (slice_cmp nat_cmp blob) q) None f) (found_behind (λ (k : List ℕ). k) q blob n old.entries mid.entries put)
+    ∙ ap (λ (f : Option ℕ). cond (is_at (slice_cmp nat_cmp blob) q) None f) (found_after (λ (k : List ℕ). k) q blob n old.entries mid.entries put)
     ∙ back_step (is_at (slice_cmp nat_cmp blob) q) (bytes_eq q blob) n (number_in old q) same (λ e. subst (λ (b : List ℕ). number_in old b ≡ None) (sym ((bytes_eq-Decides q blob).0 e)) none)
   where
     both : (t u : Bool) → bytes_eq blob q ≡ t → bytes_eq q blob ≡ u → t ≡ u

@@ -45,7 +45,7 @@ RefusesBy a bytes (answer.Ok number id) = ⊥
 RefusesBy a bytes (answer.NotLive number) = ⊥
 RefusesBy a bytes (answer.NoText number) = ⊥
 RefusesBy a bytes answer.DiskFault = ⊥
-RefusesBy a bytes (answer.Damaged file place) = ⊥
+RefusesBy a bytes (answer.Damaged file offset) = ⊥
 
 -- The verdict is what the definition says of the delivery, at each moment.
 abbrev pub Judges : Archive → List ℕ → Verdict → Type 0
@@ -78,7 +78,7 @@ IsForDelivery (answer.Ok number id) = ⊥
 IsForDelivery (answer.NotLive number) = ⊥
 IsForDelivery (answer.NoText number) = ⊥
 IsForDelivery answer.DiskFault = ⊥
-IsForDelivery (answer.Damaged file place) = ⊥
+IsForDelivery (answer.Damaged file offset) = ⊥
 
 -- A text that is taken may be kept, and a refusal is for a delivery.
 abbrev pub MayTake : Config → Index → ℕ → Verdict → Type 0

@@ -10,9 +10,9 @@ use Rattle.arch_model.specs.Delivery.{greater, last_epoch, new_epoch}
 use Rattle.arch_model.specs.Validity.{IsEntry, Rise, IdsDiffer, BlobsAgree, IsArchive}
 
 -- What holds for each of a list and for one more.
-pub all_behind : {X : Type 0} (P : X → Type 0) (xs : List X) (x : X) → AllByRecursion P xs → P x → AllByRecursion P (xs ++ x ∷ [])
-all_behind P [] x all one = (one, tt)
-all_behind P (y ∷ ys) x all one = (all.0, all_behind P ys x all.1 one)
+pub all_after : {X : Type 0} (P : X → Type 0) (xs : List X) (x : X) → AllByRecursion P xs → P x → AllByRecursion P (xs ++ x ∷ [])
+all_after P [] x all one = (one, tt)
+all_after P (y ∷ ys) x all one = (all.0, all_after P ys x all.1 one)
 
 -- A weaker fact holds for each.
 pub all_weaker : {X : Type 0} (P Q : X → Type 0) (xs : List X) → ((x : X) → P x → Q x) → AllByRecursion P xs → AllByRecursion Q xs
@@ -43,12 +43,12 @@ rise_more number epoch (e ∷ es) new rise low in_time below older =
 -- Own ids still differ.
 pub ids_more : (es : List Entry) (new : Entry) → IdsDiffer es → AllByRecursion (λ (e : Entry). own_id new.text ≢ own_id e.text) es → IdsDiffer (es ++ new ∷ [])
 ids_more [] new differ free = (tt, tt)
-ids_more (e ∷ es) new differ free = (all_behind (λ (f : Entry). own_id f.text ≢ own_id e.text) es new differ.0 free.0, ids_more es new differ.1 free.1)
+ids_more (e ∷ es) new differ free = (all_after (λ (f : Entry). own_id f.text ≢ own_id e.text) es new differ.0 free.0, ids_more es new differ.1 free.1)
 
 -- Each blob id still has one text.
 pub blobs_more : (es : List Entry) (new : Entry) → BlobsAgree es → AllByRecursion (λ (e : Entry). blob_id_of new.text ≢ blob_id_of e.text) es → BlobsAgree (es ++ new ∷ [])
 blobs_more [] new agree free = (tt, tt)
-blobs_more (e ∷ es) new agree free = (all_behind (λ (f : Entry). blob_id_of f.text ≡ blob_id_of e.text → f.text ≡ e.text) es new agree.0 (λ is. absurd (free.0 is)), blobs_more es new agree.1 free.1)
+blobs_more (e ∷ es) new agree free = (all_after (λ (f : Entry). blob_id_of f.text ≡ blob_id_of e.text → f.text ≡ e.text) es new agree.0 (λ is. absurd (free.0 is)), blobs_more es new agree.1 free.1)
 
 -- An archive stays valid with one more entry that has its next number, an epoch not before any
 -- other, and an own id and a blob id that no other entry has.
@@ -63,8 +63,8 @@ archive_grows a epoch text moment valid room entry older id blob =
       config = valid.config;
       next_least = omega arith;
       next_most = omega (arith, room);
-      entries = all_behind IsEntry a.entries new valid.entries entry;
-      below = all_behind (λ (e : Entry). e.number < a.next + 1) a.entries new (all_weaker (λ (e : Entry). e.number < a.next) (λ (e : Entry). e.number < a.next + 1) a.entries (λ e less. omega (arith, less)) valid.below) (omega arith);
+      entries = all_after IsEntry a.entries new valid.entries entry;
+      below = all_after (λ (e : Entry). e.number < a.next + 1) a.entries new (all_weaker (λ (e : Entry). e.number < a.next) (λ (e : Entry). e.number < a.next + 1) a.entries (λ e less. omega (arith, less)) valid.below) (omega arith);
       order = rise_more 1 0 a.entries new valid.order least (omega arith) valid.below older;
       ids = ids_more a.entries new valid.ids id;
       blobs = blobs_more a.entries new valid.blobs blob;

@@ -117,7 +117,7 @@ Delivers old (answer.NoText number) new wanted =
     wanted ≡ record { archive = new; answer = answer.NoText number }
 Delivers old answer.IsMirror new wanted = wanted ≡ record { archive = new; answer = answer.IsMirror }
 Delivers old answer.DiskFault new wanted = ⊥
-Delivers old (answer.Damaged file place) new wanted = ⊥
+Delivers old (answer.Damaged file offset) new wanted = ⊥
 
 -- The words for a kind of file and a number: `root`, `map`, `epoch E` or `cache`.
 abbrev pub kind_words : FileKind → ℕ → List ℕ
@@ -142,6 +142,6 @@ answer_line (answer.NotLive number) = codes "7 not live " ++ decimal number
 answer_line (answer.NoText number) = codes "8 no text " ++ decimal number
 answer_line answer.IsMirror = codes "9 is mirror"
 answer_line answer.DiskFault = codes "10 disk fault"
-answer_line (answer.Damaged file place) =
-    codes "11 damaged " ++ (file_words file ++ 32 ∷ decimal place)
+answer_line (answer.Damaged file offset) =
+    codes "11 damaged " ++ (file_words file ++ 32 ∷ decimal offset)
 answer_line answer.NoMemory = codes "12 no memory"

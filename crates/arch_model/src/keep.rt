@@ -4,7 +4,7 @@ ghost use Rattle.arch_base.specs.Counts.{RoseIf};
 ghost use Rattle.arch_model.specs.Archives.{Archive, in_epoch};
 ghost use Rattle.arch_model.specs.Delivery.{applied};
 ghost use Rattle.arch_base.specs.Moments.{last_moment};
-ghost use Rattle.arch_model.specs.Standing.{Standing, standing, one_of, IsLeastLive, IsKnownLive, GivesTextIn, GivesEpochIn, KeepsUnlessFound, StaysReady, IsUntouched, Fits, IsReady, DoesBy, Reopens};
+ghost use Rattle.arch_model.specs.Standing.{Standing, standing, one_of, IsLeastLive, IsKnownLive, GivesTextIn, GivesEpochIn, KeepsUnlessFound, StaysReady, IsUntouched, Fits, DoesBy, Reopens};
 ghost use Rattle.arch_model.specs.declared.answer.Answer.{Answer};
 ghost use Rattle.arch_model.specs.declared.text_refusal.TextRefusal.{TextRefusal};
 ghost use Rattle.arch_model.specs.declared.opening.OpenRefusal.{OpenRefusal};

@@ -43,7 +43,7 @@ same_setting Mirror Mirror p q e = refl
 
 -- Lists with equal first items and equal rests are equal.
 grown : (f g : Setting) (gs rest : List Setting) → f ≡ g → gs ≡ rest → g ∷ gs ≡ f ∷ rest
-grown f g gs rest same behind = cc
+grown f g gs rest same after = cc
 
 -- Words spell at most one list of settings.
 same_settings : (settings others : List Setting) → All IsSetting settings → All IsSetting others → map setting_word settings ≡ map setting_word others → settings ≡ others
@@ -52,8 +52,8 @@ same_settings [] (h ∷ hs) a b e = absurd (cc e)
 same_settings (g ∷ gs) [] a b e = absurd (cc e)
 same_settings (g ∷ gs) (h ∷ hs) a b e =
     let spelling : setting_word g ≡ setting_word h = cc e in
-    let behind : map setting_word gs ≡ map setting_word hs = cc e in
-    grown h g gs hs (sym (same_setting g h (All-head IsSetting g gs a) (All-head IsSetting h hs b) spelling)) (same_settings gs hs (All-tail IsSetting g gs a) (All-tail IsSetting h hs b) behind)
+    let after : map setting_word gs ≡ map setting_word hs = cc e in
+    grown h g gs hs (sym (same_setting g h (All-head IsSetting g gs a) (All-head IsSetting h hs b) spelling)) (same_settings gs hs (All-tail IsSetting g gs a) (All-tail IsSetting h hs b) after)
 
 -- The settings are others in front, one more, and a rest.
 record Splits (front settings : List Setting) (word : List ℕ) : Type 0 where
@@ -71,8 +71,8 @@ splits (f ∷ front) [] word rest a b e = absurd (cc e)
 splits (f ∷ front) (g ∷ gs) word rest a b e =
     let spelling : setting_word f ≡ setting_word g = cc e in
     let same : f ≡ g = same_setting f g (All-head IsSetting f front a) (All-head IsSetting g gs b) spelling in
-    let behind : map setting_word front ++ word ∷ rest ≡ map setting_word gs = cc e in
-    let s : Splits front gs word = splits front gs word rest (All-tail IsSetting f front a) (All-tail IsSetting g gs b) behind in
+    let after : map setting_word front ++ word ∷ rest ≡ map setting_word gs = cc e in
+    let s : Splits front gs word = splits front gs word rest (All-tail IsSetting f front a) (All-tail IsSetting g gs b) after in
     record { next = s.next; later = s.later; split = grown f g gs (front ++ s.next ∷ s.later) same s.split; spelling = s.spelling; in_range = s.in_range }
 
 -- What settings of a kind give, with one more setting.
@@ -170,8 +170,8 @@ same_made words settings others config other m n =
 
 module _ (word name : List ℕ) (options : List (List ℕ)) where
   -- A word, and then the words that make an archive.
-  behind_word : (command : List ℕ) (behind : List (List ℕ)) (settings : List Setting) (config : Config) → word ∷ name ∷ options ≡ command ∷ behind → IsMade behind settings config → IsMade (name ∷ options) settings config
-  behind_word command behind settings config is m = subst (λ ws. IsMade ws settings config) (cc is) m
+  after_word : (command : List ℕ) (after : List (List ℕ)) (settings : List Setting) (config : Config) → word ∷ name ∷ options ≡ command ∷ after → IsMade after settings config → IsMade (name ∷ options) settings config
+  after_word command after settings config is m = subst (λ ws. IsMade ws settings config) (cc is) m
 
   -- Words that make no archive ask for no job.
   pub not_made : ((settings : List Setting) (config : Config) → IsMade (name ∷ options) settings config → ⊥) → (job : Job) → AsksFor (word ∷ name ∷ options) job → ⊥
@@ -179,8 +179,8 @@ module _ (word name : List ℕ) (options : List (List ℕ)) where
   not_made h Version e = cc e
   not_made h Deliver e = cc e
   not_made h Check e = cc e
-  not_made h (Init config) i = h i.settings config (behind_word (codes "init") i.behind i.settings config i.is i.made)
-  not_made h (Replay config) r = h r.settings config (behind_word (codes "replay") r.behind r.settings config r.is r.made)
+  not_made h (Init config) i = h i.settings config (after_word (codes "init") i.after i.settings config i.is i.made)
+  not_made h (Replay config) r = h r.settings config (after_word (codes "replay") r.after r.settings config r.is r.made)
 
   -- Words whose first is another ask for no job.
   pub other_word : word ≢ codes "init" → word ≢ codes "replay" → (job : Job) → AsksFor (word ∷ name ∷ options) job → ⊥
@@ -196,7 +196,7 @@ module _ (word name : List ℕ) (options : List (List ℕ)) where
     pub replayed : config.mirror ≡ false → IsReplay (word ∷ name ∷ options) config
     replayed e = record {
       settings = made.0;
-      behind = name ∷ options;
+      after = name ∷ options;
       is = ap (λ w. w ∷ name ∷ options) is;
       made = made.1;
       no_mirror = none_marked made.0 (mirror-made (name ∷ options) made.0 config false made.1 e);
@@ -210,7 +210,7 @@ module _ (word name : List ℕ) (options : List (List ℕ)) where
     not_replayed e Check f = cc f
     not_replayed e (Init other) i = apart 105 114 (codes "nit") (codes "eplay") (omega arith) (cc (i.is, is))
     not_replayed e (Replay other) r =
-        let found : IsMade (name ∷ options) r.settings other = behind_word (codes "replay") r.behind r.settings other r.is r.made in
+        let found : IsMade (name ∷ options) r.settings other = after_word (codes "replay") r.after r.settings other r.is r.made in
         let same : made.0 ≡ r.settings = same_made (name ∷ options) made.0 r.settings config other made.1 found in
         unmarked made.0 (ap mirrors same ∙ r.no_mirror) (mirror-made (name ∷ options) made.0 config true made.1 (not-false config.mirror e))
 
@@ -260,7 +260,7 @@ made-config words settings config m =
     })
 
 pub init-config : (words : List (List ℕ)) (config : Config) → IsInit words config → IsConfig config
-init-config words config i = made-config i.behind i.settings config i.made
+init-config words config i = made-config i.after i.settings config i.made
 
 pub replay-config : (words : List (List ℕ)) (config : Config) → IsReplay words config → IsConfig config
-replay-config words config r = made-config r.behind r.settings config r.made
+replay-config words config r = made-config r.after r.settings config r.made

@@ -19,7 +19,7 @@ use Rattle.epoch_store.proofs.UniqueRoots.{slot_not_shut}
 use Rattle.archive_core.specs.Commands.{DoneBy}
 use Rattle.archive_core.specs.Openings.{LeavesKindly}
 use Rattle.archive_core.proofs.Counting.{stored_length}
-use Rattle.archive_cli.specs.DiskCommands.{HasRoom, Answers, DeliversTo, ChecksTo, RecoversBehind}
+use Rattle.archive_cli.specs.DiskCommands.{HasRoom, Answers, DeliversTo, ChecksTo, RecoversAfter}
 use Rattle.archive_cli.specs.declared.outcome.Outcome.TheVariants.{Checked, Unopened}
 
 -- What a refusal to open leaves of an archive that a message was for.
@@ -72,6 +72,6 @@ opened-room v a None reads room opens = absurd reads
 opened-room v a (Some k) reads room opens = room v.root v.slot opens.root
 
 -- The archive before a command, or the one after it.
-pub either-behind : (may : List (Option Archive)) (a : Archive) (bytes : List ℕ) (moment : ℕ) (image : Files) → Contains may (Some a) → RecoversEither a (delivered a bytes moment).archive image → RecoversBehind may bytes moment image
-either-behind may a bytes moment image in_may (inl before) = inl (Some a, in_may, before)
-either-behind may a bytes moment image in_may (inr after) = inr (a, in_may, after)
+pub either-after : (may : List (Option Archive)) (a : Archive) (bytes : List ℕ) (moment : ℕ) (image : Files) → Contains may (Some a) → RecoversEither a (delivered a bytes moment).archive image → RecoversAfter may bytes moment image
+either-after may a bytes moment image in_may (inl before) = inl (Some a, in_may, before)
+either-after may a bytes moment image in_may (inr after) = inr (a, in_may, after)

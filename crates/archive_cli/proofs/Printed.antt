@@ -7,8 +7,8 @@ use Rattle.edge_io.specs.Phrases.{Says}
 use Rattle.edge_io.specs.declared.sink.SinkFault.{SinkFault}
 use Rattle.std.proofs.lemmas.List.{append-nil, take_all, length-take}
 use Rattle.std.proofs.Math.Seq.{take-append_seam}
+use Rattle.answer_lines.specs.Lines.{whole_line}
 use Rattle.archive_cli.specs.Words.{IsJob, AsksFor}
-use Rattle.archive_cli.specs.Frames.{line}
 use Rattle.archive_cli.specs.Turns.{World, Transcript, before_stop}
 use Rattle.archive_cli.specs.Plays.{PlaysSome}
 use Rattle.disk_model.specs.Disk.{Content}
@@ -34,11 +34,11 @@ module _ (out : Option (List ℕ)) (lost : ℕ) (out' : Option (List ℕ)) (lost
   printed-said words code status sent said is = record { due_status = code; words = words; is_due = record { status_is = refl; words_is = refl }; sent = sent; said = said; status_is = is }
 
 -- A script that is bad.
-pub due-bad : (config : Config) (text : List ℕ) (event : ℕ) → length text ≤ input_limit → IsBad event text → (s : Status) (words : List ℕ) → Exactly (line (codes "bad script " ++ decimal event)) exit.Script s words → IsReplayDue config text s words
+pub due-bad : (config : Config) (text : List ℕ) (event : ℕ) → length text ≤ input_limit → IsBad event text → (s : Status) (words : List ℕ) → Exactly (whole_line (codes "bad script " ++ decimal event)) exit.Script s words → IsReplayDue config text s words
 due-bad config text event short bad s words e = inl (inr (inl (record { short = short; event = event; bad = bad; status_is = e.status_is; printed_is = e.words_is })))
 
 -- A script that runs out of memory at once.
-pub due-none : (config : Config) (text : List ℕ) (s : Status) (words : List ℕ) → Exactly (line (codes "12 no memory")) exit.Memory s words → IsReplayDue config text s words
+pub due-none : (config : Config) (text : List ℕ) (s : Status) (words : List ℕ) → Exactly (whole_line (codes "12 no memory")) exit.Memory s words → IsReplayDue config text s words
 due-none config text s words e = inr (record { status_is = e.status_is; frames = []; played = inl refl; printed_is = e.words_is })
 
 -- A script whose events were played.
@@ -47,11 +47,11 @@ due-played config text frames arrivals after short script played s words e =
     inl (inr (inr (record { short = short; arrivals = arrivals; script = script; after = after; status_is = e.status_is; transcript = subst (λ w. Transcript (before_stop arrivals) (start config) w after) (sym e.words_is) played })))
 
 -- A script some of whose events were played.
-pub due-part : (config : Config) (text frames : List ℕ) (arrivals : List Arrival) → length text ≤ input_limit → IsScript arrivals text → PlaysSome (before_stop arrivals) (start config) frames → (s : Status) (words : List ℕ) → Exactly (frames ++ line (codes "12 no memory")) exit.Memory s words → IsReplayDue config text s words
+pub due-part : (config : Config) (text frames : List ℕ) (arrivals : List Arrival) → length text ≤ input_limit → IsScript arrivals text → PlaysSome (before_stop arrivals) (start config) frames → (s : Status) (words : List ℕ) → Exactly (frames ++ whole_line (codes "12 no memory")) exit.Memory s words → IsReplayDue config text s words
 due-part config text frames arrivals short script played s words e = inr (record { status_is = e.status_is; frames = frames; played = inr (record { short = short; arrivals = arrivals; script = script; played = played }); printed_is = e.words_is })
 
 -- An input that is too long.
-pub due-long : (config : Config) (input : List ℕ) → input_limit < length input → (s : Status) (words : List ℕ) → Exactly (line (codes "script too long")) exit.Script s words → IsReplayDue config input s words
+pub due-long : (config : Config) (input : List ℕ) → input_limit < length input → (s : Status) (words : List ℕ) → Exactly (whole_line (codes "script too long")) exit.Script s words → IsReplayDue config input s words
 due-long config input long s words e = inl (inl (record { long = long; status_is = e.status_is; printed_is = e.words_is }))
 
 -- There is some input.
@@ -118,16 +118,16 @@ ran-delivered words status i j asked (inr (inl p)) =
 ran-delivered words status i j asked (inr (inr failed)) = inr (inl (record { asked = inr asked; rose = failed.1; silent = failed.0 }))
 
 -- A check is a run.
-pub ran-checked : (words : List (List ℕ)) (status : Status) (i j : Edges) (o : Outcome) → AsksFor words Check → ((input : List ℕ) → Acts Check input i j o) → Printed (Exactly (line (outcome_line o)) (status_of o)) status i.taken i.lost j.taken j.lost → Ran words status i j
+pub ran-checked : (words : List (List ℕ)) (status : Status) (i j : Edges) (o : Outcome) → AsksFor words Check → ((input : List ℕ) → Acts Check input i j o) → Printed (Exactly (whole_line (outcome_line o)) (status_of o)) status i.taken i.lost j.taken j.lost → Ran words status i j
 ran-checked words status i j o asked acts p =
     let given = some-input i.left in
-    ran-printed words given.0 status i j (Exactly (line (outcome_line o)) (status_of o)) given.1
+    ran-printed words given.0 status i j (Exactly (whole_line (outcome_line o)) (status_of o)) given.1
     (λ s printed e. inl (record { job = Some Check; asked = asked; ends = record { outcome = o; acts = acts given.0; status_is = e.status_is; printed_is = e.words_is } })) p
 
 -- What was printed of an outcome is due by it.
-pub outcome-due : (job : Job) (input : List ℕ) (status : Status) (i j : Edges) (o : Outcome) → Acts job input i j o → Printed (Exactly (line (outcome_line o)) (status_of o)) status i.taken i.lost j.taken j.lost → Printed (IsOutcomeDue job input i j) status i.taken i.lost j.taken j.lost
+pub outcome-due : (job : Job) (input : List ℕ) (status : Status) (i j : Edges) (o : Outcome) → Acts job input i j o → Printed (Exactly (whole_line (outcome_line o)) (status_of o)) status i.taken i.lost j.taken j.lost → Printed (IsOutcomeDue job input i j) status i.taken i.lost j.taken j.lost
 outcome-due job input status i j o acts p =
-    printed-as i.taken i.lost j.taken j.lost (Exactly (line (outcome_line o)) (status_of o)) (IsOutcomeDue job input i j) status p
+    printed-as i.taken i.lost j.taken j.lost (Exactly (whole_line (outcome_line o)) (status_of o)) (IsOutcomeDue job input i j) status p
     (λ s words e. record { outcome = o; acts = acts; status_is = e.status_is; printed_is = e.words_is })
 
 -- A job over the disk does not depend on the end of the input.
@@ -145,9 +145,9 @@ job-moved job input status left left' unread unread' taken taken' lost lost' com
     inr (record { status_is = m.0.status_is; taken_is = m.0.taken_is; lost_kept = m.0.lost_kept; kept = m.0.kept }, m.1)
 
 -- The line for out of memory is due if a message wasn't read.
-pub unread-due : (status : Status) (i j : Edges) (out : Option (List ℕ)) (lost : ℕ) (out' : Option (List ℕ)) (lost' : ℕ) → j.content ≡ i.content → Printed (Exactly (line (codes "12 no memory")) exit.Memory) status out lost out' lost' → Printed (IsUnread i j) status out lost out' lost'
+pub unread-due : (status : Status) (i j : Edges) (out : Option (List ℕ)) (lost : ℕ) (out' : Option (List ℕ)) (lost' : ℕ) → j.content ≡ i.content → Printed (Exactly (whole_line (codes "12 no memory")) exit.Memory) status out lost out' lost' → Printed (IsUnread i j) status out lost out' lost'
 unread-due status i j out lost out' lost' kept p =
-    printed-as out lost out' lost' (Exactly (line (codes "12 no memory")) exit.Memory) (IsUnread i j) status p (λ s words e. record { status_is = e.status_is; printed_is = e.words_is; kept = kept })
+    printed-as out lost out' lost' (Exactly (whole_line (codes "12 no memory")) exit.Memory) (IsUnread i j) status p (λ s words e. record { status_is = e.status_is; printed_is = e.words_is; kept = kept })
 
 -- Some moment is the first to come.
 pub some-moment : (coming : Option Moments) → (moment : ℕ) × IsFirst moment coming

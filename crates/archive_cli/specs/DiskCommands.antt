@@ -119,8 +119,8 @@ LeavesUnopened (Made name) old new = Unit {0}
 LeavesUnopened Exists old new = Unit {0}
 
 -- The files stand for one of these archives, or for what a delivery to one of them leaves.
-abbrev pub RecoversBehind : List (Option Archive) → List ℕ → ℕ → Files → Type 0
-RecoversBehind may bytes moment image = RecoversOf may image
+abbrev pub RecoversAfter : List (Option Archive) → List ℕ → ℕ → Files → Type 0
+RecoversAfter may bytes moment image = RecoversOf may image
     ⊎ ((a : Archive) × Contains may (Some a) × Recovers image (delivered a bytes moment).archive)
 
 -- The outcome tells that the disk failed.

@@ -7,8 +7,8 @@ use Rattle.edge_io.specs.declared.sink.SinkFault.{SinkFault}
 use Rattle.disk_model.specs.Disk.{Files}
 use Rattle.edge_io.specs.Coming.{Moments, IsFirst}
 use Rattle.arch_model.specs.Archives.{Archive}
-use Rattle.archive_cli.specs.DiskCommands.{RecoversBehind}
-use Rattle.archive_cli.specs.Frames.{line}
+use Rattle.answer_lines.specs.Lines.{whole_line}
+use Rattle.archive_cli.specs.DiskCommands.{RecoversAfter}
 use Rattle.archive_cli.specs.declared.words.Job.{Job}
 use Rattle.archive_cli.specs.declared.words.Job.TheVariants.{Deliver}
 use Rattle.archive_cli.specs.Program.{Edges, EndsBy, IsSilent, IsInput, input_limit, Replays, StopsShort}
@@ -98,12 +98,12 @@ JobDone job input status i j = Printed (IsOutcomeDue job input i j)
 -- What a crash leaves while a message is delivered at the first moment to come.
 abbrev pub BytesLeave : List (Option Archive) → List ℕ → Option Moments → Files → Type 0
 BytesLeave may bytes coming image = (moment : ℕ) × IsFirst moment coming
-    × RecoversBehind may bytes moment image
+    × RecoversAfter may bytes moment image
 
 -- The message was not read, because memory ran out.
 pub record IsUnread (i j : Edges) (status : Status) (printed : List ℕ) : Type 0 where
   pub status_is : status ≡ exit.Memory
-  pub printed_is : printed ≡ line (codes "12 no memory")
+  pub printed_is : printed ≡ whole_line (codes "12 no memory")
   pub kept : j.content ≡ i.content
 
 -- The message on the input was to be delivered: what was due is printed, or the message was not

@@ -12,11 +12,11 @@ use Rattle.arch_model.specs.Archives.{Archive, empty_archive}
 use Rattle.epoch_store.specs.Files.{as_read}
 use Rattle.epoch_store.specs.First.{MakingLeaves}
 use Rattle.epoch_store.specs.Opens.{ReadsAs}
-use Rattle.archive_cli.specs.DiskCommands.{HasRoom, Makes, DeliversTo, ChecksTo, IsOpenedAs, IsFault, RecoversBehind, LeavesUnopened}
+use Rattle.answer_lines.specs.Lines.{whole_line}
+use Rattle.archive_cli.specs.DiskCommands.{HasRoom, Makes, DeliversTo, ChecksTo, IsOpenedAs, IsFault, RecoversAfter, LeavesUnopened}
 use Rattle.archive_cli.specs.Outcomes.{outcome_line, status_of}
 use Rattle.archive_cli.specs.Statuses.{code_of}
 use Rattle.archive_cli.specs.Words.{IsJob, AsksFor}
-use Rattle.archive_cli.specs.Frames.{line}
 use Rattle.archive_cli.specs.Turns.{World, Transcript, before_stop}
 use Rattle.archive_cli.specs.Plays.{PlaysSome}
 use Rattle.archive_cli.specs.declared.words.Job.{Job}
@@ -42,7 +42,7 @@ message_limit = 9000001
 pub record IsTooLong (input : List ℕ) (status : Status) (printed : List ℕ) : Type 0 where
   pub long : input_limit < length input
   pub status_is : status ≡ exit.Script
-  pub printed_is : printed ≡ line (codes "script too long")
+  pub printed_is : printed ≡ whole_line (codes "script too long")
 
 -- The input is not a script.
 pub record IsBadScript (input : List ℕ) (status : Status) (printed : List ℕ) : Type 0 where
@@ -50,7 +50,7 @@ pub record IsBadScript (input : List ℕ) (status : Status) (printed : List ℕ)
   pub event : ℕ
   pub bad : IsBad event input
   pub status_is : status ≡ exit.Script
-  pub printed_is : printed ≡ line (codes "bad script " ++ decimal event)
+  pub printed_is : printed ≡ whole_line (codes "bad script " ++ decimal event)
 
 -- The input is a script, whose events up to the first stop are played.
 pub record IsPlayed (config : Config) (input : List ℕ) (status : Status) (printed : List ℕ)
@@ -148,12 +148,12 @@ pub record EndsBy (job : Job) (input : List ℕ) (i j : Edges) (status : Status)
   pub outcome : Outcome
   pub acts : Acts job input i j outcome
   pub status_is : status ≡ status_of outcome
-  pub printed_is : printed ≡ line (outcome_line outcome)
+  pub printed_is : printed ≡ whole_line (outcome_line outcome)
 
 -- What a job on an input ends with.
 abbrev pub Ends : Option Job → List ℕ → Edges → Edges → Status → List ℕ → Type 0
 Ends None input i j status printed = (status ≡ exit.NotRead)
-    × (printed ≡ line (codes "words not read"))
+    × (printed ≡ whole_line (codes "words not read"))
 Ends (Some Help) input i j status printed = (status ≡ exit.Done) × (printed ≡ HELP.now)
 Ends (Some Version) input i j status printed = (status ≡ exit.Done) × (printed ≡ VERSION.now)
 Ends (Some (Replay config)) input i j status printed = Replays config input status printed
@@ -182,7 +182,7 @@ pub record StopsShort (config : Config) (input : List ℕ) (status : Status) (pr
   pub status_is : status ≡ exit.Memory
   pub frames : List ℕ
   pub played : (frames ≡ []) ⊎ PlaysPart config input frames
-  pub printed_is : printed ≡ frames ++ line (codes "12 no memory")
+  pub printed_is : printed ≡ frames ++ whole_line (codes "12 no memory")
 
 -- The words ask for a replay, which ran out of memory.
 pub record ReplayRunsOut (words : List (List ℕ)) (input : List ℕ) (status : Status)
@@ -196,7 +196,7 @@ pub record DeliverRunsOut (words : List (List ℕ)) (i j : Edges) (status : Stat
     : Type 0 where
   pub asked : AsksFor words Deliver
   pub status_is : status ≡ exit.Memory
-  pub printed_is : printed ≡ line (codes "12 no memory")
+  pub printed_is : printed ≡ whole_line (codes "12 no memory")
   pub kept : j.content ≡ i.content
 
 -- A replay or a delivery ran out of memory.
@@ -303,7 +303,7 @@ WordsLeave words coming old image = (config : Config) × AsksFor words (Init con
 -- of the archives that the disk may have stood for, or the one that the delivery leaves.
 abbrev pub DeliverLeaves : List (Option Archive) → Option (List ℕ) → Option Moments → Files → Type 0
 DeliverLeaves may left coming image = (input : List ℕ) × IsInput left input
-    × ((moment : ℕ) × IsFirst moment coming × RecoversBehind may (message_of input) moment image)
+    × ((moment : ℕ) × IsFirst moment coming × RecoversAfter may (message_of input) moment image)
 
 -- The words ask for a job without a disk.
 abbrev pub LeavesDisk : List (List ℕ) → Type 0

@@ -122,16 +122,16 @@ pub record IsMade (words : List (List ℕ)) (settings : List Setting) (config : 
 -- The word `init`, and then a name with settings.
 pub record IsInit (words : List (List ℕ)) (config : Config) : Type 0 where
   pub settings : List Setting
-  pub behind : List (List ℕ)
-  pub is : words ≡ codes "init" ∷ behind
-  pub made : IsMade behind settings config
+  pub after : List (List ℕ)
+  pub is : words ≡ codes "init" ∷ after
+  pub made : IsMade after settings config
 
 -- The word `replay`, and then a name with settings, none of which is `mirror`.
 pub record IsReplay (words : List (List ℕ)) (config : Config) : Type 0 where
   pub settings : List Setting
-  pub behind : List (List ℕ)
-  pub is : words ≡ codes "replay" ∷ behind
-  pub made : IsMade behind settings config
+  pub after : List (List ℕ)
+  pub is : words ≡ codes "replay" ∷ after
+  pub made : IsMade after settings config
   pub no_mirror : mirrors settings ≡ []
 
 -- The words ask for this job.

@@ -1,5 +1,5 @@
 //! The work of `init`, `deliver` and `check` on the archive on a disk.
-ghost use Rattle.std.specs.Prelude.{◌≡◌, ◌≤◌, List, Option};
+ghost use Rattle.std.specs.Prelude.{◌≤◌, List, Option};
 ghost use Rattle.arch_base.specs.Configs.{IsConfig};
 ghost use Rattle.arch_base.specs.Counts.{RoseIf};
 ghost use Rattle.disk_model.specs.Disk.{WhereTold, LeavesOnly};
@@ -8,7 +8,7 @@ ghost use Rattle.arch_base.specs.Moments.{last_moment};
 ghost use Rattle.epoch_store.specs.Files.{as_read};
 ghost use Rattle.epoch_store.specs.First.{MakingLeaves};
 ghost use Rattle.epoch_store.specs.Opens.{AllRecoverOf, ReadsAs, RecoversOf};
-ghost use Rattle.archive_cli.specs.DiskCommands.{Makes, DeliversTo, ChecksTo, IsOpenedAs, LeavesUnopened, RecoversBehind, HasRoom, IsFault};
+ghost use Rattle.archive_cli.specs.DiskCommands.{Makes, DeliversTo, ChecksTo, IsOpenedAs, LeavesUnopened, RecoversAfter, HasRoom, IsFault};
 
 use crate::outcome::Outcome;
 use arch_base::Config;
@@ -39,7 +39,7 @@ pub(crate) fn deliver<D: Disk>(alloc: Global, disk: &mut D, bytes: &[u8], moment
     requires moment { moment ≤ last_moment }
     ensures any_moment { (may : List (Option Archive)) → AllRecoverOf may (D.content disk.old)
         → HasRoom (D.content disk.old)
-        → LeavesOnly D.moment D.left_since disk.old disk.new (RecoversBehind may bytes.now moment) }
+        → LeavesOnly D.moment D.left_since disk.old disk.new (RecoversAfter may bytes.now moment) }
     ensures done { (a : Archive) → ReadsAs a (D.content disk.old) → HasRoom (D.content disk.old)
         → DeliversTo a bytes.now moment result (D.content disk.new) }
     ensures answer { WhereTold (λ k. IsOpenedAs (as_read k) result) (D.content disk.old) }

@@ -1,5 +1,5 @@
 //! The frames in which a replay prints what the events of a script wrote.
-ghost use Rattle.std.specs.Prelude.{◌≡◌, ◌++◌, ◌∷◌, [], ℕ, decimal, length, take, true, OnOk, OnErr, IfOk, is_ok, if◌then◌else◌};
+ghost use Rattle.std.specs.Prelude.{◌≡◌, ◌++◌, length, take, true, OnOk, OnErr, IfOk, is_ok, if◌then◌else◌};
 ghost use Rattle.archive_cli.specs.Frames.{frame, written, closing, head as head_of};
 
 use arch_base::{Bytes, NoMemory};

@@ -1,7 +1,7 @@
 //! How a command over the archive on a disk ends, and what is printed of it.
 ghost use Rattle.std.specs.Prelude.{◌≡◌, ◌++◌, codes, decimal};
 ghost use Rattle.edge_io.specs.Phrases.{Says};
-ghost use Rattle.archive_cli.specs.Frames.{line};
+ghost use Rattle.answer_lines.specs.Lines.{whole_line};
 ghost use Rattle.archive_cli.specs.Outcomes.{outcome_line, refusal_line, checked_line, status_of, answer_status, refusal_status};
 
 use crate::status::Status;
@@ -42,7 +42,7 @@ impl Outcome {
 
     /// Writes the line of the outcome.
     pub(crate) fn say<O: Sink>(&self, out: &mut O) -> Result<(), SinkFault>
-        ensures said { Says (line (outcome_line self.now)) (O.taken out.old) (O.faults out.old)
+        ensures said { Says (whole_line (outcome_line self.now)) (O.taken out.old) (O.faults out.old)
             (O.taken out.new) (O.faults out.new) result }
         ensures sink { O.alike out.old out.new }
     {
@@ -86,7 +86,7 @@ fn status_of_refusal(refusal: &OpenRefusal) -> Status
 
 /// Writes that an archive with this name was made.
 fn say_made<O: Sink>(name: &Name, out: &mut O) -> Result<(), SinkFault>
-    ensures said { Says (line (codes "made " ++ name.now)) (O.taken out.old) (O.faults out.old)
+    ensures said { Says (whole_line (codes "made " ++ name.now)) (O.taken out.old) (O.faults out.old)
         (O.taken out.new) (O.faults out.new) result }
     ensures sink { O.alike out.old out.new }
 {
@@ -96,8 +96,8 @@ fn say_made<O: Sink>(name: &Name, out: &mut O) -> Result<(), SinkFault>
 
 /// Writes the counts of an archive's entries and messages, and its next number.
 fn say_checked<O: Sink>(entries: u64, live: u32, next: u32, out: &mut O) -> Result<(), SinkFault>
-    ensures said { Says (line (checked_line entries live next)) (O.taken out.old) (O.faults out.old)
-        (O.taken out.new) (O.faults out.new) result }
+    ensures said { Says (whole_line (checked_line entries live next)) (O.taken out.old)
+        (O.faults out.old) (O.taken out.new) (O.faults out.new) result }
     ensures sink { O.alike out.old out.new }
 {
     let mut buffer = Buffer::new();
@@ -108,8 +108,9 @@ fn say_checked<O: Sink>(entries: u64, live: u32, next: u32, out: &mut O) -> Resu
 
 /// Writes the count of an archive's messages, and its next number.
 fn say_numbers<O: Sink>(live: u32, next: u32, out: &mut O) -> Result<(), SinkFault>
-    ensures said { Says (line (codes " live " ++ (decimal live ++ (codes " next " ++ decimal next))))
-        (O.taken out.old) (O.faults out.old) (O.taken out.new) (O.faults out.new) result }
+    ensures said { Says (whole_line (codes " live "
+        ++ (decimal live ++ (codes " next " ++ decimal next)))) (O.taken out.old) (O.faults out.old)
+        (O.taken out.new) (O.faults out.new) result }
     ensures sink { O.alike out.old out.new }
 {
     let mut buffer = Buffer::new();
@@ -120,7 +121,7 @@ fn say_numbers<O: Sink>(live: u32, next: u32, out: &mut O) -> Result<(), SinkFau
 
 /// Writes why an archive could not be opened.
 fn say_refusal<O: Sink>(refusal: &OpenRefusal, out: &mut O) -> Result<(), SinkFault>
-    ensures said { Says (line (refusal_line refusal.now)) (O.taken out.old) (O.faults out.old)
+    ensures said { Says (whole_line (refusal_line refusal.now)) (O.taken out.old) (O.faults out.old)
         (O.taken out.new) (O.faults out.new) result }
     ensures sink { O.alike out.old out.new }
 {

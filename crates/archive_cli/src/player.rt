@@ -1,5 +1,5 @@
 //! Plays the events of a script, in order, over a keeper and its one connection.
-ghost use Rattle.std.specs.Prelude.{◌≡◌, ◌≤◌, ◌++◌, [], ℕ, List, All, OnOk, OnErr, None};
+ghost use Rattle.std.specs.Prelude.{◌≡◌, ◌≤◌, ◌++◌, [], All, OnOk, OnErr, None};
 ghost use Rattle.edge_io.specs.Scripts.{IsArrival};
 ghost use Rattle.arch_base.specs.Moments.{last_moment};
 ghost use Rattle.archive_cli.specs.Turns.{World, before_stop, is_stop as stops};

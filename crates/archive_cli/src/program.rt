@@ -3,12 +3,12 @@ ghost use Rattle.std.specs.Prelude.{◌≡◌, ◌≤◌, ◌+◌, ◌++◌, [],
 ghost use Rattle.disk_model.specs.Disk.{LeavesOnly};
 ghost use Rattle.arch_model.specs.Archives.{Archive, empty_archive};
 ghost use Rattle.epoch_store.specs.Opens.{AllRecoverOf, RecoversOf};
+ghost use Rattle.answer_lines.specs.Lines.{whole_line};
 ghost use Rattle.archive_cli.specs.Words.{spelled, AsksFor};
 ghost use Rattle.archive_cli.specs.declared.words.Job.TheVariants.{Init, Deliver, Check};
 ghost use Rattle.arch_base.specs.declared.config.Config.{Config};
 ghost use Rattle.archive_cli.specs.DiskCommands.{HasRoom};
 ghost use Rattle.archive_cli.specs.Outcomes.{outcome_line, status_of};
-ghost use Rattle.archive_cli.specs.Frames.{line};
 ghost use Rattle.archive_cli.specs.Program.{RanTo, TakesInput, TookAtMost, LeavesDisk, AsksForInit, WordsLeave, InitLeaves, DeliverLeaves, all_edges, edges, input_limit, message_limit, message_of, made_at};
 ghost use Rattle.archive_cli.specs.Printing.{Printed, Exactly, IsReplayDue, Replayed, JobDone, InputDone, BytesLeave};
 ghost use Rattle.arch_base.specs.Configs.{IsConfig};
@@ -175,8 +175,9 @@ fn deliver_bytes<D: Disk, O: Sink, C: Clock>(
 
 /// Prints how a command over the disk ended, and returns its status.
 fn print_outcome<O: Sink>(outcome: &Outcome, out: &mut O) -> Status
-    ensures printed { Printed (Exactly (line (outcome_line outcome.now)) (status_of outcome.now))
-        result (O.taken out.old) (O.faults out.old) (O.taken out.new) (O.faults out.new) }
+    ensures printed { Printed (Exactly (whole_line (outcome_line outcome.now))
+        (status_of outcome.now)) result (O.taken out.old) (O.faults out.old) (O.taken out.new)
+        (O.faults out.new) }
     ensures sink { O.alike out.old out.new }
 {
     outcome.status().if_taken(outcome.say(out))
@@ -259,7 +260,7 @@ pub(crate) fn play_script<K: CountedKeep + Drop, O: Sink>(
 
 /// Writes the frames of a script, and that memory ran out after them.
 fn say_cut<O: Sink>(frames: &[u8], out: &mut O) -> Result<(), SinkFault>
-    ensures said { Says (frames.now ++ line (codes "12 no memory")) (O.taken out.old)
+    ensures said { Says (frames.now ++ whole_line (codes "12 no memory")) (O.taken out.old)
         (O.faults out.old) (O.taken out.new) (O.faults out.new) result }
     ensures sink { O.alike out.old out.new }
 {
@@ -269,8 +270,9 @@ fn say_cut<O: Sink>(frames: &[u8], out: &mut O) -> Result<(), SinkFault>
 
 /// Prints the line of a script that is bad at an event.
 fn print_bad<O: Sink>(event: u64, out: &mut O) -> Status
-    ensures printed { Printed (Exactly (line (codes "bad script " ++ decimal event)) Status.Script)
-        result (O.taken out.old) (O.faults out.old) (O.taken out.new) (O.faults out.new) }
+    ensures printed { Printed (Exactly (whole_line (codes "bad script " ++ decimal event))
+        Status.Script) result (O.taken out.old) (O.faults out.old) (O.taken out.new)
+        (O.faults out.new) }
     ensures sink { O.alike out.old out.new }
 {
     Status::Script.if_taken(say_number(b"bad script ", event, out))
@@ -278,7 +280,7 @@ fn print_bad<O: Sink>(event: u64, out: &mut O) -> Status
 
 /// Prints that memory ran out.
 pub(crate) fn print_no_memory<O: Sink>(out: &mut O) -> Status
-    ensures printed { Printed (Exactly (line (codes "12 no memory")) Status.Memory) result
+    ensures printed { Printed (Exactly (whole_line (codes "12 no memory")) Status.Memory) result
         (O.taken out.old) (O.faults out.old) (O.taken out.new) (O.faults out.new) }
     ensures sink { O.alike out.old out.new }
 {

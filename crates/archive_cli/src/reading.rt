@@ -1,5 +1,5 @@
 //! Reads the input up to its end, or up to a limit.
-ghost use Rattle.std.specs.Prelude.{◌≡◌, ◌≤◌, ◌<◌, ◌+◌, ℕ, IfOk, length};
+ghost use Rattle.std.specs.Prelude.{◌≡◌, ◌≤◌, ◌<◌, ◌+◌, IfOk, length};
 ghost use Rattle.archive_cli.specs.Program.{TookAtMost, input_limit, message_limit};
 ghost use Rattle.archive_cli.specs.Printing.{IsRead, IsFrontRead, IsPieceRead};
 

@@ -14,7 +14,7 @@ use Rattle.arch_model.specs.declared.text_refusal.TextRefusal.{TextRefusal}
 use Rattle.arch_model.specs.declared.text_refusal.TextRefusal.TheVariants.{DiskFault, Damaged, NoMemory}
 use Rattle.epoch_store.specs.declared.entries.StoredEntry.{StoredEntry}
 use Rattle.epoch_store.specs.Reads.{GivesText, GivesTextOf, text_if}
-use Rattle.epoch_store.specs.Stores.{View, Keeps, IsStoreOf, stored_at, stored_behind}
+use Rattle.epoch_store.specs.Stores.{View, Keeps, IsStoreOf, stored_at, stored_after}
 use Rattle.archive_core.specs.Numbers.{has_number, NumbersRise, IsNumberAt, IsCountBelow, GivesTextKept}
 use Rattle.archive_core.proofs.Standing.{store_keeps}
 
@@ -37,7 +37,7 @@ before_or_not zero (suc i) = inl (omega arith)
 before_or_not (suc j) (suc i) = elim (before_or_not j i) [ inl less ↦ inl (omega (arith, less)) | inr most ↦ inr (omega (arith, most)) ]
 
 -- Numbers rise in what is kept of entries whose numbers rise.
-rises : (before es : List Entry) (number epoch : ℕ) → Rise number epoch es → AllAdjacentBelow (λ (x y : StoredEntry). x.number ≤ y.number) (stored_behind before es) (length (stored_behind before es))
+rises : (before es : List Entry) (number epoch : ℕ) → Rise number epoch es → AllAdjacentBelow (λ (x y : StoredEntry). x.number ≤ y.number) (stored_after before es) (length (stored_after before es))
 rises before [] number epoch rise k d inside = absurd (omega (arith, inside))
 rises before (e ∷ []) number epoch rise k d inside = absurd (omega (arith, inside))
 rises before (e ∷ (f ∷ es)) number epoch rise zero d inside = let next = rise.2.0 in omega (arith, next)
@@ -48,7 +48,7 @@ rises before (e ∷ (f ∷ es)) number epoch rise (suc k) d inside =
 -- Numbers rise in a store that keeps an archive.
 pub keeps_rise : (v : View) (a : Archive) → Keeps v a → NumbersRise v.entries
 keeps_rise v a keeps =
-    subst NumbersRise (sym keeps.kept) (IsNonDecreasingBy-from_all_adjacent (λ (e : StoredEntry). e.number) (stored_behind [] a.entries) (rises [] a.entries 1 0 keeps.valid.order))
+    subst NumbersRise (sym keeps.kept) (IsNonDecreasingBy-from_all_adjacent (λ (e : StoredEntry). e.number) (stored_after [] a.entries) (rises [] a.entries 1 0 keeps.valid.order))
 
 -- A later entry has no lesser number.
 rise_at : (xs : List StoredEntry) (i j : ℕ) (s t : StoredEntry) → NumbersRise xs → i ≤ j → slice_get xs i ≡ Some s → slice_get xs j ≡ Some t → s.number ≤ t.number
@@ -105,7 +105,7 @@ never_other xs n i e rise count has here other =
     other (ap (λ (f : StoredEntry). f.number) (only e at.0 (sym here ∙ at.1)) ∙ at.2)
 
 -- No entry has a number that none of the kept ones has.
-none_of : (before es : List Entry) (m : ℕ) → ((j : ℕ) (s : StoredEntry) → slice_get (stored_behind before es) j ≡ Some s → s.number ≢ m) → text_of es m ≡ None
+none_of : (before es : List Entry) (m : ℕ) → ((j : ℕ) (s : StoredEntry) → slice_get (stored_after before es) j ≡ Some s → s.number ≢ m) → text_of es m ≡ None
 none_of before [] m apart = refl
 none_of before (e ∷ es) m apart =
     let first : e.number ≢ m = apart 0 (stored_at before e) refl in
@@ -113,7 +113,7 @@ none_of before (e ∷ es) m apart =
     rw other (none_of (before ++ e ∷ []) es m (λ j s is. apart (suc j) s is))
 
 -- The text of the number at an index.
-text_at : (before es : List Entry) (number epoch i n : ℕ) (s : StoredEntry) → Rise number epoch es → slice_get (stored_behind before es) i ≡ Some s → s.number ≡ n
+text_at : (before es : List Entry) (number epoch i n : ℕ) (s : StoredEntry) → Rise number epoch es → slice_get (stored_after before es) i ≡ Some s → s.number ≡ n
     → (number ≤ n) × (text_of es n ≡ text_if (slice_get es i)) × (is_some (text_of es n) ≡ true)
 text_at before [] number epoch i n s rise is same = absurd (there_is (slice_get {X = StoredEntry} [] i) s is refl)
 text_at before (e ∷ es) number epoch zero n s rise is same =

@@ -3,7 +3,7 @@ use Rattle.std.specs.Prelude.{◌≡◌, ◌+◌, ◌<◌, ◌≤◌, ℕ, List,
 use Rattle.std.specs.List.{AllByRecursion}
 use Rattle.std.proofs.Common.{◌∙◌, ap, arith}
 use Rattle.arch_model.specs.Archives.{Entry, Archive}
-use Rattle.epoch_store.specs.Stores.{View, Keeps, stored_behind}
+use Rattle.epoch_store.specs.Stores.{View, Keeps, stored_after}
 use Rattle.arch_model.specs.Validity.{Rise}
 
 -- Entries whose numbers rise from one on and stay below another are at most as many as are between.
@@ -16,7 +16,7 @@ few number epoch next (e ∷ es) low rise below =
     omega (arith, first, rest)
 
 -- As many are kept as there are.
-pub stored_length : (before es : List Entry) → length (stored_behind before es) ≡ length es
+pub stored_length : (before es : List Entry) → length (stored_after before es) ≡ length es
 stored_length before [] = refl
 stored_length before (e ∷ es) = let rest = stored_length (before ++ e ∷ []) es in omega (arith, rest)
 

@@ -14,7 +14,7 @@ use Rattle.arch_judge.specs.Indexes.{IsIndex, HasSame, owner_of, owner_in, numbe
 use Rattle.arch_judge.specs.declared.index.Index.{Index}
 use Rattle.arch_judge.specs.declared.index.Owner.{Owner}
 use Rattle.epoch_store.specs.declared.entries.StoredEntry.{StoredEntry}
-use Rattle.epoch_store.specs.Stores.{View, Accepts, AddsEntry, Keeps, stored_at, stored_behind}
+use Rattle.epoch_store.specs.Stores.{View, Accepts, AddsEntry, Keeps, stored_at, stored_after}
 use Rattle.arch_model.specs.Validity.{IsEntry}
 use Rattle.archive_core.specs.Kept.{IndexesStored, PutsText, TakesBackText, owner_kept, stored_owner, stored_number}
 
@@ -108,25 +108,25 @@ owner_step (Some own) id e kept found rest some same id_is ih = ap (λ (i : List
   by true = ap Some same
   by false = ih
 
-owners_same : (before es : List Entry) → AllByRecursion IsEntry es → (id : List ℕ) → stored_owner (stored_behind before es) id ≡ option_map owner_of (owner es id)
+owners_same : (before es : List Entry) → AllByRecursion IsEntry es → (id : List ℕ) → stored_owner (stored_after before es) id ≡ option_map owner_of (owner es id)
 owners_same before [] valid id = refl
 owners_same before (e ∷ es) valid id =
-    owner_step (own_id e.text) id e (stored_at before e) (owner es id) (find (λ (s : StoredEntry). bytes_eq id s.seen.id) (stored_behind (before ++ e ∷ []) es)) valid.0.text.id refl refl (owners_same (before ++ e ∷ []) es valid.1 id)
+    owner_step (own_id e.text) id e (stored_at before e) (owner es id) (find (λ (s : StoredEntry). bytes_eq id s.seen.id) (stored_after (before ++ e ∷ []) es)) valid.0.text.id refl refl (owners_same (before ++ e ∷ []) es valid.1 id)
 
 -- The number of an entry by its blob id.
 number_step : (t : Bool) (n : ℕ) (kept : StoredEntry) (found : Option ℕ) (rest : Option StoredEntry) → kept.number ≡ n → option_map (λ (s : StoredEntry). s.number) rest ≡ found → option_map (λ (s : StoredEntry). s.number) (cond t (Some kept) rest) ≡ (if t then Some n else found)
 number_step true n kept found rest same ih = ap Some same
 number_step false n kept found rest same ih = ih
 
-numbers_same : (before es : List Entry) (blob : List ℕ) → stored_number (stored_behind before es) blob ≡ blob_number es blob
+numbers_same : (before es : List Entry) (blob : List ℕ) → stored_number (stored_after before es) blob ≡ blob_number es blob
 numbers_same before [] blob = refl
 numbers_same before (e ∷ es) blob =
-    number_step (bytes_eq blob (blob_id_of e.text).0) e.number (stored_at before e) (blob_number es blob) (find (λ (s : StoredEntry). bytes_eq blob s.seen.blob.0) (stored_behind (before ++ e ∷ []) es)) refl (numbers_same (before ++ e ∷ []) es blob)
+    number_step (bytes_eq blob (blob_id_of e.text).0) e.number (stored_at before e) (blob_number es blob) (find (λ (s : StoredEntry). bytes_eq blob s.seen.blob.0) (stored_after (before ++ e ∷ []) es)) refl (numbers_same (before ++ e ∷ []) es blob)
 
 -- The index of a store's entries is that of the entries of the archive that it keeps.
 pub index_of_kept : (v : View) (a : Archive) (index : Index) → Keeps v a → IndexesStored v.entries index → IsIndex a.entries index
 index_of_kept v a index keeps indexed =
-    let of_kept : IndexesStored (stored_behind [] a.entries) index = subst (λ (es : List StoredEntry). IndexesStored es index) keeps.kept indexed in
+    let of_kept : IndexesStored (stored_after [] a.entries) index = subst (λ (es : List StoredEntry). IndexesStored es index) keeps.kept indexed in
     record {
       owners = λ id. of_kept.owners id ∙ owners_same [] a.entries keeps.valid.entries id;
       blobs = λ blob. of_kept.blobs blob ∙ numbers_same [] a.entries blob;
@@ -137,8 +137,8 @@ pub indexes_same : (es : List StoredEntry) (old new : Index) → IndexesStored e
 indexes_same es old new indexed same = record { owners = λ q. same.owners q ∙ indexed.owners q; blobs = λ q. same.blobs q ∙ indexed.blobs q }
 
 -- An index with a new text is that of the entries with it.
-pub indexes_more : (old new : View) (before behind : Index) (text : List ℕ) (blob : Id20) → IndexesStored old.entries before → Accepts old text → blob ≡ blob_id_of text → PutsText before behind text blob old.root.next → AddsEntry old new text → IndexesStored new.entries behind
-indexes_more old new before behind text blob indexed accepts blob_is puts adds =
+pub indexes_more : (old new : View) (before after : Index) (text : List ℕ) (blob : Id20) → IndexesStored old.entries before → Accepts old text → blob ≡ blob_id_of text → PutsText before after text blob old.root.next → AddsEntry old new text → IndexesStored new.entries after
+indexes_more old new before after text blob indexed accepts blob_is puts adds =
     let e = adds.entry in
     let put = puts e.seen.id adds.id in
     let message : Owner = record { number = old.root.next; content = content_id_of text } in
@@ -146,7 +146,7 @@ indexes_more old new before behind text blob indexed accepts blob_is puts adds =
     let blob_same : blob ≡ e.seen.blob = blob_is ∙ sym adds.blob in
     let id_none : stored_owner old.entries e.seen.id ≡ None = id_free old.entries text e.seen.id adds.id accepts.id in
     let blob_none : stored_number old.entries e.seen.blob.0 ≡ None = subst (λ (i : Id20). stored_number old.entries i.0 ≡ None) (sym adds.blob) (blob_free old.entries (blob_id_of text) accepts.blob) in
-    subst (λ (es : List StoredEntry). IndexesStored es behind) (sym adds.entries)
+    subst (λ (es : List StoredEntry). IndexesStored es after) (sym adds.entries)
     (record {
       owners = λ q.
           put.owners q
@@ -166,10 +166,10 @@ pub unseen : (v : View) (index : Index) (text : List ℕ) (blob : Id20) → Inde
 unseen v index text blob indexed accepts blob_is = indexed.blobs blob.0 ∙ blob_free v.entries blob (subst (λ (i : Id20). AllByRecursion (λ (e : StoredEntry). i ≢ e.seen.blob) v.entries) (sym blob_is) accepts.blob)
 
 -- A new text that is put in and removed leaves an index of the same entries.
-pub indexes_again : (v : View) (before put behind : Index) (text : List ℕ) (blob : Id20) → IndexesStored v.entries before → Accepts v text → blob ≡ blob_id_of text → PutsText before put text blob v.root.next → TakesBackText put behind text blob → IndexesStored v.entries behind
-indexes_again v before put behind text blob indexed accepts blob_is puts back = by (own_id text) refl accepts.storage.id where
-  by : (o : Option (List ℕ)) → own_id text ≡ o → IsSome o → IndexesStored v.entries behind
+pub indexes_again : (v : View) (before put after : Index) (text : List ℕ) (blob : Id20) → IndexesStored v.entries before → Accepts v text → blob ≡ blob_id_of text → PutsText before put text blob v.root.next → TakesBackText put after text blob → IndexesStored v.entries after
+indexes_again v before put after text blob indexed accepts blob_is puts back = by (own_id text) refl accepts.storage.id where
+  by : (o : Option (List ℕ)) → own_id text ≡ o → IsSome o → IndexesStored v.entries after
   by None own some = absurd (let no : false ≡ true = some in cc)
   by (Some id) own some =
       let id_none : owner_in before.owners id ≡ None = indexed.owners id ∙ id_free v.entries text id own accepts.id in
-      indexes_same v.entries before behind indexed (back id own before (record { number = v.root.next; content = content_id_of text }) (puts id own) id_none (unseen v before text blob indexed accepts blob_is))
+      indexes_same v.entries before after indexed (back id own before (record { number = v.root.next; content = content_id_of text }) (puts id own) id_none (unseen v before text blob indexed accepts blob_is))

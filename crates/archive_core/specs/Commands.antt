@@ -33,7 +33,7 @@ DoneBy v a wanted (answer.Collision number) content =
 DoneBy v a wanted answer.IsMirror content = IsDone v wanted answer.IsMirror content
 DoneBy v a wanted (answer.NotLive number) content = ⊥
 DoneBy v a wanted (answer.NoText number) content = ⊥
-DoneBy v a wanted (answer.Damaged file place) content = ⊥
+DoneBy v a wanted (answer.Damaged file offset) content = ⊥
 
 -- What holds after the answer `Ok`.
 abbrev pub OnDone : Answer → Type 0 → Type 0
@@ -47,7 +47,7 @@ OnDone (answer.NotLive number) P = Unit {0}
 OnDone (answer.NoText number) P = Unit {0}
 OnDone answer.IsMirror P = Unit {0}
 OnDone answer.DiskFault P = Unit {0}
-OnDone (answer.Damaged file place) P = Unit {0}
+OnDone (answer.Damaged file offset) P = Unit {0}
 OnDone answer.NoMemory P = Unit {0}
 
 -- What holds after any answer but `Ok`.
@@ -62,7 +62,7 @@ OnRefusal (answer.NotLive number) P = P
 OnRefusal (answer.NoText number) P = P
 OnRefusal answer.IsMirror P = P
 OnRefusal answer.DiskFault P = P
-OnRefusal (answer.Damaged file place) P = P
+OnRefusal (answer.Damaged file offset) P = P
 OnRefusal answer.NoMemory P = P
 
 -- What holds if no call of the disk failed.
@@ -77,7 +77,7 @@ UnlessFault (answer.Collision number) P = P
 UnlessFault (answer.NotLive number) P = P
 UnlessFault (answer.NoText number) P = P
 UnlessFault answer.IsMirror P = P
-UnlessFault (answer.Damaged file place) P = P
+UnlessFault (answer.Damaged file offset) P = P
 UnlessFault answer.NoMemory P = P
 
 -- The answers to a command. As long as no command removes, purges or edits, no number is refused,
@@ -94,10 +94,10 @@ IsForCommand answer.DiskFault = Unit {0}
 IsForCommand answer.NoMemory = Unit {0}
 IsForCommand (answer.NotLive number) = ⊥
 IsForCommand (answer.NoText number) = ⊥
-IsForCommand (answer.Damaged file place) = ⊥
+IsForCommand (answer.Damaged file offset) = ⊥
 
 -- The answer for an error of the store.
 abbrev pub refusal_answer : StoreRefusal → Answer
 refusal_answer refusal.DiskFault = answer.DiskFault
 refusal_answer refusal.NoMemory = answer.NoMemory
-refusal_answer (refusal.Damaged file place) = answer.Damaged file place
+refusal_answer (refusal.Damaged file offset) = answer.Damaged file offset

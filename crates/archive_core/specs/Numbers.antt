@@ -16,15 +16,15 @@ NumbersRise = IsNonDecreasingBy (λ (e : StoredEntry). e.number)
 
 -- The entry at this index has this number.
 abbrev pub IsNumberAt : List StoredEntry → ℕ → ℕ → Type 0
-IsNumberAt entries n place = (e : StoredEntry) × (slice_get entries place ≡ Some e) × (e.number ≡ n)
+IsNumberAt entries n index = (e : StoredEntry) × (slice_get entries index ≡ Some e) × (e.number ≡ n)
 
 -- Before this index the numbers are below n, and from it on they are not.
 abbrev pub IsCountBelow : List StoredEntry → ℕ → ℕ → Type 0
-IsCountBelow entries n count = (place : ℕ) (e : StoredEntry) → slice_get entries place ≡ Some e
-    → (place < count → e.number < n) × (count ≤ place → n ≤ e.number)
+IsCountBelow entries n count = (index : ℕ) (e : StoredEntry) → slice_get entries index ≡ Some e
+    → (index < count → e.number < n) × (count ≤ index → n ≤ e.number)
 
 -- The results of reading the text of a number by what is kept of its entry: a text of its size and
 -- blob id, or the other id that was found.
 abbrev pub GivesTextKept : List StoredEntry → ℕ → List ℕ → List ℕ → Result Unit TextRefusal → Type 0
-GivesTextKept entries n old new result = (place : ℕ) × (e : StoredEntry)
-    × (slice_get entries place ≡ Some e) × (e.number ≡ n) × GivesText e old new result
+GivesTextKept entries n old new result = (index : ℕ) × (e : StoredEntry)
+    × (slice_get entries index ≡ Some e) × (e.number ≡ n) × GivesText e old new result

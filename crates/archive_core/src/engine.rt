@@ -10,7 +10,7 @@ ghost use Rattle.epoch_store.specs.First.{MakingLeaves, MakingAnswers, RefusesTo
 ghost use Rattle.epoch_store.specs.Opens.{RecoversOf, AllRecoverOf, ReadsAs, Opens, OpensWell};
 ghost use Rattle.epoch_store.specs.Stores.{IsDiskOf, IsStoreOf, HasSizes};
 ghost use Rattle.epoch_store.specs.declared.refusal.InitRefusal.{InitRefusal};
-ghost use Rattle.archive_core.specs.Engines.{needs_opening as needs_opening_behind, store_left};
+ghost use Rattle.archive_core.specs.Engines.{needs_opening as needs_opening_after, store_left};
 ghost use Rattle.archive_core.specs.HandedBack.{disk_made, made_or_why, disk_opened, opened_or_why};
 ghost use Rattle.archive_core.specs.Numbers.{has_number};
 ghost use Rattle.archive_core.specs.Openings.{RefusesKindly};
@@ -210,7 +210,7 @@ impl<D: Disk> Keep for Engine<D> {
 ///
 /// It has to be if the disk failed, or a file is damaged.
 fn needs_opening(answer: &Answer) -> bool
-    ensures { result ≡ needs_opening_behind answer.now }
+    ensures { result ≡ needs_opening_after answer.now }
 {
     match answer {
         Answer::DiskFault => true,

@@ -1,5 +1,5 @@
 //! The index of the entries that an opened store keeps.
-ghost use Rattle.std.specs.Prelude.{◌≡◌, IfOk, OnOk};
+ghost use Rattle.std.specs.Prelude.{IfOk, OnOk};
 ghost use Rattle.arch_judge.specs.Indexes.{Puts};
 ghost use Rattle.archive_core.specs.Kept.{IndexesStored, owner_kept};
 
@@ -14,8 +14,8 @@ pub(crate) fn index_of(alloc: Global, entries: &[StoredEntry]) -> Result<Index, 
 {
     let mut index = Index::new(alloc);
     // From the last to the first, so that the first entry of an id is the one that is found.
-    for place in (0..entries.len()).rev() {
-        put_entry(&mut index, &entries[place])?;
+    for i in (0..entries.len()).rev() {
+        put_entry(&mut index, &entries[i])?;
     }
     Ok(index)
 }

@@ -55,10 +55,10 @@ impl DiskArchive {
         ensures fewest { D.reads disk.old ≤ D.reads disk.new }
         ensures count { D.reads disk.new ≤ D.reads disk.old + 1 }
     {
-        match place_of(self.store.stored(), n) {
+        match entry_index(self.store.stored(), n) {
             // Numbers rise, so the index of a number that is there is found.
             None => Err(TextRefusal::NoMemory),
-            Some(place) => self.store.text(disk, place, into),
+            Some(index) => self.store.text(disk, index, into),
         }
     }
 
@@ -98,18 +98,18 @@ fn count_below(entries: &[StoredEntry], n: u32) -> usize
 }
 
 /// Returns the index, from 0, of the entry with a number.
-fn place_of(entries: &[StoredEntry], n: u32) -> Option<u64>
-    ensures place { IfSome result (IsNumberAt entries.now n) }
+fn entry_index(entries: &[StoredEntry], n: u32) -> Option<u64>
+    ensures index { IfSome result (IsNumberAt entries.now n) }
     ensures found { NumbersRise entries.now → has_number entries.now n ≡ true → IsSome result }
 {
-    let place = count_below(entries, n);
-    match entries.get(place) {
+    let index = count_below(entries, n);
+    match entries.get(index) {
         None => None,
         Some(entry) => {
             if entry.number != n {
                 return None;
             }
-            Some(place as u64)
+            Some(index as u64)
         }
     }
 }

@@ -48,29 +48,29 @@ pub ahead-goes : (bytes q : List ℕ) → Goes q (ahead bytes) (ahead (bytes ++ 
 ahead-goes bytes q = asked_at-goes bytes q (line.front line_limit bytes) refl
 
 -- The rest after a request is shorter than the bytes.
-shorter_by : (size n : ℕ) (rest bytes : List ℕ) (request : Request) (behind : List ℕ) (t : Bool) → nat_le size (length rest) ≡ t → length rest < n → asked_by (Deliver size) rest ≡ Asked request behind → length behind < n
-shorter_by size n rest bytes request behind true h short is =
+shorter_by : (size n : ℕ) (rest bytes : List ℕ) (request : Request) (after : List ℕ) (t : Bool) → nat_le size (length rest) ≡ t → length rest < n → asked_by (Deliver size) rest ≡ Asked request after → length after < n
+shorter_by size n rest bytes request after true h short is =
     let fits : size ≤ length rest = grind (arith, nat_tests) in
-    let same : Asked (Delivers (take size rest)) (drop size rest) ≡ Asked request behind = sym (asked_by-whole size rest fits) ∙ is in
-    let back : drop size rest ≡ behind = cc in
+    let same : Asked (Delivers (take size rest)) (drop size rest) ≡ Asked request after = sym (asked_by-whole size rest fits) ∙ is in
+    let back : drop size rest ≡ after = cc in
     omega (arith, length-drop size rest, ap length back)
-shorter_by size n rest bytes request behind false h short is = let no : Unfinished ≡ Asked request behind = rw h at is in absurd (cc)
+shorter_by size n rest bytes request after false h short is = let no : Unfinished ≡ Asked request after = rw h at is in absurd (cc)
 
-asked_by-shorter : (n : ℕ) (order : Order) (rest : List ℕ) (request : Request) (behind : List ℕ) → length rest < n → asked_by order rest ≡ Asked request behind → length behind < n
-asked_by-shorter n (Deliver size) rest request behind short is = shorter_by size n rest [] request behind (nat_le size (length rest)) refl short is
-asked_by-shorter n TooMuch rest request behind short is = let e : rest ≡ behind = cc in omega (arith, ap length e)
-asked_by-shorter n (Show number) rest request behind short is = let e : rest ≡ behind = cc in omega (arith, ap length e)
-asked_by-shorter n Epochs rest request behind short is = let e : rest ≡ behind = cc in omega (arith, ap length e)
-asked_by-shorter n Quit rest request behind short is = let e : rest ≡ behind = cc in omega (arith, ap length e)
-asked_by-shorter n Bad rest request behind short is = let e : rest ≡ behind = cc in omega (arith, ap length e)
+asked_by-shorter : (n : ℕ) (order : Order) (rest : List ℕ) (request : Request) (after : List ℕ) → length rest < n → asked_by order rest ≡ Asked request after → length after < n
+asked_by-shorter n (Deliver size) rest request after short is = shorter_by size n rest [] request after (nat_le size (length rest)) refl short is
+asked_by-shorter n TooMuch rest request after short is = let e : rest ≡ after = cc in omega (arith, ap length e)
+asked_by-shorter n (Show number) rest request after short is = let e : rest ≡ after = cc in omega (arith, ap length e)
+asked_by-shorter n Epochs rest request after short is = let e : rest ≡ after = cc in omega (arith, ap length e)
+asked_by-shorter n Quit rest request after short is = let e : rest ≡ after = cc in omega (arith, ap length e)
+asked_by-shorter n Bad rest request after short is = let e : rest ≡ after = cc in omega (arith, ap length e)
 
-asked_at-shorter : (bytes : List ℕ) (f : line.Front) (request : Request) (behind : List ℕ) → line.front line_limit bytes ≡ f → asked_at f ≡ Asked request behind → (request ≡ Exceeds) ⊎ (length behind < length bytes)
-asked_at-shorter bytes (line.Whole text rest) request behind h is = inr (asked_by-shorter (length bytes) (order_of (line.content text)) rest request behind (front-shorter line_limit bytes text rest h) is)
-asked_at-shorter bytes line.Long request behind h is = inl (cc)
-asked_at-shorter bytes line.Partial request behind h is = absurd (cc is)
+asked_at-shorter : (bytes : List ℕ) (f : line.Front) (request : Request) (after : List ℕ) → line.front line_limit bytes ≡ f → asked_at f ≡ Asked request after → (request ≡ Exceeds) ⊎ (length after < length bytes)
+asked_at-shorter bytes (line.Whole text rest) request after h is = inr (asked_by-shorter (length bytes) (order_of (line.content text)) rest request after (front-shorter line_limit bytes text rest h) is)
+asked_at-shorter bytes line.Long request after h is = inl (cc)
+asked_at-shorter bytes line.Partial request after h is = absurd (cc is)
 
-pub ahead-shorter : (bytes : List ℕ) (request : Request) (behind : List ℕ) → ahead bytes ≡ Asked request behind → (request ≡ Exceeds) ⊎ (length behind < length bytes)
-ahead-shorter bytes request behind is = asked_at-shorter bytes (line.front line_limit bytes) request behind refl is
+pub ahead-shorter : (bytes : List ℕ) (request : Request) (after : List ℕ) → ahead bytes ≡ Asked request after → (request ≡ Exceeds) ⊎ (length after < length bytes)
+ahead-shorter bytes request after is = asked_at-shorter bytes (line.front line_limit bytes) request after refl is
 
 -- A front that is no whole request is the beginning of one.
 pub unfinished : (a : Ahead) → is_asked a ≡ false → a ≡ Unfinished

@@ -16,7 +16,7 @@ use Rattle.arch_model.specs.declared.opening.OpenRefusal.{OpenRefusal}
 use Rattle.arch_model.specs.declared.opening.OpenRefusal.TheVariants as opening
 use Rattle.arch_model.specs.declared.text_refusal.TextRefusal.{TextRefusal}
 use Rattle.arch_model.specs.declared.text_refusal.TextRefusal.TheVariants as reading
-use Rattle.answer_lines.specs.Lines.{reply_line, memory_word, disk_word, unread_words, unopened_words}
+use Rattle.answer_lines.specs.Lines.{whole_line, memory_word, disk_word, unread_words, unopened_words}
 use Rattle.control_door.specs.Requests as requests
 use Rattle.control_door.specs.Requests.{Request, Shows, Lists, Quits, Mistakes, Exceeds, Asked, ahead}
 use Rattle.control_door.specs.Door.{waiting, said_to, said_opening, goes_on, closes, opens, delivers, refused_memory, refused_disk, newer, newer_of, epochs_words, shown, bad_word}
@@ -101,14 +101,14 @@ module _ {K : Type 0} (holds : K → Archive → Type 0) (stale : K → Bool) (c
   -- A message was delivered, and the line of the answer was said.
   module _ (left_by : (k : K) (a : Archive) → holds k a → leaves k (clock k) (one_of (standing a None))) where
     pub delivering : (moment : ℕ) (a : Archive) (message rest : List ℕ) (k : K) (reply : Answer) (i j : Outside) (sent : Result Unit SinkFault) → DoesBy holds stale clock leaves a (delivered a message moment) reply k
-        → (reply ≡ answer.DiskFault → Rose i.disk j.disk) → i.disk ≤ j.disk → Says (reply_line (answer_line reply)) i.out i.lost j.out j.lost sent
+        → (reply ≡ answer.DiskFault → Rose i.disk j.disk) → i.disk ≤ j.disk → Says (whole_line (answer_line reply)) i.out i.lost j.out j.lost sent
         → (t : Standing) × Fits holds stale clock leaves k t × Acts (said_to moment (standing a None) (requests.Delivers message) rest) i (held_if (is_ok sent) (waiting rest false)) t j
     delivering moment a message rest k reply i j sent does cause later words = by reply does cause words
       where
         wanted : Done
         wanted = delivered a message moment
 
-        done : (reply : Answer) → IsDone holds stale clock leaves (delivered a message moment) reply k → Says (reply_line (answer_line reply)) i.out i.lost j.out j.lost sent
+        done : (reply : Answer) → IsDone holds stale clock leaves (delivered a message moment) reply k → Says (whole_line (answer_line reply)) i.out i.lost j.out j.lost sent
             → (t : Standing) × Fits holds stale clock leaves k t × Acts (said_to moment (standing a None) (requests.Delivers message) rest) i (held_if (is_ok sent) (waiting rest false)) t j
         done reply is words = (
           standing (delivered a message moment).archive None,
@@ -117,7 +117,7 @@ module _ {K : Type 0} (holds : K → Archive → Type 0) (stale : K → Bool) (c
               (λ d. absurd (cc d)) later (rw is.answer_is words) refl,
         )
 
-        by : (reply : Answer) → DoesBy holds stale clock leaves a (delivered a message moment) reply k → (reply ≡ answer.DiskFault → Rose i.disk j.disk) → Says (reply_line (answer_line reply)) i.out i.lost j.out j.lost sent
+        by : (reply : Answer) → DoesBy holds stale clock leaves a (delivered a message moment) reply k → (reply ≡ answer.DiskFault → Rose i.disk j.disk) → Says (whole_line (answer_line reply)) i.out i.lost j.out j.lost sent
             → (t : Standing) × Fits holds stale clock leaves k t × Acts (said_to moment (standing a None) (requests.Delivers message) rest) i (held_if (is_ok sent) (waiting rest false)) t j
         by answer.NoMemory ready cause words = (
           standing a None,

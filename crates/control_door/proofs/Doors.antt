@@ -17,51 +17,51 @@ goes_request q a b (Same request rest) h = refl
 goes_request q a b Over h = refl
 goes_request q a b (Open next) h = absurd (cc h)
 
-request_behind : (moment : ℕ) (s : Standing) (q rest : List ℕ) (request : Request) (way : Way) → said_to moment s request (rest ++ q) way ≡ said_with (with_piece q) (said_to moment s request rest way)
-request_behind moment s q rest (Delivers message) Plain = refl
-request_behind moment s q rest (Delivers message) Memory = refl
-request_behind moment s q rest (Delivers message) Disk = refl
-request_behind moment s q rest (Delivers message) Newer = refl
-request_behind moment s q rest (Shows number) Plain = refl
-request_behind moment s q rest (Shows number) Memory = refl
-request_behind moment s q rest (Shows number) Disk = refl
-request_behind moment s q rest (Shows number) Newer = refl
-request_behind moment s q rest Lists Plain = refl
-request_behind moment s q rest Lists Memory = refl
-request_behind moment s q rest Lists Disk = refl
-request_behind moment s q rest Lists Newer = refl
-request_behind moment s q rest Quits Plain = refl
-request_behind moment s q rest Quits Memory = refl
-request_behind moment s q rest Quits Disk = refl
-request_behind moment s q rest Quits Newer = refl
-request_behind moment s q rest Mistakes Plain = refl
-request_behind moment s q rest Mistakes Memory = refl
-request_behind moment s q rest Mistakes Disk = refl
-request_behind moment s q rest Mistakes Newer = refl
-request_behind moment s q rest Exceeds Plain = refl
-request_behind moment s q rest Exceeds Memory = refl
-request_behind moment s q rest Exceeds Disk = refl
-request_behind moment s q rest Exceeds Newer = refl
+request_after : (moment : ℕ) (s : Standing) (q rest : List ℕ) (request : Request) (way : Way) → said_to moment s request (rest ++ q) way ≡ said_with (with_piece q) (said_to moment s request rest way)
+request_after moment s q rest (Delivers message) Plain = refl
+request_after moment s q rest (Delivers message) Memory = refl
+request_after moment s q rest (Delivers message) Disk = refl
+request_after moment s q rest (Delivers message) Newer = refl
+request_after moment s q rest (Shows number) Plain = refl
+request_after moment s q rest (Shows number) Memory = refl
+request_after moment s q rest (Shows number) Disk = refl
+request_after moment s q rest (Shows number) Newer = refl
+request_after moment s q rest Lists Plain = refl
+request_after moment s q rest Lists Memory = refl
+request_after moment s q rest Lists Disk = refl
+request_after moment s q rest Lists Newer = refl
+request_after moment s q rest Quits Plain = refl
+request_after moment s q rest Quits Memory = refl
+request_after moment s q rest Quits Disk = refl
+request_after moment s q rest Quits Newer = refl
+request_after moment s q rest Mistakes Plain = refl
+request_after moment s q rest Mistakes Memory = refl
+request_after moment s q rest Mistakes Disk = refl
+request_after moment s q rest Mistakes Newer = refl
+request_after moment s q rest Exceeds Plain = refl
+request_after moment s q rest Exceeds Memory = refl
+request_after moment s q rest Exceeds Disk = refl
+request_after moment s q rest Exceeds Newer = refl
 
 -- A reopening leaves the bytes.
-opening_behind : (s : Standing) (bytes q : List ℕ) (way : Way) → said_opening s (bytes ++ q) way ≡ said_with (with_piece q) (said_opening s bytes way)
-opening_behind s bytes q Plain = refl
-opening_behind s bytes q Memory = refl
-opening_behind s bytes q Disk = refl
-opening_behind s bytes q Newer = refl
+opening_after : (s : Standing) (bytes q : List ℕ) (way : Way) → said_opening s (bytes ++ q) way ≡ said_with (with_piece q) (said_opening s bytes way)
+opening_after s bytes q Plain = refl
+opening_after s bytes q Memory = refl
+opening_after s bytes q Disk = refl
+opening_after s bytes q Newer = refl
 
-over_behind : (moment : ℕ) (s : Standing) (q : List ℕ) (way : Way) → said_to moment s Exceeds [] way ≡ said_with (with_piece q) (said_to moment s Exceeds [] way)
-over_behind moment s q Plain = refl
-over_behind moment s q Memory = refl
-over_behind moment s q Disk = refl
-over_behind moment s q Newer = refl
+over_after : (moment : ℕ) (s : Standing) (q : List ℕ) (way : Way) → said_to moment s Exceeds [] way ≡ said_with (with_piece q) (said_to moment s Exceeds [] way)
+over_after moment s q Plain = refl
+over_after moment s q Memory = refl
+over_after moment s q Disk = refl
+over_after moment s q Newer = refl
 
 goes_said : (moment : ℕ) (s : Standing) (bytes q : List ℕ) (opened : Bool) (way : Way) (x y : Ahead) → Goes q x y → is_asked x ≡ true
     → said_at moment s (waiting (bytes ++ q) opened) y way ≡ said_with (with_piece q) (said_at moment s (waiting bytes opened) x way)
-goes_said moment s bytes q true way x y (Same request rest) h = request_behind moment s q rest request way
-goes_said moment s bytes q false way x y (Same request rest) h = opening_behind s bytes q way
-goes_said moment s bytes q true way x y Over h = over_behind moment s q way
-goes_said moment s bytes q false way x y Over h = opening_behind s bytes q way
+goes_said moment s bytes q true way x y (Same request rest) h = request_after moment s q rest request way
+goes_said moment s bytes q false way x y (Same request rest) h = opening_after s bytes q way
+goes_said moment s bytes q true way x y Over h = over_after moment s q way
+goes_said moment s bytes q false way x y Over h = opening_after s bytes q way
 goes_said moment s bytes q opened way x y (Open next) h = absurd (cc h)
 
 unkept-either : (s : Standing) (w : Waiting) (bytes : List ℕ) → ((unkept s w bytes).next ≡ None) ⊎ (unkept s w bytes ≡ silent s w)
@@ -86,9 +86,9 @@ left_open moment s Exceeds rest k h = absurd (cc h)
 
 shorter_at : (moment : ℕ) (s : Standing) (bytes : List ℕ) (opened : Bool) (k : Waiting) (x : Ahead) → ahead bytes ≡ x → is_asked x ≡ true → (said_at moment s (waiting bytes opened) x Plain).next ≡ Some k → left k < left (waiting bytes opened)
 shorter_at moment s bytes true k (Asked request rest) is h next =
-    let behind = left_open moment s request rest k next in
-    let size : left (waiting rest false) ≡ left k = ap left behind.0 in
-    elim (ahead-shorter bytes request rest is) [ inl over ↦ absurd (behind.1 over) | inr less ↦ omega (arith, size, less) ]
+    let after = left_open moment s request rest k next in
+    let size : left (waiting rest false) ≡ left k = ap left after.0 in
+    elim (ahead-shorter bytes request rest is) [ inl over ↦ absurd (after.1 over) | inr less ↦ omega (arith, size, less) ]
 shorter_at moment s bytes false k (Asked request rest) is h next =
     let same : waiting bytes true ≡ k = cc in
     let size : left (waiting bytes true) ≡ left k = ap left same in

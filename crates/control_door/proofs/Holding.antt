@@ -109,8 +109,8 @@ payload-more old piece start end h short = record {
 }
 
 -- The bytes after a line.
-behind-line : (text rest more : List ℕ) → drop (length text + 1) ((text ++ 10 ∷ rest) ++ more) ≡ rest ++ more
-behind-line text rest more = ap (drop (length text + 1)) (append_assoc text (10 ∷ rest) more) ∙ drop-append-add text (10 ∷ rest ++ more) 1
+after-line : (text rest more : List ℕ) → drop (length text + 1) ((text ++ 10 ∷ rest) ++ more) ≡ rest ++ more
+after-line text rest more = ap (drop (length text + 1)) (append_assoc text (10 ∷ rest) more) ∙ drop-append-add text (10 ∷ rest ++ more) 1
 
 -- A piece that completes a delivery makes it a whole request.
 pub payload-whole : (old piece : List ℕ) (start end : ℕ) → IsPayload old start end → end - length old ≤ length piece
@@ -123,9 +123,9 @@ payload-whole old piece start end h long =
     let at : ahead (old ++ piece) ≡ asked_by (Deliver h.size) (h.rest ++ piece) = ahead-line (old ++ piece) h.text (h.rest ++ piece) (Deliver h.size) (front-goes_on line_limit old piece h.text h.rest h.front) h.order in
     let message : take h.size (h.rest ++ piece) ≡ drop start (old ++ take n piece) =
     ap (λ s. take s (h.rest ++ piece)) size_is ∙ take-append-add h.rest piece n
-    ∙ sym (ap (λ s. drop s (old ++ take n piece)) h.starts ∙ ap (λ t. drop (length h.text + 1) (t ++ take n piece)) (front-joined line_limit old h.text h.rest h.front) ∙ behind-line h.text h.rest (take n piece)) in
-    let behind : drop h.size (h.rest ++ piece) ≡ drop n piece = ap (λ s. drop s (h.rest ++ piece)) size_is ∙ drop-append-add h.rest piece n in
-    at ∙ asked_by-whole h.size (h.rest ++ piece) fits ∙ ap (λ m. Asked (requests.Delivers m) (drop h.size (h.rest ++ piece))) message ∙ ap (Asked (requests.Delivers (drop start (old ++ take n piece)))) behind
+    ∙ sym (ap (λ s. drop s (old ++ take n piece)) h.starts ∙ ap (λ t. drop (length h.text + 1) (t ++ take n piece)) (front-joined line_limit old h.text h.rest h.front) ∙ after-line h.text h.rest (take n piece)) in
+    let after : drop h.size (h.rest ++ piece) ≡ drop n piece = ap (λ s. drop s (h.rest ++ piece)) size_is ∙ drop-append-add h.rest piece n in
+    at ∙ asked_by-whole h.size (h.rest ++ piece) fits ∙ ap (λ m. Asked (requests.Delivers m) (drop h.size (h.rest ++ piece))) message ∙ ap (Asked (requests.Delivers (drop start (old ++ take n piece)))) after
 
 -- The message of a delivery starts within what is held.
 pub payload-start : (old : List ℕ) (start end : ℕ) → IsPayload old start end → start ≤ length old

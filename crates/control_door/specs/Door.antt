@@ -8,22 +8,22 @@ use Rattle.arch_model.specs.Archives.{Entry, Archive, text_of, in_epoch}
 use Rattle.arch_model.specs.Epochs.{epoch_bytes}
 use Rattle.arch_model.specs.Delivery.{Done, delivered, answer_line}
 use Rattle.arch_model.specs.Standing.{Standing, standing}
-use Rattle.answer_lines.specs.Lines.{reply_line, memory_word, disk_word}
+use Rattle.answer_lines.specs.Lines.{whole_line, memory_word, disk_word}
 use Rattle.control_door.specs.Requests.{Request, Delivers, Shows, Lists, Quits, Mistakes, Exceeds, Ahead, Asked, Unfinished, ahead, is_request}
 
 -- The word for a line that is not an order, or that is too long.
 abbrev pub bad_word : List ℕ
-bad_word = reply_line (codes "13 bad line")
+bad_word = whole_line (codes "13 bad line")
 
 -- A line with the length of the text, and then the text; or a line that the number has none.
 abbrev pub shown : ℕ → Option (List ℕ) → List ℕ
-shown number None = reply_line (codes "7 not live " ++ decimal number)
-shown number (Some text) = reply_line (codes "text " ++ decimal (length text)) ++ text
+shown number None = whole_line (codes "7 not live " ++ decimal number)
+shown number (Some text) = whole_line (codes "text " ++ decimal (length text)) ++ text
 
 -- An epoch: a line with its number and the length of its bytes, and then the bytes and a line feed.
 abbrev pub epoch_words : ℕ → List ℕ → List ℕ
-epoch_words epoch bytes = reply_line (codes "epoch "
-    ++ (decimal epoch ++ 32 ∷ decimal (length bytes))) ++ reply_line bytes
+epoch_words epoch bytes = whole_line (codes "epoch "
+    ++ (decimal epoch ++ 32 ∷ decimal (length bytes))) ++ whole_line bytes
 
 -- The words of an epoch. One without an entry has none.
 abbrev pub listed : ℕ → List Entry → List ℕ
@@ -38,7 +38,7 @@ listed_below (suc epoch) entries =
 
 -- The words of all epochs, 0 to 63, in order, and a last line.
 abbrev pub epochs_words : List Entry → List ℕ
-epochs_words entries = listed_below epoch_count entries ++ reply_line (codes "end")
+epochs_words entries = listed_below epoch_count entries ++ whole_line (codes "end")
 
 -- A session: its bytes that are not answered yet, and whether the archive was reopened since the
 -- last request. It is reopened before a request, which does nothing while no command is in doubt.
@@ -65,7 +65,7 @@ closes words s = record { next = None; words = words; streamed = false; after = 
 
 -- The line of a delivery's answer, and its archive.
 abbrev pub delivers : Done → List ℕ → Says
-delivers done rest = goes_on rest (reply_line (answer_line done.answer)) (standing done.archive None)
+delivers done rest = goes_on rest (whole_line (answer_line done.answer)) (standing done.archive None)
 
 -- The answer to a request at a moment, by the rules.
 abbrev pub answered : ℕ → Standing → Request → List ℕ → Says

@@ -10,9 +10,9 @@ IsUndamaged (reading.Damaged named found) = ⊥
 IsUndamaged reading.NoMemory = Unit {0}
 
 -- These words were appended, or memory ran out, or the disk failed.
-abbrev pub PutsBehind : List ℕ → List ℕ → List ℕ → Result Unit TextRefusal → Type 0
-PutsBehind words old new (Ok _) = new ≡ old ++ words
-PutsBehind words old new (Err refusal) = IsUndamaged refusal
+abbrev pub AppendsWords : List ℕ → List ℕ → List ℕ → Result Unit TextRefusal → Type 0
+AppendsWords words old new (Ok _) = new ≡ old ++ words
+AppendsWords words old new (Err refusal) = IsUndamaged refusal
 
 -- These words were made, or memory ran out, or the disk failed.
 abbrev pub Makes : List ℕ → Result (List ℕ) TextRefusal → Type 0

@@ -1,5 +1,5 @@
 //! Answers the requests of a control connection from a keeper.
-ghost use Rattle.std.specs.Prelude.{◌≡◌, ◌≤◌, ◌++◌, ℕ, List, length, drop, true, false, Option, Some, None, is_some, is_ok};
+ghost use Rattle.std.specs.Prelude.{◌≡◌, ◌≤◌, ◌++◌, ℕ, length, drop, true, false, Some, None, is_some, is_ok};
 ghost use Rattle.line_door.specs.Acts.{outside};
 ghost use Rattle.arch_model.specs.Archives.{Archive, text_of};
 ghost use Rattle.arch_base.specs.Moments.{last_moment};
@@ -19,7 +19,7 @@ use std::alloc::Global;
 /// Reopens the archive. The session continues if it is open.
 ///
 /// Does nothing if no command is in doubt. Writes the reason if reopening fails.
-pub(crate) fn open_again<K: Keep, O: Sink>(keep: &mut K, out: &mut O) -> Next
+pub(crate) fn reopen<K: Keep, O: Sink>(keep: &mut K, out: &mut O) -> Next
     ensures acts { Opens K.holds K.stale K.clock K.leaves keep.old
         (outside (O.taken out.old) (K.faults keep.old) (O.faults out.old))
         (continues result) keep.new

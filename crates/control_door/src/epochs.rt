@@ -5,7 +5,7 @@ ghost use Rattle.disk_model.specs.Sizes.{epoch_count};
 ghost use Rattle.arch_model.specs.Archives.{Archive, in_epoch};
 ghost use Rattle.arch_model.specs.declared.text_refusal.TextRefusal.{TextRefusal};
 ghost use Rattle.control_door.specs.Door.{listed, listed_below, epoch_words, epochs_words};
-ghost use Rattle.control_door.specs.Refusals.{PutsBehind, Makes};
+ghost use Rattle.control_door.specs.Refusals.{AppendsWords, Makes};
 
 use arch_base::{Bytes, NoMemory};
 use arch_model::{Keep, TextRefusal};
@@ -41,7 +41,7 @@ fn push_epochs<K: Keep>(alloc: Global, keep: &mut K, into: &mut Bytes) -> Result
     requires ready { K.stale keep.old ≡ false }
     requires empty { into.old ≡ [] }
     ensures words { (a : Archive) → K.holds keep.old a
-        → PutsBehind (listed_below epoch_count a.entries) [] into.new result }
+        → AppendsWords (listed_below epoch_count a.entries) [] into.new result }
     ensures same { (a : Archive) → K.holds keep.old a → K.holds keep.new a }
     ensures ready { K.stale keep.new ≡ false }
     ensures cause { RoseIf (result ≡ Err TextRefusal.DiskFault) (K.faults keep.old) (K.faults keep.new) }
@@ -66,7 +66,7 @@ fn push_listed<K: Keep>(
 ) -> Result<(), TextRefusal>
     requires { K.stale keep.old ≡ false }
     ensures words { (a : Archive) → K.holds keep.old a
-        → PutsBehind (listed epoch (in_epoch a.entries epoch)) into.old into.new result }
+        → AppendsWords (listed epoch (in_epoch a.entries epoch)) into.old into.new result }
     ensures same { (a : Archive) → K.holds keep.old a → K.holds keep.new a }
     ensures ready { K.stale keep.new ≡ false }
     ensures cause { RoseIf (result ≡ Err TextRefusal.DiskFault) (K.faults keep.old) (K.faults keep.new) }

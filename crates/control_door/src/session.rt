@@ -1,5 +1,5 @@
 //! A control connection: the bytes that are not answered yet, and the answer to a piece.
-ghost use Rattle.std.specs.Prelude.{◌≡◌, ◌⊎◌, ◌+◌, ◌<◌, ◌≤◌, ℕ, List, [], ◌++◌, ◌∷◌, length, take, drop, Bool, true, false, Option, Some, None, if◌then◌else◌};
+ghost use Rattle.std.specs.Prelude.{◌≡◌, ◌⊎◌, ◌+◌, ◌<◌, ◌≤◌, ℕ, List, [], ◌++◌, length, take, drop, Bool, true, false, Option, Some, None, if◌then◌else◌};
 ghost use Rattle.line_door.specs.Lines.{front, Whole, content};
 ghost use Rattle.line_door.specs.Acts.{outside, held_if};
 ghost use Rattle.line_door.specs.Course.{talk, Fed};
@@ -10,7 +10,7 @@ ghost use Rattle.control_door.specs.Orders.{order_of};
 ghost use Rattle.control_door.specs.Requests.{line_limit};
 ghost use Rattle.control_door.specs.Door.{waiting, said as said_of, has_request};
 
-use crate::answers::{open_again, say_requested};
+use crate::answers::{reopen, say_requested};
 use crate::front::{Front, Payload, Requested};
 use crate::order::{Order, read_order};
 use answer_lines::say_memory;
@@ -155,7 +155,7 @@ impl Session {
             Front::Rest(payload) => self.hold(piece, payload, out),
             Front::Whole(request, taken) => {
                 if !opened {
-                    return reopened(open_again(keep, out));
+                    return reopened(reopen(keep, out));
                 }
                 let next = say_requested(request, self.alloc, &mut self.held, moment, keep, out);
                 self.held.truncate(0);
@@ -243,9 +243,9 @@ impl Session {
         ensures { IsFront self.now piece.now result }
     {
         let size = size as usize;
-        let (_line, behind) = piece.split_at(len + 1);
-        if size <= behind.len() {
-            let message = behind.split_at(size).0;
+        let (_line, after) = piece.split_at(len + 1);
+        if size <= after.len() {
+            let message = after.split_at(size).0;
             return Front::Whole(Requested::Message(message), len + 1 + size);
         }
         let start = self.held.as_slice().len() + len + 1;

@@ -48,7 +48,7 @@ contains_or_not (x ∷ xs) q = elim (same_or_other q x) [
   | inl is ↦ inl (subst (λ (n : FileName). Contains (x ∷ xs) n) is (first_in x xs))
   | inr apart ↦ elim (contains_or_not xs q) [
     | inl among ↦ inl (Contains-append_right (x ∷ []) xs q among)
-    | inr out ↦ inr (λ among. elim (one_of x xs q among) [ inl is ↦ apart is | inr behind ↦ out behind ])
+    | inr out ↦ inr (λ among. elim (one_of x xs q among) [ inl is ↦ apart is | inr after ↦ out after ])
   ]
 ]
 

@@ -22,7 +22,7 @@ pub fn file_names<D: Disk>(alloc: Global, disk: &mut D) -> Result<FileNames, Wal
     ensures any_moment { LeavesOnly D.moment D.left_since disk.old disk.new
         (Image (D.content disk.old)) }
     ensures cause { RoseIf (result ≡ Err WalkRefusal.DiskFault) (D.faults disk.old) (D.faults disk.new) }
-    ensures never_damaged { (place : ℕ) → result ≢ Err (WalkRefusal.Damaged place) }
+    ensures never_damaged { (offset : ℕ) → result ≢ Err (WalkRefusal.Damaged offset) }
     ensures count { D.reads disk.new ≡ D.reads disk.old }
 {
     let mut names = FileNames::new(alloc);

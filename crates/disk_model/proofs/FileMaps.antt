@@ -78,11 +78,11 @@ pub writes_file : (old new : BTreeMap FileName (Vec ℕ Global)) (name : FileNam
 writes_file old new name v w file found through same = sets_file old new name (Some w) file (through.3 (subst (λ (o : Option (Vec ℕ Global)). IsSome o) found refl)) same
 
 -- Bytes written over those of a file that is there.
-pub put_found : (old new : BTreeMap FileName (Vec ℕ Global)) (name : FileName) (v w : Vec ℕ Global) (place : ℕ) (bytes : List ℕ) → Some v ≡ get_by (order.ghosts.cmp name) old → WritesThrough order.ghosts.cmp (order.ghosts.cmp name) old w new
-    → w.items ≡ overlay place bytes v.items → SetsFile old new name (Some (overlay place bytes (bytes_of (file_at old name))))
-put_found old new name v w place bytes found through is =
-    let file : Option (List ℕ) = Some (overlay place bytes (bytes_of (file_at old name))) in
-    let same : Some w.items ≡ file = ap (λ (b : List ℕ). Some b) is ∙ ap (λ (f : File). Some (overlay place bytes (bytes_of f))) (sym (here_found old name v found)) in
+pub put_found : (old new : BTreeMap FileName (Vec ℕ Global)) (name : FileName) (v w : Vec ℕ Global) (offset : ℕ) (bytes : List ℕ) → Some v ≡ get_by (order.ghosts.cmp name) old → WritesThrough order.ghosts.cmp (order.ghosts.cmp name) old w new
+    → w.items ≡ overlay offset bytes v.items → SetsFile old new name (Some (overlay offset bytes (bytes_of (file_at old name))))
+put_found old new name v w offset bytes found through is =
+    let file : Option (List ℕ) = Some (overlay offset bytes (bytes_of (file_at old name))) in
+    let same : Some w.items ≡ file = ap (λ (b : List ℕ). Some b) is ∙ ap (λ (f : File). Some (overlay offset bytes (bytes_of f))) (sym (here_found old name v found)) in
     writes_file old new name v w file found through same
 
 -- A file replaced by itself changes no file.
@@ -98,12 +98,12 @@ put_same old new name v w found through is =
     same_file old new name (Some v.items) (writes_file old new name v w (Some v.items) found through (ap (λ (b : List ℕ). Some b) is)) (here_found old name v found)
 
 -- A missing file that is created.
-pub put_missing : (lent old new : BTreeMap FileName (Vec ℕ Global)) (name : FileName) (w : Vec ℕ Global) (place : ℕ) (bytes : List ℕ) → lent ≡ old → None ≡ get_by (order.ghosts.cmp name) old
-    → UpdatesBy order.ghosts.cmp (order.ghosts.cmp name) lent new (Some w) → w.items ≡ bytes → SetsFile old new name (Some (overlay place bytes (bytes_of (file_at old name))))
-put_missing lent old new name w place bytes is found updates made =
-    let file : Option (List ℕ) = Some (overlay place bytes (bytes_of (file_at old name))) in
-    let empty : overlay place bytes [] ≡ bytes = grind (arith, common_steps) in
-    let same : Some w.items ≡ file = ap (λ (b : List ℕ). Some b) (made ∙ sym empty) ∙ ap (λ (f : File). Some (overlay place bytes (bytes_of f))) (sym (here_missing old name found)) in
+pub put_missing : (lent old new : BTreeMap FileName (Vec ℕ Global)) (name : FileName) (w : Vec ℕ Global) (offset : ℕ) (bytes : List ℕ) → lent ≡ old → None ≡ get_by (order.ghosts.cmp name) old
+    → UpdatesBy order.ghosts.cmp (order.ghosts.cmp name) lent new (Some w) → w.items ≡ bytes → SetsFile old new name (Some (overlay offset bytes (bytes_of (file_at old name))))
+put_missing lent old new name w offset bytes is found updates made =
+    let file : Option (List ℕ) = Some (overlay offset bytes (bytes_of (file_at old name))) in
+    let empty : overlay offset bytes [] ≡ bytes = grind (arith, common_steps) in
+    let same : Some w.items ≡ file = ap (λ (b : List ℕ). Some b) (made ∙ sym empty) ∙ ap (λ (f : File). Some (overlay offset bytes (bytes_of f))) (sym (here_missing old name found)) in
     sets_file old new name (Some w) file (subst (λ (m : BTreeMap FileName (Vec ℕ Global)). UpdatesBy order.ghosts.cmp (order.ghosts.cmp name) m new (Some w)) is updates) same
 
 -- A missing file that stays missing.

@@ -30,12 +30,12 @@ away_from true k l e = cc
 away_from false k l e = refl
 
 -- A write on record.
-pub one_write : (base : Files) (changes : List Change) (name : FileName) (place : ℕ) (v : Vec ℕ Global) → OneFile name (Wrote place v.items) (content_of base changes) (content_of base (changes ++ Write name place v ∷ []))
-one_write base changes name place v = one_file (Wrote place v.items) base changes (Write name place v) name
+pub one_write : (base : Files) (changes : List Change) (name : FileName) (offset : ℕ) (v : Vec ℕ Global) → OneFile name (Wrote offset v.items) (content_of base changes) (content_of base (changes ++ Write name offset v ∷ []))
+one_write base changes name offset v = one_file (Wrote offset v.items) base changes (Write name offset v) name
     (λ k. here k (is_at (name_cmp name) name) (at_itself name))
     (λ other apart k. away_from (is_at (name_cmp name) other) k _ (at_other name other apart)) where
-      here : (k : Kept) (b : Bool) → b ≡ true → Wrote place v.items k (cond b (record { seen = Some (overlay place v.items (bytes_of k.seen)); sure = write_sure place (length v.items) k.seen k.sure }) k)
-      here k true e = record { seen = refl; crash = Within-refl (write_sure place (length v.items) k.seen k.sure) }
+      here : (k : Kept) (b : Bool) → b ≡ true → Wrote offset v.items k (cond b (record { seen = Some (overlay offset v.items (bytes_of k.seen)); sure = write_sure offset (length v.items) k.seen k.sure }) k)
+      here k true e = record { seen = refl; crash = Within-refl (write_sure offset (length v.items) k.seen k.sure) }
       here k false e = cc
 
 -- A cut on record.
@@ -107,10 +107,10 @@ same_choice old name other F = chosen (is_at (name_cmp name) other) refl where
   chosen false e = refl
 
 -- A write to a file is the application of the change.
-pub put_applies : (old new : BTreeMap FileName (Vec ℕ Global)) (name : FileName) (place : ℕ) (fill : Bool) (bytes : List ℕ) (v : Vec ℕ Global) → v.items ≡ bytes → SetsFile old new name (Some (overlay place (filled fill bytes) (bytes_of (file_at old name))))
-    → (other : FileName) → file_at new other ≡ apply_file fill other (file_at old other) (Write name place v)
-put_applies old new name place fill bytes v is sets other =
-    let F : List ℕ → File → File = λ b f. Some (overlay place (filled fill b) (bytes_of f)) in
+pub put_applies : (old new : BTreeMap FileName (Vec ℕ Global)) (name : FileName) (offset : ℕ) (fill : Bool) (bytes : List ℕ) (v : Vec ℕ Global) → v.items ≡ bytes → SetsFile old new name (Some (overlay offset (filled fill bytes) (bytes_of (file_at old name))))
+    → (other : FileName) → file_at new other ≡ apply_file fill other (file_at old other) (Write name offset v)
+put_applies old new name offset fill bytes v is sets other =
+    let F : List ℕ → File → File = λ b f. Some (overlay offset (filled fill b) (bytes_of f)) in
     sets other ∙ (same_choice old name other (F bytes) ∙ ap (λ (b : List ℕ). cond (is_at (name_cmp name) other) (F b (file_at old other)) (file_at old other)) (sym is))
 
 -- A cut of a file is the application of the change.
@@ -118,11 +118,11 @@ pub trim_applies : (old new : BTreeMap FileName (Vec ℕ Global)) (name : FileNa
 trim_applies old new name n fill sets other = sets other ∙ same_choice old name other (cut_file n)
 
 -- A write whose bytes are known by an equation.
-pub wrote_moved : (base_old base_new : BTreeMap FileName (Vec ℕ Global)) (old new : List Change) (name : FileName) (place : ℕ) (bytes : List ℕ) (v : Vec ℕ Global) → base_new ≡ base_old → v.items ≡ bytes → new ≡ old ++ Write name place v ∷ []
-    → OneFile name (Wrote place bytes) (content_of (file_at base_old) old) (content_of (file_at base_new) new)
-wrote_moved base_old base_new old new name place bytes v same_base same is =
-    let first = moved (OneFile name (Wrote place v.items)) base_old base_new old new (old ++ Write name place v ∷ []) same_base is (one_write (file_at base_old) old name place v) in
-    let P = λ (b : List ℕ). OneFile name (Wrote place b) (content_of (file_at base_old) old) (content_of (file_at base_new) new) in
+pub wrote_moved : (base_old base_new : BTreeMap FileName (Vec ℕ Global)) (old new : List Change) (name : FileName) (offset : ℕ) (bytes : List ℕ) (v : Vec ℕ Global) → base_new ≡ base_old → v.items ≡ bytes → new ≡ old ++ Write name offset v ∷ []
+    → OneFile name (Wrote offset bytes) (content_of (file_at base_old) old) (content_of (file_at base_new) new)
+wrote_moved base_old base_new old new name offset bytes v same_base same is =
+    let first = moved (OneFile name (Wrote offset v.items)) base_old base_new old new (old ++ Write name offset v ∷ []) same_base is (one_write (file_at base_old) old name offset v) in
+    let P = λ (b : List ℕ). OneFile name (Wrote offset b) (content_of (file_at base_old) old) (content_of (file_at base_new) new) in
     subst P same first
 
 -- A failed sync leaves the record as before.
@@ -149,10 +149,10 @@ pub seen_missing : (files base : BTreeMap FileName (Vec ℕ Global)) (changes : 
 seen_missing files base changes name is found = ap bytes_of (sym (is name) ∙ here_missing files name found)
 
 -- A read of the bytes of a file.
-pub has_read : (k : Content) (name : FileName) (place n : ℕ) (before after bytes : List ℕ) → bytes_of (k name).seen ≡ bytes → n ≡ min (length before) (length bytes - place) → after ≡ take n (drop place bytes) ++ drop n before → HasRead name place n before after k
-has_read k name place n before after bytes is count read =
-    let P = λ (b : List ℕ). n ≡ min (length before) (length b - place) in
-    let Q = λ (b : List ℕ). after ≡ take n (drop place b) ++ drop n before in
+pub has_read : (k : Content) (name : FileName) (offset n : ℕ) (before after bytes : List ℕ) → bytes_of (k name).seen ≡ bytes → n ≡ min (length before) (length bytes - offset) → after ≡ take n (drop offset bytes) ++ drop n before → HasRead name offset n before after k
+has_read k name offset n before after bytes is count read =
+    let P = λ (b : List ℕ). n ≡ min (length before) (length b - offset) in
+    let Q = λ (b : List ℕ). after ≡ take n (drop offset b) ++ drop n before in
     record { count = subst P (sym is) count; bytes = subst Q (sym is) read }
 
 -- A push that succeeds.

@@ -19,8 +19,8 @@ filled false bytes = bytes
 
 -- A file as it reads after a change.
 abbrev pub apply_file : Bool → FileName → File → Change → File
-apply_file fill name file (Write other place bytes) = cond (is_at (name_cmp other) name)
-    (Some (overlay place (filled fill bytes.items) (bytes_of file))) file
+apply_file fill name file (Write other offset bytes) = cond (is_at (name_cmp other) name)
+    (Some (overlay offset (filled fill bytes.items) (bytes_of file))) file
 apply_file fill name file (Cut other n) = cond (is_at (name_cmp other) name) (cut_file n file) file
 apply_file fill name file (Remove other) = cond (is_at (name_cmp other) name) None file
 apply_file fill name file Sync = file
@@ -34,7 +34,7 @@ applied fill name file (change ∷ changes) =
 -- A change that isn't a sync.
 abbrev pub IsNoSync : Change → Type 0
 IsNoSync Sync = ⊥
-IsNoSync (Write other place bytes) = Unit {0}
+IsNoSync (Write other offset bytes) = Unit {0}
 IsNoSync (Cut other n) = Unit {0}
 IsNoSync (Remove other) = Unit {0}
 
@@ -92,31 +92,31 @@ overlay_keeps at bytes old i within (inl low) = grind (arith, common_steps)
 overlay_keeps at bytes old i within (inr high) = grind (arith, common_steps)
 
 -- A write of n bytes to a file that tracks gives one that tracks.
-pub write_tracks : (place : ℕ) (bytes other : List ℕ) (k : Kept) (file : File)
+pub write_tracks : (offset : ℕ) (bytes other : List ℕ) (k : Kept) (file : File)
     → length other ≡ length bytes → Tracks k file
     → Tracks (record {
-      seen = Some (overlay place bytes (bytes_of k.seen));
-      sure = write_sure place (length bytes) k.seen k.sure;
-    }) (Some (overlay place other (bytes_of file)))
-write_tracks place bytes other k file same t = write_case k.seen k.sure file t.fits t.long where
+      seen = Some (overlay offset bytes (bytes_of k.seen));
+      sure = write_sure offset (length bytes) k.seen k.sure;
+    }) (Some (overlay offset other (bytes_of file)))
+write_tracks offset bytes other k file same t = write_case k.seen k.sure file t.fits t.long where
   write_case : (seen : File) (s : Sure) (image : File) → Fits s image → AsLong seen image
       → Tracks (record {
-        seen = Some (overlay place bytes (bytes_of seen));
-        sure = write_sure place (length bytes) seen s;
-      }) (Some (overlay place other (bytes_of image)))
+        seen = Some (overlay offset bytes (bytes_of seen));
+        sure = write_sure offset (length bytes) seen s;
+      }) (Some (overlay offset other (bytes_of image)))
   write_case None s None fits long = record {
     fits = record {
       there = refl;
       no_shorter = omega arith;
-      no_longer = omega (arith, overlay_length place other [], same);
+      no_longer = omega (arith, overlay_length offset other [], same);
       outside = λ i below out. absurd (omega (arith, below));
     };
-    long = omega (arith, overlay_length place other [], overlay_length place bytes [], same);
+    long = omega (arith, overlay_length offset other [], overlay_length offset bytes [], same);
   }
   write_case None s (Some b) fits long = absurd long
   write_case (Some a) s None fits long = absurd long
   write_case (Some a) s (Some b) fits long =
-      let new = overlay_length place other b in
+      let new = overlay_length offset other b in
       let low = fits.no_shorter in
       let high = fits.no_longer in
       record {
@@ -126,10 +126,10 @@ write_tracks place bytes other k file same t = write_case k.seen k.sure file t.f
           no_longer = omega (arith, new, high, same);
           outside = λ i below out.
               let within : i < length b = omega (arith, low, below) in
-              let apart : (i < place) ⊎ (place + length other ≤ i) = rw same out.0 in
-              overlay_keeps place other b i within apart ∙ fits.outside i below out.1;
+              let apart : (i < offset) ⊎ (offset + length other ≤ i) = rw same out.0 in
+              overlay_keeps offset other b i within apart ∙ fits.outside i below out.1;
         };
-        long = omega (arith, overlay_length place other b, overlay_length place bytes a, same, long);
+        long = omega (arith, overlay_length offset other b, overlay_length offset bytes a, same, long);
       }
 
 -- A cut of a file that tracks gives one that tracks.
@@ -162,14 +162,14 @@ cut_tracks n k file t = cut_case k.seen k.sure file t.fits t.long where
 pub step_tracks : (fill : Bool) (name : FileName) (k : Kept) (file : File) (change : Change)
     → IsNoSync change → Tracks k file
     → Tracks (step name k change) (apply_file fill name file change)
-step_tracks fill name k file (Write other place bytes) plain t =
+step_tracks fill name k file (Write other offset bytes) plain t =
     chosen (is_at (name_cmp other) name) where
       chosen : (b : Bool) → Tracks (cond b (record {
-        seen = Some (overlay place bytes.items (bytes_of k.seen));
-        sure = write_sure place (length bytes.items) k.seen k.sure;
+        seen = Some (overlay offset bytes.items (bytes_of k.seen));
+        sure = write_sure offset (length bytes.items) k.seen k.sure;
       }) k)
-          (cond b (Some (overlay place (filled fill bytes.items) (bytes_of file))) file)
-      chosen true = write_tracks place bytes.items (filled fill bytes.items) k file
+          (cond b (Some (overlay offset (filled fill bytes.items) (bytes_of file))) file)
+      chosen true = write_tracks offset bytes.items (filled fill bytes.items) k file
           (filled-length fill bytes.items) t
       chosen false = t
 step_tracks fill name k file (Cut other n) plain t = chosen (is_at (name_cmp other) name) where
@@ -189,15 +189,15 @@ step_tracks fill name k file Sync plain t = absurd plain
 -- A file that a crash may leave is one that it may leave after a change that wasn't applied.
 pub step_wider : (name : FileName) (k : Kept) (file : File) (change : Change) → IsNoSync change
     → Fits k.sure file → Fits (step name k change).sure file
-step_wider name k file (Write other place bytes) plain fits =
+step_wider name k file (Write other offset bytes) plain fits =
     chosen (is_at (name_cmp other) name) where
       chosen : (b : Bool)
           → Fits (cond b (record {
-            seen = Some (overlay place bytes.items (bytes_of k.seen));
-            sure = write_sure place (length bytes.items) k.seen k.sure;
+            seen = Some (overlay offset bytes.items (bytes_of k.seen));
+            sure = write_sure offset (length bytes.items) k.seen k.sure;
           }) k).sure file
-      chosen true = Fits-Within k.sure (write_sure place (length bytes.items) k.seen k.sure) file
-          (write_wider place (length bytes.items) k.seen k.sure) fits
+      chosen true = Fits-Within k.sure (write_sure offset (length bytes.items) k.seen k.sure) file
+          (write_wider offset (length bytes.items) k.seen k.sure) fits
       chosen false = fits
 step_wider name k file (Cut other n) plain fits = chosen (is_at (name_cmp other) name) where
   chosen : (b : Bool)
@@ -232,12 +232,12 @@ part_fits fill name k file (change ∷ changes) (suc m) plain t =
 -- A change and its application give the same file as it reads.
 pub step_seen : (name : FileName) (k : Kept) (change : Change)
     → (step name k change).seen ≡ apply_file false name k.seen change
-step_seen name k (Write other place bytes) = chosen (is_at (name_cmp other) name) where
+step_seen name k (Write other offset bytes) = chosen (is_at (name_cmp other) name) where
   chosen : (b : Bool) → (cond b (record {
-    seen = Some (overlay place bytes.items (bytes_of k.seen));
-    sure = write_sure place (length bytes.items) k.seen k.sure;
+    seen = Some (overlay offset bytes.items (bytes_of k.seen));
+    sure = write_sure offset (length bytes.items) k.seen k.sure;
   }) k).seen
-      ≡ cond b (Some (overlay place bytes.items (bytes_of k.seen))) k.seen
+      ≡ cond b (Some (overlay offset bytes.items (bytes_of k.seen))) k.seen
   chosen true = refl
   chosen false = refl
 step_seen name k (Cut other n) = chosen (is_at (name_cmp other) name) where
@@ -321,8 +321,8 @@ by_tracks name k change plain fits =
 -- Every change keeps it so.
 pub step_reads_fit : (name : FileName) (k : Kept) (change : Change) → Fits k.sure k.seen
     → Fits (step name k change).sure (step name k change).seen
-step_reads_fit name k (Write other place bytes) fits =
-    by_tracks name k (Write other place bytes) tt fits
+step_reads_fit name k (Write other offset bytes) fits =
+    by_tracks name k (Write other offset bytes) tt fits
 step_reads_fit name k (Cut other n) fits = by_tracks name k (Cut other n) tt fits
 step_reads_fit name k (Remove other) fits = by_tracks name k (Remove other) tt fits
 step_reads_fit name k Sync fits = exact-fits k.seen

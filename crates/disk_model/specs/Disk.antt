@@ -198,10 +198,10 @@ pub record NotSynced (old new : Content) : Type 0 where
 
 -- The n bytes of a file from an offset on are copied to the front of a buffer, as many as fit and
 -- as there are.
-pub record HasRead (name : FileName) (place n : ℕ) (before after : List ℕ) (k : Content)
+pub record HasRead (name : FileName) (offset n : ℕ) (before after : List ℕ) (k : Content)
     : Type 0 where
-  pub count : n ≡ min (length before) (length (bytes_of (k name).seen) - place)
-  pub bytes : after ≡ take n (drop place (bytes_of (k name).seen)) ++ drop n before
+  pub count : n ≡ min (length before) (length (bytes_of (k name).seen) - offset)
+  pub bytes : after ≡ take n (drop offset (bytes_of (k name).seen)) ++ drop n before
 
 -- The length of a file, 0 if it is missing.
 abbrev pub IsLength : FileName → ℕ → Content → Type 0

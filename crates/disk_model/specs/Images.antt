@@ -11,17 +11,17 @@ use Rattle.std.proofs.lemmas.Map.Lookups.{CmpEqualImpliesEq, exact_pairs, exact_
 use Rattle.disk_model.specs.declared.name.FileKind.{FileKind}
 use Rattle.disk_model.specs.declared.name.FileKind.TheVariants.{Root, Map, Epoch, Cache}
 use Rattle.disk_model.specs.declared.name.FileName.{FileName}
-use Rattle.disk_model.specs.Name.{kind_place, name_cmp}
+use Rattle.disk_model.specs.Name.{kind_index, name_cmp}
 use Rattle.disk_model.specs.Disk.{File, Files, Content, Image, Fits}
 
 -- The order of names is total.
 pub names_total : IsTotalOrder name_cmp
-names_total = then_total (on_total (λ (n : FileName). kind_place n.kind) nat_cmp_total)
+names_total = then_total (on_total (λ (n : FileName). kind_index n.kind) nat_cmp_total)
     (then_total (on_total (λ (n : FileName). n.number) nat_cmp_total)
     (on_total (λ (n : FileName). n.gen_) nat_cmp_total))
 
 -- Kinds with equal indices are equal.
-pub exact_kinds : (a b : FileKind) → nat_cmp (kind_place a) (kind_place b) ≡ Equal → a ≡ b
+pub exact_kinds : (a b : FileKind) → nat_cmp (kind_index a) (kind_index b) ≡ Equal → a ≡ b
 exact_kinds Root Root e = refl
 exact_kinds Map Map e = refl
 exact_kinds Epoch Epoch e = refl
@@ -31,7 +31,7 @@ exact_kinds a b e = cc
 -- Names that compare as equal are equal.
 pub exact_names : CmpEqualImpliesEq name_cmp
 exact_names a b e =
-    let kinds : FileKind → FileKind → Ordering = λ x y. nat_cmp (kind_place x) (kind_place y) in
+    let kinds : FileKind → FileKind → Ordering = λ x y. nat_cmp (kind_index x) (kind_index y) in
     let numbers = exact_pairs nat_cmp nat_cmp exact_unsigned exact_unsigned in
     let all =
     exact_pairs kinds (λ (x y : ℕ × ℕ). ordering_then (nat_cmp x.0 y.0) (nat_cmp x.1 y.1))

@@ -285,23 +285,23 @@ write_origin at n s seen (Some bytes) h inside fits =
 -- before.
 pub write_front : (at n : ℕ) (s : Sure) (seen image : File) → Fits s seen
     → at ≤ length (bytes_of seen) → Fits (write_sure at n seen s) image → FrontOrigin at s image
-write_front at n s seen None h behind fits =
+write_front at n s seen None h after fits =
     record { file = None; fits = fits; same = refl; long = λ l. l }
-write_front at n s None (Some bytes) h behind fits =
+write_front at n s None (Some bytes) h after fits =
     let empty : at ≡ 0 = omega arith in
-    record { file = None; fits = h; same = rw empty refl; long = λ l. omega (arith, behind) }
-write_front at n s (Some seen) (Some bytes) h behind fits =
+    record { file = None; fits = h; same = rw empty refl; long = λ l. omega (arith, after) }
+write_front at n s (Some seen) (Some bytes) h after fits =
     let size = unwritten_length at n s bytes in
     let high = h.no_longer in
     record {
       file = Some (unwritten at n s bytes);
       fits = unwritten_fits at n s seen bytes h fits;
       same = same_number_lists (take at bytes) (take at (unwritten at n s bytes))
-          (omega (arith, size, behind, high, length-take {A = ℕ}))
+          (omega (arith, size, after, high, length-take {A = ℕ}))
           (λ i below.
           let front : i < at = omega (arith, below, length-take {A = ℕ}) in
           let there : i < length bytes = omega (arith, below, length-take {A = ℕ}) in
-          let held : i < min (length bytes) s.greatest = omega (arith, front, there, behind, high) in
+          let held : i < min (length bytes) s.greatest = omega (arith, front, there, after, high) in
           get_or-take at bytes i 0 front ∙ sym (get_or-take at (unwritten at n s bytes) i 0 front
           ∙ (unwritten_at at n s bytes i held ∙ chosen_out at n i _ _ (inl front))));
       long = λ l. omega (arith, size, l);
@@ -381,12 +381,12 @@ IsLength-unchanged name n (Some k) (Some m) is same =
     subst P (sym (same name)) is
 
 -- So does each offset up to it.
-pub IsAtMostLength-unchanged : (name : FileName) (n place : ℕ) (old new : Option Content)
-    → WhereTold (IsLength name n) old → Told Unchanged old new → place ≤ n
-    → WhereTold (IsAtMostLength name place) new
-IsAtMostLength-unchanged name n place None None is same below = tt
-IsAtMostLength-unchanged name n place None (Some m) is same below = absurd same
-IsAtMostLength-unchanged name n place (Some k) None is same below = absurd same
-IsAtMostLength-unchanged name n place (Some k) (Some m) is same below =
+pub IsAtMostLength-unchanged : (name : FileName) (n offset : ℕ) (old new : Option Content)
+    → WhereTold (IsLength name n) old → Told Unchanged old new → offset ≤ n
+    → WhereTold (IsAtMostLength name offset) new
+IsAtMostLength-unchanged name n offset None None is same below = tt
+IsAtMostLength-unchanged name n offset None (Some m) is same below = absurd same
+IsAtMostLength-unchanged name n offset (Some k) None is same below = absurd same
+IsAtMostLength-unchanged name n offset (Some k) (Some m) is same below =
     let length_is = IsLength-unchanged name n (Some k) (Some m) is same in
     omega (arith, length_is, below)

@@ -7,13 +7,13 @@ use Rattle.disk_model.specs.declared.name.FileKind.TheVariants.{Root, Map, Epoch
 use Rattle.disk_model.specs.declared.name.FileName.{FileName}
 
 -- The index of a kind among the kinds, in the order of their declaration.
-abbrev pub kind_place : FileKind → ℕ
-kind_place Root = 0
-kind_place Map = 1
-kind_place Epoch = 2
-kind_place Cache = 3
+abbrev pub kind_index : FileKind → ℕ
+kind_index Root = 0
+kind_index Map = 1
+kind_index Epoch = 2
+kind_index Cache = 3
 
 -- How two names compare.
 abbrev pub name_cmp : FileName → FileName → Ordering
-name_cmp a b = ordering_then (nat_cmp (kind_place a.kind) (kind_place b.kind))
+name_cmp a b = ordering_then (nat_cmp (kind_index a.kind) (kind_index b.kind))
     (ordering_then (nat_cmp a.number b.number) (nat_cmp a.gen_ b.gen_))

@@ -28,10 +28,10 @@ SameFiles old new = (other : FileName) → file_at new other ≡ file_at old oth
 
 -- A file as it reads, and what a crash may leave of it, after a change.
 abbrev pub step : FileName → Kept → Change → Kept
-step name k (Write other place bytes) = cond (is_at (name_cmp other) name)
+step name k (Write other offset bytes) = cond (is_at (name_cmp other) name)
     (record {
-      seen = Some (overlay place bytes.items (bytes_of k.seen));
-      sure = write_sure place (length bytes.items) k.seen k.sure;
+      seen = Some (overlay offset bytes.items (bytes_of k.seen));
+      sure = write_sure offset (length bytes.items) k.seen k.sure;
     }) k
 step name k (Cut other n) = cond (is_at (name_cmp other) name)
     (record { seen = cut_file n k.seen; sure = cut_sure n k.sure }) k

@@ -96,11 +96,11 @@ writing_inside name at n k image fit inside some w =
 
 -- A write at an offset or after it leaves a file that starts with the same bytes as one from before
 -- it.
-pub writing_behind : (name : FileName) (at n : ℕ) (k : Content) (image : Files) → ReadsFit (Some k)
+pub writing_after : (name : FileName) (at n : ℕ) (k : Content) (image : Files) → ReadsFit (Some k)
     → at ≤ length (bytes_of (k name).seen) → IsWriting name at n k image
     → FrontOrigin at (k name).sure (image name)
-writing_behind name at n k image fit behind w =
-    write_front at n (k name).sure (k name).seen (image name) (fit k refl name) behind w.here
+writing_after name at n k image fit after w =
+    write_front at n (k name).sure (k name).seen (image name) (fit k refl name) after w.here
 
 -- A crash leaves settled files as they read.
 pub settled_image : (k : Content) (image : Files) → IsSettled k → Image (Some k) image

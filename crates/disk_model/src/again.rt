@@ -42,18 +42,18 @@ fn put_filled(
     alloc: Global,
     files: &mut Contents,
     name: FileName,
-    place: u64,
+    offset: u64,
     bytes: &[u8],
     fill: bool,
 ) -> Result<(), AllocError>
     ensures { OnOk result (SetsFile files.old files.new name
-        (Some (overlay place (filled fill bytes.now) (bytes_of (file_at files.old name))))) }
+        (Some (overlay offset (filled fill bytes.now) (bytes_of (file_at files.old name))))) }
 {
     if fill {
         let ones = vec![in alloc; 255; bytes.len()]?;
-        return put(alloc, files, name, place, &ones);
+        return put(alloc, files, name, offset, &ones);
     }
-    put(alloc, files, name, place, bytes)
+    put(alloc, files, name, offset, bytes)
 }
 
 /// Applies one change to files.
@@ -64,9 +64,11 @@ fn apply(alloc: Global, files: &mut Contents, change: &Change, fill: bool) -> Re
         → file_at files.new name ≡ apply_file fill name (file_at files.old name) change.now) }
 {
     match change {
-        Change::Write { name, place, bytes } => put_filled(
-            alloc, files, *name, *place, bytes, fill,
-        ),
+        Change::Write {
+            name,
+            offset,
+            bytes,
+        } => put_filled(alloc, files, *name, *offset, bytes, fill),
         Change::Cut { name, length } => {
             trim(files, *name, *length);
             Ok(())

@@ -9,7 +9,7 @@ pub enum Change {
         /// The file.
         name: FileName,
         /// The offset of the bytes in the file.
-        place: u64,
+        offset: u64,
         /// The bytes.
         bytes: Vec<u8>,
     },

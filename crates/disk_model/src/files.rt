@@ -1,5 +1,5 @@
 //! Files in memory, by their names.
-ghost use Rattle.std.specs.Prelude.{◌≡◌, ◌+◌, ◌-◌, ℕ, Some, None, min, take, drop, length, ◌++◌, slice_get, IfOk, OnOk, OnErr};
+ghost use Rattle.std.specs.Prelude.{◌≡◌, ◌+◌, ◌-◌, Some, None, min, take, drop, length, ◌++◌, slice_get, IfOk, OnOk, OnErr};
 ghost use Rattle.std.specs.BTreeMap.{keys, IsOrdered};
 ghost use Rattle.disk_model.specs.declared.name.FileName.{FileName};
 ghost use Rattle.disk_model.specs.Disk.{bytes_of, overlay, cut_file};
@@ -15,12 +15,12 @@ pub type Contents = BTreeMap<FileName, Vec<u8>>;
 /// Writes bytes at an offset of a file, over the old ones and past its end.
 ///
 /// The offset counts as the file's end if it is greater. An error leaves the file unchanged.
-fn patch(file: &mut Vec<u8>, place: u64, bytes: &[u8]) -> Result<(), AllocError>
-    ensures ok { OnOk result (file.new.items ≡ overlay place bytes.now file.old.items) }
+fn patch(file: &mut Vec<u8>, offset: u64, bytes: &[u8]) -> Result<(), AllocError>
+    ensures ok { OnOk result (file.new.items ≡ overlay offset bytes.now file.old.items) }
     ensures err { OnErr result (file.new.items ≡ file.old.items) }
 {
-    let start = if place < file.len() as u64 {
-        place as usize
+    let start = if offset < file.len() as u64 {
+        offset as usize
     } else {
         file.len()
     };
@@ -39,15 +39,15 @@ pub fn put(
     alloc: Global,
     files: &mut Contents,
     name: FileName,
-    place: u64,
+    offset: u64,
     bytes: &[u8],
 ) -> Result<(), AllocError>
     ensures ok { OnOk result (SetsFile files.old files.new name
-        (Some (overlay place bytes.now (bytes_of (file_at files.old name))))) }
+        (Some (overlay offset bytes.now (bytes_of (file_at files.old name))))) }
     ensures err { OnErr result (SameFiles files.old files.new) }
 {
     match files.get_mut(&name) {
-        Some(file) => patch(file, place, bytes),
+        Some(file) => patch(file, offset, bytes),
         None => {
             let file = bytes.to_vec(alloc)?;
             files.insert(name, file)?;
@@ -83,14 +83,14 @@ pub fn name_in_order(files: &Contents, index: u64) -> Option<FileName>
 /// Copies the bytes from an offset on to the front of a buffer, and returns their number.
 ///
 /// Copies as many bytes as the buffer takes, fewer if the file ends before, and none past its end.
-pub fn copy_out(file: &[u8], place: u64, into: &mut [u8]) -> usize
-    ensures count { result ≡ min (length into.old) (length file.now - place) }
-    ensures bytes { into.new ≡ take result (drop place file.now) ++ drop result into.old }
+pub fn copy_out(file: &[u8], offset: u64, into: &mut [u8]) -> usize
+    ensures count { result ≡ min (length into.old) (length file.now - offset) }
+    ensures bytes { into.new ≡ take result (drop offset file.now) ++ drop result into.old }
 {
-    if place >= file.len() as u64 {
+    if offset >= file.len() as u64 {
         return 0;
     }
-    let rest = &file[place as usize..];
+    let rest = &file[offset as usize..];
     let count = rest.len().min(into.len());
     into[..count].copy_from_slice(&rest[..count]);
     count

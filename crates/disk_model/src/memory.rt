@@ -1,5 +1,5 @@
 //! A disk in memory that records its changes.
-ghost use Rattle.std.specs.Prelude.{◌≡◌, ℕ, Some, length};
+ghost use Rattle.std.specs.Prelude.{◌≡◌, Some, length};
 ghost use Rattle.disk_model.specs.declared.name.FileName.{FileName};
 ghost use Rattle.disk_model.specs.Record.{file_at, content_of, LeftSince, record_counts_now, record_only_now};
 ghost use Rattle.disk_model.specs.Applied.{record_reads_fit};
@@ -29,7 +29,7 @@ impl MemDisk {
     ghost use Rattle.std.specs.Prelude.{◌≤◌, ◌++◌, ◌∷◌, [], take, IfOk, OnOk, OnErr};
     ghost use Rattle.disk_model.specs.Disk.{Image};
     ghost use Rattle.disk_model.specs.Applied.{IsPicked};
-    ghost use Rattle.disk_model.specs.Memory.{base_of, files_of, changes_of, content_then, plan_of, starved_of, failed_of, reads_of, no_files, IsFresh};
+    ghost use Rattle.disk_model.specs.Memory.{base_of, files_of, changes_of, content_then, starved_of, failed_of, no_files, IsFresh};
 
     /// Creates a disk without files. It fails each call whose ordinal, from 1, is in `faults`.
     ///
@@ -111,20 +111,20 @@ impl MemDisk {
     }
 
     /// Writes bytes to a file, and records the change.
-    fn write(&mut self, name: FileName, place: u64, bytes: &[u8]) -> Result<(), AllocError>
+    fn write(&mut self, name: FileName, offset: u64, bytes: &[u8]) -> Result<(), AllocError>
         ensures base { self.new.base ≡ self.old.base }
         ensures plan { self.new.plan ≡ self.old.plan }
         ensures reads { self.new.reads ≡ self.old.reads }
         ensures ok { OnOk result ((v : _) × (v.items ≡ bytes.now) × (self.new.changes.items
-            ≡ self.old.changes.items ++ Change.Write name place v ∷ [])) }
+            ≡ self.old.changes.items ++ Change.Write name offset v ∷ [])) }
         ensures err { OnErr result (self.new.changes.items ≡ self.old.changes.items) }
     {
         let piece = bytes.to_vec(self.alloc)?;
         self.changes.reserve(1)?;
-        put(self.alloc, &mut self.files, name, place, bytes)?;
+        put(self.alloc, &mut self.files, name, offset, bytes)?;
         self.changes.push(Change::Write {
             name,
-            place,
+            offset,
             bytes: piece,
         })?;
         Ok(())

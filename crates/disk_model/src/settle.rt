@@ -1,5 +1,5 @@
 //! One range of a file, written and synced.
-ghost use Rattle.std.specs.Prelude.{◌≡◌, ◌≤◌, ◌<◌, ◌+◌, ◌^◌, length, OnOk};
+ghost use Rattle.std.specs.Prelude.{◌≡◌, ◌<◌, ◌+◌, ◌^◌, length, OnOk};
 ghost use Rattle.arch_base.specs.Counts.{IsCaused};
 ghost use Rattle.disk_model.specs.Disk.{Told, WhereTold, IsAtMostLength, LeavesOnly};
 ghost use Rattle.disk_model.specs.Synced.{Writing, IsWritten};
@@ -13,18 +13,18 @@ use crate::{Disk, DiskFault, FileName};
 pub fn write_and_sync<D: Disk>(
     disk: &mut D,
     name: FileName,
-    place: u64,
+    offset: u64,
     bytes: &[u8],
 ) -> Result<(), DiskFault>
-    requires inside { WhereTold (IsAtMostLength name place) (D.content disk.old) }
-    requires end { place + length bytes.now < 2 ^ 63 }
+    requires inside { WhereTold (IsAtMostLength name offset) (D.content disk.old) }
+    requires end { offset + length bytes.now < 2 ^ 63 }
     ensures any_moment { LeavesOnly D.moment D.left_since disk.old disk.new
-        (Writing name place (length bytes.now) (D.content disk.old)) }
+        (Writing name offset (length bytes.now) (D.content disk.old)) }
     ensures written { OnOk result
-        (Told (IsWritten name place bytes.now) (D.content disk.old) (D.content disk.new)) }
+        (Told (IsWritten name offset bytes.now) (D.content disk.old) (D.content disk.new)) }
     ensures cause { IsCaused (D.faults disk.old) (D.faults disk.new) result }
     ensures count { D.reads disk.new ≡ D.reads disk.old }
 {
-    disk.write_at(name, place, bytes)?;
+    disk.write_at(name, offset, bytes)?;
     disk.sync()
 }

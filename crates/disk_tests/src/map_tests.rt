@@ -136,11 +136,11 @@ fn put_three<D: Disk>(disk: &mut D) -> Result<(), DiskFault> {
 }
 
 /// Writes into the map.
-fn write<D: Disk>(disk: &mut D, place: u64, bytes: &[u8]) -> Result<(), DiskFault> {
-    if place > disk.length(M)? || place > 1_000_000 || bytes.len() > 1_000_000 {
+fn write<D: Disk>(disk: &mut D, offset: u64, bytes: &[u8]) -> Result<(), DiskFault> {
+    if offset > disk.length(M)? || offset > 1_000_000 || bytes.len() > 1_000_000 {
         return Err(DiskFault);
     }
-    disk.write_at(M, place, bytes)
+    disk.write_at(M, offset, bytes)
 }
 
 /// Cuts the map.

@@ -203,7 +203,7 @@ static IMAGES: [[&[u8]; 4]; 22] = [
 /// Makes a call. A write or a cut beyond the file's end only asks for the length.
 fn make(disk: &mut MemDisk, call: &Call) -> Result<(), DiskFault> {
     match call {
-        Call::Write(name, place, bytes) => write(disk, *name, *place, bytes),
+        Call::Write(name, offset, bytes) => write(disk, *name, *offset, bytes),
         Call::Cut(name, length) => cut(disk, *name, *length),
         Call::Remove(name) => disk.remove(*name),
         Call::Sync => disk.sync(),
@@ -224,12 +224,17 @@ fn make(disk: &mut MemDisk, call: &Call) -> Result<(), DiskFault> {
 }
 
 /// Writes bytes if the offset is in the file or at its end.
-fn write<D: Disk>(disk: &mut D, name: FileName, place: u64, bytes: &[u8]) -> Result<(), DiskFault> {
+fn write<D: Disk>(
+    disk: &mut D,
+    name: FileName,
+    offset: u64,
+    bytes: &[u8],
+) -> Result<(), DiskFault> {
     let length = disk.length(name)?;
-    if place > length || place > 64 || bytes.len() > 64 {
+    if offset > length || offset > 64 || bytes.len() > 64 {
         return Ok(());
     }
-    disk.write_at(name, place, bytes)
+    disk.write_at(name, offset, bytes)
 }
 
 /// Cuts a file if it is at least as long as the new length.

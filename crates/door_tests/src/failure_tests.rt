@@ -107,7 +107,7 @@ fn is_answered(alloc: Global, stream: &Stream) -> bool {
 }
 
 #[test]
-fn a_disk_that_fails_is_said_and_opened_again(rt: HostRuntime) {
+fn a_disk_that_fails_is_said_and_reopened(rt: HostRuntime) {
     for stream in &STREAMS {
         assert!(rt; is_answered(rt.alloc(), stream), "{:?}", stream.bytes);
     }

@@ -25,15 +25,15 @@ take-front left copied more count within front =
     ap (λ n. take n (copied ++ more)) (sym len) ∙ take-append_seam copied more ∙ front
 
 -- A list is its front followed by the rest.
-front-behind : (bytes copied more : List ℕ) (at count : ℕ) → count ≤ length (drop at bytes) → copied ≡ take count (drop at bytes)
+front-after : (bytes copied more : List ℕ) (at count : ℕ) → count ≤ length (drop at bytes) → copied ≡ take count (drop at bytes)
     → drop at bytes ≡ take count (copied ++ more) ++ drop (at + count) bytes
-front-behind bytes copied more at count within front =
+front-after bytes copied more at count within front =
     rw (take-front (drop at bytes) copied more count within front, drop-further bytes at count) (sym (take-append-drop count (drop at bytes)))
 
 -- A read of `count` bytes into the front of a buffer removes them from the remaining bytes.
 pub gave-front : (bytes into copied : List ℕ) (at count : ℕ) → 0 < length into → count ≡ min (length (drop at bytes)) (length into)
     → copied ≡ take count (drop at bytes) → Gave count (copied ++ drop count into) (Some (drop at bytes)) (Some (drop (at + count) bytes))
 gave-front bytes into copied at count some is front = record {
-  taken = ap Some (front-behind bytes copied (drop count into) at count (omega arith) front);
+  taken = ap Some (front-after bytes copied (drop count into) at count (omega arith) front);
   end = λ none. nil_from_length (drop at bytes) (omega arith);
 }

@@ -4,7 +4,7 @@ use Rattle.std.proofs.lemmas.Fmt.{decimal_injective}
 use Rattle.std.proofs.lemmas.List.{flat_map_more}
 use Rattle.std.proofs.lemmas.List.Elements.{All-head, All-tail}
 use Rattle.std.specs.Fmt.{decimal}
-use Rattle.edge_io.specs.Events.{IsWhat, IsLine, IsEvent, piece_len, words_of, line_of, behind_line, spelled}
+use Rattle.edge_io.specs.Events.{IsWhat, IsLine, IsEvent, piece_len, words_of, line_of, after_line, spelled}
 use Rattle.edge_io.specs.Scripts.{Arrival, IsArrival, HasNoFirst, spelled_all, ReadInOneWay}
 use Rattle.edge_io.specs.Parsing.{Lacks}
 use Rattle.edge_io.specs.declared.events.Event.{Event}
@@ -39,33 +39,33 @@ line-once a b p q e =
     ap (λ (m : ℕ). let event : Event = record { moment = m; what = a.what } in event) moment ∙ ap (λ (w : What). let event : Event = record { moment = b.moment; what = w } in event) what
 
 -- The form of an event at the front of bytes starts with its line and a line feed.
-pub spelled-line : (event : Event) (piece behind : List ℕ) → spelled event piece ++ behind ≡ line_of event ++ 10 ∷ (behind_line event.what piece ++ behind)
-spelled-line event piece behind = append_assoc (line_of event) (10 ∷ behind_line event.what piece) behind
+pub spelled-line : (event : Event) (piece after : List ℕ) → spelled event piece ++ after ≡ line_of event ++ 10 ∷ (after_line event.what piece ++ after)
+spelled-line event piece after = append_assoc (line_of event) (10 ∷ after_line event.what piece) after
 
 -- Bytes without a line feed start with no event.
 pub no_line : (bytes : List ℕ) → Lacks 10 bytes → HasNoFirst bytes
-no_line bytes none event piece behind h e =
-    Lacks-divided 10 bytes (line_of event) (behind_line event.what piece ++ behind) none (e ∙ spelled-line event piece behind)
+no_line bytes none event piece after h e =
+    Lacks-divided 10 bytes (line_of event) (after_line event.what piece ++ after) none (e ∙ spelled-line event piece after)
 
 -- The first line of bytes is the line of their first event, and the rest comes after it.
-pub line-and-behind : (bytes line rest : List ℕ) (event : Event) (piece behind : List ℕ) → Lacks 10 line → bytes ≡ line ++ 10 ∷ rest → IsLine event → bytes ≡ spelled event piece ++ behind
-    → (line ≡ line_of event) × (rest ≡ behind_line event.what piece ++ behind)
-line-and-behind bytes line rest event piece behind no_feed is h e =
-    same_parts 10 bytes line rest (line_of event) (behind_line event.what piece ++ behind) no_feed is (line-lacks event h) (e ∙ spelled-line event piece behind)
+pub line-and-after : (bytes line rest : List ℕ) (event : Event) (piece after : List ℕ) → Lacks 10 line → bytes ≡ line ++ 10 ∷ rest → IsLine event → bytes ≡ spelled event piece ++ after
+    → (line ≡ line_of event) × (rest ≡ after_line event.what piece ++ after)
+line-and-after bytes line rest event piece after no_feed is h e =
+    same_parts 10 bytes line rest (line_of event) (after_line event.what piece ++ after) no_feed is (line-lacks event h) (e ∙ spelled-line event piece after)
 
 -- Bytes whose first line is of no event start with no event.
 pub no_event : (bytes line rest : List ℕ) → Lacks 10 line → bytes ≡ line ++ 10 ∷ rest → ((event : Event) → IsLine event → line ≢ line_of event) → HasNoFirst bytes
-no_event bytes line rest no_feed is none event piece behind h e = none event h.in_range (line-and-behind bytes line rest event piece behind no_feed is h.in_range e).0
+no_event bytes line rest no_feed is none event piece after h e = none event h.in_range (line-and-after bytes line rest event piece after no_feed is h.in_range e).0
 
 -- Bytes start with no event if their first line announces a piece that is incomplete.
 pub no_piece : (bytes line rest : List ℕ) (first : Event) (conn len : ℕ) → Lacks 10 line → bytes ≡ line ++ 10 ∷ rest → IsLine first → line ≡ line_of first → first.what ≡ Bytes conn len
-    → ((piece behind : List ℕ) → length piece ≡ len → rest ≢ piece ++ 10 ∷ behind) → HasNoFirst bytes
-no_piece bytes line rest first conn len no_feed is in_range named what none event piece behind h e =
-    let parts = line-and-behind bytes line rest event piece behind no_feed is h.in_range e in
+    → ((piece after : List ℕ) → length piece ≡ len → rest ≢ piece ++ 10 ∷ after) → HasNoFirst bytes
+no_piece bytes line rest first conn len no_feed is in_range named what none event piece after h e =
+    let parts = line-and-after bytes line rest event piece after no_feed is h.in_range e in
     let same : first ≡ event = line-once first event in_range h.in_range (sym named ∙ parts.0) in
     let here : event.what ≡ Bytes conn len = ap (λ (x : Event). x.what) (sym same) ∙ what in
     let size : length piece ≡ len = h.whole ∙ ap piece_len here in
-    none piece behind size (parts.1 ∙ ap (λ (w : What). behind_line w piece ++ behind) here ∙ append_assoc piece (10 ∷ []) behind)
+    none piece after size (parts.1 ∙ ap (λ (w : What). after_line w piece ++ after) here ∙ append_assoc piece (10 ∷ []) after)
 
 -- Two prefixes of one list that have one length are equal.
 fronts-once : (a b x y : List ℕ) → length a ≡ length b → a ++ x ≡ b ++ y → (a ≡ b) × (x ≡ y)
@@ -79,23 +79,23 @@ fronts-once (d ∷ a) (c ∷ b) x y h e =
     (let l : a ≡ b = tail.0 in cc, tail.1)
 
 -- The bytes after a line are read in one way.
-behind-once : (what : What) (a b r s : List ℕ) → length a ≡ piece_len what → length b ≡ piece_len what → behind_line what a ++ r ≡ behind_line what b ++ s → (a ≡ b) × (r ≡ s)
-behind-once (Opened conn door) a b r s p q e = (nil_from_length a p ∙ sym (nil_from_length b q), e)
-behind-once (Bytes conn len) a b r s p q e =
+after-once : (what : What) (a b r s : List ℕ) → length a ≡ piece_len what → length b ≡ piece_len what → after_line what a ++ r ≡ after_line what b ++ s → (a ≡ b) × (r ≡ s)
+after-once (Opened conn door) a b r s p q e = (nil_from_length a p ∙ sym (nil_from_length b q), e)
+after-once (Bytes conn len) a b r s p q e =
     let parts = fronts-once a b (10 ∷ r) (10 ∷ s) (p ∙ sym q) (sym (append_assoc a (10 ∷ []) r) ∙ e ∙ append_assoc b (10 ∷ []) s) in
     (parts.0, ap (drop 1) parts.1)
-behind-once (Ended conn) a b r s p q e = (nil_from_length a p ∙ sym (nil_from_length b q), e)
-behind-once Quiet a b r s p q e = (nil_from_length a p ∙ sym (nil_from_length b q), e)
-behind-once Stop a b r s p q e = (nil_from_length a p ∙ sym (nil_from_length b q), e)
+after-once (Ended conn) a b r s p q e = (nil_from_length a p ∙ sym (nil_from_length b q), e)
+after-once Quiet a b r s p q e = (nil_from_length a p ∙ sym (nil_from_length b q), e)
+after-once Stop a b r s p q e = (nil_from_length a p ∙ sym (nil_from_length b q), e)
 
 -- The first event of bytes is read in one way.
 first-once : (a b : Event) (x y r s : List ℕ) → IsEvent a x → IsEvent b y → spelled a x ++ r ≡ spelled b y ++ s → (a ≡ b) × (x ≡ y) × (r ≡ s)
 first-once a b x y r s p q e =
-    let parts = divided-once 10 (line_of a) (line_of b) (behind_line a.what x ++ r) (behind_line b.what y ++ s) (line-lacks a p.in_range) (line-lacks b q.in_range)
+    let parts = divided-once 10 (line_of a) (line_of b) (after_line a.what x ++ r) (after_line b.what y ++ s) (line-lacks a p.in_range) (line-lacks b q.in_range)
     (sym (spelled-line a x r) ∙ e ∙ spelled-line b y s) in
     let same : a ≡ b = line-once a b p.in_range q.in_range parts.0 in
     let what : b.what ≡ a.what = ap (λ (v : Event). v.what) (sym same) in
-    let rest = behind-once a.what x y r s p.whole (q.whole ∙ ap piece_len what) (parts.1 ∙ ap (λ (w : What). behind_line w y ++ s) what) in
+    let rest = after-once a.what x y r s p.whole (q.whole ∙ ap piece_len what) (parts.1 ∙ ap (λ (w : What). after_line w y ++ s) what) in
     (same, rest.0, rest.1)
 
 -- A list of events is read in one way.
@@ -111,11 +111,11 @@ runs-once (x ∷ a) (y ∷ b) r s p q m n e =
     (let tail : a ≡ b = rest.0 in cc, rest.1)
 
 -- One more event is read from the front of the remaining bytes.
-pub one-more : (made : List Arrival) (event : Event) (piece bytes rest behind : List ℕ) → bytes ≡ spelled_all made ++ rest → rest ≡ spelled event piece ++ behind
-    → bytes ≡ spelled_all (made ++ (event, piece) ∷ []) ++ behind
-one-more made event piece bytes rest behind is here =
+pub one-more : (made : List Arrival) (event : Event) (piece bytes rest after : List ℕ) → bytes ≡ spelled_all made ++ rest → rest ≡ spelled event piece ++ after
+    → bytes ≡ spelled_all (made ++ (event, piece) ∷ []) ++ after
+one-more made event piece bytes rest after is here =
     let more : spelled_all made ++ spelled event piece ≡ spelled_all (made ++ (event, piece) ∷ []) = flat_map_more (λ (arrival : Arrival). spelled arrival.0 arrival.1) [] made (event, piece) in
-    is ∙ ap (λ t. spelled_all made ++ t) here ∙ sym (append_assoc (spelled_all made) (spelled event piece) behind) ∙ ap (λ t. t ++ behind) more
+    is ∙ ap (λ t. spelled_all made ++ t) here ∙ sym (append_assoc (spelled_all made) (spelled event piece) after) ∙ ap (λ t. t ++ after) more
 
 -- Empty bytes start with no event.
 none-first : HasNoFirst []

@@ -21,9 +21,9 @@ abbrev pub passed : Moments → Moments
 passed moments = passed_by moments.next moments.later
 
 -- The moments to come after one was given, if they are told. None stays None.
-abbrev pub behind_first : Option Moments → Option Moments
-behind_first None = None
-behind_first (Some moments) = Some (passed moments)
+abbrev pub after_first : Option Moments → Option Moments
+after_first None = None
+after_first (Some moments) = Some (passed moments)
 
 -- The moment is the first of those to come, if they are told.
 abbrev pub IsFirst : ℕ → Option Moments → Type 0

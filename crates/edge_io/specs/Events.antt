@@ -66,13 +66,13 @@ abbrev pub line_of : Event → List ℕ
 line_of event = decimal event.moment ++ 32 ∷ words_of event.what
 
 -- The bytes after the line of an event: its piece and a line feed, or nothing.
-abbrev pub behind_line : What → List ℕ → List ℕ
-behind_line (Opened conn door) piece = []
-behind_line (Bytes conn len) piece = piece ++ 10 ∷ []
-behind_line (Ended conn) piece = []
-behind_line Quiet piece = []
-behind_line Stop piece = []
+abbrev pub after_line : What → List ℕ → List ℕ
+after_line (Opened conn door) piece = []
+after_line (Bytes conn len) piece = piece ++ 10 ∷ []
+after_line (Ended conn) piece = []
+after_line Quiet piece = []
+after_line Stop piece = []
 
 -- The form of an event and its piece in a script.
 abbrev pub spelled : Event → List ℕ → List ℕ
-spelled event piece = line_of event ++ 10 ∷ behind_line event.what piece
+spelled event piece = line_of event ++ 10 ∷ after_line event.what piece

@@ -15,7 +15,7 @@ Lacks byte (b ∷ bs) = ((b == byte) ≡ false) × Lacks byte bs
 -- The parts of a text before and after the first such byte, or none if it has no such byte.
 abbrev pub Divides : ℕ → List ℕ → Option Parts → Type 0
 Divides byte text found = MatchOption found (Lacks byte text) (λ parts. Lacks byte parts.before.now
-    × (text ≡ parts.before.now ++ byte ∷ parts.behind.now))
+    × (text ≡ parts.before.now ++ byte ∷ parts.after.now))
 
 -- The value of a kind that a text spells, or none if it spells no value of that kind.
 abbrev pub Spells : {A : Type 0} → (A → Type 0) → (A → List ℕ) → List ℕ → Option A → Type 0
@@ -42,8 +42,8 @@ sending_words sending = decimal sending.0 ++ 32 ∷ decimal sending.1
 -- does not start with these.
 abbrev pub HasPiece : ℕ → List ℕ → Option Parts → Type 0
 HasPiece len text found =
-    MatchOption found ((piece behind : List ℕ) → length piece ≡ len → text ≢ piece ++ 10 ∷ behind)
-    (λ parts. (length parts.before.now ≡ len) × (text ≡ parts.before.now ++ 10 ∷ parts.behind.now))
+    MatchOption found ((piece after : List ℕ) → length piece ≡ len → text ≢ piece ++ 10 ∷ after)
+    (λ parts. (length parts.before.now ≡ len) × (text ≡ parts.before.now ++ 10 ∷ parts.after.now))
 
 -- The first event of some bytes, its piece and the remaining bytes, or none if no event is first.
 abbrev pub IsFirst : List ℕ → Option First → Type 0

@@ -25,8 +25,8 @@ pub record IsScript (arrivals : List Arrival) (bytes : List ℕ) : Type 0 where
 
 -- The bytes start with no event that a script may have.
 abbrev pub HasNoFirst : List ℕ → Type 0
-HasNoFirst bytes = (event : Event) (piece behind : List ℕ) → IsEvent event piece
-    → bytes ≢ spelled event piece ++ behind
+HasNoFirst bytes = (event : Event) (piece after : List ℕ) → IsEvent event piece
+    → bytes ≢ spelled event piece ++ after
 
 -- The event with this number, from 1, is the first of the bytes that is malformed or incomplete.
 pub record IsBad (number : ℕ) (bytes : List ℕ) : Type 0 where

@@ -1,8 +1,8 @@
 //! The clock trait.
-ghost use Rattle.std.specs.Prelude.{◌≡◌, ◌≤◌, ℕ, Option, IfOk, OnOk, OnErr};
+ghost use Rattle.std.specs.Prelude.{◌≡◌, ℕ, Option, IfOk, OnOk, OnErr};
 ghost use Rattle.arch_base.specs.Counts.{IsCaused};
 ghost use Rattle.arch_base.specs.Moments.{IsMoment};
-ghost use Rattle.edge_io.specs.Coming.{Moments, IsFirst, behind_first};
+ghost use Rattle.edge_io.specs.Coming.{Moments, IsFirst, after_first};
 
 use thiserror::Error;
 
@@ -26,7 +26,7 @@ pub trait Clock {
     fn now(&mut self) -> Result<u64, ClockFault>
         ensures moment { IfOk result IsMoment }
         ensures first { IfOk result (λ moment. IsFirst moment (coming self.old)) }
-        ensures rest { OnOk result (coming self.new ≡ behind_first (coming self.old)) }
+        ensures rest { OnOk result (coming self.new ≡ after_first (coming self.old)) }
         ensures failed { OnErr result (coming self.new ≡ coming self.old) }
         ensures cause { IsCaused (faults self.old) (faults self.new) result };
 }

@@ -1,5 +1,5 @@
 //! A sink in memory.
-ghost use Rattle.std.specs.Prelude.{◌≡◌, ◌≤◌, ◌+◌, ◌-◌, ◌^◌, ◌++◌, ℕ, List, [], Option, Some, refl};
+ghost use Rattle.std.specs.Prelude.{◌≡◌, ◌-◌, [], Some, refl};
 ghost use Rattle.arch_base.specs.Counts.{HasCause};
 ghost use Rattle.edge_io.specs.Taken.{Took};
 ghost use Rattle.edge_io.specs.MemSinks.{Writing, Writes};

@@ -1,8 +1,8 @@
 //! A source in memory.
-ghost use Rattle.std.specs.Prelude.{◌≡◌, ◌≤◌, ◌<◌, ◌+◌, ◌-◌, ◌^◌, ℕ, List, Option, Some, length, IfOk, OnErr};
+ghost use Rattle.std.specs.Prelude.{◌≡◌, ◌≤◌, ◌<◌, ◌+◌, ◌-◌, Some, length, IfOk, OnErr};
 ghost use Rattle.arch_base.specs.Counts.{IsCaused};
 ghost use Rattle.edge_io.specs.Left.{Gave};
-ghost use Rattle.edge_io.specs.Listed.{raised, is_listed};
+ghost use Rattle.edge_io.specs.Listed.{is_listed};
 ghost use Rattle.edge_io.specs.MemSources.{Reading, Reads};
 
 use crate::{Source, SourceFault};

@@ -3,10 +3,10 @@
 //! An event is a line `T o C DOOR`, `T b C LEN`, `T e C`, `T q` or `T s`. The line of a `b` is
 //! followed by LEN bytes and a line feed. T is a moment and C a connection. Numbers are decimals
 //! without leading zeros.
-ghost use Rattle.std.specs.Prelude.{◌≡◌, ◌≤◌, ◌<◌, ℕ, List, length};
+ghost use Rattle.std.specs.Prelude.{◌<◌};
 ghost use Rattle.std.specs.Fmt.{decimal};
 ghost use Rattle.arch_base.specs.Moments.{IsMoment};
-ghost use Rattle.edge_io.specs.Events.{IsConnection, IsDoor, IsPieceLen, IsWhat, IsLine, door_word, words_of, line_of, behind_line};
+ghost use Rattle.edge_io.specs.Events.{IsConnection, IsDoor, IsPieceLen, IsWhat, IsLine, door_word, words_of, line_of};
 ghost use Rattle.edge_io.specs.Scripts.{IsReading, ReadInOneWay};
 ghost use Rattle.edge_io.specs.Parsing.{Divides, Spells, HasPiece, IsFirst, IsOpening, opening_words, IsSending, sending_words};
 
@@ -59,7 +59,7 @@ pub struct First<'a> {
 #[derive(Clone, Copy, Drop)]
 pub struct Parts<'a> {
     pub before: &'a [u8],
-    pub behind: &'a [u8],
+    pub after: &'a [u8],
 }
 
 /// Reads the first event of some bytes, or returns `None` if they start with none.
@@ -69,17 +69,17 @@ fn first_event(bytes: &[u8]) -> Option<First<'_>>
     let line = divide(b'\n', bytes)?;
     let event = read_line(line.before)?;
     if let What::Bytes { len, .. } = event.what {
-        let parts = split_piece(len, line.behind)?;
+        let parts = split_piece(len, line.after)?;
         return Some(First {
             event,
             piece: parts.before,
-            rest: parts.behind,
+            rest: parts.after,
         });
     }
     Some(First {
         event,
         piece: &[],
-        rest: line.behind,
+        rest: line.after,
     })
 }
 
@@ -87,10 +87,10 @@ fn first_event(bytes: &[u8]) -> Option<First<'_>>
 fn divide(byte: u8, text: &[u8]) -> Option<Parts<'_>>
     ensures { Divides byte text.now result }
 {
-    let place = memchr(byte, text)?;
+    let offset = memchr(byte, text)?;
     Some(Parts {
-        before: &text[..place],
-        behind: &text[place + 1..],
+        before: &text[..offset],
+        after: &text[offset + 1..],
     })
 }
 
@@ -105,7 +105,7 @@ fn split_piece(len: usize, text: &[u8]) -> Option<Parts<'_>>
     }
     Some(Parts {
         before: &text[..len],
-        behind: &text[len + 1..],
+        after: &text[len + 1..],
     })
 }
 
@@ -115,7 +115,7 @@ fn read_line(line: &[u8]) -> Option<Event>
 {
     let parts = divide(b' ', line)?;
     let moment = read_moment(parts.before)?;
-    let what = read_what(parts.behind)?;
+    let what = read_what(parts.after)?;
     Some(Event { moment, what })
 }
 
@@ -148,7 +148,7 @@ fn read_opening(words: &[u8]) -> Option<(u32, Door)>
 {
     let parts = divide(b' ', words)?;
     let conn = read_connection(parts.before)?;
-    let door = read_door(parts.behind)?;
+    let door = read_door(parts.after)?;
     Some((conn, door))
 }
 
@@ -158,7 +158,7 @@ fn read_sending(words: &[u8]) -> Option<(u32, usize)>
 {
     let parts = divide(b' ', words)?;
     let conn = read_connection(parts.before)?;
-    let len = read_piece_len(parts.behind)?;
+    let len = read_piece_len(parts.after)?;
     Some((conn, len))
 }
 

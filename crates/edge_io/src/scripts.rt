@@ -1,5 +1,5 @@
 //! A script: a list of events, each with its piece of bytes.
-ghost use Rattle.std.specs.Prelude.{◌≡◌, ◌<◌, ◌^◌, ◌++◌, ◌∷◌, [], List, ℕ, length, IfOk, OnOk, IsSome};
+ghost use Rattle.std.specs.Prelude.{◌≡◌, ◌<◌, ◌^◌, ◌++◌, ◌∷◌, [], List, length, IfOk, OnOk, IsSome};
 ghost use Rattle.std.specs.Option.{option_copied};
 ghost use Rattle.edge_io.specs.Events.{piece_len};
 ghost use Rattle.edge_io.specs.Scripts.{event_at, piece_at};
@@ -110,8 +110,8 @@ impl Script {
     {
         match self.placed.as_slice().get(i as usize) {
             Some(placed) => {
-                let behind = &self.pieces.as_slice()[placed.start..];
-                &behind[..piece_len(placed.event.what)]
+                let after = &self.pieces.as_slice()[placed.start..];
+                &after[..piece_len(placed.event.what)]
             }
             None => &[],
         }

@@ -18,9 +18,9 @@ use Rattle.mail_date.specs.declared.moment.Moment.{Moment}
 use Rattle.mail_commits.specs.Facts.{from_fact, email_fact, subject_fact, date_fact}
 use Rattle.mail_commits.specs.Commits.{commit_of, written_at}
 use Rattle.mail_commits.specs.Entries.{magic, tree_of}
-use Rattle.epoch_file.specs.Entries.{EpochEntry, IsEpochEntry, AreEpochEntries, bytes_behind, commit_behind, chain, EpochsDiffer}
+use Rattle.epoch_file.specs.Entries.{EpochEntry, IsEpochEntry, AreEpochEntries, bytes_after, commit_after, chain, EpochsDiffer}
 use Rattle.arch_base.specs.Moments.{last_moment}
-use Rattle.epoch_file.proofs.Sizes.{content_behind, objects, headed, length-entry}
+use Rattle.epoch_file.proofs.Sizes.{content_after, objects, headed, length-entry}
 
 -- A number and a space determine the number.
 number_once : (m n : ℕ) (x y : List ℕ) → m < 2 ^ 64 → n < 2 ^ 64 → decimal m ++ 32 ∷ x ≡ decimal n ++ 32 ∷ y → m ≡ n
@@ -32,49 +32,49 @@ tail_once : (c : ℕ) (x y : List ℕ) → c ∷ x ≡ c ∷ y → x ≡ y
 tail_once c x y e = cc
 
 -- The bytes after digits and a line feed.
-behind_digits : (digits x y : List ℕ) (end : ℕ) → digits ++ end ∷ x ≡ digits ++ end ∷ y → x ≡ y
-behind_digits digits x y end e = tail_once end x y (append_cancel_left digits (end ∷ x) (end ∷ y) e)
+after_digits : (digits x y : List ℕ) (end : ℕ) → digits ++ end ∷ x ≡ digits ++ end ∷ y → x ≡ y
+after_digits digits x y end e = tail_once end x y (append_cancel_left digits (end ∷ x) (end ∷ y) e)
 
 -- The bytes after a parent's line.
-behind_parent : (parent : Option Id20) (x y : List ℕ) → parent_line parent x ≡ parent_line parent y → x ≡ y
-behind_parent None x y e = e
-behind_parent (Some id) x y e = behind_digits (encode_lower id.0) x y 10 (append_cancel_left (codes "parent ") (encode_lower id.0 ++ 10 ∷ x) (encode_lower id.0 ++ 10 ∷ y) e)
+after_parent : (parent : Option Id20) (x y : List ℕ) → parent_line parent x ≡ parent_line parent y → x ≡ y
+after_parent None x y e = e
+after_parent (Some id) x y e = after_digits (encode_lower id.0) x y 10 (append_cancel_left (codes "parent ") (encode_lower id.0 ++ 10 ∷ x) (encode_lower id.0 ++ 10 ∷ y) e)
 
 -- The bytes after the lines of tree and parent.
-behind_ids : (tree : Id20) (parent : Option Id20) (x y : List ℕ) → tree_line tree (parent_line parent x) ≡ tree_line tree (parent_line parent y) → x ≡ y
-behind_ids tree parent x y e =
-    behind_parent parent x y (behind_digits (encode_lower tree.0) (parent_line parent x) (parent_line parent y) 10
+after_ids : (tree : Id20) (parent : Option Id20) (x y : List ℕ) → tree_line tree (parent_line parent x) ≡ tree_line tree (parent_line parent y) → x ≡ y
+after_ids tree parent x y e =
+    after_parent parent x y (after_digits (encode_lower tree.0) (parent_line parent x) (parent_line parent y) 10
     (append_cancel_left (codes "tree ") (encode_lower tree.0 ++ 10 ∷ parent_line parent x) (encode_lower tree.0 ++ 10 ∷ parent_line parent y) e))
 
 -- The bytes after the author's name and address.
-behind_author : (name email : List ℕ) (m n : ℕ) (z w : ℤ) (x y : List ℕ) → author_line name email m z x ≡ author_line name email n w y → decimal m ++ 32 ∷ zone_text z x ≡ decimal n ++ 32 ∷ zone_text w y
-behind_author name email m n z w x y e =
+after_author : (name email : List ℕ) (m n : ℕ) (z w : ℤ) (x y : List ℕ) → author_line name email m z x ≡ author_line name email n w y → decimal m ++ 32 ∷ zone_text z x ≡ decimal n ++ 32 ∷ zone_text w y
+after_author name email m n z w x y e =
     let a = number_part 32 m (zone_text z x) in
     let b = number_part 32 n (zone_text w y) in
     let names = append_cancel_left (codes "author ") (name_part name (email_part email a)) (name_part name (email_part email b)) e in
-    let emails = tail_once 60 (email_part email a) (email_part email b) (behind_digits name (60 ∷ email_part email a) (60 ∷ email_part email b) 32 names) in
-    tail_once 32 a b (behind_digits email (32 ∷ a) (32 ∷ b) 62 emails)
+    let emails = tail_once 60 (email_part email a) (email_part email b) (after_digits name (60 ∷ email_part email a) (60 ∷ email_part email b) 32 names) in
+    tail_once 32 a b (after_digits email (32 ∷ a) (32 ∷ b) 62 emails)
 
 -- The bytes after a time zone.
-behind_zone : (zone : ℤ) (x y : List ℕ) → zone_text zone x ≡ zone_text zone y → x ≡ y
-behind_zone zone x y e = cc
+after_zone : (zone : ℤ) (x y : List ℕ) → zone_text zone x ≡ zone_text zone y → x ≡ y
+after_zone zone x y e = cc
 
 -- Two commits with the same text, tree, parent and content have the same moment.
 moment_once : (text : List ℕ) (tree : Id20) (parent : Option Id20) (m n : ℕ) → m ≤ last_moment → n ≤ last_moment
     → commit_content (commit_of text tree parent m) ≡ commit_content (commit_of text tree parent n) → m ≡ n
 unfolding commit_of
-moment_once text tree parent m n small fits e = go (date_fact text) (behind_ids tree parent _ _ e) where
+moment_once text tree parent m n small fits e = go (date_fact text) (after_ids tree parent _ _ e) where
   go : (written : Option Moment)
       → author_line (from_fact text) (email_fact text) (written_at written m).secs (written_at written m).zone (committed_part m (text_part 10 (clean (subject_fact text)) []))
       ≡ author_line (from_fact text) (email_fact text) (written_at written n).secs (written_at written n).zone (committed_part n (text_part 10 (clean (subject_fact text)) [])) → m ≡ n
   go None is =
       number_once m n (zone_text (pos 0) (committed_part m (text_part 10 (clean (subject_fact text)) []))) (zone_text (pos 0) (committed_part n (text_part 10 (clean (subject_fact text)) []))) (omega (arith, small)) (omega (arith, fits))
-      (behind_author (from_fact text) (email_fact text) m n (pos 0) (pos 0) (committed_part m (text_part 10 (clean (subject_fact text)) [])) (committed_part n (text_part 10 (clean (subject_fact text)) [])) is)
+      (after_author (from_fact text) (email_fact text) m n (pos 0) (pos 0) (committed_part m (text_part 10 (clean (subject_fact text)) [])) (committed_part n (text_part 10 (clean (subject_fact text)) [])) is)
   go (Some date) is =
       let end = text_part 10 (clean (subject_fact text)) [] in
-      let numbers = behind_author (from_fact text) (email_fact text) date.secs date.secs date.zone date.zone (committed_part m end) (committed_part n end) is in
-      let zones = behind_digits (decimal date.secs) (zone_text date.zone (committed_part m end)) (zone_text date.zone (committed_part n end)) 32 numbers in
-      let parts = behind_zone date.zone (committed_part m end) (committed_part n end) zones in
+      let numbers = after_author (from_fact text) (email_fact text) date.secs date.secs date.zone date.zone (committed_part m end) (committed_part n end) is in
+      let zones = after_digits (decimal date.secs) (zone_text date.zone (committed_part m end)) (zone_text date.zone (committed_part n end)) 32 numbers in
+      let parts = after_zone date.zone (committed_part m end) (committed_part n end) zones in
       number_once m n (codes "+0000\n\n" ++ end) (codes "+0000\n\n" ++ end) (omega (arith, small)) (omega (arith, fits))
       (append_cancel_left (codes "\ncommitter piv2 <piv2@localhost> ") (number_part 32 m (codes "+0000\n\n" ++ end)) (number_part 32 n (codes "+0000\n\n" ++ end)) parts)
 
@@ -87,16 +87,16 @@ same_entry : (e f : EpochEntry) → e.kind ≡ f.kind → e.text ≡ f.text → 
 same_entry e f n t m = λ i. record { kind = n i; text = t i; moment = m i }
 
 -- Bytes determine the first entry that they start with, and the rest after it.
-pub entry_once : (parent : Option Id20) (e f : EpochEntry) (x y : List ℕ) → IsEpochEntry e → IsEpochEntry f → length (bytes_behind parent e ++ x) < 2 ^ 64
-    → bytes_behind parent e ++ x ≡ bytes_behind parent f ++ y → (e ≡ f) × (x ≡ y)
+pub entry_once : (parent : Option Id20) (e f : EpochEntry) (x y : List ℕ) → IsEpochEntry e → IsEpochEntry f → length (bytes_after parent e ++ x) < 2 ^ 64
+    → bytes_after parent e ++ x ≡ bytes_after parent f ++ y → (e ≡ f) × (x ≡ y)
 entry_once parent e f x y h k small is =
-    let ce = content_behind parent e in
-    let cf = content_behind parent f in
+    let ce = content_after parent e in
+    let cf = content_after parent f in
     let commit_e = (codes "commit " ++ (decimal (length ce) ++ 0 ∷ ce)) ++ x in
     let commit_f = (codes "commit " ++ (decimal (length cf) ++ 0 ∷ cf)) ++ y in
     let te = tree_content e.kind (blob_id_of e.text) in
     let tf = tree_content f.kind (blob_id_of f.text) in
-    let sizes : length (bytes_behind parent e ++ x) ≡ length (bytes_behind parent f ++ y) = ap length is in
+    let sizes : length (bytes_after parent e ++ x) ≡ length (bytes_after parent f ++ y) = ap length is in
     let blobs : codes "blob " ++ sized_before e.text (tree_of e.kind e.text ++ commit_e) ≡ codes "blob " ++ sized_before f.text (tree_of f.kind f.text ++ commit_f) =
     sym (headed (codes "blob ") e.text (tree_of e.kind e.text ++ commit_e)) ∙ (sym (objects parent e x) ∙ (is ∙ (objects parent f y ∙ headed (codes "blob ") f.text (tree_of f.kind f.text ++ commit_f)))) in
     let texts = sized-once e.text f.text (tree_of e.kind e.text ++ commit_e) (tree_of f.kind f.text ++ commit_f) (omega (arith, h.text.short)) (omega (arith, k.text.short))
@@ -105,7 +105,7 @@ entry_once parent e f x y h k small is =
     let tree_parts = sized-once te tf commit_e commit_f (tree_small e.kind e.text) (tree_small f.kind f.text) (append_cancel_left (codes "tree ") (sized_before te commit_e) (sized_before tf commit_f) trees) in
     let kinds : e.kind ≡ f.kind = (tree-once e.kind f.kind (blob_id_of e.text) (blob_id_of f.text) tree_parts.0).0 in
     let commits : codes "commit " ++ sized_before ce x ≡ codes "commit " ++ sized_before cf y = sym (headed (codes "commit ") ce x) ∙ (tree_parts.1 ∙ headed (codes "commit ") cf y) in
-    let contents = sized-once ce cf x y (omega (arith, small, length-entry parent e, length-append (bytes_behind parent e) x)) (omega (arith, small, sizes, length-entry parent f, length-append (bytes_behind parent f) y))
+    let contents = sized-once ce cf x y (omega (arith, small, length-entry parent e, length-append (bytes_after parent e) x)) (omega (arith, small, sizes, length-entry parent f, length-append (bytes_after parent f) y))
     (append_cancel_left (codes "commit ") (sized_before ce x) (sized_before cf y) commits) in
     let t = sym texts.0 in
     let n = sym kinds in
@@ -114,19 +114,19 @@ entry_once parent e f x y h k small is =
     (same_entry e f kinds texts.0 moments, contents.1)
 
 -- An entry isn't empty.
-entry_not_none : (parent : Option Id20) (e : EpochEntry) (x : List ℕ) → [] ≡ bytes_behind parent e ++ x → ⊥
-entry_not_none parent e x is = omega (arith, ap length is, length-append (bytes_behind parent e) x, length-entry parent e)
+entry_not_none : (parent : Option Id20) (e : EpochEntry) (x : List ℕ) → [] ≡ bytes_after parent e ++ x → ⊥
+entry_not_none parent e x is = omega (arith, ap length is, length-append (bytes_after parent e) x, length-entry parent e)
 
 -- The bytes of entries after a parent determine them.
 chain_once : (parent : Option Id20) (es fs : List EpochEntry) → AreEpochEntries es → AreEpochEntries fs → length (chain parent es) < 2 ^ 64 → chain parent es ≡ chain parent fs → es ≡ fs
 chain_once parent [] [] h k small is = refl
-chain_once parent [] (f ∷ fs) h k small is = absurd (entry_not_none parent f (chain (Some (commit_behind parent f)) fs) is)
-chain_once parent (e ∷ es) [] h k small is = absurd (entry_not_none parent e (chain (Some (commit_behind parent e)) es) (sym is))
+chain_once parent [] (f ∷ fs) h k small is = absurd (entry_not_none parent f (chain (Some (commit_after parent f)) fs) is)
+chain_once parent (e ∷ es) [] h k small is = absurd (entry_not_none parent e (chain (Some (commit_after parent e)) es) (sym is))
 chain_once parent (e ∷ es) (f ∷ fs) h k small is =
-    let rest = chain (Some (commit_behind parent e)) es in
-    let first = entry_once parent e f rest (chain (Some (commit_behind parent f)) fs) h.0 k.0 small is in
-    let moved : chain (Some (commit_behind parent f)) fs ≡ chain (Some (commit_behind parent e)) fs = ap (λ (d : EpochEntry). chain (Some (commit_behind parent d)) fs) (sym first.0) in
-    let others = chain_once (Some (commit_behind parent e)) es fs h.1 k.1 (omega (arith, small, length-append (bytes_behind parent e) rest)) (first.1 ∙ moved) in
+    let rest = chain (Some (commit_after parent e)) es in
+    let first = entry_once parent e f rest (chain (Some (commit_after parent f)) fs) h.0 k.0 small is in
+    let moved : chain (Some (commit_after parent f)) fs ≡ chain (Some (commit_after parent e)) fs = ap (λ (d : EpochEntry). chain (Some (commit_after parent d)) fs) (sym first.0) in
+    let others = chain_once (Some (commit_after parent e)) es fs h.1 k.1 (omega (arith, small, length-append (bytes_after parent e) rest)) (first.1 ∙ moved) in
     let one = first.0 in
     λ i. one i ∷ others i
 

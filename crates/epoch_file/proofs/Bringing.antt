@@ -13,14 +13,14 @@ use Rattle.epoch_file.specs.Windows.{Shows, Comes, IsInside}
 use Rattle.epoch_file.proofs.Showing.{left-length, shows-more}
 
 -- If the held bytes can't be an entry's, there is no entry.
-pub brings-none : (content : Option Content) (part : Part) (old now : List ℕ) → WhereTold (KeepsShown part old now) content → Sees now (part.end - part.place) Lacks → WhereTold (Brings part old now (Ok false)) content
+pub brings-none : (content : Option Content) (part : Part) (old now : List ℕ) → WhereTold (KeepsShown part old now) content → Sees now (part.end - part.offset) Lacks → WhereTold (Brings part old now (Ok false)) content
 brings-none None part old now keeps sees = tt
 brings-none (Some k) part old now keeps sees = λ shows parent e rest valid is.
     let s = keeps shows in
     sees parent e s.rest rest tt (record { valid = valid; is = sym s.is ∙ is; all = ap length (sym s.is) ∙ left-length (bytes_of (k part.file).seen) part s.whole })
 
 -- If the held bytes have all of an entry, so does the window.
-pub brings-whole : (content : Option Content) (part : Part) (old now : List ℕ) → WhereTold (KeepsShown part old now) content → Sees now (part.end - part.place) Whole → WhereTold (Brings part old now (Ok true)) content
+pub brings-whole : (content : Option Content) (part : Part) (old now : List ℕ) → WhereTold (KeepsShown part old now) content → Sees now (part.end - part.offset) Whole → WhereTold (Brings part old now (Ok true)) content
 brings-whole None part old now keeps sees = tt
 brings-whole (Some k) part old now keeps sees = λ shows.
     let s = keeps shows in
@@ -53,23 +53,23 @@ keeps-first None part old = tt
 keeps-first (Some k) part old = λ shows. shows
 
 -- The bytes that a read puts into a window.
-pub comes-some : (content : Option Content) (part : Part) (place n : ℕ) (before after old chunk new : List ℕ) → WhereTold (HasRead part.file place n before after) content → chunk ≡ take n after
-    → new ≡ old ++ chunk → place ≡ part.place + length old → part.place + length old + length before ≤ part.end → WhereTold (Comes part (length before) old new (Ok true)) content
-comes-some None part place n before after old chunk new read is grown at fits = tt
-comes-some (Some k) part place n before after old chunk new read is grown at fits = λ shows.
+pub comes-some : (content : Option Content) (part : Part) (offset n : ℕ) (before after old chunk new : List ℕ) → WhereTold (HasRead part.file offset n before after) content → chunk ≡ take n after
+    → new ≡ old ++ chunk → offset ≡ part.offset + length old → part.offset + length old + length before ≤ part.end → WhereTold (Comes part (length before) old new (Ok true)) content
+comes-some None part offset n before after old chunk new read is grown at fits = tt
+comes-some (Some k) part offset n before after old chunk new read is grown at fits = λ shows.
     let bytes = bytes_of (k part.file).seen in
     let count = read.count in
     let whole = shows.whole in
     let all : n ≡ length before = omega (arith, count, at, fits, whole) in
-    let there : length (take n (drop place bytes)) ≡ n = omega (arith, count, length-take n (drop place bytes), length-drop place bytes) in
-    let next : chunk ≡ take n (drop (part.place + length old) bytes) =
-    is ∙ (ap (take n) read.bytes ∙ (take_at (take n (drop place bytes)) (drop n before) n there ∙ ap (λ (p : ℕ). take n (drop p bytes)) at)) in
+    let there : length (take n (drop offset bytes)) ≡ n = omega (arith, count, length-take n (drop offset bytes), length-drop offset bytes) in
+    let next : chunk ≡ take n (drop (part.offset + length old) bytes) =
+    is ∙ (ap (take n) read.bytes ∙ (take_at (take n (drop offset bytes)) (drop n before) n there ∙ ap (λ (p : ℕ). take n (drop p bytes)) at)) in
     let s : Shows bytes part (old ++ chunk) = shows-more bytes part old chunk n shows (omega (arith, all, fits)) next in
     let long : length chunk ≡ n = ap length next ∙ (ap (λ (p : ℕ). length (take n (drop p bytes))) (sym at) ∙ there) in
     (subst (λ (l : List ℕ). Shows bytes part l) (sym grown) s, omega (arith, all, long, ap length grown, length-append old chunk))
 
 -- More room brings equally many bytes if no more are left.
-pub comes-wider : (content : Option Content) (part : Part) (cut room : ℕ) (old new : List ℕ) (result : Result Bool WalkRefusal) → min (length old + room) (part.end - part.place) ≤ min (length old + cut) (part.end - part.place)
+pub comes-wider : (content : Option Content) (part : Part) (cut room : ℕ) (old new : List ℕ) (result : Result Bool WalkRefusal) → min (length old + room) (part.end - part.offset) ≤ min (length old + cut) (part.end - part.offset)
     → WhereTold (Comes part cut old new result) content → WhereTold (Comes part room old new result) content
 comes-wider None part cut room old new result less comes = tt
 comes-wider (Some k) part cut room old new (Ok true) less comes = λ shows. let got = comes shows in (got.0, omega (arith, less, got.1))
@@ -77,11 +77,11 @@ comes-wider (Some k) part cut room old new (Ok false) less comes = comes
 comes-wider (Some k) part cut room old new (Err e) less comes = tt
 
 -- An empty window shows a file from its front on.
-shows_first : (bytes : List ℕ) (part : Part) → part.place ≡ 0 → part.end ≤ length bytes → Shows bytes part []
+shows_first : (bytes : List ℕ) (part : Part) → part.offset ≡ 0 → part.end ≤ length bytes → Shows bytes part []
 shows_first bytes part front whole = record { rest = take part.end bytes; is = ap (λ (n : ℕ). drop n (take part.end bytes)) front; whole = whole; inside = omega (arith, front) }
 
 -- If what was read doesn't start with the magic, the file doesn't either.
-begins_none : (content : Option Content) (part : Part) (room : ℕ) (window : List ℕ) (came : Bool) → part.place ≡ 0 → 8 ≤ part.end → 8 ≤ room → WhereTold (Comes part room [] window (Ok came)) content
+begins_none : (content : Option Content) (part : Part) (room : ℕ) (window : List ℕ) (came : Bool) → part.offset ≡ 0 → 8 ≤ part.end → 8 ≤ room → WhereTold (Comes part room [] window (Ok came)) content
     → ((rest : List ℕ) → window ≢ magic ++ rest) → WhereTold (λ k. BeginsAt part.end (bytes_of (k part.file).seen) (Ok None)) content
 begins_none None part room window came front some big comes none = tt
 begins_none (Some k) part room window false front some big comes none = λ whole. absurd (comes (shows_first (bytes_of (k part.file).seen) part front whole))
@@ -94,7 +94,7 @@ begins_none (Some k) part room window true front some big comes none = λ whole 
     none (drop 8 window) (sym (take-append-drop 8 window) ∙ ap (λ (l : List ℕ). l ++ drop 8 window) (sym same ∙ is))
 
 -- A walk starts after the magic.
-begins_some : (content : Option Content) (part : Part) (room : ℕ) (window : List ℕ) (came : Bool) (s : State) → part.place ≡ 0 → WhereTold (Comes part room [] window (Ok came)) content
+begins_some : (content : Option Content) (part : Part) (room : ℕ) (window : List ℕ) (came : Bool) (s : State) → part.offset ≡ 0 → WhereTold (Comes part room [] window (Ok came)) content
     → BeginsWith part window (Some s) → WhereTold (λ k. BeginsAt part.end (bytes_of (k part.file).seen) (Ok (Some s))) content
 begins_some None part room window came s front comes b = tt
 begins_some (Some k) part room window false s front comes b = λ whole. absurd (comes (shows_first (bytes_of (k part.file).seen) part front whole))
@@ -103,22 +103,22 @@ begins_some (Some k) part room window true s front comes b = λ whole.
     let got = comes (shows_first bytes part front whole) in
     let shown : take part.end bytes ≡ magic ++ (b.0 ++ got.0.rest) =
     sym (ap (λ (n : ℕ). drop n (take part.end bytes)) front) ∙ (got.0.is ∙ (ap (λ (l : List ℕ). l ++ got.0.rest) b.1 ∙ append_assoc magic b.0 got.0.rest)) in
-    let behind : drop 8 (take part.end bytes) ≡ b.0 ++ got.0.rest = ap (drop 8) shown ∙ drop_at magic (b.0 ++ got.0.rest) 8 refl in
-    let made : State = record { part = record { file = part.file; place = 8; end = part.end }; window = b.0; parent = None; seen = [] } in
+    let after : drop 8 (take part.end bytes) ≡ b.0 ++ got.0.rest = ap (drop 8) shown ∙ drop_at magic (b.0 ++ got.0.rest) 8 refl in
+    let made : State = record { part = record { file = part.file; offset = 8; end = part.end }; window = b.0; parent = None; seen = [] } in
     let walked : Walked bytes made = record {
       entries = [];
       valid = tt;
-      spelled = shown ∙ ap (λ (l : List ℕ). magic ++ l) (sym behind) ∙ ap (λ (l : List ℕ). l ++ drop 8 (take part.end bytes)) (sym (append-nil magic));
-      place = refl;
+      spelled = shown ∙ ap (λ (l : List ℕ). magic ++ l) (sym after) ∙ ap (λ (l : List ℕ). l ++ drop 8 (take part.end bytes)) (sym (append-nil magic));
+      offset = refl;
       parent = refl;
       seen = refl;
-      shows = record { rest = got.0.rest; is = behind; whole = whole; inside = omega (arith, ap length shown, length-append magic (b.0 ++ got.0.rest), length-take part.end bytes, whole) };
+      shows = record { rest = got.0.rest; is = after; whole = whole; inside = omega (arith, ap length shown, length-append magic (b.0 ++ got.0.rest), length-take part.end bytes, whole) };
     } in
     let Holds : State → Type 0 = λ t. Walked bytes t × (t.part.end ≡ part.end) in
     subst Holds (sym b.2) (walked, refl)
 
 -- A walk starts after the magic, or the magic isn't there.
-pub begins-either : (content : Option Content) (part : Part) (room : ℕ) (old window : List ℕ) (came : Bool) (found : Option State) → old ≡ [] → part.place ≡ 0 → 8 ≤ part.end → 8 ≤ room
+pub begins-either : (content : Option Content) (part : Part) (room : ℕ) (old window : List ℕ) (came : Bool) (found : Option State) → old ≡ [] → part.offset ≡ 0 → 8 ≤ part.end → 8 ≤ room
     → WhereTold (Comes part room old window (Ok came)) content → BeginsWith part window found → WhereTold (λ k. BeginsAt part.end (bytes_of (k part.file).seen) (Ok found)) content
 begins-either content part room old window came None empty front some big comes b =
     begins_none content part room window came front some big (subst (λ (l : List ℕ). WhereTold (Comes part room l window (Ok came)) content) empty comes) b
@@ -126,7 +126,7 @@ begins-either content part room old window came (Some s) empty front some big co
     begins_some content part room window came s front (subst (λ (l : List ℕ). WhereTold (Comes part room l window (Ok came)) content) empty comes) b
 
 -- A walk starts inside the part.
-pub begins-inside : (part : Part) (window : List ℕ) (found : Option State) → part.place ≡ 0 → IsInside part window → BeginsWith part window found → BeginsIn part.file part.end (Ok found)
+pub begins-inside : (part : Part) (window : List ℕ) (found : Option State) → part.offset ≡ 0 → IsInside part window → BeginsWith part window found → BeginsIn part.file part.end (Ok found)
 begins-inside part window None front inside b = tt
 begins-inside part window (Some s) front inside b =
     let room : 8 + length b.0 ≤ part.end = omega (arith, inside, front, ap length b.1, length-append magic b.0) in

@@ -64,4 +64,4 @@ pub fault-later : {T : Type 0} (a b c : ℕ) (result : Result T WalkRefusal) →
 fault-later a b c (Ok value) le rose = tt
 fault-later a b c (Err DiskFault) le rose = rose-before a b c le rose
 fault-later a b c (Err NoMemory) le rose = tt
-fault-later a b c (Err (Damaged place)) le rose = tt
+fault-later a b c (Err (Damaged offset)) le rose = tt

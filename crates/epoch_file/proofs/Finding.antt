@@ -14,22 +14,22 @@ use Rattle.mail_commits.specs.Commits.{commit_of}
 use Rattle.mail_commits.specs.Entries.{tree_of, entry_bytes}
 use Rattle.epoch_file.specs.declared.entry.Seen.{Seen}
 use Rattle.epoch_file.specs.declared.reading.Parts.{Parts}
-use Rattle.epoch_file.specs.Entries.{EpochEntry, IsEpochEntry, bytes_behind}
+use Rattle.epoch_file.specs.Entries.{EpochEntry, IsEpochEntry, bytes_after}
 use Rattle.arch_base.specs.Moments.{last_moment}
 use Rattle.epoch_file.specs.Reading.{IsParted, HasParts, PartsAgain, AreIds, IsRead, Reads, ReadsWhere, seen_by}
 use Rattle.epoch_file.specs.Walking.{seen_at}
 use Rattle.epoch_file.proofs.Kept.{commit_valid, committed-is}
 
 -- By parts that are found.
-pub reads-parted : (place : ℕ) (parent : Option Id20) (bytes : List ℕ) (parts : Parts) (result : Result (Option (Seen × ℕ)) NoMemory) → PartsAgain bytes (Some parts)
-    → ReadsWhere (λ e. HasParts parent e parts) place parent bytes result → Reads place parent bytes result
-reads-parted place parent bytes parts (Ok None) again reads = λ p e rest valid is. reads p e rest valid is (again parent e rest valid is)
-reads-parted place parent bytes parts (Ok (Some found)) again reads = reads
-reads-parted place parent bytes parts (Err e) again reads = tt
+pub reads-parted : (offset : ℕ) (parent : Option Id20) (bytes : List ℕ) (parts : Parts) (result : Result (Option (Seen × ℕ)) NoMemory) → PartsAgain bytes (Some parts)
+    → ReadsWhere (λ e. HasParts parent e parts) offset parent bytes result → Reads offset parent bytes result
+reads-parted offset parent bytes parts (Ok None) again reads = λ p e rest valid is. reads p e rest valid is (again parent e rest valid is)
+reads-parted offset parent bytes parts (Ok (Some found)) again reads = reads
+reads-parted offset parent bytes parts (Err e) again reads = tt
 
 -- If the bytes have no parts.
-pub reads-unparted : (place : ℕ) (parent : Option Id20) (bytes : List ℕ) → PartsAgain bytes None → Reads place parent bytes (Ok None)
-reads-unparted place parent bytes again = λ p e rest valid is. again parent e rest valid is
+pub reads-unparted : (offset : ℕ) (parent : Option Id20) (bytes : List ℕ) → PartsAgain bytes None → Reads offset parent bytes (Ok None)
+reads-unparted offset parent bytes again = λ p e rest valid is. again parent e rest valid is
 
 -- A moment is found in the content of an entry's commit.
 abbrev pub MomentAgain : List ℕ → Option ℕ → Type 0
@@ -43,27 +43,27 @@ moment_is parent e parts found p valid has again =
     again commit (commit_valid e.text tree parent e.moment (IsId-id_of (tree_of e.kind e.text)) p valid.moment) has.commit (omega (arith, at, valid.moment)) ∙ ap Some at
 
 -- By the moment that is found.
-pub reads-moment : (place : ℕ) (parent : Option Id20) (bytes : List ℕ) (parts : Parts) (moment : ℕ) (result : Result (Option (Seen × ℕ)) NoMemory) → MomentAgain parts.commit.now (Some moment)
-    → ReadsWhere (λ e. HasParts parent e parts × (moment ≡ e.moment)) place parent bytes result → ReadsWhere (λ e. HasParts parent e parts) place parent bytes result
-reads-moment place parent bytes parts moment (Ok None) again reads = λ p e rest valid is has.
+pub reads-moment : (offset : ℕ) (parent : Option Id20) (bytes : List ℕ) (parts : Parts) (moment : ℕ) (result : Result (Option (Seen × ℕ)) NoMemory) → MomentAgain parts.commit.now (Some moment)
+    → ReadsWhere (λ e. HasParts parent e parts × (moment ≡ e.moment)) offset parent bytes result → ReadsWhere (λ e. HasParts parent e parts) offset parent bytes result
+reads-moment offset parent bytes parts moment (Ok None) again reads = λ p e rest valid is has.
     reads p e rest valid is (has, same_Some moment e.moment (moment_is parent e parts (Some moment) p valid has again))
-reads-moment place parent bytes parts moment (Ok (Some found)) again reads = reads
-reads-moment place parent bytes parts moment (Err e) again reads = tt
+reads-moment offset parent bytes parts moment (Ok (Some found)) again reads = reads
+reads-moment offset parent bytes parts moment (Err e) again reads = tt
 
 -- If there is no moment.
-pub reads-no_moment : (place : ℕ) (parent : Option Id20) (bytes : List ℕ) (parts : Parts) → MomentAgain parts.commit.now None → ReadsWhere (λ e. HasParts parent e parts) place parent bytes (Ok None)
-reads-no_moment place parent bytes parts again = λ p e rest valid is has. none-some e.moment (moment_is parent e parts None p valid has again)
+pub reads-no_moment : (offset : ℕ) (parent : Option Id20) (bytes : List ℕ) (parts : Parts) → MomentAgain parts.commit.now None → ReadsWhere (λ e. HasParts parent e parts) offset parent bytes (Ok None)
+reads-no_moment offset parent bytes parts again = λ p e rest valid is has. none-some e.moment (moment_is parent e parts None p valid has again)
 
 -- If the text is no storage text.
-pub reads-unstored : (place : ℕ) (parent : Option Id20) (bytes : List ℕ) (parts : Parts) (moment : ℕ) → (IsStorageText parts.text.now → ⊥)
-    → ReadsWhere (λ e. HasParts parent e parts × (moment ≡ e.moment)) place parent bytes (Ok None)
-reads-unstored place parent bytes parts moment none = λ p e rest valid is has. none (subst IsStorageText (sym has.0.text) valid.text)
+pub reads-unstored : (offset : ℕ) (parent : Option Id20) (bytes : List ℕ) (parts : Parts) (moment : ℕ) → (IsStorageText parts.text.now → ⊥)
+    → ReadsWhere (λ e. HasParts parent e parts × (moment ≡ e.moment)) offset parent bytes (Ok None)
+reads-unstored offset parent bytes parts moment none = λ p e rest valid is has. none (subst IsStorageText (sym has.0.text) valid.text)
 
 -- If the bytes differ from those of the entry.
-pub reads-other : (place : ℕ) (parent : Option Id20) (bytes : List ℕ) (parts : Parts) (moment : ℕ) (front : List ℕ) → front ≡ take parts.size bytes → front ≢ entry_bytes parts.kind parts.text.now moment parent
-    → ReadsWhere (λ e. HasParts parent e parts × (moment ≡ e.moment)) place parent bytes (Ok None)
-reads-other place parent bytes parts moment front cut other = λ p e rest valid is has.
-    let here : take parts.size bytes ≡ bytes_behind parent e = ap (take parts.size) is ∙ take_at (bytes_behind parent e) rest parts.size (sym has.0.size) in
+pub reads-other : (offset : ℕ) (parent : Option Id20) (bytes : List ℕ) (parts : Parts) (moment : ℕ) (front : List ℕ) → front ≡ take parts.size bytes → front ≢ entry_bytes parts.kind parts.text.now moment parent
+    → ReadsWhere (λ e. HasParts parent e parts × (moment ≡ e.moment)) offset parent bytes (Ok None)
+reads-other offset parent bytes parts moment front cut other = λ p e rest valid is has.
+    let here : take parts.size bytes ≡ bytes_after parent e = ap (take parts.size) is ∙ take_at (bytes_after parent e) rest parts.size (sym has.0.size) in
     let n = has.0.kind in
     let t = has.0.text in
     let m = has.1 in
@@ -71,18 +71,18 @@ reads-other place parent bytes parts moment front cut other = λ p e rest valid 
     other (cut ∙ (here ∙ sym same))
 
 -- If the bytes are those of the entry.
-pub reads-entry : (place : ℕ) (parent : Option Id20) (bytes : List ℕ) (parts : Parts) (moment : ℕ) (front : List ℕ) (ids : EntryIds) (seen : Seen) → IsParted bytes parts → PartsAgain bytes (Some parts)
+pub reads-entry : (offset : ℕ) (parent : Option Id20) (bytes : List ℕ) (parts : Parts) (moment : ℕ) (front : List ℕ) (ids : EntryIds) (seen : Seen) → IsParted bytes parts → PartsAgain bytes (Some parts)
     → moment ≤ last_moment → IsStorageText parts.text.now → front ≡ take parts.size bytes → front ≡ entry_bytes parts.kind parts.text.now moment parent → AreIds parts.kind parts.text.now moment parent ids
-    → seen ≡ seen_by place parts moment ids → IsRead place parent bytes (seen, parts.size)
-reads-entry place parent bytes parts moment front ids seen parted again small stored cut same are is =
+    → seen ≡ seen_by offset parts moment ids → IsRead offset parent bytes (seen, parts.size)
+reads-entry offset parent bytes parts moment front ids seen parted again small stored cut same are is =
     let e : EpochEntry = record { kind = parts.kind; text = parts.text.now; moment = moment } in
     let rest = drop parts.size bytes in
-    let whole : bytes ≡ bytes_behind parent e ++ rest = sym (take-append-drop parts.size bytes) ∙ ap (λ (l : List ℕ). l ++ rest) (sym cut ∙ same) in
+    let whole : bytes ≡ bytes_after parent e ++ rest = sym (take-append-drop parts.size bytes) ∙ ap (λ (l : List ℕ). l ++ rest) (sym cut ∙ same) in
     let valid : IsEpochEntry e = record { text = stored; moment = small } in
     let has : HasParts parent e parts = again parent e rest valid whole in
-    let at : place + parts.front ≡ (seen_at place parent e).text_at = ap (λ (n : ℕ). place + n) has.front in
+    let at : offset + parts.front ≡ (seen_at offset parent e).text_at = ap (λ (n : ℕ). offset + n) has.front in
     let blob = are.blob in
     let commit = are.commit in
-    let made : seen_by place parts moment ids ≡ seen_at place parent e =
-    λ i. record { kind = parts.kind; at = place; text_at = at i; size = length parts.text.now; blob = blob i; commit = commit i; moment = moment; id = (seen_by place parts moment ids).id; content = (seen_by place parts moment ids).content } in
+    let made : seen_by offset parts moment ids ≡ seen_at offset parent e =
+    λ i. record { kind = parts.kind; at = offset; text_at = at i; size = length parts.text.now; blob = blob i; commit = commit i; moment = moment; id = (seen_by offset parts moment ids).id; content = (seen_by offset parts moment ids).content } in
     record { entry = e; valid = valid; rest = rest; is = whole; seen = is ∙ made; size = has.size }

@@ -18,5 +18,5 @@ fits held more x y count left e all le (inl many) = omega (arith, le, many)
 fits held more x y count left e all le (inr whole) = omega (arith, whole, all, ap length e, length-append x y)
 
 -- The bytes after the prefix.
-pub behind : (held x y : List ℕ) (at : ℕ) → at ≡ length x → held ≡ x ++ y → drop at held ≡ y
-behind held x y at size e = ap (drop at) e ∙ drop_at x y at (sym size)
+pub after : (held x y : List ℕ) (at : ℕ) → at ≡ length x → held ≡ x ++ y → drop at held ≡ y
+after held x y at size e = ap (drop at) e ∙ drop_at x y at (sym size)

@@ -13,7 +13,7 @@ use Rattle.mime_words.specs.Decoding.{decoded}
 use Rattle.mail_commits.specs.Facts.{name_or, clean_address, from_of, from_fact, email_of, email_fact, first_mailbox, subject_fact, date_fact}
 use Rattle.mail_commits.specs.Commits.{commit_of, written_at}
 use Rattle.mail_commits.specs.Entries.{commit_text, commit_id}
-use Rattle.epoch_file.specs.Entries.{EpochEntry, commit_behind, last_of}
+use Rattle.epoch_file.specs.Entries.{EpochEntry, commit_after, last_of}
 use Rattle.arch_base.specs.Moments.{last_moment}
 use Rattle.epoch_file.proofs.Zones.{IsNear, date-near}
 
@@ -63,11 +63,11 @@ unfolding commit_of
 committed-is text tree parent moment = refl
 
 -- The id of an entry's commit is valid.
-pub IsId-commit : (parent : Option Id20) (e : EpochEntry) → IsId (commit_behind parent e)
+pub IsId-commit : (parent : Option Id20) (e : EpochEntry) → IsId (commit_after parent e)
 unfolding commit_id
 IsId-commit parent e = IsId-id_of (commit_text e.kind e.text e.moment parent)
 
 -- The last commit of entries may be a parent.
 pub IsParent-last : (parent : Option Id20) (es : List EpochEntry) → IsParent parent → IsParent (last_of parent es)
 IsParent-last parent [] h = h
-IsParent-last parent (e ∷ es) h = IsParent-last (Some (commit_behind parent e)) es (IsId-commit parent e)
+IsParent-last parent (e ∷ es) h = IsParent-last (Some (commit_after parent e)) es (IsId-commit parent e)

@@ -11,13 +11,13 @@ use Rattle.git_objects.proofs.Spellings.{length-tree_spelling}
 use Rattle.git_objects.proofs.ObjectIds.{IsId-id_of}
 use Rattle.mail_commits.specs.Commits.{commit_of}
 use Rattle.mail_commits.specs.Entries.{tree_of, commit_text, entry_bytes}
-use Rattle.epoch_file.specs.Entries.{EpochEntry, bytes_behind}
+use Rattle.epoch_file.specs.Entries.{EpochEntry, bytes_after}
 use Rattle.epoch_file.specs.Walking.{blob_front}
-use Rattle.epoch_file.specs.Sights.{commit_place}
+use Rattle.epoch_file.specs.Sights.{commit_offset}
 
 -- The content of an entry's commit.
-abbrev pub content_behind : Option Id20 → EpochEntry → List ℕ
-content_behind parent e = commit_content (commit_of e.text (id_of (tree_of e.kind e.text)) parent e.moment)
+abbrev pub content_after : Option Id20 → EpochEntry → List ℕ
+content_after parent e = commit_content (commit_of e.text (id_of (tree_of e.kind e.text)) parent e.moment)
 
 -- The type and the size of an object, and the byte after them.
 abbrev pub head_of : List ℕ → ℕ → List ℕ
@@ -25,10 +25,10 @@ head_of word size = word ++ (decimal size ++ 0 ∷ [])
 
 -- An entry's bytes before what follows, object by object.
 pub objects : (parent : Option Id20) (e : EpochEntry) (rest : List ℕ)
-    → bytes_behind parent e ++ rest ≡ blob_spelling e.text ++ (tree_of e.kind e.text ++ ((codes "commit " ++ (decimal (length (content_behind parent e)) ++ 0 ∷ content_behind parent e)) ++ rest))
+    → bytes_after parent e ++ rest ≡ blob_spelling e.text ++ (tree_of e.kind e.text ++ ((codes "commit " ++ (decimal (length (content_after parent e)) ++ 0 ∷ content_after parent e)) ++ rest))
 unfolding entry_bytes commit_text
 objects parent e rest =
-    let commit = codes "commit " ++ (decimal (length (content_behind parent e)) ++ 0 ∷ content_behind parent e) in
+    let commit = codes "commit " ++ (decimal (length (content_after parent e)) ++ 0 ∷ content_after parent e) in
     append_assoc (blob_spelling e.text) (tree_of e.kind e.text ++ commit) rest
     ∙ ap (λ (l : List ℕ). blob_spelling e.text ++ l) (append_assoc (tree_of e.kind e.text) commit rest)
 
@@ -60,10 +60,10 @@ length-tree kind text = length-tree_spelling kind (blob_id_of text) (IsId-id_of 
 
 -- The length of an entry.
 pub length-entry : (parent : Option Id20) (e : EpochEntry)
-    → length (bytes_behind parent e) ≡ commit_place e.text + length (codes "commit " ++ decimal (length (content_behind parent e))) + 1 + length (content_behind parent e)
+    → length (bytes_after parent e) ≡ commit_offset e.text + length (codes "commit " ++ decimal (length (content_after parent e))) + 1 + length (content_after parent e)
 unfolding entry_bytes commit_text
 length-entry parent e =
-    let content = content_behind parent e in
+    let content = content_after parent e in
     let commit = codes "commit " ++ (decimal (length content) ++ 0 ∷ content) in
     omega (
       arith,

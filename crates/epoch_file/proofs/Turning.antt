@@ -9,7 +9,7 @@ use Rattle.mail_commits.specs.Entries.{magic}
 use Rattle.epoch_file.specs.declared.entry.Seen.{Seen}
 use Rattle.epoch_file.specs.declared.window.Part.{Part}
 use Rattle.epoch_file.specs.declared.state.State.{State}
-use Rattle.epoch_file.specs.Entries.{EpochEntry, IsEpochEntry, bytes_behind, commit_behind, chain, last_of, epoch_of}
+use Rattle.epoch_file.specs.Entries.{EpochEntry, IsEpochEntry, bytes_after, commit_after, chain, last_of, epoch_of}
 use Rattle.epoch_file.specs.Reading.{IsRead}
 use Rattle.epoch_file.specs.Walking.{seen_at, seen_from, LacksEntry, EndsEarly, IsEpoch, Walks}
 use Rattle.epoch_file.specs.Windows.{Shows, IsInside}
@@ -22,45 +22,45 @@ use Rattle.git_objects.specs.Commits.{IsParent}
 use Rattle.epoch_file.specs.Runs.{StopRose}
 use Rattle.epoch_file.proofs.Fronts.{within}
 use Rattle.epoch_file.proofs.Chains.{chain-push, last-push, valid-push, seen-push, epoch-push, length-seen}
-use Rattle.epoch_file.proofs.Showing.{part_behind, left-behind, shows-skip}
+use Rattle.epoch_file.proofs.Showing.{part_after, left-after, shows-skip}
 use Rattle.epoch_file.proofs.Sizes.{length-entry}
 use Rattle.epoch_file.proofs.Kept.{IsParent-last}
 
 -- One more entry.
-pub walked-more : (bytes : List ℕ) (s : State) (found : Seen × ℕ) → Walked bytes s → IsRead s.part.place s.parent s.window found → Walked bytes (next_state s found)
+pub walked-more : (bytes : List ℕ) (s : State) (found : Seen × ℕ) → Walked bytes s → IsRead s.part.offset s.parent s.window found → Walked bytes (next_state s found)
 walked-more bytes s found w r =
     let e = r.entry in
-    let piece = bytes_behind s.parent e in
-    let front : Option Id20 → List ℕ = λ parent. bytes_behind parent e in
+    let piece = bytes_after s.parent e in
+    let front : Option Id20 → List ℕ = λ parent. bytes_after parent e in
     let split : left_of bytes s.part ≡ piece ++ (r.rest ++ w.shows.rest) = w.shows.is ∙ (ap (λ (l : List ℕ). l ++ w.shows.rest) r.is ∙ append_assoc piece r.rest w.shows.rest) in
-    let behind : left_of bytes (part_behind s.part found.1) ≡ r.rest ++ w.shows.rest =
-    left-behind bytes s.part found.1 ∙ (ap (λ (n : ℕ). drop n (left_of bytes s.part)) r.size ∙ (ap (drop (length piece)) split ∙ drop_at piece (r.rest ++ w.shows.rest) (length piece) refl)) in
+    let after : left_of bytes (part_after s.part found.1) ≡ r.rest ++ w.shows.rest =
+    left-after bytes s.part found.1 ∙ (ap (λ (n : ℕ). drop n (left_of bytes s.part)) r.size ∙ (ap (drop (length piece)) split ∙ drop_at piece (r.rest ++ w.shows.rest) (length piece) refl)) in
     let grown : epoch_of w.entries ++ piece ≡ epoch_of (w.entries ++ e ∷ []) = ap (λ (p : Option Id20). epoch_of w.entries ++ front p) w.parent ∙ sym (epoch-push w.entries e) in
     let size : length (chain None (w.entries ++ e ∷ [])) ≡ length (chain None w.entries) + found.1 =
-    ap length (chain-push None w.entries e) ∙ (length-append (chain None w.entries) (bytes_behind (last_of None w.entries) e)
+    ap length (chain-push None w.entries e) ∙ (length-append (chain None w.entries) (bytes_after (last_of None w.entries) e)
     ∙ ap (λ (n : ℕ). length (chain None w.entries) + n) (ap (λ (p : Option Id20). length (front p)) (sym w.parent) ∙ sym r.size)) in
-    let commit : found.0.commit ≡ commit_behind (last_of None w.entries) e = ap (λ (seen : Seen). seen.commit) r.seen ∙ ap (λ (p : Option Id20). commit_behind p e) w.parent in
+    let commit : found.0.commit ≡ commit_after (last_of None w.entries) e = ap (λ (seen : Seen). seen.commit) r.seen ∙ ap (λ (p : Option Id20). commit_after p e) w.parent in
     let at : found.0 ≡ seen_at (8 + length (chain None w.entries)) (last_of None w.entries) e =
-    r.seen ∙ (ap (λ (n : ℕ). seen_at n s.parent e) w.place ∙ ap (λ (p : Option Id20). seen_at (8 + length (chain None w.entries)) p e) w.parent) in
+    r.seen ∙ (ap (λ (n : ℕ). seen_at n s.parent e) w.offset ∙ ap (λ (p : Option Id20). seen_at (8 + length (chain None w.entries)) p e) w.parent) in
     let cut : drop found.1 s.window ≡ r.rest = ap (λ (n : ℕ). drop n s.window) r.size ∙ (ap (drop (length piece)) r.is ∙ drop_at piece r.rest (length piece) refl) in
-    let shows : Shows bytes (part_behind s.part (length piece)) r.rest = shows-skip bytes s.part s.window piece r.rest w.shows r.is in
-    let moved : Shows bytes (part_behind s.part found.1) r.rest = subst (λ (n : ℕ). Shows bytes (part_behind s.part n) r.rest) (sym r.size) shows in record {
+    let shows : Shows bytes (part_after s.part (length piece)) r.rest = shows-skip bytes s.part s.window piece r.rest w.shows r.is in
+    let moved : Shows bytes (part_after s.part found.1) r.rest = subst (λ (n : ℕ). Shows bytes (part_after s.part n) r.rest) (sym r.size) shows in record {
       entries = w.entries ++ e ∷ [];
       valid = valid-push w.entries e w.valid r.valid;
-      spelled = w.spelled ∙ (ap (λ (l : List ℕ). epoch_of w.entries ++ l) (split ∙ ap (λ (l : List ℕ). piece ++ l) (sym behind))
-          ∙ (sym (append_assoc (epoch_of w.entries) piece (left_of bytes (part_behind s.part found.1))) ∙ ap (λ (l : List ℕ). l ++ left_of bytes (part_behind s.part found.1)) grown));
-      place = omega (arith, w.place, size);
+      spelled = w.spelled ∙ (ap (λ (l : List ℕ). epoch_of w.entries ++ l) (split ∙ ap (λ (l : List ℕ). piece ++ l) (sym after))
+          ∙ (sym (append_assoc (epoch_of w.entries) piece (left_of bytes (part_after s.part found.1))) ∙ ap (λ (l : List ℕ). l ++ left_of bytes (part_after s.part found.1)) grown));
+      offset = omega (arith, w.offset, size);
       parent = ap Some commit ∙ sym (last-push None w.entries e);
       seen = ap (λ (seen : List Seen). seen ++ found.0 ∷ []) w.seen ∙ (ap (λ (one : Seen). seen_from 8 None w.entries ++ one ∷ []) at ∙ sym (seen-push 8 None w.entries e));
-      shows = subst (λ (l : List ℕ). Shows bytes (part_behind s.part found.1) l) (sym cut) moved;
+      shows = subst (λ (l : List ℕ). Shows bytes (part_after s.part found.1) l) (sym cut) moved;
     }
 
 -- No entry in a window that would have all of one.
 pub none-left : (bytes : List ℕ) (part : Part) (window : List ℕ) (parent : Option Id20) → Shows bytes part window
-    → ((p : Option Id20) (e : EpochEntry) (rest : List ℕ) → IsEpochEntry e → left_of bytes part ≡ bytes_behind p e ++ rest → length (bytes_behind p e) ≤ length window)
+    → ((p : Option Id20) (e : EpochEntry) (rest : List ℕ) → IsEpochEntry e → left_of bytes part ≡ bytes_after p e ++ rest → length (bytes_after p e) ≤ length window)
     → LacksEntry parent window → LacksEntry parent (left_of bytes part)
 none-left bytes part window parent s all none = λ e rest valid is.
-    none e (drop (length (bytes_behind parent e)) window) valid (within window s.rest (bytes_behind parent e) rest (sym s.is ∙ is) (all parent e rest valid is))
+    none e (drop (length (bytes_after parent e)) window) valid (within window s.rest (bytes_after parent e) rest (sym s.is ∙ is) (all parent e rest valid is))
 
 -- The first n bytes of a file are no more than those of the walked part.
 pub same_front : (bytes : List ℕ) (n end : ℕ) → end ≡ min n (length bytes) → take n bytes ≡ take end bytes
@@ -72,17 +72,17 @@ same_front bytes n end is = rw is (cut (leb n (length bytes)) refl) where
       take_all n bytes more ∙ sym (ap (λ (m : ℕ). take m bytes) (omega (arith, more)) ∙ take_all (length bytes) bytes (omega arith))
 
 -- A walk that is at its end has found an epoch.
-pub whole-epoch : (bytes : List ℕ) (n : ℕ) (s : State) → Walked bytes s → s.part.end ≡ min n (length bytes) → s.part.place ≡ n → 0 < length s.seen → IsEpoch n bytes s.seen
+pub whole-epoch : (bytes : List ℕ) (n : ℕ) (s : State) → Walked bytes s → s.part.end ≡ min n (length bytes) → s.part.offset ≡ n → 0 < length s.seen → IsEpoch n bytes s.seen
 whole-epoch bytes n s w end at some =
     let room = w.shows.inside in
     let all : s.part.end ≡ n = omega (arith, end, at, room) in
-    let none : left_of bytes s.part ≡ [] = drop_all s.part.place (take s.part.end bytes) (omega (arith, all, at, length-take s.part.end bytes)) in
+    let none : left_of bytes s.part ≡ [] = drop_all s.part.offset (take s.part.end bytes) (omega (arith, all, at, length-take s.part.end bytes)) in
     let spelled : take s.part.end bytes ≡ epoch_of w.entries = w.spelled ∙ (ap (λ (l : List ℕ). epoch_of w.entries ++ l) none ∙ append-nil (epoch_of w.entries)) in record {
       entries = w.entries;
       some = omega (arith, some, ap length w.seen, length-seen 8 None w.entries);
       valid = w.valid;
       spelled = same_front bytes n s.part.end end ∙ spelled;
-      whole = omega (arith, at, w.place, length-append magic (chain None w.entries));
+      whole = omega (arith, at, w.offset, length-append magic (chain None w.entries));
       is = w.seen;
     }
 
@@ -92,19 +92,19 @@ none_seen [] e = refl
 none_seen (first ∷ es) e = absurd (omega (arith, e))
 
 -- A walk that finds no entry although one is needed ends there.
-pub ends-early : (bytes : List ℕ) (n : ℕ) (s : State) → Walked bytes s → s.part.end ≡ min n (length bytes) → (s.part.place ≡ n → length s.seen ≡ 0) → LacksEntry s.parent (left_of bytes s.part)
-    → EndsEarly n bytes s.part.place
+pub ends-early : (bytes : List ℕ) (n : ℕ) (s : State) → Walked bytes s → s.part.end ≡ min n (length bytes) → (s.part.offset ≡ n → length s.seen ≡ 0) → LacksEntry s.parent (left_of bytes s.part)
+    → EndsEarly n bytes s.part.offset
 ends-early bytes n s w end wanted none =
     let room = w.shows.inside in record {
       entries = w.entries;
       rest = left_of bytes s.part;
       valid = w.valid;
       spelled = same_front bytes n s.part.end end ∙ w.spelled;
-      behind = w.place;
-      wanted = elim (cases_lt s.part.place n) [
+      offset_is = w.offset;
+      wanted = elim (cases_lt s.part.offset n) [
         | inl below ↦ inr below
         | inr past ↦
-            let at : s.part.place ≡ n = omega (arith, past, room, end) in
+            let at : s.part.offset ≡ n = omega (arith, past, room, end) in
             inl (none_seen w.entries (omega (arith, wanted at, ap length w.seen, length-seen 8 None w.entries)))
       ];
       lacks = subst (λ (p : Option Id20). LacksEntry p (left_of bytes s.part)) w.parent none;
@@ -116,14 +116,14 @@ moved_walk bytes old mid part parent seen w shows = record {
   entries = w.entries;
   valid = w.valid;
   spelled = subst (λ (p : Part). take p.end bytes ≡ epoch_of w.entries ++ left_of bytes p) (sym part) w.spelled;
-  place = ap (λ (p : Part). p.place) part ∙ w.place;
+  offset = ap (λ (p : Part). p.offset) part ∙ w.offset;
   parent = parent ∙ w.parent;
   seen = seen ∙ w.seen;
   shows = subst (λ (p : Part). Shows bytes p mid.window) (sym part) shows;
 }
 
 -- An entry has bytes.
-entry_some : (parent : Option Id20) (e : EpochEntry) → 0 < length (bytes_behind parent e)
+entry_some : (parent : Option Id20) (e : EpochEntry) → 0 < length (bytes_after parent e)
 entry_some parent e = omega (arith, length-entry parent e)
 
 -- A turn takes an entry, or finds none.
@@ -147,23 +147,23 @@ turns-either (Some k) old mid new true false yes_came part parent seen brings ta
 pub moves-either : (old mid new : State) (found : Bool) → mid.part ≡ old.part → IsInside mid.part mid.window → Takes mid new (Ok found) → Moves old new (Ok found)
 moves-either old mid new true part inside takes =
     let r = takes.1 in
-    let size : takes.0.1 ≤ length mid.window = omega (arith, r.size, ap length r.is, length-append (bytes_behind mid.parent r.entry) r.rest) in
+    let size : takes.0.1 ≤ length mid.window = omega (arith, r.size, ap length r.is, length-append (bytes_after mid.parent r.entry) r.rest) in
     let some : 0 < takes.0.1 = omega (arith, r.size, entry_some mid.parent r.entry) in
-    let place : mid.part.place ≡ old.part.place = ap (λ (p : Part). p.place) part in
-    let Holds : State → Type 0 = λ t. (old.part.place < t.part.place) × IsInside t.part t.window in
-    subst Holds (sym takes.2) (omega (arith, some, place), omega (arith, size, inside, length-drop takes.0.1 mid.window))
-moves-either old mid new false part inside takes = ap (λ (s : State). s.part.place) takes.1 ∙ ap (λ (p : Part). p.place) part
+    let offset : mid.part.offset ≡ old.part.offset = ap (λ (p : Part). p.offset) part in
+    let Holds : State → Type 0 = λ t. (old.part.offset < t.part.offset) × IsInside t.part t.window in
+    subst Holds (sym takes.2) (omega (arith, some, offset), omega (arith, size, inside, length-drop takes.0.1 mid.window))
+moves-either old mid new false part inside takes = ap (λ (s : State). s.part.offset) takes.1 ∙ ap (λ (p : Part). p.offset) part
 
 -- The file's bytes are the same before and after calls that change nothing.
 same_bytes : (k m : Content) (start cur : Part) → Unchanged k m → SamePart start cur → bytes_of (m cur.file).seen ≡ bytes_of (k start.file).seen
 same_bytes k m start cur same part = ap (λ (kept : Kept). bytes_of kept.seen) (same cur.file) ∙ ap (λ (file : FileName). bytes_of (k file).seen) part.file
 
 -- A walk that finds no entry although one is needed returns its offset.
-pub goes-damaged : (first mid : Option Content) (n : ℕ) (start cur new : State) (place : ℕ) → WhereTold (KeepsWalked start cur) first → SamePart start.part cur.part → Told Unchanged first mid
-    → WhereTold (Turns cur new (Ok false)) mid → IsWanted cur n true → place ≡ cur.part.place → WhereTold (λ k. GoesOn n (bytes_of (k start.part.file).seen) start (Err (Damaged place))) first
-goes-damaged None mid n start cur new place keeps part same turns wanted at = tt
-goes-damaged (Some k) None n start cur new place keeps part same turns wanted at = absurd same
-goes-damaged (Some k) (Some m) n start cur new place keeps part same turns wanted at = λ walked end.
+pub goes-damaged : (first mid : Option Content) (n : ℕ) (start cur new : State) (offset : ℕ) → WhereTold (KeepsWalked start cur) first → SamePart start.part cur.part → Told Unchanged first mid
+    → WhereTold (Turns cur new (Ok false)) mid → IsWanted cur n true → offset ≡ cur.part.offset → WhereTold (λ k. GoesOn n (bytes_of (k start.part.file).seen) start (Err (Damaged offset))) first
+goes-damaged None mid n start cur new offset keeps part same turns wanted at = tt
+goes-damaged (Some k) None n start cur new offset keeps part same turns wanted at = absurd same
+goes-damaged (Some k) (Some m) n start cur new offset keeps part same turns wanted at = λ walked end.
     let w = keeps walked in
     let e = same_bytes k m start.part cur.part same part in
     let lacks = subst (λ (b : List ℕ). LacksEntry cur.parent (left_of b cur.part)) e (turns (subst (λ (b : List ℕ). Walked b cur) (sym e) w)) in
@@ -182,7 +182,7 @@ pub goes-stopped : (first : Option Content) (n before now : ℕ) (start : State)
 goes-stopped None n before now start refusal stop = tt
 goes-stopped (Some k) n before now start DiskFault stop = λ walked end. tt
 goes-stopped (Some k) n before now start NoMemory stop = λ walked end. tt
-goes-stopped (Some k) n before now start (Damaged place) stop = absurd stop
+goes-stopped (Some k) n before now start (Damaged offset) stop = absurd stop
 
 -- One more entry.
 pub keeps-turn : (first mid : Option Content) (start cur new : State) → WhereTold (KeepsWalked start cur) first → SamePart start.part cur.part → Told Unchanged first mid
@@ -199,10 +199,10 @@ pub walks-stopped : (content : Option Content) (n before now : ℕ) (file : File
 walks-stopped None n before now file refusal stop = tt
 walks-stopped (Some k) n before now file DiskFault stop = tt
 walks-stopped (Some k) n before now file NoMemory stop = tt
-walks-stopped (Some k) n before now file (Damaged place) stop = absurd stop
+walks-stopped (Some k) n before now file (Damaged offset) stop = absurd stop
 
 -- The same by the result of a turn.
 pub goes-unfound : (first mid : Option Content) (n : ℕ) (start cur new : State) (found : Bool) → found ≡ false → WhereTold (KeepsWalked start cur) first → SamePart start.part cur.part → Told Unchanged first mid
-    → WhereTold (Turns cur new (Ok found)) mid → Moves cur new (Ok found) → IsWanted cur n true → WhereTold (λ k. GoesOn n (bytes_of (k start.part.file).seen) start (Err (Damaged new.part.place))) first
+    → WhereTold (Turns cur new (Ok found)) mid → Moves cur new (Ok found) → IsWanted cur n true → WhereTold (λ k. GoesOn n (bytes_of (k start.part.file).seen) start (Err (Damaged new.part.offset))) first
 goes-unfound first mid n start cur new true is keeps part same turns moves wanted = let wrong : true ≡ false = is in absurd cc
-goes-unfound first mid n start cur new false is keeps part same turns moves wanted = goes-damaged first mid n start cur new new.part.place keeps part same turns wanted moves
+goes-unfound first mid n start cur new false is keeps part same turns moves wanted = goes-damaged first mid n start cur new new.part.offset keeps part same turns wanted moves

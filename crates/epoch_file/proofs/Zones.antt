@@ -44,7 +44,7 @@ offset_zone sign (Some hour) None = tt
 offset_zone sign None minute = tt
 
 -- By a name.
-place_zone : (place : ℕ) → IsZone (zone_at place)
+place_zone : (index : ℕ) → IsZone (zone_at index)
 place_zone zero = west 300 (omega arith)
 place_zone (suc zero) = west 240 (omega arith)
 place_zone (suc (suc zero)) = west 360 (omega arith)
@@ -55,9 +55,9 @@ place_zone (suc (suc (suc (suc (suc (suc zero)))))) = west 480 (omega arith)
 place_zone (suc (suc (suc (suc (suc (suc (suc zero))))))) = west 420 (omega arith)
 place_zone (suc (suc (suc (suc (suc (suc (suc (suc n)))))))) = east 0 (omega arith)
 
-found_zone : (place : Option ℕ) → IfSome (option_map zone_at place) IsZone
+found_zone : (index : Option ℕ) → IfSome (option_map zone_at index) IsZone
 found_zone None = tt
-found_zone (Some place) = place_zone place
+found_zone (Some index) = place_zone index
 
 utc_or : (b : Bool) (other : Option ℤ) → IfSome other IsZone → IfSome (cond b (Some (pos 0)) other) IsZone
 utc_or true other h = east 0 (omega arith)

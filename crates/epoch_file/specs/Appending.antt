@@ -8,7 +8,7 @@ use Rattle.epoch_file.specs.declared.entry.NewEntry.{NewEntry}
 use Rattle.epoch_file.specs.declared.entry.Written.{Written}
 use Rattle.epoch_file.specs.declared.refusal.StoreRefusal.{StoreRefusal}
 use Rattle.epoch_file.specs.declared.refusal.StoreRefusal.TheVariants.{DiskFault, NoMemory, Damaged}
-use Rattle.epoch_file.specs.Entries.{EpochEntry, bytes_behind, commit_behind}
+use Rattle.epoch_file.specs.Entries.{EpochEntry, bytes_after, commit_after}
 
 -- The new entry.
 abbrev pub entry_of : NewEntry → EpochEntry
@@ -16,28 +16,28 @@ entry_of new = record { kind = new.kind; text = new.text.now; moment = new.momen
 
 -- The bytes before an entry at an offset: the magic at offset 0, and otherwise none.
 abbrev pub front_at : ℕ → List ℕ
-front_at place = if place == 0 then magic else []
+front_at offset = if offset == 0 then magic else []
 
 -- The bytes that are written for a new entry at an offset.
 abbrev pub appended : ℕ → NewEntry → List ℕ
-appended place new = front_at place ++ bytes_behind new.parent (entry_of new)
+appended offset new = front_at offset ++ bytes_after new.parent (entry_of new)
 
 -- The result of an append: the offset after the last byte, and the ids of the entry's blob and
 -- commit.
 abbrev pub written_of : ℕ → NewEntry → Written
-written_of place new = record {
-  end = place + length (appended place new);
+written_of offset new = record {
+  end = offset + length (appended offset new);
   blob = blob_id_of new.text.now;
-  commit = commit_behind new.parent (entry_of new);
+  commit = commit_after new.parent (entry_of new);
 }
 
 -- What an append leaves of the disk: the bytes are written, or the write failed, or nothing was
 -- done.
 abbrev pub AppendLeaves : {D : Type 0} → FileName → ℕ → List ℕ → (D → Option Content) → D → D
     → Result Written StoreRefusal → Type 0
-AppendLeaves file place piece content old new (Ok written) =
-    Told (OneFile file (Wrote place piece)) (content old) (content new)
-AppendLeaves file place piece content old new (Err DiskFault) =
-    Told (OneFile file (Tore place (length piece))) (content old) (content new)
-AppendLeaves file place piece content old new (Err NoMemory) = new ≡ old
-AppendLeaves file place piece content old new (Err (Damaged name at)) = ⊥
+AppendLeaves file offset piece content old new (Ok written) =
+    Told (OneFile file (Wrote offset piece)) (content old) (content new)
+AppendLeaves file offset piece content old new (Err DiskFault) =
+    Told (OneFile file (Tore offset (length piece))) (content old) (content new)
+AppendLeaves file offset piece content old new (Err NoMemory) = new ≡ old
+AppendLeaves file offset piece content old new (Err (Damaged name at)) = ⊥

@@ -26,22 +26,22 @@ AreEpochEntries [] = Unit {0}
 AreEpochEntries (e ∷ es) = IsEpochEntry e × AreEpochEntries es
 
 -- The bytes of an entry after a parent.
-abbrev pub bytes_behind : Option Id20 → EpochEntry → List ℕ
-bytes_behind parent e = entry_bytes e.kind e.text e.moment parent
+abbrev pub bytes_after : Option Id20 → EpochEntry → List ℕ
+bytes_after parent e = entry_bytes e.kind e.text e.moment parent
 
 -- The id of its commit.
-abbrev pub commit_behind : Option Id20 → EpochEntry → Id20
-commit_behind parent e = commit_id e.kind e.text e.moment parent
+abbrev pub commit_after : Option Id20 → EpochEntry → Id20
+commit_after parent e = commit_id e.kind e.text e.moment parent
 
 -- The bytes of entries, where each commit's parent is the commit before it.
 abbrev pub chain : Option Id20 → List EpochEntry → List ℕ
 chain parent [] = []
-chain parent (e ∷ es) = bytes_behind parent e ++ chain (Some (commit_behind parent e)) es
+chain parent (e ∷ es) = bytes_after parent e ++ chain (Some (commit_after parent e)) es
 
 -- The id of the last commit of entries, or the parent if there are none.
 abbrev pub last_of : Option Id20 → List EpochEntry → Option Id20
 last_of parent [] = parent
-last_of parent (e ∷ es) = last_of (Some (commit_behind parent e)) es
+last_of parent (e ∷ es) = last_of (Some (commit_after parent e)) es
 
 -- The bytes of an epoch with these entries; the first commit has no parent.
 abbrev pub epoch_of : List EpochEntry → List ℕ
@@ -58,5 +58,5 @@ EpochsDiffer =
 abbrev pub EntriesDiffer : Type 0
 EntriesDiffer =
     (parent : Option Id20) (e f : EpochEntry) (x y : List ℕ) → IsEpochEntry e → IsEpochEntry f
-    → length (bytes_behind parent e ++ x) < 2 ^ 64
-    → bytes_behind parent e ++ x ≡ bytes_behind parent f ++ y → (e ≡ f) × (x ≡ y)
+    → length (bytes_after parent e ++ x) < 2 ^ 64
+    → bytes_after parent e ++ x ≡ bytes_after parent f ++ y → (e ≡ f) × (x ≡ y)

@@ -12,7 +12,7 @@ use Rattle.mail_commits.specs.Commits.{commit_of}
 use Rattle.mail_commits.specs.Entries.{tree_of, commit_id, entry_bytes}
 use Rattle.epoch_file.specs.declared.entry.Seen.{Seen}
 use Rattle.epoch_file.specs.declared.reading.Parts.{Parts}
-use Rattle.epoch_file.specs.Entries.{EpochEntry, IsEpochEntry, bytes_behind}
+use Rattle.epoch_file.specs.Entries.{EpochEntry, IsEpochEntry, bytes_after}
 use Rattle.epoch_file.specs.Walking.{blob_front, seen_at, LacksEntry}
 
 -- Parts of bytes: their lengths are within the bytes.
@@ -27,13 +27,13 @@ pub record HasParts (parent : Option Id20) (e : EpochEntry) (parts : Parts) : Ty
   pub front : parts.front ≡ blob_front e.text
   pub commit : parts.commit.now
       ≡ commit_content (commit_of e.text (id_of (tree_of e.kind e.text)) parent e.moment)
-  pub size : parts.size ≡ length (bytes_behind parent e)
+  pub size : parts.size ≡ length (bytes_after parent e)
 
 -- The parts of an entry are found whatever follows it.
 abbrev pub PartsAgain : List ℕ → Option Parts → Type 0
 PartsAgain bytes found =
     (parent : Option Id20) (e : EpochEntry) (rest : List ℕ) → IsEpochEntry e
-    → bytes ≡ bytes_behind parent e ++ rest
+    → bytes ≡ bytes_after parent e ++ rest
     → MatchOption found ⊥ (HasParts parent e)
 
 -- The ids of an entry.
@@ -51,37 +51,37 @@ Respells bytes kind text moment parent (Ok (Some ids)) =
 Respells bytes kind text moment parent (Err e) = Unit {0}
 
 -- An entry that bytes start with: what is recorded of it at its offset, and its length.
-pub record IsRead (place : ℕ) (parent : Option Id20) (bytes : List ℕ) (found : Seen × ℕ)
+pub record IsRead (offset : ℕ) (parent : Option Id20) (bytes : List ℕ) (found : Seen × ℕ)
     : Type 0 where
   pub entry : EpochEntry
   pub valid : IsEpochEntry entry
   pub rest : List ℕ
-  pub is : bytes ≡ bytes_behind parent entry ++ rest
-  pub seen : found.0 ≡ seen_at place parent entry
-  pub size : found.1 ≡ length (bytes_behind parent entry)
+  pub is : bytes ≡ bytes_after parent entry ++ rest
+  pub seen : found.0 ≡ seen_at offset parent entry
+  pub size : found.1 ≡ length (bytes_after parent entry)
 
 -- The results of reading: the entry that bytes start with, or none if they start with none after a
 -- parent whose id has 20 bytes.
 abbrev pub Reads : ℕ → Option Id20 → List ℕ → Result (Option (Seen × ℕ)) NoMemory → Type 0
-Reads place parent bytes (Ok None) = IsParent parent → LacksEntry parent bytes
-Reads place parent bytes (Ok (Some found)) = IsRead place parent bytes found
-Reads place parent bytes (Err e) = Unit {0}
+Reads offset parent bytes (Ok None) = IsParent parent → LacksEntry parent bytes
+Reads offset parent bytes (Ok (Some found)) = IsRead offset parent bytes found
+Reads offset parent bytes (Err e) = Unit {0}
 
 -- The same for entries with a property.
 abbrev pub ReadsWhere : (EpochEntry → Type 0) → ℕ → Option Id20 → List ℕ
     → Result (Option (Seen × ℕ)) NoMemory → Type 0
-ReadsWhere P place parent bytes (Ok None) =
+ReadsWhere P offset parent bytes (Ok None) =
     IsParent parent → (e : EpochEntry) (rest : List ℕ) → IsEpochEntry e
-    → bytes ≡ bytes_behind parent e ++ rest → P e → ⊥
-ReadsWhere P place parent bytes (Ok (Some found)) = IsRead place parent bytes found
-ReadsWhere P place parent bytes (Err e) = Unit {0}
+    → bytes ≡ bytes_after parent e ++ rest → P e → ⊥
+ReadsWhere P offset parent bytes (Ok (Some found)) = IsRead offset parent bytes found
+ReadsWhere P offset parent bytes (Err e) = Unit {0}
 
 -- What is recorded of parts at an offset, with a moment and ids.
 abbrev pub seen_by : ℕ → Parts → ℕ → EntryIds → Seen
-seen_by place parts moment ids = record {
+seen_by offset parts moment ids = record {
   kind = parts.kind;
-  at = place;
-  text_at = place + parts.front;
+  at = offset;
+  text_at = offset + parts.front;
   size = length parts.text.now;
   blob = ids.blob;
   commit = ids.commit;

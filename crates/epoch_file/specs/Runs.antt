@@ -17,11 +17,11 @@ abbrev pub FaultRose : {T : Type 0} → ℕ → ℕ → Result T WalkRefusal →
 FaultRose before now (Ok value) = Unit {0}
 FaultRose before now (Err DiskFault) = Rose before now
 FaultRose before now (Err NoMemory) = Unit {0}
-FaultRose before now (Err (Damaged place)) = Unit {0}
+FaultRose before now (Err (Damaged offset)) = Unit {0}
 
 -- The same if nothing else can go wrong than that and running out of memory.
 abbrev pub StopRose : {T : Type 0} → ℕ → ℕ → Result T WalkRefusal → Type 0
 StopRose before now (Ok value) = Unit {0}
 StopRose before now (Err DiskFault) = Rose before now
 StopRose before now (Err NoMemory) = Unit {0}
-StopRose before now (Err (Damaged place)) = ⊥
+StopRose before now (Err (Damaged offset)) = ⊥

@@ -4,14 +4,14 @@ use Rattle.std.specs.Fmt.{decimal}
 use Rattle.arch_base.specs.declared.ids.Id20.{Id20}
 use Rattle.epoch_file.specs.declared.sight.Sight.{Sight}
 use Rattle.epoch_file.specs.declared.sight.Sight.TheVariants.{Lacks, Short, Whole}
-use Rattle.epoch_file.specs.Entries.{EpochEntry, IsEpochEntry, bytes_behind}
+use Rattle.epoch_file.specs.Entries.{EpochEntry, IsEpochEntry, bytes_after}
 use Rattle.epoch_file.specs.Walking.{blob_front}
 
 -- The held bytes start with an entry, and they are the first of the bytes that are left.
 pub record Starts (parent : Option Id20) (e : EpochEntry) (held more rest : List ℕ) (left : ℕ)
     : Type 0 where
   pub valid : IsEpochEntry e
-  pub is : held ++ more ≡ bytes_behind parent e ++ rest
+  pub is : held ++ more ≡ bytes_after parent e ++ rest
   pub all : length (held ++ more) ≡ left
 
 -- What a result says of the entries with a property.
@@ -21,23 +21,23 @@ SeesWhere P held left Lacks = (parent : Option Id20) (e : EpochEntry) (more rest
 SeesWhere P held left Short = length held < left
 SeesWhere P held left Whole =
     (parent : Option Id20) (e : EpochEntry) (more rest : List ℕ) → P parent e
-    → Starts parent e held more rest left → length (bytes_behind parent e) ≤ length held
+    → Starts parent e held more rest left → length (bytes_after parent e) ≤ length held
 
 -- What a result says of any entry.
 abbrev pub Sees : List ℕ → ℕ → Sight → Type 0
 Sees = SeesWhere (λ parent e. Unit {0})
 
 -- The offset of the commit in an entry of a text: after the blob and a tree of 37 bytes.
-abbrev pub commit_place : List ℕ → ℕ
-commit_place text = blob_front text + length text + 37
+abbrev pub commit_offset : List ℕ → ℕ
+commit_offset text = blob_front text + length text + 37
 
 -- What a result says of an entry whose commit has this offset.
-abbrev pub SeesBehind : ℕ → List ℕ → ℕ → Sight → Type 0
-SeesBehind at = SeesWhere (λ parent e. at ≡ commit_place e.text)
+abbrev pub SeesCommit : ℕ → List ℕ → ℕ → Sight → Type 0
+SeesCommit at = SeesWhere (λ parent e. at ≡ commit_offset e.text)
 
 -- What a result says of an entry of this length.
 abbrev pub SeesAll : ℕ → List ℕ → ℕ → Sight → Type 0
-SeesAll len = SeesWhere (λ parent e. len ≡ length (bytes_behind parent e))
+SeesAll len = SeesWhere (λ parent e. len ≡ length (bytes_after parent e))
 
 -- Fewer bytes are held than are left; or at least `count` are held, or all that are left.
 abbrev pub IsRoomFor : List ℕ → ℕ → ℕ → Bool → Type 0

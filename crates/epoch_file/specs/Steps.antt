@@ -10,14 +10,14 @@ use Rattle.mail_commits.specs.Entries.{magic}
 use Rattle.epoch_file.specs.declared.entry.Seen.{Seen}
 use Rattle.epoch_file.specs.declared.window.Part.{Part}
 use Rattle.epoch_file.specs.declared.state.State.{State}
-use Rattle.epoch_file.specs.Entries.{EpochEntry, IsEpochEntry, AreEpochEntries, bytes_behind, chain, last_of, epoch_of}
+use Rattle.epoch_file.specs.Entries.{EpochEntry, IsEpochEntry, AreEpochEntries, bytes_after, chain, last_of, epoch_of}
 use Rattle.epoch_file.specs.Reading.{IsRead}
 use Rattle.epoch_file.specs.Walking.{seen_from, LacksEntry, LacksMagic, Walks}
 use Rattle.epoch_file.specs.Windows.{Shows, IsInside}
 
 -- The bytes of a part that are left after its offset.
 abbrev pub left_of : List ℕ → Part → List ℕ
-left_of bytes part = drop part.place (take part.end bytes)
+left_of bytes part = drop part.offset (take part.end bytes)
 
 -- The window has all of the entry at the part's offset if there is one; or there is none, after any
 -- parent.
@@ -26,8 +26,8 @@ Brings part old new (Ok true) k =
     Shows (bytes_of (k part.file).seen) part old
     → Shows (bytes_of (k part.file).seen) part new
     × ((parent : Option Id20) (e : EpochEntry) (rest : List ℕ) → IsEpochEntry e
-    → left_of (bytes_of (k part.file).seen) part ≡ bytes_behind parent e ++ rest
-    → length (bytes_behind parent e) ≤ length new)
+    → left_of (bytes_of (k part.file).seen) part ≡ bytes_after parent e ++ rest
+    → length (bytes_after parent e) ≤ length new)
 Brings part old new (Ok false) k = Shows (bytes_of (k part.file).seen) part old
     → (parent : Option Id20) → LacksEntry parent (left_of (bytes_of (k part.file).seen) part)
 Brings part old new (Err e) k = Unit {0}
@@ -42,7 +42,7 @@ pub record Walked (bytes : List ℕ) (s : State) : Type 0 where
   pub entries : List EpochEntry
   pub valid : AreEpochEntries entries
   pub spelled : take s.part.end bytes ≡ epoch_of entries ++ left_of bytes s.part
-  pub place : s.part.place ≡ 8 + length (chain None entries)
+  pub offset : s.part.offset ≡ 8 + length (chain None entries)
   pub parent : s.parent ≡ last_of None entries
   pub seen : s.seen ≡ seen_from 8 None entries
   pub shows : Shows bytes s.part s.window
@@ -50,7 +50,7 @@ pub record Walked (bytes : List ℕ) (s : State) : Type 0 where
 -- The state of a walk after an entry that was found, with its length.
 abbrev pub next_state : State → Seen × ℕ → State
 next_state s found = record {
-  part = record { file = s.part.file; place = s.part.place + found.1; end = s.part.end };
+  part = record { file = s.part.file; offset = s.part.offset + found.1; end = s.part.end };
   window = drop found.1 s.window;
   parent = Some found.0.commit;
   seen = s.seen ++ found.0 ∷ [];
@@ -58,7 +58,7 @@ next_state s found = record {
 
 -- The entry at the front of the window is taken, or there is none.
 abbrev pub Takes : State → State → Result Bool NoRoom → Type 0
-Takes old new (Ok true) = (found : Seen × ℕ) × IsRead old.part.place old.parent old.window found
+Takes old new (Ok true) = (found : Seen × ℕ) × IsRead old.part.offset old.parent old.window found
     × (new ≡ next_state old found)
 Takes old new (Ok false) = (IsParent old.parent → LacksEntry old.parent old.window) × (new ≡ old)
 Takes old new (Err e) = Unit {0}
@@ -78,8 +78,8 @@ pub record SamePart (old new : Part) : Type 0 where
 
 -- A turn advances in the part if it finds an entry, and otherwise stays.
 abbrev pub Moves : State → State → Result Bool WalkRefusal → Type 0
-Moves old new (Ok true) = (old.part.place < new.part.place) × IsInside new.part new.window
-Moves old new (Ok false) = new.part.place ≡ old.part.place
+Moves old new (Ok true) = (old.part.offset < new.part.offset) × IsInside new.part new.window
+Moves old new (Ok false) = new.part.offset ≡ old.part.offset
 Moves old new (Err e) = Unit {0}
 
 -- A walk over the first n bytes of a file starts after the magic, or finds that it isn't there.
@@ -106,7 +106,7 @@ BeginsWith part window (Some s) =
     (rest : List ℕ) × (window ≡ magic ++ rest) × (s ≡ record {
       part = record {
         file = part.file;
-        place = 8;
+        offset = 8;
         end = part.end;
       };
       window = rest;
@@ -122,8 +122,8 @@ BeginsIn file n (Err e) = Unit {0}
 
 -- Another entry is needed; or none is, since all n bytes are walked and there is an entry.
 abbrev pub IsWanted : State → ℕ → Bool → Type 0
-IsWanted s n true = s.part.place ≡ n → length s.seen ≡ 0
-IsWanted s n false = (s.part.place ≡ n) × (0 < length s.seen)
+IsWanted s n true = s.part.offset ≡ n → length s.seen ≡ 0
+IsWanted s n false = (s.part.offset ≡ n) × (0 < length s.seen)
 
 -- A walk that led from one state to another.
 abbrev pub KeepsWalked : State → State → Content → Type 0

@@ -9,7 +9,7 @@ use Rattle.mail_reader.specs.Ids.{own_id}
 use Rattle.mail_reader.specs.Content.{content_id_of}
 use Rattle.mail_commits.specs.Entries.{magic}
 use Rattle.epoch_file.specs.declared.entry.Seen.{Seen}
-use Rattle.epoch_file.specs.Entries.{EpochEntry, IsEpochEntry, AreEpochEntries, bytes_behind, commit_behind, chain, last_of, epoch_of}
+use Rattle.epoch_file.specs.Entries.{EpochEntry, IsEpochEntry, AreEpochEntries, bytes_after, commit_after, chain, last_of, epoch_of}
 
 -- The number of bytes before a text in its blob: `blob`, a space, the size in digits and NUL.
 abbrev pub blob_front : List ℕ → ℕ
@@ -17,13 +17,13 @@ blob_front text = 6 + length (decimal (length text))
 
 -- What is recorded of an entry at an offset, after a parent.
 abbrev pub seen_at : ℕ → Option Id20 → EpochEntry → Seen
-seen_at place parent e = record {
+seen_at offset parent e = record {
   kind = e.kind;
-  at = place;
-  text_at = place + blob_front e.text;
+  at = offset;
+  text_at = offset + blob_front e.text;
   size = length e.text;
   blob = blob_id_of e.text;
-  commit = commit_behind parent e;
+  commit = commit_after parent e;
   moment = e.moment;
   id = unwrap_or (own_id e.text) [];
   content = content_id_of e.text;
@@ -31,10 +31,10 @@ seen_at place parent e = record {
 
 -- What is recorded of entries from an offset on, one after the other.
 abbrev pub seen_from : ℕ → Option Id20 → List EpochEntry → List Seen
-seen_from place parent [] = []
-seen_from place parent (e ∷ es) =
-    seen_at place parent e
-    ∷ seen_from (place + length (bytes_behind parent e)) (Some (commit_behind parent e)) es
+seen_from offset parent [] = []
+seen_from offset parent (e ∷ es) =
+    seen_at offset parent e
+    ∷ seen_from (offset + length (bytes_after parent e)) (Some (commit_after parent e)) es
 
 -- The first n bytes of a file are there, and are an epoch of at least one entry, with these
 -- records.
@@ -49,17 +49,17 @@ pub record IsEpoch (n : ℕ) (bytes : List ℕ) (seen : List Seen) : Type 0 wher
 -- The bytes start with no entry after this parent.
 abbrev pub LacksEntry : Option Id20 → List ℕ → Type 0
 LacksEntry parent bytes = (e : EpochEntry) (rest : List ℕ) → IsEpochEntry e
-    → bytes ≢ bytes_behind parent e ++ rest
+    → bytes ≢ bytes_after parent e ++ rest
 
 -- The first n bytes of a file start with the magic and these entries, and there is no entry at the
 -- offset after them, although there is none yet or the bytes go on.
-pub record EndsEarly (n : ℕ) (bytes : List ℕ) (place : ℕ) : Type 0 where
+pub record EndsEarly (n : ℕ) (bytes : List ℕ) (offset : ℕ) : Type 0 where
   pub entries : List EpochEntry
   pub rest : List ℕ
   pub valid : AreEpochEntries entries
   pub spelled : take n bytes ≡ epoch_of entries ++ rest
-  pub behind : place ≡ 8 + length (chain None entries)
-  pub wanted : (entries ≡ []) ⊎ (place < n)
+  pub offset_is : offset ≡ 8 + length (chain None entries)
+  pub wanted : (entries ≡ []) ⊎ (offset < n)
   pub lacks : LacksEntry (last_of None entries) rest
 
 -- The first n bytes of a file don't start with the magic.
@@ -69,11 +69,11 @@ LacksMagic n bytes = take 8 (take n bytes) ≢ magic
 -- The offset at which the first n bytes of a file leave an epoch's form: 0, or that of the first
 -- entry that isn't there.
 abbrev pub IsDamagedAt : ℕ → List ℕ → ℕ → Type 0
-IsDamagedAt n bytes place = ((place ≡ 0) × LacksMagic n bytes) ⊎ EndsEarly n bytes place
+IsDamagedAt n bytes offset = ((offset ≡ 0) × LacksMagic n bytes) ⊎ EndsEarly n bytes offset
 
 -- The results of a walk over the first n bytes of a file.
 abbrev pub Walks : ℕ → List ℕ → Result (List Seen) WalkRefusal → Type 0
 Walks n bytes (Ok seen) = IsEpoch n bytes seen
-Walks n bytes (Err (Damaged place)) = IsDamagedAt n bytes place
+Walks n bytes (Err (Damaged offset)) = IsDamagedAt n bytes offset
 Walks n bytes (Err DiskFault) = Unit {0}
 Walks n bytes (Err NoMemory) = Unit {0}

@@ -8,15 +8,15 @@ use Rattle.epoch_file.specs.declared.window.Part.{Part}
 -- part.
 pub record Shows (bytes : List ℕ) (part : Part) (window : List ℕ) : Type 0 where
   pub rest : List ℕ
-  pub is : drop part.place (take part.end bytes) ≡ window ++ rest
+  pub is : drop part.offset (take part.end bytes) ≡ window ++ rest
   pub whole : part.end ≤ length bytes
-  pub inside : part.place ≤ part.end
+  pub inside : part.offset ≤ part.end
 
 -- More bytes of a file came into a window, as many as it has room for or as are left; or none came.
 abbrev pub Comes : Part → ℕ → List ℕ → List ℕ → Result Bool WalkRefusal → Content → Type 0
 Comes part room old new (Ok true) k =
     Shows (bytes_of (k part.file).seen) part old → Shows (bytes_of (k part.file).seen) part new
-    × (min (length old + room) (part.end - part.place) ≤ length new)
+    × (min (length old + room) (part.end - part.offset) ≤ length new)
 Comes part room old new (Ok false) k = Shows (bytes_of (k part.file).seen) part old → ⊥
 Comes part room old new (Err e) k = Unit {0}
 
@@ -28,4 +28,4 @@ Grows old new (Err e) = Unit {0}
 
 -- The window doesn't go past its part.
 abbrev pub IsInside : Part → List ℕ → Type 0
-IsInside part window = part.place + length window ≤ part.end
+IsInside part window = part.offset + length window ≤ part.end

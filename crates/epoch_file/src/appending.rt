@@ -1,9 +1,9 @@
 //! Appends an entry to an epoch's file.
-ghost use Rattle.std.specs.Prelude.{◌≡◌, ◌++◌, ◌<◌, ◌≤◌, ◌^◌, ℕ, List, length, Err, IfOk, OnOk, OnErr, is_ok, if◌then◌else◌};
+ghost use Rattle.std.specs.Prelude.{◌≡◌, ◌<◌, ◌≤◌, ◌^◌, Err, IfOk};
 ghost use Rattle.arch_base.specs.Counts.{RoseIf};
 ghost use Rattle.disk_model.specs.Disk.{WhereTold, IsAtMostLength, Elapses};
 ghost use Rattle.git_objects.specs.Objects.{blob_id_of};
-ghost use Rattle.epoch_file.specs.Entries.{commit_behind};
+ghost use Rattle.epoch_file.specs.Entries.{commit_after};
 ghost use Rattle.arch_base.specs.Moments.{last_moment};
 ghost use Rattle.epoch_file.specs.Appending.{appended, entry_of, front_at, written_of, AppendLeaves};
 
@@ -33,7 +33,7 @@ pub fn append_entry<D: Disk>(
 ) -> Result<Written, StoreRefusal>
     requires moment { entry.now.moment ≤ last_moment }
     requires inside { WhereTold (IsAtMostLength file at) (D.content disk.old) }
-    requires place { at < 2 ^ 62 }
+    requires offset { at < 2 ^ 62 }
     ensures written { IfOk result (λ written. written ≡ written_of at entry.now) }
     ensures left { AppendLeaves file at (appended at entry.now) D.content disk.old disk.new result }
     ensures time { Elapses (D.moment disk.old) (D.moment disk.new) (D.left_since disk.old)
@@ -59,7 +59,7 @@ fn entry_piece(alloc: Global, at: u64, entry: &NewEntry<'_>) -> Result<(Bytes, E
     ensures piece { IfOk result (λ made. made.0 ≡ appended at entry.now) }
     ensures blob { IfOk result (λ made. made.1.blob ≡ blob_id_of entry.now.text.now) }
     ensures commit { IfOk result (λ made.
-        made.1.commit ≡ commit_behind entry.now.parent (entry_of entry.now)) }
+        made.1.commit ≡ commit_after entry.now.parent (entry_of entry.now)) }
 {
     let mut piece = front(alloc, at)?;
     let ids = push_entry(

@@ -1,14 +1,12 @@
 //! Reads an entry from the front of bytes.
-ghost use Rattle.std.specs.Prelude.{◌≡◌, ◌≢◌, ◌+◌, ◌-◌, ◌<◌, ◌≤◌, ◌^◌, ◌++◌, ◌↔◌, ℕ, List, [], Some, None, length, unwrap_or, IfSome, IfNone, IfOk, MatchOption};
+ghost use Rattle.std.specs.Prelude.{◌≡◌, ◌+◌, ◌-◌, ◌<◌, ◌≤◌, ◌^◌, ◌++◌, ℕ, List, [], Some, None, length, unwrap_or, IfSome, IfOk, MatchOption};
 ghost use Rattle.arch_base.specs.Ids.{IsId};
 ghost use Rattle.arch_base.specs.declared.ids.Id20.{Id20};
 ghost use Rattle.git_objects.specs.declared.commits.Commit.{Commit as CommitRecord};
 ghost use Rattle.git_objects.specs.declared.entry_kind.EntryKind.{EntryKind};
 ghost use Rattle.git_objects.specs.Commits.{IsCommit, commit_content};
 ghost use Rattle.git_objects.specs.Objects.{CommitOf, HasSize, blob_spelling, spelling, tree_spelling};
-ghost use Rattle.mail_commits.specs.Entries.{commit_id, entry_bytes};
 ghost use Rattle.mail_reader.specs.Ids.{own_id as own_id_of};
-ghost use Rattle.epoch_file.specs.Entries.{EpochEntry, IsEpochEntry, bytes_behind};
 ghost use Rattle.arch_base.specs.Moments.{last_moment};
 ghost use Rattle.epoch_file.specs.Reading.{IsParted, HasParts, PartsAgain, Respells, Reads, ReadsWhere, seen_by};
 
@@ -146,19 +144,19 @@ fn id_of(alloc: Global, text: &[u8]) -> Result<Bytes, NoMemory>
 
 /// Reads the entry after a parent that bytes start with, and returns it and its length.
 ///
-/// The bytes are at the offset `place` of their file. The result is `None` if they don't start with
+/// The bytes are at `offset` in their file. The result is `None` if they don't start with
 /// such an entry.
 pub(crate) fn read_entry(
     alloc: Global,
-    place: u64,
+    offset: u64,
     bytes: &[u8],
     parent: Option<ObjectId>,
 ) -> Result<Option<(Seen, usize)>, NoMemory>
-    requires { place + length bytes.now < 2 ^ 64 }
-    ensures { Reads place parent bytes.now result }
+    requires { offset + length bytes.now < 2 ^ 64 }
+    ensures { Reads offset parent bytes.now result }
 {
     match read_parts(bytes) {
-        Some(parts) => read_in_parts(alloc, place, bytes, parent, &parts),
+        Some(parts) => read_in_parts(alloc, offset, bytes, parent, &parts),
         None => Ok(None),
     }
 }
@@ -166,18 +164,18 @@ pub(crate) fn read_entry(
 /// Reads the entry, given the three objects at the front of the bytes.
 fn read_in_parts(
     alloc: Global,
-    place: u64,
+    offset: u64,
     bytes: &[u8],
     parent: Option<ObjectId>,
     parts: &Parts<'_>,
 ) -> Result<Option<(Seen, usize)>, NoMemory>
-    requires room { place + length bytes.now < 2 ^ 64 }
+    requires room { offset + length bytes.now < 2 ^ 64 }
     requires parted { IsParted bytes.now parts.now }
     requires again { PartsAgain bytes.now (Some parts.now) }
-    ensures { ReadsWhere (λ e. HasParts parent e parts.now) place parent bytes.now result }
+    ensures { ReadsWhere (λ e. HasParts parent e parts.now) offset parent bytes.now result }
 {
     match moment_of(alloc, parts.commit)? {
-        Some(moment) => read_at_moment(alloc, place, bytes, parent, parts, moment),
+        Some(moment) => read_at_moment(alloc, offset, bytes, parent, parts, moment),
         None => Ok(None),
     }
 }
@@ -185,25 +183,25 @@ fn read_in_parts(
 /// Reads the entry, given its objects and the moment of its commit.
 fn read_at_moment(
     alloc: Global,
-    place: u64,
+    offset: u64,
     bytes: &[u8],
     parent: Option<ObjectId>,
     parts: &Parts<'_>,
     moment: u64,
 ) -> Result<Option<(Seen, usize)>, NoMemory>
-    requires room { place + length bytes.now < 2 ^ 64 }
+    requires room { offset + length bytes.now < 2 ^ 64 }
     requires parted { IsParted bytes.now parts.now }
     requires again { PartsAgain bytes.now (Some parts.now) }
     requires moment { moment ≤ last_moment }
     ensures { ReadsWhere (λ e. HasParts parent e parts.now
-        × (moment ≡ e.moment)) place parent bytes.now result }
+        × (moment ≡ e.moment)) offset parent bytes.now result }
 {
     if !is_stored(parts.text) {
         return Ok(None);
     }
     let spelling = bytes.split_at(parts.size).0;
     match respell(alloc, spelling, parts.kind, parts.text, moment, parent)? {
-        Some(ids) => Ok(Some((seen_of(alloc, place, parts, moment, &ids)?, parts.size))),
+        Some(ids) => Ok(Some((seen_of(alloc, offset, parts, moment, &ids)?, parts.size))),
         None => Ok(None),
     }
 }
@@ -211,18 +209,18 @@ fn read_at_moment(
 /// Returns what is recorded of an entry.
 fn seen_of(
     alloc: Global,
-    place: u64,
+    offset: u64,
     parts: &Parts<'_>,
     moment: u64,
     ids: &EntryIds,
 ) -> Result<Seen, NoMemory>
-    requires { place + parts.now.front < 2 ^ 64 }
-    ensures { IfOk result (λ seen. seen ≡ seen_by place parts.now moment ids.now) }
+    requires { offset + parts.now.front < 2 ^ 64 }
+    ensures { IfOk result (λ seen. seen ≡ seen_by offset parts.now moment ids.now) }
 {
     Ok(Seen {
         kind: parts.kind,
-        at: place,
-        text_at: place + parts.front as u64,
+        at: offset,
+        text_at: offset + parts.front as u64,
         size: parts.text.len() as u64,
         blob: ids.blob,
         commit: ids.commit,

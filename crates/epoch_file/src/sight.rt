@@ -1,8 +1,8 @@
 //! How much of an entry is at the front of bytes, by the sizes that its objects start with.
-ghost use Rattle.std.specs.Prelude.{◌≡◌, ◌+◌, ◌<◌, ◌≤◌, ◌^◌, ◌++◌, ◌∷◌, ℕ, List, Some, length, codes, IsTrue, IfSome, MatchOption, ◌≢◌};
+ghost use Rattle.std.specs.Prelude.{◌≡◌, ◌+◌, ◌<◌, ◌≤◌, ◌^◌, ◌++◌, ◌∷◌, ℕ, List, Some, length, codes, IfSome, MatchOption, ◌≢◌};
 ghost use Rattle.std.specs.Fmt.{decimal};
 ghost use Rattle.mail_reader.specs.StorageTexts.{max_text_len};
-ghost use Rattle.epoch_file.specs.Sights.{Sees, SeesBehind, SeesAll, IsRoomFor, commit_place, EndsCommit};
+ghost use Rattle.epoch_file.specs.Sights.{Sees, SeesCommit, SeesAll, IsRoomFor, commit_offset, EndsCommit};
 
 use arch_base::read_decimal;
 use memchr::memchr;
@@ -35,7 +35,7 @@ pub(crate) fn look(held: &[u8], left: u64) -> Sight
         return Sight::Short;
     }
     match commit_at(held) {
-        Some(at) => look_behind(held, left, at),
+        Some(at) => look_at_commit(held, left, at),
         None => Sight::Lacks,
     }
 }
@@ -51,7 +51,7 @@ fn is_short(held: &[u8], left: u64, count: usize) -> bool
 fn commit_at(held: &[u8]) -> Option<usize>
     ensures bound { IfSome result (λ at. at < 2 ^ 62) }
     ensures again { (text rest : List ℕ) → length text ≤ max_text_len → held.now ≡ codes "blob "
-        ++ (decimal (length text) ++ 0 ∷ rest) → result ≡ Some (commit_place text) }
+        ++ (decimal (length text) ++ 0 ∷ rest) → result ≡ Some (commit_offset text) }
 {
     let (front, size) = head(b"blob ", held)?;
     if size > MAX_TEXT_LEN {
@@ -61,9 +61,9 @@ fn commit_at(held: &[u8]) -> Option<usize>
 }
 
 /// Returns how much of an entry the bytes have, by the offset of its commit.
-fn look_behind(held: &[u8], left: u64, at: usize) -> Sight
+fn look_at_commit(held: &[u8], left: u64, at: usize) -> Sight
     requires { at < 2 ^ 62 }
-    ensures { SeesBehind at held.now left result }
+    ensures { SeesCommit at held.now left result }
 {
     if is_short(held, left, at + HEAD_LEN) {
         return Sight::Short;

@@ -1,5 +1,5 @@
 //! Walks over an epoch's file.
-ghost use Rattle.std.specs.Prelude.{◌≡◌, ◌+◌, ◌<◌, ◌≤◌, ◌^◌, ℕ, List, length, min, Err, IfOk};
+ghost use Rattle.std.specs.Prelude.{◌≡◌, ◌+◌, ◌<◌, ◌≤◌, length, min, Err};
 ghost use Rattle.arch_base.specs.Counts.{RoseIf};
 ghost use Rattle.disk_model.specs.Disk.{Image, Told, WhereTold, Unchanged, LeavesOnly, bytes_of};
 ghost use Rattle.epoch_file.specs.Walking.{Walks};
@@ -69,7 +69,7 @@ fn begin<D: Disk>(
     }
     let part = Part {
         file,
-        place: 0,
+        offset: 0,
         end,
     };
     begin_in(alloc, disk, &part, piece)
@@ -83,7 +83,7 @@ fn begin_in<D: Disk>(
     piece: &mut [u8],
 ) -> Result<Option<State>, WalkRefusal>
     requires room { 8 ≤ length piece.old }
-    requires front { part.now.place ≡ 0 }
+    requires front { part.now.offset ≡ 0 }
     requires some { 8 ≤ part.now.end }
     ensures begins { WhereTold (λ k.
         BeginsAt part.now.end (bytes_of (k part.now.file).seen) result) (D.content disk.old) }
@@ -110,7 +110,7 @@ fn begin_with(alloc: Global, part: &Part, window: Window) -> Option<State>
     Some(State {
         part: Part {
             file: part.file,
-            place: 8,
+            offset: 8,
             end: part.end,
         },
         window,
@@ -148,7 +148,7 @@ fn go_on<D: Disk>(
             Ok(true) => {}
             Ok(false) => {
                 return Err(WalkRefusal::Damaged {
-                    at: state.part.place,
+                    at: state.part.offset,
                 });
             }
             Err(refusal) => return Err(refusal),
@@ -161,7 +161,7 @@ fn go_on<D: Disk>(
 fn is_wanted(state: &State, count: u64) -> bool
     ensures { IsWanted state.now count result }
 {
-    state.part.place != count || state.seen.as_slice().is_empty()
+    state.part.offset != count || state.seen.as_slice().is_empty()
 }
 
 /// Takes the next entry of the walk. Returns `false` if there is none.
@@ -195,14 +195,14 @@ fn take_one(alloc: Global, state: &mut State) -> Result<bool, NoMemory>
     let _end = state.part.end; // its range bounds the places
     let found = read_entry(
         alloc,
-        state.part.place,
+        state.part.offset,
         state.window.as_slice(),
         state.parent,
     )?;
     match found {
         Some((seen, size)) => {
             state.window.skip(size);
-            state.part.place += size as u64;
+            state.part.offset += size as u64;
             state.parent = Some(seen.commit);
             state.seen.push(seen)?;
             Ok(true)
@@ -227,7 +227,7 @@ fn bring<D: Disk>(
     ensures fault { StopRose (D.faults disk.old) (D.faults disk.new) result }
 {
     loop {
-        match look(window.as_slice(), part.end - part.place) {
+        match look(window.as_slice(), part.end - part.offset) {
             Sight::Lacks => return Ok(false),
             Sight::Whole => return Ok(true),
             Sight::Short => {

@@ -1,5 +1,5 @@
 //! A window over a part of a file: bytes that were read and are still in use.
-ghost use Rattle.std.specs.Prelude.{◌≡◌, ◌+◌, ◌-◌, ◌<◌, ◌≤◌, ◌++◌, ℕ, List, [], length, drop, vec_len, IfOk, OnOk, OnErr, Err};
+ghost use Rattle.std.specs.Prelude.{◌≡◌, ◌+◌, ◌-◌, ◌<◌, ◌≤◌, ◌++◌, ℕ, List, [], length, drop, vec_len, IfOk, OnOk, OnErr};
 ghost use Rattle.disk_model.specs.Disk.{WhereTold};
 ghost use Rattle.epoch_file.specs.Windows.{Comes, Grows, IsInside};
 ghost use Rattle.epoch_file.specs.Runs.{OnlyReads, StopRose};
@@ -26,7 +26,7 @@ pub(crate) struct Part {
     /// The name of the file.
     pub(crate) file: FileName,
     /// The offset at which the window starts.
-    pub(crate) place: u64,
+    pub(crate) offset: u64,
     /// The end of what counts of the file.
     pub(crate) end: u64,
 }
@@ -109,7 +109,7 @@ pub(crate) fn read_on<D: Disk>(
     piece: &mut [u8],
 ) -> Result<bool, WalkRefusal>
     requires room { 0 < length piece.old }
-    requires wanted { part.now.place + length window.old < part.now.end }
+    requires wanted { part.now.offset + length window.old < part.now.end }
     ensures came { WhereTold (Comes part.now (length piece.old) window.old window.new result)
         (D.content disk.old) }
     ensures grows { Grows window.old window.new result }
@@ -117,7 +117,7 @@ pub(crate) fn read_on<D: Disk>(
     ensures reads { OnlyReads D.content D.moment D.left_since D.faults disk.old disk.new }
     ensures fault { StopRose (D.faults disk.old) (D.faults disk.new) result }
 {
-    let left = part.end - part.place - window.as_slice().len() as u64;
+    let left = part.end - part.offset - window.as_slice().len() as u64;
     let wanted = left.min(piece.len() as u64) as usize;
     read_into(alloc, disk, part, window, &mut piece[..wanted])
 }
@@ -131,7 +131,7 @@ fn read_into<D: Disk>(
     room: &mut [u8],
 ) -> Result<bool, WalkRefusal>
     requires some { 0 < length room.old }
-    requires fits { part.now.place + length window.old + length room.old ≤ part.now.end }
+    requires fits { part.now.offset + length window.old + length room.old ≤ part.now.end }
     ensures came { WhereTold (Comes part.now (length room.old) window.old window.new result)
         (D.content disk.old) }
     ensures grows { Grows window.old window.new result }
@@ -139,8 +139,8 @@ fn read_into<D: Disk>(
     ensures reads { OnlyReads D.content D.moment D.left_since D.faults disk.old disk.new }
     ensures fault { StopRose (D.faults disk.old) (D.faults disk.new) result }
 {
-    let place = part.place + window.as_slice().len() as u64;
-    let count = disk.read(part.file, place, room)?;
+    let offset = part.offset + window.as_slice().len() as u64;
+    let count = disk.read(part.file, offset, room)?;
     if count == 0 {
         return Ok(false);
     }

@@ -5,7 +5,7 @@ use Rattle.std.proofs.lemmas.List.{append-nil, nil_from_length}
 use Rattle.std.proofs.lemmas.Bool.{cases_lt}
 use Rattle.std.proofs.Math.Seq.{take-append_seam, take-length}
 use Rattle.disk_model.specs.declared.name.FileName.{FileName}
-use Rattle.disk_model.specs.Name.{kind_place}
+use Rattle.disk_model.specs.Name.{kind_index}
 use Rattle.disk_model.specs.Disk.{File, Files, Content, Image, Fits, bytes_of, overlay, exact, ReadsFit}
 use Rattle.disk_model.specs.Laws.{overlay_length, Fits-exact, Fits-Within}
 use Rattle.disk_model.specs.Images.{same_or_other, with_file, with_file-here, Image-with_file}
@@ -62,16 +62,16 @@ nat_eq_or_not m n = elim (cases_lt m n) [
 
 -- Two names of different kinds or numbers differ.
 pub map_isnt_root : (n : ℕ) → map_name n ≢ root_name
-map_isnt_root n is = let wrong : kind_place (map_name n).kind ≡ kind_place root_name.kind = ap (λ (f : FileName). kind_place f.kind) is in absurd (omega (arith, wrong))
+map_isnt_root n is = let wrong : kind_index (map_name n).kind ≡ kind_index root_name.kind = ap (λ (f : FileName). kind_index f.kind) is in absurd (omega (arith, wrong))
 
 pub epoch_isnt_root : (e n : ℕ) → epoch_name e n ≢ root_name
-epoch_isnt_root e n is = let wrong : kind_place (epoch_name e n).kind ≡ kind_place root_name.kind = ap (λ (f : FileName). kind_place f.kind) is in absurd (omega (arith, wrong))
+epoch_isnt_root e n is = let wrong : kind_index (epoch_name e n).kind ≡ kind_index root_name.kind = ap (λ (f : FileName). kind_index f.kind) is in absurd (omega (arith, wrong))
 
 pub epoch_isnt_map : (e n m : ℕ) → epoch_name e n ≢ map_name m
-epoch_isnt_map e n m is = let wrong : kind_place (epoch_name e n).kind ≡ kind_place (map_name m).kind = ap (λ (f : FileName). kind_place f.kind) is in absurd (omega (arith, wrong))
+epoch_isnt_map e n m is = let wrong : kind_index (epoch_name e n).kind ≡ kind_index (map_name m).kind = ap (λ (f : FileName). kind_index f.kind) is in absurd (omega (arith, wrong))
 
 pub epoch_isnt_cache : (e n m : ℕ) → epoch_name e n ≢ cache_name m
-epoch_isnt_cache e n m is = let wrong : kind_place (epoch_name e n).kind ≡ kind_place (cache_name m).kind = ap (λ (f : FileName). kind_place f.kind) is in absurd (omega (arith, wrong))
+epoch_isnt_cache e n m is = let wrong : kind_index (epoch_name e n).kind ≡ kind_index (cache_name m).kind = ap (λ (f : FileName). kind_index f.kind) is in absurd (omega (arith, wrong))
 
 -- A file of bytes has them.
 bytes_of_file : (bytes : List ℕ) → bytes_of (file_of bytes) ≡ bytes
@@ -100,12 +100,12 @@ pub record Grows (root : Root) (epochs : ℕ → List ℕ) (epoch : ℕ) (first 
   pub small : epoch < 64
   pub gen_ : ℕ
   pub name : first.file ≡ epoch_name epoch gen_
-  pub behind : first.place ≡ length (epochs epoch)
+  pub offset_is : first.offset ≡ length (epochs epoch)
   pub from : (first.file ≡ epoch_file_of root epoch) ⊎ ((epochs epoch ≡ []) × ((e : ℕ) → e < 64 → epoch_file_of root e ≢ first.file))
 
 -- The end of a map.
 abbrev pub map_part : Root → List ℕ → Part
-map_part root map = record { file = map_file_of root; place = length map }
+map_part root map = record { file = map_file_of root; offset = length map }
 
 module _ (root : Root) (slot : ℕ) (map : List ℕ) (epochs : ℕ → List ℕ) (epoch : ℕ) (first : Part) (grows : Grows root epochs epoch first) where
   first_isnt_root : first.file ≢ root_name
@@ -139,8 +139,8 @@ module _ (root : Root) (slot : ℕ) (map : List ℕ) (epochs : ℕ → List ℕ)
         let number : e ≡ epoch = first_number e (get_or root.epochs e no_place).gen_ is in
         let o = a.first_front in
         let old : Fronts (epochs e) o.file = each_file k (epoch_file_of root e) (Fronts (epochs e)) fit (λ i left. (on.images i left).epochs_front e below) o.file (subst (λ (n : FileName). Fits (k n).sure o.file) (sym is) o.fits) in
-        let place : first.place ≡ length (epochs e) = grows.behind ∙ ap (λ (n : ℕ). length (epochs n)) (sym number) in
-        subst (λ (n : FileName). Fronts (epochs e) (image n)) (sym is) (fronts_stay (epochs e) first.place o.file (image first.file) place old o.same o.long)
+        let offset : first.offset ≡ length (epochs e) = grows.offset_is ∙ ap (λ (n : ℕ). length (epochs n)) (sym number) in
+        subst (λ (n : FileName). Fronts (epochs e) (image n)) (sym is) (fronts_stay (epochs e) first.offset o.file (image first.file) offset old o.same o.long)
 
   -- The epoch's file reads as its bytes before.
   first_reads : (k : Content) → IsOn root slot map epochs k → bytes_of (k first.file).seen ≡ epochs epoch
@@ -162,7 +162,7 @@ module _ (root : Root) (slot : ℕ) (map : List ℕ) (epochs : ℕ → List ℕ)
     -- The epoch's file then.
     epoch_reads : (k2 first.file).seen ≡ Some (epochs epoch ++ bytes)
     epoch_reads =
-        did.first_file ∙ ap (λ (b : List ℕ). Some b) (ap (overlay first.place bytes) (first_reads k0 on) ∙ (ap (λ (n : ℕ). overlay n bytes (epochs epoch)) grows.behind ∙ exact_grow (epochs epoch) bytes))
+        did.first_file ∙ ap (λ (b : List ℕ). Some b) (ap (overlay first.offset bytes) (first_reads k0 on) ∙ (ap (λ (n : ℕ). overlay n bytes (epochs epoch)) grows.offset_is ∙ exact_grow (epochs epoch) bytes))
 
     -- Files that read so stand for what they stood for before.
     pub reads_old : (image : Files) → ((other : FileName) → other ≢ root_name → image other ≡ (k2 other).seen) → IfThere (HasRoot (spelling root)) (image root_name) → StandsFor root map epochs image

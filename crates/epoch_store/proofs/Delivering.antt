@@ -17,14 +17,14 @@ use Rattle.arch_model.specs.Archives.{Entry, Archive, with_entry, in_epoch}
 use Rattle.mail_commits.specs.Entries.{entry_bytes}
 use Rattle.arch_model.specs.Epochs.{last_commit}
 use Rattle.number_map.specs.Records.{record_bytes}
-use Rattle.epoch_file.specs.Entries.{bytes_behind}
+use Rattle.epoch_file.specs.Entries.{bytes_after}
 use Rattle.epoch_file.specs.declared.entry.NewEntry.{NewEntry}
 use Rattle.epoch_file.specs.Appending.{front_at, appended, entry_of}
 use Rattle.root_slots.specs.declared.root.Place.{Place}
 use Rattle.root_slots.specs.declared.root.Root.{Root}
 use Rattle.root_slots.specs.RootName.{root_name}
 use Rattle.root_slots.specs.Each.{IfThere, EachRoot}
-use Rattle.root_slots.specs.Slots.{Ready, IsOldOrNew, IsCommitted, HasNewRoot, with_root, body_place}
+use Rattle.root_slots.specs.Slots.{Ready, IsOldOrNew, IsCommitted, HasNewRoot, with_root, body_offset}
 use Rattle.root_slots.specs.Spelling.{spelling}
 use Rattle.root_slots.specs.Valid.{IsRoot, RootFits, PlaceFits, PlaceIsValid, no_place}
 use Rattle.epoch_store.specs.declared.entries.StoredEntry.{StoredEntry}
@@ -35,14 +35,14 @@ use Rattle.epoch_store.specs.TwoFiles.{Appending, AreAppended}
 use Rattle.arch_model.specs.Validity.{IsEntry, IsArchive}
 use Rattle.arch_base.specs.Moments.{last_moment}
 use Rattle.epoch_store.specs.Recovery.{record_for, map_bytes, bytes_in, Names}
-use Rattle.epoch_store.specs.Stores.{View, in_file, stored_at, stored_behind, Keeps, IsStoreOf, RecoversEither, Accepts, IsNextPlace, next_sequence, place_of, root_after, IsMessage, HasSizes}
+use Rattle.epoch_store.specs.Stores.{View, in_file, stored_at, stored_after, Keeps, IsStoreOf, RecoversEither, Accepts, IsNextPlace, next_sequence, place_of, root_after, IsMessage, HasSizes}
 use Rattle.epoch_store.proofs.Appends.{nat_eq_or_not, epoch_isnt_root, map_isnt_root, epoch_isnt_map, Grows, map_part, appending_stands, Follows, committing, is_on}
 use Rattle.arch_model.proofs.ValidArchives.{archive_grows, not_before}
 use Rattle.epoch_store.proofs.Growing.{map_grows, bytes_here, bytes_other, stored_more}
 use Rattle.epoch_store.proofs.Mapped.{map_length}
 
 -- An entry has some bytes.
-some_bytes : (parent : Option Id20) (e : Entry) → 0 < length (bytes_behind parent (in_file e))
+some_bytes : (parent : Option Id20) (e : Entry) → 0 < length (bytes_after parent (in_file e))
 unfolding entry_bytes
 some_bytes parent e = omega arith
 
@@ -52,7 +52,7 @@ new_entry a p text moment = record { number = a.next; epoch = p.epoch; text = te
 
 -- The bytes that are appended to its epoch's file.
 abbrev pub new_piece : Archive → NextPlace → List ℕ → ℕ → List ℕ
-new_piece a p text moment = front_at (length (bytes_in a p.epoch)) ++ bytes_behind (last_commit None (in_epoch a.entries p.epoch)) (in_file (new_entry a p text moment))
+new_piece a p text moment = front_at (length (bytes_in a p.epoch)) ++ bytes_after (last_commit None (in_epoch a.entries p.epoch)) (in_file (new_entry a p text moment))
 
 -- The bytes that are appended to the map.
 abbrev pub new_line : Archive → NextPlace → List ℕ → ℕ → List ℕ
@@ -60,7 +60,7 @@ new_line a p text moment = record_bytes (record_for a.next (Some (new_entry a p 
 
 -- The part of the epoch's file.
 abbrev pub epoch_part : NextPlace → Part
-epoch_part p = record { file = epoch_name p.epoch p.gen_; place = p.length }
+epoch_part p = record { file = epoch_name p.epoch p.gen_; offset = p.length }
 
 -- The own id of a text that has one is what is kept of it.
 kept_id : (text : List ℕ) → IsStorageText text → own_id text ≡ Some (unwrap_or (own_id text) [])
@@ -70,12 +70,12 @@ kept_id text storage = by (own_id text) refl storage.id where
   by (Some id) is some = refl
 
 -- No entry has an own id that no kept entry has.
-ids_of : (text : List ℕ) (before es : List Entry) → AllByRecursion (λ (e : StoredEntry). own_id text ≢ Some e.seen.id) (stored_behind before es) → AllByRecursion IsEntry es → AllByRecursion (λ (e : Entry). own_id text ≢ own_id e.text) es
+ids_of : (text : List ℕ) (before es : List Entry) → AllByRecursion (λ (e : StoredEntry). own_id text ≢ Some e.seen.id) (stored_after before es) → AllByRecursion IsEntry es → AllByRecursion (λ (e : Entry). own_id text ≢ own_id e.text) es
 ids_of text before [] free valid = tt
 ids_of text before (e ∷ es) free valid = ((λ is. free.0 (is ∙ kept_id e.text valid.0.text)), ids_of text (before ++ e ∷ []) es free.1 valid.1)
 
 -- No entry has a blob id that no kept entry has.
-blobs_of : (text : List ℕ) (before es : List Entry) → AllByRecursion (λ (e : StoredEntry). blob_id_of text ≢ e.seen.blob) (stored_behind before es) → AllByRecursion (λ (e : Entry). blob_id_of text ≢ blob_id_of e.text) es
+blobs_of : (text : List ℕ) (before es : List Entry) → AllByRecursion (λ (e : StoredEntry). blob_id_of text ≢ e.seen.blob) (stored_after before es) → AllByRecursion (λ (e : Entry). blob_id_of text ≢ blob_id_of e.text) es
 blobs_of text before [] free = tt
 blobs_of text before (e ∷ es) free = (free.0, blobs_of text (before ++ e ∷ []) es free.1)
 
@@ -153,7 +153,7 @@ module _ (v : View) (a : Archive) (p : NextPlace) (text : List ℕ) (moment : �
     small = omega (arith, small);
     gen_ = p.gen_;
     name = refl;
-    behind = next.length_is;
+    offset_is = next.length_is;
     from = by (bytes_in a p.epoch) refl;
   } where
     by : (bytes : List ℕ) → bytes_in a p.epoch ≡ bytes → (epoch_name p.epoch p.gen_ ≡ epoch_file_of v.root p.epoch) ⊎ ((bytes_in a p.epoch ≡ []) × ((e : ℕ) → e < 64 → epoch_file_of v.root e ≢ epoch_name p.epoch p.gen_))
@@ -202,7 +202,7 @@ module _ (v : View) (a : Archive) (p : NextPlace) (text : List ℕ) (moment : �
       some_end : 0 < end_
       some_end =
           let some = some_bytes (last_commit None (in_epoch a.entries p.epoch)) (new_entry a p text moment) in
-          omega (arith, ends, some, length-append (front_at (length (bytes_in a p.epoch))) (bytes_behind (last_commit None (in_epoch a.entries p.epoch)) (in_file (new_entry a p text moment))))
+          omega (arith, ends, some, length-append (front_at (length (bytes_in a p.epoch))) (bytes_after (last_commit None (in_epoch a.entries p.epoch)) (in_file (new_entry a p text moment))))
 
       -- The place of the entry's epoch in the next root.
       new_here : get_or (root_after v.root p end_).epochs p.epoch no_place ≡ record { gen_ = p.gen_; length = end_ }
@@ -236,7 +236,7 @@ module _ (v : View) (a : Archive) (p : NextPlace) (text : List ℕ) (moment : �
           others = λ e below apart. ap (λ (q : Place). epoch_name e q.gen_) (get_or-set_other v.root.epochs p.epoch e (record { gen_ = p.gen_; length = end_ }) no_place apart);
           bytes_here = with_new_here;
           bytes_others = λ e below apart. with_new_other e apart;
-          some = (let more = some_bytes (last_commit None (in_epoch a.entries p.epoch)) (new_entry a p text moment) in omega (arith, more, length-append (front_at (length (bytes_in a p.epoch))) (bytes_behind (last_commit None (in_epoch a.entries p.epoch)) (in_file (new_entry a p text moment)))));
+          some = (let more = some_bytes (last_commit None (in_epoch a.entries p.epoch)) (new_entry a p text moment) in omega (arith, more, length-append (front_at (length (bytes_in a p.epoch))) (bytes_after (last_commit None (in_epoch a.entries p.epoch)) (in_file (new_entry a p text moment)))));
           cache_same = refl;
         }
 
@@ -291,21 +291,21 @@ roots_stay v a first second bytes more one two (Some k) (Some m) fit store did =
     subst (IfThere (Ready (1 - v.slot) (spelling v.root))) (sym same) (store.on.roots (k root_name).seen (fit k refl root_name))
 
 -- The parts of the two files, and what is appended.
-pub map_part_is : (v : View) (a : Archive) (root : Root) (file : FileName) → Keeps v a → root ≡ v.root → file ≡ map_name root.map.gen_ → record { file = file; place = root.map.length } ≡ map_part v.root (map_bytes a)
+pub map_part_is : (v : View) (a : Archive) (root : Root) (file : FileName) → Keeps v a → root ≡ v.root → file ≡ map_name root.map.gen_ → record { file = file; offset = root.map.length } ≡ map_part v.root (map_bytes a)
 map_part_is v a root file keeps same is =
     let long : root.map.length ≡ length (map_bytes a) =
     ap (λ (r : Root). r.map.length) same ∙ (keeps.names.is_root.map_length ∙ (ap (λ (n : ℕ). 28 * (n - 1)) keeps.names.next ∙ sym (map_length a keeps.valid))) in
     let named : file ≡ map_file_of v.root = is ∙ ap map_file_of same in
-    λ i. record { file = named i; place = long i }
+    λ i. record { file = named i; offset = long i }
 
-pub epoch_part_is : (p : NextPlace) (file : FileName) → file ≡ epoch_name p.epoch p.gen_ → record { file = file; place = p.length } ≡ epoch_part p
-epoch_part_is p file is = ap (λ (f : FileName). record { file = f; place = p.length }) is
+pub epoch_part_is : (p : NextPlace) (file : FileName) → file ≡ epoch_name p.epoch p.gen_ → record { file = file; offset = p.length } ≡ epoch_part p
+epoch_part_is p file is = ap (λ (f : FileName). record { file = f; offset = p.length }) is
 
 pub piece_is : (v : View) (a : Archive) (p : NextPlace) (e : NewEntry) → IsMessage p e → IsNextPlace v.root a (next_sequence v.root.sequence) p → appended p.length e ≡ new_piece a p e.text.now e.moment
 piece_is v a p e message next =
-    ap (λ (n : ℕ). front_at n ++ bytes_behind e.parent (entry_of e)) next.length_is
-    ∙ (ap (λ (parent : Option Id20). front_at (length (bytes_in a p.epoch)) ++ bytes_behind parent (entry_of e)) (message.parent ∙ next.parent)
-    ∙ ap (λ (kind : EntryKind). front_at (length (bytes_in a p.epoch)) ++ bytes_behind (last_commit None (in_epoch a.entries p.epoch)) (record { kind = kind; text = e.text.now; moment = e.moment })) message.kind)
+    ap (λ (n : ℕ). front_at n ++ bytes_after e.parent (entry_of e)) next.length_is
+    ∙ (ap (λ (parent : Option Id20). front_at (length (bytes_in a p.epoch)) ++ bytes_after parent (entry_of e)) (message.parent ∙ next.parent)
+    ∙ ap (λ (kind : EntryKind). front_at (length (bytes_in a p.epoch)) ++ bytes_after (last_commit None (in_epoch a.entries p.epoch)) (record { kind = kind; text = e.text.now; moment = e.moment })) message.kind)
 
 pub line_is : (v : View) (a : Archive) (p : NextPlace) (e : NewEntry) (number : ℕ) → Keeps v a → number ≡ v.root.next → record_bytes (record { number = number; epoch = p.epoch; blob = blob_id_of e.text.now }) ≡ new_line a p e.text.now e.moment
 line_is v a p e number keeps is = ap (λ (n : ℕ). record_bytes (record { number = n; epoch = p.epoch; blob = blob_id_of e.text.now })) (is ∙ keeps.names.next)
@@ -317,12 +317,12 @@ reaches at bytes old inside = omega (arith, inside, overlay_length at bytes old)
 -- The root file keeps its size.
 root_size : (slot : ℕ) (body file : List ℕ) → slot < 2 → length body ≡ 1536 → length file ≡ 4096 → length (with_root slot body file) ≡ 4096
 root_size slot body file low whole size =
-    let inner : length (overlay (body_place slot) body file) ≡ 4096 = overlay-size (body_place slot) body file (omega (arith, low, whole, size)) ∙ size in
-    overlay-size slot (1 ∷ []) (overlay (body_place slot) body file) (omega (arith, low, inner)) ∙ inner
+    let inner : length (overlay (body_offset slot) body file) ≡ 4096 = overlay-size (body_offset slot) body file (omega (arith, low, whole, size)) ∙ size in
+    overlay-size slot (1 ∷ []) (overlay (body_offset slot) body file) (omega (arith, low, inner)) ∙ inner
 
 -- The files that the next root names have their sizes.
 pub sizes_after : (v : View) (p : NextPlace) (end_ slot at : ℕ) (entries : List StoredEntry) (piece line body : List ℕ) → p ≡ place_of v.root p.epoch p.parent → p.epoch ≤ 63 → length v.root.epochs ≡ 64 → slot < 2 → length body ≡ 1536 → end_ ≡ p.length + length piece → length line ≡ 28
-    → (k0 k2 k3 : Option Content) → WhereTold (HasSizes v) k0 → WhereTold (IsAtMostLength (epoch_name p.epoch p.gen_) p.length) k0 → Told (AreAppended (epoch_part p) piece (record { file = map_file_of v.root; place = v.root.map.length }) line) k0 k2 → Told IsCommitted k2 k3 → Told (HasNewRoot slot body) k2 k3
+    → (k0 k2 k3 : Option Content) → WhereTold (HasSizes v) k0 → WhereTold (IsAtMostLength (epoch_name p.epoch p.gen_) p.length) k0 → Told (AreAppended (epoch_part p) piece (record { file = map_file_of v.root; offset = v.root.map.length }) line) k0 k2 → Told IsCommitted k2 k3 → Told (HasNewRoot slot body) k2 k3
     → WhereTold (HasSizes (record { root = root_after v.root p end_; slot = at; entries = entries })) k3
 sizes_after v p end_ slot at entries piece line body is small count low whole ends size None None None sizes inside did committed rooted = tt
 sizes_after v p end_ slot at entries piece line body is small count low whole ends size None None (Some n) sizes inside did committed rooted = absurd committed

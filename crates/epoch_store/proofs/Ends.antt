@@ -16,7 +16,7 @@ use Rattle.epoch_store.specs.declared.next.End.{End}
 use Rattle.arch_model.specs.Validity.{Rise}
 use Rattle.arch_model.proofs.ValidArchives.{none_later, all_weaker}
 use Rattle.epoch_store.specs.Recovery.{bytes_in}
-use Rattle.epoch_store.specs.Stores.{View, Keeps, IsEnd, IsNextPlace, next_sequence, place_of, stored_at, stored_behind}
+use Rattle.epoch_store.specs.Stores.{View, Keeps, IsEnd, IsNextPlace, next_sequence, place_of, stored_at, stored_after}
 use Rattle.epoch_store.proofs.Growing.{in_epoch-here, stored_more}
 
 -- A list is empty, or some items and a last one.
@@ -64,10 +64,10 @@ last_commit_is parent (f ∷ es) e = last_commit_is (Some (commit_id message_kin
 last_item : {X : Type 0} (xs : List X) (x : X) → slice_get (xs ++ x ∷ []) (length (xs ++ x ∷ []) - 1) ≡ Some x
 last_item {X} xs x =
     let place : length (xs ++ x ∷ []) - 1 ≡ length xs = omega (arith, length-append xs (x ∷ [])) in
-    ap (slice_get (xs ++ x ∷ [])) place ∙ behind xs where
-      behind : (ys : List X) → slice_get (ys ++ x ∷ []) (length ys) ≡ Some x
-      behind [] = refl
-      behind (y ∷ ys) = behind ys
+    ap (slice_get (xs ++ x ∷ [])) place ∙ after xs where
+      after : (ys : List X) → slice_get (ys ++ x ∷ []) (length ys) ≡ Some x
+      after [] = refl
+      after (y ∷ ys) = after ys
 
 -- Two items that are equal.
 of_some : {X : Type 0} {x y : X} → Some x ≡ Some y → x ≡ y
@@ -108,9 +108,9 @@ gen_new v a epoch keeps small none =
 -- The end of an archive without entries.
 pub end_of_none : (v : View) (a : Archive) → Keeps v a → v.entries ≡ [] → IsEnd a (record { epoch = 0; parent = None })
 end_of_none v a keeps none = let empty : a.entries ≡ [] = of_none a.entries (sym keeps.kept ∙ none) in record { epoch = sym (ap last_epoch empty); parent = sym (ap (λ (es : List Entry). last_commit None (in_epoch es (last_epoch es))) empty) } where
-  of_none : (es : List Entry) → stored_behind [] es ≡ [] → es ≡ []
+  of_none : (es : List Entry) → stored_after [] es ≡ [] → es ≡ []
   of_none [] is = refl
-  of_none (e ∷ es) is = let wrong : length (stored_behind [] (e ∷ es)) ≡ 0 = ap length is in absurd (omega (arith, wrong))
+  of_none (e ∷ es) is = let wrong : length (stored_after [] (e ∷ es)) ≡ 0 = ap length is in absurd (omega (arith, wrong))
 
 -- The end of an archive with entries.
 pub end_of_last : (v : View) (a : Archive) → Keeps v a → (last : StoredEntry) → slice_get v.entries (length v.entries - 1) ≡ Some last → IsEnd a (record { epoch = last.epoch; parent = Some last.seen.commit })
@@ -120,7 +120,7 @@ end_of_last v a keeps last is = elim (last_of a.entries) [
 ] where
   nothing : a.entries ≡ [] → ⊥
   nothing none =
-      let empty : v.entries ≡ [] = keeps.kept ∙ ap (stored_behind []) none in
+      let empty : v.entries ≡ [] = keeps.kept ∙ ap (stored_after []) none in
       let wrong : None ≡ Some last = sym (ap (λ (es : List StoredEntry). slice_get es (length es - 1)) empty) ∙ is in
       cc
 
@@ -128,8 +128,8 @@ end_of_last v a keeps last is = elim (last_of a.entries) [
   ends some =
       let es = some.front in
       let e = some.item in
-      let kept : v.entries ≡ stored_behind [] es ++ stored_at es e ∷ [] = keeps.kept ∙ (ap (stored_behind []) some.is ∙ stored_more [] es e) in
-      let found : slice_get v.entries (length v.entries - 1) ≡ Some (stored_at es e) = ap (λ (l : List StoredEntry). slice_get l (length l - 1)) kept ∙ last_item (stored_behind [] es) (stored_at es e) in
+      let kept : v.entries ≡ stored_after [] es ++ stored_at es e ∷ [] = keeps.kept ∙ (ap (stored_after []) some.is ∙ stored_more [] es e) in
+      let found : slice_get v.entries (length v.entries - 1) ≡ Some (stored_at es e) = ap (λ (l : List StoredEntry). slice_get l (length l - 1)) kept ∙ last_item (stored_after [] es) (stored_at es e) in
       let same : last ≡ stored_at es e = of_some (sym is ∙ found) in
       let greatest = last_is_greatest 1 0 es e (subst (Rise 1 0) some.is keeps.valid.order) in
       let top : last_epoch a.entries ≡ e.epoch = ap last_epoch some.is ∙ greatest.0 in
@@ -157,9 +157,9 @@ next_here v a end_ keeps is small takes = record {
       rw (shorter (last_epoch a.entries) (length (bytes_in a (last_epoch a.entries))) a.config.limit short) refl
 
 -- Where the next entry is written if it is in a new epoch.
-pub next_behind : (v : View) (a : Archive) (end_ : End) → Keeps v a → IsEnd a end_ → end_.epoch < 63 → v.root.config.limit ≤ (get_or v.root.epochs end_.epoch no_place).length
+pub next_after : (v : View) (a : Archive) (end_ : End) → Keeps v a → IsEnd a end_ → end_.epoch < 63 → v.root.config.limit ≤ (get_or v.root.epochs end_.epoch no_place).length
     → IsNextPlace v.root a (next_sequence v.root.sequence) (place_of v.root (end_.epoch + 1) None)
-next_behind v a end_ keeps is small full =
+next_after v a end_ keeps is small full =
     let below : end_.epoch + 1 ≤ 63 = omega (arith, small) in
     let top : last_epoch a.entries < 63 = omega (arith, small, is.epoch) in
     let long : a.config.limit ≤ length (bytes_in a (last_epoch a.entries)) =

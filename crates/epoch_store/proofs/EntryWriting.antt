@@ -40,7 +40,7 @@ module _ (v : View) (a : Archive) (p : NextPlace) (e : NewEntry) (k0 : Option Co
   -- From what was written to the files of these names.
   pub is_put : (k2 : Option Content) (root next : Root) (slot : ℕ) (entries : List StoredEntry) (epoch map : FileName) (written : Written) → record { root = root; slot = slot; entries = entries } ≡ v → epoch ≡ epoch_name p.epoch p.gen_ → map ≡ map_name root.map.gen_
       → IsMessage p e → ReadsFit k0 → written ≡ written_of p.length e → next ≡ root_after v.root p written.end
-      → Told (AreAppended (record { file = epoch; place = p.length }) (appended p.length e) (record { file = map; place = root.map.length }) (record_bytes (record { number = root.next; epoch = epoch.number; blob = blob_id_of e.text.now }))) k0 k2
+      → Told (AreAppended (record { file = epoch; offset = p.length }) (appended p.length e) (record { file = map; offset = root.map.length }) (record_bytes (record { number = root.next; epoch = epoch.number; blob = blob_id_of e.text.now }))) k0 k2
       → IsPut v a p e k0 k2 slot next written
   is_put k2 root next slot entries epoch map written view_is epoch_is map_is message fit written_is next_is appends =
       let keeps = store_keeps v a k0 store in
@@ -50,8 +50,8 @@ module _ (v : View) (a : Archive) (p : NextPlace) (e : NewEntry) (k0 : Option Co
       let second = map_part_is v a root map keeps root_is map_is in
       let piece = piece_is v a p e message goes.place in
       let line = λ (number : ℕ). record_bytes (record { number = number; epoch = p.epoch; blob = blob_id_of text }) in
-      let named : Told (AreAppended (epoch_part p) (appended p.length e) (record { file = map; place = root.map.length }) (line root.next)) k0 k2 =
-      subst (λ (q : FileName). Told (AreAppended (record { file = q; place = p.length }) (appended p.length e) (record { file = map; place = root.map.length }) (record_bytes (record { number = root.next; epoch = q.number; blob = blob_id_of text }))) k0 k2) epoch_is appends in
+      let named : Told (AreAppended (epoch_part p) (appended p.length e) (record { file = map; offset = root.map.length }) (line root.next)) k0 k2 =
+      subst (λ (q : FileName). Told (AreAppended (record { file = q; offset = p.length }) (appended p.length e) (record { file = map; offset = root.map.length }) (record_bytes (record { number = root.next; epoch = q.number; blob = blob_id_of text }))) k0 k2) epoch_is appends in
       let mapped : Told (AreAppended (epoch_part p) (appended p.length e) (map_part v.root (map_bytes a)) (line root.next)) k0 k2 =
       subst (λ (q : Part). Told (AreAppended (epoch_part p) (appended p.length e) q (line root.next)) k0 k2) second named in
       let pieced : Told (AreAppended (epoch_part p) (new_piece a p text e.moment) (map_part v.root (map_bytes a)) (line root.next)) k0 k2 =
@@ -68,7 +68,7 @@ module _ (v : View) (a : Archive) (p : NextPlace) (e : NewEntry) (k0 : Option Co
   module _ {D : Type 0} (moment : D → ℕ) (left_since : D → ℕ → Files → Type 0) (disk mid : D) (small : p.epoch ≤ 63) (in_time : e.moment ≤ last_moment) (fit : ReadsFit k0) where
     -- What a crash leaves while the entry is written.
     pub putting_leaves : (root : Root) (slot : ℕ) (entries : List StoredEntry) (epoch map : FileName) → record { root = root; slot = slot; entries = entries } ≡ v → epoch ≡ epoch_name p.epoch p.gen_ → map ≡ map_name root.map.gen_
-        → LeavesOnly moment left_since disk mid (Appending (record { file = epoch; place = p.length }) (record { file = map; place = root.map.length }) k0)
+        → LeavesOnly moment left_since disk mid (Appending (record { file = epoch; offset = p.length }) (record { file = map; offset = root.map.length }) k0)
         → LeavesOnly moment left_since disk mid (RecoversEither a (with_message a p e))
     putting_leaves root slot entries epoch map view_is epoch_is map_is put =
         let keeps = store_keeps v a k0 store in
@@ -76,7 +76,7 @@ module _ (v : View) (a : Archive) (p : NextPlace) (e : NewEntry) (k0 : Option Co
         let second = map_part_is v a root map keeps (ap (λ (w : View). w.root) view_is) map_is in
         let named : LeavesOnly moment left_since disk mid (Appending (epoch_part p) (map_part v.root (map_bytes a)) k0) =
         subst (λ (q : Part). LeavesOnly moment left_since disk mid (Appending (epoch_part p) q k0)) second
-        (subst (λ (q : Part). LeavesOnly moment left_since disk mid (Appending q (record { file = map; place = root.map.length }) k0)) first put) in
+        (subst (λ (q : Part). LeavesOnly moment left_since disk mid (Appending q (record { file = map; offset = root.map.length }) k0)) first put) in
         weaker moment left_since disk mid (Appending (epoch_part p) (map_part v.root (map_bytes a)) k0) (RecoversEither a (with_message a p e)) named
         (λ image. during_put v a p e.text.now e.moment keeps goes.place small goes.room goes.accepts in_time k0 image fit store)
 

@@ -51,37 +51,37 @@ pub taken : (root : Root) (epoch : ℕ) (old new : Joined) (seen : List Seen) �
 taken root epoch old new seen takes files = λ rs fits up walked. read_more root files rs epoch old new seen up walked takes
 
 -- An epoch with an entry that could not be joined is damaged.
-pub not_taken : EntriesDiffer → (root : Root) (epoch place : ℕ) (old : Joined) (seen : List Seen) (file : FileName) → epoch ≤ 63 → file ≡ epoch_file_of root epoch → TakesEpoch old epoch seen (Err (join.Damaged place)) → (files : Files)
-    → ReadsSeen root epoch old seen (Err (Damaged file place)) files
-not_taken differ root epoch place old seen file less is takes files =
-    λ rs fits up walked. (epoch, is, read_stopped differ root files rs epoch place old seen (short root epoch fits less) (omega (arith, less)) up walked takes)
+pub not_taken : EntriesDiffer → (root : Root) (epoch offset : ℕ) (old : Joined) (seen : List Seen) (file : FileName) → epoch ≤ 63 → file ≡ epoch_file_of root epoch → TakesEpoch old epoch seen (Err (join.Damaged offset)) → (files : Files)
+    → ReadsSeen root epoch old seen (Err (Damaged file offset)) files
+not_taken differ root epoch offset old seen file less is takes files =
+    λ rs fits up walked. (epoch, is, read_stopped differ root files rs epoch offset old seen (short root epoch fits less) (omega (arith, less)) up walked takes)
 
 -- The offset at which a walk ended is that of the damage, if all entries before it were joined.
-pub left_taken : EpochsDiffer → (root : Root) (epoch place : ℕ) (old new : Joined) (seen : List Seen) (file : FileName) → epoch ≤ 63 → 8 < place → file ≡ epoch_file_of root epoch → TakesEpoch old epoch seen (Ok new) → (files : Files)
-    → StopsSeen root epoch old place seen (Damaged file place) files
-left_taken differ root epoch place old new seen file less high is takes files =
-    λ rs fits up damaged walked. (epoch, is, read_left differ root files rs epoch place old new seen (short root epoch fits less) (omega (arith, less)) high up damaged walked takes)
+pub left_taken : EpochsDiffer → (root : Root) (epoch offset : ℕ) (old new : Joined) (seen : List Seen) (file : FileName) → epoch ≤ 63 → 8 < offset → file ≡ epoch_file_of root epoch → TakesEpoch old epoch seen (Ok new) → (files : Files)
+    → StopsSeen root epoch old offset seen (Damaged file offset) files
+left_taken differ root epoch offset old new seen file less high is takes files =
+    λ rs fits up damaged walked. (epoch, is, read_left differ root files rs epoch offset old new seen (short root epoch fits less) (omega (arith, less)) high up damaged walked takes)
 
 -- Otherwise it is that of the first entry that could not be joined.
-pub left_not_taken : EntriesDiffer → EpochsDiffer → (root : Root) (epoch left place : ℕ) (old : Joined) (seen : List Seen) (file : FileName) → epoch ≤ 63 → 8 < left → file ≡ epoch_file_of root epoch → TakesEpoch old epoch seen (Err (join.Damaged place))
-    → (files : Files) → StopsSeen root epoch old left seen (Damaged file place) files
-left_not_taken entry differ root epoch left place old seen file less high is takes files =
-    λ rs fits up damaged walked. (epoch, is, read_left_stopped entry differ root files rs epoch left place old seen (short root epoch fits less) (omega (arith, less)) high up damaged walked takes)
+pub left_not_taken : EntriesDiffer → EpochsDiffer → (root : Root) (epoch left offset : ℕ) (old : Joined) (seen : List Seen) (file : FileName) → epoch ≤ 63 → 8 < left → file ≡ epoch_file_of root epoch → TakesEpoch old epoch seen (Err (join.Damaged offset))
+    → (files : Files) → StopsSeen root epoch old left seen (Damaged file offset) files
+left_not_taken entry differ root epoch left offset old seen file less high is takes files =
+    λ rs fits up damaged walked. (epoch, is, read_left_stopped entry differ root files rs epoch left offset old seen (short root epoch fits less) (omega (arith, less)) high up damaged walked takes)
 
 -- An epoch in which a walk ended at the front is damaged there.
-pub front_left : (root : Root) (epoch place : ℕ) (old : Joined) (file : FileName) → epoch ≤ 63 → place ≤ 8 → file ≡ epoch_file_of root epoch → (files : Files) → StopsEpoch root epoch old place (Damaged file place) files
-front_left root epoch place old file less low is files = λ rs fits some up damaged. (epoch, is, read_front root files rs epoch place old (omega (arith, less)) some low up damaged)
+pub front_left : (root : Root) (epoch offset : ℕ) (old : Joined) (file : FileName) → epoch ≤ 63 → offset ≤ 8 → file ≡ epoch_file_of root epoch → (files : Files) → StopsEpoch root epoch old offset (Damaged file offset) files
+front_left root epoch offset old file less low is files = λ rs fits some up damaged. (epoch, is, read_front root files rs epoch offset old (omega (arith, less)) some low up damaged)
 
 -- The entries before the offset at which a walk ended were joined.
-pub left_seen : (root : Root) (epoch place : ℕ) (old : Joined) (seen : List Seen) (refusal : OpenRefusal) (files : Files) → StopsSeen root epoch old place seen refusal files
-    → IsEpoch place (bytes_of (files (epoch_file_of root epoch))) seen → StopsEpoch root epoch old place refusal files
-left_seen root epoch place old seen refusal files stops walked = λ rs fits some up damaged. stops rs fits up damaged walked
+pub left_seen : (root : Root) (epoch offset : ℕ) (old : Joined) (seen : List Seen) (refusal : OpenRefusal) (files : Files) → StopsSeen root epoch old offset seen refusal files
+    → IsEpoch offset (bytes_of (files (epoch_file_of root epoch))) seen → StopsEpoch root epoch old offset refusal files
+left_seen root epoch offset old seen refusal files stops walked = λ rs fits some up damaged. stops rs fits up damaged walked
 
 -- A second walk doesn't end before the offset at which the first one ended.
-pub left_twice : EntriesDiffer → (root : Root) (epoch place other : ℕ) (old : Joined) (refusal : OpenRefusal) (files : Files) → epoch ≤ 63 → 8 < place → IsDamagedAt place (bytes_of (files (epoch_file_of root epoch))) other
-    → StopsEpoch root epoch old place refusal files
-left_twice differ root epoch place other old refusal files less high again =
-    λ rs fits some up damaged. absurd (left_undamaged differ (named_length root epoch) place other (bytes_of (files (epoch_file_of root epoch))) (short root epoch fits less) high damaged again)
+pub left_twice : EntriesDiffer → (root : Root) (epoch offset other : ℕ) (old : Joined) (refusal : OpenRefusal) (files : Files) → epoch ≤ 63 → 8 < offset → IsDamagedAt offset (bytes_of (files (epoch_file_of root epoch))) other
+    → StopsEpoch root epoch old offset refusal files
+left_twice differ root epoch offset other old refusal files less high again =
+    λ rs fits some up damaged. absurd (left_undamaged differ (named_length root epoch) offset other (bytes_of (files (epoch_file_of root epoch))) (short root epoch fits less) high damaged again)
 
 -- An epoch of length 0 is read.
 pub empty_read : (root : Root) (epoch : ℕ) (old : Joined) → named_length root epoch ≡ 0 → (files : Files) → ReadsEpoch root epoch old (Ok old) files
@@ -93,9 +93,9 @@ pub seen_read : (root : Root) (epoch : ℕ) (old : Joined) (seen : List Seen) (r
 seen_read root epoch old seen result files reads walked = λ rs fits up. reads rs fits up walked
 
 -- An epoch in which a walk ended early.
-pub left_read : (root : Root) (epoch place : ℕ) (old : Joined) (refusal : OpenRefusal) (files : Files) → 0 < named_length root epoch → StopsEpoch root epoch old place refusal files
-    → IsDamagedAt (named_length root epoch) (bytes_of (files (epoch_file_of root epoch))) place → ReadsEpoch root epoch old (Err refusal) files
-left_read root epoch place old refusal files some stops damaged = λ rs fits up. stops rs fits some up damaged
+pub left_read : (root : Root) (epoch offset : ℕ) (old : Joined) (refusal : OpenRefusal) (files : Files) → 0 < named_length root epoch → StopsEpoch root epoch old offset refusal files
+    → IsDamagedAt (named_length root epoch) (bytes_of (files (epoch_file_of root epoch))) offset → ReadsEpoch root epoch old (Err refusal) files
+left_read root epoch offset old refusal files some stops damaged = λ rs fits up. stops rs fits some up damaged
 
 -- The epochs so far are read.
 pub more_read : (root : Root) (epoch : ℕ) (old now new : Joined) (files : Files) → ((rs : List Record) → RootFits root → IsReadUpTo root files rs 0 old → IsReadUpTo root files rs epoch now) → ReadsEpoch root epoch now (Ok new) files
@@ -112,14 +112,14 @@ pub ended : (root : Root) (joined : Joined) (kept : Vec StoredEntry) → Finishe
 ended root joined kept ends = λ rs files up. read_all root files rs joined kept up ends
 
 pub missing : (root : Root) (joined : Joined) (refusal : Unmatched) (file : FileName) (at : ℕ) → file ≡ epoch_file_of root refusal.epoch → at ≡ named_length root refusal.epoch → Finishes joined (Err refusal) → EndsWith root joined (Err (Damaged file at))
-missing root joined refusal file at is place ends =
-    λ rs files up. (refusal.epoch, is, subst (λ (n : ℕ). IsFirstDamage root files rs refusal.epoch n) (sym place) (read_missing root files rs joined refusal up ends))
+missing root joined refusal file at is offset ends =
+    λ rs files up. (refusal.epoch, is, subst (λ (n : ℕ). IsFirstDamage root files rs refusal.epoch n) (sym offset) (read_missing root files rs joined refusal up ends))
 
 -- Nothing is read yet.
 pub begun : (root : Root) (files : Files) (rs : List Record) (v : Joined) → HasRecords root files rs → v.records ≡ messages rs → v.entries ≡ [] → IsReadUpTo root files rs 0 v
 begun root files rs v has records entries = record {
   entries = [];
-  behind = messages rs;
+  after = messages rs;
   holds = record { numbered = has.begins.valid; records = records; entries_are = entries; first = record { valid = tt; order = tt; ids = tt; blobs = tt; records = refl } };
   whole = record { below = tt; lengths = λ e less. absurd (omega (arith, less)); fronts = λ e less. absurd (omega (arith, less)) };
 }

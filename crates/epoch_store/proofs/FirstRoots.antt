@@ -10,7 +10,7 @@ use Rattle.disk_model.specs.Laws.{SameOutside, overlay-torn, overlay-size, overl
 use Rattle.disk_model.specs.Synced.{Writing, IsWritten}
 use Rattle.root_slots.specs.RootName.{root_name}
 use Rattle.root_slots.specs.Each.{IfThere, EachRoot, part_stays, each_writing, each_written, elsewhere_before}
-use Rattle.root_slots.specs.Slots.{HasRootSize, gate, body_place, body_at, sequence_of, Current, HasRoot, Ready, IsShut, IsShutFile, IsCommitted}
+use Rattle.root_slots.specs.Slots.{HasRootSize, gate, body_offset, body_at, sequence_of, Current, HasRoot, Ready, IsShut, IsShutFile, IsCommitted}
 use Rattle.epoch_store.specs.First.{AreZeros, ShutOrFirst}
 use Rattle.epoch_store.proofs.Appends.{nat_eq_or_not}
 
@@ -37,7 +37,7 @@ are_zero n file is count = record {
   zero_at n i = elim (cases_lt i n) [ inl below ↦ get_or-replicate n i 0 0 below | inr past ↦ get_or_past (replicate n 0) i 0 (omega (arith, past, length-replicate {A = ℕ} n 0)) ]
 
 -- The gates of zeros are shut, and stay so while a body is written.
-zeros_torn : (file after : List ℕ) → IsZero file → SameOutside (body_place 0) 1536 file after → IsShut after
+zeros_torn : (file after : List ℕ) → IsZero file → SameOutside (body_offset 0) 1536 file after → IsShut after
 zeros_torn file after zeros same =
     let first : gate after 0 ≡ 0 = same.bytes 0 (inl (omega arith)) ∙ zeros.bytes 0 in
     let second : gate after 1 ≡ 0 = same.bytes 1 (inl (omega arith)) ∙ zeros.bytes 1 in
@@ -51,31 +51,31 @@ zero_sequence body long zeros =
     ap (from_be_bytes w64) front
 
 -- A root that is written to a file of zeros.
-zeros_filled : (body file : List ℕ) → length body ≡ 1536 → IsZero file → HasFirst body (overlay (body_place 0) body file)
+zeros_filled : (body file : List ℕ) → length body ≡ 1536 → IsZero file → HasFirst body (overlay (body_offset 0) body file)
 unfolding body_at
 zeros_filled body file whole zeros =
     let size = zeros.size in
-    let inside : body_place 0 + length body ≤ length file = omega (arith, size, whole) in
-    let at : body_place 0 ≤ length file = omega (arith, size) in
-    let long = overlay-size (body_place 0) body file inside in
-    let kept = λ (i : ℕ) (apart : (i < body_place 0) ⊎ (body_place 0 + length body ≤ i)). overlay_kept (body_place 0) body file i at apart ∙ zeros.bytes i in
+    let inside : body_offset 0 + length body ≤ length file = omega (arith, size, whole) in
+    let at : body_offset 0 ≤ length file = omega (arith, size) in
+    let long = overlay-size (body_offset 0) body file inside in
+    let kept = λ (i : ℕ) (apart : (i < body_offset 0) ⊎ (body_offset 0 + length body ≤ i)). overlay_kept (body_offset 0) body file i at apart ∙ zeros.bytes i in
     record {
       size = long ∙ size;
       shut = kept 0 (inl (omega arith));
       other = kept 1 (inl (omega arith));
-      holds = ap (λ (n : ℕ). take n (drop (body_place 0) (overlay (body_place 0) body file))) (sym whole) ∙ overlay-inside (body_place 0) body file at;
-      oldest = zero_sequence (take 1536 (drop (body_place 1) (overlay (body_place 0) body file))) (omega (arith, long, size, length-take {A = ℕ}, length-drop {A = ℕ}))
+      holds = ap (λ (n : ℕ). take n (drop (body_offset 0) (overlay (body_offset 0) body file))) (sym whole) ∙ overlay-inside (body_offset 0) body file at;
+      oldest = zero_sequence (take 1536 (drop (body_offset 1) (overlay (body_offset 0) body file))) (omega (arith, long, size, length-take {A = ℕ}, length-drop {A = ℕ}))
           (λ i. rest i (cases_lt i 1536));
     } where
-      rest : (i : ℕ) → (i < 1536) ⊎ (1536 ≤ i) → get_or (take 1536 (drop (body_place 1) (overlay (body_place 0) body file))) i 0 ≡ 0
-      rest i (inl low) = get_or-take 1536 (drop (body_place 1) (overlay (body_place 0) body file)) i 0 low
-          ∙ (get_or-drop (body_place 1) (overlay (body_place 0) body file) i 0 ∙ (overlay_kept (body_place 0) body file (body_place 1 + i) (let size = zeros.size in omega (arith, size)) (inr (omega (arith, whole))) ∙ zeros.bytes (body_place 1 + i)))
-      rest i (inr high) = get_or_past (take 1536 (drop (body_place 1) (overlay (body_place 0) body file))) i 0 (omega (arith, high, length-take {A = ℕ}))
+      rest : (i : ℕ) → (i < 1536) ⊎ (1536 ≤ i) → get_or (take 1536 (drop (body_offset 1) (overlay (body_offset 0) body file))) i 0 ≡ 0
+      rest i (inl low) = get_or-take 1536 (drop (body_offset 1) (overlay (body_offset 0) body file)) i 0 low
+          ∙ (get_or-drop (body_offset 1) (overlay (body_offset 0) body file) i 0 ∙ (overlay_kept (body_offset 0) body file (body_offset 1 + i) (let size = zeros.size in omega (arith, size)) (inr (omega (arith, whole))) ∙ zeros.bytes (body_offset 1 + i)))
+      rest i (inr high) = get_or_past (take 1536 (drop (body_offset 1) (overlay (body_offset 0) body file))) i 0 (omega (arith, high, length-take {A = ℕ}))
 
 -- The bodies stay.
 body_kept : (slot : ℕ) (a b : List ℕ) → SameOutside 0 1 a b → body_at b slot ≡ body_at a slot
 unfolding body_at
-body_kept slot a b same = part_stays 0 1 a b (body_place slot) 1536 same (inr (omega arith))
+body_kept slot a b same = part_stays 0 1 a b (body_offset slot) 1536 same (inr (omega arith))
 
 -- A byte that is written at the front.
 overlay-byte : (value : ℕ) (old : List ℕ) → 0 < length old → get_or (overlay 0 (value ∷ []) old) 0 0 ≡ value
@@ -126,25 +126,25 @@ shut_there (Some file) there = there
 
 module _ (body : List ℕ) (whole : length body ≡ 1536) where
   -- While the body is written.
-  pub during_body : (k : Option Content) (image : Files) → ReadsFit k → WhereTold HasRootSize k → EachRoot AreZeros k → Writing root_name (body_place 0) 1536 k image → ShutOrFirst body k image
+  pub during_body : (k : Option Content) (image : Files) → ReadsFit k → WhereTold HasRootSize k → EachRoot AreZeros k → Writing root_name (body_offset 0) 1536 k image → ShutOrFirst body k image
   during_body None image fit size each writing = absurd each
   during_body (Some k) image fit size each writing = record {
-    root = inl (shut_there (image root_name) (each_writing AreZeros IsShut (body_place 0) 1536 k image fit (omega (arith, size)) (omega arith) each (λ a b zeros same. zeros_torn a b (are_zero 4096 a zeros refl) same) writing));
+    root = inl (shut_there (image root_name) (each_writing AreZeros IsShut (body_offset 0) 1536 k image fit (omega (arith, size)) (omega arith) each (λ a b zeros same. zeros_torn a b (are_zero 4096 a zeros refl) same) writing));
     elsewhere = writing.elsewhere;
   }
 
   -- After the body is written.
-  pub body_filled : (k m : Option Content) → ReadsFit k → EachRoot AreZeros k → Told (IsWritten root_name (body_place 0) body) k m → EachRoot (HasFirst body) m
-  body_filled k m fit each written = each_written AreZeros (HasFirst body) (body_place 0) body k m fit each (λ a zeros. zeros_filled body a whole (are_zero 4096 a zeros refl)) written
+  pub body_filled : (k m : Option Content) → ReadsFit k → EachRoot AreZeros k → Told (IsWritten root_name (body_offset 0) body) k m → EachRoot (HasFirst body) m
+  body_filled k m fit each written = each_written AreZeros (HasFirst body) (body_offset 0) body k m fit each (λ a zeros. zeros_filled body a whole (are_zero 4096 a zeros refl)) written
 
   -- While the gate is opened.
-  pub during_gate : (k m : Option Content) (image : Files) → ReadsFit k → ReadsFit m → WhereTold HasRootSize m → Told (IsWritten root_name (body_place 0) body) k m → EachRoot (HasFirst body) m → Writing root_name 0 1 m image → ShutOrFirst body k image
+  pub during_gate : (k m : Option Content) (image : Files) → ReadsFit k → ReadsFit m → WhereTold HasRootSize m → Told (IsWritten root_name (body_offset 0) body) k m → EachRoot (HasFirst body) m → Writing root_name 0 1 m image → ShutOrFirst body k image
   during_gate None None image fit fit2 size written each writing = tt
   during_gate None (Some m) image fit fit2 size written each writing = absurd written
   during_gate (Some k) None image fit fit2 size written each writing = absurd written
   during_gate (Some k) (Some m) image fit fit2 size written each writing = record {
     root = which body (image root_name) (each_writing (HasFirst body) (EitherFirst body) 0 1 m image fit2 (omega (arith, size)) (omega arith) each (λ a b first same. first_torn body a b first same) writing);
-    elsewhere = λ other apart. elsewhere_before (body_place 0) body k m image fit written other apart (writing.elsewhere other apart);
+    elsewhere = λ other apart. elsewhere_before (body_offset 0) body k m image fit written other apart (writing.elsewhere other apart);
   }
 
   -- After the gate is opened.
@@ -152,14 +152,14 @@ module _ (body : List ℕ) (whole : length body ≡ 1536) where
   gate_opened m n fit newer each written = each_written (HasFirst body) (Ready 1 body) 0 (1 ∷ []) m n fit each (λ a first. first_ready body a first newer) written
 
   -- The root file keeps its size.
-  pub size_filled : (k m : Option Content) → WhereTold HasRootSize k → Told (IsWritten root_name (body_place 0) body) k m → WhereTold HasRootSize m
+  pub size_filled : (k m : Option Content) → WhereTold HasRootSize k → Told (IsWritten root_name (body_offset 0) body) k m → WhereTold HasRootSize m
   size_filled None None size written = tt
   size_filled None (Some m) size written = absurd written
   size_filled (Some k) None size written = absurd written
-  size_filled (Some k) (Some m) size written = ap (λ (f : File). length (bytes_of f)) written.here ∙ (overlay-size (body_place 0) body (bytes_of (k root_name).seen) (omega (arith, size, whole)) ∙ size)
+  size_filled (Some k) (Some m) size written = ap (λ (f : File). length (bytes_of f)) written.here ∙ (overlay-size (body_offset 0) body (bytes_of (k root_name).seen) (omega (arith, size, whole)) ∙ size)
 
 -- The other files after both writes.
-pub first_committed : (body : List ℕ) (k m n : Option Content) → Told (IsWritten root_name (body_place 0) body) k m → Told (IsWritten root_name 0 (1 ∷ [])) m n → Told IsCommitted k n
+pub first_committed : (body : List ℕ) (k m n : Option Content) → Told (IsWritten root_name (body_offset 0) body) k m → Told (IsWritten root_name 0 (1 ∷ [])) m n → Told IsCommitted k n
 first_committed body None None None a b = tt
 first_committed body None None (Some n) a b = absurd b
 first_committed body None (Some m) n a b = absurd a

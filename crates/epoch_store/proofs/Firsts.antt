@@ -13,8 +13,8 @@ use Rattle.arch_model.specs.Archives.{Entry}
 use Rattle.number_map.specs.declared.line.Record.{Record}
 use Rattle.number_map.specs.Records.{AreRecordsFrom}
 use Rattle.arch_model.specs.Validity.{IsEntry, IdsDiffer, BlobsAgree}
-use Rattle.arch_model.proofs.ValidArchives.{all_behind, rise_more, ids_more, blobs_more}
-use Rattle.epoch_store.specs.Stores.{stored_behind}
+use Rattle.arch_model.proofs.ValidArchives.{all_after, rise_more, ids_more, blobs_more}
+use Rattle.epoch_store.specs.Stores.{stored_after}
 use Rattle.epoch_store.specs.Damage.{messages, has_message, record_of, AreFirst}
 use Rattle.epoch_store.specs.Joined.{has_id, has_blob, AreBefore}
 
@@ -57,15 +57,15 @@ there None d some = absurd (let wrong : false ≡ true = some in cc)
 there (Some x) d some = refl
 
 -- An own id that isn't kept is that of no entry.
-pub free_ids : (before es : List Entry) (text : List ℕ) → has_id (stored_behind before es) (unwrap_or (own_id text) []) ≡ false → AllByRecursion (λ (e : Entry). own_id text ≢ own_id e.text) es
+pub free_ids : (before es : List Entry) (text : List ℕ) → has_id (stored_after before es) (unwrap_or (own_id text) []) ≡ false → AllByRecursion (λ (e : Entry). own_id text ≢ own_id e.text) es
 free_ids before [] text none = tt
 free_ids before (e ∷ es) text none =
     let id = unwrap_or (own_id text) [] in
-    let both = or_false (bytes_eq id (unwrap_or (own_id e.text) [])) (has_id (stored_behind (before ++ e ∷ []) es) id) none in
+    let both = or_false (bytes_eq id (unwrap_or (own_id e.text) [])) (has_id (stored_after (before ++ e ∷ []) es) id) none in
     (λ same. equal_bytes id (unwrap_or (own_id e.text) []) (ap (λ (o : Option (List ℕ)). unwrap_or o []) same) both.0, free_ids (before ++ e ∷ []) es text both.1)
 
 pub apart_ids : (before es : List Entry) (text : List ℕ) → IsStorageText text → AllByRecursion IsEntry es → AllByRecursion (λ (e : Entry). own_id text ≢ own_id e.text) es
-    → has_id (stored_behind before es) (unwrap_or (own_id text) []) ≡ false
+    → has_id (stored_after before es) (unwrap_or (own_id text) []) ≡ false
 apart_ids before [] text storage valid apart = refl
 apart_ids before (e ∷ es) text storage valid apart =
     let id = unwrap_or (own_id text) [] in
@@ -73,55 +73,55 @@ apart_ids before (e ∷ es) text storage valid apart =
     let entry : IsEntry e = valid.0 in
     let one : own_id text ≡ Some id = there (own_id text) [] storage.id in
     let two : own_id e.text ≡ Some other = there (own_id e.text) [] entry.text.id in
-    both_false (bytes_eq id other) (has_id (stored_behind (before ++ e ∷ []) es) id)
+    both_false (bytes_eq id other) (has_id (stored_after (before ++ e ∷ []) es) id)
     (not_true (bytes_eq id other) (λ same. apart.0 (one ∙ (ap Some ((bytes_eq-Decides id other).0 same) ∙ sym two))))
     (apart_ids (before ++ e ∷ []) es text storage valid.1 apart.1)
 
 -- A blob id that isn't kept is that of no entry.
-pub free_blobs : (before es : List Entry) (text : List ℕ) → has_blob (stored_behind before es) (blob_id_of text).0 ≡ false → AllByRecursion (λ (e : Entry). blob_id_of text ≢ blob_id_of e.text) es
+pub free_blobs : (before es : List Entry) (text : List ℕ) → has_blob (stored_after before es) (blob_id_of text).0 ≡ false → AllByRecursion (λ (e : Entry). blob_id_of text ≢ blob_id_of e.text) es
 free_blobs before [] text none = tt
 free_blobs before (e ∷ es) text none =
     let blob = (blob_id_of text).0 in
-    let both = or_false (bytes_eq blob (blob_id_of e.text).0) (has_blob (stored_behind (before ++ e ∷ []) es) blob) none in
+    let both = or_false (bytes_eq blob (blob_id_of e.text).0) (has_blob (stored_after (before ++ e ∷ []) es) blob) none in
     (λ same. equal_bytes blob (blob_id_of e.text).0 (ap (λ (i : Id20). i.0) same) both.0, free_blobs (before ++ e ∷ []) es text both.1)
 
-pub apart_blobs : (before es : List Entry) (text : List ℕ) → AllByRecursion (λ (e : Entry). blob_id_of text ≢ blob_id_of e.text) es → has_blob (stored_behind before es) (blob_id_of text).0 ≡ false
+pub apart_blobs : (before es : List Entry) (text : List ℕ) → AllByRecursion (λ (e : Entry). blob_id_of text ≢ blob_id_of e.text) es → has_blob (stored_after before es) (blob_id_of text).0 ≡ false
 apart_blobs before [] text apart = refl
 apart_blobs before (e ∷ es) text apart =
     let blob = (blob_id_of text).0 in
     let other = (blob_id_of e.text).0 in
-    both_false (bytes_eq blob other) (has_blob (stored_behind (before ++ e ∷ []) es) blob)
+    both_false (bytes_eq blob other) (has_blob (stored_after (before ++ e ∷ []) es) blob)
     (not_true (bytes_eq blob other) (λ same. apart.0 (ap (λ (b : List ℕ). let id : Id20 = record { 0 = b } in id) ((bytes_eq-Decides blob other).0 same))))
     (apart_blobs (before ++ e ∷ []) es text apart.1)
 
 -- As many entries are kept as there are, in their epochs.
-pub stored_count : (before es : List Entry) → length (stored_behind before es) ≡ length es
+pub stored_count : (before es : List Entry) → length (stored_after before es) ≡ length es
 stored_count before [] = refl
 stored_count before (e ∷ es) = let rest = stored_count (before ++ e ∷ []) es in omega (arith, rest)
 
-pub stored_before : (epoch : ℕ) (before es : List Entry) → AreBefore epoch (stored_behind before es) → AllByRecursion (λ (e : Entry). e.epoch < epoch) es
+pub stored_before : (epoch : ℕ) (before es : List Entry) → AreBefore epoch (stored_after before es) → AllByRecursion (λ (e : Entry). e.epoch < epoch) es
 stored_before epoch before [] all = tt
 stored_before epoch before (e ∷ es) all = (all.0, stored_before epoch (before ++ e ∷ []) es all.1)
 
 -- The record after those of some entries.
-pub record_behind : (es : List Entry) (behind : List Record) → slice_get (map record_of es ++ behind) (length es) ≡ slice_get behind 0
-record_behind [] behind = refl
-record_behind (e ∷ es) behind = record_behind es behind
+pub record_after : (es : List Entry) (after : List Record) → slice_get (map record_of es ++ after) (length es) ≡ slice_get after 0
+record_after [] after = refl
+record_after (e ∷ es) after = record_after es after
 
-pub map_behind : {X Y : Type 0} (f : X → Y) (xs : List X) (x : X) (ys : List Y) → map f (xs ++ x ∷ []) ++ ys ≡ map f xs ++ f x ∷ ys
-map_behind f [] x ys = refl
-map_behind f (z ∷ zs) x ys = ap (λ (l : List _). f z ∷ l) (map_behind f zs x ys)
+pub map_after : {X Y : Type 0} (f : X → Y) (xs : List X) (x : X) (ys : List Y) → map f (xs ++ x ∷ []) ++ ys ≡ map f xs ++ f x ∷ ys
+map_after f [] x ys = refl
+map_after f (z ∷ zs) x ys = ap (λ (l : List _). f z ∷ l) (map_after f zs x ys)
 
 -- The first of some records.
-pub record FirstIs (behind : List Record) (next : Record) : Type 0 where
+pub record FirstIs (after : List Record) (next : Record) : Type 0 where
   pub rest : List Record
-  pub is : behind ≡ next ∷ rest
+  pub is : after ≡ next ∷ rest
 
-pub first_is : (behind : List Record) (next : Record) → slice_get behind 0 ≡ Some next → FirstIs behind next
+pub first_is : (after : List Record) (next : Record) → slice_get after 0 ≡ Some next → FirstIs after next
 first_is [] next is = absurd (let wrong : None ≡ Some next = is in cc)
 first_is (r ∷ rs) next is = record { rest = rs; is = ap (λ (s : Record). s ∷ rs) (ap (λ (o : Option Record). unwrap_or o r) is) }
 
-pub first_none : (behind : List Record) → slice_get behind 0 ≡ None → behind ≡ []
+pub first_none : (after : List Record) → slice_get after 0 ≡ None → after ≡ []
 first_none [] is = refl
 first_none (r ∷ rs) is = absurd (let wrong : Some r ≡ None = is in cc)
 
@@ -150,17 +150,17 @@ numbers_rise n (line ∷ lines) es r more valid is = below_step (has_message lin
 
 -- An entry of the next record joins those of the first ones if it has an own id and a blob id of
 -- its own.
-pub first_more : (rs behind : List Record) (es : List Entry) (new : Entry) → AreRecordsFrom 1 rs → AreFirst rs (record_of new ∷ behind) es → IsEntry new
+pub first_more : (rs after : List Record) (es : List Entry) (new : Entry) → AreRecordsFrom 1 rs → AreFirst rs (record_of new ∷ after) es → IsEntry new
     → AllByRecursion (λ (e : Entry). e.epoch ≤ new.epoch) es → AllByRecursion (λ (e : Entry). own_id new.text ≢ own_id e.text) es → AllByRecursion (λ (e : Entry). blob_id_of new.text ≢ blob_id_of e.text) es
-    → AreFirst rs behind (es ++ new ∷ [])
-first_more rs behind es new numbered first entry older ids blobs =
-    let below = numbers_rise 1 rs es (record_of new) behind numbered first.records in
+    → AreFirst rs after (es ++ new ∷ [])
+first_more rs after es new numbered first entry older ids blobs =
+    let below = numbers_rise 1 rs es (record_of new) after numbered first.records in
     record {
-      valid = all_behind IsEntry es new first.valid entry;
+      valid = all_after IsEntry es new first.valid entry;
       order = rise_more 1 0 es new first.order below.1 (omega arith) below.0 older;
       ids = ids_more es new first.ids ids;
       blobs = blobs_more es new first.blobs blobs;
-      records = first.records ∙ sym (map_behind record_of es new behind);
+      records = first.records ∙ sym (map_after record_of es new after);
     }
 
 -- The last entry has an own id and a blob id of its own.

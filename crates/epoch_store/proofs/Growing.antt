@@ -12,10 +12,10 @@ use Rattle.arch_model.specs.Epochs.{epoch_bytes, entries_bytes, last_commit}
 use Rattle.mail_commits.specs.Entries.{magic, message_kind, entry_bytes, commit_id}
 use Rattle.number_map.specs.declared.line.Record.{Record}
 use Rattle.number_map.specs.Records.{record_bytes}
-use Rattle.epoch_file.specs.Entries.{bytes_behind}
+use Rattle.epoch_file.specs.Entries.{bytes_after}
 use Rattle.epoch_file.specs.Appending.{front_at}
 use Rattle.epoch_store.specs.Recovery.{entry_of, record_for, records_from, records_of, map_bytes, bytes_in}
-use Rattle.epoch_store.specs.Stores.{in_file, stored_at, stored_behind}
+use Rattle.epoch_store.specs.Stores.{in_file, stored_at, stored_after}
 use Rattle.epoch_store.specs.declared.entries.StoredEntry.{StoredEntry}
 
 -- A test on numbers that are equal, and on those that aren't.
@@ -81,30 +81,30 @@ in_epoch-other : (es : List Entry) (new : Entry) (epoch : ℕ) → new.epoch ≢
 in_epoch-other es new epoch apart = filter-append (λ (e : Entry). e.epoch == epoch) es (new ∷ []) ∙ (rw (other_test new.epoch epoch apart) refl ∙ append-nil (in_epoch es epoch))
 
 -- The bytes of entries with one appended.
-entries_more : (parent : Option Id20) (es : List Entry) (new : Entry) → entries_bytes parent (es ++ new ∷ []) ≡ entries_bytes parent es ++ bytes_behind (last_commit parent es) (in_file new)
-entries_more parent [] new = append-nil (bytes_behind parent (in_file new))
+entries_more : (parent : Option Id20) (es : List Entry) (new : Entry) → entries_bytes parent (es ++ new ∷ []) ≡ entries_bytes parent es ++ bytes_after (last_commit parent es) (in_file new)
+entries_more parent [] new = append-nil (bytes_after parent (in_file new))
 entries_more parent (e ∷ es) new =
     let next : Option Id20 = Some (commit_id message_kind e.text e.moment parent) in
     ap (λ (b : List ℕ). entry_bytes message_kind e.text e.moment parent ++ b) (entries_more next es new)
-    ∙ sym (append_assoc (entry_bytes message_kind e.text e.moment parent) (entries_bytes next es) (bytes_behind (last_commit next es) (in_file new)))
+    ∙ sym (append_assoc (entry_bytes message_kind e.text e.moment parent) (entries_bytes next es) (bytes_after (last_commit next es) (in_file new)))
 
 -- The bytes of an epoch with one more entry.
-epoch_more : (es : List Entry) (new : Entry) → epoch_bytes (es ++ new ∷ []) ≡ epoch_bytes es ++ (front_at (length (epoch_bytes es)) ++ bytes_behind (last_commit None es) (in_file new))
-epoch_more [] new = ap (λ (b : List ℕ). magic ++ b) (append-nil (bytes_behind None (in_file new)))
+epoch_more : (es : List Entry) (new : Entry) → epoch_bytes (es ++ new ∷ []) ≡ epoch_bytes es ++ (front_at (length (epoch_bytes es)) ++ bytes_after (last_commit None es) (in_file new))
+epoch_more [] new = ap (λ (b : List ℕ). magic ++ b) (append-nil (bytes_after None (in_file new)))
 epoch_more (e ∷ es) new =
     let all = entries_bytes None (e ∷ es) in
-    let more = bytes_behind (last_commit None (e ∷ es)) (in_file new) in
+    let more = bytes_after (last_commit None (e ∷ es)) (in_file new) in
     let size = length-append magic all in
     let there : (length (magic ++ all) == 0) ≡ false = other_test (length (magic ++ all)) 0 (λ none. absurd (omega (arith, size, none))) in
     ap (λ (b : List ℕ). magic ++ b) (entries_more None (e ∷ es) new) ∙ (sym (append_assoc magic all more) ∙ ap (λ (b : Bool). (magic ++ all) ++ ((if b then magic else []) ++ more)) (sym there))
 
-pub bytes_here : (a : Archive) (new : Entry) → epoch_bytes (in_epoch (a.entries ++ new ∷ []) new.epoch) ≡ bytes_in a new.epoch ++ (front_at (length (bytes_in a new.epoch)) ++ bytes_behind (last_commit None (in_epoch a.entries new.epoch)) (in_file new))
+pub bytes_here : (a : Archive) (new : Entry) → epoch_bytes (in_epoch (a.entries ++ new ∷ []) new.epoch) ≡ bytes_in a new.epoch ++ (front_at (length (bytes_in a new.epoch)) ++ bytes_after (last_commit None (in_epoch a.entries new.epoch)) (in_file new))
 bytes_here a new = ap epoch_bytes (in_epoch-here a.entries new new.epoch refl) ∙ epoch_more (in_epoch a.entries new.epoch) new
 
 pub bytes_other : (a : Archive) (new : Entry) (epoch : ℕ) → new.epoch ≢ epoch → epoch_bytes (in_epoch (a.entries ++ new ∷ []) epoch) ≡ bytes_in a epoch
 bytes_other a new epoch apart = ap epoch_bytes (in_epoch-other a.entries new epoch apart)
 
 -- What is kept of entries with one appended.
-pub stored_more : (before es : List Entry) (new : Entry) → stored_behind before (es ++ new ∷ []) ≡ stored_behind before es ++ stored_at (before ++ es) new ∷ []
+pub stored_more : (before es : List Entry) (new : Entry) → stored_after before (es ++ new ∷ []) ≡ stored_after before es ++ stored_at (before ++ es) new ∷ []
 stored_more before [] new = ap (λ (b : List Entry). stored_at b new ∷ []) (sym (append-nil before))
-stored_more before (e ∷ es) new = ap (λ (s : List StoredEntry). stored_at before e ∷ s) (stored_more (before ++ e ∷ []) es new ∙ ap (λ (b : List Entry). stored_behind (before ++ e ∷ []) es ++ stored_at b new ∷ []) (append_assoc before (e ∷ []) es))
+stored_more before (e ∷ es) new = ap (λ (s : List StoredEntry). stored_at before e ∷ s) (stored_more (before ++ e ∷ []) es new ∙ ap (λ (b : List Entry). stored_after (before ++ e ∷ []) es ++ stored_at b new ∷ []) (append_assoc before (e ∷ []) es))

@@ -47,11 +47,11 @@ none_lower (e ∷ es) low epoch n rise less =
     not_first e es n (λ is. absurd (omega (arith, is, less, high))) ∙ none_lower es (e.number + 1) e.epoch n rise.2 (omega (arith, less, high))
 
 -- An entry at the front doesn't change the records of greater numbers.
-records_behind : (e : Entry) (es : List Entry) (n count : ℕ) → e.number < n → records_from (e ∷ es) n count ≡ records_from es n count
-records_behind e es n zero less = refl
-records_behind e es n (suc count) less =
+records_after : (e : Entry) (es : List Entry) (n count : ℕ) → e.number < n → records_from (e ∷ es) n count ≡ records_from es n count
+records_after e es n zero less = refl
+records_after e es n (suc count) less =
     ap (λ (o : Option Entry). record_for n o ∷ records_from (e ∷ es) (n + 1) count) (not_first e es n (λ is. absurd (omega (arith, is, less))))
-    ∙ ap (λ (rs : List Record). record_for n (entry_of es n) ∷ rs) (records_behind e es (n + 1) count (omega (arith, less)))
+    ∙ ap (λ (rs : List Record). record_for n (entry_of es n) ∷ rs) (records_after e es (n + 1) count (omega (arith, less)))
 
 -- A record with a message is kept, and one without isn't.
 with_message : (r : Record) (rs : List Record) → has_message r ≡ true → messages (r ∷ rs) ≡ r ∷ messages rs
@@ -75,7 +75,7 @@ messages_of (e ∷ es) n (suc count) epoch valid rise below = elim (cases_lt n e
       let same : r ≡ record_of e = (λ i. record { number = sym is i; epoch = e.epoch; blob = blob_id_of e.text }) in
       ap (λ (o : Option Entry). messages (record_for n o ∷ records_from (e ∷ es) (n + 1) count)) (at_first e es n is)
       ∙ (with_message r (records_from (e ∷ es) (n + 1) count) (less_test e.epoch 64 (omega (arith, small)))
-      ∙ (ap (λ (rs : List Record). r ∷ messages rs) (records_behind e es (n + 1) count (omega (arith, is)))
+      ∙ (ap (λ (rs : List Record). r ∷ messages rs) (records_after e es (n + 1) count (omega (arith, is)))
       ∙ ((λ i. same i ∷ messages (records_from es (n + 1) count))
       ∙ ap (λ (rs : List Record). record_of e ∷ rs) (messages_of es (n + 1) count e.epoch valid.1 (subst (λ (m : ℕ). Rise (m + 1) e.epoch es) is rise.2)
       (all_weaker (λ (f : Entry). f.number < n + suc count) (λ (f : Entry). f.number < n + 1 + count) es (λ f few. omega (arith, few)) below.1))))))
@@ -113,7 +113,7 @@ records_back n epoch (line ∷ lines) es valid rise is = by (λ older fs. record
       let entry : record_of e ≡ record_for n (Some e) = (λ i. record { number = number i; epoch = e.epoch; blob = blob_id_of e.text }) in
       let one : line ≡ record_for n (entry_of (e ∷ fs) n) = same ∙ (entry ∙ ap (record_for n) (sym (at_first e fs n number))) in
       let rest : lines ≡ records_from (e ∷ fs) (n + 1) (length lines) =
-      others e.epoch fs (subst (λ (m : ℕ). Rise (m + 1) e.epoch fs) number up.2) tail ∙ sym (records_behind e fs (n + 1) (length lines) (omega (arith, number))) in
+      others e.epoch fs (subst (λ (m : ℕ). Rise (m + 1) e.epoch fs) number up.2) tail ∙ sym (records_after e fs (n + 1) (length lines) (omega (arith, number))) in
       λ i. one i ∷ rest i
 
 -- No entry has a number after them.

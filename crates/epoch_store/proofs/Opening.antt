@@ -9,11 +9,11 @@ use borrow.Author.Count.{below_more}
 use Rattle.arch_base.specs.declared.ids.Id20.{Id20}
 use Rattle.disk_model.specs.Disk.{Files, File, bytes_of}
 use Rattle.arch_model.specs.Archives.{Entry, in_epoch}
-use Rattle.mail_commits.specs.Entries.{magic, message_kind, commit_id}
+use Rattle.mail_commits.specs.Entries.{magic}
 use Rattle.arch_model.specs.Epochs.{epoch_bytes, entries_bytes, last_commit}
 use Rattle.number_map.specs.declared.line.Record.{Record}
 use Rattle.epoch_file.specs.declared.entry.Seen.{Seen}
-use Rattle.epoch_file.specs.Entries.{EntriesDiffer, EpochEntry, IsEpochEntry, AreEpochEntries, bytes_behind, commit_behind, chain, last_of, epoch_of}
+use Rattle.epoch_file.specs.Entries.{EntriesDiffer, EpochEntry, IsEpochEntry, AreEpochEntries, bytes_after, commit_after, chain, last_of, epoch_of}
 use Rattle.epoch_file.specs.Walking.{IsEpoch, EndsEarly}
 use Rattle.root_slots.specs.declared.root.Root.{Root}
 use Rattle.epoch_store.specs.Files.{Fronts, epoch_file_of}
@@ -28,23 +28,23 @@ use Rattle.epoch_store.proofs.Joins.{all_joined, only_here}
 -- The bytes of entries are those of their records in the file.
 pub chain_of : (parent : Option Id20) (es : List Entry) → entries_bytes parent es ≡ chain parent (map in_file es)
 chain_of parent [] = refl
-chain_of parent (e ∷ es) = ap (λ (b : List ℕ). bytes_behind parent (in_file e) ++ b) (chain_of (Some (commit_behind parent (in_file e))) es)
+chain_of parent (e ∷ es) = ap (λ (b : List ℕ). bytes_after parent (in_file e) ++ b) (chain_of (Some (commit_after parent (in_file e))) es)
 
 pub last_is : (parent : Option Id20) (es : List Entry) → last_commit parent es ≡ last_of parent (map in_file es)
 last_is parent [] = refl
-last_is parent (e ∷ es) = last_is (Some (commit_behind parent (in_file e))) es
+last_is parent (e ∷ es) = last_is (Some (commit_after parent (in_file e))) es
 
 -- The bytes of two lists of entries, one after the other.
 pub chain_joined : (parent : Option Id20) (xs ys : List EpochEntry) → chain parent (xs ++ ys) ≡ chain parent xs ++ chain (last_of parent xs) ys
 chain_joined parent [] ys = refl
 chain_joined parent (x ∷ xs) ys =
-    let next : Option Id20 = Some (commit_behind parent x) in
-    ap (λ (b : List ℕ). bytes_behind parent x ++ b) (chain_joined next xs ys) ∙ sym (append_assoc (bytes_behind parent x) (chain next xs) (chain (last_of next xs) ys))
+    let next : Option Id20 = Some (commit_after parent x) in
+    ap (λ (b : List ℕ). bytes_after parent x ++ b) (chain_joined next xs ys) ∙ sym (append_assoc (bytes_after parent x) (chain next xs) (chain (last_of next xs) ys))
 
 -- The last of valid entries, and the one after some.
-pub valid_behind : (xs : List EpochEntry) (y : EpochEntry) (ys : List EpochEntry) → AreEpochEntries (xs ++ y ∷ ys) → IsEpochEntry y
-valid_behind [] y ys valid = valid.0
-valid_behind (x ∷ xs) y ys valid = valid_behind xs y ys valid.1
+pub valid_after : (xs : List EpochEntry) (y : EpochEntry) (ys : List EpochEntry) → AreEpochEntries (xs ++ y ∷ ys) → IsEpochEntry y
+valid_after [] y ys valid = valid.0
+valid_after (x ∷ xs) y ys valid = valid_after xs y ys valid.1
 
 pub file_valid : (e : Entry) → IsEntry e → IsEpochEntry (in_file e)
 file_valid e valid = record { text = valid.text; moment = valid.moment }
@@ -116,39 +116,39 @@ empty_whole root files epoch others whole none =
     subst (AreWhole root files (epoch + 1)) (append-nil others) (whole_more root files epoch others [] whole tt none (fronts_none (files (epoch_file_of root epoch))))
 
 -- An entry has a byte.
-pub entry_some : (parent : Option Id20) (e : EpochEntry) → bytes_behind parent e ≢ []
+pub entry_some : (parent : Option Id20) (e : EpochEntry) → bytes_after parent e ≢ []
 unfolding Rattle.mail_commits.specs.Entries.entry_bytes
 entry_some parent e is = absurd (cc)
 
 -- An epoch in which a walk ended early, and whose entries up to there were all joined, is damaged
 -- there.
-pub early_next : (root : Root) (files : Files) (epoch place : ℕ) (others more : List Entry) (rs behind : List Record) → AreWhole root files epoch others → AllByRecursion (λ (e : Entry). e.epoch ≡ epoch) more
-    → AreFirst rs behind (others ++ more) → (ends : EndsEarly (named_length root epoch) (bytes_of (files (epoch_file_of root epoch))) place) → ends.entries ≡ map in_file more → LacksNext root files rs epoch place
-early_next root files epoch place others more rs behind whole stand first ends are =
+pub early_next : (root : Root) (files : Files) (epoch offset : ℕ) (others more : List Entry) (rs after : List Record) → AreWhole root files epoch others → AllByRecursion (λ (e : Entry). e.epoch ≡ epoch) more
+    → AreFirst rs after (others ++ more) → (ends : EndsEarly (named_length root epoch) (bytes_of (files (epoch_file_of root epoch))) offset) → ends.entries ≡ map in_file more → LacksNext root files rs epoch offset
+early_next root files epoch offset others more rs after whole stand first ends are =
     let chains : chain None ends.entries ≡ entries_bytes None more = ap (chain None) are ∙ sym (chain_of None more) in
     let parents : last_of None ends.entries ≡ last_commit None more = ap (last_of None) are ∙ sym (last_is None more) in
     record {
       before = others;
       here = more;
-      behind = behind;
+      after = after;
       rest = ends.rest;
       first = first;
       whole = whole;
       stand = stand;
       spelled = ends.spelled ∙ ap (λ (b : List ℕ). (magic ++ b) ++ ends.rest) chains;
-      place_is = ends.behind ∙ ap (λ (b : List ℕ). 8 + length b) chains;
+      offset_is = ends.offset_is ∙ ap (λ (b : List ℕ). 8 + length b) chains;
       wanted = elim ends.wanted [ inl none ↦ inl (nil_from_length more (sym (count_files more) ∙ ap (λ (l : List EpochEntry). length l) (sym are ∙ none))) | inr less ↦ inr less ];
-      lacks = λ next left after same valid is.
-          ends.lacks (in_file next) after (file_valid next (all_last IsEntry (others ++ more) next valid.valid)) (is ∙ ap (λ (p : Option Id20). bytes_behind p (in_file next) ++ after) (sym parents));
+      lacks = λ next left tail same valid is.
+          ends.lacks (in_file next) tail (file_valid next (all_last IsEntry (others ++ more) next valid.valid)) (is ∙ ap (λ (p : Option Id20). bytes_after p (in_file next) ++ tail) (sym parents));
     }
 
 -- An epoch whose entries could not all be joined is damaged at the first that could not.
-pub stops_next : EntriesDiffer → (root : Root) (files : Files) (epoch place : ℕ) (others : List Entry) (rs : List Record) (here : List EpochEntry) (after : List ℕ) → named_length root epoch < 2 ^ 64
-    → AreWhole root files epoch others → AreEpochEntries here → named_bytes root files epoch ≡ epoch_of here ++ after → StopsAt rs others epoch here place → LacksNext root files rs epoch place
-stops_next differ root files epoch place others rs here after short whole valid spelled stops =
+pub stops_next : EntriesDiffer → (root : Root) (files : Files) (epoch offset : ℕ) (others : List Entry) (rs : List Record) (here : List EpochEntry) (after : List ℕ) → named_length root epoch < 2 ^ 64
+    → AreWhole root files epoch others → AreEpochEntries here → named_bytes root files epoch ≡ epoch_of here ++ after → StopsAt rs others epoch here offset → LacksNext root files rs epoch offset
+stops_next differ root files epoch offset others rs here after short whole valid spelled stops =
     let parent = last_commit None stops.more in
-    let wrong = bytes_behind parent stops.wrong in
-    let tail = chain (Some (commit_behind parent stops.wrong)) stops.rest in
+    let wrong = bytes_after parent stops.wrong in
+    let tail = chain (Some (commit_after parent stops.wrong)) stops.rest in
     let parents : last_of None (map in_file stops.more) ≡ parent = sym (last_is None stops.more) in
     let chains : chain None here ≡ entries_bytes None stops.more ++ (wrong ++ tail) =
     ap (chain None) stops.are ∙ (chain_joined None (map in_file stops.more) (stops.wrong ∷ stops.rest)
@@ -163,18 +163,18 @@ stops_next differ root files epoch place others rs here after short whole valid 
     let front = length-append (magic ++ entries_bytes None stops.more) rest in
     let head = length-append magic (entries_bytes None stops.more) in
     let step = length-append wrong (tail ++ after) in
-    let is = stops.place_is in
-    let valid_wrong : IsEpochEntry stops.wrong = valid_behind (map in_file stops.more) stops.wrong stops.rest (subst AreEpochEntries stops.are valid) in
+    let is = stops.offset_is in
+    let valid_wrong : IsEpochEntry stops.wrong = valid_after (map in_file stops.more) stops.wrong stops.rest (subst AreEpochEntries stops.are valid) in
     record {
       before = others;
       here = stops.more;
-      behind = stops.behind;
+      after = stops.after;
       rest = rest;
       first = stops.first;
       whole = whole;
       stand = stops.stand;
       spelled = split;
-      place_is = is;
+      offset_is = is;
       wanted = inr (elim (zero_or_not (length wrong)) [ inl none ↦ absurd (entry_some parent stops.wrong (nil_from_length wrong none)) | inr some ↦ omega (arith, size, most, front, head, step, is, some) ]);
       lacks = λ next left more same first stands.
           let one = differ parent stops.wrong (in_file next) (tail ++ after) more valid_wrong (file_valid next (all_last IsEntry (others ++ stops.more) next first.valid)) (omega (arith, size, most, front, short)) stands in

@@ -9,7 +9,7 @@ use Rattle.disk_model.specs.Disk.{Files, bytes_of}
 use Rattle.mail_commits.specs.Entries.{magic}
 use Rattle.number_map.specs.declared.line.Record.{Record}
 use Rattle.epoch_file.specs.declared.entry.Seen.{Seen}
-use Rattle.epoch_file.specs.Entries.{EntriesDiffer, EpochEntry, AreEpochEntries, bytes_behind, commit_behind, chain, last_of, epoch_of, EpochsDiffer}
+use Rattle.epoch_file.specs.Entries.{EntriesDiffer, EpochEntry, AreEpochEntries, bytes_after, commit_after, chain, last_of, epoch_of, EpochsDiffer}
 use Rattle.epoch_file.specs.Walking.{IsEpoch, EndsEarly, IsDamagedAt}
 use Rattle.root_slots.specs.declared.root.Root.{Root}
 use Rattle.epoch_store.specs.Files.{epoch_file_of}
@@ -20,7 +20,7 @@ use Rattle.epoch_store.specs.Recovery.{RecoversBy}
 use Rattle.epoch_store.specs.Damage.{messages, AreFirst, named_length, IsFirstDamage}
 use Rattle.epoch_store.specs.Joined.{Joined, AreJoined, TakesEpoch, Finishes}
 use Rattle.epoch_store.specs.Openings.{archive_of, HasMap, IsReadUpTo, AreRead}
-use Rattle.epoch_store.proofs.Opening.{walked_whole, empty_whole, early_next, stops_next, entry_some, valid_behind}
+use Rattle.epoch_store.proofs.Opening.{walked_whole, empty_whole, early_next, stops_next, entry_some, valid_after}
 use Rattle.epoch_store.proofs.Opened.{opened_recovers}
 use Rattle.epoch_store.proofs.Undamaged.{prefix_of}
 
@@ -32,127 +32,127 @@ bytes_at root files epoch = bytes_of (files (epoch_file_of root epoch))
 pub read_none : (root : Root) (files : Files) (rs : List Record) (v : Joined) → HasMap root files rs → v.records ≡ messages rs → v.entries ≡ [] → IsReadUpTo root files rs 0 v
 read_none root files rs v has records entries = record {
   entries = [];
-  behind = messages rs;
+  after = messages rs;
   holds = record { numbered = has.begins.valid; records = records; entries_are = entries; first = record { valid = tt; order = tt; ids = tt; blobs = tt; records = refl } };
   whole = record { below = tt; lengths = λ e less. absurd (omega (arith, less)); fronts = λ e less. absurd (omega (arith, less)) };
 }
 
 -- An epoch of length 0 is read.
 pub read_empty : (root : Root) (files : Files) (rs : List Record) (epoch : ℕ) (v : Joined) → IsReadUpTo root files rs epoch v → named_length root epoch ≡ 0 → IsReadUpTo root files rs (epoch + 1) v
-read_empty root files rs epoch v up none = record { entries = up.entries; behind = up.behind; holds = up.holds; whole = empty_whole root files epoch up.entries up.whole none }
+read_empty root files rs epoch v up none = record { entries = up.entries; after = up.after; holds = up.holds; whole = empty_whole root files epoch up.entries up.whole none }
 
 -- An epoch that a walk read and whose entries were all joined is read.
 pub read_more : (root : Root) (files : Files) (rs : List Record) (epoch : ℕ) (old new : Joined) (seen : List Seen) → IsReadUpTo root files rs epoch old → IsEpoch (named_length root epoch) (bytes_at root files epoch) seen → TakesEpoch old epoch seen (Ok new)
     → IsReadUpTo root files rs (epoch + 1) new
 read_more root files rs epoch old new seen up walked takes =
-    let joined : AreJoined new rs up.entries epoch walked.entries = takes rs up.behind up.entries walked.entries up.holds walked.valid walked.is in
-    record { entries = up.entries ++ joined.more; behind = joined.behind; holds = joined.holds; whole = walked_whole root files epoch up.entries rs new seen up.whole walked joined }
+    let joined : AreJoined new rs up.entries epoch walked.entries = takes rs up.after up.entries walked.entries up.holds walked.valid walked.is in
+    record { entries = up.entries ++ joined.more; after = joined.after; holds = joined.holds; whole = walked_whole root files epoch up.entries rs new seen up.whole walked joined }
 
 -- An epoch whose entries could not all be joined is damaged.
-pub read_stopped : EntriesDiffer → (root : Root) (files : Files) (rs : List Record) (epoch place : ℕ) (old : Joined) (seen : List Seen) → named_length root epoch < 2 ^ 64 → epoch < 64 → IsReadUpTo root files rs epoch old
-    → IsEpoch (named_length root epoch) (bytes_at root files epoch) seen → TakesEpoch old epoch seen (Err (Damaged place)) → IsFirstDamage root files rs epoch place
-read_stopped differ root files rs epoch place old seen short less up walked takes =
+pub read_stopped : EntriesDiffer → (root : Root) (files : Files) (rs : List Record) (epoch offset : ℕ) (old : Joined) (seen : List Seen) → named_length root epoch < 2 ^ 64 → epoch < 64 → IsReadUpTo root files rs epoch old
+    → IsEpoch (named_length root epoch) (bytes_at root files epoch) seen → TakesEpoch old epoch seen (Err (Damaged offset)) → IsFirstDamage root files rs epoch offset
+read_stopped differ root files rs epoch offset old seen short less up walked takes =
     inr (inl (
       less,
-      stops_next differ root files epoch place up.entries rs walked.entries [] short up.whole walked.valid (walked.spelled ∙ sym (append-nil (epoch_of walked.entries)))
-          (takes rs up.behind up.entries walked.entries up.holds walked.valid walked.is),
+      stops_next differ root files epoch offset up.entries rs walked.entries [] short up.whole walked.valid (walked.spelled ∙ sym (append-nil (epoch_of walked.entries)))
+          (takes rs up.after up.entries walked.entries up.holds walked.valid walked.is),
     ))
 
 -- Entries without bytes are none.
 no_bytes : (parent : Option Id20) (es : List EpochEntry) → length (chain parent es) ≡ 0 → es ≡ []
 no_bytes parent [] none = refl
 no_bytes parent (e ∷ es) none =
-    let size = length-append (bytes_behind parent e) (chain (Some (commit_behind parent e)) es) in
-    absurd (entry_some parent e (nil_from_length (bytes_behind parent e) (omega (arith, size, none))))
+    let size = length-append (bytes_after parent e) (chain (Some (commit_after parent e)) es) in
+    absurd (entry_some parent e (nil_from_length (bytes_after parent e) (omega (arith, size, none))))
 
 -- An epoch in which a walk ended at the front or after the magic is damaged there.
-pub read_front : (root : Root) (files : Files) (rs : List Record) (epoch place : ℕ) (old : Joined) → epoch < 64 → 0 < named_length root epoch → place ≤ 8 → IsReadUpTo root files rs epoch old
-    → IsDamagedAt (named_length root epoch) (bytes_at root files epoch) place → IsFirstDamage root files rs epoch place
-read_front root files rs epoch place old less some low up (inl lacks) =
-    inl (less, record { before = up.entries; behind = up.behind; first = up.holds.first; whole = up.whole; some = some; lacks = lacks.1; place_is = lacks.0 })
-read_front root files rs epoch place old less some low up (inr ends) =
-    let behind = ends.behind in
-    let none : ends.entries ≡ [] = no_bytes None ends.entries (omega (arith, behind, low)) in
-    inr (inl (less, early_next root files epoch place up.entries [] rs up.behind up.whole tt (subst (AreFirst rs up.behind) (sym (append-nil up.entries)) up.holds.first) ends none))
+pub read_front : (root : Root) (files : Files) (rs : List Record) (epoch offset : ℕ) (old : Joined) → epoch < 64 → 0 < named_length root epoch → offset ≤ 8 → IsReadUpTo root files rs epoch old
+    → IsDamagedAt (named_length root epoch) (bytes_at root files epoch) offset → IsFirstDamage root files rs epoch offset
+read_front root files rs epoch offset old less some low up (inl lacks) =
+    inl (less, record { before = up.entries; after = up.after; first = up.holds.first; whole = up.whole; some = some; lacks = lacks.1; offset_is = lacks.0 })
+read_front root files rs epoch offset old less some low up (inr ends) =
+    let after = ends.offset_is in
+    let none : ends.entries ≡ [] = no_bytes None ends.entries (omega (arith, after, low)) in
+    inr (inl (less, early_next root files epoch offset up.entries [] rs up.after up.whole tt (subst (AreFirst rs up.after) (sym (append-nil up.entries)) up.holds.first) ends none))
 
 -- The bytes up to the offset at which a walk ended are an epoch's.
-left_bytes : (n place : ℕ) (bytes : List ℕ) → (ends : EndsEarly n bytes place) → take place bytes ≡ epoch_of ends.entries
-left_bytes n place bytes ends =
+left_bytes : (n offset : ℕ) (bytes : List ℕ) → (ends : EndsEarly n bytes offset) → take offset bytes ≡ epoch_of ends.entries
+left_bytes n offset bytes ends =
     let whole = epoch_of ends.entries in
-    let size : length whole ≡ place = (let is = ends.behind in omega (arith, is, length-append magic (chain None ends.entries))) in
+    let size : length whole ≡ offset = (let is = ends.offset_is in omega (arith, is, length-append magic (chain None ends.entries))) in
     let all : bytes ≡ whole ++ (ends.rest ++ drop n bytes) = sym (take-append-drop n bytes) ∙ (ap (λ (b : List ℕ). b ++ drop n bytes) ends.spelled ∙ append_assoc whole ends.rest (drop n bytes)) in
-    ap (take place) all ∙ (ap (λ (m : ℕ). take m (whole ++ (ends.rest ++ drop n bytes))) (sym size) ∙ take-append_seam whole (ends.rest ++ drop n bytes))
+    ap (take offset) all ∙ (ap (λ (m : ℕ). take m (whole ++ (ends.rest ++ drop n bytes))) (sym size) ∙ take-append_seam whole (ends.rest ++ drop n bytes))
 
 -- The offset at which a walk ended is within the bytes that count.
-left_within : (n place : ℕ) (bytes : List ℕ) → EndsEarly n bytes place → place ≤ n
-left_within n place bytes ends =
+left_within : (n offset : ℕ) (bytes : List ℕ) → EndsEarly n bytes offset → offset ≤ n
+left_within n offset bytes ends =
     let size : length (take n bytes) ≡ length (epoch_of ends.entries ++ ends.rest) = ap (λ (b : List ℕ). length b) ends.spelled in
-    let is = ends.behind in
+    let is = ends.offset_is in
     omega (arith, size, is, length-take n bytes, length-append (epoch_of ends.entries) ends.rest, length-append magic (chain None ends.entries))
 
 -- So a walk up to there reads the same entries.
-again : EpochsDiffer → (n place : ℕ) (bytes : List ℕ) (seen : List Seen) → place < 2 ^ 64 → (ends : EndsEarly n bytes place) → (walked : IsEpoch place bytes seen) → ends.entries ≡ walked.entries
-again differ n place bytes seen short ends walked =
-    let is = ends.behind in
-    differ ends.entries walked.entries ends.valid walked.valid (omega (arith, short, is, length-append magic (chain None ends.entries))) (sym (left_bytes n place bytes ends) ∙ walked.spelled)
+again : EpochsDiffer → (n offset : ℕ) (bytes : List ℕ) (seen : List Seen) → offset < 2 ^ 64 → (ends : EndsEarly n bytes offset) → (walked : IsEpoch offset bytes seen) → ends.entries ≡ walked.entries
+again differ n offset bytes seen short ends walked =
+    let is = ends.offset_is in
+    differ ends.entries walked.entries ends.valid walked.valid (omega (arith, short, is, length-append magic (chain None ends.entries))) (sym (left_bytes n offset bytes ends) ∙ walked.spelled)
 
 -- An epoch in which a walk ended later is damaged there if all entries up to there were joined.
-pub read_left : EpochsDiffer → (root : Root) (files : Files) (rs : List Record) (epoch place : ℕ) (old new : Joined) (seen : List Seen) → named_length root epoch < 2 ^ 64 → epoch < 64 → 8 < place → IsReadUpTo root files rs epoch old
-    → IsDamagedAt (named_length root epoch) (bytes_at root files epoch) place → IsEpoch place (bytes_at root files epoch) seen → TakesEpoch old epoch seen (Ok new) → IsFirstDamage root files rs epoch place
-read_left differ root files rs epoch place old new seen short less high up (inl lacks) walked takes = absurd (let zero_is = lacks.0 in omega (arith, zero_is, high))
-read_left differ root files rs epoch place old new seen short less high up (inr ends) walked takes =
-    let joined : AreJoined new rs up.entries epoch walked.entries = takes rs up.behind up.entries walked.entries up.holds walked.valid walked.is in
-    let within = left_within (named_length root epoch) place (bytes_at root files epoch) ends in
-    let same = again differ (named_length root epoch) place (bytes_at root files epoch) seen (omega (arith, within, short)) ends walked in
-    inr (inl (less, early_next root files epoch place up.entries joined.more rs joined.behind up.whole joined.stand joined.holds.first ends (same ∙ joined.are)))
+pub read_left : EpochsDiffer → (root : Root) (files : Files) (rs : List Record) (epoch offset : ℕ) (old new : Joined) (seen : List Seen) → named_length root epoch < 2 ^ 64 → epoch < 64 → 8 < offset → IsReadUpTo root files rs epoch old
+    → IsDamagedAt (named_length root epoch) (bytes_at root files epoch) offset → IsEpoch offset (bytes_at root files epoch) seen → TakesEpoch old epoch seen (Ok new) → IsFirstDamage root files rs epoch offset
+read_left differ root files rs epoch offset old new seen short less high up (inl lacks) walked takes = absurd (let zero_is = lacks.0 in omega (arith, zero_is, high))
+read_left differ root files rs epoch offset old new seen short less high up (inr ends) walked takes =
+    let joined : AreJoined new rs up.entries epoch walked.entries = takes rs up.after up.entries walked.entries up.holds walked.valid walked.is in
+    let within = left_within (named_length root epoch) offset (bytes_at root files epoch) ends in
+    let same = again differ (named_length root epoch) offset (bytes_at root files epoch) seen (omega (arith, within, short)) ends walked in
+    inr (inl (less, early_next root files epoch offset up.entries joined.more rs joined.after up.whole joined.stand joined.holds.first ends (same ∙ joined.are)))
 
 -- Otherwise it is damaged before, at the first that could not be joined.
-pub read_left_stopped : EntriesDiffer → EpochsDiffer → (root : Root) (files : Files) (rs : List Record) (epoch left place : ℕ) (old : Joined) (seen : List Seen) → named_length root epoch < 2 ^ 64 → epoch < 64 → 8 < left → IsReadUpTo root files rs epoch old
-    → IsDamagedAt (named_length root epoch) (bytes_at root files epoch) left → IsEpoch left (bytes_at root files epoch) seen → TakesEpoch old epoch seen (Err (Damaged place)) → IsFirstDamage root files rs epoch place
-read_left_stopped entry differ root files rs epoch left place old seen short less high up (inl lacks) walked takes = absurd (let zero_is = lacks.0 in omega (arith, zero_is, high))
-read_left_stopped entry differ root files rs epoch left place old seen short less high up (inr ends) walked takes =
+pub read_left_stopped : EntriesDiffer → EpochsDiffer → (root : Root) (files : Files) (rs : List Record) (epoch left offset : ℕ) (old : Joined) (seen : List Seen) → named_length root epoch < 2 ^ 64 → epoch < 64 → 8 < left → IsReadUpTo root files rs epoch old
+    → IsDamagedAt (named_length root epoch) (bytes_at root files epoch) left → IsEpoch left (bytes_at root files epoch) seen → TakesEpoch old epoch seen (Err (Damaged offset)) → IsFirstDamage root files rs epoch offset
+read_left_stopped entry differ root files rs epoch left offset old seen short less high up (inl lacks) walked takes = absurd (let zero_is = lacks.0 in omega (arith, zero_is, high))
+read_left_stopped entry differ root files rs epoch left offset old seen short less high up (inr ends) walked takes =
     let within = left_within (named_length root epoch) left (bytes_at root files epoch) ends in
     let same = again differ (named_length root epoch) left (bytes_at root files epoch) seen (omega (arith, within, short)) ends walked in
     inr (inl (
       less,
-      stops_next entry root files epoch place up.entries rs walked.entries ends.rest short up.whole walked.valid (ends.spelled ∙ ap (λ (es : List EpochEntry). epoch_of es ++ ends.rest) same)
-          (takes rs up.behind up.entries walked.entries up.holds walked.valid walked.is),
+      stops_next entry root files epoch offset up.entries rs walked.entries ends.rest short up.whole walked.valid (ends.spelled ∙ ap (λ (es : List EpochEntry). epoch_of es ++ ends.rest) same)
+          (takes rs up.after up.entries walked.entries up.holds walked.valid walked.is),
     ))
 
 -- A walk up to the offset at which a walk ended isn't damaged.
-pub left_undamaged : EntriesDiffer → (n left place : ℕ) (bytes : List ℕ) → n < 2 ^ 64 → 8 < left → IsDamagedAt n bytes left → IsDamagedAt left bytes place → ⊥
-left_undamaged differ n left place bytes short high (inl lacks) other = absurd (let zero_is = lacks.0 in omega (arith, zero_is, high))
-left_undamaged differ n left place bytes short high (inr ends) (inl lacks) = lacks.1 (ap (take 8) (left_bytes n left bytes ends) ∙ take-append_seam magic (chain None ends.entries))
-left_undamaged differ n left place bytes short high (inr ends) (inr other) =
+pub left_undamaged : EntriesDiffer → (n left offset : ℕ) (bytes : List ℕ) → n < 2 ^ 64 → 8 < left → IsDamagedAt n bytes left → IsDamagedAt left bytes offset → ⊥
+left_undamaged differ n left offset bytes short high (inl lacks) other = absurd (let zero_is = lacks.0 in omega (arith, zero_is, high))
+left_undamaged differ n left offset bytes short high (inr ends) (inl lacks) = lacks.1 (ap (take 8) (left_bytes n left bytes ends) ∙ take-append_seam magic (chain None ends.entries))
+left_undamaged differ n left offset bytes short high (inr ends) (inr other) =
     let within = left_within n left bytes ends in
-    let is = ends.behind in
+    let is = ends.offset_is in
     let split : magic ++ chain None ends.entries ≡ magic ++ (chain None other.entries ++ other.rest) = sym (left_bytes n left bytes ends) ∙ (other.spelled ∙ append_assoc magic (chain None other.entries) other.rest) in
     let prefix = prefix_of differ None other.entries ends.entries other.rest other.valid ends.valid (omega (arith, within, short, is)) (append_cancel_left magic (chain None ends.entries) (chain None other.entries ++ other.rest) split) in
     by prefix.more prefix.is prefix.rest_is
   where
     by : (more : List EpochEntry) → ends.entries ≡ other.entries ++ more → other.rest ≡ chain (last_of None other.entries) more → ⊥
     by [] same rest =
-        let is = ends.behind in
-        let was = other.behind in
+        let is = ends.offset_is in
+        let was = other.offset_is in
         let equal : ends.entries ≡ other.entries = same ∙ append-nil other.entries in
         let size : length (chain None ends.entries) ≡ length (chain None other.entries) = ap (λ (es : List EpochEntry). length (chain None es)) equal in
         elim other.wanted [
           | inl none ↦ absurd (let nothing : length (chain None other.entries) ≡ 0 = ap (λ (es : List EpochEntry). length (chain None es)) none in omega (arith, size, is, high, nothing))
           | inr fewer ↦ absurd (omega (arith, size, is, was, fewer))
         ]
-    by (f ∷ fs) same rest = other.lacks f (chain (Some (commit_behind (last_of None other.entries) f)) fs) (valid_behind other.entries f fs (subst AreEpochEntries same ends.valid)) rest
+    by (f ∷ fs) same rest = other.lacks f (chain (Some (commit_after (last_of None other.entries) f)) fs) (valid_after other.entries f fs (subst AreEpochEntries same ends.valid)) rest
 
 -- All epochs are read, and all messages of the map have an entry.
 pub read_all : (root : Root) (files : Files) (rs : List Record) (v : Joined) (kept : Vec StoredEntry) → IsReadUpTo root files rs 64 v → Finishes v (Ok kept) → AreRead root files rs kept.items
 read_all root files rs v kept up ends =
-    let all = ends rs up.behind up.entries up.holds in
+    let all = ends rs up.after up.entries up.holds in
     record { entries = up.entries; opened = record { first = all.1; whole = up.whole }; kept_are = all.0 }
 
 -- All epochs are read, and a message of the map has no entry.
 pub read_missing : (root : Root) (files : Files) (rs : List Record) (v : Joined) (refusal : Unmatched) → IsReadUpTo root files rs 64 v → Finishes v (Err refusal) → IsFirstDamage root files rs refusal.epoch (named_length root refusal.epoch)
 read_missing root files rs v refusal up ends =
-    let one = ends rs up.behind up.entries up.holds in
-    inr (inr (record { before = up.entries; next = one.0; behind = one.1; first = one.2; whole = up.whole; stands = sym one.3; place_is = refl }))
+    let one = ends rs up.after up.entries up.holds in
+    inr (inr (record { before = up.entries; next = one.0; after = one.1; first = one.2; whole = up.whole; stands = sym one.3; offset_is = refl }))
 
 -- What was read is the archive that the files stand for, and this is kept of its entries.
 pub read_recovers : (root : Root) (files : Files) (rs : List Record) (kept : List StoredEntry) → HasMap root files rs → (read : AreRead root files rs kept) → RecoversBy root files (archive_of root read.entries)

@@ -6,7 +6,7 @@ use Rattle.disk_model.specs.Laws.{SameOutside, overlay-torn, overlay-inside, Fit
 use Rattle.disk_model.specs.Synced.{Writing, IsWritten, IsSettled}
 use Rattle.root_slots.specs.RootName.{root_name}
 use Rattle.root_slots.specs.Each.{IfThere, EachRoot, part_stays, each_writing, each_written}
-use Rattle.root_slots.specs.Slots.{HasRootSize, IsGateOpen, gate, body_place, body_at, Current, Ready}
+use Rattle.root_slots.specs.Slots.{HasRootSize, IsGateOpen, gate, body_offset, body_at, Current, Ready}
 use Rattle.epoch_store.specs.Settling.{Rests, StaysCurrent, IsReadied, TellsAs}
 
 -- The other slot of the other slot.
@@ -14,18 +14,18 @@ back : (slot : ℕ) → slot < 2 → slot ≡ 1 - (1 - slot)
 back slot below = omega (arith, below)
 
 -- A slot's body stays if another range is written.
-body_kept : (at n slot : ℕ) (a b : List ℕ) → SameOutside at n a b → (body_place slot + 1536 ≤ at) ⊎ (at + n ≤ body_place slot) → body_at b slot ≡ body_at a slot
+body_kept : (at n slot : ℕ) (a b : List ℕ) → SameOutside at n a b → (body_offset slot + 1536 ≤ at) ⊎ (at + n ≤ body_offset slot) → body_at b slot ≡ body_at a slot
 unfolding body_at
-body_kept at n slot a b same apart = part_stays at n a b (body_place slot) 1536 same apart
+body_kept at n slot a b same apart = part_stays at n a b (body_offset slot) 1536 same apart
 
 -- The ranges of the two bodies are apart.
-bodies_apart : (slot : ℕ) → slot < 2 → (body_place slot + 1536 ≤ body_place (1 - slot)) ⊎ (body_place (1 - slot) + 1536 ≤ body_place slot)
+bodies_apart : (slot : ℕ) → slot < 2 → (body_offset slot + 1536 ≤ body_offset (1 - slot)) ⊎ (body_offset (1 - slot) + 1536 ≤ body_offset slot)
 bodies_apart zero below = inl (omega arith)
 bodies_apart (suc zero) below = inr (omega arith)
 bodies_apart (suc (suc n)) below = absurd (omega (arith, below))
 
 -- The current root stays while the body of the other slot, which is shut, is written.
-twin_torn : (slot : ℕ) (body a b : List ℕ) → Current slot body a → gate a (1 - slot) ≢ 1 → SameOutside (body_place (1 - slot)) 1536 a b → Current slot body b
+twin_torn : (slot : ℕ) (body a b : List ℕ) → Current slot body a → gate a (1 - slot) ≢ 1 → SameOutside (body_offset (1 - slot)) 1536 a b → Current slot body b
 twin_torn slot body a b current shut same =
     let low = current.in_range in
     let gate_is : gate b slot ≡ gate a slot = same.bytes slot (inl (omega (arith, low))) in
@@ -34,7 +34,7 @@ twin_torn slot body a b current shut same =
       in_range = low;
       size = same.size ∙ current.size;
       opened = gate_is ∙ current.opened;
-      holds = body_kept (body_place (1 - slot)) 1536 slot a b same (bodies_apart slot low) ∙ current.holds;
+      holds = body_kept (body_offset (1 - slot)) 1536 slot a b same (bodies_apart slot low) ∙ current.holds;
       newest = λ opened. absurd (shut (sym other_is ∙ opened));
     }
 
@@ -43,16 +43,16 @@ open_ready : (slot : ℕ) (body a : List ℕ) → Current slot body a → gate a
 open_ready slot body a current opened = record { current = subst (λ (s : ℕ). Current s body a) (back slot current.in_range) current; other = inl opened }
 
 -- A slot that has the body of the current root is ready.
-filled_ready : (slot : ℕ) (body a : List ℕ) → length body ≡ 1536 → Current slot body a → gate a (1 - slot) ≢ 1 → Ready (1 - slot) body (overlay (body_place (1 - slot)) body a)
+filled_ready : (slot : ℕ) (body a : List ℕ) → length body ≡ 1536 → Current slot body a → gate a (1 - slot) ≢ 1 → Ready (1 - slot) body (overlay (body_offset (1 - slot)) body a)
 unfolding body_at
 filled_ready slot body a whole current shut =
     let size = current.size in
     let low = current.in_range in
-    let b = overlay (body_place (1 - slot)) body a in
-    let same : SameOutside (body_place (1 - slot)) 1536 a b = subst (λ (n : ℕ). SameOutside (body_place (1 - slot)) n a b) whole (overlay-torn (body_place (1 - slot)) body a (omega (arith, size, whole, low))) in
+    let b = overlay (body_offset (1 - slot)) body a in
+    let same : SameOutside (body_offset (1 - slot)) 1536 a b = subst (λ (n : ℕ). SameOutside (body_offset (1 - slot)) n a b) whole (overlay-torn (body_offset (1 - slot)) body a (omega (arith, size, whole, low))) in
     record {
       current = subst (λ (s : ℕ). Current s body b) (back slot low) (twin_torn slot body a b current shut same);
-      other = inr (inl (ap (λ (n : ℕ). take n (drop (body_place (1 - slot)) b)) (sym whole) ∙ overlay-inside (body_place (1 - slot)) body a (omega (arith, size, low))));
+      other = inr (inl (ap (λ (n : ℕ). take n (drop (body_offset (1 - slot)) b)) (sym whole) ∙ overlay-inside (body_offset (1 - slot)) body a (omega (arith, size, low))));
     }
 
 -- A file that is there, with its gate.
@@ -90,7 +90,7 @@ module _ (slot : ℕ) (body : List ℕ) where
   }
 
   -- While the slot is filled.
-  pub filling : (k m : Option Content) (image : Files) → ReadsFit k → ReadsFit m → Rests slot body k → Told Unchanged k m → WhereTold (IsGateOpen (1 - slot) false) k → WhereTold HasRootSize k → Writing root_name (body_place (1 - slot)) 1536 m image → StaysCurrent slot body k image
+  pub filling : (k m : Option Content) (image : Files) → ReadsFit k → ReadsFit m → Rests slot body k → Told Unchanged k m → WhereTold (IsGateOpen (1 - slot) false) k → WhereTold HasRootSize k → Writing root_name (body_offset (1 - slot)) 1536 m image → StaysCurrent slot body k image
   filling None m image fit fit2 rests same shut size writing = absurd rests
   filling (Some k) None image fit fit2 rests same shut size writing = absurd same
   filling (Some k) (Some m) image fit fit2 rests same shut size writing =
@@ -99,19 +99,19 @@ module _ (slot : ℕ) (body : List ℕ) where
       let low = rests.in_range in
       let long : length (bytes_of (m root_name).seen) ≡ 4096 = ap (λ (kept : Kept). length (bytes_of kept.seen)) (same root_name) ∙ size in
       record {
-        root = each_writing (HasShut slot body) (Current slot body) (body_place (1 - slot)) 1536 m image fit2 (omega (arith, long, low)) (omega arith) (each_settled (HasShut slot body) m settled shut_there) (λ a b has torn. twin_torn slot body a b has.current has.shut torn) writing;
+        root = each_writing (HasShut slot body) (Current slot body) (body_offset (1 - slot)) 1536 m image fit2 (omega (arith, long, low)) (omega arith) (each_settled (HasShut slot body) m settled shut_there) (λ a b has torn. twin_torn slot body a b has.current has.shut torn) writing;
         elsewhere = λ other apart. subst (λ (kept : Kept). Fits kept.sure (image other)) (same other) (writing.elsewhere other apart);
       }
 
   -- After the slot is filled.
-  pub readied_filled : (k m n : Option Content) → length body ≡ 1536 → ReadsFit m → ReadsFit n → Rests slot body k → Told Unchanged k m → WhereTold (IsGateOpen (1 - slot) false) k → Told (IsWritten root_name (body_place (1 - slot)) body) m n → Told (IsReadied slot body) k n
+  pub readied_filled : (k m n : Option Content) → length body ≡ 1536 → ReadsFit m → ReadsFit n → Rests slot body k → Told Unchanged k m → WhereTold (IsGateOpen (1 - slot) false) k → Told (IsWritten root_name (body_offset (1 - slot)) body) m n → Told (IsReadied slot body) k n
   readied_filled None m n whole fit fit2 rests same shut written = absurd rests
   readied_filled (Some k) None n whole fit fit2 rests same shut written = absurd same
   readied_filled (Some k) (Some m) None whole fit fit2 rests same shut written = absurd written
   readied_filled (Some k) (Some m) (Some n) whole fit fit2 rests same shut written =
       let shut_there : IfThere (HasShut slot body) (m root_name).seen = subst (λ (kept : Kept). IfThere (HasShut slot body) kept.seen) (sym (same root_name)) (with_gate slot body (k root_name).seen rests.current shut) in
       let settled : IsSettled m = λ other. subst (λ (kept : Kept). Within kept.sure (exact kept.seen)) (sym (same other)) (rests.settled other) in
-      let ready : EachRoot (Ready (1 - slot) body) (Some n) = each_written (HasShut slot body) (Ready (1 - slot) body) (body_place (1 - slot)) body (Some m) (Some n) fit (each_settled (HasShut slot body) m settled shut_there) (λ a has. filled_ready slot body a whole has.current has.shut) written in
+      let ready : EachRoot (Ready (1 - slot) body) (Some n) = each_written (HasShut slot body) (Ready (1 - slot) body) (body_offset (1 - slot)) body (Some m) (Some n) fit (each_settled (HasShut slot body) m settled shut_there) (λ a has. filled_ready slot body a whole has.current has.shut) written in
       record {
         root = ready (n root_name).seen (fit2 n refl root_name);
         elsewhere = λ other apart. written.elsewhere other apart ∙ ap (λ (kept : Kept). kept.seen) (same other);

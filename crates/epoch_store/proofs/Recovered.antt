@@ -32,6 +32,6 @@ recovers_map root files a recovers =
 pub recovers_undamaged : RecordsDiffer → ReadOrDamaged → EntriesDiffer → EpochsDiffer → RecoversUndamaged
 recovers_undamaged records either entries epochs root files a recovers =
     let has = recovers_map root files a recovers in (
-      λ place damaged. either (root.next - 1) (bytes_of (files (map_file_of root))) (records_of a) place (has.count, has.begins) damaged,
-      λ rs epoch place map damage. opened_undamaged entries epochs root files rs a.entries epoch place map (recovers_opened records root files rs a map recovers) damage,
+      λ offset damaged. either (root.next - 1) (bytes_of (files (map_file_of root))) (records_of a) offset (has.count, has.begins) damaged,
+      λ rs epoch offset map damage. opened_undamaged entries epochs root files rs a.entries epoch offset map (recovers_opened records root files rs a map recovers) damage,
     )

@@ -17,7 +17,7 @@ use Rattle.root_slots.specs.declared.root.Root.{Root}
 use Rattle.root_slots.specs.Laws.{SpellingsDiffer}
 use Rattle.root_slots.specs.RootName.{root_name}
 use Rattle.root_slots.specs.Each.{IfThere}
-use Rattle.root_slots.specs.Slots.{slot_number, HasRootSize, Current, HasRoot, body_at, IsShutFile}
+use Rattle.root_slots.specs.Slots.{slot_number, HasRootSize, Current, HasRoot, body_at}
 use Rattle.root_slots.specs.Slots as slots
 use Rattle.root_slots.specs.Spelling.{spelling}
 use Rattle.root_slots.specs.Valid.{no_place}
@@ -31,7 +31,7 @@ use Rattle.epoch_store.specs.Openings.{archive_of, HasMap, OpenedRecovers, Recov
 use Rattle.epoch_store.specs.Opens.{RecoversOf, AllRecoverOf, ReadsAs, Opens, IsWant, IsOnlySynced, SyncsBy, RefusesBefore}
 use Rattle.epoch_store.specs.Recovery.{map_bytes, bytes_in, Recovers, RecoversBy}
 use Rattle.epoch_store.specs.Settling.{IsFound, FoundOn, OnDisk, TellsAs, AreOthers, ToSweep}
-use Rattle.epoch_store.specs.Stores.{View, IsStoreOf, HasSizes, InEpochs, stored_behind}
+use Rattle.epoch_store.specs.Stores.{View, IsStoreOf, HasSizes, InEpochs, stored_after}
 use Rattle.epoch_store.proofs.Mapped.{map_length}
 use Rattle.epoch_store.proofs.Opening.{fronts_by}
 use Rattle.epoch_store.proofs.SweepSteps.{current_root}
@@ -135,12 +135,12 @@ module _ (found : Found) (files : Files) (is : IsFoundIn files found) where
       subst (λ (s : Root). RecoversBy s files a) one r.1
 
   -- The archive's entries are those that were read.
-  kept_is : RecoversOne → OpenedRecovers → (a : Archive) → RecoversBy found.root files a → found.entries.items ≡ stored_behind [] a.entries
+  kept_is : RecoversOne → OpenedRecovers → (a : Archive) → RecoversBy found.root files a → found.entries.items ≡ stored_after [] a.entries
   kept_is one opened a r =
       let map : HasMap found.root files is.records = record { is_root = is.root.is_root; fits = is.root.fits; cache = r.names.cache; current = has_root; count = is.has.count; begins = is.has.begins } in
       let read = opened found.root files is.records is.read.entries map is.read.opened in
       let same : archive_of found.root is.read.entries ≡ a = one files (archive_of found.root is.read.entries) a (found.root, read) (found.root, r) in
-      is.read.kept_are ∙ ap (λ (b : Archive). stored_behind [] b.entries) same
+      is.read.kept_are ∙ ap (λ (b : Archive). stored_after [] b.entries) same
 
 -- What was found of an archive is found so after the sync.
 found_archive : (found : Found) (a : Archive) (k m : Content) → IsFoundIn (as_read k) found → RecoversBy found.root (as_read k) a → IsOnlySynced k m → IsFound found.root (slot_number found.slot) (map_bytes a) (bytes_in a) m

@@ -15,13 +15,13 @@ use Rattle.git_objects.specs.Objects.{blob_id_of}
 use Rattle.arch_model.specs.Archives.{Entry, Archive, in_epoch}
 use Rattle.arch_model.specs.Epochs.{epoch_bytes, entries_bytes, last_commit}
 use Rattle.mail_commits.specs.Entries.{entry_bytes, tree_of, commit_text, magic, message_kind, commit_id}
-use Rattle.epoch_file.specs.Entries.{bytes_behind}
+use Rattle.epoch_file.specs.Entries.{bytes_after}
 use Rattle.epoch_file.specs.Walking.{blob_front}
 use Rattle.epoch_store.specs.declared.entries.StoredEntry.{StoredEntry}
 use Rattle.epoch_store.specs.Files.{Fronts, epoch_file_of}
 use Rattle.arch_model.specs.Validity.{IsEntry}
 use Rattle.epoch_store.specs.Recovery.{bytes_in}
-use Rattle.epoch_store.specs.Stores.{View, IsDiskOf, in_file, stored_at, stored_behind}
+use Rattle.epoch_store.specs.Stores.{View, IsDiskOf, in_file, stored_at, stored_after}
 use Rattle.arch_model.specs.declared.text_refusal.TextRefusal.{TextRefusal}
 use Rattle.arch_model.specs.declared.text_refusal.TextRefusal.TheVariants.{DiskFault, Damaged, NoMemory}
 use Rattle.root_slots.specs.declared.root.Root.{Root}
@@ -43,7 +43,7 @@ record IsKeptOf (before es : List Entry) (i : ℕ) (s : StoredEntry) : Type 0 wh
   pub here : slice_get es i ≡ Some entry
   pub kept : s ≡ stored_at (before ++ front) entry
 
-kept_found : (before es : List Entry) (i : ℕ) (s : StoredEntry) → slice_get (stored_behind before es) i ≡ Some s → IsKeptOf before es i s
+kept_found : (before es : List Entry) (i : ℕ) (s : StoredEntry) → slice_get (stored_after before es) i ≡ Some s → IsKeptOf before es i s
 kept_found before [] i s is = let wrong = slice_get_within {A = StoredEntry} [] i s is in absurd (omega (arith, wrong))
 kept_found before (e ∷ es) zero s is = record {
   front = [];
@@ -70,47 +70,47 @@ one_of_all P [] e ys all = all.0
 one_of_all P (x ∷ xs) e ys all = one_of_all P xs e ys all.1
 
 -- Bytes have a text at an offset.
-record Divided (bytes : List ℕ) (place : ℕ) (text : List ℕ) : Type 0 where
+record Divided (bytes : List ℕ) (offset : ℕ) (text : List ℕ) : Type 0 where
   pub before : List ℕ
-  pub behind : List ℕ
-  pub is : bytes ≡ before ++ (text ++ behind)
-  pub len : length before ≡ place
+  pub after : List ℕ
+  pub is : bytes ≡ before ++ (text ++ after)
+  pub len : length before ≡ offset
 
-divided_behind : (front bytes : List ℕ) (place : ℕ) (text : List ℕ) → Divided bytes place text → Divided (front ++ bytes) (length front + place) text
-divided_behind front bytes place text d = record {
+divided_after : (front bytes : List ℕ) (offset : ℕ) (text : List ℕ) → Divided bytes offset text → Divided (front ++ bytes) (length front + offset) text
+divided_after front bytes offset text d = record {
   before = front ++ d.before;
-  behind = d.behind;
-  is = ap (λ (b : List ℕ). front ++ b) d.is ∙ sym (append_assoc front d.before (text ++ d.behind));
+  after = d.after;
+  is = ap (λ (b : List ℕ). front ++ b) d.is ∙ sym (append_assoc front d.before (text ++ d.after));
   len = length-append front d.before ∙ ap (λ (n : ℕ). length front + n) d.len;
 }
 
-divided_before : (bytes more : List ℕ) (place : ℕ) (text : List ℕ) → Divided bytes place text → Divided (bytes ++ more) place text
-divided_before bytes more place text d = record {
+divided_before : (bytes more : List ℕ) (offset : ℕ) (text : List ℕ) → Divided bytes offset text → Divided (bytes ++ more) offset text
+divided_before bytes more offset text d = record {
   before = d.before;
-  behind = d.behind ++ more;
-  is = ap (λ (b : List ℕ). b ++ more) d.is ∙ (append_assoc d.before (text ++ d.behind) more ∙ ap (λ (b : List ℕ). d.before ++ b) (append_assoc text d.behind more));
+  after = d.after ++ more;
+  is = ap (λ (b : List ℕ). b ++ more) d.is ∙ (append_assoc d.before (text ++ d.after) more ∙ ap (λ (b : List ℕ). d.before ++ b) (append_assoc text d.after more));
   len = d.len;
 }
 
 -- The bytes from there on, as many as the text has, are the text.
-divided_reads : (bytes : List ℕ) (place : ℕ) (text : List ℕ) → Divided bytes place text → (place + length text ≤ length bytes) × (take (length text) (drop place bytes) ≡ text)
-divided_reads bytes place text d =
-    let size : length bytes ≡ length (d.before ++ (text ++ d.behind)) = ap length d.is in
-    let parts = length-append d.before (text ++ d.behind) in
-    let rest = length-append text d.behind in
+divided_reads : (bytes : List ℕ) (offset : ℕ) (text : List ℕ) → Divided bytes offset text → (offset + length text ≤ length bytes) × (take (length text) (drop offset bytes) ≡ text)
+divided_reads bytes offset text d =
+    let size : length bytes ≡ length (d.before ++ (text ++ d.after)) = ap length d.is in
+    let parts = length-append d.before (text ++ d.after) in
+    let rest = length-append text d.after in
     let len = d.len in
-    let dropped : drop place bytes ≡ text ++ d.behind =
-    ap (λ (n : ℕ). drop n bytes) (sym len) ∙ (ap (drop (length d.before)) d.is ∙ drop-append_seam d.before (text ++ d.behind)) in
-    (omega (arith, size, parts, rest, len), ap (take (length text)) dropped ∙ take-append_seam text d.behind)
+    let dropped : drop offset bytes ≡ text ++ d.after =
+    ap (λ (n : ℕ). drop n bytes) (sym len) ∙ (ap (drop (length d.before)) d.is ∙ drop-append_seam d.before (text ++ d.after)) in
+    (omega (arith, size, parts, rest, len), ap (take (length text)) dropped ∙ take-append_seam text d.after)
 
 -- The bytes of entries with one among them.
 entries_split : (parent : Option Id20) (xs : List Entry) (e : Entry) (ys : List Entry)
-    → entries_bytes parent (xs ++ e ∷ ys) ≡ entries_bytes parent xs ++ (bytes_behind (last_commit parent xs) (in_file e) ++ entries_bytes (Some (commit_id message_kind e.text e.moment (last_commit parent xs))) ys)
+    → entries_bytes parent (xs ++ e ∷ ys) ≡ entries_bytes parent xs ++ (bytes_after (last_commit parent xs) (in_file e) ++ entries_bytes (Some (commit_id message_kind e.text e.moment (last_commit parent xs))) ys)
 entries_split parent [] e ys = refl
 entries_split parent (x ∷ xs) e ys =
     let next : Option Id20 = Some (commit_id message_kind x.text x.moment parent) in
     ap (λ (b : List ℕ). entry_bytes message_kind x.text x.moment parent ++ b) (entries_split next xs e ys)
-    ∙ sym (append_assoc (entry_bytes message_kind x.text x.moment parent) (entries_bytes next xs) (bytes_behind (last_commit next xs) (in_file e) ++ entries_bytes (Some (commit_id message_kind e.text e.moment (last_commit next xs))) ys))
+    ∙ sym (append_assoc (entry_bytes message_kind x.text x.moment parent) (entries_bytes next xs) (bytes_after (last_commit next xs) (in_file e) ++ entries_bytes (Some (commit_id message_kind e.text e.moment (last_commit next xs))) ys))
 
 epoch_split : (xs : List Entry) (e : Entry) (ys : List Entry) → epoch_bytes (xs ++ e ∷ ys) ≡ magic ++ entries_bytes None (xs ++ e ∷ ys)
 epoch_split [] e ys = refl
@@ -125,7 +125,7 @@ in_epoch_split xs e ys =
 sized_text : (digits text more : List ℕ) → Divided ((codes "blob " ++ (digits ++ 0 ∷ text)) ++ more) (6 + length digits) text
 sized_text digits text more = record {
   before = codes "blob " ++ (digits ++ 0 ∷ []);
-  behind = more;
+  after = more;
   is = ap (λ (b : List ℕ). codes "blob " ++ b) (append_assoc digits (0 ∷ text) more ∙ sym (append_assoc digits (0 ∷ []) (text ++ more)));
   len = let size = length-append digits (0 ∷ []) in omega (arith, size);
 }
@@ -139,20 +139,20 @@ epoch_text : (xs : List Entry) (e : Entry) (ys : List Entry) → Divided (epoch_
 epoch_text xs e ys =
     let parent = last_commit None xs in
     let rest = entries_bytes (Some (commit_id message_kind e.text e.moment parent)) ys in
-    let all = entries_bytes None xs ++ (bytes_behind parent (in_file e) ++ rest) in
-    let here = divided_before (bytes_behind parent (in_file e)) rest (blob_front e.text) e.text (entry_text message_kind e.text e.moment parent) in
-    let behind = divided_behind (entries_bytes None xs) (bytes_behind parent (in_file e) ++ rest) (blob_front e.text) e.text here in
-    let whole : Divided (magic ++ all) (length magic + (length (entries_bytes None xs) + blob_front e.text)) e.text = divided_behind magic all (length (entries_bytes None xs) + blob_front e.text) e.text behind in
-    let place : length magic + (length (entries_bytes None xs) + blob_front e.text) ≡ 8 + length (entries_bytes None xs) + blob_front e.text = omega arith in
-    subst (λ (n : ℕ). Divided (epoch_bytes (xs ++ e ∷ ys)) n e.text) place
+    let all = entries_bytes None xs ++ (bytes_after parent (in_file e) ++ rest) in
+    let here = divided_before (bytes_after parent (in_file e)) rest (blob_front e.text) e.text (entry_text message_kind e.text e.moment parent) in
+    let after = divided_after (entries_bytes None xs) (bytes_after parent (in_file e) ++ rest) (blob_front e.text) e.text here in
+    let whole : Divided (magic ++ all) (length magic + (length (entries_bytes None xs) + blob_front e.text)) e.text = divided_after magic all (length (entries_bytes None xs) + blob_front e.text) e.text after in
+    let offset : length magic + (length (entries_bytes None xs) + blob_front e.text) ≡ 8 + length (entries_bytes None xs) + blob_front e.text = omega arith in
+    subst (λ (n : ℕ). Divided (epoch_bytes (xs ++ e ∷ ys)) n e.text) offset
     (subst (λ (b : List ℕ). Divided b (length magic + (length (entries_bytes None xs) + blob_front e.text)) e.text) (sym (epoch_split xs e ys ∙ ap (λ (b : List ℕ). magic ++ b) (entries_split None xs e ys))) whole)
 
 -- A text in the bytes that a file starts with is in the file.
-in_fronts : (bytes : List ℕ) (file : File) (place : ℕ) (text : List ℕ) → Fronts bytes file → Divided bytes place text → Divided (bytes_of file) place text
-in_fronts bytes file place text fronts d =
+in_fronts : (bytes : List ℕ) (file : File) (offset : ℕ) (text : List ℕ) → Fronts bytes file → Divided bytes offset text → Divided (bytes_of file) offset text
+in_fronts bytes file offset text fronts d =
     let whole : bytes ++ drop (length bytes) (bytes_of file) ≡ bytes_of file =
     ap (λ (b : List ℕ). b ++ drop (length bytes) (bytes_of file)) (sym fronts.front) ∙ take-append-drop (length bytes) (bytes_of file) in
-    subst (λ (b : List ℕ). Divided b place text) whole (divided_before bytes (drop (length bytes) (bytes_of file)) place text d)
+    subst (λ (b : List ℕ). Divided b offset text) whole (divided_before bytes (drop (length bytes) (bytes_of file)) offset text d)
 
 -- The text of an entry that a store keeps is on its disk at the offset that the store has, and has
 -- the size and the blob id of the entry.
@@ -174,13 +174,13 @@ text_stands v a k own i s is =
     let fronts = own.on.exact.stands.epochs_front e.epoch (omega (arith, low)) in
     let xs = in_epoch r.front e.epoch in
     let ys = in_epoch r.rest e.epoch in
-    let place = 8 + length (entries_bytes None xs) + blob_front e.text in
+    let offset = 8 + length (entries_bytes None xs) + blob_front e.text in
     let bytes : bytes_in a e.epoch ≡ epoch_bytes (xs ++ e ∷ ys) =
     ap (λ (l : List Entry). epoch_bytes (in_epoch l e.epoch)) r.is ∙ ap epoch_bytes (in_epoch_split r.front e r.rest) in
     let file = k (epoch_file_of v.root e.epoch) in
-    let inside : Divided (bytes_of file.seen) place e.text =
-    in_fronts (bytes_in a e.epoch) file.seen place e.text fronts (subst (λ (b : List ℕ). Divided b place e.text) (sym bytes) (epoch_text xs e ys)) in
-    let reads = divided_reads (bytes_of file.seen) place e.text inside in
+    let inside : Divided (bytes_of file.seen) offset e.text =
+    in_fronts (bytes_in a e.epoch) file.seen offset e.text fronts (subst (λ (b : List ℕ). Divided b offset e.text) (sym bytes) (epoch_text xs e ys)) in
+    let reads = divided_reads (bytes_of file.seen) offset e.text inside in
     subst P (sym r.kept) (record { entry = e; here = r.here; size = refl; blob = refl; long = reads.0; stands = reads.1 })
 
 -- An error without damage leaves the bytes, and says no more.
@@ -213,11 +213,11 @@ right_text v a None i s text own is stands = absurd own
 right_text v a (Some k) i s text own is stands = stands_is_text v a k i s text (text_stands v a k own i s is) stands
 
 -- A read into room of a size gives the bytes at the offset.
-stands_read : (file before after : List ℕ) (place size n : ℕ) → length before ≡ size → n ≡ min (length before) (length file - place) → after ≡ take n (drop place file) ++ drop n before → StandsAt file place size after
-stands_read file before after place size n len count bytes long =
+stands_read : (file before after : List ℕ) (offset size n : ℕ) → length before ≡ size → n ≡ min (length before) (length file - offset) → after ≡ take n (drop offset file) ++ drop n before → StandsAt file offset size after
+stands_read file before after offset size n len count bytes long =
     let all : n ≡ size = omega (arith, len, count, long) in
     let none : drop n before ≡ [] = drop_all n before (omega (arith, len, all)) in
-    bytes ∙ (ap (λ (l : List ℕ). take n (drop place file) ++ l) none ∙ (append-nil (take n (drop place file)) ∙ ap (λ (m : ℕ). take m (drop place file)) all)) where
+    bytes ∙ (ap (λ (l : List ℕ). take n (drop offset file) ++ l) none ∙ (append-nil (take n (drop offset file)) ∙ ap (λ (m : ℕ). take m (drop offset file)) all)) where
       drop_all : (m : ℕ) (xs : List ℕ) → length xs ≤ m → drop m xs ≡ []
       drop_all m [] less = drop_none m where
         drop_none : (j : ℕ) → drop {A = ℕ} j [] ≡ []
@@ -226,10 +226,10 @@ stands_read file before after place size n len count bytes long =
       drop_all zero (x ∷ xs) less = absurd (omega (arith, less))
       drop_all (suc m) (x ∷ xs) less = drop_all m xs (omega (arith, less))
 
-pub stands_told : (k : Option Content) (file : FileName) (before after : List ℕ) (place size n : ℕ) → length before ≡ size → WhereTold (HasRead file place n before after) k
-    → WhereTold (λ (c : Content). StandsAt (bytes_of (c file).seen) place size after) k
-stands_told None file before after place size n len read = tt
-stands_told (Some k) file before after place size n len read = stands_read (bytes_of (k file).seen) before after place size n len read.count read.bytes
+pub stands_told : (k : Option Content) (file : FileName) (before after : List ℕ) (offset size n : ℕ) → length before ≡ size → WhereTold (HasRead file offset n before after) k
+    → WhereTold (λ (c : Content). StandsAt (bytes_of (c file).seen) offset size after) k
+stands_told None file before after offset size n len read = tt
+stands_told (Some k) file before after offset size n len read = stands_read (bytes_of (k file).seen) before after offset size n len read.count read.bytes
 
 -- Unchanged content is unchanged.
 pub unchanged_itself : (k : Option Content) → Told Unchanged k k

@@ -42,52 +42,52 @@ module _ (first second : Part) (apart : first.file ≢ second.file) where
   pub appending_start : (content : Option Content) (image : Files) → Image content image → Appending first second content image
   appending_start None image left = tt
   appending_start (Some k) image left = record {
-    first_front = itself first.place (k first.file) (image first.file) (left first.file);
-    second_front = itself second.place (k second.file) (image second.file) (left second.file);
+    first_front = itself first.offset (k first.file) (image first.file) (left first.file);
+    second_front = itself second.offset (k second.file) (image second.file) (left second.file);
     elsewhere = λ other one two. left other;
   }
 
   -- After the first write.
-  pub appending_one : (n : ℕ) (old new : Option Content) (image : Files) → ReadsFit old → WhereTold (IsAtMostLength first.file first.place) old → Told (OneFile first.file (Touched first.place n)) old new → Image new image → Appending first second old image
+  pub appending_one : (n : ℕ) (old new : Option Content) (image : Files) → ReadsFit old → WhereTold (IsAtMostLength first.file first.offset) old → Told (OneFile first.file (Touched first.offset n)) old new → Image new image → Appending first second old image
   appending_one n None None image fit inside told left = tt
   appending_one n None (Some m) image fit inside told left = absurd told
   appending_one n (Some k) None image fit inside told left = absurd told
   appending_one n (Some k) (Some m) image fit inside told left = record {
-    first_front = touched_front first.place n (k first.file) (m first.file) (image first.file) (fit k refl first.file) inside told.here (left first.file);
-    second_front = itself second.place (k second.file) (image second.file) (as_before second.file (λ is. apart (sym is)));
+    first_front = touched_front first.offset n (k first.file) (m first.file) (image first.file) (fit k refl first.file) inside told.here (left first.file);
+    second_front = itself second.offset (k second.file) (image second.file) (as_before second.file (λ is. apart (sym is)));
     elsewhere = λ other one two. as_before other one;
   } where
     as_before : (other : FileName) → other ≢ first.file → Fits (k other).sure (image other)
     as_before other one = subst (λ (kept : Kept). Fits kept.sure (image other)) (told.elsewhere other one) (left other)
 
   -- After an append that returned an error.
-  pub appending_left : {D : Type 0} (content : D → Option Content) (old new : D) (piece : List ℕ) (refusal : StoreRefusal) (image : Files) → ReadsFit (content old) → WhereTold (IsAtMostLength first.file first.place) (content old)
-      → AppendLeaves first.file first.place piece content old new (Err refusal) → Image (content new) image → Appending first second (content old) image
-  appending_left content old new piece DiskFault image fit inside left = appending_one (length piece) (content old) (content new) image fit inside (tore_touched first.file first.place (length piece) (content old) (content new) left)
+  pub appending_left : {D : Type 0} (content : D → Option Content) (old new : D) (piece : List ℕ) (refusal : StoreRefusal) (image : Files) → ReadsFit (content old) → WhereTold (IsAtMostLength first.file first.offset) (content old)
+      → AppendLeaves first.file first.offset piece content old new (Err refusal) → Image (content new) image → Appending first second (content old) image
+  appending_left content old new piece DiskFault image fit inside left = appending_one (length piece) (content old) (content new) image fit inside (tore_touched first.file first.offset (length piece) (content old) (content new) left)
   appending_left content old new piece NoMemory image fit inside left = λ now. appending_start (content old) image (subst (λ (o : Option Content). Image o image) (ap content left) now)
   appending_left content old new piece (Damaged file at) image fit inside left = absurd left
 
   -- After the second write.
-  pub appending_two : (n p : ℕ) (old mid new : Option Content) (image : Files) → ReadsFit old → WhereTold (IsAtMostLength first.file first.place) old → WhereTold (IsAtMostLength second.file second.place) old
-      → Told (OneFile first.file (Touched first.place n)) old mid → Told (OneFile second.file (Touched second.place p)) mid new → Image new image → Appending first second old image
+  pub appending_two : (n p : ℕ) (old mid new : Option Content) (image : Files) → ReadsFit old → WhereTold (IsAtMostLength first.file first.offset) old → WhereTold (IsAtMostLength second.file second.offset) old
+      → Told (OneFile first.file (Touched first.offset n)) old mid → Told (OneFile second.file (Touched second.offset p)) mid new → Image new image → Appending first second old image
   appending_two n p None None None image fit inside inside2 told told2 left = tt
   appending_two n p None None (Some m) image fit inside inside2 told told2 left = absurd told2
   appending_two n p None (Some m) new image fit inside inside2 told told2 left = absurd told
   appending_two n p (Some k) None new image fit inside inside2 told told2 left = absurd told
   appending_two n p (Some k) (Some m) None image fit inside inside2 told told2 left = absurd told2
   appending_two n p (Some k) (Some m) (Some l) image fit inside inside2 told told2 left = record {
-    first_front = touched_front first.place n (k first.file) (m first.file) (image first.file) (fit k refl first.file) inside told.here
+    first_front = touched_front first.offset n (k first.file) (m first.file) (image first.file) (fit k refl first.file) inside told.here
         (subst (λ (kept : Kept). Fits kept.sure (image first.file)) (told2.elsewhere first.file apart) (left first.file));
     second_front =
         let same : m second.file ≡ k second.file = told.elsewhere second.file (λ is. apart (sym is)) in
-        touched_front second.place p (k second.file) (l second.file) (image second.file) (fit k refl second.file) inside2
-        (subst (λ (kept : Kept). Touched second.place p kept (l second.file)) same told2.here) (left second.file);
+        touched_front second.offset p (k second.file) (l second.file) (image second.file) (fit k refl second.file) inside2
+        (subst (λ (kept : Kept). Touched second.offset p kept (l second.file)) same told2.here) (left second.file);
     elsewhere = λ other one two.
         subst (λ (kept : Kept). Fits kept.sure (image other)) (told2.elsewhere other two ∙ told.elsewhere other one) (left other);
   }
 
   -- Both files after two writes and a sync.
-  pub appended : (bytes more : List ℕ) (old mid new last : Option Content) → Told (OneFile first.file (Wrote first.place bytes)) old mid → Told (OneFile second.file (Wrote second.place more)) mid new → Told Synced new last
+  pub appended : (bytes more : List ℕ) (old mid new last : Option Content) → Told (OneFile first.file (Wrote first.offset bytes)) old mid → Told (OneFile second.file (Wrote second.offset more)) mid new → Told Synced new last
       → Told (AreAppended first bytes second more) old last
   appended bytes more None None None None a b c = tt
   appended bytes more None None None (Some n) a b c = absurd c
@@ -100,22 +100,22 @@ module _ (first second : Part) (apart : first.file ≢ second.file) where
     first_file = c.seen first.file ∙ (ap (λ (kept : Kept). kept.seen) (b.elsewhere first.file apart) ∙ a.here.seen);
     second_file =
         let same : m second.file ≡ k second.file = a.elsewhere second.file (λ is. apart (sym is)) in
-        c.seen second.file ∙ (b.here.seen ∙ ap (λ (kept : Kept). Some (overlay second.place more (bytes_of kept.seen))) same);
+        c.seen second.file ∙ (b.here.seen ∙ ap (λ (kept : Kept). Some (overlay second.offset more (bytes_of kept.seen))) same);
     elsewhere = λ other one two. c.seen other ∙ ap (λ (kept : Kept). kept.seen) (b.elsewhere other two ∙ a.elsewhere other one);
     settled = λ other. subst (λ (file : File). Within (n other).sure (exact file)) (sym (c.seen other)) (c.crash other);
   }
 
   -- What the second write requires.
-  pub inside_after : (n : ℕ) (old mid : Option Content) → WhereTold (IsAtMostLength second.file second.place) old → Told (OneFile first.file (Touched first.place n)) old mid → WhereTold (IsAtMostLength second.file second.place) mid
+  pub inside_after : (n : ℕ) (old mid : Option Content) → WhereTold (IsAtMostLength second.file second.offset) old → Told (OneFile first.file (Touched first.offset n)) old mid → WhereTold (IsAtMostLength second.file second.offset) mid
   inside_after n None None inside told = tt
   inside_after n None (Some m) inside told = absurd told
   inside_after n (Some k) None inside told = absurd told
-  inside_after n (Some k) (Some m) inside told = subst (λ (kept : Kept). second.place ≤ length (bytes_of kept.seen)) (sym (told.elsewhere second.file (λ is. apart (sym is)))) inside
+  inside_after n (Some k) (Some m) inside told = subst (λ (kept : Kept). second.offset ≤ length (bytes_of kept.seen)) (sym (told.elsewhere second.file (λ is. apart (sym is)))) inside
 
 -- What a crash leaves at each moment of both writes and a sync, by the clauses of these calls.
-module _ {D : Type 0} (moment : D → ℕ) (left_since : D → ℕ → Files → Type 0) (first second : Part) (apart : first.file ≢ second.file) (k0 k1 : Option Content) (fit : ReadsFit k0) (inside : WhereTold (IsAtMostLength first.file first.place) k0) (disk mid : D)
-    (now : (image : Files) → left_since disk (moment disk) image → Image k0 image) (time : Elapses (moment disk) (moment mid) (left_since disk) (left_since mid) k1) (n p : ℕ) (one : Told (OneFile first.file (Touched first.place n)) k0 k1)
-    (inside_second : WhereTold (IsAtMostLength second.file second.place) k0) (new : D) (k2 : Option Content) (time_second : Elapses (moment mid) (moment new) (left_since mid) (left_since new) k2) (two : Told (OneFile second.file (Touched second.place p)) k1 k2) where
+module _ {D : Type 0} (moment : D → ℕ) (left_since : D → ℕ → Files → Type 0) (first second : Part) (apart : first.file ≢ second.file) (k0 k1 : Option Content) (fit : ReadsFit k0) (inside : WhereTold (IsAtMostLength first.file first.offset) k0) (disk mid : D)
+    (now : (image : Files) → left_since disk (moment disk) image → Image k0 image) (time : Elapses (moment disk) (moment mid) (left_since disk) (left_since mid) k1) (n p : ℕ) (one : Told (OneFile first.file (Touched first.offset n)) k0 k1)
+    (inside_second : WhereTold (IsAtMostLength second.file second.offset) k0) (new : D) (k2 : Option Content) (time_second : Elapses (moment mid) (moment new) (left_since mid) (left_since new) k2) (two : Told (OneFile second.file (Touched second.offset p)) k1 k2) where
   after_both : (image : Files) → Image k2 image → Appending first second k0 image
   after_both image = appending_two first second apart n p k0 k1 k2 image fit inside inside_second one two
 

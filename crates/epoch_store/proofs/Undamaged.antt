@@ -13,7 +13,7 @@ use Rattle.arch_model.specs.Archives.{Entry, in_epoch}
 use Rattle.mail_commits.specs.Entries.{magic}
 use Rattle.arch_model.specs.Epochs.{epoch_bytes, entries_bytes, last_commit}
 use Rattle.number_map.specs.declared.line.Record.{Record}
-use Rattle.epoch_file.specs.Entries.{EntriesDiffer, EpochEntry, AreEpochEntries, bytes_behind, commit_behind, chain, last_of, EpochsDiffer}
+use Rattle.epoch_file.specs.Entries.{EntriesDiffer, EpochEntry, AreEpochEntries, bytes_after, commit_after, chain, last_of, EpochsDiffer}
 use Rattle.root_slots.specs.declared.root.Root.{Root}
 use Rattle.root_slots.specs.Valid.{RootFits}
 use Rattle.epoch_store.specs.Files.{epoch_file_of}
@@ -105,20 +105,20 @@ same_entries (x ∷ xs) (y ∷ ys) is files valid =
     λ i. record { number = (head i).number; epoch = (head i).epoch; text = (file i).text; moment = (file i).moment } ∷ rest i
 
 -- Entries whose records start with those of others.
-record Split (all xs : List Entry) (behind : List Record) : Type 0 where
+record Split (all xs : List Entry) (after : List Record) : Type 0 where
   front : List Entry
   back : List Entry
   is : all ≡ front ++ back
   front_is : map record_of front ≡ map record_of xs
-  back_is : map record_of back ≡ behind
+  back_is : map record_of back ≡ after
 
-split : (all xs : List Entry) (behind : List Record) → map record_of all ≡ map record_of xs ++ behind → Split all xs behind
-split all [] behind is = record { front = []; back = all; is = refl; front_is = refl; back_is = is }
-split [] (x ∷ xs) behind is = absurd (let wrong : [] ≡ record_of x ∷ (map record_of xs ++ behind) = is in cc)
-split (e ∷ es) (x ∷ xs) behind is =
+split : (all xs : List Entry) (after : List Record) → map record_of all ≡ map record_of xs ++ after → Split all xs after
+split all [] after is = record { front = []; back = all; is = refl; front_is = refl; back_is = is }
+split [] (x ∷ xs) after is = absurd (let wrong : [] ≡ record_of x ∷ (map record_of xs ++ after) = is in cc)
+split (e ∷ es) (x ∷ xs) after is =
     let head : record_of e ≡ record_of x = cc in
-    let tail : map record_of es ≡ map record_of xs ++ behind = cc in
-    let rest = split es xs behind tail in
+    let tail : map record_of es ≡ map record_of xs ++ after = cc in
+    let rest = split es xs after tail in
     record { front = e ∷ rest.front; back = rest.back; is = ap (λ (l : List Entry). e ∷ l) rest.is; front_is = (λ i. head i ∷ rest.front_is i); back_is = rest.back_is }
 
 -- One list is a prefix of another.
@@ -138,15 +138,15 @@ cut (x ∷ xs) b (y ∷ ys) d is same =
     ((λ i. head i ∷ rest.0 i), rest.1)
 
 -- Entries start with others, and these follow.
-record Shares (all xs : List Entry) (behind : List Record) (fronts : (d : ℕ) → d < 64 → IsFront (filed xs d) (filed all d)) : Type 0 where
+record Shares (all xs : List Entry) (after : List Record) (fronts : (d : ℕ) → d < 64 → IsFront (filed xs d) (filed all d)) : Type 0 where
   back : List Entry
   is : all ≡ xs ++ back
-  records : map record_of back ≡ behind
+  records : map record_of back ≡ after
   files : (d : ℕ) (less : d < 64) → filed back d ≡ (fronts d less).rest
 
-shares : (all xs : List Entry) (behind : List Record) (fronts : (d : ℕ) → d < 64 → IsFront (filed xs d) (filed all d)) → map record_of all ≡ map record_of xs ++ behind → AllByRecursion IsEntry all → Shares all xs behind fronts
-shares all xs behind fronts is valid =
-    let parts = split all xs behind is in
+shares : (all xs : List Entry) (after : List Record) (fronts : (d : ℕ) → d < 64 → IsFront (filed xs d) (filed all d)) → map record_of all ≡ map record_of xs ++ after → AllByRecursion IsEntry all → Shares all xs after fronts
+shares all xs after fronts is valid =
+    let parts = split all xs after is in
     let cuts : (d : ℕ) (less : d < 64) → (filed parts.front d ≡ filed xs d) × (filed parts.back d ≡ (fronts d less).rest) =
     (λ d less. cut (filed parts.front d) (filed parts.back d) (filed xs d) (fronts d less).rest
     (sym (filed_joined parts.front parts.back d) ∙ (ap (λ (l : List Entry). filed l d) (sym parts.is) ∙ (fronts d less).is)) (filed_count parts.front xs d parts.front_is)) in
@@ -175,26 +175,26 @@ named_whole : (root : Root) (files : Files) (epoch : ℕ) (all : List Entry) →
 named_whole root files epoch all whole less = ap (λ (n : ℕ). take n (bytes_of (files (epoch_file_of root epoch)))) (whole.lengths epoch less) ∙ (whole.fronts epoch less).front
 
 -- No epoch lacks its magic.
-no_front_lost : (root : Root) (files : Files) (rs : List Record) (entries : List Entry) (epoch place : ℕ) → AreWhole root files 64 entries → epoch < 64 → LacksFront root files rs epoch place → ⊥
-no_front_lost root files rs entries epoch place whole less lost = by (in_epoch entries epoch) (named_whole root files epoch entries whole less) (whole.lengths epoch less) where
+no_front_lost : (root : Root) (files : Files) (rs : List Record) (entries : List Entry) (epoch offset : ℕ) → AreWhole root files 64 entries → epoch < 64 → LacksFront root files rs epoch offset → ⊥
+no_front_lost root files rs entries epoch offset whole less lost = by (in_epoch entries epoch) (named_whole root files epoch entries whole less) (whole.lengths epoch less) where
   by : (here : List Entry) → named_bytes root files epoch ≡ epoch_bytes here → named_length root epoch ≡ length (epoch_bytes here) → ⊥
   by [] is long = let some = lost.some in absurd (omega (arith, some, long))
   by (e ∷ es) is long = lost.lacks (ap (take 8) is ∙ take-append_seam magic (entries_bytes None (e ∷ es)))
 
 -- No message is missing.
-none_missing : EpochsDiffer → (root : Root) (files : Files) (rs : List Record) (entries : List Entry) (epoch place : ℕ) → RootFits root → AreOpened root files rs entries → LacksLast root files rs epoch place → ⊥
-none_missing differ root files rs entries epoch place fits opened lost =
+none_missing : EpochsDiffer → (root : Root) (files : Files) (rs : List Record) (entries : List Entry) (epoch offset : ℕ) → RootFits root → AreOpened root files rs entries → LacksLast root files rs epoch offset → ⊥
+none_missing differ root files rs entries epoch offset fits opened lost =
     let fronts : (d : ℕ) → d < 64 → IsFront (filed lost.before d) (filed entries d) =
     (λ d less. let one : IsFront (filed lost.before d) (filed entries d) = record {
       rest = [];
       is = same_filed differ root files 64 d entries lost.before fits opened.first.valid lost.first.valid opened.whole lost.whole less less ∙ sym (append-nil (filed lost.before d));
     } in one) in
-    let records : map record_of entries ≡ map record_of lost.before ++ lost.next ∷ lost.behind = sym (append-nil (map record_of entries)) ∙ (sym opened.first.records ∙ lost.first.records) in
-    let all = shares entries lost.before (lost.next ∷ lost.behind) fronts records opened.first.valid in
+    let records : map record_of entries ≡ map record_of lost.before ++ lost.next ∷ lost.after = sym (append-nil (map record_of entries)) ∙ (sym opened.first.records ∙ lost.first.records) in
+    let all = shares entries lost.before (lost.next ∷ lost.after) fronts records opened.first.valid in
     by all.back all.records (λ d less. all.files d less) (all_back IsEntry lost.before all.back (subst (AllByRecursion IsEntry) all.is opened.first.valid))
   where
-    by : (back : List Entry) → map record_of back ≡ lost.next ∷ lost.behind → ((d : ℕ) → d < 64 → filed back d ≡ []) → AllByRecursion IsEntry back → ⊥
-    by [] is none valid = let wrong : [] ≡ lost.next ∷ lost.behind = is in cc
+    by : (back : List Entry) → map record_of back ≡ lost.next ∷ lost.after → ((d : ℕ) → d < 64 → filed back d ≡ []) → AllByRecursion IsEntry back → ⊥
+    by [] is none valid = let wrong : [] ≡ lost.next ∷ lost.after = is in cc
     by (c ∷ cs) is none valid =
         let small = valid.0.epoch in
         let wrong : in_file c ∷ filed cs c.epoch ≡ [] = sym (found_in c cs) ∙ none c.epoch (omega (arith, small)) in cc
@@ -211,14 +211,14 @@ no_front (z ∷ zs) c r is = absurd (cc)
 
 pub prefix_of : EntriesDiffer → (parent : Option Id20) (xs ys : List EpochEntry) (rest : List ℕ) → AreEpochEntries xs → AreEpochEntries ys → length (chain parent ys) < 2 ^ 64 → chain parent ys ≡ chain parent xs ++ rest → Prefix parent xs ys rest
 prefix_of differ parent [] ys rest valid also short is = record { more = ys; is = refl; rest_is = sym is }
-prefix_of differ parent (x ∷ xs) [] rest valid also short is = absurd (entry_some parent x (no_front (bytes_behind parent x) (chain (Some (commit_behind parent x)) xs) rest is))
+prefix_of differ parent (x ∷ xs) [] rest valid also short is = absurd (entry_some parent x (no_front (bytes_after parent x) (chain (Some (commit_after parent x)) xs) rest is))
 prefix_of differ parent (x ∷ xs) (y ∷ ys) rest valid also short is =
-    let next : Option Id20 = Some (commit_behind parent x) in
-    let tail = chain (Some (commit_behind parent y)) ys in
-    let one = differ parent y x tail (chain next xs ++ rest) also.0 valid.0 short (is ∙ append_assoc (bytes_behind parent x) (chain next xs) rest) in
-    let same : chain next ys ≡ chain next xs ++ rest = ap (λ (e : EpochEntry). chain (Some (commit_behind parent e)) ys) (sym one.0) ∙ one.1 in
-    let size : length (chain next ys) ≡ length tail = ap (λ (e : EpochEntry). length (chain (Some (commit_behind parent e)) ys)) (sym one.0) in
-    let later = prefix_of differ next xs ys rest valid.1 also.1 (omega (arith, short, size, length-append (bytes_behind parent y) tail)) same in
+    let next : Option Id20 = Some (commit_after parent x) in
+    let tail = chain (Some (commit_after parent y)) ys in
+    let one = differ parent y x tail (chain next xs ++ rest) also.0 valid.0 short (is ∙ append_assoc (bytes_after parent x) (chain next xs) rest) in
+    let same : chain next ys ≡ chain next xs ++ rest = ap (λ (e : EpochEntry). chain (Some (commit_after parent e)) ys) (sym one.0) ∙ one.1 in
+    let size : length (chain next ys) ≡ length tail = ap (λ (e : EpochEntry). length (chain (Some (commit_after parent e)) ys)) (sym one.0) in
+    let later = prefix_of differ next xs ys rest valid.1 also.1 (omega (arith, short, size, length-append (bytes_after parent y) tail)) same in
     let first = one.0 in
     record { more = later.more; is = (λ i. first i ∷ later.is i); rest_is = later.rest_is }
 
@@ -277,11 +277,11 @@ begins_here : (es here : List Entry) (rest : List ℕ) → epoch_bytes es ≡ (m
 begins_here [] here rest is = absurd (let size : 0 ≡ length ((magic ++ entries_bytes None here) ++ rest) = ap (λ (b : List ℕ). length b) is in omega (arith, size, length-append (magic ++ entries_bytes None here) rest, length-append magic (entries_bytes None here)))
 begins_here (e ∷ es) here rest is =
     let all = entries_bytes None (e ∷ es) in
-    let behind : all ≡ entries_bytes None here ++ rest = append_cancel_left magic all (entries_bytes None here ++ rest) (is ∙ append_assoc magic (entries_bytes None here) rest) in
-    (ap (λ (b : List ℕ). magic ++ b) (chain_of None (e ∷ es)), sym (chain_of None (e ∷ es)) ∙ (behind ∙ ap (λ (b : List ℕ). b ++ rest) (chain_of None here)))
+    let after : all ≡ entries_bytes None here ++ rest = append_cancel_left magic all (entries_bytes None here ++ rest) (is ∙ append_assoc magic (entries_bytes None here) rest) in
+    (ap (λ (b : List ℕ). magic ++ b) (chain_of None (e ∷ es)), sym (chain_of None (e ∷ es)) ∙ (after ∙ ap (λ (b : List ℕ). b ++ rest) (chain_of None here)))
 
 -- What is known of an epoch that is said to lack its next entry, if all entries are known.
-record Meets (root : Root) (files : Files) (rs : List Record) (epoch place : ℕ) (entries : List Entry) (lost : LacksNext root files rs epoch place) : Type 0 where
+record Meets (root : Root) (files : Files) (rs : List Record) (epoch offset : ℕ) (entries : List Entry) (lost : LacksNext root files rs epoch offset) : Type 0 where
   back : List Entry
   is : entries ≡ (lost.before ++ lost.here) ++ back
   earlier : (d : ℕ) → d < epoch → filed back d ≡ []
@@ -289,8 +289,8 @@ record Meets (root : Root) (files : Files) (rs : List Record) (epoch place : ℕ
   rest_is : lost.rest ≡ chain (last_of None (map in_file lost.here)) (filed back epoch)
   long : named_length root epoch ≡ 8 + length (entries_bytes None lost.here) + length lost.rest
 
-meets : EntriesDiffer → EpochsDiffer → (root : Root) (files : Files) (rs : List Record) (entries : List Entry) (epoch place : ℕ) → RootFits root → AreOpened root files rs entries → epoch < 64 → (lost : LacksNext root files rs epoch place) → Meets root files rs epoch place entries lost
-meets entry epochs root files rs entries epoch place fits opened less lost =
+meets : EntriesDiffer → EpochsDiffer → (root : Root) (files : Files) (rs : List Record) (entries : List Entry) (epoch offset : ℕ) → RootFits root → AreOpened root files rs entries → epoch < 64 → (lost : LacksNext root files rs epoch offset) → Meets root files rs epoch offset entries lost
+meets entry epochs root files rs entries epoch offset fits opened less lost =
     let xs = lost.before ++ lost.here in
     let named = named_whole root files epoch entries opened.whole less in
     let begins = begins_here (in_epoch entries epoch) lost.here lost.rest (sym named ∙ lost.spelled) in
@@ -310,8 +310,8 @@ meets entry epochs root files rs entries epoch place fits opened less lost =
     (all_weaker (λ (e : Entry). e.epoch ≡ epoch) (λ (e : Entry). e.epoch < d) lost.here (λ e same. omega (arith, same, over)) lost.stand)))) in
     let fronts : (d : ℕ) → d < 64 → IsFront (filed xs d) (filed entries d) = (λ d few. by d few (filed xs d) (filed entries d) (filed xs epoch) (filed entries epoch) prefix.more (λ under. before d under few) (after d)
     (prefix.is ∙ ap (λ (l : List EpochEntry). l ++ prefix.more) (sym only)) (λ same. (λ i. filed xs (same i))) (λ same. (λ i. filed entries (same i)))) in
-    let records : map record_of entries ≡ map record_of xs ++ lost.behind = sym (append-nil (map record_of entries)) ∙ (sym opened.first.records ∙ lost.first.records) in
-    let all = shares entries xs lost.behind fronts records opened.first.valid in
+    let records : map record_of entries ≡ map record_of xs ++ lost.after = sym (append-nil (map record_of entries)) ∙ (sym opened.first.records ∙ lost.first.records) in
+    let all = shares entries xs lost.after fronts records opened.first.valid in
     let joined : (d : ℕ) → filed entries d ≡ filed xs d ++ filed all.back d = (λ d. ap (λ (l : List Entry). filed l d) all.is ∙ filed_joined xs all.back d) in
     let more : prefix.more ≡ filed all.back epoch =
     append_cancel_left (filed xs epoch) prefix.more (filed all.back epoch) (ap (λ (l : List EpochEntry). l ++ prefix.more) only ∙ (sym prefix.is ∙ joined epoch)) in
@@ -336,9 +336,9 @@ meets entry epochs root files rs entries epoch place fits opened less lost =
       ]
 
 -- No entry is missing.
-none_lost : EntriesDiffer → EpochsDiffer → (root : Root) (files : Files) (rs : List Record) (entries : List Entry) (epoch place : ℕ) → RootFits root → AreOpened root files rs entries → epoch < 64 → LacksNext root files rs epoch place → ⊥
-none_lost entry epochs root files rs entries epoch place fits opened less lost =
-    let met = meets entry epochs root files rs entries epoch place fits opened less lost in
+none_lost : EntriesDiffer → EpochsDiffer → (root : Root) (files : Files) (rs : List Record) (entries : List Entry) (epoch offset : ℕ) → RootFits root → AreOpened root files rs entries → epoch < 64 → LacksNext root files rs epoch offset → ⊥
+none_lost entry epochs root files rs entries epoch offset fits opened less lost =
+    let met = meets entry epochs root files rs entries epoch offset fits opened less lost in
     by met.back met.is met.earlier (filed met.back epoch) refl met.here_is met.rest_is met.long
   where
     -- The epoch has no entry.
@@ -353,10 +353,10 @@ none_lost entry epochs root files rs entries epoch place fits opened less lost =
         → lost.rest ≡ chain (last_of None (map in_file lost.here)) more → named_length root epoch ≡ 8 + length (entries_bytes None lost.here) + length lost.rest → ⊥
     by back is earlier [] there here rest long =
         let size : length lost.rest ≡ 0 = ap (λ (b : List ℕ). length b) rest in
-        let place_is = lost.place_is in
+        let offset_is = lost.offset_is in
         elim lost.wanted [
           | inl none ↦ empty none here (omega (arith, long))
-          | inr goes_on ↦ absurd (omega (arith, long, size, place_is, goes_on))
+          | inr goes_on ↦ absurd (omega (arith, long, size, offset_is, goes_on))
         ]
     by [] is earlier (f ∷ fs) there here rest long = let wrong : [] ≡ f ∷ fs = there in cc
     by (c ∷ cs) is earlier (f ∷ fs) there here rest long =
@@ -372,10 +372,10 @@ none_lost entry epochs root files rs entries epoch place fits opened less lost =
         let file : f ≡ in_file c = cc in
         let parent : last_of None (map in_file lost.here) ≡ last_commit None lost.here = sym (last_is None lost.here) in
         let first : AreFirst rs (map record_of cs) (xs ++ c ∷ []) = first_front rs (xs ++ c ∷ []) cs (subst (AreFirst rs []) (is ∙ sym (append_assoc xs (c ∷ []) cs)) opened.first) in
-        lost.lacks c (map record_of cs) (chain (Some (commit_behind (last_commit None lost.here) (in_file c))) fs) same first (rest ∙ (λ i. chain (parent i) (file i ∷ fs)))
+        lost.lacks c (map record_of cs) (chain (Some (commit_after (last_commit None lost.here) (in_file c))) fs) same first (rest ∙ (λ i. chain (parent i) (file i ∷ fs)))
 
 -- Files that are opened have no damage.
 pub opened_undamaged : EntriesDiffer → EpochsDiffer → OpenedUndamaged
-opened_undamaged entry epochs root files rs entries epoch place has opened (inl front) = no_front_lost root files rs entries epoch place opened.whole front.0 front.1
-opened_undamaged entry epochs root files rs entries epoch place has opened (inr (inl next)) = none_lost entry epochs root files rs entries epoch place has.fits opened next.0 next.1
-opened_undamaged entry epochs root files rs entries epoch place has opened (inr (inr last)) = none_missing epochs root files rs entries epoch place has.fits opened last
+opened_undamaged entry epochs root files rs entries epoch offset has opened (inl front) = no_front_lost root files rs entries epoch offset opened.whole front.0 front.1
+opened_undamaged entry epochs root files rs entries epoch offset has opened (inr (inl next)) = none_lost entry epochs root files rs entries epoch offset has.fits opened next.0 next.1
+opened_undamaged entry epochs root files rs entries epoch offset has opened (inr (inr last)) = none_missing epochs root files rs entries epoch offset has.fits opened last

@@ -9,7 +9,7 @@ use Rattle.arch_model.specs.Archives.{Entry, in_epoch}
 use Rattle.arch_model.specs.Epochs.{epoch_bytes, entries_bytes}
 use Rattle.mail_commits.specs.Entries.{magic}
 use Rattle.number_map.specs.declared.line.Record.{Record}
-use Rattle.epoch_file.specs.Entries.{EpochEntry, AreEpochEntries, bytes_behind, commit_behind, chain, epoch_of, EpochsDiffer}
+use Rattle.epoch_file.specs.Entries.{EpochEntry, AreEpochEntries, bytes_after, commit_after, chain, epoch_of, EpochsDiffer}
 use Rattle.arch_model.specs.Validity.{IsEntry, Rise}
 use Rattle.epoch_store.specs.Recovery.{entry_of, record_for, records_from}
 use Rattle.epoch_store.specs.Stores.{in_file}
@@ -124,20 +124,20 @@ pub records_at : (es fs : List Entry) (n count : ℕ) → records_from es n coun
 records_at es fs n zero is m low high = absurd (omega (arith, low, high))
 records_at es fs n (suc count) is m low high = elim (nat_eq_or_not n m) [
   | inl here ↦ subst (SameRecord es fs) here (ap (front (record_for n None)) is)
-  | inr apart ↦ records_at es fs (n + 1) count (ap behind is) m (omega (arith, low, apart)) (omega (arith, high))
+  | inr apart ↦ records_at es fs (n + 1) count (ap after is) m (omega (arith, low, apart)) (omega (arith, high))
 ] where
   front : Record → List Record → Record
   front other [] = other
   front other (r ∷ rs) = r
 
-  behind : List Record → List Record
-  behind [] = []
-  behind (r ∷ rs) = rs
+  after : List Record → List Record
+  after [] = []
+  after (r ∷ rs) = rs
 
 -- The bytes of entries are those of their file entries.
 chain_is : (parent : Option Id20) (es : List Entry) → entries_bytes parent es ≡ chain parent (map in_file es)
 chain_is parent [] = refl
-chain_is parent (e ∷ es) = ap (λ (b : List ℕ). bytes_behind parent (in_file e) ++ b) (chain_is (Some (commit_behind parent (in_file e))) es)
+chain_is parent (e ∷ es) = ap (λ (b : List ℕ). bytes_after parent (in_file e) ++ b) (chain_is (Some (commit_after parent (in_file e))) es)
 
 -- All of them may be in a file.
 are_entries : (es : List Entry) → AllByRecursion IsEntry es → AreEpochEntries (map in_file es)

@@ -9,7 +9,7 @@ use Rattle.arch_model.specs.Archives.{Entry, in_epoch}
 use Rattle.mail_commits.specs.Entries.{magic}
 use Rattle.arch_model.specs.Epochs.{epoch_bytes, entries_bytes, last_commit}
 use Rattle.number_map.specs.declared.line.Record.{Record}
-use Rattle.epoch_file.specs.Entries.{bytes_behind}
+use Rattle.epoch_file.specs.Entries.{bytes_after}
 use Rattle.epoch_file.specs.Walking.{LacksMagic}
 use Rattle.root_slots.specs.declared.root.Root.{Root}
 use Rattle.root_slots.specs.Valid.{no_place}
@@ -31,12 +31,12 @@ record_of e = record { number = e.number; epoch = e.epoch; blob = blob_id_of e.t
 
 -- These may be an archive's entries, and their records are the first of a map's that have a
 -- message, followed by the others.
-pub record AreFirst (rs behind : List Record) (entries : List Entry) : Type 0 where
+pub record AreFirst (rs after : List Record) (entries : List Entry) : Type 0 where
   pub valid : AllByRecursion IsEntry entries
   pub order : Rise 1 0 entries
   pub ids : IdsDiffer entries
   pub blobs : BlobsAgree entries
-  pub records : messages rs ≡ map record_of entries ++ behind
+  pub records : messages rs ≡ map record_of entries ++ after
 
 -- The length of an epoch that a root names.
 abbrev pub named_length : Root → ℕ → ℕ
@@ -63,49 +63,51 @@ pub record AreOpened (root : Root) (files : Files) (rs : List Record) (entries :
 
 -- The epochs below this one are whole, and have the first entries of the map. This one doesn't
 -- start with the magic.
-pub record LacksFront (root : Root) (files : Files) (rs : List Record) (epoch place : ℕ)
+pub record LacksFront (root : Root) (files : Files) (rs : List Record) (epoch offset : ℕ)
     : Type 0 where
   pub before : List Entry
-  pub behind : List Record
-  pub first : AreFirst rs behind before
+  pub after : List Record
+  pub first : AreFirst rs after before
   pub whole : AreWhole root files epoch before
   pub some : 0 < named_length root epoch
   pub lacks : LacksMagic (named_length root epoch) (bytes_of (files (epoch_file_of root epoch)))
-  pub place_is : place ≡ 0
+  pub offset_is : offset ≡ 0
 
 -- The epochs below this one are whole. This one starts with the magic and some entries, and all of
 -- these are the first of the map. There is no next one at the offset after them, although there is
 -- none yet or the epoch goes on.
-pub record LacksNext (root : Root) (files : Files) (rs : List Record) (epoch place : ℕ) : Type 0 where
+pub record LacksNext (root : Root) (files : Files) (rs : List Record) (epoch offset : ℕ)
+    : Type 0 where
   pub before : List Entry
   pub here : List Entry
-  pub behind : List Record
+  pub after : List Record
   pub rest : List ℕ
-  pub first : AreFirst rs behind (before ++ here)
+  pub first : AreFirst rs after (before ++ here)
   pub whole : AreWhole root files epoch before
   pub stand : AllByRecursion (λ (e : Entry). e.epoch ≡ epoch) here
   pub spelled : named_bytes root files epoch ≡ (magic ++ entries_bytes None here) ++ rest
-  pub place_is : place ≡ 8 + length (entries_bytes None here)
-  pub wanted : (here ≡ []) ⊎ (place < named_length root epoch)
+  pub offset_is : offset ≡ 8 + length (entries_bytes None here)
+  pub wanted : (here ≡ []) ⊎ (offset < named_length root epoch)
   pub lacks : (next : Entry) (others : List Record) (more : List ℕ) → next.epoch ≡ epoch
       → AreFirst rs others ((before ++ here) ++ next ∷ [])
-      → rest ≢ bytes_behind (last_commit None here) (in_file next) ++ more
+      → rest ≢ bytes_after (last_commit None here) (in_file next) ++ more
 
 -- All epochs are whole, and have the first entries of the map. The map has one more record, whose
 -- message should be in this epoch, after its end.
-pub record LacksLast (root : Root) (files : Files) (rs : List Record) (epoch place : ℕ) : Type 0 where
+pub record LacksLast (root : Root) (files : Files) (rs : List Record) (epoch offset : ℕ)
+    : Type 0 where
   pub before : List Entry
   pub next : Record
-  pub behind : List Record
-  pub first : AreFirst rs (next ∷ behind) before
+  pub after : List Record
+  pub first : AreFirst rs (next ∷ after) before
   pub whole : AreWhole root files epoch_count before
   pub stands : epoch ≡ next.epoch
-  pub place_is : place ≡ named_length root epoch
+  pub offset_is : offset ≡ named_length root epoch
 
 -- An epoch is the first one that is damaged, at this offset: 0, or that of the first entry that
 -- isn't there or isn't the next one of the map. If all epochs are whole, it is the end of the one
 -- that should have the map's next message.
 abbrev pub IsFirstDamage : Root → Files → List Record → ℕ → ℕ → Type 0
-IsFirstDamage root files rs epoch place =
-    ((epoch < epoch_count) × LacksFront root files rs epoch place) ⊎ (((epoch < epoch_count)
-    × LacksNext root files rs epoch place) ⊎ LacksLast root files rs epoch place)
+IsFirstDamage root files rs epoch offset =
+    ((epoch < epoch_count) × LacksFront root files rs epoch offset) ⊎ (((epoch < epoch_count)
+    × LacksNext root files rs epoch offset) ⊎ LacksLast root files rs epoch offset)

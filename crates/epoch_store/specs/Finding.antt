@@ -132,18 +132,18 @@ ReadsSeen root epoch old seen result files =
 
 -- Why an epoch isn't read whose file is no epoch from an offset on, whatever was read before.
 abbrev pub StopsEpoch : Root → ℕ → Joined → ℕ → OpenRefusal → Files → Type 0
-StopsEpoch root epoch old place refusal files =
+StopsEpoch root epoch old offset refusal files =
     (rs : List Record) → RootFits root → 0 < named_length root epoch
     → IsReadUpTo root files rs epoch old
-    → IsDamagedAt (named_length root epoch) (bytes_of (files (epoch_file_of root epoch))) place
+    → IsDamagedAt (named_length root epoch) (bytes_of (files (epoch_file_of root epoch))) offset
     → StopsBy root files rs refusal
 
 -- The same if the entries before that offset are known.
 abbrev pub StopsSeen : Root → ℕ → Joined → ℕ → List Seen → OpenRefusal → Files → Type 0
-StopsSeen root epoch old place seen refusal files =
+StopsSeen root epoch old offset seen refusal files =
     (rs : List Record) → RootFits root → IsReadUpTo root files rs epoch old
-    → IsDamagedAt (named_length root epoch) (bytes_of (files (epoch_file_of root epoch))) place
-    → IsEpoch place (bytes_of (files (epoch_file_of root epoch))) seen
+    → IsDamagedAt (named_length root epoch) (bytes_of (files (epoch_file_of root epoch))) offset
+    → IsEpoch offset (bytes_of (files (epoch_file_of root epoch))) seen
     → StopsBy root files rs refusal
 
 -- All epochs are read, or why not, if none was read before.

@@ -18,7 +18,7 @@ use Rattle.epoch_store.specs.declared.known.Known.{Known}
 use Rattle.epoch_store.specs.declared.known.JoinRefusal.{JoinRefusal}
 use Rattle.epoch_store.specs.declared.known.JoinRefusal.TheVariants.{NoMemory, Damaged}
 use Rattle.epoch_store.specs.declared.known.Unmatched.{Unmatched}
-use Rattle.epoch_store.specs.Stores.{in_file, stored_behind}
+use Rattle.epoch_store.specs.Stores.{in_file, stored_after}
 use Rattle.epoch_store.specs.Damage.{messages, AreFirst}
 
 -- The records of a map that have a message, and what is kept of the entries so far.
@@ -28,11 +28,11 @@ pub record Joined : Type 0 where
 
 -- The records are those of a valid map that have a message, the entries are these, and their
 -- records are the first of them, followed by the others.
-pub record Holds (v : Joined) (rs behind : List Record) (entries : List Entry) : Type 0 where
+pub record Holds (v : Joined) (rs after : List Record) (entries : List Entry) : Type 0 where
   pub numbered : AreRecordsFrom 1 rs
   pub records : v.records ≡ messages rs
-  pub entries_are : v.entries ≡ stored_behind [] entries
-  pub first : AreFirst rs behind entries
+  pub entries_are : v.entries ≡ stored_after [] entries
+  pub first : AreFirst rs after entries
 
 -- All entries so far are in epochs before this one.
 abbrev pub AreBefore : ℕ → List StoredEntry → Type 0
@@ -106,24 +106,24 @@ JoinsOne old epoch seen (Err NoMemory) = Unit {0}
 pub record AreJoined (new : Joined) (rs : List Record) (others : List Entry) (epoch : ℕ)
     (here : List EpochEntry) : Type 0 where
   pub more : List Entry
-  pub behind : List Record
+  pub after : List Record
   pub stand : AllByRecursion (λ (e : Entry). e.epoch ≡ epoch) more
   pub are : here ≡ map in_file more
-  pub holds : Holds new rs behind (others ++ more)
+  pub holds : Holds new rs after (others ++ more)
 
 -- Some first entries of an epoch can be joined to others, and the one after them, at this offset,
 -- can't: whatever entry it is, it isn't the map's next one, or it lacks an own id and a blob id of
 -- its own.
 pub record StopsAt (rs : List Record) (others : List Entry) (epoch : ℕ) (here : List EpochEntry)
-    (place : ℕ) : Type 0 where
+    (offset : ℕ) : Type 0 where
   pub more : List Entry
-  pub behind : List Record
+  pub after : List Record
   pub wrong : EpochEntry
   pub rest : List EpochEntry
   pub stand : AllByRecursion (λ (e : Entry). e.epoch ≡ epoch) more
   pub are : here ≡ map in_file more ++ wrong ∷ rest
-  pub first : AreFirst rs behind (others ++ more)
-  pub place_is : place ≡ 8 + length (entries_bytes None more)
+  pub first : AreFirst rs after (others ++ more)
+  pub offset_is : offset ≡ 8 + length (entries_bytes None more)
   pub no_next : (next : Entry) (left : List Record) → next.epoch ≡ epoch → in_file next ≡ wrong
       → AreFirst rs left ((others ++ more) ++ next ∷ []) → ⊥
 
@@ -139,15 +139,15 @@ JoinsAll rs others epoch here (Err NoMemory) = Unit {0}
 -- recorded so.
 abbrev pub TakesEpoch : Joined → ℕ → List Seen → Result Joined JoinRefusal → Type 0
 TakesEpoch old epoch seen result =
-    (rs behind : List Record) (others : List Entry) (here : List EpochEntry)
-    → Holds old rs behind others → AreEpochEntries here → seen ≡ seen_from 8 None here
+    (rs after : List Record) (others : List Entry) (here : List EpochEntry)
+    → Holds old rs after others → AreEpochEntries here → seen ≡ seen_from 8 None here
     → JoinsAll rs others epoch here result
 
 -- All records of the map that have a message have an entry, and this is what is kept; or the first
 -- one without an entry should be in this epoch.
 abbrev pub Finishes : Joined → Result (Vec StoredEntry) Unmatched → Type 0
-Finishes v (Ok kept) = (rs behind : List Record) (entries : List Entry) → Holds v rs behind entries
-    → (kept.items ≡ stored_behind [] entries) × AreFirst rs [] entries
-Finishes v (Err refusal) = (rs behind : List Record) (entries : List Entry)
-    → Holds v rs behind entries → (next : Record) × (left : List Record)
+Finishes v (Ok kept) = (rs after : List Record) (entries : List Entry) → Holds v rs after entries
+    → (kept.items ≡ stored_after [] entries) × AreFirst rs [] entries
+Finishes v (Err refusal) = (rs after : List Record) (entries : List Entry)
+    → Holds v rs after entries → (next : Record) × (left : List Record)
     × AreFirst rs (next ∷ left) entries × (next.epoch ≡ refusal.epoch)

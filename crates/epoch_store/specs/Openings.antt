@@ -13,7 +13,7 @@ use Rattle.root_slots.specs.Valid.{IsRoot, RootFits}
 use Rattle.epoch_store.specs.Files.{map_file_of}
 use Rattle.epoch_store.specs.Recovery.{records_of, RecoversBy}
 use Rattle.epoch_store.specs.declared.entries.StoredEntry.{StoredEntry}
-use Rattle.epoch_store.specs.Stores.{stored_behind}
+use Rattle.epoch_store.specs.Stores.{stored_after}
 use Rattle.epoch_store.specs.Damage.{AreWhole, AreOpened, IsFirstDamage}
 use Rattle.epoch_store.specs.Joined.{Joined, Holds}
 
@@ -35,8 +35,8 @@ pub record HasMap (root : Root) (files : Files) (rs : List Record) : Type 0 wher
 pub record IsReadUpTo (root : Root) (files : Files) (rs : List Record) (epoch : ℕ) (v : Joined)
     : Type 0 where
   pub entries : List Entry
-  pub behind : List Record
-  pub holds : Holds v rs behind entries
+  pub after : List Record
+  pub holds : Holds v rs after entries
   pub whole : AreWhole root files epoch entries
 
 -- All epochs are read, and this is kept of their entries.
@@ -44,7 +44,7 @@ pub record AreRead (root : Root) (files : Files) (rs : List Record) (kept : List
     : Type 0 where
   pub entries : List Entry
   pub opened : AreOpened root files rs entries
-  pub kept_are : kept ≡ stored_behind [] entries
+  pub kept_are : kept ≡ stored_after [] entries
 
 -- Files that are opened stand for the archive of what was found.
 abbrev pub OpenedRecovers : Type 0
@@ -60,8 +60,8 @@ RecoversOpened = (root : Root) (files : Files) (rs : List Record) (a : Archive)
 -- Files that are opened have no damage.
 abbrev pub OpenedUndamaged : Type 0
 OpenedUndamaged = (root : Root) (files : Files) (rs : List Record) (entries : List Entry)
-    (epoch place : ℕ) → HasMap root files rs → AreOpened root files rs entries
-    → IsFirstDamage root files rs epoch place → ⊥
+    (epoch offset : ℕ) → HasMap root files rs → AreOpened root files rs entries
+    → IsFirstDamage root files rs epoch offset → ⊥
 
 -- Files that stand for an archive have its map.
 abbrev pub RecoversMap : Type 0
@@ -72,6 +72,6 @@ RecoversMap = (root : Root) (files : Files) (a : Archive) → RecoversBy root fi
 abbrev pub RecoversUndamaged : Type 0
 RecoversUndamaged =
     (root : Root) (files : Files) (a : Archive) → RecoversBy root files a
-    → ((place : ℕ) → IsDamaged (root.next - 1) place (bytes_of (files (map_file_of root))) → ⊥)
-    × ((rs : List Record) (epoch place : ℕ) → HasMap root files rs
-    → IsFirstDamage root files rs epoch place → ⊥)
+    → ((offset : ℕ) → IsDamaged (root.next - 1) offset (bytes_of (files (map_file_of root))) → ⊥)
+    × ((rs : List Record) (epoch offset : ℕ) → HasMap root files rs
+    → IsFirstDamage root files rs epoch offset → ⊥)

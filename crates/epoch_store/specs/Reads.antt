@@ -50,7 +50,7 @@ GivesText s old new (Err NoMemory) = new ≡ old
 
 -- A text is the bytes of a file from an offset on, if the file has so many.
 abbrev pub StandsAt : List ℕ → ℕ → ℕ → List ℕ → Type 0
-StandsAt file place size text = place + size ≤ length file → text ≡ take size (drop place file)
+StandsAt file offset size text = offset + size ≤ length file → text ≡ take size (drop offset file)
 
 -- What is read and what is found are the bytes at the offset of an entry's text, in the file of its
 -- epoch.

@@ -48,15 +48,15 @@ stored_at before e = record {
 }
 
 -- What is kept of entries after others.
-abbrev pub stored_behind : List Entry → List Entry → List StoredEntry
-stored_behind before [] = []
-stored_behind before (e ∷ es) = stored_at before e ∷ stored_behind (before ++ e ∷ []) es
+abbrev pub stored_after : List Entry → List Entry → List StoredEntry
+stored_after before [] = []
+stored_after before (e ∷ es) = stored_at before e ∷ stored_after (before ++ e ∷ []) es
 
 -- A store keeps an archive: the root that names it, and its entries.
 pub record Keeps (v : View) (a : Archive) : Type 0 where
   pub valid : IsArchive a
   pub names : Names v.root a
-  pub kept : v.entries ≡ stored_behind [] a.entries
+  pub kept : v.entries ≡ stored_after [] a.entries
 
 -- A disk is a store's own, and holds this archive: the store keeps it, and the disk is exactly the
 -- archive's by the store's root.
@@ -180,4 +180,4 @@ abbrev pub SeesNoDamage : {T : Type 0} → Result T StoreRefusal → Type 0
 SeesNoDamage (Ok given) = Unit {0}
 SeesNoDamage (Err DiskFault) = Unit {0}
 SeesNoDamage (Err NoMemory) = Unit {0}
-SeesNoDamage (Err (Damaged file place)) = ⊥
+SeesNoDamage (Err (Damaged file offset)) = ⊥

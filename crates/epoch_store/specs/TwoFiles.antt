@@ -11,8 +11,8 @@ use Rattle.epoch_store.specs.declared.putting.Part.{Part}
 
 -- A crash leaves two files with their bytes up to an offset each, and every other file as before.
 pub record IsAppending (first second : Part) (k : Content) (image : Files) : Type 0 where
-  pub first_front : FrontOrigin first.place (k first.file).sure (image first.file)
-  pub second_front : FrontOrigin second.place (k second.file).sure (image second.file)
+  pub first_front : FrontOrigin first.offset (k first.file).sure (image first.file)
+  pub second_front : FrontOrigin second.offset (k second.file).sure (image second.file)
   pub elsewhere : (other : FileName) → other ≢ first.file → other ≢ second.file
       → Fits (k other).sure (image other)
 
@@ -26,9 +26,9 @@ Appending first second (Some k) image = IsAppending first second k image
 pub record AreAppended (first : Part) (bytes : List ℕ) (second : Part) (more : List ℕ)
     (old new : Content) : Type 0 where
   pub first_file : (new first.file).seen
-      ≡ Some (overlay first.place bytes (bytes_of (old first.file).seen))
+      ≡ Some (overlay first.offset bytes (bytes_of (old first.file).seen))
   pub second_file : (new second.file).seen
-      ≡ Some (overlay second.place more (bytes_of (old second.file).seen))
+      ≡ Some (overlay second.offset more (bytes_of (old second.file).seen))
   pub elsewhere : (other : FileName) → other ≢ first.file → other ≢ second.file
       → (new other).seen ≡ (old other).seen
   pub settled : IsSettled new

@@ -107,7 +107,7 @@ fn take(root: &Root, epoch: u32, joining: Joining, seen: SeenList) -> Result<Joi
     requires small { epoch ≤ greatest_epoch }
     requires before { AreBefore epoch joining.entries }
     ensures taken { (files : Files) → ReadsSeen root.now epoch joining seen result files }
-    ensures behind { IfOk result (λ joined. AreBefore (epoch + 1) joined.entries) }
+    ensures below { IfOk result (λ joined. AreBefore (epoch + 1) joined.entries) }
     ensures no_fault { result ≢ Err OpenRefusal.DiskFault }
 {
     law_of_entries();
@@ -127,7 +127,7 @@ fn take(root: &Root, epoch: u32, joining: Joining, seen: SeenList) -> Result<Joi
 /// if all can.
 fn stop_in(root: &Root, epoch: u32, joining: Joining, at: u64, seen: SeenList) -> OpenRefusal
     requires small { epoch ≤ greatest_epoch }
-    requires behind { 8 < at }
+    requires past { 8 < at }
     requires before { AreBefore epoch joining.entries }
     ensures stops { (files : Files) → StopsSeen root.now epoch joining at seen result files }
     ensures no_fault { result ≢ OpenRefusal.DiskFault }
@@ -189,7 +189,7 @@ fn join_epoch<D: Disk>(
     requires before { AreBefore epoch joining.entries }
     ensures joined { WhereTold (λ k.
         ReadsEpoch root.now epoch joining result (as_read k)) (D.content disk.old) }
-    ensures behind { IfOk result (λ joined. AreBefore (epoch + 1) joined.entries) }
+    ensures below { IfOk result (λ joined. AreBefore (epoch + 1) joined.entries) }
     ensures reads { OnlyReads D.content D.moment D.left_since D.faults disk.old disk.new }
     ensures fault { result ≡ Err OpenRefusal.DiskFault
         → Rose (D.faults disk.old) (D.faults disk.new) }
@@ -216,7 +216,7 @@ fn join_all<D: Disk>(
     requires before { AreBefore 0 joining.entries }
     ensures joined { WhereTold (λ k.
         ReadsEach root.now joining result (as_read k)) (D.content disk.old) }
-    ensures behind { IfOk result (λ joined. AreBefore epoch_count joined.entries) }
+    ensures below { IfOk result (λ joined. AreBefore epoch_count joined.entries) }
     ensures reads { OnlyReads D.content D.moment D.left_since D.faults disk.old disk.new }
     ensures fault { result ≡ Err OpenRefusal.DiskFault
         → Rose (D.faults disk.old) (D.faults disk.new) }

@@ -1,7 +1,7 @@
 //! Joins the entries of the epochs to the records of the map.
 ghost use Rattle.std.specs.Prelude.{◌≡◌, ◌+◌, ◌<◌, ◌≤◌, [], IfOk, IfErr};
 ghost use Rattle.disk_model.specs.Sizes.{epoch_count, greatest_epoch};
-ghost use Rattle.epoch_store.specs.Damage.{messages, has_message};
+ghost use Rattle.epoch_store.specs.Damage.{messages};
 ghost use Rattle.epoch_store.specs.Joined.{Wants, JoinsOne, AreBefore, TakesEpoch, Finishes};
 
 use crate::entries::StoredEntry;
@@ -127,7 +127,7 @@ impl Joining {
         requires small { epoch ≤ greatest_epoch }
         requires before { AreBefore epoch self.entries }
         ensures taken { TakesEpoch self epoch seen result }
-        ensures behind { IfOk result (λ joining. AreBefore (epoch + 1) joining.entries) }
+        ensures below { IfOk result (λ joining. AreBefore (epoch + 1) joining.entries) }
     {
         let mut joining = self;
         for entry in seen.into_vec() {

@@ -21,7 +21,7 @@ pub struct Part {
     /// The file.
     pub file: FileName,
     /// The offset, in bytes.
-    pub place: u64,
+    pub offset: u64,
 }
 
 /// Writes an entry to an epoch's file and its record to a map, and syncs.
@@ -37,14 +37,14 @@ pub fn put_both<D: Disk>(
 ) -> Result<Written, StoreRefusal>
     requires apart { epoch.file ≢ map.file }
     requires moment { entry.now.moment ≤ last_moment }
-    requires epoch_inside { WhereTold (IsAtMostLength epoch.file epoch.place) (D.content disk.old) }
-    requires epoch_place { epoch.place < 2 ^ 62 }
-    requires map_inside { WhereTold (IsAtMostLength map.file map.place) (D.content disk.old) }
-    requires map_place { map.place + record_size < 2 ^ 63 }
+    requires epoch_inside { WhereTold (IsAtMostLength epoch.file epoch.offset) (D.content disk.old) }
+    requires epoch_offset { epoch.offset < 2 ^ 62 }
+    requires map_inside { WhereTold (IsAtMostLength map.file map.offset) (D.content disk.old) }
+    requires map_offset { map.offset + record_size < 2 ^ 63 }
     ensures any_moment { LeavesOnly D.moment D.left_since disk.old disk.new
         (Appending epoch map (D.content disk.old)) }
-    ensures written { IfOk result (λ written. written ≡ written_of epoch.place entry.now) }
-    ensures appended { OnOk result (Told (AreAppended epoch (appended epoch.place entry.now) map
+    ensures written { IfOk result (λ written. written ≡ written_of epoch.offset entry.now) }
+    ensures appended { OnOk result (Told (AreAppended epoch (appended epoch.offset entry.now) map
         (record_bytes (line_of number epoch entry.now))) (D.content disk.old)
         (D.content disk.new)) }
     ensures refused { result ≡ Err StoreRefusal.NoMemory → disk.new ≡ disk.old }
@@ -52,13 +52,13 @@ pub fn put_both<D: Disk>(
     ensures cause { RoseIf (result ≡ Err StoreRefusal.DiskFault) (D.faults disk.old) (D.faults disk.new) }
     ensures count { D.reads disk.new ≡ D.reads disk.old }
 {
-    let written = append_entry(alloc, disk, epoch.file, epoch.place, entry)?;
+    let written = append_entry(alloc, disk, epoch.file, epoch.offset, entry)?;
     let line = Record {
         number,
         epoch: epoch.file.number,
         blob: written.blob,
     };
-    append(disk, map.file, map.place, &line)?;
+    append(disk, map.file, map.offset, &line)?;
     disk.sync()?;
     Ok(written)
 }

@@ -146,12 +146,12 @@ pub(crate) fn read_text<D: Disk>(
     alloc: Global,
     disk: &mut D,
     file: FileName,
-    place: u64,
+    offset: u64,
     size: u64,
 ) -> Result<Vec<u8>, TextRefusal>
     ensures size { IfOk result (λ text. length text.items ≡ size) }
     ensures found { IfOk result (λ text. WhereTold (λ k.
-        StandsAt (bytes_of (k file).seen) place size text.items) (D.content disk.old)) }
+        StandsAt (bytes_of (k file).seen) offset size text.items) (D.content disk.old)) }
     ensures other { AnswersQuietly result }
     ensures same { Told Unchanged (D.content disk.old) (D.content disk.new) }
     ensures any_moment { LeavesOnly D.moment D.left_since disk.old disk.new
@@ -161,6 +161,6 @@ pub(crate) fn read_text<D: Disk>(
     ensures count { D.reads disk.new ≤ D.reads disk.old + 1 }
 {
     let mut text = room_for(alloc, size)?;
-    disk.read(file, place, text.as_mut_slice())?;
+    disk.read(file, offset, text.as_mut_slice())?;
     Ok(text)
 }

@@ -1,5 +1,5 @@
 //! The archive on a disk, as it is kept in memory.
-ghost use Rattle.std.specs.Prelude.{◌≡◌, ◌≤◌, ◌<◌, ◌+◌, ◌-◌, ◌^◌, ◌++◌, ◌∷◌, [], ℕ, List, Err, Some, IsSome, IsTrue, IfOk, OnOk, OnErr, ◌==◌, if◌then◌else◌, decimal, min, length};
+ghost use Rattle.std.specs.Prelude.{◌≡◌, ◌≤◌, ◌<◌, ◌+◌, ◌-◌, ◌^◌, [], Err, Some, IsSome, IfOk, OnOk, OnErr, ◌==◌, if◌then◌else◌, decimal, length};
 ghost use Rattle.arch_base.specs.Counts.{RoseIf};
 ghost use Rattle.disk_model.specs.Disk.{WhereTold, LeavesOnly};
 ghost use Rattle.disk_model.specs.Sizes.{greatest_epoch, epoch_count};
@@ -205,11 +205,11 @@ impl Store {
     {
         let epoch = Part {
             file: epoch_file(place.epoch, place.gen_),
-            place: place.length,
+            offset: place.length,
         };
         let map = Part {
             file: map_file(self.root.map.gen_),
-            place: self.root.map.length,
+            offset: self.root.map.length,
         };
         let written = put_both(alloc, disk, epoch, entry, map, self.root.next)?;
         let root = self.next_root(place, written.end);
@@ -244,7 +244,7 @@ impl Store {
               moment = entry.now.moment;
             }) }
     {
-        let at = front_place(place.length);
+        let at = entry_offset(place.length);
         StoredEntry {
             number: self.root.next,
             epoch: place.epoch,
@@ -324,7 +324,7 @@ impl Store {
 /// Returns the offset of a new entry in a file of a length.
 ///
 /// A new file starts with eight other bytes.
-fn front_place(length: u64) -> u64
+fn entry_offset(length: u64) -> u64
     ensures { result ≡ (if length == 0 then 8 else length) }
 {
     if length == 0 { 8 } else { length }

@@ -161,8 +161,8 @@ fn a_walk_sees_each_entry(rt: HostRuntime) -> Result<(), Fail> {
 /// Returns where a walk of the epoch ends if the byte at this offset is another one, or that the
 /// walk still sees three entries. A digit of a commit's moment makes another commit, which the next
 /// one doesn't name.
-fn broken(place: u64) -> Result<usize, WalkRefusal> {
-    match place {
+fn broken(offset: u64) -> Result<usize, WalkRefusal> {
+    match offset {
         1005..1014 => Ok(3),
         0..8 => Err(WalkRefusal::Damaged { at: 0 }),
         293..302 | 316..649 | 658..672 => Err(WalkRefusal::Damaged { at: 316 }),
@@ -172,19 +172,19 @@ fn broken(place: u64) -> Result<usize, WalkRefusal> {
 }
 
 /// Makes a byte another one and back, and returns whether a walk in between finds what it should.
-fn is_broken<D: Disk>(alloc: Global, disk: &mut D, place: u64) -> Result<bool, DiskFault> {
+fn is_broken<D: Disk>(alloc: Global, disk: &mut D, offset: u64) -> Result<bool, DiskFault> {
     let mut byte = [0];
-    let read = disk.read(FILE, place, &mut byte)?;
-    write(disk, FILE, place, &[byte[0] ^ 1])?;
-    let same = count(alloc, disk, LENGTH) == broken(place);
-    write(disk, FILE, place, &byte)?;
+    let read = disk.read(FILE, offset, &mut byte)?;
+    write(disk, FILE, offset, &[byte[0] ^ 1])?;
+    let same = count(alloc, disk, LENGTH) == broken(offset);
+    write(disk, FILE, offset, &byte)?;
     Ok(read == 1 && same)
 }
 
 /// Makes each byte of the epoch another one and back, and walks it.
 fn break_each<D: Disk>(rt: &impl Abort, alloc: Global, disk: &mut D) -> Result<(), DiskFault> {
-    for place in 0..LENGTH {
-        assert!(rt; is_broken(alloc, disk, place)?, "place {place}");
+    for offset in 0..LENGTH {
+        assert!(rt; is_broken(alloc, disk, offset)?, "offset {offset}");
     }
     assert_eq!(rt; count(alloc, disk, LENGTH), Ok(3));
     Ok(())

@@ -22,14 +22,14 @@ abbrev end_part : ℕ × List ℕ → List ℕ → List ℕ
 end_part = in_turn committed_part (text_part 10)
 
 -- The bytes after each part of a commit.
-abbrev behind_time : Commit → List ℕ
-behind_time c = end_part (c.committed, c.subject) []
+abbrev after_time : Commit → List ℕ
+after_time c = end_part (c.committed, c.subject) []
 
-abbrev behind_person : Commit → List ℕ
-behind_person c = time (c.secs, c.zone) (behind_time c)
+abbrev after_person : Commit → List ℕ
+after_person c = time (c.secs, c.zone) (after_time c)
 
-abbrev behind_ids : Commit → List ℕ
-behind_ids c = person (c.author, c.email) (behind_person c)
+abbrev after_ids : Commit → List ℕ
+after_ids c = person (c.author, c.email) (after_person c)
 
 -- Commits with equal fields are equal.
 commit-once : (c : Commit) (tree : Id20) (parent : Option Id20) (name email : List ℕ) (secs : ℕ) (zone : ℤ) (moment : ℕ) (subject : List ℕ)
@@ -48,7 +48,7 @@ commit-once c tree parent name email secs zone moment subject a b d e f g h k = 
 
 -- Bytes that don't start with ids are no commit.
 pub no_ids : (bytes : List ℕ) → Lacks (Both IsId IsParent) ids bytes → HoldsNoCommit bytes
-no_ids bytes none = λ c valid is. none (c.tree, c.parent) (behind_ids c) (valid.tree, valid.parent) is
+no_ids bytes none = λ c valid is. none (c.tree, c.parent) (after_ids c) (valid.tree, valid.parent) is
 
 -- The parts that are read, and the bytes after each.
 pub record ReadIds (bytes : List ℕ) (tree : Id20) (parent : Option Id20) (rest : List ℕ) : Type 0 where
@@ -65,27 +65,27 @@ pub record ReadEnd (bytes : List ℕ) (moment : ℕ) (subject rest : List ℕ) :
 
 -- A commit has the ids that are read.
 ids-are : {bytes rest : List ℕ} {tree : Id20} {parent : Option Id20} (one : ReadIds bytes tree parent rest) (c : Commit) → IsCommit c → bytes ≡ commit_content c
-    → (c.tree ≡ tree) × (c.parent ≡ parent) × (rest ≡ behind_ids c)
+    → (c.tree ≡ tree) × (c.parent ≡ parent) × (rest ≡ after_ids c)
 ids-are one c valid is =
-    let same = one.begins.only (c.tree, c.parent) (behind_ids c) (valid.tree, valid.parent) is in
+    let same = one.begins.only (c.tree, c.parent) (after_ids c) (valid.tree, valid.parent) is in
     (ap (λ (p : Id20 × Option Id20). p.0) (sym same.0), ap (λ (p : Id20 × Option Id20). p.1) (sym same.0), same.1)
 
 -- A commit has the author that is read.
-person-are : {bytes rest name email : List ℕ} (two : ReadPerson bytes name email rest) (c : Commit) → IsCommit c → bytes ≡ behind_ids c
-    → (c.author ≡ name) × (c.email ≡ email) × (rest ≡ behind_person c)
+person-are : {bytes rest name email : List ℕ} (two : ReadPerson bytes name email rest) (c : Commit) → IsCommit c → bytes ≡ after_ids c
+    → (c.author ≡ name) × (c.email ≡ email) × (rest ≡ after_person c)
 person-are two c valid is =
-    let same = two.begins.only (c.author, c.email) (behind_person c) (valid.author, valid.email) is in
+    let same = two.begins.only (c.author, c.email) (after_person c) (valid.author, valid.email) is in
     (ap (λ (p : List ℕ × List ℕ). p.0) (sym same.0), ap (λ (p : List ℕ × List ℕ). p.1) (sym same.0), same.1)
 
 -- A commit has the time that is read.
-time-are : {bytes rest : List ℕ} {secs : ℕ} {zone : ℤ} (three : ReadTime bytes secs zone rest) (c : Commit) → IsCommit c → bytes ≡ behind_person c
-    → (c.secs ≡ secs) × (c.zone ≡ zone) × (rest ≡ behind_time c)
+time-are : {bytes rest : List ℕ} {secs : ℕ} {zone : ℤ} (three : ReadTime bytes secs zone rest) (c : Commit) → IsCommit c → bytes ≡ after_person c
+    → (c.secs ≡ secs) × (c.zone ≡ zone) × (rest ≡ after_time c)
 time-are three c valid is =
-    let same = three.begins.only (c.secs, c.zone) (behind_time c) (valid.secs, valid.zone) is in
+    let same = three.begins.only (c.secs, c.zone) (after_time c) (valid.secs, valid.zone) is in
     (ap (λ (p : ℕ × ℤ). p.0) (sym same.0), ap (λ (p : ℕ × ℤ). p.1) (sym same.0), same.1)
 
 -- A commit has the end that is read.
-end-are : {bytes rest subject : List ℕ} {moment : ℕ} (four : ReadEnd bytes moment subject rest) (c : Commit) → IsCommit c → bytes ≡ behind_time c
+end-are : {bytes rest subject : List ℕ} {moment : ℕ} (four : ReadEnd bytes moment subject rest) (c : Commit) → IsCommit c → bytes ≡ after_time c
     → (c.committed ≡ moment) × (c.subject ≡ subject) × (rest ≡ [])
 end-are four c valid is =
     let same = four.begins.only (c.committed, c.subject) [] (valid.committed, valid.subject) is in
@@ -93,13 +93,13 @@ end-are four c valid is =
 
 -- Bytes without an author are no commit.
 pub no_person : (bytes rest : List ℕ) (tree : Id20) (parent : Option Id20) → ReadIds bytes tree parent rest → Lacks (Both IsClean IsClean) person rest → HoldsNoCommit bytes
-no_person bytes rest tree parent one none = λ c valid is. none (c.author, c.email) (behind_person c) (valid.author, valid.email) (ids-are one c valid is).2
+no_person bytes rest tree parent one none = λ c valid is. none (c.author, c.email) (after_person c) (valid.author, valid.email) (ids-are one c valid is).2
 
 -- Bytes without a time are no commit.
 pub no_time : (bytes rest later name email : List ℕ) (tree : Id20) (parent : Option Id20) → ReadIds bytes tree parent rest → ReadPerson rest name email later
     → Lacks (Both IsNumber IsZone) time later → HoldsNoCommit bytes
 no_time bytes rest later name email tree parent one two none = λ c valid is.
-    none (c.secs, c.zone) (behind_time c) (valid.secs, valid.zone) (person-are two c valid (ids-are one c valid is).2).2
+    none (c.secs, c.zone) (after_time c) (valid.secs, valid.zone) (person-are two c valid (ids-are one c valid is).2).2
 
 -- Bytes without an end are no commit.
 pub no_end : (bytes rest later last name email : List ℕ) (tree : Id20) (parent : Option Id20) (secs : ℕ) (zone : ℤ) → ReadIds bytes tree parent rest → ReadPerson rest name email later
@@ -108,9 +108,9 @@ no_end bytes rest later last name email tree parent secs zone one two three none
     none (c.committed, c.subject) [] (valid.committed, valid.subject) (time-are three c valid (person-are two c valid (ids-are one c valid is).2).2).2
 
 -- Bytes that go on after the end are no commit.
-pub more_behind : (bytes rest later last name email subject more : List ℕ) (tree : Id20) (parent : Option Id20) (secs : ℕ) (zone : ℤ) (moment : ℕ) → ReadIds bytes tree parent rest
+pub more_after : (bytes rest later last name email subject more : List ℕ) (tree : Id20) (parent : Option Id20) (secs : ℕ) (zone : ℤ) (moment : ℕ) → ReadIds bytes tree parent rest
     → ReadPerson rest name email later → ReadTime later secs zone last → ReadEnd last moment subject more → more ≢ [] → HoldsNoCommit bytes
-more_behind bytes rest later last name email subject more tree parent secs zone moment one two three four some = λ c valid is.
+more_after bytes rest later last name email subject more tree parent secs zone moment one two three four some = λ c valid is.
     some (end-are four c valid (time-are three c valid (person-are two c valid (ids-are one c valid is).2).2).2).2
 
 -- Otherwise the commit is the one with these parts.

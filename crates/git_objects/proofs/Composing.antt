@@ -9,9 +9,9 @@ pub lacks-first : {A B : Type 0} (va : A → Type 0) (vb : B → Type 0) (sa : A
 lacks-first va vb sa sb bytes none = λ pair rest valid is. none pair.0 (sb pair.1 rest) valid.0 is
 
 -- Bytes that lack the second piece lack both.
-pub lacks-second : {A B : Type 0} (va : A → Type 0) (vb : B → Type 0) (sa : A → List ℕ → List ℕ) (sb : B → List ℕ → List ℕ) (bytes : List ℕ) (a : A) (behind : List ℕ)
-    → Begins va sa bytes a behind → Lacks vb sb behind → Lacks (Both va vb) (in_turn sa sb) bytes
-lacks-second va vb sa sb bytes a behind first none = λ pair rest valid is.
+pub lacks-second : {A B : Type 0} (va : A → Type 0) (vb : B → Type 0) (sa : A → List ℕ → List ℕ) (sb : B → List ℕ → List ℕ) (bytes : List ℕ) (a : A) (after : List ℕ)
+    → Begins va sa bytes a after → Lacks vb sb after → Lacks (Both va vb) (in_turn sa sb) bytes
+lacks-second va vb sa sb bytes a after first none = λ pair rest valid is.
     none pair.1 rest valid.1 (first.only pair.0 (sb pair.1 rest) valid.0 is).1
 
 -- Pairs of equal parts are equal.
@@ -19,9 +19,9 @@ pair-once : {A B : Type 0} (a c : A) (b d : B) → a ≡ c → b ≡ d → (let 
 pair-once a c b d e f = cc
 
 -- Bytes with one piece and then the other have both.
-pub begins-both : {A B : Type 0} (va : A → Type 0) (vb : B → Type 0) (sa : A → List ℕ → List ℕ) (sb : B → List ℕ → List ℕ) (bytes : List ℕ) (a : A) (behind : List ℕ) (b : B) (rest : List ℕ)
-    → Begins va sa bytes a behind → Begins vb sb behind b rest → Begins (Both va vb) (in_turn sa sb) bytes (a, b) rest
-begins-both va vb sa sb bytes a behind b rest first second = record {
+pub begins-both : {A B : Type 0} (va : A → Type 0) (vb : B → Type 0) (sa : A → List ℕ → List ℕ) (sb : B → List ℕ → List ℕ) (bytes : List ℕ) (a : A) (after : List ℕ) (b : B) (rest : List ℕ)
+    → Begins va sa bytes a after → Begins vb sb after b rest → Begins (Both va vb) (in_turn sa sb) bytes (a, b) rest
+begins-both va vb sa sb bytes a after b rest first second = record {
   valid_one = (first.valid_one, second.valid_one);
   spelled = first.spelled ∙ ap (sa a) second.spelled;
   only = λ pair more valid is.
@@ -36,18 +36,18 @@ pub lacks-word : {V : Type 0} (valid : V → Type 0) (spell : V → List ℕ →
 lacks-word valid spell bytes word none = λ v rest ok is. none (spell v rest) is
 
 -- Bytes that lack the piece after a word lack both.
-pub lacks-led : {V : Type 0} (valid : V → Type 0) (spell : V → List ℕ → List ℕ) (bytes word behind : List ℕ)
-    → bytes ≡ word ++ behind → Lacks valid spell behind → Lacks valid (led word spell) bytes
-lacks-led valid spell bytes word behind e none = λ v rest ok is.
-    none v rest ok (append_cancel_left word behind (spell v rest) (sym e ∙ is))
+pub lacks-led : {V : Type 0} (valid : V → Type 0) (spell : V → List ℕ → List ℕ) (bytes word after : List ℕ)
+    → bytes ≡ word ++ after → Lacks valid spell after → Lacks valid (led word spell) bytes
+lacks-led valid spell bytes word after e none = λ v rest ok is.
+    none v rest ok (append_cancel_left word after (spell v rest) (sym e ∙ is))
 
 -- A word and then a piece.
-pub begins-led : {V : Type 0} (valid : V → Type 0) (spell : V → List ℕ → List ℕ) (bytes word behind : List ℕ) (v : V) (rest : List ℕ)
-    → bytes ≡ word ++ behind → Begins valid spell behind v rest → Begins valid (led word spell) bytes v rest
-begins-led valid spell bytes word behind v rest e one = record {
+pub begins-led : {V : Type 0} (valid : V → Type 0) (spell : V → List ℕ → List ℕ) (bytes word after : List ℕ) (v : V) (rest : List ℕ)
+    → bytes ≡ word ++ after → Begins valid spell after v rest → Begins valid (led word spell) bytes v rest
+begins-led valid spell bytes word after v rest e one = record {
   valid_one = one.valid_one;
   spelled = e ∙ ap (λ l. word ++ l) one.spelled;
-  only = λ w more ok is. one.only w more ok (append_cancel_left word behind (spell w more) (sym e ∙ is));
+  only = λ w more ok is. one.only w more ok (append_cancel_left word after (spell w more) (sym e ∙ is));
 }
 
 -- Bytes that lack the piece lack it with a word after it.
@@ -56,14 +56,14 @@ pub lacks-front : {V : Type 0} (valid : V → Type 0) (spell : V → List ℕ �
 lacks-front valid spell bytes word none = λ v rest ok is. none v (word ++ rest) ok is
 
 -- Bytes that lack the word after a piece lack both.
-pub lacks-behind : {V : Type 0} (valid : V → Type 0) (spell : V → List ℕ → List ℕ) (bytes word : List ℕ) (v : V) (behind : List ℕ)
-    → Begins valid spell bytes v behind → ((rest : List ℕ) → behind ≢ word ++ rest) → Lacks valid (followed spell word) bytes
-lacks-behind valid spell bytes word v behind one none = λ w rest ok is. none rest (one.only w (word ++ rest) ok is).1
+pub lacks-after : {V : Type 0} (valid : V → Type 0) (spell : V → List ℕ → List ℕ) (bytes word : List ℕ) (v : V) (after : List ℕ)
+    → Begins valid spell bytes v after → ((rest : List ℕ) → after ≢ word ++ rest) → Lacks valid (followed spell word) bytes
+lacks-after valid spell bytes word v after one none = λ w rest ok is. none rest (one.only w (word ++ rest) ok is).1
 
 -- A piece and then a word.
-pub begins-followed : {V : Type 0} (valid : V → Type 0) (spell : V → List ℕ → List ℕ) (bytes word : List ℕ) (v : V) (behind rest : List ℕ)
-    → Begins valid spell bytes v behind → behind ≡ word ++ rest → Begins valid (followed spell word) bytes v rest
-begins-followed valid spell bytes word v behind rest one e = record {
+pub begins-followed : {V : Type 0} (valid : V → Type 0) (spell : V → List ℕ → List ℕ) (bytes word : List ℕ) (v : V) (after rest : List ℕ)
+    → Begins valid spell bytes v after → after ≡ word ++ rest → Begins valid (followed spell word) bytes v rest
+begins-followed valid spell bytes word v after rest one e = record {
   valid_one = one.valid_one;
   spelled = one.spelled ∙ ap (spell v) e;
   only = λ w more ok is.

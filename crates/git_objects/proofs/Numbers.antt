@@ -56,9 +56,9 @@ sized-found bytes size rest content more begins room front back =
     let small : size < 2 ^ 64 = begins.valid_one in record {
       valid_one = omega arith;
       spelled = rw (len, whole) begins.spelled;
-      only = λ other behind valid is.
-          let same = begins.only (length other) (other ++ behind) valid is in (
-            front ∙ ap (take size) same.1 ∙ take_at other behind size (sym same.0),
-            back ∙ ap (drop size) same.1 ∙ drop_at other behind size (sym same.0),
+      only = λ other after valid is.
+          let same = begins.only (length other) (other ++ after) valid is in (
+            front ∙ ap (take size) same.1 ∙ take_at other after size (sym same.0),
+            back ∙ ap (drop size) same.1 ∙ drop_at other after size (sym same.0),
           );
     }

@@ -129,10 +129,10 @@ piece-between bytes front content rest e =
     (omega arith, rw (start, long, back) (sym (take_at content rest (length content) refl)))
 
 -- A type and a content with its size are the spelling of an object.
-pub object-front : (bytes behind rest content : List ℕ) (kind : Kind) (object : GitObject) → Begins AnyKind kind_part bytes kind behind
-    → Begins HasSize sized_before behind content rest → kind ≡ kind_of object → content ≡ content_of object → IsObject object
+pub object-front : (bytes after rest content : List ℕ) (kind : Kind) (object : GitObject) → Begins AnyKind kind_part bytes kind after
+    → Begins HasSize sized_before after content rest → kind ≡ kind_of object → content ≡ content_of object → IsObject object
     → IsFront bytes object (length bytes - length rest)
-object-front bytes behind rest content kind object first second k e valid =
+object-front bytes after rest content kind object first second k e valid =
     let spelled : bytes ≡ spelling object ++ rest =
     first.spelled ∙ ap (kind_part kind) (second.spelled ∙ ap (λ l. sized_before l rest) e) ∙ ap (λ l. kind_part l (sized_before (content_of object) rest)) k
     ∙ sym (spelling-before object rest) in
@@ -146,18 +146,18 @@ object-front bytes behind rest content kind object first second k e valid =
     }
 
 -- Where a type and a content with its size stand in front, an object that the bytes spell has them.
-object-parts : (bytes behind rest content : List ℕ) (kind : Kind) → Begins AnyKind kind_part bytes kind behind → Begins HasSize sized_before behind content rest
+object-parts : (bytes after rest content : List ℕ) (kind : Kind) → Begins AnyKind kind_part bytes kind after → Begins HasSize sized_before after content rest
     → (object : GitObject) (more : List ℕ) → IsObject object → bytes ≡ spelling object ++ more → (kind ≡ kind_of object) × (content ≡ content_of object) × (rest ≡ more)
-object-parts bytes behind rest content kind first second object more valid is =
+object-parts bytes after rest content kind first second object more valid is =
     let kinds = first.only (kind_of object) (sized_before (content_of object) more) tt (is ∙ spelling-before object more) in
     let contents = second.only (content_of object) more (HasSize-content object valid) kinds.1 in
     (kinds.0, contents.0, contents.1)
 
 -- Bytes with the type of a tree and the content of no entry's tree spell no object.
-pub tree-none : (bytes behind rest content : List ℕ) (kind : Kind) → Begins AnyKind kind_part bytes kind behind → Begins HasSize sized_before behind content rest → kind ≡ Tree
+pub tree-none : (bytes after rest content : List ℕ) (kind : Kind) → Begins AnyKind kind_part bytes kind after → Begins HasSize sized_before after content rest → kind ≡ Tree
     → ((entry : EntryKind) (id : Id20) → IsId id → content ≢ tree_content entry id) → HasNoObject bytes
-tree-none bytes behind rest content kind first second k none = λ object more valid is.
-    let parts = object-parts bytes behind rest content kind first second object more valid is in
+tree-none bytes after rest content kind first second k none = λ object more valid is.
+    let parts = object-parts bytes after rest content kind first second object more valid is in
     no_tree object valid (sym k ∙ parts.0) parts.1 where
       no_tree : (object : GitObject) → IsObject object → Tree ≡ kind_of object → content ≡ content_of object → ⊥
       no_tree (BlobOf x) valid k e = cc
@@ -166,26 +166,26 @@ tree-none bytes behind rest content kind first second k none = λ object more va
 
 -- Bytes with the type of a tree and the content of an entry's tree spell that tree, and no other
 -- object.
-pub tree-again : (bytes behind rest content : List ℕ) (kind : Kind) → Begins AnyKind kind_part bytes kind behind → Begins HasSize sized_before behind content rest → kind ≡ Tree
+pub tree-again : (bytes after rest content : List ℕ) (kind : Kind) → Begins AnyKind kind_part bytes kind after → Begins HasSize sized_before after content rest → kind ≡ Tree
     → (entry : EntryKind) (id : Id20) → content ≡ tree_content entry id → (object : GitObject) (more : List ℕ) → IsObject object → bytes ≡ spelling object ++ more
     → (TreeOf entry id ≡ object) × (length bytes - length rest ≡ length (spelling object))
-tree-again bytes behind rest content kind first second k entry id e object more valid is =
-    let parts = object-parts bytes behind rest content kind first second object more valid is in
+tree-again bytes after rest content kind first second k entry id e object more valid is =
+    let parts = object-parts bytes after rest content kind first second object more valid is in
     let whole : length bytes ≡ length (spelling object) + length more = ap length is ∙ length-append (spelling object) more in
     let left : length rest ≡ length more = ap length parts.2 in
     (object-once (TreeOf entry id) object (sym k ∙ parts.0) (sym e ∙ parts.1), omega arith)
 
 -- The content is a piece of the bytes.
-pub content-lent : (bytes behind rest content : List ℕ) (kind : Kind) → Begins AnyKind kind_part bytes kind behind → Begins HasSize sized_before behind content rest
+pub content-lent : (bytes after rest content : List ℕ) (kind : Kind) → Begins AnyKind kind_part bytes kind after → Begins HasSize sized_before after content rest
     → (length content ≤ length bytes - length rest) × (content ≡ slice_range bytes (length bytes - length rest - length content) (length bytes - length rest))
-content-lent bytes behind rest content kind first second =
-    let digits_behind : sized_before content rest ≡ (decimal (length content) ++ 0 ∷ []) ++ (content ++ rest) = sym (append_assoc (decimal (length content)) (0 ∷ []) (content ++ rest)) in
+content-lent bytes after rest content kind first second =
+    let digits_after : sized_before content rest ≡ (decimal (length content) ++ 0 ∷ []) ++ (content ++ rest) = sym (append_assoc (decimal (length content)) (0 ∷ []) (content ++ rest)) in
     piece-between bytes (kind_word kind ++ (decimal (length content) ++ 0 ∷ [])) content rest
-    (first.spelled ∙ ap (kind_part kind) (second.spelled ∙ digits_behind) ∙ sym (append_assoc (kind_word kind) (decimal (length content) ++ 0 ∷ []) (content ++ rest)))
+    (first.spelled ∙ ap (kind_part kind) (second.spelled ∙ digits_after) ∙ sym (append_assoc (kind_word kind) (decimal (length content) ++ 0 ∷ []) (content ++ rest)))
 
 -- The bytes after a word and two more bytes are bytes.
-pub small-behind : (content word file id : List ℕ) (k : ℕ) → content ≡ word ++ file → id ≡ drop 2 file → get_or content (length word + (2 + k)) 0 < 2 ^ 8 → get_or id k 0 < 2 ^ 8
-small-behind content word file id k e back small =
+pub small-after : (content word file id : List ℕ) (k : ℕ) → content ≡ word ++ file → id ≡ drop 2 file → get_or content (length word + (2 + k)) 0 < 2 ^ 8 → get_or id k 0 < 2 ^ 8
+small-after content word file id k e back small =
     let here : get_or content (length word + (2 + k)) 0 ≡ get_or id k 0 =
     ap (λ l. get_or l (length word + (2 + k)) 0) e ∙ get_or-append-add word file (2 + k) 0 ∙ sym (get_or-drop 2 file k 0) ∙ ap (λ l. get_or l k 0) (sym back) in
     omega (arith, here, small)

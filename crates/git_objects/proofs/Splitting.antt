@@ -43,8 +43,8 @@ parted-at c bytes None h = NoByte-all c bytes (λ k below e. h k (omega arith) b
 parted-at c bytes (Some at) h =
     let here : get_or bytes at 0 ≡ c = search (rules, tests) in
     let within : at < length bytes = h.0.high in
-    let behind : drop at bytes ≡ c ∷ drop (at + 1) bytes = drop_more bytes at 0 within ∙ ap (λ b. b ∷ drop (at + 1) bytes) here in (
+    let after : drop at bytes ≡ c ∷ drop (at + 1) bytes = drop_more bytes at 0 within ∙ ap (λ b. b ∷ drop (at + 1) bytes) here in (
       within,
       NoByte-take c bytes at (λ k below e. h.0.before k (omega arith) below (search (rules, tests))),
-      sym (take-append-drop at bytes) ∙ ap (λ l. take at bytes ++ l) behind,
+      sym (take-append-drop at bytes) ∙ ap (λ l. take at bytes ++ l) after,
     )

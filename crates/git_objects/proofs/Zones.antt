@@ -19,15 +19,15 @@ heads : {bytes : List ℕ} {a b : ℕ} {x y : List ℕ} → bytes ≡ a ∷ x �
 heads e f = cc
 
 -- Bytes without the digits of the hour don't start with a zone.
-pub zone-hour : (bytes : List ℕ) (sign : ℕ) (behind : List ℕ) → bytes ≡ sign ∷ behind → Lacks IsBelow100 two_digits behind → Lacks IsZone zone_text bytes
-zone-hour bytes sign behind e none = λ zone rest valid is.
+pub zone-hour : (bytes : List ℕ) (sign : ℕ) (after : List ℕ) → bytes ≡ sign ∷ after → Lacks IsBelow100 two_digits after → Lacks IsZone zone_text bytes
+zone-hour bytes sign after e none = λ zone rest valid is.
     let small : unsigned_abs zone / 60 < 100 = omega (arith, zone-abs zone valid) in
     none (unsigned_abs zone / 60) (two_digits (unsigned_abs zone % 60) rest) small (tails e is)
 
 -- Bytes without the digits of the minute don't start with a zone.
-pub zone-minute : (bytes : List ℕ) (sign : ℕ) (behind : List ℕ) (hour : ℕ) (later : List ℕ) → bytes ≡ sign ∷ behind
-    → Begins IsBelow100 two_digits behind hour later → Lacks IsBelow100 two_digits later → Lacks IsZone zone_text bytes
-zone-minute bytes sign behind hour later e one none = λ zone rest valid is.
+pub zone-minute : (bytes : List ℕ) (sign : ℕ) (after : List ℕ) (hour : ℕ) (later : List ℕ) → bytes ≡ sign ∷ after
+    → Begins IsBelow100 two_digits after hour later → Lacks IsBelow100 two_digits later → Lacks IsZone zone_text bytes
+zone-minute bytes sign after hour later e one none = λ zone rest valid is.
     let small : unsigned_abs zone / 60 < 100 = omega (arith, zone-abs zone valid) in
     let low : unsigned_abs zone % 60 < 100 = omega arith in
     none (unsigned_abs zone % 60) rest low (one.only (unsigned_abs zone / 60) (two_digits (unsigned_abs zone % 60) rest) small (tails e is)).1
@@ -42,10 +42,10 @@ west-of : (n : ℕ) → 0 < n → pos 0 -ℤ pos n ≡ negsuc (n - 1)
 west-of n some = omega (arith, ints)
 
 -- A zone west of UTC.
-pub zone-west_found : (bytes behind : List ℕ) (hour : ℕ) (later : List ℕ) (minute : ℕ) (rest : List ℕ) (zone : ℤ) → bytes ≡ 45 ∷ behind
-    → Begins IsBelow100 two_digits behind hour later → Begins IsBelow100 two_digits later minute rest → hour ≤ 23 → minute ≤ 59
+pub zone-west_found : (bytes after : List ℕ) (hour : ℕ) (later : List ℕ) (minute : ℕ) (rest : List ℕ) (zone : ℤ) → bytes ≡ 45 ∷ after
+    → Begins IsBelow100 two_digits after hour later → Begins IsBelow100 two_digits later minute rest → hour ≤ 23 → minute ≤ 59
     → 0 < 60 * hour + minute → zone ≡ pos 0 -ℤ pos (60 * hour + minute) → Begins IsZone zone_text bytes zone rest
-zone-west_found bytes behind hour later minute rest zone e one two h m some is =
+zone-west_found bytes after hour later minute rest zone e one two h m some is =
     let less : ℕ = 60 * hour + minute - 1 in
     let all : 60 * hour + minute ≡ suc less = omega arith in
     let west : zone ≡ negsuc less = is ∙ west-of (60 * hour + minute) some in

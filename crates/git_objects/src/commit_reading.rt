@@ -1,5 +1,5 @@
 //! Reads commits.
-ghost use Rattle.std.specs.Prelude.{◌≡◌, ◌≢◌, ◌∷◌, ◌<◌, [], IfOk, ◌^◌, ℕ, slice_index, Some, MatchOption, false, codes};
+ghost use Rattle.std.specs.Prelude.{◌≡◌, ◌<◌, IfOk, ◌^◌, ℕ, slice_index, Some, MatchOption, false};
 ghost use Rattle.arch_base.specs.Ids.{IsId};
 ghost use Rattle.git_objects.specs.declared.commits.Commit.{Commit as CommitRecord};
 ghost use Rattle.git_objects.specs.CleanText.{IsClean, is_clean_byte};

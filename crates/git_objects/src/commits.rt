@@ -1,8 +1,8 @@
 //! Commits and their spelling.
-ghost use Rattle.std.specs.Prelude.{◌≡◌, ◌++◌, ◌∷◌, ℕ, List, IfOk, OnOk};
+ghost use Rattle.std.specs.Prelude.{◌≡◌, ◌++◌, ℕ, List, IfOk, OnOk};
 ghost use Rattle.git_objects.specs.CleanText.{IsClean};
 ghost use Rattle.git_objects.specs.Fronts.{Appends};
-ghost use Rattle.git_objects.specs.Commits.{IsZone, hex_line, parent_line, name_part, email_part, number_part, zone_text as zone_digits, author_line, committed_part, text_part, commit_spelling, commit_content as content_of_commit};
+ghost use Rattle.git_objects.specs.Commits.{IsZone, hex_line, parent_line, number_part, zone_text as zone_digits, author_line, committed_part, commit_spelling, commit_content as content_of_commit};
 
 use arch_base::{Bytes, NoMemory, ObjectId, hex_of};
 use itoa::Buffer;

@@ -1,5 +1,5 @@
 //! Objects, their ids, and their reader.
-ghost use Rattle.std.specs.Prelude.{◌≡◌, ◌≢◌, ◌++◌, ℕ, List, IfSome, IfNone, length, MatchOption};
+ghost use Rattle.std.specs.Prelude.{◌≡◌, ◌++◌, ℕ, List, IfSome, IfNone, MatchOption};
 ghost use Rattle.arch_base.specs.Ids.{IsId};
 ghost use Rattle.git_objects.specs.Fronts.{Lacks, Begins};
 ghost use Rattle.git_objects.specs.Objects.{GitObject, IsObject, HasSize, sized_before, spelling, blob_id_of, id_of, tree_spelling, IsTreeContent};
@@ -75,8 +75,8 @@ pub fn read_object(bytes: &[u8]) -> Option<(Object<'_>, usize)>
     ensures again { (object : GitObject) (rest : List ℕ) → IsObject object
         → bytes.now ≡ spelling object ++ rest → Finds result object }
 {
-    let (kind, behind) = read_kind(bytes)?;
-    let (content, rest) = read_content(behind)?;
+    let (kind, unread) = read_kind(bytes)?;
+    let (content, rest) = read_content(unread)?;
     let len = bytes.len() - rest.len();
     match kind {
         Kind::Blob => Some((Object::Blob(content), len)),

@@ -4,7 +4,7 @@ use Rattle.std.proofs.lemmas.Bool.{false≢true}
 use Rattle.edge_io.specs.Taken.{plus}
 use Rattle.line_door.specs.Acts.{Outside, outside, Said, Way, Plain, Disk, Sent, Acts, PlainActs}
 use Rattle.line_door.specs.Course.{Talk, talk, Step, Requests, Last, Fed, PlainStep, PlainRequests, PlainLast, PlainFed}
-use Rattle.line_door.specs.Plain.{silent, behind, then_by, then_say, if_request, plain_from, plain}
+use Rattle.line_door.specs.Plain.{silent, said_after, then_by, then_say, if_request, plain_from, plain}
 use Rattle.line_door.specs.Cuts.{more_of, said_with, CutDoor, CutLaw, PiecesLaw, PlainLaw, PlainIsFed, DoorLaws}
 use Rattle.edge_io.proofs.Wording.{plus-plus, plus-none}
 use Rattle.line_door.proofs.Acting.{acts-from}
@@ -14,15 +14,15 @@ module _ {H A : Type 0} where
   then-none : (s : Said H A) (f : A → H → Said H A) → s.next ≡ None → then_say s f ≡ s
   then-none s f e = ap (λ (o : Option H). then_by o s f) e
 
-  then-some : (s : Said H A) (f : A → H → Said H A) (k : H) → s.next ≡ Some k → then_say s f ≡ behind s.words (f s.after k)
+  then-some : (s : Said H A) (f : A → H → Said H A) (k : H) → s.next ≡ Some k → then_say s f ≡ said_after s.words (f s.after k)
   then-some s f k e = ap (λ (o : Option H). then_by o s f) e
 
-  behind-then : (words : List ℕ) (s : Said H A) (f : A → H → Said H A) (o : Option H) → s.next ≡ o → then_say (behind words s) f ≡ behind words (then_say s f)
-  behind-then words s f None e = then-none (behind words s) f e ∙ ap (behind words) (sym (then-none s f e))
-  behind-then words s f (Some k) e =
-      then-some (behind words s) f k e
+  said_after-then : (words : List ℕ) (s : Said H A) (f : A → H → Said H A) (o : Option H) → s.next ≡ o → then_say (said_after words s) f ≡ said_after words (then_say s f)
+  said_after-then words s f None e = then-none (said_after words s) f e ∙ ap (said_after words) (sym (then-none s f e))
+  said_after-then words s f (Some k) e =
+      then-some (said_after words s) f k e
       ∙ ap (λ (w : List ℕ). record { next = (f s.after k).next; words = w; streamed = (f s.after k).streamed; after = (f s.after k).after }) (append_assoc words s.words (f s.after k).words)
-      ∙ ap (behind words) (sym (then-some s f k e))
+      ∙ ap (said_after words) (sym (then-some s f k e))
 
 module _ {H A : Type 0} (said : A → H → Way → Said H A) (is_request : H → Bool) (more : List ℕ → H → H) (size : H → ℕ) where
   at-request : (n : ℕ) (a : A) (h : H) → is_request h ≡ true → plain_from said is_request (suc n) a h ≡ then_say (said a h Plain) (plain_from said is_request n)
@@ -42,7 +42,7 @@ module _ {H A : Type 0} (said : A → H → Way → Said H A) (is_request : H �
     enough-at n m a h true e (Some k) next later =
         at-request n a h e
         ∙ then-some (said a h Plain) (plain_from said is_request n) k next
-        ∙ ap (behind (said a h Plain).words) (later (said a h Plain).after k (door.shorter a h k e next))
+        ∙ ap (said_after (said a h Plain).words) (later (said a h Plain).after k (door.shorter a h k e next))
         ∙ sym (then-some (said a h Plain) (plain_from said is_request m) k next)
         ∙ sym (at-request m a h e)
 
@@ -79,8 +79,8 @@ module _ {H A : Type 0} (said : A → H → Way → Said H A) (is_request : H �
         at-request m a (more q h) (door.request_stays q h e)
         ∙ ap (λ (t : Said H A). then_say t (plain_from said is_request m)) stays
         ∙ then-some (said_with (more q) s) (plain_from said is_request m) (more q k) (ap (more_of (more q)) is)
-        ∙ ap (behind s.words) (later s.after k (door.shorter a h k e is) (door.shorter a (more q h) (more q k) (door.request_stays q h e) left))
-        ∙ sym (behind-then s.words rest (next q) rest.next refl)
+        ∙ ap (said_after s.words) (later s.after k (door.shorter a h k e is) (door.shorter a (more q h) (more q k) (door.request_stays q h e) left))
+        ∙ sym (said_after-then s.words rest (next q) rest.next refl)
         ∙ ap (λ (t : Said H A). then_say t (next q)) (sym (then-some s (plain_from said is_request n) k is))
         ∙ ap (λ (t : Said H A). then_say t (next q)) (sym (at-request n a h e))
 
@@ -148,9 +148,9 @@ module _ {H A : Type 0} (said : A → H → Way → Said H A) (is_request : H �
         (y ∷ ys, m, ((each.0.0, each.0.1, step-from each.0.0 w x y held after out lost disk each.0.2), each.1), last)
 
     -- Requests, and then a course, are a course.
-    fed-behind : (w : Talk H A) (ms : List (Talk H A)) (m v : Talk H A) → Requests said is_request w ms m → Fed said is_request m v → Fed said is_request w v
-    fed-behind w [] m v each fed = subst (λ (t : Talk H A). Fed said is_request t v) each fed
-    fed-behind w (x ∷ xs) m v each fed = let more_fed = fed-behind x xs m v each.1 fed in (x ∷ more_fed.0, more_fed.1, (each.0, more_fed.2), more_fed.3)
+    fed-after : (w : Talk H A) (ms : List (Talk H A)) (m v : Talk H A) → Requests said is_request w ms m → Fed said is_request m v → Fed said is_request w v
+    fed-after w [] m v each fed = subst (λ (t : Talk H A). Fed said is_request t v) each fed
+    fed-after w (x ∷ xs) m v each fed = let more_fed = fed-after x xs m v each.1 fed in (x ∷ more_fed.0, more_fed.1, (each.0, more_fed.2), more_fed.3)
 
     -- The act kept the rest `k`, and changed nothing else but the disk's count of faults.
     record Kept (k : H) (m v : Talk H A) : Type 0 where
@@ -188,13 +188,13 @@ module _ {H A : Type 0} (said : A → H → Way → Said H A) (is_request : H �
     pieces h p q a o v k z first kept second =
         let rest = kept-last k first.1 v first.3 kept in
         subst (λ (g : H). Fed said is_request (talk (Some g) a o) z) (door.more_joined p q h)
-        (fed-behind (talk (Some (more q (more p h))) a o) (all_with q first.0) (with q first.1) z (requests-with q (talk (Some (more p h)) a o) first.0 first.1 first.2)
+        (fed-after (talk (Some (more q (more p h))) a o) (all_with q first.0) (with q first.1) z (requests-with q (talk (Some (more p h)) a o) first.0 first.1 first.2)
         (fed-from (talk (Some (more q k)) v.after v.outside) (with q first.1) z (ap (more_of (more q)) rest.held) (sym rest.after) (sym rest.out) (sym rest.lost) rest.disk second.0 second.1 second.2 second.3))
 
     -- The plain function.
 
     -- Two plain acts in order are one with the joined words.
-    plain-then : (s t : Said H A) (i j l : Outside) (held : Option H) (b c : A) (k : Option H) → PlainActs s i held b j → PlainActs t j k c l → PlainActs (behind s.words t) i k c l
+    plain-then : (s t : Said H A) (i j l : Outside) (held : Option H) (b c : A) (k : Option H) → PlainActs s i held b j → PlainActs t j k c l → PlainActs (said_after s.words t) i k c l
     plain-then s t i j l held b c k first second = record {
       disk_later = omega (arith, first.disk_later, second.disk_later);
       whole = record {
@@ -206,7 +206,7 @@ module _ {H A : Type 0} (said : A → H → Way → Said H A) (is_request : H �
     }
 
     -- The second part of such an act is a plain act from the middle on.
-    plain-second : (s t : Said H A) (i l : Outside) (c : A) (k : Option H) → PlainActs (behind s.words t) i k c l → PlainActs t (outside (plus i.out s.words) i.disk i.lost) k c l
+    plain-second : (s t : Said H A) (i l : Outside) (c : A) (k : Option H) → PlainActs (said_after s.words t) i k c l → PlainActs t (outside (plus i.out s.words) i.disk i.lost) k c l
     plain-second s t i l c k both = record {
       disk_later = both.disk_later;
       whole = record {
@@ -257,7 +257,7 @@ module _ {H A : Type 0} (said : A → H → Way → Said H A) (is_request : H �
         let later : PlainActs (plain_from said is_request n x.after left.0) x.outside v.held v.after v.outside = fed-plain xs n left.0 x m v (omega arith) left.1 each.1 last in
         subst (λ (s : Said H A). PlainActs s w.outside v.held v.after v.outside)
         (sym (at-request n w.after h request ∙ then-some (said w.after h Plain) (plain_from said is_request n) left.0 next_is))
-        (subst (λ (a : A). PlainActs (behind (said w.after h Plain).words (plain_from said is_request n a left.0)) w.outside v.held v.after v.outside) done.whole.after_is
+        (subst (λ (a : A). PlainActs (said_after (said w.after h Plain).words (plain_from said is_request n a left.0)) w.outside v.held v.after v.outside) done.whole.after_is
         (plain-then (said w.after h Plain) (plain_from said is_request n x.after left.0) w.outside x.outside v.outside x.held x.after v.after v.held done later))
 
     only-plain : (h : H) (w v : Talk H A) → w.held ≡ Some h → PlainActs (said w.after h Plain) w.outside v.held v.after v.outside → (v.held ≡ None) ⊎ (is_request h ≡ false) → PlainFed said is_request w v
@@ -275,7 +275,7 @@ module _ {H A : Type 0} (said : A → H → Way → Said H A) (is_request : H �
     plain-fed-at n h w v held acts true e (Some k) is later =
         let s = said w.after h Plain in
         let m : Talk H A = talk (Some k) s.after (outside (plus w.outside.out s.words) w.outside.disk w.outside.lost) in
-        let both : PlainActs (behind s.words (plain_from said is_request n s.after k)) w.outside v.held v.after v.outside = subst (λ (t : Said H A). PlainActs t w.outside v.held v.after v.outside)
+        let both : PlainActs (said_after s.words (plain_from said is_request n s.after k)) w.outside v.held v.after v.outside = subst (λ (t : Said H A). PlainActs t w.outside v.held v.after v.outside)
         (at-request n w.after h e ∙ then-some s (plain_from said is_request n) k is) acts in
         let fed = later k m (door.shorter w.after h k e is) refl (plain-second s (plain_from said is_request n s.after k) w.outside v.outside v.after v.held both) in
         let step : PlainStep said is_request h w m = record { held = held; acts = record { disk_later = omega arith; whole = record { held_is = sym is; after_is = refl; out_is = refl; lost_kept = refl } } } in

@@ -7,18 +7,18 @@ use Rattle.line_door.specs.Cuts.{said_with, CutDoor}
 use Rattle.line_door.specs.Echo.{is_quit, echo_plain, echo_line, echo_rest, echo_at, echo_said, echo_request, echo_more}
 use Rattle.line_door.proofs.Fronts.{front-goes_on, front-stays_long, front-shorter, is_whole-stays, not_whole}
 
-plain-behind : (q : List ℕ) (t : Bool) (a : ℕ) (line rest : List ℕ) → echo_plain t a line (rest ++ q) ≡ said_with (echo_more q) (echo_plain t a line rest)
-plain-behind q true a line rest = refl
-plain-behind q false a line rest = refl
+plain-after : (q : List ℕ) (t : Bool) (a : ℕ) (line rest : List ℕ) → echo_plain t a line (rest ++ q) ≡ said_with (echo_more q) (echo_plain t a line rest)
+plain-after q true a line rest = refl
+plain-after q false a line rest = refl
 
-line-behind : (q : List ℕ) (a : ℕ) (line rest : List ℕ) (way : Way) → echo_line a line (rest ++ q) way ≡ said_with (echo_more q) (echo_line a line rest way)
-line-behind q a line rest Plain = plain-behind q (is_quit line) a line rest
-line-behind q a line rest Memory = refl
-line-behind q a line rest Disk = plain-behind q (is_quit line) a line rest
-line-behind q a line rest Newer = plain-behind q (is_quit line) a line rest
+line-after : (q : List ℕ) (a : ℕ) (line rest : List ℕ) (way : Way) → echo_line a line (rest ++ q) way ≡ said_with (echo_more q) (echo_line a line rest way)
+line-after q a line rest Plain = plain-after q (is_quit line) a line rest
+line-after q a line rest Memory = refl
+line-after q a line rest Disk = plain-after q (is_quit line) a line rest
+line-after q a line rest Newer = plain-after q (is_quit line) a line rest
 
 stays-at : (q : List ℕ) (a : ℕ) (h : List ℕ) (way : Way) (f : Front) → front 512 h ≡ f → is_whole f ≡ true → echo_said a (h ++ q) way ≡ said_with (echo_more q) (echo_at a h f way)
-stays-at q a h way (Whole line rest) e is = ap (λ (f : Front). echo_at a (h ++ q) f way) (front-goes_on 512 h q line rest e) ∙ line-behind q a (content line) rest way
+stays-at q a h way (Whole line rest) e is = ap (λ (f : Front). echo_at a (h ++ q) f way) (front-goes_on 512 h q line rest e) ∙ line-after q a (content line) rest way
 stays-at q a h way Long e is = ap (λ (f : Front). echo_at a (h ++ q) f way) (front-stays_long 512 h q e)
 stays-at q a h way Partial e is = absurd (cc)
 

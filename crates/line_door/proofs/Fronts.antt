@@ -106,8 +106,8 @@ none-at true b bs o e = absurd (cc)
 none-at false b bs None e = (refl, refl)
 none-at false b bs (Some r) e = absurd (cc)
 
-first_line-behind : (b : ℕ) (bs ys : List ℕ) → first_line (b ∷ bs) ≡ None → (first_line bs ≡ None) × (first_line (b ∷ (bs ++ ys)) ≡ put_before b (first_line (bs ++ ys)))
-first_line-behind b bs ys e =
+first_line-after : (b : ℕ) (bs ys : List ℕ) → first_line (b ∷ bs) ≡ None → (first_line bs ≡ None) × (first_line (b ∷ (bs ++ ys)) ≡ put_before b (first_line (bs ++ ys)))
+first_line-after b bs ys e =
     let parts = none-at (eqb b 10) b bs (first_line bs) (sym (first_line-cons b bs) ∙ e) in
     (parts.1, first_line-cons b (bs ++ ys) ∙ ap (λ (t : Bool). cut_at t b (bs ++ ys) (first_line (bs ++ ys))) parts.0)
 
@@ -115,21 +115,21 @@ first_line-behind b bs ys e =
 pub first_line-append : (xs ys : List ℕ) (p : List ℕ × List ℕ) → first_line xs ≡ None → first_line ys ≡ Some p → first_line (xs ++ ys) ≡ Some (xs ++ p.0, p.1)
 first_line-append [] ys p e f = f
 first_line-append (b ∷ bs) ys p e f =
-    let parts = first_line-behind b bs ys e in
+    let parts = first_line-after b bs ys e in
     parts.1 ∙ ap (put_before b) (first_line-append bs ys p parts.0 f)
 
 -- Two lists without a line feed have none when joined.
 pub first_line-append_none : (xs ys : List ℕ) → first_line xs ≡ None → first_line ys ≡ None → first_line (xs ++ ys) ≡ None
 first_line-append_none [] ys e f = f
 first_line-append_none (b ∷ bs) ys e f =
-    let parts = first_line-behind b bs ys e in
+    let parts = first_line-after b bs ys e in
     parts.1 ∙ ap (put_before b) (first_line-append_none bs ys parts.0 f)
 
 -- Bytes without a line feed move the end of the line further away.
 first_line-append_far : (xs ys : List ℕ) (n : ℕ) → first_line xs ≡ None → far n (first_line ys) → far (length xs + n) (first_line (xs ++ ys))
 first_line-append_far [] ys n e f = far-less (length {A = ℕ} [] + n) n (first_line ys) (omega arith) f
 first_line-append_far (b ∷ bs) ys n e f =
-    let parts = first_line-behind b bs ys e in
+    let parts = first_line-after b bs ys e in
     subst (far (length (b ∷ bs) + n)) (sym parts.1)
     (far-less (length (b ∷ bs) + n) (suc (length bs + n)) (put_before b (first_line (bs ++ ys))) (omega arith)
     (far-put (length bs + n) b (first_line (bs ++ ys)) (first_line-append_far bs ys n parts.0 f)))
@@ -272,7 +272,7 @@ first_line-single (b ∷ bs) p e = single-at (eqb b 10) b bs (first_line bs) p (
 pub first_line-no_feed : (xs : List ℕ) → first_line xs ≡ None → NoFeed xs
 first_line-no_feed [] e k l ten = omega arith
 first_line-no_feed (b ∷ bs) e zero l ten = eqb-false b 10 (none-at (eqb b 10) b bs (first_line bs) (sym (first_line-cons b bs) ∙ e)).0 ten
-first_line-no_feed (b ∷ bs) e (suc k) l ten = first_line-no_feed bs (first_line-behind b bs [] e).0 k (omega arith) ten
+first_line-no_feed (b ∷ bs) e (suc k) l ten = first_line-no_feed bs (first_line-after b bs [] e).0 k (omega arith) ten
 
 whole-is : (limit : ℕ) (bytes line rest : List ℕ) → front limit bytes ≡ Whole line rest → IsLine limit bytes line rest
 whole-is limit bytes line rest e =

@@ -7,14 +7,14 @@ abbrev pub silent : {H A : Type 0} → A → H → Said H A
 silent a h = record { next = Some h; words = []; streamed = false; after = a }
 
 -- The same, with these words first.
-abbrev pub behind : {H A : Type 0} → List ℕ → Said H A → Said H A
-behind words s =
+abbrev pub said_after : {H A : Type 0} → List ℕ → Said H A → Said H A
+said_after words s =
     record { next = s.next; words = words ++ s.words; streamed = s.streamed; after = s.after }
 
 -- What is said after `s` by the session after it, if that is open.
 abbrev pub then_by : {H A : Type 0} → Option H → Said H A → (A → H → Said H A) → Said H A
 then_by None s more = s
-then_by (Some h) s more = behind s.words (more s.after h)
+then_by (Some h) s more = said_after s.words (more s.after h)
 
 -- What is said, and then what the session after it says.
 abbrev pub then_say : {H A : Type 0} → Said H A → (A → H → Said H A) → Said H A

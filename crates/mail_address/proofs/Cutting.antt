@@ -7,7 +7,7 @@ use Rattle.mail_address.specs.declared.items.Ending.{Ending}
 use Rattle.mail_address.specs.declared.items.Ending.TheVariants.{Semicolon}
 use Rattle.mail_address.specs.declared.place.Place.TheVariants.{Outside, Pair, Quoted, QuotedPair, Comment, CommentPair}
 use Rattle.mail_address.specs.Places.{next_place, marked_by}
-use Rattle.mail_address.specs.Items.{cut, onto_item, ends_item, ending_of, is_grouped_behind, is_bracketed_behind, items_of}
+use Rattle.mail_address.specs.Items.{cut, onto_item, ends_item, ending_of, is_grouped_after, is_bracketed_after, items_of}
 
 -- More bytes at the front of the first item.
 abbrev pub put_before : List ℕ → List (List ℕ × Ending) → List (List ℕ × Ending)
@@ -27,30 +27,30 @@ cut_from grouped bracketed place xs i = put_before (take i xs) (cut grouped brac
 -- A byte that doesn't end an item.
 pub cut_from-step : (grouped bracketed : Bool) (place : Place) (xs : List ℕ) (i : ℕ) → i < length xs
     → ends_item grouped bracketed (get_or xs i 0, place) ≡ false
-    → cut_from grouped bracketed place xs i ≡ cut_from grouped (is_bracketed_behind bracketed (get_or xs i 0, place)) (next_place place (get_or xs i 0)) xs (i + 1)
+    → cut_from grouped bracketed place xs i ≡ cut_from grouped (is_bracketed_after bracketed (get_or xs i 0, place)) (next_place place (get_or xs i 0)) xs (i + 1)
 cut_from-step grouped bracketed place xs i h e =
     rw (drop_more xs i 0 h, e, take_more xs i 0 h)
-    (put_before-onto (take i xs) (get_or xs i 0) (cut grouped (is_bracketed_behind bracketed (get_or xs i 0, place)) (marked_by next_place (next_place place (get_or xs i 0)) (drop (i + 1) xs))))
+    (put_before-onto (take i xs) (get_or xs i 0) (cut grouped (is_bracketed_after bracketed (get_or xs i 0, place)) (marked_by next_place (next_place place (get_or xs i 0)) (drop (i + 1) xs))))
 
 -- After the end of an item no quoted string and no comment is open.
-outside_behind : (b : ℕ) (t : Bool) → (b == 44 || b == 59 || (b == 58 && t)) ≡ true → next_place Outside b ≡ Outside
-outside_behind b t e = grind (arith, nat_tests)
+outside_after : (b : ℕ) (t : Bool) → (b == 44 || b == 59 || (b == 58 && t)) ≡ true → next_place Outside b ≡ Outside
+outside_after b t e = grind (arith, nat_tests)
 
-place_behind : (grouped bracketed : Bool) (b : ℕ) (place : Place) → ends_item grouped bracketed (b, place) ≡ true → next_place place b ≡ Outside
-place_behind grouped true b place e = cc
-place_behind grouped false b Outside e = outside_behind b (not grouped) e
-place_behind grouped false b Pair e = cc
-place_behind grouped false b Quoted e = cc
-place_behind grouped false b QuotedPair e = cc
-place_behind grouped false b (Comment depth) e = cc
-place_behind grouped false b (CommentPair depth) e = cc
+place_after : (grouped bracketed : Bool) (b : ℕ) (place : Place) → ends_item grouped bracketed (b, place) ≡ true → next_place place b ≡ Outside
+place_after grouped true b place e = cc
+place_after grouped false b Outside e = outside_after b (not grouped) e
+place_after grouped false b Pair e = cc
+place_after grouped false b Quoted e = cc
+place_after grouped false b QuotedPair e = cc
+place_after grouped false b (Comment depth) e = cc
+place_after grouped false b (CommentPair depth) e = cc
 
 -- A byte that ends an item.
 pub cut_from-end : (grouped bracketed : Bool) (place : Place) (xs : List ℕ) (i : ℕ) → i < length xs
     → ends_item grouped bracketed (get_or xs i 0, place) ≡ true
-    → cut_from grouped bracketed place xs i ≡ (take i xs, ending_of (get_or xs i 0)) ∷ items_of (is_grouped_behind grouped (ending_of (get_or xs i 0))) (drop (i + 1) xs)
+    → cut_from grouped bracketed place xs i ≡ (take i xs, ending_of (get_or xs i 0)) ∷ items_of (is_grouped_after grouped (ending_of (get_or xs i 0))) (drop (i + 1) xs)
 cut_from-end grouped bracketed place xs i h e =
-    rw (drop_more xs i 0 h, e, append-nil (take i xs), place_behind grouped bracketed (get_or xs i 0) place e) refl
+    rw (drop_more xs i 0 h, e, append-nil (take i xs), place_after grouped bracketed (get_or xs i 0) place e) refl
 
 -- The end of the bytes.
 pub cut_from-all : (grouped bracketed : Bool) (place : Place) (xs : List ℕ) (i : ℕ) → length xs ≤ i

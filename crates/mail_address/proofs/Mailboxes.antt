@@ -11,9 +11,9 @@ use Rattle.mail_address.specs.declared.items.Ending.{Ending}
 use Rattle.mail_address.specs.declared.address.AddressKind.TheVariants.{GroupStart, GroupEnd}
 use Rattle.mail_address.specs.declared.address.Address.{Address}
 use Rattle.mail_address.specs.Places.{next_place, next_name_place, marked, bytes_of, is_outside, is_sought}
-use Rattle.mail_address.specs.Splits.{split_last, is_this, part_behind}
+use Rattle.mail_address.specs.Splits.{split_last, is_this, part_after}
 use Rattle.mail_address.specs.Words.{stays_in_name, stays_in_address, joined_words, name_text, address_text}
-use Rattle.mail_address.specs.Items.{cut, onto_item, items_of, ends_item, len_before, has_bracket, behind_bracket, up_to_bracket, name_bytes, address_bytes}
+use Rattle.mail_address.specs.Items.{cut, onto_item, items_of, ends_item, len_before, has_bracket, after_bracket, up_to_bracket, name_bytes, address_bytes}
 use Rattle.mail_address.specs.Addresses.{told, mailbox_in, mailbox_with, without_route, group_start}
 use Rattle.mail_address.specs.Grammar.{QuotedPart, Literal, Escaped, CommentInside, Empty, TextThen, EscapedThen, CommentThen, is_quoted_byte, AreQuoted, quoted_bytes, Piece, Byte, QuotedString, CommentText, piece_bytes, spelled_pieces, IsPiece, ArePieces, is_outer_byte}
 use Rattle.mail_address.specs.Laws.{is_plain}
@@ -340,8 +340,8 @@ name_line front more q =
     let len = len_line front more q in
     rw (has, len) (take_at (spelled_pieces front) (60 ∷ more) (length (spelled_pieces front)) refl)
 
-behind_line : (front : List Piece) (more : List ℕ) → ArePieces is_plain front → behind_bracket (spelled_pieces front ++ 60 ∷ more) ≡ more
-behind_line front more q =
+after_line : (front : List Piece) (more : List ℕ) → ArePieces is_plain front → after_bracket (spelled_pieces front ++ 60 ∷ more) ≡ more
+after_line front more q =
     let len = len_line front more q in
     let at : drop (length (spelled_pieces front)) (spelled_pieces front ++ (60 ∷ more)) ≡ 60 ∷ more = drop_at (spelled_pieces front) (60 ∷ more) (length (spelled_pieces front)) refl in
     rw len (sym (drop-drop 1 (length (spelled_pieces front)) (spelled_pieces front ++ (60 ∷ more))) ∙ ap (drop 1) at)
@@ -349,7 +349,7 @@ behind_line front more q =
 pub address_line : (front : List Piece) (more : List ℕ) → ArePieces is_plain front → address_bytes (spelled_pieces front ++ 60 ∷ more) ≡ up_to_bracket more
 address_line front more q =
     let has = has_line front more q in
-    rw has (ap up_to_bracket (behind_line front more q))
+    rw has (ap up_to_bracket (after_line front more q))
 
 pub up_to_line : (inner : List Piece) (ys : List ℕ) → ArePieces is_address_byte inner → up_to_bracket (spelled_pieces inner ++ 62 ∷ ys) ≡ spelled_pieces inner
 up_to_line inner ys r =
@@ -407,11 +407,11 @@ route_goes route tail (inl none) free = rw none (whole tail free)
     whole : (xs : List ℕ) → Lacks 58 xs → without_route xs ≡ xs
     whole [] free = refl
     whole (b ∷ bs) free =
-        ap (λ (parts : Option (List ℕ × List ℕ)). cond (b == 64) (part_behind (b ∷ bs) parts) (b ∷ bs)) (split_last-no 58 (b ∷ bs) free) ∙ cond_same (b == 64) (b ∷ bs)
+        ap (λ (parts : Option (List ℕ × List ℕ)). cond (b == 64) (part_after (b ∷ bs) parts) (b ∷ bs)) (split_last-no 58 (b ∷ bs) free) ∙ cond_same (b == 64) (b ∷ bs)
 route_goes route tail (inr r) free =
     let is : route ++ tail ≡ 64 ∷ (r.domains ++ 58 ∷ tail) = ap (λ (xs : List ℕ). xs ++ tail) r.is ∙ ap (λ (xs : List ℕ). 64 ∷ xs) (append_assoc r.domains (58 ∷ []) tail) in
     let parts : split_last (is_this 58) (64 ∷ (r.domains ++ 58 ∷ tail)) ≡ Some (64 ∷ r.domains, tail) = split_last-this 58 (64 ∷ r.domains) tail refl free in
-    ap without_route is ∙ ap (part_behind (64 ∷ (r.domains ++ 58 ∷ tail))) parts
+    ap without_route is ∙ ap (part_after (64 ∷ (r.domains ++ 58 ∷ tail))) parts
 
 inner_are : (m : WrittenMailbox) → IsWritten m → ArePieces is_address_byte (addressed m)
 inner_are m w =
@@ -525,11 +525,11 @@ in_group lead l m [] w all rest =
     ∙ told_semicolon (line (lead ++ m.name) (addressed m) []) rest (mailbox_said m) (mailbox_line lead m l w)
 in_group lead l m (n ∷ ms) w all rest =
     let q : ArePieces is_plain (lead ++ m.name) = are_two is_plain lead m.name l.plain w.name in
-    let behind = 32 ∷ (written_list (n ∷ ms) ++ 59 ∷ rest) in
+    let after = 32 ∷ (written_list (n ∷ ms) ++ 59 ∷ rest) in
     ap (λ (xs : List ℕ). told true (items_of true (spelled_pieces lead ++ xs))) (append_assoc (written m) (44 ∷ 32 ∷ written_list (n ∷ ms)) (59 ∷ rest))
-    ∙ ap (λ (xs : List ℕ). told true (items_of true xs)) (line_is lead m (44 ∷ behind))
-    ∙ ap (told true) (cut_line true (lead ++ m.name) (addressed m) (44 ∷ behind) q (inner_are m w))
-    ∙ told_comma true (line (lead ++ m.name) (addressed m) []) behind (mailbox_said m) (mailbox_line lead m l w)
+    ∙ ap (λ (xs : List ℕ). told true (items_of true xs)) (line_is lead m (44 ∷ after))
+    ∙ ap (told true) (cut_line true (lead ++ m.name) (addressed m) (44 ∷ after) q (inner_are m w))
+    ∙ told_comma true (line (lead ++ m.name) (addressed m) []) after (mailbox_said m) (mailbox_line lead m l w)
     ∙ ap (λ (addresses : List Address). mailbox_said m ∷ addresses) (in_group (Byte 32 ∷ []) space_lead n ms all.0 all.1 rest)
 
 whole_group : (ms : List WrittenMailbox) → AllWritten ms → (rest : List ℕ)
@@ -562,17 +562,17 @@ members_back lead l (One m) [] w all =
     ∙ told_last (line (lead ++ m.name) (addressed m) []) (mailbox_said m) (mailbox_line lead m l w)
 members_back lead l (One m) (next ∷ members) w all =
     let q : ArePieces is_plain (lead ++ m.name) = are_two is_plain lead m.name l.plain w.name in
-    let behind = 32 ∷ member_list (next ∷ members) in
-    ap (λ (xs : List ℕ). told false (items_of false xs)) (line_is lead m (44 ∷ behind))
-    ∙ ap (told false) (cut_line false (lead ++ m.name) (addressed m) (44 ∷ behind) q (inner_are m w))
-    ∙ told_comma false (line (lead ++ m.name) (addressed m) []) behind (mailbox_said m) (mailbox_line lead m l w)
+    let after = 32 ∷ member_list (next ∷ members) in
+    ap (λ (xs : List ℕ). told false (items_of false xs)) (line_is lead m (44 ∷ after))
+    ∙ ap (told false) (cut_line false (lead ++ m.name) (addressed m) (44 ∷ after) q (inner_are m w))
+    ∙ told_comma false (line (lead ++ m.name) (addressed m) []) after (mailbox_said m) (mailbox_line lead m l w)
     ∙ ap (λ (addresses : List Address). mailbox_said m ∷ addresses) (members_back (Byte 32 ∷ []) space_lead next members all.0 all.1)
 members_back lead l (Group name ms) [] w all =
     ap (λ (xs : List ℕ). told false (items_of false (spelled_pieces lead ++ xs))) (sym (append-nil (member_bytes (Group name ms))))
     ∙ group lead l name ms w.0 w.1 []
 members_back lead l (Group name ms) (next ∷ members) w all =
-    let behind = 32 ∷ member_list (next ∷ members) in
-    group lead l name ms w.0 w.1 (44 ∷ behind)
+    let after = 32 ∷ member_list (next ∷ members) in
+    group lead l name ms w.0 w.1 (44 ∷ after)
     ∙ ap (λ (addresses : List Address). member_said (Group name ms) ++ addresses) (members_back (Byte 32 ∷ []) space_lead next members all.0 all.1)
 
 pub members_read_back : MembersReadBack

@@ -4,7 +4,7 @@ use Rattle.std.specs.List.{flat_map}
 use Rattle.std.proofs.lemmas.Bool.Decides.{nat_tests}
 use Rattle.mail_address.specs.declared.place.Place.{Place}
 use Rattle.mail_address.specs.declared.place.Place.TheVariants.{Outside, Pair, Quoted, QuotedPair, Comment, CommentPair}
-use Rattle.mail_address.specs.Places.{next_place, next_name_place, place_behind_comment, marked_by, marked, is_outside}
+use Rattle.mail_address.specs.Places.{next_place, next_name_place, place_after_comment, marked_by, marked, is_outside}
 use Rattle.mail_address.specs.Grammar.{QuotedPart, Literal, Escaped, CommentInside, Empty, TextThen, EscapedThen, CommentThen, is_quoted_byte, is_comment_byte, AreQuoted, IsInside, quoted_bytes, inside_bytes, Piece, Byte, QuotedString, CommentText, piece_bytes, spelled_pieces, IsPiece, ArePieces, is_outer_byte}
 use Rattle.mail_address.specs.Laws.{stands_outside, outside_flags, OutsideIsBetween}
 
@@ -75,14 +75,14 @@ marks_quoted next m (Escaped b ∷ parts) q ys =
     ∙ ap (λ ms. (92, Quoted) ∷ (b, QuotedPair) ∷ ms) (marks_quoted next m parts q ys)
 
 -- A comment in a comment ends in the outer one.
-behind_deeper : (n : ℕ) → place_behind_comment (suc (suc n)) ≡ Comment (suc n)
-behind_deeper n =
+after_deeper : (n : ℕ) → place_after_comment (suc (suc n)) ≡ Comment (suc n)
+after_deeper n =
     let deep : nat_le (suc (suc n)) 1 ≡ false = grind (arith, nat_tests) in
     rw deep (ap Comment (omega arith))
 
 -- The inside of a comment up to its end.
 marks_inside : (next : Place → ℕ → Place) → Moves next → (n : ℕ) (inside : CommentInside) → IsInside inside → (ys : List ℕ)
-    → marked_by next (Comment (suc n)) (inside_bytes inside ++ 41 ∷ ys) ≡ inside_marks (suc n) inside ++ (41, Comment (suc n)) ∷ marked_by next (place_behind_comment (suc n)) ys
+    → marked_by next (Comment (suc n)) (inside_bytes inside ++ 41 ∷ ys) ≡ inside_marks (suc n) inside ++ (41, Comment (suc n)) ∷ marked_by next (place_after_comment (suc n)) ys
 marks_inside next m n Empty q ys = ap (λ p. (41, Comment (suc n)) ∷ marked_by next p ys) (m.inner (Comment (suc n)) refl 41)
 marks_inside next m n (TextThen b more) q ys =
     ap (λ p. (b, Comment (suc n)) ∷ marked_by next p (inside_bytes more ++ 41 ∷ ys)) (m.inner (Comment (suc n)) refl b ∙ comment_stays (suc n) b q.0)
@@ -93,15 +93,15 @@ marks_inside next m n (EscapedThen b more) q ys =
     ∙ ap (λ ms. (92, Comment (suc n)) ∷ (b, CommentPair (suc n)) ∷ ms) (marks_inside next m n more q ys)
 marks_inside next m n (CommentThen inner more) q ys =
     let rest = inside_bytes more ++ 41 ∷ ys in
-    let later = inside_marks (suc n) more ++ (41, Comment (suc n)) ∷ marked_by next (place_behind_comment (suc n)) ys in
+    let later = inside_marks (suc n) more ++ (41, Comment (suc n)) ∷ marked_by next (place_after_comment (suc n)) ys in
     let deeper : next (Comment (suc n)) 40 ≡ Comment (suc (suc n)) = m.inner (Comment (suc n)) refl 40 ∙ ap Comment (omega arith) in
     ap (λ xs. (40, Comment (suc n)) ∷ marked_by next (next (Comment (suc n)) 40) xs) (append_assoc (inside_bytes inner) (41 ∷ inside_bytes more) (41 ∷ ys))
     ∙ ap (λ p. (40, Comment (suc n)) ∷ marked_by next p (inside_bytes inner ++ 41 ∷ rest)) deeper
     ∙ ap (λ ms. (40, Comment (suc n)) ∷ ms) (marks_inside next m (suc n) inner q.0 rest)
-    ∙ ap (λ p. (40, Comment (suc n)) ∷ (inside_marks (suc (suc n)) inner ++ (41, Comment (suc (suc n))) ∷ marked_by next p rest)) (behind_deeper n)
+    ∙ ap (λ p. (40, Comment (suc n)) ∷ (inside_marks (suc (suc n)) inner ++ (41, Comment (suc (suc n))) ∷ marked_by next p rest)) (after_deeper n)
     ∙ ap (λ ms. (40, Comment (suc n)) ∷ (inside_marks (suc (suc n)) inner ++ (41, Comment (suc (suc n))) ∷ ms)) (marks_inside next m n more q.1 ys)
     ∙ ap (λ ms. (40, Comment (suc n)) ∷ ms)
-    (sym (append_assoc (inside_marks (suc (suc n)) inner) ((41, Comment (suc (suc n))) ∷ inside_marks (suc n) more) ((41, Comment (suc n)) ∷ marked_by next (place_behind_comment (suc n)) ys)))
+    (sym (append_assoc (inside_marks (suc (suc n)) inner) ((41, Comment (suc (suc n))) ∷ inside_marks (suc n) more) ((41, Comment (suc n)) ∷ marked_by next (place_after_comment (suc n)) ys)))
 
 -- A piece, and pieces: after each of them nothing is open.
 pub marks_piece : (next : Place → ℕ → Place) → Moves next → (p : ℕ → Bool) → ((b : ℕ) → p b ≡ true → next Outside b ≡ Outside)

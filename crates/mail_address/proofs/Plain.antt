@@ -11,9 +11,9 @@ use Rattle.mail_address.specs.declared.items.Ending.{Ending}
 use Rattle.mail_address.specs.declared.address.AddressKind.TheVariants.{Mailbox}
 use Rattle.mail_address.specs.declared.address.Address.{Address}
 use Rattle.mail_address.specs.Places.{marked, is_sought}
-use Rattle.mail_address.specs.Splits.{split_last, is_this, part_behind}
+use Rattle.mail_address.specs.Splits.{split_last, is_this, part_after}
 use Rattle.mail_address.specs.Words.{spoken_from, address_from, spaced, begins_word, without_space, joined_words, name_text, address_text}
-use Rattle.mail_address.specs.Items.{cut, onto_item, items_of, len_before, has_bracket, name_bytes, address_bytes, up_to_bracket, behind_bracket}
+use Rattle.mail_address.specs.Items.{cut, onto_item, items_of, len_before, has_bracket, name_bytes, address_bytes, up_to_bracket, after_bracket}
 use Rattle.mail_address.specs.Addresses.{told, mailbox_in, mailbox_with, without_route}
 use Rattle.mail_address.specs.Laws.{is_plain, is_plain_letter, PlainMailbox, IsPlain, spelled, spelled_list, address_with, PlainReadBack}
 use Rattle.mail_address.proofs.Cutting.{put_before}
@@ -162,10 +162,10 @@ len_before-line name address q =
 has_bracket-line : (name address : List ℕ) → AllQuiet (name ++ 32 ∷ []) → has_bracket (line name address []) ≡ true
 has_bracket-line name address q =
     let front = name ++ 32 ∷ [] in
-    let behind = 60 ∷ (address ++ (62 ∷ [])) in
+    let after = 60 ∷ (address ++ (62 ∷ [])) in
     let len : len_before OpenBracket Outside (line name address []) ≡ length front = len_before-line name address q in
-    let all : length (front ++ behind) ≡ length front + length behind = length-append front behind in
-    nat_lt-true (len_before OpenBracket Outside (line name address [])) (length (front ++ behind)) (omega arith)
+    let all : length (front ++ after) ≡ length front + length after = length-append front after in
+    nat_lt-true (len_before OpenBracket Outside (line name address [])) (length (front ++ after)) (omega arith)
 
 name_bytes-line : (name address : List ℕ) → AllQuiet (name ++ 32 ∷ []) → name_bytes (line name address []) ≡ name ++ 32 ∷ []
 name_bytes-line name address q =
@@ -179,18 +179,18 @@ up_to_bracket-line address q =
     = len_before-quiet CloseBracket address (62 ∷ []) (λ b quiet. quiet.greater) q in
     rw len (take_at address (62 ∷ []) (length address + 0) (omega arith))
 
-behind_bracket-line : (name address : List ℕ) → AllQuiet (name ++ 32 ∷ []) → behind_bracket (line name address []) ≡ address ++ (62 ∷ [])
-behind_bracket-line name address q =
+after_bracket-line : (name address : List ℕ) → AllQuiet (name ++ 32 ∷ []) → after_bracket (line name address []) ≡ address ++ (62 ∷ [])
+after_bracket-line name address q =
     let front = name ++ 32 ∷ [] in
-    let behind = address ++ (62 ∷ []) in
+    let after = address ++ (62 ∷ []) in
     let len = len_before-line name address q in
-    let at : drop (length front) (front ++ (60 ∷ behind)) ≡ 60 ∷ behind = drop_at front (60 ∷ behind) (length front) refl in
-    rw len (sym (drop-drop 1 (length front) (front ++ (60 ∷ behind))) ∙ ap (drop 1) at)
+    let at : drop (length front) (front ++ (60 ∷ after)) ≡ 60 ∷ after = drop_at front (60 ∷ after) (length front) refl in
+    rw len (sym (drop-drop 1 (length front) (front ++ (60 ∷ after))) ∙ ap (drop 1) at)
 
 address_bytes-line : (name address : List ℕ) → AllQuiet (name ++ 32 ∷ []) → AllQuiet address → address_bytes (line name address []) ≡ address
 address_bytes-line name address q r =
     let has = has_bracket-line name address q in
-    rw has (ap up_to_bracket (behind_bracket-line name address q) ∙ up_to_bracket-line address r)
+    rw has (ap up_to_bracket (after_bracket-line name address q) ∙ up_to_bracket-line address r)
 
 -- The texts of quiet bytes.
 spoken_from-quiet : (xs : List ℕ) → AllQuiet xs → spoken_from Outside xs ≡ xs
@@ -226,7 +226,7 @@ without_route-quiet : (xs : List ℕ) → AllQuiet xs → without_route xs ≡ x
 without_route-quiet [] q = refl
 without_route-quiet (b ∷ bs) q =
     let none : split_last (is_this 58) (b ∷ bs) ≡ None = split_last-no 58 (b ∷ bs) (no_colon (b ∷ bs) q) in
-    ap (λ (parts : Option (List ℕ × List ℕ)). cond (b == 64) (part_behind (b ∷ bs) parts) (b ∷ bs)) none ∙ cond_same (b == 64) (b ∷ bs)
+    ap (λ (parts : Option (List ℕ × List ℕ)). cond (b == 64) (part_after (b ∷ bs) parts) (b ∷ bs)) none ∙ cond_same (b == 64) (b ∷ bs)
 
 -- An address with an `@` isn't empty.
 some_length : (local_part host : List ℕ) → (length (local_part ++ (64 ∷ host)) == 0) ≡ false

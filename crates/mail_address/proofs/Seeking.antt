@@ -7,7 +7,7 @@ use Rattle.mail_address.specs.declared.place.Place.{Place}
 use Rattle.mail_address.specs.declared.place.Place.TheVariants.{Outside, Pair, Quoted, QuotedPair, Comment, CommentPair}
 use Rattle.mail_address.specs.declared.place.Sought.{Sought}
 use Rattle.mail_address.specs.Places.{next_place, marked_by, bytes_of, is_sought, is_comment_start}
-use Rattle.mail_address.specs.Splits.{split_last, split_with, part_behind}
+use Rattle.mail_address.specs.Splits.{split_last, split_with, part_after}
 use Rattle.mail_address.specs.Items.{len_before}
 
 pub bytes_of-marked_by : (next : Place → ℕ → Place) (place : Place) (xs : List ℕ) → bytes_of (marked_by next place xs) ≡ xs
@@ -40,46 +40,46 @@ pub len_from-all : (sought : Sought) (place : Place) (xs : List ℕ) (i : ℕ) �
 len_from-all sought place xs i h = rw (drop_all i xs h) (omega arith)
 
 -- One byte before others, in the search for the last comment.
-pub part_behind-split_with : (t : Bool) (x : ℕ × Place) (xs others : List (ℕ × Place)) (parts : Option (List (ℕ × Place) × List (ℕ × Place)))
-    → part_behind others (split_with t x xs parts) ≡ part_behind (cond t xs others) parts
-part_behind-split_with t x xs others (Some parts) = refl
-part_behind-split_with true x xs others None = refl
-part_behind-split_with false x xs others None = refl
+pub part_after-split_with : (t : Bool) (x : ℕ × Place) (xs others : List (ℕ × Place)) (parts : Option (List (ℕ × Place) × List (ℕ × Place)))
+    → part_after others (split_with t x xs parts) ≡ part_after (cond t xs others) parts
+part_after-split_with t x xs others (Some parts) = refl
+part_after-split_with true x xs others None = refl
+part_after-split_with false x xs others None = refl
 
 -- The byte after one that starts a comment is in a comment.
-behind_start : (b : ℕ) (place : Place) → is_comment_start (b, place) ≡ true → next_place place b ≡ Comment 1
-behind_start b Outside e = let is : b ≡ 40 = eqb-true b 40 e in rw is refl
-behind_start b Pair e = cc
-behind_start b Quoted e = cc
-behind_start b QuotedPair e = cc
-behind_start b (Comment depth) e = cc
-behind_start b (CommentPair depth) e = cc
+after_start : (b : ℕ) (place : Place) → is_comment_start (b, place) ≡ true → next_place place b ≡ Comment 1
+after_start b Outside e = let is : b ≡ 40 = eqb-true b 40 e in rw is refl
+after_start b Pair e = cc
+after_start b Quoted e = cc
+after_start b QuotedPair e = cc
+after_start b (Comment depth) e = cc
+after_start b (CommentPair depth) e = cc
 
 -- The marked bytes after the start of the last comment from an index on, or those of an inside that
 -- was found before it.
-abbrev pub behind_from : List ℕ → Place → List ℕ → ℕ → List (ℕ × Place)
-behind_from inside place xs i = part_behind (marked_by next_place (Comment 1) inside) (split_last is_comment_start (marked_by next_place place (drop i xs)))
+abbrev pub after_from : List ℕ → Place → List ℕ → ℕ → List (ℕ × Place)
+after_from inside place xs i = part_after (marked_by next_place (Comment 1) inside) (split_last is_comment_start (marked_by next_place place (drop i xs)))
 
-pub behind_from-step : (inside : List ℕ) (place : Place) (xs : List ℕ) (i : ℕ) → i < length xs
+pub after_from-step : (inside : List ℕ) (place : Place) (xs : List ℕ) (i : ℕ) → i < length xs
     → is_comment_start (get_or xs i 0, place) ≡ false
-    → behind_from inside place xs i ≡ behind_from inside (next_place place (get_or xs i 0)) xs (i + 1)
-behind_from-step inside place xs i h e =
+    → after_from inside place xs i ≡ after_from inside (next_place place (get_or xs i 0)) xs (i + 1)
+after_from-step inside place xs i h e =
     let b = get_or xs i 0 in
     let marks = marked_by next_place (next_place place b) (drop (i + 1) xs) in
     rw (drop_more xs i 0 h, e)
-    (part_behind-split_with false (b, place) marks (marked_by next_place (Comment 1) inside) (split_last is_comment_start marks))
+    (part_after-split_with false (b, place) marks (marked_by next_place (Comment 1) inside) (split_last is_comment_start marks))
 
-pub behind_from-found : (inside : List ℕ) (place : Place) (xs : List ℕ) (i : ℕ) → i < length xs
+pub after_from-found : (inside : List ℕ) (place : Place) (xs : List ℕ) (i : ℕ) → i < length xs
     → is_comment_start (get_or xs i 0, place) ≡ true
-    → behind_from inside place xs i ≡ behind_from (drop (i + 1) xs) (next_place place (get_or xs i 0)) xs (i + 1)
-behind_from-found inside place xs i h e =
+    → after_from inside place xs i ≡ after_from (drop (i + 1) xs) (next_place place (get_or xs i 0)) xs (i + 1)
+after_from-found inside place xs i h e =
     let b = get_or xs i 0 in
     let marks = marked_by next_place (next_place place b) (drop (i + 1) xs) in
-    let inner : marks ≡ marked_by next_place (Comment 1) (drop (i + 1) xs) = ap (λ (p : Place). marked_by next_place p (drop (i + 1) xs)) (behind_start b place e) in
-    let step : part_behind (marked_by next_place (Comment 1) inside) (split_with true (b, place) marks (split_last is_comment_start marks)) ≡ part_behind marks (split_last is_comment_start marks)
-    = part_behind-split_with true (b, place) marks (marked_by next_place (Comment 1) inside) (split_last is_comment_start marks) in
-    rw (drop_more xs i 0 h, e) (step ∙ ap (λ (others : List (ℕ × Place)). part_behind others (split_last is_comment_start marks)) inner)
+    let inner : marks ≡ marked_by next_place (Comment 1) (drop (i + 1) xs) = ap (λ (p : Place). marked_by next_place p (drop (i + 1) xs)) (after_start b place e) in
+    let step : part_after (marked_by next_place (Comment 1) inside) (split_with true (b, place) marks (split_last is_comment_start marks)) ≡ part_after marks (split_last is_comment_start marks)
+    = part_after-split_with true (b, place) marks (marked_by next_place (Comment 1) inside) (split_last is_comment_start marks) in
+    rw (drop_more xs i 0 h, e) (step ∙ ap (λ (others : List (ℕ × Place)). part_after others (split_last is_comment_start marks)) inner)
 
-pub behind_from-all : (inside : List ℕ) (place : Place) (xs : List ℕ) (i : ℕ) → length xs ≤ i
-    → behind_from inside place xs i ≡ marked_by next_place (Comment 1) inside
-behind_from-all inside place xs i h = rw (drop_all i xs h) refl
+pub after_from-all : (inside : List ℕ) (place : Place) (xs : List ℕ) (i : ℕ) → length xs ≤ i
+    → after_from inside place xs i ≡ marked_by next_place (Comment 1) inside
+after_from-all inside place xs i h = rw (drop_all i xs h) refl

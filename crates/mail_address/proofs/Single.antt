@@ -12,7 +12,7 @@ use Rattle.mail_address.specs.declared.items.Ending.TheVariants.{Semicolon}
 use Rattle.mail_address.specs.declared.address.AddressKind.TheVariants.{GroupStart}
 use Rattle.mail_address.specs.declared.address.Address.{Address}
 use Rattle.mail_address.specs.Places.{marked, bytes_of, is_sought, is_comment_start}
-use Rattle.mail_address.specs.Splits.{split_last, is_this, part_behind}
+use Rattle.mail_address.specs.Splits.{split_last, is_this, part_after}
 use Rattle.mail_address.specs.Words.{name_text, address_text}
 use Rattle.mail_address.specs.Items.{cut, onto_item, items_of, len_before, has_bracket, last_comment, name_bytes, address_bytes, up_to_bracket}
 use Rattle.mail_address.specs.Addresses.{told, mailbox_in, mailbox_with, without_route}
@@ -21,7 +21,7 @@ use Rattle.mail_address.specs.Laws.{is_plain}
 use Rattle.mail_address.specs.Mailboxes.{name_said, address_said}
 use Rattle.mail_address.specs.Single.{last_inside, bare_said, is_bare_byte, BareReads, is_inner_byte, ItemReads, OpenItemReads, is_grouped_byte, GroupReads, AddressIsSplit, AloneIsMailbox, NothingIsNoMailbox}
 use Rattle.mail_address.proofs.Cutting.{put_before}
-use Rattle.mail_address.proofs.Seeking.{part_behind-split_with}
+use Rattle.mail_address.proofs.Seeking.{part_after-split_with}
 use Rattle.mail_address.proofs.Plain.{mailbox_with-at, split_last-no}
 use Rattle.mail_address.proofs.Marks.{moves, quoted_marks, inside_marks, piece_marks, all_marks, marks_whole, outer_stays}
 use Rattle.mail_address.specs.Places.{next_place}
@@ -89,16 +89,16 @@ inside_is inside ms q =
 
 -- The marks after the start of the last comment.
 starts_skipped : (ms ns others : List (ℕ × Place)) → NoneOf is_comment_start ms
-    → part_behind others (split_last is_comment_start (ms ++ ns)) ≡ part_behind others (split_last is_comment_start ns)
+    → part_after others (split_last is_comment_start (ms ++ ns)) ≡ part_after others (split_last is_comment_start ns)
 starts_skipped [] ns others q = refl
 starts_skipped (m ∷ ms) ns others q =
-    part_behind-split_with (is_comment_start m) m (ms ++ ns) others (split_last is_comment_start (ms ++ ns))
-    ∙ ap (λ (t : Bool). part_behind (cond t (ms ++ ns) others) (split_last is_comment_start (ms ++ ns))) q.0
+    part_after-split_with (is_comment_start m) m (ms ++ ns) others (split_last is_comment_start (ms ++ ns))
+    ∙ ap (λ (t : Bool). part_after (cond t (ms ++ ns) others) (split_last is_comment_start (ms ++ ns))) q.0
     ∙ starts_skipped ms ns others q.1
 
 last_is : (pieces : List Piece) (others : List (ℕ × Place)) (found : List ℕ) → ArePieces is_outer_byte pieces
     → bytes_of (before_first (is_sought CommentEnd) others) ≡ found
-    → bytes_of (before_first (is_sought CommentEnd) (part_behind others (split_last is_comment_start (all_marks pieces)))) ≡ last_inside pieces found
+    → bytes_of (before_first (is_sought CommentEnd) (part_after others (split_last is_comment_start (all_marks pieces)))) ≡ last_inside pieces found
 last_is [] others found q e = e
 last_is (Byte b ∷ pieces) others found q e =
     ap (λ (ms : List (ℕ × Place)). bytes_of (before_first (is_sought CommentEnd) ms)) (starts_skipped ((b, Outside) ∷ []) (all_marks pieces) others (no_start b q.0, tt))
@@ -113,8 +113,8 @@ last_is (QuotedString parts ∷ pieces) others found q e =
 last_is (CommentText inside ∷ pieces) others found q e =
     let within = inside_marks 1 inside ++ (41, Comment 1) ∷ [] in
     let rest = all_marks pieces in
-    let after : part_behind others (split_last is_comment_start ((40, Outside) ∷ (within ++ rest))) ≡ part_behind (within ++ rest) (split_last is_comment_start rest) =
-    part_behind-split_with true (40, Outside) (within ++ rest) others (split_last is_comment_start (within ++ rest))
+    let after : part_after others (split_last is_comment_start ((40, Outside) ∷ (within ++ rest))) ≡ part_after (within ++ rest) (split_last is_comment_start rest) =
+    part_after-split_with true (40, Outside) (within ++ rest) others (split_last is_comment_start (within ++ rest))
     ∙ starts_skipped within rest (within ++ rest) (none_append is_comment_start (inside_marks 1 inside) ((41, Comment 1) ∷ []) (inside_starts 1 inside) (refl, tt)) in
     let first : bytes_of (before_first (is_sought CommentEnd) (within ++ rest)) ≡ inside_bytes inside =
     ap (λ (ms : List (ℕ × Place)). bytes_of (before_first (is_sought CommentEnd) ms)) (append_assoc (inside_marks 1 inside) ((41, Comment 1) ∷ []) rest)
@@ -141,7 +141,7 @@ bare_is : (g : Bool) (pieces : List Piece) → ArePieces is_outer_byte pieces �
 bare_is g pieces q r =
     let has = has_none g pieces q r in
     let last : last_comment (spelled_pieces pieces) ≡ last_inside pieces [] =
-    ap (λ (ms : List (ℕ × Place)). bytes_of (before_first (is_sought CommentEnd) (part_behind [] (split_last is_comment_start ms)))) (outer_marks pieces q)
+    ap (λ (ms : List (ℕ × Place)). bytes_of (before_first (is_sought CommentEnd) (part_after [] (split_last is_comment_start ms)))) (outer_marks pieces q)
     ∙ last_is pieces [] [] q refl in
     let name : name_bytes (spelled_pieces pieces) ≡ last_inside pieces [] = rw has last in
     let address : address_bytes (spelled_pieces pieces) ≡ spelled_pieces pieces = rw has refl in

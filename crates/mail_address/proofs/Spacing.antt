@@ -8,12 +8,12 @@ use Rattle.mail_address.specs.declared.words.Gap.{Gap}
 use Rattle.mail_address.specs.declared.words.Gap.TheVariants.{Start, Word, Space}
 use Rattle.mail_address.specs.Places.{next_place, next_name_place, marked_by, bytes_of}
 use Rattle.mail_address.specs.Words.{stays_in_name, stays_in_address, spoken_from, address_from, spaced, without_space, joined_words}
-use Rattle.mail_address.specs.Gaps.{given, gap_behind, PutsOfName}
+use Rattle.mail_address.specs.Gaps.{given, gap_after, PutsOfName}
 
 -- The bytes that bytes append to a name, one after another.
 abbrev pub given_from : Gap → List ℕ → List ℕ
 given_from gap [] = []
-given_from gap (b ∷ bs) = given gap b ++ given_from (gap_behind gap b) bs
+given_from gap (b ∷ bs) = given gap b ++ given_from (gap_after gap b) bs
 
 -- After a word, and after a space that waits, the words that follow are unchanged.
 abbrev GivesSpaced : List ℕ → Type 0
@@ -48,22 +48,22 @@ given_from-start (b ∷ bs) = given_from-start-step b bs (b == 32) refl (given_f
 
 -- A byte with its place, which stays or is removed.
 given_step : (t : Bool) (gap : Gap) (place : Place) (b : ℕ) (text : List ℕ) (marks : List (ℕ × Place))
-    → text ++ given_from gap (bytes_of (cond t ((b, place) ∷ marks) marks)) ≡ cond t (text ++ given gap b) text ++ given_from (cond t (gap_behind gap b) gap) (bytes_of marks)
-given_step true gap place b text marks = sym (append_assoc text (given gap b) (given_from (gap_behind gap b) (bytes_of marks)))
+    → text ++ given_from gap (bytes_of (cond t ((b, place) ∷ marks) marks)) ≡ cond t (text ++ given gap b) text ++ given_from (cond t (gap_after gap b) gap) (bytes_of marks)
+given_step true gap place b text marks = sym (append_assoc text (given gap b) (given_from (gap_after gap b) (bytes_of marks)))
 given_step false gap place b text marks = refl
 
 -- The text of a name, with what the bytes from an index on append to it.
 abbrev pub name_from : List ℕ → Gap → Place → List ℕ → ℕ → List ℕ
 name_from text gap place xs i = text ++ given_from gap (spoken_from place (drop i xs))
 
-pub name_from-step : (old new : List ℕ) (gap behind : Gap) (place : Place) (xs : List ℕ) (i : ℕ) → i < length xs
-    → PutsOfName old new gap place (get_or xs i 0) behind
-    → name_from old gap place xs i ≡ name_from new behind (next_name_place place (get_or xs i 0)) xs (i + 1)
-name_from-step old new gap behind place xs i h puts =
+pub name_from-step : (old new : List ℕ) (gap after : Gap) (place : Place) (xs : List ℕ) (i : ℕ) → i < length xs
+    → PutsOfName old new gap place (get_or xs i 0) after
+    → name_from old gap place xs i ≡ name_from new after (next_name_place place (get_or xs i 0)) xs (i + 1)
+name_from-step old new gap after place xs i h puts =
     let b = get_or xs i 0 in
     let marks = filter (λ (mark : ℕ × Place). stays_in_name mark.1 mark.0) (marked_by next_name_place (next_name_place place b) (drop (i + 1) xs)) in
     let text = puts.text in
-    let gaps = puts.behind_gap in
+    let gaps = puts.after_gap in
     rw (drop_more xs i 0 h, text, gaps) (given_step (stays_in_name place b) gap place b old marks)
 
 pub name_from-all : (text : List ℕ) (gap : Gap) (place : Place) (xs : List ℕ) (i : ℕ) → length xs ≤ i → name_from text gap place xs i ≡ text

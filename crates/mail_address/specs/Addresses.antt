@@ -5,15 +5,15 @@ use Rattle.mail_address.specs.declared.address.Address.{Address}
 use Rattle.mail_address.specs.declared.items.Ending.{Ending}
 use Rattle.mail_address.specs.declared.items.Ending.TheVariants.{Comma, Colon, Semicolon}
 use Rattle.mail_address.specs.Words.{name_text, address_text}
-use Rattle.mail_address.specs.Splits.{split_last, part_behind, part_before, is_this}
-use Rattle.mail_address.specs.Items.{items_of, is_grouped_behind, name_bytes, address_bytes}
+use Rattle.mail_address.specs.Splits.{split_last, part_after, part_before, is_this}
+use Rattle.mail_address.specs.Items.{items_of, is_grouped_after, name_bytes, address_bytes}
 
 -- The address without its route: if it starts with `@`, all up to its last colon is removed (RFC
 -- 5322, section 4.4).
 abbrev pub without_route : List ℕ → List ℕ
 without_route [] = []
 without_route (b ∷ bs) =
-    if b == 64 then part_behind (b ∷ bs) (split_last (is_this 58) (b ∷ bs)) else b ∷ bs
+    if b == 64 then part_after (b ∷ bs) (split_last (is_this 58) (b ∷ bs)) else b ∷ bs
 
 -- The part of an address before its last `@`, or all of it if it has none.
 abbrev pub mailbox_of : List ℕ → List ℕ
@@ -21,7 +21,7 @@ mailbox_of address = part_before address (split_last (is_this 64) address)
 
 -- The part of an address after its last `@`, or nothing if it has none.
 abbrev pub host_of : List ℕ → List ℕ
-host_of address = part_behind [] (split_last (is_this 64) address)
+host_of address = part_after [] (split_last (is_this 64) address)
 
 -- The mailbox with a name and an address, or nothing if both are empty.
 abbrev pub mailbox_with : List ℕ → List ℕ → List Address
@@ -58,7 +58,7 @@ told_by grouped item Semicolon = mailbox_in item ++ group_end grouped
 abbrev pub told : Bool → List (List ℕ × Ending) → List Address
 told grouped [] = []
 told grouped (item ∷ items) =
-    told_by grouped item.0 item.1 ++ told (is_grouped_behind grouped item.1) items
+    told_by grouped item.0 item.1 ++ told (is_grouped_after grouped item.1) items
 
 -- The addresses of a flat value: mailboxes, and the starts and ends of groups, in order.
 abbrev pub addresses_of : List ℕ → List Address

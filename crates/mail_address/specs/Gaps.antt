@@ -12,14 +12,14 @@ given Word b = if b == 32 then [] else b ∷ []
 given Space b = if b == 32 then [] else 32 ∷ b ∷ []
 
 -- What then precedes the next byte.
-abbrev pub gap_behind : Gap → ℕ → Gap
-gap_behind Start b = if b == 32 then Start else Word
-gap_behind Word b = if b == 32 then Space else Word
-gap_behind Space b = if b == 32 then Space else Word
+abbrev pub gap_after : Gap → ℕ → Gap
+gap_after Start b = if b == 32 then Start else Word
+gap_after Word b = if b == 32 then Space else Word
+gap_after Space b = if b == 32 then Space else Word
 
 -- A byte of a name at a place is appended to the text: the text before and after, and what precedes
 -- the next byte.
-pub record PutsOfName (old new : List ℕ) (gap : Gap) (place : Place) (b : ℕ) (behind : Gap)
+pub record PutsOfName (old new : List ℕ) (gap : Gap) (place : Place) (b : ℕ) (after : Gap)
     : Type 0 where
   pub text : new ≡ (if stays_in_name place b then old ++ given gap b else old)
-  pub behind_gap : behind ≡ (if stays_in_name place b then gap_behind gap b else gap)
+  pub after_gap : after ≡ (if stays_in_name place b then gap_after gap b else gap)

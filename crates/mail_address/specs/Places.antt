@@ -17,8 +17,8 @@ depth_of (Comment depth) = depth
 depth_of (CommentPair depth) = depth
 
 -- The place after the end of a comment at this depth, which is 1 for an outermost comment.
-abbrev pub place_behind_comment : ℕ → Place
-place_behind_comment depth = if nat_le depth 1 then Outside else Comment (depth - 1)
+abbrev pub place_after_comment : ℕ → Place
+place_after_comment depth = if nat_le depth 1 then Outside else Comment (depth - 1)
 
 -- The place of the byte after a byte. A quoted string extends from `"` to the next `"`, and a
 -- comment from `(` to the matching `)`. Comments nest, and in both a backslash quotes the next
@@ -30,7 +30,7 @@ next_place Quoted b = if b == 92 then QuotedPair else (if b == 34 then Outside e
 next_place QuotedPair b = Quoted
 next_place (Comment depth) b =
     if b == 92 then CommentPair depth else (if b == 40 then Comment (depth + 1)
-    else (if b == 41 then place_behind_comment depth else Comment depth))
+    else (if b == 41 then place_after_comment depth else Comment depth))
 next_place (CommentPair depth) b = Comment depth
 
 -- The place of the byte after a byte of a name. There a backslash quotes the next byte outside of

@@ -14,9 +14,9 @@ split_last p [] = None
 split_last p (x ∷ xs) = split_with (p x) x xs (split_last p xs)
 
 -- The elements after the last one that passes, or `others` if none does.
-abbrev pub part_behind : {X : Type 0} → List X → Option (List X × List X) → List X
-part_behind others None = others
-part_behind others (Some parts) = parts.1
+abbrev pub part_after : {X : Type 0} → List X → Option (List X × List X) → List X
+part_after others None = others
+part_after others (Some parts) = parts.1
 
 -- The elements before the last one that passes, or `others` if none does.
 abbrev pub part_before : {X : Type 0} → List X → Option (List X × List X) → List X

@@ -1,5 +1,4 @@
 //! Addresses, and lists of addresses.
-ghost use Rattle.std.specs.Prelude.{◌≡◌};
 
 use arch_base::{Bytes, Duplicate, NoMemory, Sequence};
 

@@ -1,6 +1,6 @@
 //! Splits an address list into items, and an item into its parts.
-ghost use Rattle.std.specs.Prelude.{◌≡◌, ◌∷◌, [], MatchOption, IfSome};
-ghost use Rattle.mail_address.specs.Items.{items_of, ends_item, ending_of, is_grouped_behind, is_bracketed_behind, behind_comment_start, last_comment as inside_of_last, name_bytes, address_bytes, IsFirstItem};
+ghost use Rattle.std.specs.Prelude.{◌≡◌, ◌∷◌, [], MatchOption};
+ghost use Rattle.mail_address.specs.Items.{items_of, ends_item, ending_of, is_grouped_after, is_bracketed_after, after_comment_start, last_comment as inside_of_last, name_bytes, address_bytes, IsFirstItem};
 ghost use Rattle.mail_address.specs.Places.{next_place, marked, marked_by};
 
 use crate::place::{Place, Sought, len_before};
@@ -18,8 +18,8 @@ pub(crate) enum Ending {
 
 impl Ending {
     /// Returns whether a group is open after this end. `grouped` says whether one was open before.
-    pub(crate) fn is_grouped_behind(self, grouped: bool) -> bool
-        ensures { result ≡ is_grouped_behind grouped self }
+    pub(crate) fn is_grouped_after(self, grouped: bool) -> bool
+        ensures { result ≡ is_grouped_after grouped self }
     {
         match self {
             Ending::Comma => grouped,
@@ -86,7 +86,7 @@ fn ending_at(byte: u8) -> Ending
 /// Returns whether the byte after this one is between `<` and `>`. `bracketed` says whether this
 /// one is.
 fn is_bracketed(bracketed: bool, place: Place, byte: u8) -> bool
-    ensures { result ≡ is_bracketed_behind bracketed (byte, place) }
+    ensures { result ≡ is_bracketed_after bracketed (byte, place) }
 {
     if bracketed {
         !Sought::CloseBracket.is_at(place, byte)
@@ -111,11 +111,11 @@ pub(crate) fn parts_of(item: &[u8]) -> ItemParts<'_>
 {
     let open = len_before(Sought::OpenBracket, Place::Outside, item);
     if open < item.len() {
-        let behind = &item[open + 1..];
-        let close = len_before(Sought::CloseBracket, Place::Outside, behind);
+        let after = &item[open + 1..];
+        let close = len_before(Sought::CloseBracket, Place::Outside, after);
         ItemParts {
             name: &item[..open],
-            address: &behind[..close],
+            address: &after[..close],
         }
     } else {
         ItemParts {
@@ -129,15 +129,15 @@ pub(crate) fn parts_of(item: &[u8]) -> ItemParts<'_>
 fn last_comment(item: &[u8]) -> &[u8]
     ensures { result.now ≡ inside_of_last item.now }
 {
-    let inside = behind_last_start(item);
+    let inside = after_last_start(item);
     let end = len_before(Sought::CommentEnd, Place::Comment(1), inside);
     &inside[..end]
 }
 
 /// Returns the bytes after the `(` of an item's last comment, or nothing if it has no comment.
-fn behind_last_start(item: &[u8]) -> &[u8]
+fn after_last_start(item: &[u8]) -> &[u8]
     ensures { marked_by next_place (Place.Comment 1) result.now
-        ≡ behind_comment_start (marked item.now) }
+        ≡ after_comment_start (marked item.now) }
 {
     let mut inside: &[u8] = &[];
     let mut place = Place::Outside;

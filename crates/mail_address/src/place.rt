@@ -1,6 +1,6 @@
 //! Tracks where the bytes of an address list are: in a quoted string, in a comment, or outside of
 //! both.
-ghost use Rattle.std.specs.Prelude.{◌≡◌, ◌≤◌, ◌<◌, ◌+◌, ◌^◌, length};
+ghost use Rattle.std.specs.Prelude.{◌≡◌, ◌≤◌, ◌<◌, ◌+◌, length};
 ghost use Rattle.mail_address.specs.Places.{depth_of, next_place, next_name_place, is_outside as stands_outside, is_in_one_comment as in_one_comment, is_sought, is_comment_start};
 ghost use Rattle.mail_address.specs.Items.{len_before as count_before};
 
@@ -29,11 +29,11 @@ impl Place {
         ensures depth { depth_of result ≤ depth_of self + 1 }
     {
         match self {
-            Place::Outside => Place::behind_plain(byte),
+            Place::Outside => Place::after_plain(byte),
             Place::Pair => Place::Outside,
-            Place::Quoted => Place::behind_quoted(byte),
+            Place::Quoted => Place::after_quoted(byte),
             Place::QuotedPair => Place::Quoted,
-            Place::Comment(depth) => Place::behind_comment(depth, byte),
+            Place::Comment(depth) => Place::after_comment(depth, byte),
             Place::CommentPair(depth) => Place::Comment(depth),
         }
     }
@@ -51,7 +51,7 @@ impl Place {
     }
 
     /// Returns the place after a byte that is outside of quoted strings and comments.
-    fn behind_plain(byte: u8) -> Place
+    fn after_plain(byte: u8) -> Place
         ensures { result ≡ next_place Place.Outside byte }
     {
         match byte {
@@ -62,7 +62,7 @@ impl Place {
     }
 
     /// Returns the place after a byte that is in a quoted string.
-    fn behind_quoted(byte: u8) -> Place
+    fn after_quoted(byte: u8) -> Place
         ensures { result ≡ next_place Place.Quoted byte }
     {
         match byte {
@@ -73,7 +73,7 @@ impl Place {
     }
 
     /// Returns the place after a byte that is in comments to this depth.
-    fn behind_comment(depth: usize, byte: u8) -> Place
+    fn after_comment(depth: usize, byte: u8) -> Place
         requires { depth < usize.MAX }
         ensures value { result ≡ next_place (Place.Comment depth) byte }
         ensures depth { depth_of result ≤ depth + 1 }

@@ -1,7 +1,7 @@
 //! Reads the addresses of an address list.
-ghost use Rattle.std.specs.Prelude.{◌≡◌, ◌++◌, ◌∷◌, [], IfOk, OnOk, length, ◌≤◌};
+ghost use Rattle.std.specs.Prelude.{◌≡◌, ◌++◌, ◌∷◌, [], IfOk, OnOk};
 ghost use Rattle.mail_address.specs.Addresses.{addresses_of, told_by, mailbox_in, mailbox_with, group_start, group_end, mailbox_of, host_of, without_route as without_route_of};
-ghost use Rattle.mail_address.specs.Splits.{part_behind, split_last, is_this};
+ghost use Rattle.mail_address.specs.Splits.{part_after, split_last, is_this};
 
 use crate::address::{Address, AddressKind, Addresses};
 use crate::items::{Ending, Item, first_item, parts_of};
@@ -22,7 +22,7 @@ pub fn list(alloc: Global, value: &[u8]) -> Result<Addresses, NoMemory>
     let mut grouped = false;
     while let Some(item) = first_item(rest, grouped) {
         push_item(alloc, &mut addresses, item.bytes, item.ending, grouped)?;
-        grouped = item.ending.is_grouped_behind(grouped);
+        grouped = item.ending.is_grouped_after(grouped);
         rest = item.rest;
     }
     push_item(alloc, &mut addresses, rest, Ending::Semicolon, grouped)?;
@@ -122,14 +122,14 @@ fn without_route(address: &[u8]) -> &[u8]
     ensures { result.now ≡ without_route_of address.now }
 {
     match address {
-        [b'@', ..] => behind_last_colon(address),
+        [b'@', ..] => after_last_colon(address),
         _ => address,
     }
 }
 
 /// Returns the bytes after the last colon, or all bytes if there is none.
-fn behind_last_colon(address: &[u8]) -> &[u8]
-    ensures { result.now ≡ part_behind address.now (split_last (is_this 58) address.now) }
+fn after_last_colon(address: &[u8]) -> &[u8]
+    ensures { result.now ≡ part_after address.now (split_last (is_this 58) address.now) }
 {
     match memrchr(b':', address) {
         Some(colon) => &address[colon + 1..],

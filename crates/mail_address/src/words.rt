@@ -1,7 +1,7 @@
 //! Reads the texts of names and of addresses.
 ghost use Rattle.std.specs.Prelude.{◌≡◌, ◌++◌, ◌∷◌, [], IfOk, OnOk, if◌then◌else◌};
 ghost use Rattle.mail_address.specs.Words.{stays_in_name as stays_in_name_at, stays_in_address as stays_in_address_at, name_text as name_text_of, address_text as address_text_of};
-ghost use Rattle.mail_address.specs.Gaps.{given, gap_behind, PutsOfName};
+ghost use Rattle.mail_address.specs.Gaps.{given, gap_after, PutsOfName};
 
 use crate::place::Place;
 use arch_base::{Bytes, NoMemory};
@@ -48,7 +48,7 @@ fn push_of_name(text: &mut Bytes, gap: Gap, place: Place, byte: u8) -> Result<Ga
 /// Appends a byte to a name's text. A space waits until the next word.
 fn push_spaced(text: &mut Bytes, gap: Gap, byte: u8) -> Result<Gap, NoMemory>
     ensures text { OnOk result (text.new ≡ text.old ++ given gap byte) }
-    ensures gap { IfOk result (λ behind. behind ≡ gap_behind gap byte) }
+    ensures gap { IfOk result (λ after. after ≡ gap_after gap byte) }
 {
     if byte == b' ' {
         return Ok(match gap {

@@ -18,7 +18,7 @@ use Rattle.mail_date.specs.Reading.{moment_in}
 use Rattle.mail_reader.specs.Fields.{FieldText, fields_of, first_named}
 use Rattle.mail_reader.specs.Values.{flat_of}
 use Rattle.mime_words.specs.Decoding.{decoded}
-use Rattle.mail_commits.specs.Facts.{values_of, behind_comma, listed, subject_of, name_or, from_list, first_mailbox_of, first_mailbox, from_of, email_of, from_fact, email_fact, subject_fact, date_fact}
+use Rattle.mail_commits.specs.Facts.{values_of, after_comma, listed, subject_of, name_or, from_list, first_mailbox_of, first_mailbox, from_of, email_of, from_fact, email_fact, subject_fact, date_fact}
 
 -- A list of length 0 is empty.
 nil_by : (xs : List ℕ) → length xs ≡ 0 → xs ≡ []
@@ -46,24 +46,24 @@ copied-clean (Err refused) bytes text e h = tt
 
 -- One more field with the name.
 pub values-taken : (name old new : List ℕ) (all : List ℕ) (fields later : List FieldText) (field : FieldText) → fields ≡ field ∷ later → str_eq_ignore_ascii_case field.name name ≡ true
-    → new ≡ old ++ behind_comma (flat_of field.value) → old ++ flat_map behind_comma (values_of name fields) ≡ all → new ++ flat_map behind_comma (values_of name later) ≡ all
+    → new ≡ old ++ after_comma (flat_of field.value) → old ++ flat_map after_comma (values_of name fields) ≡ all → new ++ flat_map after_comma (values_of name later) ≡ all
 values-taken name old new all fields later field e t f h =
     let first : values_of name fields ≡ flat_of field.value ∷ values_of name later = ap (values_of name) e ∙ rw t refl in
-    rw f (append_assoc old (behind_comma (flat_of field.value)) (flat_map behind_comma (values_of name later)) ∙ ap (λ values. old ++ flat_map behind_comma values) (sym first) ∙ h)
+    rw f (append_assoc old (after_comma (flat_of field.value)) (flat_map after_comma (values_of name later)) ∙ ap (λ values. old ++ flat_map after_comma values) (sym first) ∙ h)
 
 -- A field with another name.
 pub values-passed : (name old : List ℕ) (all : List ℕ) (fields later : List FieldText) (field : FieldText) → fields ≡ field ∷ later → str_eq_ignore_ascii_case field.name name ≡ false
-    → old ++ flat_map behind_comma (values_of name fields) ≡ all → old ++ flat_map behind_comma (values_of name later) ≡ all
+    → old ++ flat_map after_comma (values_of name fields) ≡ all → old ++ flat_map after_comma (values_of name later) ≡ all
 values-passed name old all fields later field e t h =
     let first : values_of name fields ≡ values_of name later = ap (values_of name) e ∙ rw t refl in
-    ap (λ values. old ++ flat_map behind_comma values) (sym first) ∙ h
+    ap (λ values. old ++ flat_map after_comma values) (sym first) ∙ h
 
 -- No more field.
-pub values-end : (name old : List ℕ) (all : List ℕ) (fields : List FieldText) → fields ≡ [] → old ++ flat_map behind_comma (values_of name fields) ≡ all → old ≡ all
-values-end name old all fields e h = sym (append-nil old) ∙ ap (λ left. old ++ flat_map behind_comma (values_of name left)) (sym e) ∙ h
+pub values-end : (name old : List ℕ) (all : List ℕ) (fields : List FieldText) → fields ≡ [] → old ++ flat_map after_comma (values_of name fields) ≡ all → old ≡ all
+values-end name old all fields e h = sym (append-nil old) ∙ ap (λ left. old ++ flat_map after_comma (values_of name left)) (sym e) ∙ h
 
 -- Without the first comma and space, the values are listed.
-pub listed-drop : (values : List (List ℕ)) → drop 2 (flat_map behind_comma values) ≡ listed values
+pub listed-drop : (values : List (List ℕ)) → drop 2 (flat_map after_comma values) ≡ listed values
 listed-drop [] = refl
 listed-drop (value ∷ values) = refl
 

@@ -21,13 +21,13 @@ values_of name (field ∷ fields) =
     else values_of name fields
 
 -- The value after a comma and a space.
-abbrev pub behind_comma : List ℕ → List ℕ
-behind_comma value = codes ", " ++ value
+abbrev pub after_comma : List ℕ → List ℕ
+after_comma value = codes ", " ++ value
 
 -- The values as one list, separated by a comma and a space.
 abbrev pub listed : List (List ℕ) → List ℕ
 listed [] = []
-listed (value ∷ values) = value ++ flat_map behind_comma values
+listed (value ∷ values) = value ++ flat_map after_comma values
 
 -- The address list of all From fields (RFC 5322, section 3.6.2).
 abbrev pub from_list : List ℕ → List ℕ

@@ -2,7 +2,7 @@
 ghost use Rattle.std.specs.Prelude.{◌≡◌, ◌++◌, ◌∷◌, [], length, take, decimal, codes, IfOk, OnOk, OnErr, is_ok, if◌then◌else◌};
 ghost use Rattle.git_objects.specs.CleanText.{IsClean};
 ghost use Rattle.git_objects.specs.Commits.{IsZone};
-ghost use Rattle.git_objects.specs.Objects.{id_of, blob_id_of};
+ghost use Rattle.git_objects.specs.Objects.{blob_id_of};
 ghost use Rattle.mail_commits.specs.Commits.{commit_of};
 ghost use Rattle.mail_commits.specs.Entries.{commit_text as commit_text_of, commit_id, entry_bytes, tree_of};
 

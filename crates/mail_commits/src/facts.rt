@@ -1,5 +1,5 @@
 //! What a mail says of itself: its author, its subject and its date.
-ghost use Rattle.std.specs.Prelude.{◌≡◌, ◌++◌, ◌∷◌, ◌≤◌, length, drop, IfOk, IfSome, OnOk, codes, option_copied, option_map, Some};
+ghost use Rattle.std.specs.Prelude.{◌≡◌, ◌++◌, ◌≤◌, length, drop, IfOk, IfSome, OnOk, codes, option_copied, option_map, Some};
 ghost use Rattle.std.specs.List.{filter, flat_map, prefix_len, suffix_len};
 ghost use Rattle.std.specs.Str.{str_eq_ignore_ascii_case};
 ghost use Rattle.git_objects.specs.CleanText.{IsClean, is_clean_byte as clean_byte, clean as clean_of, trimmed as trimmed_of, is_space as space};
@@ -9,7 +9,7 @@ ghost use Rattle.mail_reader.specs.Fields.{FieldText, fields_of, first_named};
 ghost use Rattle.mail_reader.specs.Values.{flat_of};
 ghost use Rattle.mime_words.specs.Decoding.{decoded};
 ghost use Rattle.mail_commits.specs.Commits.{written_at as written_of};
-ghost use Rattle.mail_commits.specs.Facts.{from_list, behind_comma, values_of, first_mailbox_of, clean_address as clean_address_of, from_of, email_of, from_fact, email_fact, subject_fact, date_fact};
+ghost use Rattle.mail_commits.specs.Facts.{from_list, after_comma, values_of, first_mailbox_of, clean_address as clean_address_of, from_of, email_of, from_fact, email_fact, subject_fact, date_fact};
 
 use arch_base::{Bytes, NoMemory};
 use mail_address::{Address, AddressKind, Addresses, list};
@@ -75,7 +75,7 @@ fn from_addresses(alloc: Global, text: &[u8]) -> Result<Addresses, NoMemory>
 /// Returns the flat values of all From fields of a text, each after a comma and a space.
 fn from_values(alloc: Global, text: &[u8]) -> Result<Bytes, NoMemory>
     ensures { IfOk result (λ made.
-        made ≡ flat_map behind_comma (values_of (codes "From") (fields_of text.now))) }
+        made ≡ flat_map after_comma (values_of (codes "From") (fields_of text.now))) }
 {
     let mut values = Bytes::new(alloc);
     for field in fields(text) {
@@ -95,7 +95,7 @@ fn is_same_name(name: &[u8], other: &[u8]) -> bool
 
 /// Appends a comma, a space and the flat value of a field.
 fn push_value(alloc: Global, into: &mut Bytes, value: &[u8]) -> Result<(), NoMemory>
-    ensures { OnOk result (into.new ≡ into.old ++ behind_comma (flat_of value.now)) }
+    ensures { OnOk result (into.new ≡ into.old ++ after_comma (flat_of value.now)) }
 {
     let value = flat(alloc, value)?;
     into.push_slice(b", ")?;
@@ -175,7 +175,7 @@ fn trimmed(text: &[u8]) -> &[u8]
     ensures { result.now ≡ trimmed_of text.now }
 {
     let start = spaces_before(text);
-    let front = text.split_at(text.len() - spaces_behind(text)).0;
+    let front = text.split_at(text.len() - trailing_spaces(text)).0;
     if front.len() < start {
         return &[];
     }
@@ -190,7 +190,7 @@ fn spaces_before(text: &[u8]) -> usize
 }
 
 /// Returns the count of spaces at the end of a text.
-fn spaces_behind(text: &[u8]) -> usize
+fn trailing_spaces(text: &[u8]) -> usize
     ensures value { result ≡ suffix_len space text.now }
     ensures within { result ≤ length text.now }
 {

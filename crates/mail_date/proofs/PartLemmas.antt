@@ -29,9 +29,9 @@ front_passes p (x ∷ xs) = go (p x) refl (front_passes p xs)
     go false e ih = refl
 
 -- The rest doesn't start with a byte of a word.
-behind_word : (xs : List ℕ) → begins_word (drop (prefix_len is_word_byte xs) xs) ≡ false
-behind_word [] = refl
-behind_word (x ∷ xs) = go (is_word_byte x) refl (behind_word xs)
+after_word : (xs : List ℕ) → begins_word (drop (prefix_len is_word_byte xs) xs) ≡ false
+after_word [] = refl
+after_word (x ∷ xs) = go (is_word_byte x) refl (after_word xs)
   where
     go : (b : Bool) → is_word_byte x ≡ b → begins_word (drop (prefix_len is_word_byte xs) xs) ≡ false → begins_word (drop (cond b (1 + prefix_len is_word_byte xs) 0) (x ∷ xs)) ≡ false
     go true e ih = rw (one-more (prefix_len is_word_byte xs)) ih
@@ -44,7 +44,7 @@ record Split (text word : List ℕ) (words : List (List ℕ)) : Type 0 where
   whole : text ≡ lead ++ (word ++ rest)
   white : IsWhite lead
   is_word : IsWord word
-  behind : begins_word rest ≡ false
+  after : begins_word rest ≡ false
   next : words_of rest ≡ words
 
 first_of_list : (a b : List ℕ) (xs ys : List (List ℕ)) → a ∷ xs ≡ b ∷ ys → a ≡ b
@@ -74,7 +74,7 @@ split_word text word words e = go (prefix_len is_word_byte (without_white text))
           whole = rw (← word_is, cut, front) refl;
           white = front_passes is_white text;
           is_word = subst IsWord word_is is_word;
-          behind = behind_word body;
+          after = after_word body;
           next = words_are;
         }
 
@@ -85,8 +85,8 @@ begins_word-word (b ∷ bs) rest h = (and_parts _ _ h.bytes).0
 
 -- Between two words there is white space.
 gap_between : (text lead word rest : List ℕ) → text ≡ lead ++ (word ++ rest) → begins_word text ≡ false → IsWhite lead → IsWord word → IsGap lead
-gap_between text [] word rest e behind white is_word = absurd (let bytes = begins_word-word word rest is_word in let same : begins_word text ≡ true = rw e bytes in cc)
-gap_between text (b ∷ bs) word rest e behind white is_word = record { some = grind (arith); white = white }
+gap_between text [] word rest e after white is_word = absurd (let bytes = begins_word-word word rest is_word in let same : begins_word text ≡ true = rw e bytes in cc)
+gap_between text (b ∷ bs) word rest e after white is_word = record { some = grind (arith); white = white }
 
 -- A text without words is white space.
 white_without_words : (text : List ℕ) → words_of text ≡ [] → IsWhite text
@@ -110,8 +110,8 @@ white_without_words text e = go (prefix_len is_word_byte (without_white text)) r
 
 -- If the words left are none or a comment, the text ends after the zone.
 ending_of : (text : List ℕ) (words : List (List ℕ)) → words_of text ≡ words → begins_word text ≡ false → is_comment words ≡ true → IsEnding text
-ending_of text [] e behind comment = inl (white_without_words text e)
-ending_of text (word ∷ words) e behind comment = inr (go word (split_word text word words e) comment)
+ending_of text [] e after comment = inl (white_without_words text e)
+ending_of text (word ∷ words) e after comment = inr (go word (split_word text word words e) comment)
   where
     go : (word : List ℕ) → Split text word words → (get_or word 0 0 == 40) ≡ true → IsCommentEnding text
     go [] s paren = absurd (let some : 1 ≤ 0 = s.is_word.some in omega arith)
@@ -121,7 +121,7 @@ ending_of text (word ∷ words) e behind comment = inr (go word (split_word text
           gap = s.lead;
           comment = bs ++ s.rest;
           whole = s.whole ∙ ap (λ (c : ℕ). s.lead ++ (c ∷ (bs ++ s.rest))) open_;
-          is_gap = gap_between text s.lead (b ∷ bs) s.rest s.whole behind s.white s.is_word;
+          is_gap = gap_between text s.lead (b ∷ bs) s.rest s.whole after s.white s.is_word;
         }
 
 words_of-gap : (gap rest : List ℕ) → IsWhite gap → words_of (gap ++ rest) ≡ words_of rest
@@ -138,14 +138,14 @@ not_white b h = go (is_white b) h
     go false k = refl
 
 words_of-word : (word rest : List ℕ) → IsWord word → begins_word rest ≡ false → words_of (word ++ rest) ≡ word ∷ words_of rest
-words_of-word [] rest h behind = absurd (let some : 1 ≤ 0 = h.some in omega arith)
-words_of-word (b ∷ []) rest h behind =
+words_of-word [] rest h after = absurd (let some : 1 ≤ 0 = h.some in omega arith)
+words_of-word (b ∷ []) rest h after =
     let parts = and_parts _ _ h.bytes in
-    rw (not_white b parts.0, behind) refl
-words_of-word (b ∷ c ∷ cs) rest h behind =
+    rw (not_white b parts.0, after) refl
+words_of-word (b ∷ c ∷ cs) rest h after =
     let parts = and_parts _ _ h.bytes in
     let next = and_parts _ _ parts.1 in
-    let later : words_of ((c ∷ cs) ++ rest) ≡ (c ∷ cs) ∷ words_of rest = words_of-word (c ∷ cs) rest record { some = grind (arith); bytes = parts.1 } behind in
+    let later : words_of ((c ∷ cs) ++ rest) ≡ (c ∷ cs) ∷ words_of rest = words_of-word (c ∷ cs) rest record { some = grind (arith); bytes = parts.1 } after in
     step (is_white b) (not_white b parts.0) (is_word_byte c) next.0 (words_of ((c ∷ cs) ++ rest)) later
   where
     step : (w : Bool) → w ≡ false → (k : Bool) → k ≡ true → (words : List (List ℕ)) → words ≡ (c ∷ cs) ∷ words_of rest → cond w words (cond k (onto_first b words) ((b ∷ []) ∷ words)) ≡ (b ∷ c ∷ cs) ∷ words_of rest
@@ -154,17 +154,17 @@ words_of-word (b ∷ c ∷ cs) rest h behind =
 not_word_byte : (b : ℕ) → is_white b ≡ true → is_word_byte b ≡ false
 not_word_byte b h = rw h refl
 
-behind_gap : (gap rest : List ℕ) → IsGap gap → begins_word (gap ++ rest) ≡ false
-behind_gap [] rest h = absurd (let some : 1 ≤ 0 = h.some in omega arith)
-behind_gap (b ∷ bs) rest h = not_word_byte b (and_parts _ _ h.white).0
+after_gap : (gap rest : List ℕ) → IsGap gap → begins_word (gap ++ rest) ≡ false
+after_gap [] rest h = absurd (let some : 1 ≤ 0 = h.some in omega arith)
+after_gap (b ∷ bs) rest h = not_word_byte b (and_parts _ _ h.white).0
 
-behind_white : (text : List ℕ) → IsWhite text → begins_word text ≡ false
-behind_white [] h = refl
-behind_white (b ∷ bs) h = not_word_byte b (and_parts _ _ h).0
+after_white : (text : List ℕ) → IsWhite text → begins_word text ≡ false
+after_white [] h = refl
+after_white (b ∷ bs) h = not_word_byte b (and_parts _ _ h).0
 
-behind_ending : (text : List ℕ) → IsEnding text → begins_word text ≡ false
-behind_ending text (inl white) = behind_white text white
-behind_ending text (inr h) = rw h.whole (behind_gap h.gap (40 ∷ h.comment) h.is_gap)
+after_ending : (text : List ℕ) → IsEnding text → begins_word text ≡ false
+after_ending text (inl white) = after_white text white
+after_ending text (inr h) = rw h.whole (after_gap h.gap (40 ∷ h.comment) h.is_gap)
 
 onto_comment : (words : List (List ℕ)) → is_comment (onto_first 40 words) ≡ true
 onto_comment [] = refl
@@ -253,9 +253,9 @@ opened opening day rest n (inl white) word e =
 opened opening day rest n (inr h) word e =
     let text = day ++ rest in
     let letter : is_word_byte h.first ≡ true = letter_in_word h.first (day_letter h.first h.second h.third h.named) in
-    let cut : (h.before ++ (h.first ∷ h.second ∷ h.third ∷ 44 ∷ h.behind)) ++ text ≡ h.before ++ (h.first ∷ h.second ∷ h.third ∷ 44 ∷ (h.behind ++ text)) = append_assoc h.before (h.first ∷ h.second ∷ h.third ∷ 44 ∷ h.behind) text in
-    let body : without_white (opening ++ text) ≡ h.first ∷ h.second ∷ h.third ∷ 44 ∷ (h.behind ++ text) = rw (h.whole, cut) (without_white-gap h.before (h.first ∷ h.second ∷ h.third ∷ 44 ∷ (h.behind ++ text)) h.white_before ∙ without_white-word (h.first ∷ h.second ∷ h.third ∷ 44 ∷ (h.behind ++ text)) letter) in
-    rw (body, h.named) (words_of-gap h.behind text h.white_behind)
+    let cut : (h.before ++ (h.first ∷ h.second ∷ h.third ∷ 44 ∷ h.after)) ++ text ≡ h.before ++ (h.first ∷ h.second ∷ h.third ∷ 44 ∷ (h.after ++ text)) = append_assoc h.before (h.first ∷ h.second ∷ h.third ∷ 44 ∷ h.after) text in
+    let body : without_white (opening ++ text) ≡ h.first ∷ h.second ∷ h.third ∷ 44 ∷ (h.after ++ text) = rw (h.whole, cut) (without_white-gap h.before (h.first ∷ h.second ∷ h.third ∷ 44 ∷ (h.after ++ text)) h.white_before ∙ without_white-word (h.first ∷ h.second ∷ h.third ∷ 44 ∷ (h.after ++ text)) letter) in
+    rw (body, h.named) (words_of-gap h.after text h.white_after)
 
 -- The pieces of a date are there.
 joined_day : (day month year : Option ℕ) (clock : Option Clock) (offset : Option ℤ) (date : CivilDate) → joined day month year clock offset ≡ Some date → (n : ℕ) × (day ≡ Some n)
@@ -266,13 +266,13 @@ joined_day (Some n) month year clock offset date e = (n, refl)
 pub parts_spell : (text : List ℕ) (date : CivilDate) → DateParts text date → date_of text ≡ Some date
 parts_spell text date p =
     let (n, day_is) = joined_day _ _ _ _ _ date p.value in
-    let behind_day = p.after_day ++ (p.month ++ (p.after_month ++ (p.year ++ (p.after_year ++ (p.clock ++ (p.after_clock ++ (p.zone ++ p.ending))))))) in
-    let zone_word : words_of (p.zone ++ p.ending) ≡ p.zone ∷ words_of p.ending = words_of-word p.zone p.ending p.is_zone (behind_ending p.ending p.ends) in
-    let clock_word : words_of (p.clock ++ (p.after_clock ++ (p.zone ++ p.ending))) ≡ p.clock ∷ p.zone ∷ words_of p.ending = words_of-word p.clock _ p.is_clock (behind_gap p.after_clock _ p.gap_after_clock) ∙ ap (λ (ws : List (List ℕ)). p.clock ∷ ws) (words_of-gap p.after_clock _ p.gap_after_clock.white ∙ zone_word) in
-    let year_word : words_of (p.year ++ (p.after_year ++ (p.clock ++ (p.after_clock ++ (p.zone ++ p.ending))))) ≡ p.year ∷ p.clock ∷ p.zone ∷ words_of p.ending = words_of-word p.year _ p.is_year (behind_gap p.after_year _ p.gap_after_year) ∙ ap (λ (ws : List (List ℕ)). p.year ∷ ws) (words_of-gap p.after_year _ p.gap_after_year.white ∙ clock_word) in
-    let month_word : words_of (p.month ++ (p.after_month ++ (p.year ++ (p.after_year ++ (p.clock ++ (p.after_clock ++ (p.zone ++ p.ending))))))) ≡ p.month ∷ p.year ∷ p.clock ∷ p.zone ∷ words_of p.ending = words_of-word p.month _ p.is_month (behind_gap p.after_month _ p.gap_after_month) ∙ ap (λ (ws : List (List ℕ)). p.month ∷ ws) (words_of-gap p.after_month _ p.gap_after_month.white ∙ year_word) in
-    let day_word : words_of (p.day ++ behind_day) ≡ p.day ∷ p.month ∷ p.year ∷ p.clock ∷ p.zone ∷ words_of p.ending = words_of-word p.day _ p.is_day (behind_gap p.after_day _ p.gap_after_day) ∙ ap (λ (ws : List (List ℕ)). p.day ∷ ws) (words_of-gap p.after_day _ p.gap_after_day.white ∙ month_word) in
-    let all : words_of (without_day text) ≡ p.day ∷ p.month ∷ p.year ∷ p.clock ∷ p.zone ∷ words_of p.ending = ap (λ (t : List ℕ). words_of (without_day t)) p.whole ∙ (opened p.opening p.day behind_day n p.opens p.is_day day_is ∙ day_word) in
+    let following_day = p.after_day ++ (p.month ++ (p.after_month ++ (p.year ++ (p.after_year ++ (p.clock ++ (p.after_clock ++ (p.zone ++ p.ending))))))) in
+    let zone_word : words_of (p.zone ++ p.ending) ≡ p.zone ∷ words_of p.ending = words_of-word p.zone p.ending p.is_zone (after_ending p.ending p.ends) in
+    let clock_word : words_of (p.clock ++ (p.after_clock ++ (p.zone ++ p.ending))) ≡ p.clock ∷ p.zone ∷ words_of p.ending = words_of-word p.clock _ p.is_clock (after_gap p.after_clock _ p.gap_after_clock) ∙ ap (λ (ws : List (List ℕ)). p.clock ∷ ws) (words_of-gap p.after_clock _ p.gap_after_clock.white ∙ zone_word) in
+    let year_word : words_of (p.year ++ (p.after_year ++ (p.clock ++ (p.after_clock ++ (p.zone ++ p.ending))))) ≡ p.year ∷ p.clock ∷ p.zone ∷ words_of p.ending = words_of-word p.year _ p.is_year (after_gap p.after_year _ p.gap_after_year) ∙ ap (λ (ws : List (List ℕ)). p.year ∷ ws) (words_of-gap p.after_year _ p.gap_after_year.white ∙ clock_word) in
+    let month_word : words_of (p.month ++ (p.after_month ++ (p.year ++ (p.after_year ++ (p.clock ++ (p.after_clock ++ (p.zone ++ p.ending))))))) ≡ p.month ∷ p.year ∷ p.clock ∷ p.zone ∷ words_of p.ending = words_of-word p.month _ p.is_month (after_gap p.after_month _ p.gap_after_month) ∙ ap (λ (ws : List (List ℕ)). p.month ∷ ws) (words_of-gap p.after_month _ p.gap_after_month.white ∙ year_word) in
+    let day_word : words_of (p.day ++ following_day) ≡ p.day ∷ p.month ∷ p.year ∷ p.clock ∷ p.zone ∷ words_of p.ending = words_of-word p.day _ p.is_day (after_gap p.after_day _ p.gap_after_day) ∙ ap (λ (ws : List (List ℕ)). p.day ∷ ws) (words_of-gap p.after_day _ p.gap_after_day.white ∙ month_word) in
+    let all : words_of (without_day text) ≡ p.day ∷ p.month ∷ p.year ∷ p.clock ∷ p.zone ∷ words_of p.ending = ap (λ (t : List ℕ). words_of (without_day t)) p.whole ∙ (opened p.opening p.day following_day n p.opens p.is_day day_is ∙ day_word) in
     rw (all, ending_comment p.ending p.ends) p.value
 
 -- The words of a date.
@@ -322,14 +322,14 @@ opened_by text (a ∷ b ∷ c ∷ d ∷ rest) lead true f whole white =
       whole = whole ∙ sym (append_assoc lead (a ∷ b ∷ c ∷ d ∷ []) rest);
       opens = λ more h. inr record {
         before = lead;
-        behind = more;
+        after = more;
         first = a;
         second = b;
         third = c;
         whole = append_assoc lead (a ∷ b ∷ c ∷ d ∷ []) more ∙ ap (λ (p : ℕ). lead ++ (a ∷ b ∷ c ∷ p ∷ more)) comma;
         named = tests.1;
         white_before = white;
-        white_behind = h;
+        white_after = h;
       };
     }
 
@@ -367,14 +367,14 @@ spelled_parts text date e =
       whole = o.whole ∙ (ap (λ (t : List ℕ). o.opening ++ t) e0 ∙ sym joined_lead);
       opens = o.opens s1.lead s1.white;
       is_day = s1.is_word;
-      gap_after_day = gap_between s1.rest s2.lead w.month s2.rest s2.whole s1.behind s2.white s2.is_word;
+      gap_after_day = gap_between s1.rest s2.lead w.month s2.rest s2.whole s1.after s2.white s2.is_word;
       is_month = s2.is_word;
-      gap_after_month = gap_between s2.rest s3.lead w.year s3.rest s3.whole s2.behind s3.white s3.is_word;
+      gap_after_month = gap_between s2.rest s3.lead w.year s3.rest s3.whole s2.after s3.white s3.is_word;
       is_year = s3.is_word;
-      gap_after_year = gap_between s3.rest s4.lead w.clock s4.rest s4.whole s3.behind s4.white s4.is_word;
+      gap_after_year = gap_between s3.rest s4.lead w.clock s4.rest s4.whole s3.after s4.white s4.is_word;
       is_clock = s4.is_word;
-      gap_after_clock = gap_between s4.rest s5.lead w.zone s5.rest s5.whole s4.behind s5.white s5.is_word;
+      gap_after_clock = gap_between s4.rest s5.lead w.zone s5.rest s5.whole s4.after s5.white s5.is_word;
       is_zone = s5.is_word;
-      ends = ending_of s5.rest w.others s5.next s5.behind w.comment;
+      ends = ending_of s5.rest w.others s5.next s5.after w.comment;
       value = w.value;
     }

@@ -24,14 +24,14 @@ pub record IsWord (text : List ℕ) : Type 0 where
 -- A day's name of three letters and a comma, with optional white space before and after.
 pub record IsDayOpening (text : List ℕ) : Type 0 where
   pub before : List ℕ
-  pub behind : List ℕ
+  pub after : List ℕ
   pub first : ℕ
   pub second : ℕ
   pub third : ℕ
-  pub whole : text ≡ before ++ (first ∷ second ∷ third ∷ 44 ∷ behind)
+  pub whole : text ≡ before ++ (first ∷ second ∷ third ∷ 44 ∷ after)
   pub named : is_day_name (first ∷ second ∷ third ∷ []) ≡ true
   pub white_before : IsWhite before
-  pub white_behind : IsWhite behind
+  pub white_after : IsWhite after
 
 -- The text before the day of the month: white space or nothing, or the name of a day.
 abbrev pub IsOpening : List ℕ → Type 0

@@ -25,8 +25,8 @@ month_names =
 
 -- The number of a month, from 1, by its name in any case.
 abbrev pub month_of : List ℕ → Option ℕ
-month_of word = option_map (λ place.
-    place + 1) (position (λ name. str_eq_ignore_ascii_case word name) month_names)
+month_of word = option_map (λ index.
+    index + 1) (position (λ name. str_eq_ignore_ascii_case word name) month_names)
 
 -- The year of two pairs of digits.
 abbrev pub joined_year : ℕ → ℕ → ℕ
@@ -76,7 +76,7 @@ zone_minutes = map (λ hours. neg_ℤ (pos (hours * 60))) (5 ∷ 4 ∷ 6 ∷ 5 �
 
 -- The minutes of the zone at an index of that list.
 abbrev pub zone_at : ℕ → ℤ
-zone_at place = slice_index_or zone_minutes place (pos 0)
+zone_at index = slice_index_or zone_minutes index (pos 0)
 
 -- The minutes of a zone's name, in any case. UTC has two names, and each zone of North America one.
 abbrev pub named_zone : List ℕ → Option ℤ

@@ -1,9 +1,8 @@
 //! The meaning of each word of a date.
 ghost use Rattle.std.specs.Prelude.{◌≡◌, ◌<◌, IfSome};
-ghost use Rattle.std.specs.List.{position};
 ghost use Rattle.mail_date.specs.Pieces.{number_of, day_of, month_of, year_of, clock_at, clock_of, zone_of, offset_at, named_zone, IsZone};
 
-use crate::words::{is_name, name_place};
+use crate::words::{is_name, name_index};
 
 /// A time of day, as its digits spell it.
 #[derive(Debug, Clone, Copy, PartialEq, Eq)]
@@ -56,8 +55,8 @@ pub fn day_of(word: &[u8]) -> Option<u8>
 pub fn month_of(word: &[u8]) -> Option<u8>
     ensures { result ≡ month_of word.now }
 {
-    let place = name_place(MONTHS.as_slice(), word)?;
-    Some(place as u8 + 1)
+    let index = name_index(MONTHS.as_slice(), word)?;
+    Some(index as u8 + 1)
 }
 
 /// Reads a year of four digits.
@@ -133,6 +132,6 @@ fn named_zone(word: &[u8]) -> Option<i16>
     if is_name(word, b"GMT") || is_name(word, b"UT") {
         return Some(0);
     }
-    let place = name_place(ZONES.as_slice(), word)?;
-    Some(ZONE_MINUTES[place])
+    let index = name_index(ZONES.as_slice(), word)?;
+    Some(ZONE_MINUTES[index])
 }

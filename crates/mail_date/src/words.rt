@@ -61,7 +61,7 @@ pub fn is_name(word: &[u8], name: &[u8]) -> bool
 }
 
 /// Returns the index of a name in a list of names, in any case.
-pub fn name_place(names: &[[u8; 3]], word: &[u8]) -> Option<usize>
+pub fn name_index(names: &[[u8; 3]], word: &[u8]) -> Option<usize>
     ensures { result ≡ position (λ name. str_eq_ignore_ascii_case word.now name) names.now }
 {
     names.iter().position(|name| is_name(word, name.as_slice()))

@@ -3,7 +3,7 @@ use Rattle.std.proofs.Common.{◌≡◌, ℕ, ◌+◌, ◌-◌, ◌<◌, ◌≤�
 use Rattle.std.specs.List.{concat}
 use Rattle.std.proofs.lemmas.Bool.{eqb-true, eq-eqb, both_ways, cases_order}
 use Rattle.std.proofs.lemmas.List.{get_or_append_left, get_or-append_right, append-nil, nil_from_length}
-use Rattle.mail_reader.specs.Lines.{lines_of, is_field_line, is_continuation, is_empty_line, behind, after_header, after_empty}
+use Rattle.mail_reader.specs.Lines.{lines_of, is_field_line, is_continuation, is_empty_line, after_front, after_header, after_empty}
 use Rattle.mail_reader.specs.Stored.{all_of, content_of, clean_lines, is_mailbox_line, after_mailbox_line, body_lines}
 use Rattle.mail_reader.specs.Keeping.{next_place}
 use Rattle.mail_reader.specs.declared.storing.Place.{Place}
@@ -100,13 +100,13 @@ AllClean-cond : (t : Bool) (xs ys : List (List ℕ)) → AllClean xs → AllClea
 AllClean-cond true xs ys h k = h
 AllClean-cond false xs ys h k = k
 
-AllClean-behind : (ls : List (List ℕ)) → AllClean ls → AllClean (behind ls)
-AllClean-behind [] h = tt
-AllClean-behind (l ∷ ls) h = AllClean-cond (is_field_line l || is_continuation l) (behind ls) (l ∷ ls) (AllClean-behind ls h.1) h
+AllClean-after_front : (ls : List (List ℕ)) → AllClean ls → AllClean (after_front ls)
+AllClean-after_front [] h = tt
+AllClean-after_front (l ∷ ls) h = AllClean-cond (is_field_line l || is_continuation l) (after_front ls) (l ∷ ls) (AllClean-after_front ls h.1) h
 
 AllClean-after_header : (ls : List (List ℕ)) → AllClean ls → AllClean (after_header ls)
 AllClean-after_header [] h = tt
-AllClean-after_header (l ∷ ls) h = AllClean-cond (is_field_line l) (behind ls) (l ∷ ls) (AllClean-behind ls h.1) h
+AllClean-after_header (l ∷ ls) h = AllClean-cond (is_field_line l) (after_front ls) (l ∷ ls) (AllClean-after_front ls h.1) h
 
 AllClean-after_empty : (ls : List (List ℕ)) → AllClean ls → AllClean (after_empty ls)
 AllClean-after_empty [] h = tt

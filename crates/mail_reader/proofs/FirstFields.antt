@@ -2,7 +2,7 @@
 use Rattle.std.proofs.Common.{◌≡◌, ℕ, ◌+◌, ◌<◌, ◌≤◌, suc, Bool, true, false, cond, eqb, ◌||◌, List, [], ◌∷◌, ◌++◌, length, take, drop, map, get_or, refl, sym, ap, ◌∙◌, append_assoc, arith, length-drop, subst}
 use Rattle.std.specs.List.{onto_first, prefix_len}
 use Rattle.std.proofs.lemmas.List.{take_more, take_all, drop_all, take-take, take-append-drop, drop-take, drop-drop, length-take-le, append-nil, length-map}
-use Rattle.mail_reader.specs.Lines.{lines_of, is_name_byte, is_field_line, is_continuation, front, behind, header_lines, after_header}
+use Rattle.mail_reader.specs.Lines.{lines_of, is_name_byte, is_field_line, is_continuation, front, after_front, header_lines, after_header}
 use Rattle.mail_reader.specs.Fields.{parts_of, field_of, fields_of}
 use Rattle.mail_reader.specs.Reading.{Continues, IsFirstField, HasNoField}
 use Rattle.mail_reader.proofs.Trims.{NoFeed}
@@ -35,18 +35,18 @@ take-two xs n m =
 pub record Continuing (bytes : List ℕ) (len : ℕ) : Type 0 where
   pub within : len ≤ length bytes
   pub parts : parts_of (front (lines_of bytes)) ≡ (take len bytes ++ (parts_of (front (lines_of (drop len bytes)))).0, (parts_of (front (lines_of (drop len bytes)))).1)
-  pub behind : behind (lines_of bytes) ≡ behind (lines_of (drop len bytes))
+  pub after : after_front (lines_of bytes) ≡ after_front (lines_of (drop len bytes))
 
 pub Continuing-none : (bytes : List ℕ) → Continuing bytes 0
-Continuing-none bytes = record { within = omega arith; parts = refl; behind = refl }
+Continuing-none bytes = record { within = omega arith; parts = refl; after = refl }
 
 -- A continuation line at the front of lines.
 parts-continued : (line : List ℕ) (lines : List (List ℕ)) → is_continuation line ≡ true
     → parts_of (front (line ∷ lines)) ≡ (line ++ (parts_of (front lines)).0, (parts_of (front lines)).1)
 parts-continued line lines c = rw (no_field-continuation line c, c, no_field-continuation line c) refl
 
-behind-continued : (line : List ℕ) (lines : List (List ℕ)) → is_continuation line ≡ true → behind (line ∷ lines) ≡ behind lines
-behind-continued line lines c = rw (no_field-continuation line c, c) refl
+after_front-continued : (line : List ℕ) (lines : List (List ℕ)) → is_continuation line ≡ true → after_front (line ∷ lines) ≡ after_front lines
+after_front-continued line lines c = rw (no_field-continuation line c, c) refl
 
 pub Continuing-more : (bytes : List ℕ) (n m : ℕ) → Continuing bytes n → m ≤ length (drop n bytes)
     → lines_of (drop n bytes) ≡ take m (drop n bytes) ∷ lines_of (drop m (drop n bytes)) → is_continuation (take m (drop n bytes)) ≡ true
@@ -55,38 +55,38 @@ Continuing-more bytes n m h l e c =
     let later = parts_of (front (lines_of (drop (n + m) bytes))) in
     let here : parts_of (front (lines_of (drop n bytes))) ≡ (take m (drop n bytes) ++ (parts_of (front (lines_of (drop (n + m) bytes)))).0, (parts_of (front (lines_of (drop (n + m) bytes)))).1) =
     ap (λ ls. parts_of (front ls)) e ∙ parts-continued (take m (drop n bytes)) (lines_of (drop m (drop n bytes))) c ∙ rw (drop-drop m n bytes) refl in
-    let rest : behind (lines_of (drop n bytes)) ≡ behind (lines_of (drop (n + m) bytes)) =
-    ap behind e ∙ behind-continued (take m (drop n bytes)) (lines_of (drop m (drop n bytes))) c ∙ rw (drop-drop m n bytes) refl in
+    let rest : after_front (lines_of (drop n bytes)) ≡ after_front (lines_of (drop (n + m) bytes)) =
+    ap after_front e ∙ after_front-continued (take m (drop n bytes)) (lines_of (drop m (drop n bytes))) c ∙ rw (drop-drop m n bytes) refl in
     record {
       within = omega (arith, h.within, length-drop n bytes);
       parts = h.parts ∙ rw here (ap (λ t. (t, (parts_of (front (lines_of (drop (n + m) bytes)))).1)) (sym (append_assoc (take n bytes) (take m (drop n bytes)) (parts_of (front (lines_of (drop (n + m) bytes)))).0) ∙ ap (λ t. t ++ (parts_of (front (lines_of (drop (n + m) bytes)))).0) (take-two bytes n m)));
-      behind = h.behind ∙ rest;
+      after = h.after ∙ rest;
     }
 
 -- At a line that continues nothing, the rest of the header is a header.
 record Stops (lines : List (List ℕ)) : Type 0 where
   parts : parts_of (front lines) ≡ ([], (parts_of (header_lines lines)).1)
-  behind : behind lines ≡ after_header lines
+  after : after_front lines ≡ after_header lines
 
 Stops-none : Stops []
-Stops-none = record { parts = refl; behind = refl }
+Stops-none = record { parts = refl; after = refl }
 
 Stops-at : (line : List ℕ) (lines : List (List ℕ)) → is_continuation line ≡ false → Stops (line ∷ lines)
-Stops-at line lines c = record { parts = by_parts (is_field_line line) (is_continuation line) refl c; behind = by_behind (is_field_line line) (is_continuation line) c }
+Stops-at line lines c = record { parts = by_parts (is_field_line line) (is_continuation line) refl c; after = by_after (is_field_line line) (is_continuation line) c }
   where
     by_parts : (f c : Bool) → is_field_line line ≡ f → c ≡ false → parts_of (cond (f || c) (line ∷ front lines) []) ≡ ([], (parts_of (cond f (line ∷ front lines) [])).1)
     by_parts true c q e = rw q refl
     by_parts false c q e = rw e refl
 
-    by_behind : (f c : Bool) → c ≡ false → cond (f || c) (behind lines) (line ∷ lines) ≡ cond f (behind lines) (line ∷ lines)
-    by_behind true c e = refl
-    by_behind false c e = rw e refl
+    by_after : (f c : Bool) → c ≡ false → cond (f || c) (after_front lines) (line ∷ lines) ≡ cond f (after_front lines) (line ∷ lines)
+    by_after true c e = refl
+    by_after false c e = rw e refl
 
 from_stops : (bytes : List ℕ) (n : ℕ) → Continuing bytes n → Stops (lines_of (drop n bytes)) → Continues bytes n
 from_stops bytes n h s = record {
   within = h.within;
   parts = h.parts ∙ rw s.parts (ap (λ t. (t, (parts_of (header_lines (lines_of (drop n bytes)))).1)) (append-nil (take n bytes)));
-  behind = h.behind ∙ s.behind;
+  after = h.after ∙ s.after;
 }
 
 pub Continues-stop : (bytes : List ℕ) (n : ℕ) (line : List ℕ) (lines : List (List ℕ)) → Continuing bytes n → lines_of (drop n bytes) ≡ line ∷ lines
@@ -112,7 +112,7 @@ first_field text n m some within e f h =
       within = omega (arith, h.within, length-drop n text);
       colon = omega (arith, ap (prefix_len is_name_byte) (sym two) ∙ prefix_len-within is_name_byte (take n text) (take m (drop n text)) (omega arith));
       fields = ap (λ ls. map field_of (parts_of (header_lines ls)).1) e ∙ rw (f, f, h.parts, two, rest) refl;
-      behind = ap after_header e ∙ rw f h.behind ∙ ap (λ t. after_header (lines_of t)) rest;
+      after = ap after_header e ∙ rw f h.after ∙ ap (λ t. after_header (lines_of t)) rest;
     }
 
 -- The text doesn't start with a field.
@@ -120,12 +120,12 @@ pub no_field : (text line : List ℕ) (lines : List (List ℕ)) → lines_of tex
 unfolding fields_of
 no_field text line lines e f = record {
   fields = ap (λ ls. map field_of (parts_of (header_lines ls)).1) e ∙ rw f refl;
-  behind = ap after_header e ∙ rw f (sym e);
+  after = ap after_header e ∙ rw f (sym e);
 }
 
 pub no_field-none : (text : List ℕ) → text ≡ [] → HasNoField text
 unfolding fields_of
-no_field-none text e = rw e record { fields = refl; behind = refl }
+no_field-none text e = rw e record { fields = refl; after = refl }
 
 -- There are no more fields than bytes.
 pub length-fields_of : (text : List ℕ) → length (fields_of text) ≤ length text

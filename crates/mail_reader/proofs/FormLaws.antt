@@ -2,7 +2,7 @@
 use Rattle.std.proofs.Common.{◌≡◌, ℕ, ◌+◌, ◌<◌, ◌≤◌, suc, Bool, true, false, cond, eqb, ◌&&◌, ◌||◌, List, [], ◌∷◌, ◌++◌, Option, None, Some, length, map, get_or, refl, sym, ap, ◌∙◌, append_assoc, arith, length-append, ⊎_elim}
 use Rattle.std.specs.List.{concat}
 use Rattle.std.proofs.lemmas.Bool.{eqb-true, cases_lt}
-use Rattle.mail_reader.specs.Lines.{lines_of, is_field_line, is_continuation, is_empty_line, front, behind, header_lines, after_header, after_empty}
+use Rattle.mail_reader.specs.Lines.{lines_of, is_field_line, is_continuation, is_empty_line, front, after_front, header_lines, after_header, after_empty}
 use Rattle.mail_reader.specs.Fields.{parts_of, field_of, fields_of}
 use Rattle.mail_reader.specs.Stored.{ended, ends_line, without_returns, clean_lines, is_mailbox_line, after_mailbox_line, kept_fields, body_lines, storage_form}
 use Rattle.mail_reader.specs.Bodies.{body_of}
@@ -13,7 +13,7 @@ use Rattle.mail_reader.specs.declared.storing.Place.TheVariants.{Start, Kept, Dr
 use Rattle.mail_reader.proofs.Trims.{NoByte-all}
 use Rattle.mail_reader.proofs.LineEnds.{concat-lines_of}
 use Rattle.mail_reader.proofs.FirstFields.{parts_by}
-use Rattle.mail_reader.proofs.KeptLines.{kept_at, kept_from, behind_at, behind_from, kept_from-start, behind_from-start}
+use Rattle.mail_reader.proofs.KeptLines.{kept_at, kept_from, after_at, after_from, kept_from-start, after_from-start}
 use Rattle.mail_reader.proofs.Bodied.{storage_form-none, storage_form-some}
 use Rattle.mail_reader.proofs.CleanLines.{CleanLine, AllClean, AllClean-append, clean_empty, lines_of-concat, ended-clean, no_returns-clean}
 use Rattle.mail_reader.proofs.FormLines.{Again, again_more, form_at, FormLines, form_lines}
@@ -71,9 +71,9 @@ header-first (l ∷ ls) = step (is_field_line l) l refl
     step false l e = refl
 
 -- The header and the lines after it are all the lines.
-concat-front : (ls : List (List ℕ)) → concat ls ≡ concat (front ls) ++ concat (behind ls)
+concat-front : (ls : List (List ℕ)) → concat ls ≡ concat (front ls) ++ concat (after_front ls)
 concat-front [] = refl
-concat-front (l ∷ ls) = step (is_field_line l || is_continuation l) l (front ls) (behind ls) ls (concat-front ls)
+concat-front (l ∷ ls) = step (is_field_line l || is_continuation l) l (front ls) (after_front ls) ls (concat-front ls)
   where
     step : (t : Bool) (l : List ℕ) (xs ys ls : List (List ℕ)) → concat ls ≡ concat xs ++ concat ys → concat (l ∷ ls) ≡ concat (cond t (l ∷ xs) []) ++ concat (cond t ys (l ∷ ls))
     step true l xs ys ls e = ap (λ t. l ++ t) e ∙ sym (append_assoc l (concat xs) (concat ys))
@@ -83,8 +83,8 @@ concat-header : (ls : List (List ℕ)) → concat ls ≡ concat (header_lines ls
 concat-header [] = refl
 concat-header (l ∷ ls) = step (is_field_line l) l (concat-front ls)
   where
-    step : (f : Bool) (l : List ℕ) → concat ls ≡ concat (front ls) ++ concat (behind ls) → concat (l ∷ ls) ≡ concat (cond f (l ∷ front ls) []) ++ concat (cond f (behind ls) (l ∷ ls))
-    step true l e = ap (λ t. l ++ t) e ∙ sym (append_assoc l (concat (front ls)) (concat (behind ls)))
+    step : (f : Bool) (l : List ℕ) → concat ls ≡ concat (front ls) ++ concat (after_front ls) → concat (l ∷ ls) ≡ concat (cond f (l ∷ front ls) []) ++ concat (cond f (after_front ls) (l ∷ ls))
+    step true l e = ap (λ t. l ++ t) e ∙ sym (append_assoc l (concat (front ls)) (concat (after_front ls)))
     step false l e = refl
 
 pub fields_front : FieldsAreFront
@@ -99,9 +99,9 @@ pub parts : FormIsParts
 unfolding body_of
 parts bytes text e =
     let f = form_lines bytes text e in
-    let behind : after_header (lines_of text) ≡ (10 ∷ []) ∷ f.rest =
-    ap after_header (all_lines text f) ∙ sym (behind_from-start (f.first ∷ (f.kept ++ (10 ∷ []) ∷ f.rest))) ∙ f.again.behind in
-    let rest : concat (after_header (lines_of text)) ≡ 10 ∷ concat (after_empty (after_header (lines_of text))) = rw behind refl in
+    let after : after_header (lines_of text) ≡ (10 ∷ []) ∷ f.rest =
+    ap after_header (all_lines text f) ∙ sym (after_from-start (f.first ∷ (f.kept ++ (10 ∷ []) ∷ f.rest))) ∙ f.again.after in
+    let rest : concat (after_header (lines_of text)) ≡ 10 ∷ concat (after_empty (after_header (lines_of text))) = rw after refl in
     fields_front text ∙ ap (λ t. wholes (fields_of text) ++ t) rest
 
 -- A field line has the same place whatever precedes it.
@@ -110,7 +110,7 @@ same_again l kept rest h a =
     let same : next_place Kept l ≡ next_place Start l = rw h refl in
     record {
       kept = ap (λ o. kept_at o l (λ next. kept_from next (kept ++ (10 ∷ []) ∷ rest))) same ∙ a.kept;
-      behind = ap (λ o. behind_at o (l ∷ (kept ++ (10 ∷ []) ∷ rest)) (λ next. behind_from next (kept ++ (10 ∷ []) ∷ rest))) same ∙ a.behind;
+      after = ap (λ o. after_at o (l ∷ (kept ++ (10 ∷ []) ∷ rest)) (λ next. after_from next (kept ++ (10 ∷ []) ∷ rest))) same ∙ a.after;
     }
 
 kept_clean : (line : List ℕ) → IsKeptLine line → CleanLine line
@@ -146,12 +146,12 @@ form_bytes bytes text e =
     some_is h = cc
 
 -- The kept lines and those after the header together are no longer than the lines.
-short_kept : (place : Place) (ls : List (List ℕ)) → length (concat (kept_from place ls)) + length (concat (behind_from place ls)) ≤ length (concat ls)
+short_kept : (place : Place) (ls : List (List ℕ)) → length (concat (kept_from place ls)) + length (concat (after_from place ls)) ≤ length (concat ls)
 short_kept place [] = omega arith
-short_kept place (l ∷ ls) = step (next_place place l) l ls (λ next. kept_from next ls) (λ next. behind_from next ls) (λ next. short_kept next ls)
+short_kept place (l ∷ ls) = step (next_place place l) l ls (λ next. kept_from next ls) (λ next. after_from next ls) (λ next. short_kept next ls)
   where
     step : (o : Option Place) (l : List ℕ) (ls : List (List ℕ)) (ks bs : Place → List (List ℕ)) → ((next : Place) → length (concat (ks next)) + length (concat (bs next)) ≤ length (concat ls))
-        → length (concat (kept_at o l ks)) + length (concat (behind_at o (l ∷ ls) bs)) ≤ length (concat (l ∷ ls))
+        → length (concat (kept_at o l ks)) + length (concat (after_at o (l ∷ ls) bs)) ≤ length (concat (l ∷ ls))
     step None l ls ks bs h = omega arith
     step (Some Start) l ls ks bs h = omega (arith, h Start, length-append l (concat ls))
     step (Some Kept) l ls ks bs h = omega (arith, h Kept, length-append l (concat ls), length-append l (concat (ks Kept)))
@@ -194,5 +194,5 @@ short_clean bytes =
 pub short : FormsAreShort
 short bytes text e =
     let lines = after_mailbox_line (clean_lines bytes) in
-    let behind : length (concat (behind_from Start lines)) ≡ length (concat (after_header lines)) = ap (λ ls. length (concat ls)) (behind_from-start lines) in
-    omega (arith, form_bytes bytes text e, short_kept Start lines, behind, short_empty (after_header lines), short_mailbox (clean_lines bytes), short_clean bytes)
+    let after : length (concat (after_from Start lines)) ≡ length (concat (after_header lines)) = ap (λ ls. length (concat ls)) (after_from-start lines) in
+    omega (arith, form_bytes bytes text e, short_kept Start lines, after, short_empty (after_header lines), short_mailbox (clean_lines bytes), short_clean bytes)

@@ -11,7 +11,7 @@ use Rattle.mail_reader.specs.Keeping.{next_place}
 use Rattle.mail_reader.specs.declared.storing.Place.{Place}
 use Rattle.mail_reader.specs.declared.storing.Place.TheVariants.{Start, Kept, Dropped}
 use Rattle.mail_reader.proofs.FieldNames.{name_within}
-use Rattle.mail_reader.proofs.KeptLines.{kept_at, kept_from, behind_at, behind_from, place_by, kept_from-start, behind_from-start}
+use Rattle.mail_reader.proofs.KeptLines.{kept_at, kept_from, after_at, after_from, place_by, kept_from-start, after_from-start}
 use Rattle.mail_reader.proofs.Bodied.{storage_form-none, storage_form-some}
 use Rattle.mail_reader.proofs.CleanLines.{AllClean, AllClean-append, AllClean-lines, AllClean-kept, AllClean-body, AllClean-after_mailbox, clean_empty, clean_lines-concat}
 
@@ -23,10 +23,10 @@ empty_no_field = refl
 -- The header of the lines is kept whole, and after it are an empty line and the rest.
 pub record Again (place : Place) (lines rest : List (List ℕ)) : Type 0 where
   pub kept : kept_from place (lines ++ (10 ∷ []) ∷ rest) ≡ lines
-  pub behind : behind_from place (lines ++ (10 ∷ []) ∷ rest) ≡ (10 ∷ []) ∷ rest
+  pub after : after_from place (lines ++ (10 ∷ []) ∷ rest) ≡ (10 ∷ []) ∷ rest
 
 again_none : (place : Place) (rest : List (List ℕ)) → Again place [] rest
-again_none place rest = record { kept = rw empty_no_field refl; behind = rw empty_no_field refl }
+again_none place rest = record { kept = rw empty_no_field refl; after = rw empty_no_field refl }
 
 -- The place of a line among the kept lines, by its place before: dropped lines are as if they
 -- weren't there.
@@ -56,7 +56,7 @@ drop_follows Dropped Dropped h = h
 pub again_more : (q : Place) (line : List ℕ) (kept rest : List (List ℕ)) → next_place q line ≡ Some Kept → Again Kept kept rest → Again q (line ∷ kept) rest
 again_more q line kept rest e h = record {
   kept = ap (λ o. kept_at o line (λ next. kept_from next (kept ++ (10 ∷ []) ∷ rest))) e ∙ ap (λ ls. line ∷ ls) h.kept;
-  behind = ap (λ o. behind_at o (line ∷ (kept ++ (10 ∷ []) ∷ rest)) (λ next. behind_from next (kept ++ (10 ∷ []) ∷ rest))) e ∙ h.behind;
+  after = ap (λ o. after_at o (line ∷ (kept ++ (10 ∷ []) ∷ rest)) (λ next. after_from next (kept ++ (10 ∷ []) ∷ rest))) e ∙ h.after;
 }
 
 again : (p q : Place) → Follows p q → (lines rest : List (List ℕ)) → Again q (kept_from p lines) rest
@@ -121,7 +121,7 @@ form_at l kept rest clean clean_rest field h =
     let fields : concat (kept_fields (after_mailbox_line (clean_lines (concat lines)))) ≡ concat (l ∷ kept) =
     ap (λ ls. concat (kept_fields ls)) is ∙ sym (kept_from-start lines) ∙ ap concat h.kept in
     let body : concat (body_lines (after_mailbox_line (clean_lines (concat lines)))) ≡ concat rest =
-    ap (λ ls. concat (body_lines ls)) is ∙ ap (λ ls. concat (after_empty ls)) (sym (behind_from-start lines) ∙ h.behind) in
+    ap (λ ls. concat (body_lines ls)) is ∙ ap (λ ls. concat (after_empty ls)) (sym (after_from-start lines) ∙ h.after) in
     let some : 0 < length (concat (kept_fields (after_mailbox_line (clean_lines (concat lines))))) =
     omega (arith, ap length fields, length-append l (concat kept), some_field l field) in
     storage_form-some (concat lines) some ∙ rw (fields, body) (ap Some (sym (concat-append (l ∷ kept) ((10 ∷ []) ∷ rest))))

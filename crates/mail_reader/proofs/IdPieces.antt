@@ -11,15 +11,15 @@ ids_of-none [] h = refl
 ids_of-none (x ∷ xs) h = rw h.0 (ids_of-none xs h.1)
 
 -- They hide no ids after them.
-pub ids_of-behind : (xs rest : List ℕ) → NoByte 60 xs → ids_of (xs ++ rest) ≡ ids_of rest
-ids_of-behind [] rest h = refl
-ids_of-behind (x ∷ xs) rest h = rw h.0 (ids_of-behind xs rest h.1)
+pub ids_of-after : (xs rest : List ℕ) → NoByte 60 xs → ids_of (xs ++ rest) ≡ ids_of rest
+ids_of-after [] rest h = refl
+ids_of-after (x ∷ xs) rest h = rw h.0 (ids_of-after xs rest h.1)
 
 -- The value from the first bracket on.
 pub opens_id : (xs : List ℕ) (k : ℕ) → k < length xs → NoByte 60 (take k xs) → get_or xs k 0 ≡ 60 → drop k xs ≡ 60 ∷ drop (k + 1) xs
     → xs ≡ take k xs ++ 60 ∷ drop (k + 1) xs → OpensId xs (drop k xs)
 opens_id xs k h free here rest split = record {
-  ids = ap ids_of split ∙ ids_of-behind (take k xs) (60 ∷ drop (k + 1) xs) free ∙ ap ids_of (sym rest);
+  ids = ap ids_of split ∙ ids_of-after (take k xs) (60 ∷ drop (k + 1) xs) free ∙ ap ids_of (sym rest);
   bracket = ap (λ t. get_or t 0 0) rest;
   some = omega (arith, length-drop k xs);
   within = omega (arith, length-drop k xs);

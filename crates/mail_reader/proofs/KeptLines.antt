@@ -1,7 +1,7 @@
 -- The lines of a header one after another, and those of them that are kept.
 use Rattle.std.proofs.Common.{◌≡◌, ℕ, Bool, true, false, cond, not, ◌||◌, List, [], ◌∷◌, ◌++◌, Option, None, Some, refl, sym, ap, ◌∙◌, append_assoc}
 use Rattle.std.specs.List.{concat, filter}
-use Rattle.mail_reader.specs.Lines.{is_field_line, is_continuation, front, behind, after_header}
+use Rattle.mail_reader.specs.Lines.{is_field_line, is_continuation, front, after_front, after_header}
 use Rattle.mail_reader.specs.Fields.{parts_of}
 use Rattle.mail_reader.specs.Stored.{is_dropped, kept_fields}
 use Rattle.mail_reader.specs.Keeping.{next_place, continued}
@@ -23,13 +23,13 @@ kept_from place [] = []
 kept_from place (line ∷ lines) = kept_at (next_place place line) line (λ next. kept_from next lines)
 
 -- The lines after the header, by the place of a line.
-abbrev pub behind_at : Option Place → List (List ℕ) → (Place → List (List ℕ)) → List (List ℕ)
-behind_at None lines later = lines
-behind_at (Some place) lines later = later place
+abbrev pub after_at : Option Place → List (List ℕ) → (Place → List (List ℕ)) → List (List ℕ)
+after_at None lines later = lines
+after_at (Some place) lines later = later place
 
-abbrev pub behind_from : Place → List (List ℕ) → List (List ℕ)
-behind_from place [] = []
-behind_from place (line ∷ lines) = behind_at (next_place place line) (line ∷ lines) (λ next. behind_from next lines)
+abbrev pub after_from : Place → List (List ℕ) → List (List ℕ)
+after_from place [] = []
+after_from place (line ∷ lines) = after_at (next_place place line) (line ∷ lines) (λ next. after_from next lines)
 
 -- The place of a line, by what it is: `f` starts a field, `d` a field that is dropped, and `c`
 -- continues one.
@@ -113,22 +113,22 @@ kept_from-start (line ∷ lines) =
     ∙ sym (ap later_parts (parts_of-front (is_field_line line) line (front lines)))
 
 -- The lines after a header.
-behind_step : (f d c : Bool) (lines : List (List ℕ)) (later : Place → List (List ℕ)) (rest : List (List ℕ)) → later Kept ≡ rest → later Dropped ≡ rest
-    → (behind_at (place_by Kept f d c) lines later ≡ cond (f || c) rest lines) × (behind_at (place_by Dropped f d c) lines later ≡ cond (f || c) rest lines) × (behind_at (place_by Start f d c) lines later ≡ cond f rest lines)
-behind_step true true c lines later rest k e = (e, e, e)
-behind_step true false c lines later rest k e = (k, k, k)
-behind_step false d true lines later rest k e = (k, e, refl)
-behind_step false d false lines later rest k e = (refl, refl, refl)
+after_step : (f d c : Bool) (lines : List (List ℕ)) (later : Place → List (List ℕ)) (rest : List (List ℕ)) → later Kept ≡ rest → later Dropped ≡ rest
+    → (after_at (place_by Kept f d c) lines later ≡ cond (f || c) rest lines) × (after_at (place_by Dropped f d c) lines later ≡ cond (f || c) rest lines) × (after_at (place_by Start f d c) lines later ≡ cond f rest lines)
+after_step true true c lines later rest k e = (e, e, e)
+after_step true false c lines later rest k e = (k, k, k)
+after_step false d true lines later rest k e = (k, e, refl)
+after_step false d false lines later rest k e = (refl, refl, refl)
 
-behind_begun : (lines : List (List ℕ)) → (behind_from Kept lines ≡ behind lines) × (behind_from Dropped lines ≡ behind lines)
-behind_begun [] = (refl, refl)
-behind_begun (line ∷ lines) =
-    let ih = behind_begun lines in
-    let steps = behind_step (is_field_line line) (is_dropped line) (is_continuation line) (line ∷ lines) (λ next. behind_from next lines) (behind lines) ih.0 ih.1 in
+after_begun : (lines : List (List ℕ)) → (after_from Kept lines ≡ after_front lines) × (after_from Dropped lines ≡ after_front lines)
+after_begun [] = (refl, refl)
+after_begun (line ∷ lines) =
+    let ih = after_begun lines in
+    let steps = after_step (is_field_line line) (is_dropped line) (is_continuation line) (line ∷ lines) (λ next. after_from next lines) (after_front lines) ih.0 ih.1 in
     (steps.0, steps.1)
 
-pub behind_from-start : (lines : List (List ℕ)) → behind_from Start lines ≡ after_header lines
-behind_from-start [] = refl
-behind_from-start (line ∷ lines) =
-    let ih = behind_begun lines in
-    (behind_step (is_field_line line) (is_dropped line) (is_continuation line) (line ∷ lines) (λ next. behind_from next lines) (behind lines) ih.0 ih.1).2
+pub after_from-start : (lines : List (List ℕ)) → after_from Start lines ≡ after_header lines
+after_from-start [] = refl
+after_from-start (line ∷ lines) =
+    let ih = after_begun lines in
+    (after_step (is_field_line line) (is_dropped line) (is_continuation line) (line ∷ lines) (λ next. after_from next lines) (after_front lines) ih.0 ih.1).2

@@ -12,7 +12,7 @@ use Rattle.mail_reader.specs.Stored.{clean_lines, after_mailbox_line, kept_field
 use Rattle.mail_reader.specs.Keeping.{next_place}
 use Rattle.mail_reader.specs.declared.storing.Place.{Place}
 use Rattle.mail_reader.specs.declared.storing.Place.TheVariants.{Start, Kept, Dropped}
-use Rattle.mail_reader.proofs.KeptLines.{kept_at, kept_from, behind_at, behind_from}
+use Rattle.mail_reader.proofs.KeptLines.{kept_at, kept_from, after_at, after_from}
 use Rattle.mail_reader.proofs.Bodied.{storage_form-none, storage_form-some}
 
 -- The text is all pieces and something more exactly if the rest of it is the remaining pieces and
@@ -55,10 +55,10 @@ kept_more place next line lines e =
     by_place Dropped = refl
 
 -- A line feed after a piece.
-pub feed_behind : (text content rest : List ℕ) (r : Option (Bor (List ℕ))) → text ≡ content ++ rest → Follows rest (10 ∷ []) r → Follows text (content ++ 10 ∷ []) r
-feed_behind text content rest None e h =
+pub feed_after : (text content rest : List ℕ) (r : Option (Bor (List ℕ))) → text ≡ content ++ rest → Follows rest (10 ∷ []) r → Follows text (content ++ 10 ∷ []) r
+feed_after text content rest None e h =
     λ more k. h more (append_cancel_left content rest ((10 ∷ []) ++ more) (sym e ∙ k ∙ append_assoc content (10 ∷ []) more))
-feed_behind text content rest (Some found) e h =
+feed_after text content rest (Some found) e h =
     e ∙ ap (λ t. content ++ t) h ∙ sym (append_assoc content (10 ∷ []) found.now)
 
 -- The result of a comparison with a piece.
@@ -72,8 +72,8 @@ piece_not_there text content h more k =
     both_ways (bytes_eq (take (length content) text) content) h ((bytes_eq-Decides (take (length content) text) content).1 same)
 
 -- The lines after the header, one line further.
-pub behind_more : (place next : Place) (line : List ℕ) (lines : List (List ℕ)) → next_place place line ≡ Some next → behind_from place (line ∷ lines) ≡ behind_from next lines
-behind_more place next line lines e = ap (λ o. behind_at o (line ∷ lines) (λ n. behind_from n lines)) e
+pub after_more : (place next : Place) (line : List ℕ) (lines : List (List ℕ)) → next_place place line ≡ Some next → after_from place (line ∷ lines) ≡ after_from next lines
+after_more place next line lines e = ap (λ o. after_at o (line ∷ lines) (λ n. after_from n lines)) e
 
 -- The text ends here exactly if nothing is left.
 pub ends_there : (text all left : List ℕ) (b : Bool) → text ≡ all ++ left → b ≡ eqb (length left) 0 → IsTrue b ↔ (text ≡ all)

@@ -9,7 +9,7 @@ use Rattle.std.proofs.lemmas.List.Sums.{prefix_len_passes, prefix_len-le-length}
 use Rattle.mail_reader.specs.Ids.{is_id_byte, id_len, closes_id, ids_of}
 use Rattle.mail_reader.specs.Laws.{IsId, LiesIn, IdsArePieces, IdsInOrder}
 use Rattle.mail_reader.proofs.Trims.{NoByte}
-use Rattle.mail_reader.proofs.IdPieces.{ids_of-behind}
+use Rattle.mail_reader.proofs.IdPieces.{ids_of-after}
 use Rattle.mail_reader.proofs.IdLines.{passed_id_byte, id_bytes, id_len-at, free_of}
 
 -- An element of a list is its first, or one of the others.
@@ -18,8 +18,8 @@ contains_cases x xs y (zero, l, e) = inl e
 contains_cases x xs y (suc k, l, e) = inr (k, omega arith, e)
 
 -- A piece of bytes with one more byte at their front.
-pub lies_behind : (piece : List ℕ) (b : ℕ) (bs : List ℕ) → LiesIn piece bs → LiesIn piece (b ∷ bs)
-lies_behind piece b bs l = record { before = b ∷ l.before; after = l.after; is = ap (λ t. b ∷ t) l.is }
+pub lies_after : (piece : List ℕ) (b : ℕ) (bs : List ℕ) → LiesIn piece bs → LiesIn piece (b ∷ bs)
+lies_after piece b bs l = record { before = b ∷ l.before; after = l.after; is = ap (λ t. b ∷ t) l.is }
 
 -- What a bracket closes is an id.
 closed_is : (bs : List ℕ) → closes_id bs ≡ true → IsId (60 ∷ take (id_len bs + 1) bs) × LiesIn (60 ∷ take (id_len bs + 1) bs) (60 ∷ bs)
@@ -56,10 +56,10 @@ ids_step true true b bs id e f ih h =
     let here : P (60 ∷ take (id_len bs + 1) bs) = (closed.0, subst Q (sym same) closed.1) in
     elim (contains_cases (60 ∷ take (id_len bs + 1) bs) (ids_of bs) id h) as (λ _. IsId id × LiesIn id (b ∷ bs)) [
       | inl is ↦ subst P is here
-      | inr later ↦ ((ih later).0, lies_behind id b bs (ih later).1)
+      | inr later ↦ ((ih later).0, lies_after id b bs (ih later).1)
     ]
-ids_step true false b bs id e f ih h = ((ih h).0, lies_behind id b bs (ih h).1)
-ids_step false u b bs id e f ih h = ((ih h).0, lies_behind id b bs (ih h).1)
+ids_step true false b bs id e f ih h = ((ih h).0, lies_after id b bs (ih h).1)
+ids_step false u b bs id e f ih h = ((ih h).0, lies_after id b bs (ih h).1)
 
 ids_lie : (value id : List ℕ) → Contains (ids_of value) id → IsId id × LiesIn id value
 ids_lie [] id (k, l, e) = absurd (omega arith)
@@ -119,7 +119,7 @@ ids_here id after h =
     let piece : take (id_len (inside ++ 62 ∷ after) + 1) (inside ++ 62 ∷ after) ≡ inside ++ 62 ∷ [] =
     ap (λ n. take (n + 1) (inside ++ 62 ∷ after)) len ∙ ap (take (length inside + 1)) (sym (append_assoc inside (62 ∷ []) after)) ∙ take_at (inside ++ 62 ∷ []) after (length inside + 1) (length-append inside (62 ∷ [])) in
     let free : NoByte 60 inside = free_of 60 refl inside (id_bytes inside h.bytes) in
-    let rest : ids_of (inside ++ 62 ∷ after) ≡ ids_of after = ids_of-behind inside (62 ∷ after) free in
+    let rest : ids_of (inside ++ 62 ∷ after) ≡ ids_of after = ids_of-after inside (62 ∷ after) free in
     ap ids_of is ∙ rw closed ((λ i. (60 ∷ piece i) ∷ rest i) ∙ ap (λ t. t ∷ ids_of after) (sym h.is))
 
 pub in_order : IdsInOrder

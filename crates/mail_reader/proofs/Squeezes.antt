@@ -4,13 +4,13 @@ use Rattle.std.proofs.lemmas.Bool.{eqb-true}
 use Rattle.mail_reader.specs.Stored.{all_of, without_end}
 use Rattle.mail_reader.specs.Values.{space_for, unfolded}
 use Rattle.mail_reader.specs.Content.{squeezed}
-use Rattle.mail_reader.specs.Hashing.{waiting, given_at, waits_behind}
+use Rattle.mail_reader.specs.Hashing.{waiting, given_at, waits_after}
 use Rattle.mail_reader.proofs.Blanks.{unfolded-cons}
 
 -- What bytes add. The flag says whether a space waits before them.
 abbrev pub given_from : Bool → List ℕ → List ℕ
 given_from spaced [] = []
-given_from spaced (b ∷ bs) = given_at spaced b ++ given_from (waits_behind spaced b) bs
+given_from spaced (b ∷ bs) = given_at spaced b ++ given_from (waits_after spaced b) bs
 
 -- The bytes don't end with a space.
 abbrev pub NoEnd : List ℕ → Type 0

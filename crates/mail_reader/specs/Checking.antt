@@ -26,5 +26,5 @@ piece_at Dropped line = []
 abbrev pub FollowsFields : List ℕ → List ℕ → Option (Bor (List ℕ) × Bor (List ℕ)) → Type 0
 FollowsFields text bytes found =
     MatchOption found (NotBegun text (concat (kept_fields (clean_lines bytes))))
-    (λ behind. (text ≡ concat (kept_fields (clean_lines bytes)) ++ behind.0.now)
-    × (clean_lines behind.1.now ≡ after_header (clean_lines bytes)))
+    (λ after. (text ≡ concat (kept_fields (clean_lines bytes)) ++ after.0.now)
+    × (clean_lines after.1.now ≡ after_header (clean_lines bytes)))

@@ -20,5 +20,5 @@ given_at spaced b =
     if b == 10 then [] else if space_for b == 32 then [] else waiting spaced ++ space_for b ∷ []
 
 -- A space waits after the byte. The flag says whether one waits before it.
-abbrev pub waits_behind : Bool → ℕ → Bool
-waits_behind spaced b = if b == 10 then spaced else space_for b == 32
+abbrev pub waits_after : Bool → ℕ → Bool
+waits_after spaced b = if b == 10 then spaced else space_for b == 32

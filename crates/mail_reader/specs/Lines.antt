@@ -33,10 +33,10 @@ front [] = []
 front (line ∷ lines) = if is_field_line line || is_continuation line then line ∷ front lines else []
 
 -- The lines from the first one on that is neither a field line nor a continuation line.
-abbrev pub behind : List (List ℕ) → List (List ℕ)
-behind [] = []
-behind (line ∷ lines) =
-    if is_field_line line || is_continuation line then behind lines else line ∷ lines
+abbrev pub after_front : List (List ℕ) → List (List ℕ)
+after_front [] = []
+after_front (line ∷ lines) =
+    if is_field_line line || is_continuation line then after_front lines else line ∷ lines
 
 -- The header: the longest run of lines from the start whose first line is a field line and each
 -- later one a field line or a continuation line (RFC 5322, section 2.2).
@@ -47,7 +47,7 @@ header_lines (line ∷ lines) = if is_field_line line then line ∷ front lines 
 -- The lines after the header.
 abbrev pub after_header : List (List ℕ) → List (List ℕ)
 after_header [] = []
-after_header (line ∷ lines) = if is_field_line line then behind lines else line ∷ lines
+after_header (line ∷ lines) = if is_field_line line then after_front lines else line ∷ lines
 
 -- The lines after an empty line, if the first line is empty.
 abbrev pub after_empty : List (List ℕ) → List (List ℕ)

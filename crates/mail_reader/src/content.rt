@@ -1,10 +1,10 @@
 //! Computes the content id of a message. It is the same for a message that was sent twice.
-ghost use Rattle.std.specs.Prelude.{◌≡◌, ◌++◌, ◌∷◌, []};
+ghost use Rattle.std.specs.Prelude.{◌≡◌, ◌∷◌, []};
 ghost use Rattle.std.specs.Str.{str_to_ascii_lowercase};
 ghost use Rattle.mail_reader.specs.Fields.{fields_of};
 ghost use Rattle.mail_reader.specs.Values.{flat_of};
 ghost use Rattle.mail_reader.specs.Content.{content_id_of, counted, counted_field, squeezed};
-ghost use Rattle.mail_reader.specs.Hashing.{Took, given_at, waiting, waits_behind};
+ghost use Rattle.mail_reader.specs.Hashing.{Took, given_at, waiting, waits_after};
 
 use crate::header::Fields;
 use crate::reading::{body, is_same_name};
@@ -76,7 +76,7 @@ fn hash_squeezed(hasher: &mut Sha256, value: &[u8])
 /// waits before it.
 fn hash_spaced(hasher: &mut Sha256, spaced: bool, byte: u8) -> bool
     ensures took { Took hasher.old hasher.new (given_at spaced byte) }
-    ensures waits { result ≡ waits_behind spaced byte }
+    ensures waits { result ≡ waits_after spaced byte }
 {
     if byte == b'\n' {
         return spaced;

@@ -1,5 +1,5 @@
 //! The fields of a text, as an iterator that borrows them.
-ghost use Rattle.std.specs.Prelude.{◌≡◌, ◌<◌, ◌≤◌, MatchOption, length, ◌++◌, ◌∷◌, [], take, drop};
+ghost use Rattle.std.specs.Prelude.{◌≡◌, ◌<◌, ◌≤◌, MatchOption, length, ◌∷◌, take, drop};
 ghost use Rattle.std.specs.List.{prefix_len};
 ghost use Rattle.mail_reader.specs.Lines.{lines_of, is_name_byte};
 ghost use Rattle.mail_reader.specs.Fields.{fields_of, field_of, without_feed};

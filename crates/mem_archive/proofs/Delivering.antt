@@ -37,7 +37,7 @@ refuses a bytes moment (answer.NotLive number) h = absurd h
 refuses a bytes moment (answer.NoText number) h = absurd h
 refuses a bytes moment answer.IsMirror h = h moment
 refuses a bytes moment answer.DiskFault h = h
-refuses a bytes moment (answer.Damaged file place) h = h
+refuses a bytes moment (answer.Damaged file offset) h = h
 
 -- A keeper that stays the same is untouched, whatever the answer.
 pub untouched-same : {K : Type 0} (reply : Answer) (k : K) → IsUntouched reply k k

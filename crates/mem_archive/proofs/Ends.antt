@@ -17,9 +17,9 @@ front_some id [] = refl
 front_some id (e ∷ es) = front_some (commit_id message_kind e.text e.moment (Some id)) es
 
 -- The bytes of an epoch with one more entry.
-pub epoch_bytes-behind : (es : List Entry) (e : Entry) → epoch_bytes (es ++ e ∷ []) ≡ epoch_bytes es ++ (front_bytes (last_commit None es) ++ entry_bytes message_kind e.text e.moment (last_commit None es))
-epoch_bytes-behind [] e = ap (λ bs. magic ++ bs) (append-nil (entry_bytes message_kind e.text e.moment None))
-epoch_bytes-behind (x ∷ es) e =
+pub epoch_bytes-after : (es : List Entry) (e : Entry) → epoch_bytes (es ++ e ∷ []) ≡ epoch_bytes es ++ (front_bytes (last_commit None es) ++ entry_bytes message_kind e.text e.moment (last_commit None es))
+epoch_bytes-after [] e = ap (λ bs. magic ++ bs) (append-nil (entry_bytes message_kind e.text e.moment None))
+epoch_bytes-after (x ∷ es) e =
     let p : Option Id20 = Some (commit_id message_kind x.text x.moment None) in
     ap (λ bs. magic ++ bs) (entries_bytes-push None (x ∷ es) e)
     ∙ sym (append_assoc magic (entries_bytes None (x ∷ es)) (entry_bytes message_kind e.text e.moment (last_commit None (x ∷ es))))
@@ -75,7 +75,7 @@ IsEnd-push limit es e end_ is at =
     let more : in_epoch (es ++ e ∷ []) end_.epoch ≡ here ++ e ∷ [] = in_epoch-at es e end_.epoch at in
     let added : List ℕ = front_bytes end_.parent ++ entry_bytes message_kind e.text e.moment end_.parent in
     let bytes : epoch_bytes (in_epoch (es ++ e ∷ []) end_.epoch) ≡ epoch_bytes here ++ added =
-    ap epoch_bytes more ∙ epoch_bytes-behind here e ∙ ap (λ (p : Option Id20). epoch_bytes here ++ (front_bytes p ++ entry_bytes message_kind e.text e.moment p)) (sym is.parent) in
+    ap epoch_bytes more ∙ epoch_bytes-after here e ∙ ap (λ (p : Option Id20). epoch_bytes here ++ (front_bytes p ++ entry_bytes message_kind e.text e.moment p)) (sym is.parent) in
     record {
       room = omega (arith, is.room, ap length bytes, length-append (epoch_bytes here) added);
       parent = sym (ap (last_commit None) more ∙ last_commit-push None here e ∙ ap (λ (p : Option Id20). Some (commit_id message_kind e.text e.moment p)) (sym is.parent));

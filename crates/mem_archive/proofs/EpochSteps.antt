@@ -9,7 +9,7 @@ use Rattle.mail_commits.specs.Entries.{entry_bytes, commit_id, message_kind}
 use Rattle.mem_archive.specs.Memory.{archive_of, entries_from, front_bytes}
 use Rattle.mem_archive.specs.declared.kept.Kept.{Kept}
 use Rattle.arch_model.proofs.EpochLemmas.{last_commit-push}
-use Rattle.mem_archive.proofs.Ends.{epoch_bytes-behind, in_epoch-at, in_epoch-else}
+use Rattle.mem_archive.proofs.Ends.{epoch_bytes-after, in_epoch-at, in_epoch-else}
 use Rattle.mem_archive.proofs.Keeping.{entries_from-push}
 
 -- The entries of an epoch among the first `i` messages.
@@ -36,7 +36,7 @@ pushed-one items epoch old i k into parent l is at has =
       ap (λ (bs : List ℕ). bs ++ (front_bytes parent ++ entry_bytes message_kind k.text k.moment parent)) has.0
           ∙ append_assoc old (epoch_bytes here) (front_bytes parent ++ entry_bytes message_kind k.text k.moment parent)
           ∙ ap (λ (p : Option Id20). old ++ (epoch_bytes here ++ (front_bytes p ++ entry_bytes message_kind k.text k.moment p))) has.1
-          ∙ ap (λ (bs : List ℕ). old ++ bs) (sym (epoch_bytes-behind here e))
+          ∙ ap (λ (bs : List ℕ). old ++ bs) (sym (epoch_bytes-after here e))
           ∙ ap (λ (es : List Entry). old ++ epoch_bytes es) (sym more),
       ap (λ (p : Option Id20). Some (commit_id message_kind k.text k.moment p)) has.1 ∙ sym (last_commit-push None here e) ∙ ap (last_commit None) (sym more),
     )

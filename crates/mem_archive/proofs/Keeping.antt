@@ -48,8 +48,8 @@ module _ (config : Config) (ks : List Kept) (index new : Index) (end_ next : End
   epoch_at : next.epoch ≡ (end_for_new config.limit end_).epoch
   epoch_at = ap (λ (e : End). e.epoch) next_is
 
-  pub kept-behind : IsKept config (ks ++ message ∷ []) new next
-  kept-behind =
+  pub kept-after : IsKept config (ks ++ message ∷ []) new next
+  kept-after =
       let begin = IsEnd-new (archive_of config ks) end_ kept.ends kept.last in
       let low : last_epoch (entries_from 1 ks) ≤ next.epoch = omega (arith, begin.2, epoch_at) in
       let ends : IsEnd config.limit (entries_from 1 ks ++ entry ∷ []) next = subst (λ (e : End). IsEnd config.limit (entries_from 1 ks ++ entry ∷ []) e) (sym next_is) (IsEnd-push config.limit (entries_from 1 ks) entry (end_for_new config.limit end_) begin.0 epoch_at) in
@@ -64,8 +64,8 @@ module _ (config : Config) (ks : List Kept) (index new : Index) (end_ next : End
         ends = subst (λ (xs : List Entry). IsEnd config.limit xs next) (sym pushed) ends;
       }
 
-  pub archive-behind : archive_of config (ks ++ message ∷ []) ≡ with_entry (archive_of config ks) (new_epoch (archive_of config ks)) text moment
-  archive-behind =
+  pub archive-after : archive_of config (ks ++ message ∷ []) ≡ with_entry (archive_of config ks) (new_epoch (archive_of config ks)) text moment
+  archive-after =
       let begin = IsEnd-new (archive_of config ks) end_ kept.ends kept.last in
       let epoch_is : next.epoch ≡ new_epoch (archive_of config ks) = epoch_at ∙ begin.1 in
       let number : 1 + length ks ≡ length ks + 1 = omega arith in
@@ -92,6 +92,6 @@ keeps config ks index new end_ next text read spelled digested moment blob id ma
     let message : made ≡ record { number = length ks + 1; content = content_id_of text } =
     made_is ∙ ap (λ (b : Archive). record { number = b.next; content = content_id_of digested }) (sym is) ∙ ap (λ (t : List ℕ). record { number = length ks + 1; content = content_id_of t }) digested_is in
     let put : Puts index new id blob (record { number = length ks + 1; content = content_id_of text }) = subst (λ (o : Owner). Puts index new id blob o) message puts in (
-      kept-behind config ks index new end_ next text moment blob id kept few unowned blob_is unnumbered after named put,
-      archive-behind config ks index new end_ next text moment blob id kept few unowned blob_is unnumbered after named put ∙ ap (λ (b : Archive). with_entry b (new_epoch b) text moment) is,
+      kept-after config ks index new end_ next text moment blob id kept few unowned blob_is unnumbered after named put,
+      archive-after config ks index new end_ next text moment blob id kept few unowned blob_is unnumbered after named put ∙ ap (λ (b : Archive). with_entry b (new_epoch b) text moment) is,
     )

@@ -1,5 +1,5 @@
 //! What the archive in memory keeps of each message, and of its last epoch.
-ghost use Rattle.std.specs.Prelude.{◌≡◌, ◌+◌, ◌-◌, ◌++◌, ◌≤◌, length, IfOk, OnOk, OnErr, is_ok, if◌then◌else◌};
+ghost use Rattle.std.specs.Prelude.{◌≡◌, ◌+◌, ◌-◌, ◌++◌, ◌≤◌, IfOk, OnOk, OnErr, is_ok, if◌then◌else◌};
 ghost use Rattle.disk_model.specs.Sizes.{greatest_epoch};
 ghost use Rattle.mail_commits.specs.Entries.{commit_id, entry_bytes, message_kind};
 ghost use Rattle.mem_archive.specs.Memory.{front_bytes, end_for_new, end_by_room, end_after, Grows};
@@ -73,7 +73,7 @@ impl End {
         ensures { IfOk result (λ made. made ≡ end_after self text.now moment) }
     {
         let mut bytes = Bytes::new(alloc);
-        let commit = push_behind(alloc, text, moment, self.parent, &mut bytes)?;
+        let commit = push_after(alloc, text, moment, self.parent, &mut bytes)?;
         Ok(End {
             epoch: self.epoch,
             room: self.room.saturating_sub(bytes.as_slice().len() as u64),
@@ -86,7 +86,7 @@ impl End {
 ///
 /// The first bytes of an epoch come before them if the entry has no parent. `NoMemory` may leave a
 /// part appended.
-pub(crate) fn push_behind(
+pub(crate) fn push_after(
     alloc: Global,
     text: &[u8],
     moment: u64,

@@ -1,5 +1,5 @@
 //! A plain archive in memory, which does what the definitions say, call by call.
-ghost use Rattle.std.specs.Prelude.{◌≡◌, ◌≢◌, ◌++◌, ◌≤◌, [], length, take, option_copied, IfOk, OnOk, OnErr, is_ok, IsSome, Some, None, IsTrue, ◌↔◌};
+ghost use Rattle.std.specs.Prelude.{◌≡◌, ◌++◌, ◌≤◌, take, option_copied, IfOk, OnOk, OnErr, IsSome, Some, None};
 ghost use Rattle.arch_base.specs.Configs.{IsConfig};
 ghost use Rattle.mail_reader.specs.Content.{content_id_of};
 ghost use Rattle.mail_reader.specs.Ids.{own_id as own_id_of};
@@ -11,7 +11,7 @@ ghost use Rattle.mem_archive.specs.Memory.{GivesEpoch, Grows};
 ghost use Rattle.arch_model.specs.Standing.{IsLeastLive, IsUntouched};
 ghost use Rattle.arch_model.specs.declared.answer.Answer.{Answer};
 
-use crate::kept::{End, Kept, push_behind};
+use crate::kept::{End, Kept, push_after};
 use arch_base::{Bytes, Config, NoMemory, ObjectId};
 use arch_judge::{Index, Owner, Verdict, judge};
 use arch_model::{Answer, Command};
@@ -114,7 +114,7 @@ impl MemArchive {
         let mut parent = None;
         for kept in self.kept.as_slice() {
             if kept.epoch == epoch {
-                parent = Some(push_behind(
+                parent = Some(push_after(
                     self.alloc,
                     kept.text.as_slice(),
                     kept.moment,

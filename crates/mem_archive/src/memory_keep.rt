@@ -1,5 +1,5 @@
 //! The archive in memory as a keeper. It has no disk that fails, and a crash leaves it whole.
-ghost use Rattle.std.specs.Prelude.{◌≡◌, ℕ, false, refl, is_some, Some};
+ghost use Rattle.std.specs.Prelude.{◌≡◌, false, is_some, Some};
 ghost use Rattle.std.specs.List.{Contains};
 ghost use Rattle.arch_model.specs.Archives.{text_of};
 ghost use Rattle.arch_model.specs.Standing.{only-one};

@@ -52,9 +52,9 @@ text_goes (b ∷ bs) k bytes ps =
     (ap (λ qs. piece None (b ∷ []) ∷ qs) (text_stays bs k bytes ps))
 
 -- The text before a word.
-pub text_by : (behind_word : Bool) (text : List ℕ) (k : Charset) (bytes : List ℕ) (ps : List Piece)
-    → without_gaps behind_word (plain text ++ piece (Some k) bytes ∷ ps)
-    ≡ cond (behind_word && is_blank text) (piece (Some k) bytes ∷ without_gaps true ps) (plain text ++ piece (Some k) bytes ∷ without_gaps true ps)
+pub text_by : (after_word : Bool) (text : List ℕ) (k : Charset) (bytes : List ℕ) (ps : List Piece)
+    → without_gaps after_word (plain text ++ piece (Some k) bytes ∷ ps)
+    ≡ cond (after_word && is_blank text) (piece (Some k) bytes ∷ without_gaps true ps) (plain text ++ piece (Some k) bytes ∷ without_gaps true ps)
 text_by true text k bytes ps = text_goes text k bytes ps
 text_by false text k bytes ps = text_stays text k bytes ps
 
@@ -64,10 +64,10 @@ end_by true true A B e = cc
 end_by true false A B e = refl
 end_by false r A B e = refl
 
-pub without_gaps-end : (behind_word : Bool) (text : List ℕ) → without_gaps behind_word (plain text) ≡ plain text
-without_gaps-end behind_word [] = refl
-without_gaps-end behind_word (b ∷ bs) =
-    end_by (behind_word && (is_space b && true)) (reaches_word (plain bs)) _ _ (reaches_word-end bs)
+pub without_gaps-end : (after_word : Bool) (text : List ℕ) → without_gaps after_word (plain text) ≡ plain text
+without_gaps-end after_word [] = refl
+without_gaps-end after_word (b ∷ bs) =
+    end_by (after_word && (is_space b && true)) (reaches_word (plain bs)) _ _ (reaches_word-end bs)
     ∙ ap (λ qs. piece None (b ∷ []) ∷ qs) (without_gaps-end false bs)
 
 -- The text before a word is written or not.

@@ -107,22 +107,22 @@ groups_fine dec s (suc q) r l =
     rw (before, e0, e1, e2, e3) refl
 
 -- The groups after the first one.
-group_behind : (dec s : List ℕ) (a b c d m : ℕ) → group_bytes dec (a ∷ b ∷ c ∷ d ∷ s) (suc (suc (suc (suc m)))) ≡ group_bytes dec s m
-group_behind dec s a b c d m =
+group_after : (dec s : List ℕ) (a b c d m : ℕ) → group_bytes dec (a ∷ b ∷ c ∷ d ∷ s) (suc (suc (suc (suc m)))) ≡ group_bytes dec s m
+group_after dec s a b c d m =
     let e1 : suc (suc (suc (suc m))) + 1 ≡ suc (suc (suc (suc (m + 1)))) = omega arith in
     let e2 : suc (suc (suc (suc m))) + 2 ≡ suc (suc (suc (suc (m + 2)))) = omega arith in
     let e3 : suc (suc (suc (suc m))) + 3 ≡ suc (suc (suc (suc (m + 3)))) = omega arith in
     rw (e1, e2, e3) refl
 
-groups_behind : (dec s : List ℕ) (a b c d q : ℕ)
+groups_after : (dec s : List ℕ) (a b c d q : ℕ)
     → groups_bytes dec (a ∷ b ∷ c ∷ d ∷ s) (suc q) ≡ decode_group (get_or dec a 0) (get_or dec b 0) (get_or dec c 0) (get_or dec d 0) ++ groups_bytes dec s q
 unfolding groups_bytes
-groups_behind dec s a b c d zero = refl
-groups_behind dec s a b c d (suc q) =
+groups_after dec s a b c d zero = refl
+groups_after dec s a b c d (suc q) =
     let group = decode_group (get_or dec a 0) (get_or dec b 0) (get_or dec c 0) (get_or dec d 0) in
     let four : 4 * suc q ≡ suc (suc (suc (suc (4 * q)))) = omega arith in
-    let last : group_bytes dec (a ∷ b ∷ c ∷ d ∷ s) (4 * suc q) ≡ group_bytes dec s (4 * q) = ap (group_bytes dec (a ∷ b ∷ c ∷ d ∷ s)) four ∙ group_behind dec s a b c d (4 * q) in
-    (λ i. groups_behind dec s a b c d q i ++ last i) ∙ append_assoc group (groups_bytes dec s q) (group_bytes dec s (4 * q))
+    let last : group_bytes dec (a ∷ b ∷ c ∷ d ∷ s) (4 * suc q) ≡ group_bytes dec s (4 * q) = ap (group_bytes dec (a ∷ b ∷ c ∷ d ∷ s)) four ∙ group_after dec s a b c d (4 * q) in
+    (λ i. groups_after dec s a b c d q i ++ last i) ∙ append_assoc group (groups_bytes dec s q) (group_bytes dec s (4 * q))
 
 -- Four, three and two six bits are bytes.
 four_are : (a b c d : ℕ) → decode_group a b c d ≡ (4 * a + b / 16) ∷ (b % 16 * 16 + c / 4) ∷ (c % 4 * 64 + d) ∷ []
@@ -189,7 +189,7 @@ all_bytes dec (suc q) (a ∷ b ∷ c ∷ d ∷ s) r low high =
     let group = decode_group (get_or dec a 0) (get_or dec b 0) (get_or dec c 0) (get_or dec d 0) in
     let rest : drop (4 * suc q) (a ∷ b ∷ c ∷ d ∷ s) ≡ drop (4 * q) s = ap (λ n. drop n (a ∷ b ∷ c ∷ d ∷ s)) four in
     ap (λ t. groups_bytes dec (a ∷ b ∷ c ∷ d ∷ s) (suc q) ++ packed (map (λ b. get_or dec b 0) t)) rest
-    ∙ ap (λ t. t ++ later) (groups_behind dec s a b c d q)
+    ∙ ap (λ t. t ++ later) (groups_after dec s a b c d q)
     ∙ append_assoc group (groups_bytes dec s q) later
     ∙ (λ i. four_are (get_or dec a 0) (get_or dec b 0) (get_or dec c 0) (get_or dec d 0) i ++ all_bytes dec q s r.1.1.1.1 (omega arith) (omega arith) i)
 

@@ -21,16 +21,16 @@ opened_at-is n inside encoding some e =
     by_false (nat_eq n 0) _ (ne_eqb n 0 some) ∙ ap (option_and_then (closed_word (take n inside) (drop (n + 3) inside))) e
 
 -- The word that is found after the encoding is the word that is found after `=?`.
-pub opened : (inside charset behind rest : List ℕ) (n : ℕ) (encoding : Encoding) (found : Option EncodedWord) → n ≡ prefix_len is_charset_byte inside
-    → n ≤ length inside → (n ≡ 0 → ⊥) → charset ≡ take n inside → behind ≡ drop n inside → encoding_at behind ≡ Some encoding → 3 ≤ length behind
-    → rest ≡ drop 3 behind → IsWordOf (closed_word charset rest encoding) (length charset + length rest + 5) found
+pub opened : (inside charset after rest : List ℕ) (n : ℕ) (encoding : Encoding) (found : Option EncodedWord) → n ≡ prefix_len is_charset_byte inside
+    → n ≤ length inside → (n ≡ 0 → ⊥) → charset ≡ take n inside → after ≡ drop n inside → encoding_at after ≡ Some encoding → 3 ≤ length after
+    → rest ≡ drop 3 after → IsWordOf (closed_word charset rest encoding) (length charset + length rest + 5) found
     → IsWordOf (opened_word inside) (length inside + 2) found
-opened inside charset behind rest n encoding found is within some front back e long last h =
+opened inside charset after rest n encoding found is within some front back e long last h =
     let end : rest ≡ drop (n + 3) inside = last ∙ ap (drop 3) back ∙ drop-drop 3 n inside in
     let value : closed_word charset rest encoding ≡ opened_word inside =
     (λ i. closed_word (front i) (end i) encoding) ∙ sym (opened_at-is n inside encoding some (ap encoding_at (sym back) ∙ e)) ∙ ap (λ k. opened_at k inside) is in
     let front_len : length charset ≡ n = ap length front ∙ length-take-le n inside within in
-    let back_len : length behind ≡ length inside - n = ap length back ∙ length-drop n inside in
-    let rest_len : length rest ≡ length behind - 3 = ap length last ∙ length-drop 3 behind in
+    let back_len : length after ≡ length inside - n = ap length back ∙ length-drop n inside in
+    let rest_len : length rest ≡ length after - 3 = ap length last ∙ length-drop 3 after in
     let room : length charset + length rest + 5 ≡ length inside + 2 = omega arith in
     subst (λ (w : Option EncodedText). IsWordOf w (length inside + 2) found) value (subst (λ (m : ℕ). IsWordOf (closed_word charset rest encoding) m found) room h)

@@ -117,7 +117,7 @@ any_found word w ys =
       spelled (any_bytes word ++ ys) (record { charset = word.name; encoding = letter.0; text = word.text })
           (record {
             letter = word.letter;
-            behind = ys;
+            after = ys;
             spelling = all;
             named = w.some;
             name = name_passes word.name w.name;
@@ -131,8 +131,8 @@ found_any : (bytes : List ℕ) (word : EncodedText) → word_at bytes ≡ Some w
 found_any bytes word e none =
     let s : IsSpelled bytes word = found bytes word e in
     let any : AnyWord = record { name = word.charset; letter = s.letter; text = word.text } in
-    let all : any_bytes any ++ s.behind ≡ 61 ∷ 63 ∷ (word.charset ++ (63 ∷ s.letter ∷ 63 ∷ (word.text ++ (63 ∷ 61 ∷ s.behind)))) = simp append_assoc in
-    none any s.behind
+    let all : any_bytes any ++ s.after ≡ 61 ∷ 63 ∷ (word.charset ++ (63 ∷ s.letter ∷ 63 ∷ (word.text ++ (63 ∷ 61 ∷ s.after)))) = simp append_assoc in
+    none any s.after
     (record {
       some = s.named;
       name = passed_name word.charset s.name;
@@ -162,9 +162,9 @@ pieces_foreign word w none ys =
     let at = any_found word w ys in
     let shown : EncodedText = record { charset = word.name; encoding = at.0; text = word.text } in
     let front : take (word_len shown) (any_bytes word ++ ys) ≡ any_bytes word = take_at (any_bytes word) ys (word_len shown) (any_len word at.0) in
-    let behind : drop (word_len shown) (any_bytes word ++ ys) ≡ ys = drop_at (any_bytes word) ys (word_len shown) (any_len word at.0) in
+    let after : drop (word_len shown) (any_bytes word ++ ys) ≡ ys = drop_at (any_bytes word) ys (word_len shown) (any_len word at.0) in
     pieces-text_word (any_bytes word ++ ys) shown (omega arith) at.1 (unread word.name none)
-    ∙ (λ i. plain (front i) ++ pieces (behind i))
+    ∙ (λ i. plain (front i) ++ pieces (after i))
 
 -- Bytes without `=?` before other bytes.
 pieces_stretch : (text ys : List ℕ) → HasNoOpening text → (get_or ys 0 0 ≡ 63 → ⊥) → pieces (text ++ ys) ≡ plain text ++ pieces ys

@@ -69,7 +69,7 @@ word_is charset word w ys =
     spelled (word_bytes word ++ ys) (shown word)
     (record {
       letter = word.letter;
-      behind = ys;
+      after = ys;
       spelling = all;
       named = name.some;
       name = name.bytes;
@@ -90,9 +90,9 @@ word_piece charset word = piece (Some charset) (word_said word)
 pieces_word : (charset : Charset) (word : WrittenWord) → IsWord charset word → (ys : List ℕ) → pieces (word_bytes word ++ ys) ≡ word_piece charset word ∷ pieces ys
 pieces_word charset word w ys =
     let name = named charset word.name w.name in
-    let behind : drop (word_len (shown word)) (word_bytes word ++ ys) ≡ ys = drop_at (word_bytes word) ys (word_len (shown word)) (word_len_is word) in
+    let after : drop (word_len (shown word)) (word_bytes word ++ ys) ≡ ys = drop_at (word_bytes word) ys (word_len (shown word)) (word_len_is word) in
     pieces-read_word (word_bytes word ++ ys) (shown word) charset (omega arith) (word_is charset word w ys) name.is
-    ∙ (λ i. piece (Some charset) (said_is word.coded w.coded i) ∷ pieces (behind i))
+    ∙ (λ i. piece (Some charset) (said_is word.coded w.coded i) ∷ pieces (after i))
 
 -- Spaces before other bytes.
 pieces_spaces : (n : ℕ) (ys : List ℕ) → pieces (replicate n 32 ++ ys) ≡ plain (replicate n 32) ++ pieces ys
@@ -138,10 +138,10 @@ abbrev run_piece : Run → Piece
 run_piece (Plain outer) = piece None (outer_text outer)
 run_piece (Words charset first more) = piece (Some charset) (word_said first ++ flat_map word_said more)
 
-abbrev is_behind : Before → Bool
-is_behind Start = false
-is_behind AfterText = false
-is_behind (AfterWords charset) = true
+abbrev is_after : Before → Bool
+is_after Start = false
+is_after AfterText = false
+is_after (AfterWords charset) = true
 
 -- Words are apart from what follows them.
 apart : (charset : Charset) (bytes : List ℕ) (runs : List Run) → AreRuns (AfterWords charset) runs
@@ -160,14 +160,14 @@ text_piece : (text : List ℕ) (ps : List Piece) → 0 < length text → joined 
 text_piece [] ps l = absurd (omega arith)
 text_piece (b ∷ bs) ps l = joined_plain b bs ps
 
-no_gap : (behind : Before) (text : List ℕ) (next : Run) (later : List Run) → IsNoGap behind text (next ∷ later) → (is_behind behind && is_blank text) ≡ false
+no_gap : (after : Before) (text : List ℕ) (next : Run) (later : List Run) → IsNoGap after text (next ∷ later) → (is_after after && is_blank text) ≡ false
 no_gap Start text next later h = refl
 no_gap AfterText text next later h = refl
 no_gap (AfterWords charset) text next later h = h
 
 -- The first word of a part.
-first_goes : (behind : Before) (charset : Charset) (word : WrittenWord) → MayBeWords behind charset word.gap → IsWord charset word → (ys : List ℕ)
-    → without_gaps (is_behind behind) (pieces (spaced_word word ++ ys)) ≡ word_piece charset word ∷ without_gaps true (pieces ys)
+first_goes : (after : Before) (charset : Charset) (word : WrittenWord) → MayBeWords after charset word.gap → IsWord charset word → (ys : List ℕ)
+    → without_gaps (is_after after) (pieces (spaced_word word ++ ys)) ≡ word_piece charset word ∷ without_gaps true (pieces ys)
 first_goes Start charset word none w ys =
     ap (λ n. without_gaps false (pieces ((replicate n 32 ++ word_bytes word) ++ ys))) none ∙ ap (without_gaps false) (pieces_word charset word w ys)
 first_goes AfterText charset word none w ys =
@@ -178,16 +178,16 @@ begins_word : (word : WrittenWord) (ys : List ℕ) → word.gap ≡ 0 → get_or
 begins_word word ys none = ap (λ n. get_or ((replicate n 32 ++ word_bytes word) ++ ys) 0 0) none
 
 -- Part by part.
-parts : (behind : Before) (runs : List Run) → AreRuns behind runs
-    → joined (without_gaps (is_behind behind) (pieces (flat_map run_bytes runs))) ≡ map run_piece runs
-parts behind [] all = refl
-parts behind (Plain outer ∷ []) all =
+parts : (after : Before) (runs : List Run) → AreRuns after runs
+    → joined (without_gaps (is_after after) (pieces (flat_map run_bytes runs))) ≡ map run_piece runs
+parts after [] all = refl
+parts after (Plain outer ∷ []) all =
     let text = outer_text outer in
-    ap (λ ps. joined (without_gaps (is_behind behind) ps)) (pieces_outer outer [] all.2 (λ e. let no_byte : 0 ≡ 63 = e in omega arith) ∙ append-nil (plain text))
-    ∙ ap joined (without_gaps-end (is_behind behind) text ∙ sym (append-nil (plain text)))
+    ap (λ ps. joined (without_gaps (is_after after) ps)) (pieces_outer outer [] all.2 (λ e. let no_byte : 0 ≡ 63 = e in omega arith) ∙ append-nil (plain text))
+    ∙ ap joined (without_gaps-end (is_after after) text ∙ sym (append-nil (plain text)))
     ∙ text_piece text [] all.1
-parts behind (Plain outer ∷ Plain other ∷ later) all = absurd all.4.0
-parts behind (Plain outer ∷ Words charset first more ∷ later) all =
+parts after (Plain outer ∷ Plain other ∷ later) all = absurd all.4.0
+parts after (Plain outer ∷ Words charset first more ∷ later) all =
     let text = outer_text outer in
     let rest = flat_map run_bytes (Words charset first more ∷ later) in
     let tail = flat_map spaced_word more ++ flat_map run_bytes later in
@@ -195,19 +195,19 @@ parts behind (Plain outer ∷ Words charset first more ∷ later) all =
     let begins : get_or rest 0 0 ≡ 61 = ap (λ xs. get_or xs 0 0) split ∙ begins_word first tail all.4.0 in
     let cut : pieces rest ≡ word_piece charset first ∷ pieces tail =
     ap pieces split ∙ pieces_spaced charset first all.4.1 tail ∙ ap (λ n. plain (replicate n 32) ++ word_piece charset first ∷ pieces tail) all.4.0 in
-    let stays : without_gaps (is_behind behind) (pieces (text ++ rest)) ≡ plain text ++ without_gaps false (pieces rest) =
-    ap (without_gaps (is_behind behind)) (pieces_outer outer rest all.2 (λ e. omega arith) ∙ ap (λ ps. plain text ++ ps) cut)
-    ∙ text_by (is_behind behind) text charset (word_said first) (pieces tail)
-    ∙ ap (λ t. cond t (word_piece charset first ∷ without_gaps true (pieces tail)) (plain text ++ word_piece charset first ∷ without_gaps true (pieces tail))) (no_gap behind text (Words charset first more) later all.3)
+    let stays : without_gaps (is_after after) (pieces (text ++ rest)) ≡ plain text ++ without_gaps false (pieces rest) =
+    ap (without_gaps (is_after after)) (pieces_outer outer rest all.2 (λ e. omega arith) ∙ ap (λ ps. plain text ++ ps) cut)
+    ∙ text_by (is_after after) text charset (word_said first) (pieces tail)
+    ∙ ap (λ t. cond t (word_piece charset first ∷ without_gaps true (pieces tail)) (plain text ++ word_piece charset first ∷ without_gaps true (pieces tail))) (no_gap after text (Words charset first more) later all.3)
     ∙ ap (λ ps. plain text ++ without_gaps false ps) (sym cut) in
     ap joined stays ∙ text_piece text (without_gaps false (pieces rest)) all.1
     ∙ ap (before (piece None text)) (parts AfterText (Words charset first more ∷ later) all.4)
-parts behind (Words charset first more ∷ later) all =
+parts after (Words charset first more ∷ later) all =
     let end = flat_map run_bytes later in
     let tail = flat_map spaced_word more ++ end in
     let split : flat_map run_bytes (Words charset first more ∷ later) ≡ spaced_word first ++ tail = append_assoc (spaced_word first) (flat_map spaced_word more) end in
-    ap (λ xs. joined (without_gaps (is_behind behind) (pieces xs))) split
-    ∙ ap joined (first_goes behind charset first all.0 all.1 tail ∙ ap (λ ps. word_piece charset first ∷ ps) (gaps_go charset more all.2 end))
+    ap (λ xs. joined (without_gaps (is_after after) (pieces xs))) split
+    ∙ ap joined (first_goes after charset first all.0 all.1 tail ∙ ap (λ ps. word_piece charset first ∷ ps) (gaps_go charset more all.2 end))
     ∙ join_words charset (word_said first) more (without_gaps true (pieces end))
     ∙ ap (before (run_piece (Words charset first more))) (parts (AfterWords charset) later all.3)
     ∙ apart charset (word_said first ++ flat_map word_said more) later all.3

@@ -7,7 +7,7 @@ use Rattle.std.proofs.lemmas.List.{drop-drop, take-append-drop, get_or-take}
 use Rattle.std.proofs.lemmas.List.Folds.{length-prefix_len}
 use Rattle.std.proofs.lemmas.List.Sums.{prefix_len_passes, list_all-from_AllPass}
 use Rattle.mime_words.specs.declared.encoding.Encoding.{Encoding}
-use Rattle.mime_words.specs.Words.{EncodedText, is_charset_byte, is_text_byte, encoding_of, encoding_at, behind_opening, is_closing, closed_word, opened_word, word_at}
+use Rattle.mime_words.specs.Words.{EncodedText, is_charset_byte, is_text_byte, encoding_of, encoding_at, after_opening, is_closing, closed_word, opened_word, word_at}
 use Rattle.mime_words.specs.Laws.{IsSpelled}
 use Rattle.mime_words.proofs.Opening.{opened_at, opened_at-is}
 
@@ -32,36 +32,36 @@ passes p xs =
 
 -- A word whose encoded text has this length.
 abbrev closed_at : ℕ → List ℕ → List ℕ → Encoding → Option EncodedText
-closed_at n charset behind encoding =
-    cond (is_closing (drop n behind)) (Some (record { charset = charset; encoding = encoding; text = take n behind })) None
+closed_at n charset after encoding =
+    cond (is_closing (drop n after)) (Some (record { charset = charset; encoding = encoding; text = take n after })) None
 
 -- A word that is written is found.
-closes : (charset text behind : List ℕ) (encoding : Encoding) → list_all is_text_byte text ≡ true
-    → closed_word charset (text ++ 63 ∷ 61 ∷ behind) encoding ≡ Some (record { charset = charset; encoding = encoding; text = text })
-closes charset text behind encoding all =
-    let end = text ++ 63 ∷ 61 ∷ behind in
-    ap (λ n. closed_at n charset end encoding) (run is_text_byte text (61 ∷ behind) 63 all refl)
+closes : (charset text after : List ℕ) (encoding : Encoding) → list_all is_text_byte text ≡ true
+    → closed_word charset (text ++ 63 ∷ 61 ∷ after) encoding ≡ Some (record { charset = charset; encoding = encoding; text = text })
+closes charset text after encoding all =
+    let end = text ++ 63 ∷ 61 ∷ after in
+    ap (λ n. closed_at n charset end encoding) (run is_text_byte text (61 ∷ after) 63 all refl)
     ∙ ap (λ rest. cond (is_closing rest) (Some (record { charset = charset; encoding = encoding; text = take (length text) end })) None)
-    (drop-append_seam text (63 ∷ 61 ∷ behind))
-    ∙ ap (λ front. Some (record { charset = charset; encoding = encoding; text = front })) (take-append_seam text (63 ∷ 61 ∷ behind))
+    (drop-append_seam text (63 ∷ 61 ∷ after))
+    ∙ ap (λ front. Some (record { charset = charset; encoding = encoding; text = front })) (take-append_seam text (63 ∷ 61 ∷ after))
 
 opens : (charset tail : List ℕ) (letter : ℕ) (encoding : Encoding) → 0 < length charset → list_all is_charset_byte charset ≡ true
     → encoding_of letter ≡ Some encoding → opened_word (charset ++ 63 ∷ letter ∷ 63 ∷ tail) ≡ closed_word charset tail encoding
 opens charset tail letter encoding named all is =
-    let behind = 63 ∷ letter ∷ 63 ∷ tail in
-    let inside = charset ++ behind in
+    let after = 63 ∷ letter ∷ 63 ∷ tail in
+    let inside = charset ++ after in
     let some : length charset ≡ 0 → ⊥ = λ none. omega arith in
-    let front : take (length charset) inside ≡ charset = take-append_seam charset behind in
-    let back : drop (length charset + 3) inside ≡ tail = drop-append-add charset behind 3 in
+    let front : take (length charset) inside ≡ charset = take-append_seam charset after in
+    let back : drop (length charset + 3) inside ≡ tail = drop-append-add charset after 3 in
     ap (λ n. opened_at n inside) (run is_charset_byte charset (letter ∷ 63 ∷ tail) 63 all refl)
-    ∙ opened_at-is (length charset) inside encoding some (ap encoding_at (drop-append_seam charset behind) ∙ is)
+    ∙ opened_at-is (length charset) inside encoding some (ap encoding_at (drop-append_seam charset after) ∙ is)
     ∙ (λ i. closed_word (front i) (back i) encoding)
 
 pub spelled : (bytes : List ℕ) (word : EncodedText) → IsSpelled bytes word → word_at bytes ≡ Some word
 spelled bytes word s =
     ap word_at s.spelling
-    ∙ opens word.charset (word.text ++ 63 ∷ 61 ∷ s.behind) s.letter word.encoding s.named s.name s.encoding
-    ∙ closes word.charset word.text s.behind word.encoding s.text
+    ∙ opens word.charset (word.text ++ 63 ∷ 61 ∷ s.after) s.letter word.encoding s.named s.name s.encoding
+    ∙ closes word.charset word.text s.after word.encoding s.text
 
 -- What an answer says of the tests before it.
 none-some : {Y : Type 0} {y : Y} → None ≡ Some y → ⊥
@@ -96,7 +96,7 @@ both_eq x y a b h =
     let parts : (nat_eq x a ≡ true) × (nat_eq y b ≡ true) = and_parts (nat_eq x a) (nat_eq y b) h in
     (eqb-true x a parts.0, eqb-true y b parts.1)
 
-opening : (bytes inside : List ℕ) → behind_opening bytes ≡ Some inside → bytes ≡ 61 ∷ 63 ∷ inside
+opening : (bytes inside : List ℕ) → after_opening bytes ≡ Some inside → bytes ≡ 61 ∷ 63 ∷ inside
 opening bytes inside e =
     let parts : ((nat_eq (get_or bytes 0 0) 61 && nat_eq (get_or bytes 1 0) 63) ≡ true) × (Some (drop 2 bytes) ≡ Some inside) = if_true _ _ _ e in
     let ends : (get_or bytes 0 0 ≡ 61) × (get_or bytes 1 0 ≡ 63) = both_eq _ _ 61 63 parts.0 in
@@ -118,16 +118,16 @@ found_at : (bytes inside end : List ℕ) (n m : ℕ) (encoding : Encoding) → n
     → end ≡ drop (n + 3) inside → m ≡ prefix_len is_text_byte end → bytes ≡ 61 ∷ 63 ∷ inside → encoding_at (drop n inside) ≡ Some encoding
     → is_closing (drop m end) ≡ true → IsSpelled bytes (record { charset = take n inside; encoding = encoding; text = take m end })
 found_at bytes inside end n m encoding is_n some is_end is_m whole e closed =
-    let behind = drop n inside in
-    let at : (behind ≡ 63 ∷ get_or behind 1 0 ∷ 63 ∷ drop 3 behind) × (encoding_of (get_or behind 1 0) ≡ Some encoding) = lettered behind encoding e in
-    let tail : drop 3 behind ≡ take m end ++ 63 ∷ 61 ∷ drop 2 (drop m end) =
+    let after = drop n inside in
+    let at : (after ≡ 63 ∷ get_or after 1 0 ∷ 63 ∷ drop 3 after) × (encoding_of (get_or after 1 0) ≡ Some encoding) = lettered after encoding e in
+    let tail : drop 3 after ≡ take m end ++ 63 ∷ 61 ∷ drop 2 (drop m end) =
     drop-drop 3 n inside ∙ sym is_end ∙ sym (take-append-drop m end) ∙ ap (λ xs. take m end ++ xs) (closing (drop m end) closed) in
     let name_len : length (take n inside) ≡ n =
     ap (λ k. length (take k inside)) is_n ∙ length-prefix_len is_charset_byte inside ∙ sym is_n in
     record {
-      letter = get_or behind 1 0;
-      behind = drop 2 (drop m end);
-      spelling = whole ∙ ap (λ xs. 61 ∷ 63 ∷ xs) (sym (take-append-drop n inside) ∙ ap (λ xs. take n inside ++ xs) (at.0 ∙ ap (λ xs. 63 ∷ get_or behind 1 0 ∷ 63 ∷ xs) tail));
+      letter = get_or after 1 0;
+      after = drop 2 (drop m end);
+      spelling = whole ∙ ap (λ xs. 61 ∷ 63 ∷ xs) (sym (take-append-drop n inside) ∙ ap (λ xs. take n inside ++ xs) (at.0 ∙ ap (λ xs. 63 ∷ get_or after 1 0 ∷ 63 ∷ xs) tail));
       named = let some_len : n ≡ 0 → ⊥ = some in omega arith;
       name = ap (λ k. list_all is_charset_byte (take k inside)) is_n ∙ passes is_charset_byte inside;
       encoding = at.1;
@@ -136,7 +136,7 @@ found_at bytes inside end n m encoding is_n some is_end is_m whole e closed =
 
 pub found : (bytes : List ℕ) (word : EncodedText) → word_at bytes ≡ Some word → IsSpelled bytes word
 found bytes word e =
-    let opened : (inside : List ℕ) × ((behind_opening bytes ≡ Some inside) × (opened_word inside ≡ Some word)) = then_some (behind_opening bytes) opened_word word e in
+    let opened : (inside : List ℕ) × ((after_opening bytes ≡ Some inside) × (opened_word inside ≡ Some word)) = then_some (after_opening bytes) opened_word word e in
     let inside = opened.0 in
     let n = prefix_len is_charset_byte inside in
     let end = drop (n + 3) inside in

@@ -31,9 +31,9 @@ reaches_word (piece ∷ later) = is_word piece || (is_gap piece && reaches_word 
 -- The pieces without the spaces between two words (RFC 2047, section 6.2). The flag says that a
 -- word precedes these pieces, with nothing between, or with spaces that were dropped.
 abbrev pub without_gaps : Bool → List Piece → List Piece
-without_gaps behind_word [] = []
-without_gaps behind_word (piece ∷ later) =
-    if behind_word && is_gap piece && reaches_word later then without_gaps true later
+without_gaps after_word [] = []
+without_gaps after_word (piece ∷ later) =
+    if after_word && is_gap piece && reaches_word later then without_gaps true later
     else piece ∷ without_gaps (is_word piece) later
 
 -- Both are the same charset, or both are none.

@@ -54,9 +54,9 @@ LooseBase64 = (bytes text : List ℕ) → IsBase64Of bytes text → unbase64 tex
 -- `?`, the encoding's letter, `?`, bytes of an encoded text, `?=`, and any bytes.
 pub record IsSpelled (bytes : List ℕ) (word : EncodedText) : Type 0 where
   pub letter : ℕ
-  pub behind : List ℕ
+  pub after : List ℕ
   pub spelling : bytes
-      ≡ 61 ∷ 63 ∷ (word.charset ++ (63 ∷ letter ∷ 63 ∷ (word.text ++ (63 ∷ 61 ∷ behind))))
+      ≡ 61 ∷ 63 ∷ (word.charset ++ (63 ∷ letter ∷ 63 ∷ (word.text ++ (63 ∷ 61 ∷ after))))
   pub named : 0 < length word.charset
   pub name : list_all is_charset_byte word.charset ≡ true
   pub encoding : encoding_of letter ≡ Some word.encoding

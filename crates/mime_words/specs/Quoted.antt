@@ -27,8 +27,8 @@ plain_byte b = if b == 95 then 32 else b
 
 -- The bytes of a text whose first byte starts an escape, or is plain.
 abbrev pub escape_or_plain : Option ℕ → ℕ → List ℕ → List ℕ → List ℕ
-escape_or_plain None b behind_byte behind_escape = plain_byte b ∷ behind_byte
-escape_or_plain (Some byte) b behind_byte behind_escape = byte ∷ behind_escape
+escape_or_plain None b after_byte after_escape = plain_byte b ∷ after_byte
+escape_or_plain (Some byte) b after_byte after_escape = byte ∷ after_escape
 
 -- `=` and two digits are a byte, an underscore is a space, and all other bytes stay, including any
 -- other `=`.

@@ -179,13 +179,13 @@ IsNoStretch (Stray ∷ later) = Unit {0}
 
 -- Parts of such a text, with bytes after them. No two neighbours are both bytes without `=?`.
 abbrev pub AreOuter : List OuterPart → List ℕ → Type 0
-AreOuter [] behind = Unit {0}
-AreOuter (Stretch text ∷ later) behind = HasNoOpening text × IsNoStretch later
-    × AreOuter later behind
-AreOuter (Foreign word ∷ later) behind = IsAnyWord word
-    × ((charset : Charset) → IsName charset word.name → ⊥) × AreOuter later behind
-AreOuter (Stray ∷ later) behind = BeginsNoWord (61 ∷ (outer_text later ++ behind))
-    × AreOuter later behind
+AreOuter [] after = Unit {0}
+AreOuter (Stretch text ∷ later) after = HasNoOpening text × IsNoStretch later
+    × AreOuter later after
+AreOuter (Foreign word ∷ later) after = IsAnyWord word
+    × ((charset : Charset) → IsName charset word.name → ⊥) × AreOuter later after
+AreOuter (Stray ∷ later) after = BeginsNoWord (61 ∷ (outer_text later ++ after))
+    × AreOuter later after
 
 -- A part of a value: text outside of words that are read, or words of one charset.
 pub data Run : Type 0 where

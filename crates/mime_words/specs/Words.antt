@@ -40,8 +40,8 @@ abbrev pub word_len : EncodedText → ℕ
 word_len word = length word.charset + length word.text + 7
 
 -- The bytes after `=?` at the front.
-abbrev pub behind_opening : List ℕ → Option (List ℕ)
-behind_opening bytes =
+abbrev pub after_opening : List ℕ → Option (List ℕ)
+after_opening bytes =
     if slice_index bytes 0 == 61 && slice_index bytes 1 == 63 then Some (drop 2 bytes) else None
 
 -- The encoding whose letter is between two `?` at the front.
@@ -55,10 +55,10 @@ is_closing bytes = slice_index bytes 0 == 63 && slice_index bytes 1 == 61
 
 -- The encoded word, if after its charset's name and its encoding the encoded text and `?=` follow.
 abbrev pub closed_word : List ℕ → List ℕ → Encoding → Option EncodedText
-closed_word charset behind encoding =
-    let n = prefix_len is_text_byte behind in
-    if is_closing (drop n behind) then Some
-    (record { charset = charset; encoding = encoding; text = take n behind }) else None
+closed_word charset after encoding =
+    let n = prefix_len is_text_byte after in
+    if is_closing (drop n after) then Some
+    (record { charset = charset; encoding = encoding; text = take n after }) else None
 
 -- The encoded word after `=?`: one or more bytes of the charset's name, the encoding, and the rest
 -- of the word.
@@ -72,7 +72,7 @@ opened_word inside =
 -- The encoded word at the front: `=?`, the charset's name, `?`, the encoding's letter, `?`, the
 -- encoded text, `?=`.
 abbrev pub word_at : List ℕ → Option EncodedText
-word_at bytes = option_and_then opened_word (behind_opening bytes)
+word_at bytes = option_and_then opened_word (after_opening bytes)
 
 -- The bytes that an encoded text encodes.
 abbrev pub bytes_of : Encoding → List ℕ → List ℕ
@@ -98,9 +98,9 @@ pieces_of_word (Some charset) word written =
 
 -- The pieces of bytes that start with a word, or with another byte.
 abbrev pub pieces_at : Option EncodedText → List ℕ → (ℕ → List Piece) → List Piece
-pieces_at None bytes behind = plain (take 1 bytes) ++ behind 0
-pieces_at (Some word) bytes behind = pieces_of_word (charset_of word.charset) word
-    (take (word_len word) bytes) ++ behind (word_len word - 1)
+pieces_at None bytes after = plain (take 1 bytes) ++ after 0
+pieces_at (Some word) bytes after = pieces_of_word (charset_of word.charset) word
+    (take (word_len word) bytes) ++ after (word_len word - 1)
 
 -- The pieces of bytes, of which the first `n` belong to the word before them.
 abbrev pub pieces_from : List ℕ → ℕ → List Piece

@@ -13,9 +13,9 @@ pub fn push_unquoted(text: &[u8], into: &mut Bytes) -> Result<(), NoMemory>
 {
     let mut rest = text;
     while !rest.is_empty() {
-        let (byte, behind) = split_byte(rest);
+        let (byte, after) = split_byte(rest);
         into.push(byte)?;
-        rest = behind;
+        rest = after;
     }
     Ok(())
 }

@@ -1,7 +1,7 @@
 //! Finds encoded words in a value (RFC 2047, section 2).
 ghost use Rattle.std.specs.Prelude.{◌≡◌, ◌≤◌, ◌<◌, ◌+◌, length, IfSome, option_copied};
 ghost use Rattle.std.specs.List.{prefix_len};
-ghost use Rattle.mime_words.specs.Words.{is_charset_byte, is_text_byte, behind_opening, encoding_at, is_closing, closed_word, opened_word, word_at};
+ghost use Rattle.mime_words.specs.Words.{is_charset_byte, is_text_byte, after_opening, encoding_at, is_closing, closed_word, opened_word, word_at};
 ghost use Rattle.mime_words.specs.Writing.{IsFront, FindsWord, IsWordOf};
 
 use crate::charset::{Charset, charset_of};
@@ -84,7 +84,7 @@ pub struct EncodedWord<'a> {
 fn word_at(bytes: &[u8]) -> Option<EncodedWord<'_>>
     ensures { IsWordOf (word_at bytes.now) (length bytes.now) result }
 {
-    opened_word(behind_opening(bytes)?)
+    opened_word(after_opening(bytes)?)
 }
 
 /// Returns the encoded word whose `=?` is directly before these bytes.
@@ -95,22 +95,22 @@ fn opened_word(inside: &[u8]) -> Option<EncodedWord<'_>>
     if len == 0 {
         return None;
     }
-    let (charset, behind) = inside.split_at(len);
-    let encoding = encoding_at(behind)?;
-    closed_word(charset, &behind[3..], encoding)
+    let (charset, after) = inside.split_at(len);
+    let encoding = encoding_at(after)?;
+    closed_word(charset, &after[3..], encoding)
 }
 
 /// Returns the encoded word of a charset's name and an encoding, if the bytes start with an encoded
 /// text and `?=`.
 fn closed_word<'a>(
     charset: &'a [u8],
-    behind: &'a [u8],
+    after: &'a [u8],
     encoding: Encoding,
 ) -> Option<EncodedWord<'a>>
-    ensures { IsWordOf (closed_word charset.now behind.now encoding)
-        (length charset.now + length behind.now + 5) result }
+    ensures { IsWordOf (closed_word charset.now after.now encoding)
+        (length charset.now + length after.now + 5) result }
 {
-    let (text, end) = behind.split_at(text_len(behind));
+    let (text, end) = after.split_at(text_len(after));
     if !is_closing(end) {
         return None;
     }
@@ -122,8 +122,8 @@ fn closed_word<'a>(
 }
 
 /// Returns the bytes after `=?` at the front.
-fn behind_opening(bytes: &[u8]) -> Option<&[u8]>
-    ensures { option_copied result ≡ behind_opening bytes.now }
+fn after_opening(bytes: &[u8]) -> Option<&[u8]>
+    ensures { option_copied result ≡ after_opening bytes.now }
 {
     match bytes {
         [b'=', b'?', inside @ ..] => Some(inside),

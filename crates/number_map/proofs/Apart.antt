@@ -35,8 +35,8 @@ same_front a b x y ida idb fita fitb is =
     let left = be32 a.epoch ++ (a.blob.0 ++ x) in
     let right = be32 b.epoch ++ (b.blob.0 ++ y) in
     let whole : be32 a.number ++ left ≡ be32 b.number ++ right = sym (record_parts a x) ∙ (is ∙ record_parts b y) in
-    let behind : left ≡ right = sym (rest_is 4 (be32 a.number ++ left) (be32 a.number) left (be32_length a.number) refl) ∙ rest_is 4 (be32 a.number ++ left) (be32 b.number) right (be32_length b.number) whole in
-    let epochs = apart32 a.epoch b.epoch (a.blob.0 ++ x) (b.blob.0 ++ y) fita fitb behind in
+    let after : left ≡ right = sym (rest_is 4 (be32 a.number ++ left) (be32 a.number) left (be32_length a.number) refl) ∙ rest_is 4 (be32 a.number ++ left) (be32 b.number) right (be32_length b.number) whole in
+    let epochs = apart32 a.epoch b.epoch (a.blob.0 ++ x) (b.blob.0 ++ y) fita fitb after in
     let bytes = a.blob.0 ++ x in
     record {
       number = λ m n. (apart32 a.number b.number left right m n whole).0;
@@ -86,11 +86,11 @@ has_record n (x ∷ xs) rest bytes zero valid is below =
     record { line = x; valid = subst (λ (k : ℕ). IsRecord k x) (sym number) valid.0; is = front_is 28 bytes (record_bytes x) (flat_map record_bytes xs ++ rest) (record_length x id.len) split }
 has_record n (x ∷ xs) rest bytes (suc m) valid is below =
     let id = valid.0.blob in
-    let behind = flat_map record_bytes xs ++ rest in
-    let split : bytes ≡ record_bytes x ++ behind = is ∙ append_assoc (record_bytes x) (flat_map record_bytes xs) rest in
-    let place : 28 * suc m ≡ length (record_bytes x) + 28 * m = omega (arith, record_length x id.len) in
-    let further : drop (28 * suc m) bytes ≡ drop (28 * m) behind = ap (λ (b : List ℕ). drop (28 * suc m) b) split ∙ (ap (λ (k : ℕ). drop k (record_bytes x ++ behind)) place ∙ drop-append-add (record_bytes x) behind (28 * m)) in
-    let other = has_record (n + 1) xs rest behind m valid.1 refl (omega (arith, below)) in
+    let after = flat_map record_bytes xs ++ rest in
+    let split : bytes ≡ record_bytes x ++ after = is ∙ append_assoc (record_bytes x) (flat_map record_bytes xs) rest in
+    let offset : 28 * suc m ≡ length (record_bytes x) + 28 * m = omega (arith, record_length x id.len) in
+    let further : drop (28 * suc m) bytes ≡ drop (28 * m) after = ap (λ (b : List ℕ). drop (28 * suc m) b) split ∙ (ap (λ (k : ℕ). drop k (record_bytes x ++ after)) offset ∙ drop-append-add (record_bytes x) after (28 * m)) in
+    let other = has_record (n + 1) xs rest after m valid.1 refl (omega (arith, below)) in
     let number : n + 1 + m ≡ n + suc m = omega arith in
     record { line = other.line; valid = subst (λ (k : ℕ). IsRecord k other.line) number other.valid; is = ap (λ (b : List ℕ). take 28 b) further ∙ other.is }
 
@@ -102,7 +102,7 @@ no_damage lines bytes count at begins d below =
     let split : bytes ≡ flat_map record_bytes lines ++ rest = sym (take-append-drop (28 * length lines) bytes) ∙ ap (λ (l : List ℕ). l ++ rest) begins.spelled in
     let has = has_record 1 lines rest bytes m begins.valid split below in
     let number : 1 + m ≡ m + 1 = omega arith in
-    d.none has.line (subst (λ (k : ℕ). IsRecord k has.line) number has.valid) (ap (λ (k : ℕ). take 28 (drop k bytes)) d.place ∙ has.is)
+    d.none has.line (subst (λ (k : ℕ). IsRecord k has.line) number has.valid) (ap (λ (k : ℕ). take 28 (drop k bytes)) d.offset ∙ has.is)
 
 -- A map is damaged at one offset at most.
 pub damage_is_one : DamageIsOne
@@ -111,7 +111,7 @@ damage_is_one count bytes a b p q =
       | inl low ↦ absurd (no_damage q.before bytes count a q.begins p low)
       | inr rest ↦ elim (cases_lt (length q.before) (length p.before)) [
         | inl low ↦ absurd (no_damage p.before bytes count b p.begins q low)
-        | inr other ↦ omega (arith, rest, other, p.place, q.place)
+        | inr other ↦ omega (arith, rest, other, p.offset, q.offset)
       ]
     ]
 

@@ -23,8 +23,8 @@ spelled_is line a b c zeros isa isb isc size id =
     let mid = put_mid 4 4 xs b in
     let front : take 8 mid ≡ a ++ b = take-put_mid 4 4 xs b 8 (omega (arith, sb)) (omega (arith, long)) ∙ ap (λ (l : List ℕ). l ++ b) (front_is 4 xs a zeros sa refl) in
     let none : drop 20 (drop 8 mid) ≡ [] = drop-drop 20 8 mid ∙ drop-put_mid 4 4 xs b 28 (omega arith) (omega (arith, long)) sb ∙ drop_all 28 xs (omega (arith, long)) in
-    let behind : c ++ drop 20 (drop 8 mid) ≡ c = ap (λ (l : List ℕ). c ++ l) none ∙ append-nil c in
-    ap (λ (l : List ℕ). take 8 mid ++ l) behind ∙ (ap (λ (l : List ℕ). l ++ c) front ∙ (λ i. isa i ++ isb i ++ isc i))
+    let after : c ++ drop 20 (drop 8 mid) ≡ c = ap (λ (l : List ℕ). c ++ l) none ∙ append-nil c in
+    ap (λ (l : List ℕ). take 8 mid ++ l) after ∙ (ap (λ (l : List ℕ). l ++ c) front ∙ (λ i. isa i ++ isb i ++ isc i))
 
 -- Three parts, one after the other.
 pub parts_are : (number epoch : ℕ) (blob : Id20) (bytes : List ℕ) → be32 number ≡ take 4 bytes → be32 epoch ≡ take 4 (drop 4 bytes) → blob.0 ≡ drop 4 (drop 4 bytes) → record_bytes (record { number = number; epoch = epoch; blob = blob }) ≡ bytes

@@ -31,43 +31,43 @@ valid_more n (x ∷ xs) line valid last =
     (valid.0, valid_more (n + 1) xs line valid.1 (subst (λ (k : ℕ). IsRecord k line) number last))
 
 -- One more record.
-pub one_more : (old new : List Record) (bytes behind map : List ℕ) → Stands old (bytes ++ behind) map → IsNext bytes old new → Stands new (drop 28 bytes ++ behind) map
-one_more old new bytes behind map stands next =
+pub one_more : (old new : List Record) (bytes after map : List ℕ) → Stands old (bytes ++ after) map → IsNext bytes old new → Stands new (drop 28 bytes ++ after) map
+one_more old new bytes after map stands next =
     let line = next.line in
     let number : length old + 1 ≡ 1 + length old = omega arith in
     let valid : AreRecordsFrom 1 (old ++ line ∷ []) = valid_more 1 old line stands.valid (subst (λ (k : ℕ). IsRecord k line) number next.valid) in
     let front = flat_map record_bytes old in
-    let rest = drop 28 bytes ++ behind in
-    let piece : bytes ++ behind ≡ record_bytes line ++ rest =
-    ap (λ (l : List ℕ). l ++ behind) (sym (take-append-drop 28 bytes) ∙ ap (λ (l : List ℕ). l ++ drop 28 bytes) next.spelled) ∙ append_assoc (record_bytes line) (drop 28 bytes) behind in
+    let rest = drop 28 bytes ++ after in
+    let piece : bytes ++ after ≡ record_bytes line ++ rest =
+    ap (λ (l : List ℕ). l ++ after) (sym (take-append-drop 28 bytes) ∙ ap (λ (l : List ℕ). l ++ drop 28 bytes) next.spelled) ∙ append_assoc (record_bytes line) (drop 28 bytes) after in
     let more : front ++ record_bytes line ≡ flat_map record_bytes (old ++ line ∷ []) = flat_map_more record_bytes [] old line in
     let is : map ≡ flat_map record_bytes (old ++ line ∷ []) ++ rest =
     stands.spelled ∙ (ap (λ (l : List ℕ). front ++ l) piece ∙ (sym (append_assoc front (record_bytes line) rest) ∙ ap (λ (l : List ℕ). l ++ rest) more)) in
     subst (λ (l : List Record). Stands l rest map) (sym next.lines) (record { valid = valid; spelled = is })
 
 -- The first bytes of a piece are those of the rest of the map.
-front_of : (bytes behind : List ℕ) → IsEnough 1 bytes behind → take 28 (bytes ++ behind) ≡ take 28 bytes
-front_of bytes behind enough = elim enough [
-  | inl fits ↦ take-append-le 28 bytes behind (omega (arith, fits))
+front_of : (bytes after : List ℕ) → IsEnough 1 bytes after → take 28 (bytes ++ after) ≡ take 28 bytes
+front_of bytes after enough = elim enough [
+  | inl fits ↦ take-append-le 28 bytes after (omega (arith, fits))
   | inr none ↦ ap (λ (l : List ℕ). take 28 (bytes ++ l)) none ∙ ap (λ (l : List ℕ). take 28 l) (append-nil bytes)
 ]
 
 -- No more record.
-pub none_more : (count at : ℕ) (old new : List Record) (bytes behind map : List ℕ) → length old < count → IsEnough 1 bytes behind → Stands old (bytes ++ behind) map → IsLast at bytes old new → IsDamaged count at map
-none_more count at old new bytes behind map fewer enough stands last =
-    let place : drop at map ≡ bytes ++ behind =
-    ap (λ (k : ℕ). drop k map) last.place ∙ rest_is (28 * length old) map (flat_map record_bytes old) (bytes ++ behind) (records_length 1 old stands.valid) stands.spelled in
-    let front : take 28 (drop at map) ≡ take 28 bytes = ap (λ (l : List ℕ). take 28 l) place ∙ front_of bytes behind enough in
-    record { before = old; begins = begins_of old (bytes ++ behind) map stands; fewer = fewer; place = last.place; none = λ line valid is. last.none line valid (sym front ∙ is) }
+pub none_more : (count at : ℕ) (old new : List Record) (bytes after map : List ℕ) → length old < count → IsEnough 1 bytes after → Stands old (bytes ++ after) map → IsLast at bytes old new → IsDamaged count at map
+none_more count at old new bytes after map fewer enough stands last =
+    let offset : drop at map ≡ bytes ++ after =
+    ap (λ (k : ℕ). drop k map) last.offset ∙ rest_is (28 * length old) map (flat_map record_bytes old) (bytes ++ after) (records_length 1 old stands.valid) stands.spelled in
+    let front : take 28 (drop at map) ≡ take 28 bytes = ap (λ (l : List ℕ). take 28 l) offset ∙ front_of bytes after enough in
+    record { before = old; begins = begins_of old (bytes ++ after) map stands; fewer = fewer; offset = last.offset; none = λ line valid is. last.none line valid (sym front ∙ is) }
 
 -- The rest of a piece has room for the remaining records.
-pub enough_left : (wanted done : ℕ) (bytes rest behind : List ℕ) → done < wanted → length rest + 28 * done ≡ length bytes → IsEnough wanted bytes behind → IsEnough 1 rest behind
-enough_left wanted done bytes rest behind below left enough = elim enough [ inl fits ↦ inl (omega (arith, below, left, fits)) | inr none ↦ inr none ]
+pub enough_left : (wanted done : ℕ) (bytes rest after : List ℕ) → done < wanted → length rest + 28 * done ≡ length bytes → IsEnough wanted bytes after → IsEnough 1 rest after
+enough_left wanted done bytes rest after below left enough = elim enough [ inl fits ↦ inl (omega (arith, below, left, fits)) | inr none ↦ inr none ]
 
 -- A piece is damaged where the map is.
-pub piece_refused : (refusal : WalkRefusal) (wanted done : ℕ) (start old new : List Record) (bytes rest map behind : List ℕ) → done < wanted → length old ≡ length start + done → length rest + 28 * done ≡ length bytes → Stands old (rest ++ behind) map
-    → IsEnough wanted bytes behind → ReadsNext {T = Unit {0}} (Err refusal) rest old new → ReadsOn {T = Unit {0}} (Err refusal) (length start + wanted) map new
-piece_refused DiskFault wanted done start old new bytes rest map behind below count left stands enough next = absurd next
-piece_refused NoMemory wanted done start old new bytes rest map behind below count left stands enough next = tt
-piece_refused (Damaged at) wanted done start old new bytes rest map behind below count left stands enough next =
-    none_more (length start + wanted) at old new rest behind map (omega (arith, below, count)) (enough_left wanted done bytes rest behind below left enough) stands next
+pub piece_refused : (refusal : WalkRefusal) (wanted done : ℕ) (start old new : List Record) (bytes rest map after : List ℕ) → done < wanted → length old ≡ length start + done → length rest + 28 * done ≡ length bytes → Stands old (rest ++ after) map
+    → IsEnough wanted bytes after → ReadsNext {T = Unit {0}} (Err refusal) rest old new → ReadsOn {T = Unit {0}} (Err refusal) (length start + wanted) map new
+piece_refused DiskFault wanted done start old new bytes rest map after below count left stands enough next = absurd next
+piece_refused NoMemory wanted done start old new bytes rest map after below count left stands enough next = tt
+piece_refused (Damaged at) wanted done start old new bytes rest map after below count left stands enough next =
+    none_more (length start + wanted) at old new rest after map (omega (arith, below, count)) (enough_left wanted done bytes rest after below left enough) stands next

@@ -17,7 +17,7 @@ pub record IsNext (bytes : List ℕ) (old new : List Record) : Type 0 where
 
 -- There is no record of the next number, and this is its offset.
 pub record IsLast (at : ℕ) (bytes : List ℕ) (old new : List Record) : Type 0 where
-  pub place : at ≡ record_size * length old
+  pub offset : at ≡ record_size * length old
   pub none : (line : Record) → IsRecord (length old + 1) line
       → take record_size bytes ≢ record_bytes line
   pub lines : new ≡ old
@@ -37,7 +37,7 @@ pub record Stands (lines : List Record) (rest bytes : List ℕ) : Type 0 where
 
 -- The piece has room for this many records, or nothing follows it.
 abbrev pub IsEnough : ℕ → List ℕ → List ℕ → Type 0
-IsEnough wanted bytes behind = (record_size * wanted ≤ length bytes) ⊎ (behind ≡ [])
+IsEnough wanted bytes after = (record_size * wanted ≤ length bytes) ⊎ (after ≡ [])
 
 -- The results of reading the records up to a number.
 abbrev pub ReadsOn : {T : Type 0} → Result T WalkRefusal → ℕ → List ℕ → List Record → Type 0

@@ -18,7 +18,7 @@ pub record IsDamaged (count at : ℕ) (bytes : List ℕ) : Type 0 where
   pub before : List Record
   pub begins : BeginsWith before bytes
   pub fewer : length before < count
-  pub place : at ≡ record_size * length before
+  pub offset : at ≡ record_size * length before
   pub none : (line : Record) → IsRecord (length before + 1) line
       → take record_size (drop at bytes) ≢ record_bytes line
 

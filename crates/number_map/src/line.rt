@@ -1,5 +1,5 @@
 //! The record that the map has for a number.
-ghost use Rattle.std.specs.Prelude.{◌≡◌, ◌⊎◌, ◌↔◌, ◌++◌, IsTrue};
+ghost use Rattle.std.specs.Prelude.{◌⊎◌, ◌↔◌, IsTrue};
 ghost use Rattle.number_map.specs.Records.{HasMessage, HasNone};
 
 use arch_base::{Duplicate, NoMemory, ObjectId, Sequence};

@@ -29,8 +29,8 @@ fn read_next(bytes: &[u8], lines: &mut Records) -> Result<(), WalkRefusal>
 /// The piece has them all, or ends where the map ends.
 pub fn read_piece(bytes: &[u8], wanted: u32, lines: &mut Records) -> Result<(), WalkRefusal>
     requires { length lines.old + wanted < 2 ^ 32 }
-    ensures read { (map behind : List ℕ) → Stands lines.old (bytes.now ++ behind) map
-        → IsEnough wanted bytes.now behind
+    ensures read { (map after : List ℕ) → Stands lines.old (bytes.now ++ after) map
+        → IsEnough wanted bytes.now after
         → ReadsOn result (length lines.old + wanted) map lines.new }
     ensures size { OnOk result (length lines.new ≡ length lines.old + wanted) }
     ensures no_fault { result ≢ Err WalkRefusal.DiskFault }

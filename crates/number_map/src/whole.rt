@@ -40,8 +40,8 @@ fn read_more<D: Disk>(
         (Image (D.content disk.old)) }
     ensures cause { RoseIf (result ≡ Err WalkRefusal.DiskFault) (D.faults disk.old) (D.faults disk.new) }
 {
-    let place = RECORD_SIZE as u64 * lines.as_slice().len() as u64;
-    match disk.read(file, place, room) {
+    let offset = RECORD_SIZE as u64 * lines.as_slice().len() as u64;
+    match disk.read(file, offset, room) {
         Err(DiskFault) => Err(WalkRefusal::DiskFault),
         Ok(n) => read_piece(&room[..n], wanted, lines),
     }

@@ -33,19 +33,19 @@ impl OpenFile {
     /// Reads from an offset into the front of a buffer, and returns the number of bytes read.
     ///
     /// Fills the buffer, or reads fewer bytes at the file's end.
-    pub(crate) fn read(&self, place: u64, into: &mut [u8]) -> io::Result<usize>
+    pub(crate) fn read(&self, offset: u64, into: &mut [u8]) -> io::Result<usize>
         ensures { IfOk result (λ count. count ≤ length into.new) }
     {
-        let left = self.length()?.saturating_sub(place);
+        let left = self.length()?.saturating_sub(offset);
         let count = left.min(into.len() as u64) as usize;
-        self.file.read_exact_at(&mut into[..count], place)?;
+        self.file.read_exact_at(&mut into[..count], offset)?;
         Ok(count)
     }
 
     /// Writes all bytes at an offset.
-    pub(crate) fn write(&mut self, place: u64, bytes: &[u8]) -> io::Result<()> {
+    pub(crate) fn write(&mut self, offset: u64, bytes: &[u8]) -> io::Result<()> {
         self.changed = true;
-        self.file.write_all_at(bytes, place)
+        self.file.write_all_at(bytes, offset)
     }
 
     /// Cuts the file to a length.

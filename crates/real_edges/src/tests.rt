@@ -75,7 +75,7 @@ fn is_cut(disk: &mut FolderDisk) -> Result<bool, DiskFault> {
 }
 
 /// Returns the disk over a folder that has the root of an earlier run.
-fn opened_again(rt: &HostRuntime) -> Result<FolderDisk, Fail> {
+fn reopened(rt: &HostRuntime) -> Result<FolderDisk, Fail> {
     make_files(rt, "again", &[])?;
     fs::write(rt, "again/root", b"abcdE".as_slice())?;
     Ok(FolderDisk::open(rt, rt.alloc(), "again")?)
@@ -115,8 +115,8 @@ fn a_folder_keeps_files(rt: HostRuntime) -> Result<(), Fail> {
 }
 
 #[test]
-fn a_folder_is_opened_again(rt: HostRuntime) -> Result<(), Fail> {
-    let mut disk = opened_again(&rt)?;
+fn a_folder_is_reopened(rt: HostRuntime) -> Result<(), Fail> {
+    let mut disk = reopened(&rt)?;
     assert!(rt; is_removed(&rt, &mut disk)?);
     Ok(())
 }
@@ -490,7 +490,7 @@ fn mends_each(rt: &HostRuntime) -> Result<bool, Fail> {
 }
 
 #[test]
-fn behind_a_mark_all_is_written_again(rt: HostRuntime) -> Result<(), Fail> {
+fn after_a_mark_all_is_written_again(rt: HostRuntime) -> Result<(), Fail> {
     make_files(&rt, "marked", &["root", "epoch-0.1"])?;
     assert!(rt; mends(&rt)?);
     assert!(rt; mends_each(&rt)?);

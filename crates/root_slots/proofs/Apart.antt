@@ -40,7 +40,7 @@ apart_name m n x y a b is =
     let left = name_parts bytes x m a refl in
     let right = name_parts bytes y n b is in
     let size : length m ≡ length n = sym left.count ∙ right.count in
-    (sym left.itself ∙ (ap (λ (k : ℕ). take k (drop 1 (take 65 bytes))) size ∙ right.itself), sym left.behind ∙ right.behind)
+    (sym left.itself ∙ (ap (λ (k : ℕ). take k (drop 1 (take 65 bytes))) size ∙ right.itself), sym left.after ∙ right.after)
 
 -- Bytes that start with settings.
 apart_config : (c d : Config) (x y : List ℕ) → IsName c.name → IsName d.name → IsConfig c → IsConfig d → config_bytes c ++ x ≡ config_bytes d ++ y → (c ≡ d) × (x ≡ y)

@@ -4,17 +4,17 @@ use Rattle.std.specs.Int.{from_be_bytes, w64}
 use Rattle.std.proofs.Common.{◌∙◌, ap, sym, subst, inl, inr, arith}
 use Rattle.std.proofs.lemmas.Bool.{cases_lt}
 use Rattle.root_slots.specs.Spelling.{body_size}
-use Rattle.root_slots.specs.Slots.{gate, body_place, body_at, sequence_of, Precedes, Current}
+use Rattle.root_slots.specs.Slots.{gate, body_offset, body_at, sequence_of, Precedes, Current}
 
 -- The part of the file, cut at an offset that a call gave.
-pub body_slice : (file : List ℕ) (slot start : ℕ) → start ≡ body_place slot → take (start + body_size - start) (drop start file) ≡ body_at file slot
+pub body_slice : (file : List ℕ) (slot start : ℕ) → start ≡ body_offset slot → take (start + body_size - start) (drop start file) ≡ body_at file slot
 unfolding body_at
 body_slice file slot start is =
-    let size : body_place slot + body_size - body_place slot ≡ body_size = omega arith in
-    ap (λ (k : ℕ). take (k + body_size - k) (drop k file)) is ∙ ap (λ (n : ℕ). take n (drop (body_place slot) file)) size
+    let size : body_offset slot + body_size - body_offset slot ≡ body_size = omega arith in
+    ap (λ (k : ℕ). take (k + body_size - k) (drop k file)) is ∙ ap (λ (n : ℕ). take n (drop (body_offset slot) file)) size
 
 -- The sequence of the body.
-pub sequence_slice : (file : List ℕ) (slot start value : ℕ) → start ≡ body_place slot → value ≡ from_be_bytes w64 (take 8 (take (start + body_size - start) (drop start file))) → value ≡ sequence_of (body_at file slot)
+pub sequence_slice : (file : List ℕ) (slot start value : ℕ) → start ≡ body_offset slot → value ≡ from_be_bytes w64 (take 8 (take (start + body_size - start) (drop start file))) → value ≡ sequence_of (body_at file slot)
 unfolding sequence_of
 sequence_slice file slot start value is gives = gives ∙ ap (λ (b : List ℕ). from_be_bytes w64 (take 8 b)) (body_slice file slot start is)
 

@@ -8,7 +8,7 @@ use Rattle.disk_model.specs.Laws.{SameOutside, overlay-torn, overlay-size, overl
 use Rattle.disk_model.specs.Synced.{Writing, IsWritten}
 use Rattle.root_slots.specs.RootName.{root_name}
 use Rattle.root_slots.specs.Each.{IfThere, EachRoot, part_stays, each_writing, each_written, elsewhere_before}
-use Rattle.root_slots.specs.Slots.{HasRootSize, gate, body_place, body_at, sequence_of, Precedes, Current, HasRoot, Ready, IsOldOrNew, with_root, HasNewRoot, IsCommitted}
+use Rattle.root_slots.specs.Slots.{HasRootSize, gate, body_offset, body_at, sequence_of, Precedes, Current, HasRoot, Ready, IsOldOrNew, with_root, HasNewRoot, IsCommitted}
 
 -- A number is this one or another.
 nat_eq_or_not : (m n : ℕ) → (m ≡ n) ⊎ (m ≢ n)
@@ -30,44 +30,44 @@ overlay-there : (at : ℕ) (bytes old : List ℕ) (i : ℕ) → at ≤ length ol
 overlay-there at bytes old i inside low high = grind (arith, common_steps)
 
 -- Shutting the gate in between leaves no trace.
-shut_between : (slot : ℕ) (new old : List ℕ) → slot < 2 → length new ≡ 1536 → length old ≡ 4096 → overlay slot (1 ∷ []) (overlay (body_place slot) new (overlay slot (0 ∷ []) old)) ≡ with_root slot new old
+shut_between : (slot : ℕ) (new old : List ℕ) → slot < 2 → length new ≡ 1536 → length old ≡ 4096 → overlay slot (1 ∷ []) (overlay (body_offset slot) new (overlay slot (0 ∷ []) old)) ≡ with_root slot new old
 shut_between slot new old in_range whole size =
     let shut : List ℕ = overlay slot (0 ∷ []) old in
     let shut_size : length shut ≡ 4096 = overlay-size slot (0 ∷ []) old (omega (arith, size, in_range)) ∙ size in
-    let there = overlay-size (body_place slot) new shut (omega (arith, shut_size, whole, in_range)) in
-    let here = overlay-size (body_place slot) new old (omega (arith, size, whole, in_range)) in
-    let left = overlay-size slot (1 ∷ []) (overlay (body_place slot) new shut) (omega (arith, there, shut_size, in_range)) in
-    let right = overlay-size slot (1 ∷ []) (overlay (body_place slot) new old) (omega (arith, here, size, in_range)) in
-    same_number_lists (overlay slot (1 ∷ []) (overlay (body_place slot) new shut)) (with_root slot new old) (omega (arith, left, right, there, here, shut_size, size))
+    let there = overlay-size (body_offset slot) new shut (omega (arith, shut_size, whole, in_range)) in
+    let here = overlay-size (body_offset slot) new old (omega (arith, size, whole, in_range)) in
+    let left = overlay-size slot (1 ∷ []) (overlay (body_offset slot) new shut) (omega (arith, there, shut_size, in_range)) in
+    let right = overlay-size slot (1 ∷ []) (overlay (body_offset slot) new old) (omega (arith, here, size, in_range)) in
+    same_number_lists (overlay slot (1 ∷ []) (overlay (body_offset slot) new shut)) (with_root slot new old) (omega (arith, left, right, there, here, shut_size, size))
     (λ i below. same_at i (nat_eq_or_not i slot)) where
       same_apart : (i : ℕ) → i ≢ slot → (i < slot) ⊎ (slot + 1 ≤ i)
       same_apart i apart = elim (cases_lt i slot) [ inl low ↦ inl low | inr high ↦ elim (cases_lt slot i) [ inl low ↦ inr (omega (arith, low)) | inr less ↦ absurd (apart (omega (arith, high, less))) ] ]
 
-      in_body : (i : ℕ) → i ≢ slot → get_or (overlay (body_place slot) new (overlay slot (0 ∷ []) old)) i 0 ≡ get_or (overlay (body_place slot) new old) i 0
+      in_body : (i : ℕ) → i ≢ slot → get_or (overlay (body_offset slot) new (overlay slot (0 ∷ []) old)) i 0 ≡ get_or (overlay (body_offset slot) new old) i 0
       in_body i apart =
           let shut_size : length (overlay slot (0 ∷ []) old) ≡ 4096 = overlay-size slot (0 ∷ []) old (omega (arith, size, in_range)) ∙ size in
-          let fits : body_place slot ≤ length old = omega (arith, size, in_range) in
-          let fits2 : body_place slot ≤ length (overlay slot (0 ∷ []) old) = omega (arith, shut_size, in_range) in
-          elim (cases_lt i (body_place slot)) [
-            | inl low ↦ overlay_kept (body_place slot) new (overlay slot (0 ∷ []) old) i fits2 (inl low) ∙ (overlay_kept slot (0 ∷ []) old i (omega (arith, size, in_range)) (same_apart i apart) ∙ sym (overlay_kept (body_place slot) new old i fits (inl low)))
-            | inr high ↦ elim (cases_lt i (body_place slot + length new)) [
-              | inl low ↦ overlay-there (body_place slot) new (overlay slot (0 ∷ []) old) i fits2 high low ∙ sym (overlay-there (body_place slot) new old i fits high low)
-              | inr past ↦ overlay_kept (body_place slot) new (overlay slot (0 ∷ []) old) i fits2 (inr past) ∙ (overlay_kept slot (0 ∷ []) old i (omega (arith, size, in_range)) (same_apart i apart) ∙ sym (overlay_kept (body_place slot) new old i fits (inr past)))
+          let fits : body_offset slot ≤ length old = omega (arith, size, in_range) in
+          let fits2 : body_offset slot ≤ length (overlay slot (0 ∷ []) old) = omega (arith, shut_size, in_range) in
+          elim (cases_lt i (body_offset slot)) [
+            | inl low ↦ overlay_kept (body_offset slot) new (overlay slot (0 ∷ []) old) i fits2 (inl low) ∙ (overlay_kept slot (0 ∷ []) old i (omega (arith, size, in_range)) (same_apart i apart) ∙ sym (overlay_kept (body_offset slot) new old i fits (inl low)))
+            | inr high ↦ elim (cases_lt i (body_offset slot + length new)) [
+              | inl low ↦ overlay-there (body_offset slot) new (overlay slot (0 ∷ []) old) i fits2 high low ∙ sym (overlay-there (body_offset slot) new old i fits high low)
+              | inr past ↦ overlay_kept (body_offset slot) new (overlay slot (0 ∷ []) old) i fits2 (inr past) ∙ (overlay_kept slot (0 ∷ []) old i (omega (arith, size, in_range)) (same_apart i apart) ∙ sym (overlay_kept (body_offset slot) new old i fits (inr past)))
             ]
           ]
 
-      same_at : (i : ℕ) → (i ≡ slot) ⊎ (i ≢ slot) → get_or (overlay slot (1 ∷ []) (overlay (body_place slot) new (overlay slot (0 ∷ []) old))) i 0 ≡ get_or (with_root slot new old) i 0
+      same_at : (i : ℕ) → (i ≡ slot) ⊎ (i ≢ slot) → get_or (overlay slot (1 ∷ []) (overlay (body_offset slot) new (overlay slot (0 ∷ []) old))) i 0 ≡ get_or (with_root slot new old) i 0
       same_at i (inl is) =
           let shut_size : length (overlay slot (0 ∷ []) old) ≡ 4096 = overlay-size slot (0 ∷ []) old (omega (arith, size, in_range)) ∙ size in
-          let there = overlay-size (body_place slot) new (overlay slot (0 ∷ []) old) (omega (arith, shut_size, whole, in_range)) in
-          let here = overlay-size (body_place slot) new old (omega (arith, size, whole, in_range)) in
-          rw is (overlay-byte slot 1 (overlay (body_place slot) new (overlay slot (0 ∷ []) old)) (omega (arith, there, shut_size, in_range)) ∙ sym (overlay-byte slot 1 (overlay (body_place slot) new old) (omega (arith, here, size, in_range))))
+          let there = overlay-size (body_offset slot) new (overlay slot (0 ∷ []) old) (omega (arith, shut_size, whole, in_range)) in
+          let here = overlay-size (body_offset slot) new old (omega (arith, size, whole, in_range)) in
+          rw is (overlay-byte slot 1 (overlay (body_offset slot) new (overlay slot (0 ∷ []) old)) (omega (arith, there, shut_size, in_range)) ∙ sym (overlay-byte slot 1 (overlay (body_offset slot) new old) (omega (arith, here, size, in_range))))
       same_at i (inr apart) =
           let shut_size : length (overlay slot (0 ∷ []) old) ≡ 4096 = overlay-size slot (0 ∷ []) old (omega (arith, size, in_range)) ∙ size in
-          let there = overlay-size (body_place slot) new (overlay slot (0 ∷ []) old) (omega (arith, shut_size, whole, in_range)) in
-          let here = overlay-size (body_place slot) new old (omega (arith, size, whole, in_range)) in
-          overlay_kept slot (1 ∷ []) (overlay (body_place slot) new (overlay slot (0 ∷ []) old)) i (omega (arith, there, shut_size, in_range)) (same_apart i apart)
-          ∙ (in_body i apart ∙ sym (overlay_kept slot (1 ∷ []) (overlay (body_place slot) new old) i (omega (arith, here, size, in_range)) (same_apart i apart)))
+          let there = overlay-size (body_offset slot) new (overlay slot (0 ∷ []) old) (omega (arith, shut_size, whole, in_range)) in
+          let here = overlay-size (body_offset slot) new old (omega (arith, size, whole, in_range)) in
+          overlay_kept slot (1 ∷ []) (overlay (body_offset slot) new (overlay slot (0 ∷ []) old)) i (omega (arith, there, shut_size, in_range)) (same_apart i apart)
+          ∙ (in_body i apart ∙ sym (overlay_kept slot (1 ∷ []) (overlay (body_offset slot) new old) i (omega (arith, here, size, in_range)) (same_apart i apart)))
 
 -- While a slot is shut the other one has the current root.
 pub record Shut (slot : ℕ) (old file : List ℕ) : Type 0 where
@@ -87,14 +87,14 @@ abbrev pub Either : List ℕ → List ℕ → List ℕ → Type 0
 Either old new file = HasRoot old file ⊎ HasRoot new file
 
 -- A body outside the range of a write stays.
-body_stays : (at n slot : ℕ) (a b : List ℕ) → SameOutside at n a b → (body_place slot + 1536 ≤ at) ⊎ (at + n ≤ body_place slot) → body_at b slot ≡ body_at a slot
+body_stays : (at n slot : ℕ) (a b : List ℕ) → SameOutside at n a b → (body_offset slot + 1536 ≤ at) ⊎ (at + n ≤ body_offset slot) → body_at b slot ≡ body_at a slot
 unfolding body_at
-body_stays at n slot a b same apart = part_stays at n a b (body_place slot) 1536 same apart
+body_stays at n slot a b same apart = part_stays at n a b (body_offset slot) 1536 same apart
 
 -- A body that was written is there.
-body_written : (slot : ℕ) (new a : List ℕ) → length new ≡ 1536 → body_place slot ≤ length a → body_at (overlay (body_place slot) new a) slot ≡ new
+body_written : (slot : ℕ) (new a : List ℕ) → length new ≡ 1536 → body_offset slot ≤ length a → body_at (overlay (body_offset slot) new a) slot ≡ new
 unfolding body_at
-body_written slot new a whole inside = ap (λ (n : ℕ). take n (drop (body_place slot) (overlay (body_place slot) new a))) (sym whole) ∙ overlay-inside (body_place slot) new a inside
+body_written slot new a whole inside = ap (λ (n : ℕ). take n (drop (body_offset slot) (overlay (body_offset slot) new a))) (sym whole) ∙ overlay-inside (body_offset slot) new a inside
 
 -- The other slot of the other slot.
 back : (slot : ℕ) → slot < 2 → 1 - (1 - slot) ≡ slot
@@ -126,8 +126,8 @@ shut_written slot old a b in_range ready same shut = record {
   other_place s below = elim (cases_lt s 1) [ inl low ↦ inr (omega arith) | inr high ↦ inl (omega arith) ]
 
 -- An open gate of a slot with a body that a commit allows.
-opened_again : (slot : ℕ) (old a b : List ℕ) → slot < 2 → Ready slot old a → SameOutside slot 1 a b → gate b slot ≡ 1 → HasRoot old b
-opened_again slot old a b in_range ready same open_ =
+reopened : (slot : ℕ) (old a b : List ℕ) → slot < 2 → Ready slot old a → SameOutside slot 1 a b → gate b slot ≡ 1 → HasRoot old b
+reopened slot old a b in_range ready same open_ =
     elim ready.other [
       | inl was ↦ as_before (ready.current.newest (subst (λ (n : ℕ). gate a n ≡ 1) (sym (back slot in_range)) was))
       | inr rest ↦ elim rest [ inl twin ↦ of_twin twin | inr lesser ↦ keep (inl (subst (λ (body : List ℕ). sequence_of body < sequence_of old) (sym stays) lesser)) ]
@@ -177,10 +177,10 @@ opened_again slot old a b in_range ready same open_ =
 -- Any byte in the gate of the slot.
 pub shut_torn : (slot : ℕ) (old new a b : List ℕ) → slot < 2 → Ready slot old a → SameOutside slot 1 a b → Either old new b
 shut_torn slot old new a b in_range ready same =
-    elim (nat_eq_or_not (gate b slot) 1) [ inl open_ ↦ inl (opened_again slot old a b in_range ready same open_) | inr shut ↦ inl (shut_current slot old b (shut_written slot old a b in_range ready same shut)) ]
+    elim (nat_eq_or_not (gate b slot) 1) [ inl open_ ↦ inl (reopened slot old a b in_range ready same open_) | inr shut ↦ inl (shut_current slot old b (shut_written slot old a b in_range ready same shut)) ]
 
 -- Any bytes in the body of the slot.
-pub fill_torn : (slot : ℕ) (old a b : List ℕ) → Shut slot old a → SameOutside (body_place slot) 1536 a b → Shut slot old b
+pub fill_torn : (slot : ℕ) (old a b : List ℕ) → Shut slot old a → SameOutside (body_offset slot) 1536 a b → Shut slot old b
 fill_torn slot old a b s same =
     let in_range = s.in_range in
     record {
@@ -188,9 +188,9 @@ fill_torn slot old a b s same =
       size = same.size ∙ s.size;
       shut = λ is. s.shut (sym (same.bytes slot (inl (omega arith))) ∙ is);
       opened = same.bytes (1 - slot) (inl (omega arith)) ∙ s.opened;
-      holds = body_stays (body_place slot) 1536 (1 - slot) a b same (apart slot s.in_range) ∙ s.holds;
+      holds = body_stays (body_offset slot) 1536 (1 - slot) a b same (apart slot s.in_range) ∙ s.holds;
     } where
-      apart : (n : ℕ) → n < 2 → (body_place (1 - n) + 1536 ≤ body_place n) ⊎ (body_place n + 1536 ≤ body_place (1 - n))
+      apart : (n : ℕ) → n < 2 → (body_offset (1 - n) + 1536 ≤ body_offset n) ⊎ (body_offset n + 1536 ≤ body_offset (1 - n))
       apart n below = elim (cases_lt n 1) [ inl low ↦ inr (omega arith) | inr high ↦ inl (omega arith) ]
 
 -- A gate that was opened.
@@ -261,32 +261,32 @@ module _ (slot : ℕ) (old new : List ℕ) (in_range : slot < 2) where
         shut_written slot old a (overlay slot (0 ∷ []) a) in_range ready same (λ open_. zero_isnt_one (gate (overlay slot (0 ∷ []) a) slot) (overlay-byte slot 0 a (omega (arith, size, in_range))) open_)
 
   -- During the second write.
-  pub during_fill : (k0 k1 : Option Content) (image : Files) → ReadsFit k0 → ReadsFit k1 → WhereTold HasRootSize k1 → Told (IsWritten root_name slot (0 ∷ [])) k0 k1 → EachRoot (Shut slot old) k1 → Writing root_name (body_place slot) 1536 k1 image → IsOldOrNew old new k0 image
+  pub during_fill : (k0 k1 : Option Content) (image : Files) → ReadsFit k0 → ReadsFit k1 → WhereTold HasRootSize k1 → Told (IsWritten root_name slot (0 ∷ [])) k0 k1 → EachRoot (Shut slot old) k1 → Writing root_name (body_offset slot) 1536 k1 image → IsOldOrNew old new k0 image
   during_fill None k1 image fit fit1 size told each writing = tt
   during_fill (Some k) None image fit fit1 size told each writing = absurd told
   during_fill (Some k) (Some m) image fit fit1 size told each writing = record {
-    root = split_there old new (image root_name) (each_writing (Shut slot old) (Either old new) (body_place slot) 1536 m image fit1 (omega (arith, size, in_range)) (omega arith) each (λ a b s same. inl (shut_current slot old b (fill_torn slot old a b s same))) writing);
+    root = split_there old new (image root_name) (each_writing (Shut slot old) (Either old new) (body_offset slot) 1536 m image fit1 (omega (arith, size, in_range)) (omega arith) each (λ a b s same. inl (shut_current slot old b (fill_torn slot old a b s same))) writing);
     elsewhere = λ other apart. elsewhere_before slot (0 ∷ []) k m image fit told other apart (writing.elsewhere other apart);
   }
 
   -- After the second write.
-  pub is_filled : length new ≡ 1536 → (k1 k2 : Option Content) → ReadsFit k1 → EachRoot (Shut slot old) k1 → Told (IsWritten root_name (body_place slot) new) k1 k2 → EachRoot (Filled slot old new) k2
-  is_filled whole k1 k2 fit each written = each_written (Shut slot old) (Filled slot old new) (body_place slot) new k1 k2 fit each stands written where
-    stands : (a : List ℕ) → Shut slot old a → Filled slot old new (overlay (body_place slot) new a)
+  pub is_filled : length new ≡ 1536 → (k1 k2 : Option Content) → ReadsFit k1 → EachRoot (Shut slot old) k1 → Told (IsWritten root_name (body_offset slot) new) k1 k2 → EachRoot (Filled slot old new) k2
+  is_filled whole k1 k2 fit each written = each_written (Shut slot old) (Filled slot old new) (body_offset slot) new k1 k2 fit each stands written where
+    stands : (a : List ℕ) → Shut slot old a → Filled slot old new (overlay (body_offset slot) new a)
     stands a s =
         let size = s.size in
-        let same = subst (λ (n : ℕ). SameOutside (body_place slot) n a (overlay (body_place slot) new a)) whole (overlay-torn (body_place slot) new a (omega (arith, size, whole, in_range))) in
-        record { shut = fill_torn slot old a (overlay (body_place slot) new a) s same; filled = body_written slot new a whole (omega (arith, size, in_range)) }
+        let same = subst (λ (n : ℕ). SameOutside (body_offset slot) n a (overlay (body_offset slot) new a)) whole (overlay-torn (body_offset slot) new a (omega (arith, size, whole, in_range))) in
+        record { shut = fill_torn slot old a (overlay (body_offset slot) new a) s same; filled = body_written slot new a whole (omega (arith, size, in_range)) }
 
   -- During the third write.
-  pub during_raise : sequence_of old < sequence_of new → (k0 k1 k2 : Option Content) (image : Files) → ReadsFit k0 → ReadsFit k1 → ReadsFit k2 → WhereTold HasRootSize k2 → Told (IsWritten root_name slot (0 ∷ [])) k0 k1 → Told (IsWritten root_name (body_place slot) new) k1 k2 → EachRoot (Filled slot old new) k2
+  pub during_raise : sequence_of old < sequence_of new → (k0 k1 k2 : Option Content) (image : Files) → ReadsFit k0 → ReadsFit k1 → ReadsFit k2 → WhereTold HasRootSize k2 → Told (IsWritten root_name slot (0 ∷ [])) k0 k1 → Told (IsWritten root_name (body_offset slot) new) k1 k2 → EachRoot (Filled slot old new) k2
       → Writing root_name slot 1 k2 image → IsOldOrNew old new k0 image
   during_raise newer None k1 k2 image fit fit1 fit2 size told told1 each writing = tt
   during_raise newer (Some k) None k2 image fit fit1 fit2 size told told1 each writing = absurd told
   during_raise newer (Some k) (Some m) None image fit fit1 fit2 size told told1 each writing = absurd told1
   during_raise newer (Some k) (Some m) (Some n) image fit fit1 fit2 size told told1 each writing = record {
     root = split_there old new (image root_name) (each_writing (Filled slot old new) (Either old new) slot 1 n image fit2 (omega (arith, size, in_range)) (omega arith) each (λ a b f same. raise_torn slot old new a b newer f same) writing);
-    elsewhere = λ other apart. elsewhere_before slot (0 ∷ []) k m image fit told other apart (elsewhere_before (body_place slot) new m n image fit1 told1 other apart (writing.elsewhere other apart));
+    elsewhere = λ other apart. elsewhere_before slot (0 ∷ []) k m image fit told other apart (elsewhere_before (body_offset slot) new m n image fit1 told1 other apart (writing.elsewhere other apart));
   }
 
   -- After the third write.
@@ -313,7 +313,7 @@ module _ (slot : ℕ) (old new : List ℕ) (in_range : slot < 2) where
         }
 
 -- The other files and the disk after the three writes.
-pub committed : (slot : ℕ) (new : List ℕ) (k0 k1 k2 k3 : Option Content) → Told (IsWritten root_name slot (0 ∷ [])) k0 k1 → Told (IsWritten root_name (body_place slot) new) k1 k2 → Told (IsWritten root_name slot (1 ∷ [])) k2 k3 → Told IsCommitted k0 k3
+pub committed : (slot : ℕ) (new : List ℕ) (k0 k1 k2 k3 : Option Content) → Told (IsWritten root_name slot (0 ∷ [])) k0 k1 → Told (IsWritten root_name (body_offset slot) new) k1 k2 → Told (IsWritten root_name slot (1 ∷ [])) k2 k3 → Told IsCommitted k0 k3
 committed slot new None None None None a b c = tt
 committed slot new None None None (Some n) a b c = absurd c
 committed slot new None None (Some m) k3 a b c = absurd b
@@ -327,7 +327,7 @@ committed slot new (Some k) (Some l) (Some m) (Some n) a b c = record {
 }
 
 -- The root file after the three writes.
-pub has_new_root : (slot : ℕ) (new : List ℕ) → slot < 2 → length new ≡ 1536 → (k0 k1 k2 k3 : Option Content) → WhereTold HasRootSize k0 → Told (IsWritten root_name slot (0 ∷ [])) k0 k1 → Told (IsWritten root_name (body_place slot) new) k1 k2 → Told (IsWritten root_name slot (1 ∷ [])) k2 k3 → Told (HasNewRoot slot new) k0 k3
+pub has_new_root : (slot : ℕ) (new : List ℕ) → slot < 2 → length new ≡ 1536 → (k0 k1 k2 k3 : Option Content) → WhereTold HasRootSize k0 → Told (IsWritten root_name slot (0 ∷ [])) k0 k1 → Told (IsWritten root_name (body_offset slot) new) k1 k2 → Told (IsWritten root_name slot (1 ∷ [])) k2 k3 → Told (HasNewRoot slot new) k0 k3
 has_new_root slot new in_range whole None None None None size a b c = tt
 has_new_root slot new in_range whole None None None (Some n) size a b c = absurd c
 has_new_root slot new in_range whole None None (Some m) k3 size a b c = absurd b
@@ -338,5 +338,5 @@ has_new_root slot new in_range whole (Some k) (Some l) (Some m) None size a b c 
 has_new_root slot new in_range whole (Some k) (Some l) (Some m) (Some n) size a b c =
     c.here
     ∙ (ap (λ (f : File). Some (overlay slot (1 ∷ []) (bytes_of f))) b.here
-    ∙ (ap (λ (f : File). Some (overlay slot (1 ∷ []) (overlay (body_place slot) new (bytes_of f)))) a.here
+    ∙ (ap (λ (f : File). Some (overlay slot (1 ∷ []) (overlay (body_offset slot) new (bytes_of f)))) a.here
     ∙ ap (λ (bytes : List ℕ). Some bytes) (shut_between slot new (bytes_of (k root_name).seen) in_range whole size)))

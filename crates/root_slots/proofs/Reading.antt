@@ -31,7 +31,7 @@ place_is gen_ long p a b = λ i. record { gen_ = a i; length = b i }
 pub record NameParts (bytes rest text : List ℕ) : Type 0 where
   pub count : get_or (take 1 (take 65 bytes)) 0 0 ≡ length text
   pub itself : take (length text) (drop 1 (take 65 bytes)) ≡ text
-  pub behind : drop 65 bytes ≡ rest
+  pub after : drop 65 bytes ≡ rest
 
 -- A name is its length, its text and zeros.
 pub name_parts : (bytes rest text : List ℕ) → IsName text → bytes ≡ name_bytes text ++ rest → NameParts bytes rest text
@@ -41,7 +41,7 @@ name_parts bytes rest text valid is =
     record {
       count = ap (λ (b : List ℕ). get_or (take 1 b) 0 0) front;
       itself = ap (λ (b : List ℕ). take (length text) (drop 1 b)) front ∙ take-append_seam text (replicate (64 - length text) 0);
-      behind = rest_is 65 bytes (name_bytes text) rest (name_length text valid) is;
+      after = rest_is 65 bytes (name_bytes text) rest (name_length text valid) is;
     }
 
 -- The parts of settings.
@@ -82,9 +82,9 @@ found_is None given text is valid some none = absurd (none (subst IsName (sym is
 found_is (Some name) given text is valid some none = ap (λ (t : List ℕ). Some t) (some.0 ∙ is)
 
 -- The text after its length.
-pub text_is : (front behind bytes rest text : List ℕ) → front ≡ take 1 (take 65 bytes) → behind ≡ drop 1 (take 65 bytes) → NameParts bytes rest text → take (get_or front 0 0) behind ≡ text
-text_is front behind bytes rest text a b parts =
-    ap (λ (n : ℕ). take n behind) (ap (λ (l : List ℕ). get_or l 0 0) a ∙ parts.count) ∙ (ap (λ (l : List ℕ). take (length text) l) b ∙ parts.itself)
+pub text_is : (front after bytes rest text : List ℕ) → front ≡ take 1 (take 65 bytes) → after ≡ drop 1 (take 65 bytes) → NameParts bytes rest text → take (get_or front 0 0) after ≡ text
+text_is front after bytes rest text a b parts =
+    ap (λ (n : ℕ). take n after) (ap (λ (l : List ℕ). get_or l 0 0) a ∙ parts.count) ∙ (ap (λ (l : List ℕ). take (length text) l) b ∙ parts.itself)
 
 -- The parts of a root.
 pub root_parts : (bytes : List ℕ) (r : Root) → bytes ≡ spelling r → bytes ≡ be64 r.sequence ++ (config_bytes r.config ++ (be32 r.next ++ (place_bytes r.map ++ (flat_map place_bytes r.epochs ++ (place_bytes r.cache ++ replicate (1536 - length (fields r)) 0)))))

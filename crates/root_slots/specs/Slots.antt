@@ -59,12 +59,12 @@ IsGateOpen slot true k = gate (bytes_of (k root_name).seen) slot ≡ 1
 IsGateOpen slot false k = gate (bytes_of (k root_name).seen) slot ≢ 1
 
 -- The offset of the body of a slot.
-abbrev pub body_place : ℕ → ℕ
-body_place slot = 1024 + body_size * slot
+abbrev pub body_offset : ℕ → ℕ
+body_offset slot = 1024 + body_size * slot
 
 -- The body of a slot.
 unfoldable pub body_at : List ℕ → ℕ → List ℕ
-body_at file slot = take body_size (drop (body_place slot) file)
+body_at file slot = take body_size (drop (body_offset slot) file)
 
 -- The sequence of a body, its first 8 bytes.
 unfoldable pub sequence_of : List ℕ → ℕ
@@ -107,7 +107,7 @@ IsOldOrNew old new (Some k) image = OldOrNew old new k image
 
 -- A root file with this body in a slot whose gate is open, and otherwise as it was.
 abbrev pub with_root : ℕ → List ℕ → List ℕ → List ℕ
-with_root slot body file = overlay slot (1 ∷ []) (overlay (body_place slot) body file)
+with_root slot body file = overlay slot (1 ∷ []) (overlay (body_offset slot) body file)
 
 -- After a commit the root file reads so.
 abbrev pub HasNewRoot : ℕ → List ℕ → Content → Content → Type 0
@@ -127,7 +127,7 @@ IsShut file = (length file ≢ root_size) ⊎ ((gate file 0 ≢ 1) × (gate file
 pub record IsDamaged (at : ℕ) (file : List ℕ) : Type 0 where
   pub slot : ℕ
   pub current : Current slot (body_at file slot) file
-  pub place : at ≡ body_place slot
+  pub offset : at ≡ body_offset slot
   pub none : (r : Root) → RootFits r → IsRoot r → body_at file slot ≢ spelling r
 
 -- The results of reading a root file with these bytes.

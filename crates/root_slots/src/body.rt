@@ -1,8 +1,8 @@
 //! The bytes of a root.
-ghost use Rattle.std.specs.Prelude.{◌≡◌, ◌+◌, ◌-◌, ◌≤◌, ◌∷◌, [], ◌++◌, List, ℕ, length, replicate};
+ghost use Rattle.std.specs.Prelude.{◌≡◌, ◌+◌, ◌-◌, ◌≤◌, [], ◌++◌, List, ℕ, length, replicate};
 ghost use Rattle.std.specs.List.{flat_map};
 ghost use Rattle.disk_model.specs.BigEndian.{be32, be64};
-ghost use Rattle.root_slots.specs.Spelling.{body_size, flag, place_bytes, name_bytes, config_bytes, spelling};
+ghost use Rattle.root_slots.specs.Spelling.{body_size, place_bytes, name_bytes, config_bytes, spelling};
 
 use crate::root::{Place, Root};
 use crate::slot::BODY_SIZE;

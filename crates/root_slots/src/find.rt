@@ -1,5 +1,5 @@
 //! Reads the current root of a root file.
-ghost use Rattle.std.specs.Prelude.{◌≡◌, ◌≢◌, ◌↔◌, ◌<◌, Ok, Err, Some, List, ℕ, length, IsTrue, IfOk, IfSome, IfNone};
+ghost use Rattle.std.specs.Prelude.{◌≡◌, ◌≢◌, ◌↔◌, ◌<◌, Ok, Err, Some, length, IsTrue, IfOk, IfSome, IfNone};
 ghost use Rattle.arch_base.specs.Counts.{RoseIf, IsCaused};
 ghost use Rattle.arch_base.specs.Configs.{IsConfig};
 ghost use Rattle.disk_model.specs.Disk.{Image, Told, WhereTold, Unchanged, LeavesOnly, bytes_of};
@@ -7,7 +7,7 @@ ghost use Rattle.root_slots.specs.declared.root.Root.{Root};
 ghost use Rattle.root_slots.specs.RootName.{root_name};
 ghost use Rattle.root_slots.specs.Spelling.{body_size, spelling};
 ghost use Rattle.root_slots.specs.Valid.{RootFits, PlaceIsValid, IsRoot};
-ghost use Rattle.root_slots.specs.Slots.{root_size, slot_number, gate, body_at, sequence_of, body_place, Current, Answers, ReadsBack, AreRootBytes};
+ghost use Rattle.root_slots.specs.Slots.{root_size, slot_number, gate, body_at, sequence_of, Current, Answers, ReadsBack, AreRootBytes};
 
 use crate::body::spell;
 use crate::parts::{number64, root_of};

@@ -2,7 +2,7 @@
 //!
 //! Each function reads its part from the front and returns the rest. Its contract says what is read
 //! if the bytes start with the spelling of a value; otherwise it may read any value.
-ghost use Rattle.std.specs.Prelude.{◌≡◌, ◌+◌, ◌<◌, ◌≤◌, ◌^◌, ◌++◌, ◌∷◌, Some, List, ℕ, length, get_or, take};
+ghost use Rattle.std.specs.Prelude.{◌≡◌, ◌+◌, ◌<◌, ◌≤◌, ◌^◌, ◌++◌, Some, List, ℕ, length, get_or, take};
 ghost use Rattle.std.specs.List.{flat_map};
 ghost use Rattle.std.specs.Int.{from_be_bytes, w64};
 ghost use Rattle.arch_base.specs.Names.{IsName};
@@ -12,7 +12,7 @@ ghost use Rattle.root_slots.specs.declared.root.Place.{Place};
 ghost use Rattle.root_slots.specs.declared.root.Root.{Root};
 ghost use Rattle.disk_model.specs.Sizes.{epoch_count};
 ghost use Rattle.disk_model.specs.BigEndian.{be32, be64};
-ghost use Rattle.root_slots.specs.Spelling.{body_size, flag, place_bytes, name_bytes, config_bytes, spelling};
+ghost use Rattle.root_slots.specs.Spelling.{body_size, place_bytes, name_bytes, config_bytes, spelling};
 ghost use Rattle.root_slots.specs.Valid.{no_place, PlaceFits, RootFits, IsRoot};
 
 use crate::root::{Place, Root};

@@ -1,6 +1,6 @@
 //! The two slots of a root file, and where their bytes are.
 ghost use Rattle.std.specs.Prelude.{◌≡◌, ◌-◌, ◌≤◌};
-ghost use Rattle.root_slots.specs.Slots.{slot_number, body_place};
+ghost use Rattle.root_slots.specs.Slots.{slot_number, body_offset};
 
 /// The length of a root file, in bytes.
 pub const ROOT_SIZE: usize = 4096;
@@ -33,7 +33,7 @@ impl Slot {
 
     /// Returns the offset of the gate.
     pub fn gate(self) -> usize
-        ensures place { result ≡ slot_number self }
+        ensures offset { result ≡ slot_number self }
         ensures inside { result ≤ 1 }
     {
         match self {
@@ -44,7 +44,7 @@ impl Slot {
 
     /// Returns the offset of the body.
     pub fn body(self) -> usize
-        ensures place { result ≡ body_place (slot_number self) }
+        ensures offset { result ≡ body_offset (slot_number self) }
         ensures inside { result ≤ 2560 }
     {
         BODIES + BODY_SIZE * self.gate()

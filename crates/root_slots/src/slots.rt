@@ -1,5 +1,5 @@
 //! The two slots, and the commit of a new root.
-ghost use Rattle.std.specs.Prelude.{◌≡◌, ◌+◌, ◌-◌, ◌<◌, ◌∷◌, [], ℕ, List, length, OnOk, IfOk};
+ghost use Rattle.std.specs.Prelude.{◌≡◌, ◌-◌, ◌<◌, ◌∷◌, [], ℕ, List, length, OnOk, IfOk};
 ghost use Rattle.arch_base.specs.Counts.{IsCaused};
 ghost use Rattle.disk_model.specs.Disk.{Image, Told, WhereTold, Unchanged, LeavesOnly};
 ghost use Rattle.disk_model.specs.Synced.{Writing, IsWritten};
@@ -7,7 +7,7 @@ ghost use Rattle.root_slots.specs.RootName.{root_name};
 ghost use Rattle.root_slots.specs.Each.{EachRoot};
 ghost use Rattle.root_slots.specs.Spelling.{body_size, spelling};
 ghost use Rattle.root_slots.specs.Valid.{IsRoot};
-ghost use Rattle.root_slots.specs.Slots.{slot_number, HasRootSize, IsGateOpen, body_place, sequence_of, Current, Ready, OthersStay, IsOldOrNew, HasNewRoot, IsCommitted};
+ghost use Rattle.root_slots.specs.Slots.{slot_number, HasRootSize, IsGateOpen, body_offset, sequence_of, Current, Ready, OthersStay, IsOldOrNew, HasNewRoot, IsCommitted};
 
 use crate::body::spell;
 use crate::root::Root;
@@ -57,8 +57,8 @@ pub fn fill<D: Disk>(disk: &mut D, slot: Slot, root: &Root) -> Result<(), DiskFa
     requires size { WhereTold HasRootSize (D.content disk.old) }
     requires root { IsRoot root.now }
     ensures any_moment { LeavesOnly D.moment D.left_since disk.old disk.new
-        (Writing root_name (body_place (slot_number slot)) body_size (D.content disk.old)) }
-    ensures written { OnOk result (Told (IsWritten root_name (body_place (slot_number slot))
+        (Writing root_name (body_offset (slot_number slot)) body_size (D.content disk.old)) }
+    ensures written { OnOk result (Told (IsWritten root_name (body_offset (slot_number slot))
         (spelling root.now)) (D.content disk.old) (D.content disk.new)) }
     ensures whole { length (spelling root.now) ≡ body_size }
     ensures cause { IsCaused (D.faults disk.old) (D.faults disk.new) result }

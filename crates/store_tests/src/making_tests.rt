@@ -317,8 +317,8 @@ fn text_of<D: Disk>(
 
 /// Appends ten bytes to a file.
 pub(crate) fn append(disk: &mut MemDisk, file: FileName) -> Result<(), DiskFault> {
-    let place = disk.length(file)?;
-    write(disk, file, place, b"0123456789")
+    let end = disk.length(file)?;
+    write(disk, file, end, b"0123456789")
 }
 
 /// Returns whether the text of an entry is the second mail.

@@ -1,29 +1,29 @@
 use Rattle.std.proofs.Common.{◌≡◌, ◌++◌, ◌∷◌, [], ◌∙◌, codes, decimal, append_assoc, ap, List, ℕ}
 use Rattle.edge_io.proofs.Wording.{Says-then, Says-lost}
-use Rattle.archive_cli.specs.Frames.{line}
+use Rattle.answer_lines.specs.Lines.{whole_line}
 use Rattle.archive_cli.proofs.outcome.say_checked.Goals as goal
 
 -- The parts of the line.
-pieces : (entries : ℕ) (rest : List ℕ) → line (codes "entries " ++ (decimal entries ++ rest)) ≡ codes "entries " ++ (decimal entries ++ line rest)
+pieces : (entries : ℕ) (rest : List ℕ) → whole_line (codes "entries " ++ (decimal entries ++ rest)) ≡ codes "entries " ++ (decimal entries ++ whole_line rest)
 pieces entries rest = ap (λ (t : List ℕ). codes "entries " ++ t) (append_assoc (decimal entries) rest (10 ∷ []))
 
 pub returns-in_err-say-clause-said : goal.returns-in_err-say-clause-said
 returns-in_err-say-clause-said g c =
     let rest : List ℕ = codes " live " ++ (decimal c.args.live ++ (codes " next " ++ decimal c.args.next)) in
-    rw (pieces c.args.entries rest) (Says-lost (codes "entries ") (decimal c.args.entries ++ line rest) _ _ _ _ _ c.from_residual.result c.from_residual.ensures.0 c.in_err-say.ensures.said)
+    rw (pieces c.args.entries rest) (Says-lost (codes "entries ") (decimal c.args.entries ++ whole_line rest) _ _ _ _ _ c.from_residual.result c.from_residual.ensures.0 c.in_err-say.ensures.said)
 
 pub returns-in_err-say-2-clause-said : goal.returns-in_err-say-2-clause-said
 returns-in_err-say-2-clause-said g c =
     let rest : List ℕ = codes " live " ++ (decimal c.args.live ++ (codes " next " ++ decimal c.args.next)) in
     let digits : c.as_bytes.result.now ≡ decimal c.args.entries = c.as_bytes.ensures.value ∙ c.format.ensures.text in
     rw (pieces c.args.entries rest)
-    (Says-then (codes "entries ") (decimal c.args.entries ++ line rest) _ _ _ _ _ _ _ c.from_residual-in_err-say-2.result c.in_ok-say.ensures.said
-    (Says-lost (decimal c.args.entries) (line rest) _ _ _ _ _ c.from_residual-in_err-say-2.result c.from_residual-in_err-say-2.ensures.0 (rw digits at c.in_err-say-2.ensures.said)))
+    (Says-then (codes "entries ") (decimal c.args.entries ++ whole_line rest) _ _ _ _ _ _ _ c.from_residual-in_err-say-2.result c.in_ok-say.ensures.said
+    (Says-lost (decimal c.args.entries) (whole_line rest) _ _ _ _ _ c.from_residual-in_err-say-2.result c.from_residual-in_err-say-2.ensures.0 (rw digits at c.in_err-say-2.ensures.said)))
 
 pub returns-clause-said : goal.returns-clause-said
 returns-clause-said g c =
     let rest : List ℕ = codes " live " ++ (decimal c.args.live ++ (codes " next " ++ decimal c.args.next)) in
     let digits : c.as_bytes.result.now ≡ decimal c.args.entries = c.as_bytes.ensures.value ∙ c.format.ensures.text in
     rw (pieces c.args.entries rest)
-    (Says-then (codes "entries ") (decimal c.args.entries ++ line rest) _ _ _ _ _ _ _ _ c.in_ok-say.ensures.said
-    (Says-then (decimal c.args.entries) (line rest) _ _ _ _ _ _ _ _ (rw digits at c.in_ok-say-2.ensures.said) c.say_numbers.ensures.said))
+    (Says-then (codes "entries ") (decimal c.args.entries ++ whole_line rest) _ _ _ _ _ _ _ _ c.in_ok-say.ensures.said
+    (Says-then (decimal c.args.entries) (whole_line rest) _ _ _ _ _ _ _ _ (rw digits at c.in_ok-say-2.ensures.said) c.say_numbers.ensures.said))

@@ -1,6 +1,6 @@
 use Rattle.std.proofs.Common.{inl}
 use Rattle.disk_model.specs.Moments.{started, weaker}
-use Rattle.archive_cli.specs.DiskCommands.{RecoversBehind}
+use Rattle.archive_cli.specs.DiskCommands.{RecoversAfter}
 use Rattle.archive_cli.specs.Printing.{BytesLeave}
 use Rattle.archive_cli.specs.declared.words.Job.TheVariants.{Deliver}
 use Rattle.archive_cli.proofs.Leaving.{bytes-first}
@@ -17,7 +17,7 @@ returns-in-Err-clause-any_moment g c = λ may all room.
 pub returns-clause-any_moment : goal.returns-clause-any_moment
 returns-clause-any_moment g c = λ may all room.
     let bytes = c.args.bytes.now in
-    weaker g.D.Disk.moment g.D.Disk.left_since c.args.disk.now c.deliver.new.disk (RecoversBehind may bytes c.in-Ok.moment) (BytesLeave may bytes (g.C.Clock.coming c.args.clock.now)) (c.deliver.ensures.any_moment may all room)
+    weaker g.D.Disk.moment g.D.Disk.left_since c.args.disk.now c.deliver.new.disk (RecoversAfter may bytes c.in-Ok.moment) (BytesLeave may bytes (g.C.Clock.coming c.args.clock.now)) (c.deliver.ensures.any_moment may all room)
     (λ image leaves. (c.in-Ok.moment, c.in-Ok.ensures.first, leaves))
 
 pub returns-clause-ends : goal.returns-clause-ends

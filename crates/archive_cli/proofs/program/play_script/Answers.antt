@@ -1,6 +1,6 @@
 use Rattle.std.proofs.Common.{◌≡◌, ◌∙◌, ◌++◌, codes, sym, subst, arith}
 use Rattle.arch_model.specs.Archives.{empty_archive}
-use Rattle.archive_cli.specs.Frames.{line}
+use Rattle.answer_lines.specs.Lines.{whole_line}
 use Rattle.archive_cli.specs.declared.status.Status.TheVariants as exit
 use Rattle.archive_cli.specs.Plays.{Shows}
 use Rattle.archive_cli.specs.Program.{start}
@@ -23,4 +23,4 @@ returns-clause-printed g c = λ config held ready text script short.
     let zero : c.failed.result ≡ 0 = omega (arith, c.if-failed-gt0.false) in
     let shows = shows-start g.K.Keep.holds g.K.Keep.stale g.K.Keep.clock g.K.Keep.leaves g.K.Keep.faults c.args.keep config held ready (g.met.K.Keep.holds_left c.args.keep (empty_archive config) held) (sym c.failed.ensures ∙ zero) in
     let played = c.in-Err.ensures.err (start config) (subst (λ p. Shows g.K.Keep.holds g.K.Keep.stale g.K.Keep.clock g.K.Keep.leaves g.K.Keep.faults p (start config)) (sym c.new-player.ensures) shows) in
-    printed-as _ _ _ _ _ _ _ (printed-said _ _ _ _ (c.as_slice-in-Err.result.now ++ line (codes "12 no memory")) exit.Memory _ _ c.say_cut.ensures.said c.if_taken.ensures) (due-part config text c.as_slice-in-Err.result.now c.args.events.now short script (rw (sym c.as_slice-in-Err.ensures) at played))
+    printed-as _ _ _ _ _ _ _ (printed-said _ _ _ _ (c.as_slice-in-Err.result.now ++ whole_line (codes "12 no memory")) exit.Memory _ _ c.say_cut.ensures.said c.if_taken.ensures) (due-part config text c.as_slice-in-Err.result.now c.args.events.now short script (rw (sym c.as_slice-in-Err.ensures) at played))

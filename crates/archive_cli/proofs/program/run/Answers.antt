@@ -1,8 +1,8 @@
 use Rattle.std.proofs.Common.{Some, None, codes, refl, []}
 use Rattle.disk_model.specs.Moments.{weaker}
+use Rattle.answer_lines.specs.Lines.{whole_line}
 use Rattle.archive_cli.specs.Program.{InitLeaves, WordsLeave}
 use Rattle.archive_cli.specs.Words.{spelled}
-use Rattle.archive_cli.specs.Frames.{line}
 use Rattle.archive_cli.specs.declared.words.Job.TheVariants.{Help, Version, Init, Deliver}
 use Rattle.archive_cli.specs.declared.status.Status.TheVariants as exit
 use Rattle.archive_cli.specs.declared.texts.TheConstants.{HELP, VERSION}
@@ -12,7 +12,7 @@ use Rattle.archive_cli.proofs.program.run.Goals as goal
 
 pub returns-in-None-clause-ends : goal.returns-in-None-clause-ends
 returns-in-None-clause-ends g c =
-    (c.print.result, c.code.ensures, ran-exactly (spelled c.args.words.now) None (line (codes "words not read")) exit.NotRead _ _ _ c.in-None.ensures (λ input. (refl, refl)) c.print.ensures.printed)
+    (c.print.result, c.code.ensures, ran-exactly (spelled c.args.words.now) None (whole_line (codes "words not read")) exit.NotRead _ _ _ c.in-None.ensures (λ input. (refl, refl)) c.print.ensures.printed)
 
 pub returns-in-Some-Help-clause-ends : goal.returns-in-Some-Help-clause-ends
 returns-in-Some-Help-clause-ends g c =

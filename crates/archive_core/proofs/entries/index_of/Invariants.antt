@@ -3,5 +3,5 @@ use Rattle.std.specs.Prelude.{drop}
 use Rattle.archive_core.specs.Kept.{IndexesStored}
 use Rattle.archive_core.proofs.entries.index_of.Given as goal
 
-abbrev pub invariant-loop-place : goal.invariant-loop-place
-invariant-loop-place l = IndexesStored (drop l.place l.entries) l.index
+abbrev pub invariant-loop-i : goal.invariant-loop-i
+invariant-loop-i l = IndexesStored (drop l.i l.entries) l.index

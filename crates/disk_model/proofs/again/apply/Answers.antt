@@ -11,5 +11,5 @@ returns-in-Write c =
     let old = c.args.files.now in
     let new = c.put_filled.new.files in
     on_ok_weaker c.put_filled.result
-    (λ sets other. put_applies old new c.in-Write.name c.in-Write.place c.args.fill c.deref.result.now c.in-Write.bytes (sym c.deref.ensures.value) sets other ∙ ap (apply_file c.args.fill other (file_at old other)) (sym c.in-Write.is))
+    (λ sets other. put_applies old new c.in-Write.name c.in-Write.offset c.args.fill c.deref.result.now c.in-Write.bytes (sym c.deref.ensures.value) sets other ∙ ap (apply_file c.args.fill other (file_at old other)) (sym c.in-Write.is))
     c.put_filled.ensures

@@ -5,7 +5,7 @@ use Rattle.disk_model.proofs.files.put.Goals as goal
 
 pub returns-in-Some-clause-ok : goal.returns-in-Some-clause-ok
 returns-in-Some-clause-ok c =
-    on_ok_weaker c.patch.result (put_found c.args.files.now (c.get_mut.follows.lender c.patch.new.file) c.args.name c.in-Some.file.now c.patch.new.file c.args.place c.args.bytes.now c.in-Some.ensures.value (c.get_mut.follows.holds c.patch.new.file)) c.patch.ensures.ok
+    on_ok_weaker c.patch.result (put_found c.args.files.now (c.get_mut.follows.lender c.patch.new.file) c.args.name c.in-Some.file.now c.patch.new.file c.args.offset c.args.bytes.now c.in-Some.ensures.value (c.get_mut.follows.holds c.patch.new.file)) c.patch.ensures.ok
 
 pub returns-in-Some-clause-err : goal.returns-in-Some-clause-err
 returns-in-Some-clause-err c =
@@ -13,5 +13,5 @@ returns-in-Some-clause-err c =
 
 pub returns-in_ok-insert-in-None-clause-ok : goal.returns-in_ok-insert-in-None-clause-ok
 returns-in_ok-insert-in-None-clause-ok c =
-    put_missing c.get_mut.follows.lender-at-none c.args.files.now c.insert.new.self c.args.name c.in_ok-file-in-None.file c.args.place c.args.bytes.now c.get_mut.follows.holds-at-none c.in-None.ensures.value c.in_ok-insert-in-None.ensures.updates
+    put_missing c.get_mut.follows.lender-at-none c.args.files.now c.insert.new.self c.args.name c.in_ok-file-in-None.file c.args.offset c.args.bytes.now c.get_mut.follows.holds-at-none c.in-None.ensures.value c.in_ok-insert-in-None.ensures.updates
     (c.in_ok-file-in-None.ensures.items_if_clones_equal (λ x y same. same))

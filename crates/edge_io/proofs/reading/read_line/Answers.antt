@@ -10,8 +10,8 @@ returns-in_err-parts c = rw c.from_residual.ensures (λ x is e. Lacks-divided 32
 
 pub returns-in_err-moment : goal.returns-in_err-moment
 returns-in_err-moment c = rw c.from_residual-in_err-moment.ensures (λ x is e. c.in_err-moment.ensures (x.moment) (is.moment)
-    (same_parts 32 c.args.line.now c.in_ok-parts.parts.before.now c.in_ok-parts.parts.behind.now (decimal x.moment) (words_of x.what) c.in_ok-parts.ensures.0 c.in_ok-parts.ensures.1 (decimal-lacks 32 x.moment (omega arith) (omega (arith, is.moment))) e).0)
+    (same_parts 32 c.args.line.now c.in_ok-parts.parts.before.now c.in_ok-parts.parts.after.now (decimal x.moment) (words_of x.what) c.in_ok-parts.ensures.0 c.in_ok-parts.ensures.1 (decimal-lacks 32 x.moment (omega arith) (omega (arith, is.moment))) e).0)
 
 pub returns-in_err-what : goal.returns-in_err-what
 returns-in_err-what c = rw c.from_residual-in_err-what.ensures (λ x is e. c.in_err-what.ensures (x.what) (is.what)
-    (same_parts 32 c.args.line.now c.in_ok-parts.parts.before.now c.in_ok-parts.parts.behind.now (decimal x.moment) (words_of x.what) c.in_ok-parts.ensures.0 c.in_ok-parts.ensures.1 (decimal-lacks 32 x.moment (omega arith) (omega (arith, is.moment))) e).1)
+    (same_parts 32 c.args.line.now c.in_ok-parts.parts.before.now c.in_ok-parts.parts.after.now (decimal x.moment) (words_of x.what) c.in_ok-parts.ensures.0 c.in_ok-parts.ensures.1 (decimal-lacks 32 x.moment (omega arith) (omega (arith, is.moment))) e).1)

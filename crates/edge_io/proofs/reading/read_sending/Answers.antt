@@ -9,8 +9,8 @@ returns-in_err-parts c = rw c.from_residual.ensures (λ x is e. Lacks-divided 32
 
 pub returns-in_err-conn : goal.returns-in_err-conn
 returns-in_err-conn c = rw c.from_residual-in_err-conn.ensures (λ x is e. c.in_err-conn.ensures (x.0) (is.0)
-    (same_parts 32 c.args.words.now c.in_ok-parts.parts.before.now c.in_ok-parts.parts.behind.now (decimal x.0) (decimal x.1) c.in_ok-parts.ensures.0 c.in_ok-parts.ensures.1 (decimal-lacks 32 x.0 (omega arith) (omega (arith, is.0))) e).0)
+    (same_parts 32 c.args.words.now c.in_ok-parts.parts.before.now c.in_ok-parts.parts.after.now (decimal x.0) (decimal x.1) c.in_ok-parts.ensures.0 c.in_ok-parts.ensures.1 (decimal-lacks 32 x.0 (omega arith) (omega (arith, is.0))) e).0)
 
 pub returns-in_err-len : goal.returns-in_err-len
 returns-in_err-len c = rw c.from_residual-in_err-len.ensures (λ x is e. c.in_err-len.ensures (x.1) (is.1)
-    (same_parts 32 c.args.words.now c.in_ok-parts.parts.before.now c.in_ok-parts.parts.behind.now (decimal x.0) (decimal x.1) c.in_ok-parts.ensures.0 c.in_ok-parts.ensures.1 (decimal-lacks 32 x.0 (omega arith) (omega (arith, is.0))) e).1)
+    (same_parts 32 c.args.words.now c.in_ok-parts.parts.before.now c.in_ok-parts.parts.after.now (decimal x.0) (decimal x.1) c.in_ok-parts.ensures.0 c.in_ok-parts.ensures.1 (decimal-lacks 32 x.0 (omega arith) (omega (arith, is.0))) e).1)

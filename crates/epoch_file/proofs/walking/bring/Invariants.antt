@@ -14,4 +14,4 @@ invariant-loop-alloc g l = record {
 }
 
 abbrev pub decreases-loop-alloc : goal.decreases-loop-alloc
-decreases-loop-alloc g l = l.part.end - (l.part.place + length l.window)
+decreases-loop-alloc g l = l.part.end - (l.part.offset + length l.window)

@@ -15,4 +15,4 @@ invariant-loop-alloc g l = record {
 }
 
 abbrev pub decreases-loop-alloc : goal.decreases-loop-alloc
-decreases-loop-alloc g l = l.state.part.end - l.state.part.place
+decreases-loop-alloc g l = l.state.part.end - l.state.part.offset

@@ -27,7 +27,7 @@ loop-epoch-preserved g c =
     let epoch = c.loop-epoch.epoch in
     let next = c.in-Ok.next in
     record {
-      before = c.in-Ok.ensures.behind;
+      before = c.in-Ok.ensures.below;
       up = told_both (λ files. (rs : List Record) → RootFits root → IsReadUpTo root files rs 0 old → IsReadUpTo root files rs epoch now) (ReadsEpoch root epoch now (Ok next))
           (λ files. (rs : List Record) → RootFits root → IsReadUpTo root files rs 0 old → IsReadUpTo root files rs (epoch + 1) next)
           (g.D.Disk.content c.args.disk.now) (g.D.Disk.content c.loop-epoch.disk) inv.reads.same inv.up c.in-Ok.ensures.joined

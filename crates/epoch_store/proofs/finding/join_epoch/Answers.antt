@@ -16,8 +16,8 @@ returns-then-length-eq0-clause-joined g c =
     let none : named_length c.args.root.now c.args.epoch ≡ 0 = ap (λ (p : Place). p.length) (sym c.named_place-length.ensures) ∙ c.if-length-eq0.true in
     told_any (ReadsEpoch c.args.root.now c.args.epoch c.args.joining (Ok c.args.joining)) (g.D.Disk.content c.args.disk.now) (empty_read c.args.root.now c.args.epoch c.args.joining none)
 
-pub returns-then-length-eq0-clause-behind : goal.returns-then-length-eq0-clause-behind
-returns-then-length-eq0-clause-behind g c = all_weaker (λ (e : StoredEntry). e.epoch < c.args.epoch) (λ (e : StoredEntry). e.epoch < c.args.epoch + 1) c.args.joining.entries (λ e less. omega (arith, less)) c.requires.before
+pub returns-then-length-eq0-clause-below : goal.returns-then-length-eq0-clause-below
+returns-then-length-eq0-clause-below g c = all_weaker (λ (e : StoredEntry). e.epoch < c.args.epoch) (λ (e : StoredEntry). e.epoch < c.args.epoch + 1) c.args.joining.entries (λ e less. omega (arith, less)) c.requires.before
 
 pub returns-in-Ok-clause-joined : goal.returns-in-Ok-clause-joined
 returns-in-Ok-clause-joined g c =
@@ -33,11 +33,11 @@ pub returns-in-Err-Damaged-clause-joined : goal.returns-in-Err-Damaged-clause-jo
 returns-in-Err-Damaged-clause-joined g c =
     let root = c.args.root.now in
     let epoch = c.args.epoch in
-    let place = c.in-Err-Damaged.at in
-    let walked : WhereTold (λ k. IsDamagedAt (named_length root epoch) (bytes_of (as_read k (epoch_file_of root epoch))) place) (g.D.Disk.content c.args.disk.now) =
+    let offset = c.in-Err-Damaged.at in
+    let walked : WhereTold (λ k. IsDamagedAt (named_length root epoch) (bytes_of (as_read k (epoch_file_of root epoch))) offset) (g.D.Disk.content c.args.disk.now) =
     rw c.named_file.ensures at (rw c.named_place-length.ensures at (rw c.in-Err-Damaged.field-0-is at c.in-Err-Damaged.ensures.walked)) in
     let same : c.named_place-length.result.length ≡ named_length root epoch = ap (λ (p : Place). p.length) c.named_place-length.ensures in
     let some : 0 < named_length root epoch = (let apart = c.if-length-eq0.false in omega (arith, apart, same)) in
-    told_both (λ files. IsDamagedAt (named_length root epoch) (bytes_of (files (epoch_file_of root epoch))) place) (StopsEpoch root epoch c.args.joining place c.stop_at.result) (ReadsEpoch root epoch c.args.joining (Err c.stop_at.result))
+    told_both (λ files. IsDamagedAt (named_length root epoch) (bytes_of (files (epoch_file_of root epoch))) offset) (StopsEpoch root epoch c.args.joining offset c.stop_at.result) (ReadsEpoch root epoch c.args.joining (Err c.stop_at.result))
     (g.D.Disk.content c.args.disk.now) (g.D.Disk.content c.walk.new.disk) c.walk.ensures.same walked c.stop_at.ensures.stops
-    (λ files damaged stops. left_read root epoch place c.args.joining c.stop_at.result files some stops damaged)
+    (λ files damaged stops. left_read root epoch offset c.args.joining c.stop_at.result files some stops damaged)

@@ -2,7 +2,7 @@ use Rattle.std.proofs.Common.{◌≡◌, ◌≢◌, [], length, ap, arith}
 use Rattle.std.proofs.lemmas.List.{nil_from_length}
 use Rattle.std.proofs.lemmas.Int.{ints}
 use Rattle.std.proofs.lemmas.Bool.Decides.{nat_tests}
-use Rattle.git_objects.proofs.CommitParts.{no_ids, no_person, no_time, no_end, more_behind, parts-found}
+use Rattle.git_objects.proofs.CommitParts.{no_ids, no_person, no_time, no_end, more_after, parts-found}
 use Rattle.git_objects.proofs.commit_reading.read_parts.Goals as goal
 
 pub returns-in_err-tree : goal.returns-in_err-tree
@@ -25,7 +25,7 @@ returns-in_err-committed c = rw c.from_residual-in_err-committed.ensures
 pub returns-then-not-is_empty : goal.returns-then-not-is_empty
 returns-then-not-is_empty c =
     let some : c.in_ok-committed.rest.now ≢ [] = λ e. let none : length c.in_ok-committed.rest.now ≡ 0 = ap length e in grind (arith, nat_tests) in
-    more_behind c.args.content.now c.in_ok-tree.rest.now c.in_ok-author.rest.now c.in_ok-secs.rest.now c.in_ok-author.author.now c.in_ok-author.email.now c.in_ok-committed.subject.now c.in_ok-committed.rest.now
+    more_after c.args.content.now c.in_ok-tree.rest.now c.in_ok-author.rest.now c.in_ok-secs.rest.now c.in_ok-author.author.now c.in_ok-author.email.now c.in_ok-committed.subject.now c.in_ok-committed.rest.now
     c.in_ok-tree.tree c.in_ok-tree.parent c.in_ok-secs.secs c.in_ok-secs.zone c.in_ok-committed.committed
     (record { begins = c.in_ok-tree.ensures }) (record { begins = c.in_ok-author.ensures }) (record { begins = c.in_ok-secs.ensures }) (record { begins = c.in_ok-committed.ensures }) some
 

@@ -10,8 +10,8 @@ use Rattle.mail_address.proofs.items.last_comment.Goals as goal
 
 pub returns : goal.returns
 returns c =
-    let inside = c.behind_last_start-inside.result.now in
+    let inside = c.after_last_start-inside.result.now in
     let len : c.len_before-end.result ≡ len_before CommentEnd (Comment 1) inside = c.len_before-end.ensures.value in
     rw len
     (sym (before_first-marked_by (is_sought CommentEnd) (Comment 1) inside)
-    ∙ ap (λ (marks : List (ℕ × Place)). bytes_of (before_first (is_sought CommentEnd) marks)) c.behind_last_start-inside.ensures)
+    ∙ ap (λ (marks : List (ℕ × Place)). bytes_of (before_first (is_sought CommentEnd) marks)) c.after_last_start-inside.ensures)

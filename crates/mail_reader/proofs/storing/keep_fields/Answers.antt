@@ -2,13 +2,13 @@ use Rattle.std.proofs.Common.{◌≡◌, ◌++◌, [], sym, ap, ◌∙◌, rules
 use Rattle.std.proofs.lemmas.List.{nil_from_length, append-nil}
 use Rattle.mail_reader.specs.Stored.{clean_lines}
 use Rattle.mail_reader.proofs.LineEnds.{clean_lines-none}
-use Rattle.mail_reader.proofs.KeptLines.{kept_from-start, behind_from-start}
+use Rattle.mail_reader.proofs.KeptLines.{kept_from-start, after_from-start}
 use Rattle.mail_reader.proofs.storing.keep_fields.Goals as goal
 
 pub loop-place-init : goal.loop-place-init
 loop-place-init c = record {
   kept = ap (λ t. c.args.text.now ++ t) (kept_from-start (clean_lines c.args.bytes.now));
-  after = behind_from-start (clean_lines c.args.bytes.now);
+  after = after_from-start (clean_lines c.args.bytes.now);
 }
 
 pub returns-clause-fields : goal.returns-clause-fields

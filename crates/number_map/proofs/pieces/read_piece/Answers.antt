@@ -4,9 +4,9 @@ use Rattle.number_map.proofs.Standing.{one_more, piece_refused, begins_of}
 use Rattle.number_map.proofs.pieces.read_piece.Goals as goal
 
 pub returns-in-Err-clause-read : goal.returns-in-Err-clause-read
-returns-in-Err-clause-read c = λ map behind stands enough.
+returns-in-Err-clause-read c = λ map after stands enough.
     let inv = c.loop.invariant in
-    piece_refused c.in-Err.refusal c.args.wanted c.loop.counter c.args.lines.now c.loop.lines c.read_next.new.lines c.args.bytes.now c.loop.rest.now map behind c.loop-test.true inv.count inv.left (inv.stands map behind stands) enough c.in-Err.ensures.next
+    piece_refused c.in-Err.refusal c.args.wanted c.loop.counter c.args.lines.now c.loop.lines c.read_next.new.lines c.args.bytes.now c.loop.rest.now map after c.loop-test.true inv.count inv.left (inv.stands map after stands) enough c.in-Err.ensures.next
 
 pub loop-preserved : goal.loop-preserved
 loop-preserved c =
@@ -15,10 +15,10 @@ loop-preserved c =
     record {
       count = omega (arith, inv.count, c.in-Ok.ensures.size);
       left = omega (arith, inv.left, c.in-Ok.ensures.whole, c.split_at.ensures.back_len);
-      stands = λ map behind stands. rw rest (one_more c.loop.lines c.read_next.new.lines c.loop.rest.now behind map (inv.stands map behind stands) c.in-Ok.ensures.next);
+      stands = λ map after stands. rw rest (one_more c.loop.lines c.read_next.new.lines c.loop.rest.now after map (inv.stands map after stands) c.in-Ok.ensures.next);
     }
 
 pub returns-clause-read : goal.returns-clause-read
-returns-clause-read c = λ map behind stands enough.
+returns-clause-read c = λ map after stands enough.
     let inv = c.loop.invariant in
-    (omega (arith, inv.count, c.loop-test.false, c.loop.auto.counter-end), begins_of c.loop.lines (c.loop.rest.now ++ behind) map (inv.stands map behind stands))
+    (omega (arith, inv.count, c.loop-test.false, c.loop.auto.counter-end), begins_of c.loop.lines (c.loop.rest.now ++ after) map (inv.stands map after stands))

@@ -6,5 +6,5 @@ abbrev pub invariant-loop : goal.invariant-loop
 invariant-loop l = record {
   count : length l.lines ≡ length l.fn.lines + l.counter;
   left : length l.rest + 28 * l.counter ≡ length l.bytes;
-  stands : (map behind : List ℕ) → Stands l.fn.lines (l.bytes ++ behind) map → Stands l.lines (l.rest ++ behind) map;
+  stands : (map after : List ℕ) → Stands l.fn.lines (l.bytes ++ after) map → Stands l.lines (l.rest ++ after) map;
 }

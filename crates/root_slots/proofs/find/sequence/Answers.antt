@@ -4,4 +4,4 @@ use Rattle.root_slots.proofs.Bodies.{sequence_slice}
 use Rattle.root_slots.proofs.find.sequence.Goals as goal
 
 pub returns : goal.returns
-returns c = sequence_slice c.args.file.now (slot_number c.args.slot) c.body-start.result c.number64.result.0 c.body-start.ensures.place c.number64.ensures.value
+returns c = sequence_slice c.args.file.now (slot_number c.args.slot) c.body-start.result c.number64.result.0 c.body-start.ensures.offset c.number64.ensures.value

@@ -17,6 +17,6 @@ returns-clause-read c = λ text rest valid is.
     let bytes = c.args.bytes.now in
     let parts = name_parts bytes rest text valid is in
     let front = c.split_at-2.ensures.front ∙ ap (λ (l : List ℕ). take 1 l) c.split_at.ensures.front in
-    let behind = c.split_at-2.ensures.back ∙ ap (λ (l : List ℕ). drop 1 l) c.split_at.ensures.front in
-    let given = text_is c.split_at-2.result.0.now c.split_at-2.result.1.now bytes rest text front behind parts in
-    (found_is c.read.result _ text given valid c.read.ensures.found c.read.ensures.none, c.split_at.ensures.back ∙ parts.behind)
+    let after = c.split_at-2.ensures.back ∙ ap (λ (l : List ℕ). drop 1 l) c.split_at.ensures.front in
+    let given = text_is c.split_at-2.result.0.now c.split_at-2.result.1.now bytes rest text front after parts in
+    (found_is c.read.result _ text given valid c.read.ensures.found c.read.ensures.none, c.split_at.ensures.back ∙ parts.after)

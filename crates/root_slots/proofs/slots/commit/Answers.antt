@@ -4,7 +4,7 @@ use Rattle.std.proofs.lemmas.Result.{on_ok_weaker}
 use Rattle.disk_model.specs.Moments.{joined, weaker}
 use Rattle.root_slots.specs.Spelling.{spelling}
 use Rattle.root_slots.specs.Sizes.{sequence-spelling}
-use Rattle.root_slots.specs.Slots.{slot_number, slot_below, body_place, sequence_of, OthersStay, IsOldOrNew}
+use Rattle.root_slots.specs.Slots.{slot_number, slot_below, body_offset, sequence_of, OthersStay, IsOldOrNew}
 use Rattle.root_slots.proofs.Phases.{during_shut, is_shut, during_fill, is_filled, during_raise, is_raised, is_ready, committed, has_new_root, size_stays}
 use Rattle.root_slots.proofs.Others.{others_writing, others_written}
 use Rattle.root_slots.proofs.slots.commit.Goals as goal
@@ -113,7 +113,7 @@ returns-in_err-fill-clause-elsewhere g c =
     let k1 = g.D.Disk.content c.shut.new.disk in
     joined g.D.Disk.moment g.D.Disk.left_since disk c.shut.new.disk c.fill.new.disk _ _ (OthersStay k0) c.shut.ensures.any_moment c.fill.ensures.any_moment
     (λ image. others_writing slot 1 k0 image)
-    (λ image writing. others_written slot (0 ∷ []) k0 k1 image (g.met.D.Disk.reads_fit disk) c.in_ok-shut.ensures.written (others_writing (body_place slot) 1536 k1 image writing))
+    (λ image writing. others_written slot (0 ∷ []) k0 k1 image (g.met.D.Disk.reads_fit disk) c.in_ok-shut.ensures.written (others_writing (body_offset slot) 1536 k1 image writing))
 
 pub returns-clause-elsewhere : goal.returns-clause-elsewhere
 returns-clause-elsewhere g c =
@@ -127,7 +127,7 @@ returns-clause-elsewhere g c =
     let told1 = c.in_ok-shut.ensures.written in
     let first = joined g.D.Disk.moment g.D.Disk.left_since disk c.shut.new.disk c.fill.new.disk _ _ (OthersStay k0) c.shut.ensures.any_moment c.fill.ensures.any_moment
     (λ image. others_writing slot 1 k0 image)
-    (λ image writing. others_written slot (0 ∷ []) k0 k1 image fit0 told1 (others_writing (body_place slot) 1536 k1 image writing)) in
+    (λ image writing. others_written slot (0 ∷ []) k0 k1 image fit0 told1 (others_writing (body_offset slot) 1536 k1 image writing)) in
     joined g.D.Disk.moment g.D.Disk.left_since disk c.fill.new.disk c.raise.new.disk _ _ (OthersStay k0) first c.raise.ensures.any_moment
     (λ image stay. stay)
-    (λ image writing. others_written slot (0 ∷ []) k0 k1 image fit0 told1 (others_written (body_place slot) (spelling c.args.root.now) k1 k2 image fit1 c.in_ok-fill.ensures.written (others_writing slot 1 k2 image writing)))
+    (λ image writing. others_written slot (0 ∷ []) k0 k1 image fit0 told1 (others_written (body_offset slot) (spelling c.args.root.now) k1 k2 image fit1 c.in_ok-fill.ensures.written (others_writing slot 1 k2 image writing)))

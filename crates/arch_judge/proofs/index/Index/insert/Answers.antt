@@ -4,7 +4,7 @@ use Rattle.std.specs.Map.{lookup}
 use Rattle.std.specs.BTreeMap.{is_at}
 use Rattle.std.specs.Cmp.Lexicographic.{slice_cmp}
 use Rattle.std.specs.Ordering.{nat_cmp}
-use Rattle.arch_judge.proofs.Maps.{found_behind, taken_back}
+use Rattle.arch_judge.proofs.Maps.{found_after, taken_back}
 use Rattle.arch_judge.proofs.index.Index.insert.Goals as goal
 
 pub returns-in-Err-clause-err : goal.returns-in-Err-clause-err
@@ -15,6 +15,6 @@ returns-in-Err-clause-err c = record {
 
 pub returns-clause-ok : goal.returns-clause-ok
 returns-clause-ok c = record {
-  owners = λ q. found_behind (λ (k : Vec ℕ). k.items) q c.args.id c.args.owner c.args.self.now.owners.entries c.insert-2.new.self.entries c.in_default.ensures.entries;
-  blobs = λ q. found_behind (λ (k : List ℕ). k) q c.args.blob.0 c.args.owner.number c.args.self.now.blobs.entries c.insert.new.self.entries c.in_ok-insert.ensures.entries;
+  owners = λ q. found_after (λ (k : Vec ℕ). k.items) q c.args.id c.args.owner c.args.self.now.owners.entries c.insert-2.new.self.entries c.in_default.ensures.entries;
+  blobs = λ q. found_after (λ (k : List ℕ). k) q c.args.blob.0 c.args.owner.number c.args.self.now.blobs.entries c.insert.new.self.entries c.in_ok-insert.ensures.entries;
 }

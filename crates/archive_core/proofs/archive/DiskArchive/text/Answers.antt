@@ -9,8 +9,8 @@ pub returns-in-Some-clause-text : goal.returns-in-Some-clause-text
 returns-in-Some-clause-text g c = λ a own.
     let k = g.D.Disk.content c.args.disk.now in
     let same : c.stored.result.now ≡ c.args.self.now.entries = c.stored.ensures ∙ ap (λ (v : View). v.entries) c.self.view_is in
-    let at = subst (λ (l : List StoredEntry). IsNumberAt l c.args.n c.in-Some.place) same c.in-Some.ensures.place in
-    text_gives c.args.self.now a k c.args.n c.in-Some.place c.args.into.now c.text.new.into c.text.result own at
+    let at = subst (λ (l : List StoredEntry). IsNumberAt l c.args.n c.in-Some.index) same c.in-Some.ensures.index in
+    text_gives c.args.self.now a k c.args.n c.in-Some.index c.args.into.now c.text.new.into c.text.result own at
     (c.text.ensures.archive a (subst (λ (v : View). IsStoreOf v a k) (sym c.self.view_is) own))
 
 pub returns-in-None-clause-kept : goal.returns-in-None-clause-kept
@@ -19,6 +19,6 @@ returns-in-None-clause-kept g c = wanting_kept c.args.self.now.entries c.args.n 
 pub returns-in-Some-clause-kept : goal.returns-in-Some-clause-kept
 returns-in-Some-clause-kept g c =
     let same : c.stored.result.now ≡ c.args.self.now.entries = c.stored.ensures ∙ ap (λ (v : View). v.entries) c.self.view_is in
-    let at = subst (λ (l : List StoredEntry). IsNumberAt l c.args.n c.in-Some.place) same c.in-Some.ensures.place in
-    text_kept c.args.self.now.entries c.args.n c.in-Some.place c.args.into.now c.text.new.into c.text.result at
-    (λ s here. c.text.ensures.text s (subst (λ (v : View). slice_get v.entries c.in-Some.place ≡ Some s) (sym c.self.view_is) here))
+    let at = subst (λ (l : List StoredEntry). IsNumberAt l c.args.n c.in-Some.index) same c.in-Some.ensures.index in
+    text_kept c.args.self.now.entries c.args.n c.in-Some.index c.args.into.now c.text.new.into c.text.result at
+    (λ s here. c.text.ensures.text s (subst (λ (v : View). slice_get v.entries c.in-Some.index ≡ Some s) (sym c.self.view_is) here))

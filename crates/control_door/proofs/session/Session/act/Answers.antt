@@ -5,8 +5,8 @@ use Rattle.control_door.proofs.session.Session.act.Goals as goal
 
 pub returns-then-not-opened-clause-turn : goal.returns-then-not-opened-clause-turn
 returns-then-not-opened-clause-turn g c = rw (c.reopened.ensures, c.if-not-opened.true)
-    (turns-opened g.K.Keep.holds g.K.Keep.stale g.K.Keep.clock g.K.Keep.leaves c.args.moment c.args.self.now c.args.piece.now (request_of c.args.self.now c.in-Whole.request) c.in-Whole.taken _ _ _ _ (continues c.open_again.result) c.in-Whole.ensures.stands
-    c.open_again.ensures.acts)
+    (turns-opened g.K.Keep.holds g.K.Keep.stale g.K.Keep.clock g.K.Keep.leaves c.args.moment c.args.self.now c.args.piece.now (request_of c.args.self.now c.in-Whole.request) c.in-Whole.taken _ _ _ _ (continues c.reopen.result) c.in-Whole.ensures.stands
+    c.reopen.ensures.acts)
 
 pub returns-else-not-opened-clause-turn : goal.returns-else-not-opened-clause-turn
 returns-else-not-opened-clause-turn g c = rw (c.went.ensures, c.if-not-opened.false)

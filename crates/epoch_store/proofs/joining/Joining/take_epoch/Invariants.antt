@@ -11,6 +11,6 @@ use Rattle.epoch_store.proofs.joining.Joining.take_epoch.Given as goal
 abbrev pub invariant-loop-entry : goal.invariant-loop-entry
 invariant-loop-entry l =
     AreBefore (l.epoch + 1) l.joining.entries
-    × ((rs behind : List Record) (others : List Entry) (here : List EpochEntry) → Holds l.fn.self rs behind others → AreEpochEntries here → l.fn.seen ≡ seen_from 8 None here
+    × ((rs after : List Record) (others : List Entry) (here : List EpochEntry) → Holds l.fn.self rs after others → AreEpochEntries here → l.fn.seen ≡ seen_from 8 None here
     → Comes l.joining (into_iter_items l.entry-iterator) rs others l.epoch here)
     × (into_iter_len l.entry-iterator ≡ length (into_iter_items l.entry-iterator))

@@ -2,7 +2,7 @@
 use Rattle.std.proofs.Common.{◌≤◌, ◌<◌, arith, subst, get_or}
 use Rattle.root_slots.specs.Valid.{no_place}
 use Rattle.epoch_store.specs.Stores.{View}
-use Rattle.epoch_store.proofs.Ends.{next_behind}
+use Rattle.epoch_store.proofs.Ends.{next_after}
 use Rattle.epoch_store.proofs.store.Store.next_place.Goals as goal
 
 pub returns-clause-next : goal.returns-clause-next
@@ -12,4 +12,4 @@ returns-clause-next c = λ a keeps.
     let other = c.if-end-eq-LAST_EPOCH.false in
     let below : end_.epoch < 63 = omega (arith, small, other) in
     rw c.place_in-2.ensures
-    (next_behind c.args.self.now a end_ keeps (c.end-end.ensures.end a keeps) below (subst (λ (v : View). v.root.config.limit ≤ (get_or v.root.epochs end_.epoch no_place).length) c.self.view_is c.if-place-self.false))
+    (next_after c.args.self.now a end_ keeps (c.end-end.ensures.end a keeps) below (subst (λ (v : View). v.root.config.limit ≤ (get_or v.root.epochs end_.epoch no_place).length) c.self.view_is c.if-place-self.false))

@@ -91,10 +91,10 @@ returns-clause-sizes g c =
     let root_is : c.self.inside.root ≡ v.root = ap (λ (w : View). w.root) c.self.view_is in
     let line : List ℕ = record_bytes (record { number = c.self.inside.root.next; epoch = c.epoch_file.result.number; blob = blob_id_of e.text.now }) in
     let file : c.map_file.result ≡ map_file_of v.root = c.map_file.ensures ∙ ap map_file_of root_is in
-    let second : record { file = c.map_file.result; place = c.self.inside.root.map.length } ≡ record { file = map_file_of v.root; place = v.root.map.length } = (λ i. record { file = file i; place = (root_is i).map.length }) in
-    let did : Told (AreAppended (epoch_part p) (appended p.length e) (record { file = map_file_of v.root; place = v.root.map.length }) line) k0 k2 =
+    let second : record { file = c.map_file.result; offset = c.self.inside.root.map.length } ≡ record { file = map_file_of v.root; offset = v.root.map.length } = (λ i. record { file = file i; offset = (root_is i).map.length }) in
+    let did : Told (AreAppended (epoch_part p) (appended p.length e) (record { file = map_file_of v.root; offset = v.root.map.length }) line) k0 k2 =
     subst (λ (q : Part). Told (AreAppended (epoch_part p) (appended p.length e) q line) k0 k2) second
-    (subst (λ (q : FileName). Told (AreAppended (record { file = q; place = p.length }) (appended p.length e) (record { file = c.map_file.result; place = c.self.inside.root.map.length }) line) k0 k2) c.epoch_file.ensures c.in_ok-written.ensures.appended) in
+    (subst (λ (q : FileName). Told (AreAppended (record { file = q; offset = p.length }) (appended p.length e) (record { file = c.map_file.result; offset = c.self.inside.root.map.length }) line) k0 k2) c.epoch_file.ensures c.in_ok-written.ensures.appended) in
     let ends : end_ ≡ p.length + length (appended p.length e) = ap (λ (w : Written). w.end) c.in_ok-written.ensures.written in
     let inside : WhereTold (IsAtMostLength (epoch_name p.epoch p.gen_) p.length) k0 = place_inside v p c.requires.place c.requires.small k0 c.requires.sizes in
     let count : length v.root.epochs ≡ 64 = c.next_root-root.ensures.count in

@@ -5,7 +5,7 @@ use Rattle.mail_commits.specs.Entries.{commit_id, entry_bytes, message_kind}
 use Rattle.mem_archive.specs.Memory.{front_bytes}
 use Rattle.mem_archive.proofs.EpochSteps.{pushed-one, pushed-else, pushed-all}
 use Rattle.mem_archive.proofs.memory.MemArchive.push_entries.Goals as goal
-use Rattle.mem_archive.proofs.memory.MemArchive.push_entries.Goals.{then-kept-epoch+in_ok-push_behind, else-kept-epoch}
+use Rattle.mem_archive.proofs.memory.MemArchive.push_entries.Goals.{then-kept-epoch+in_ok-push_after, else-kept-epoch}
 
 pub loop-kept-preserved : goal.loop-kept-preserved
 loop-kept-preserved c =
@@ -13,14 +13,14 @@ loop-kept-preserved c =
     let below : c.loop-kept.kept-index < length c.self.inside.kept.items = rw items at c.loop-kept-test.true in
     let at : c.kept-item.result ≡ get_or c.self.inside.kept.items c.loop-kept.kept-index c.kept-item.result = rw items at c.kept-item.is in
     elim c.if-kept-epoch.branch [
-      | then-kept-epoch+in_ok-push_behind w ↦ (
+      | then-kept-epoch+in_ok-push_after w ↦ (
           let text : w.as_slice.result.now ≡ c.kept-item.result.text = w.as_slice.ensures in
           let same : c.kept-item.result.epoch ≡ c.args.epoch = grind (arith, nat_tests, w.if-kept-epoch.true) in
           let more = pushed-one c.self.inside.kept.items c.args.epoch c.args.into.now c.loop-kept.kept-index c.kept-item.result c.loop-kept.into c.loop-kept.parent below at same c.loop-kept.invariant in
           let into : c.if-kept-epoch.into ≡ c.loop-kept.into ++ (front_bytes c.loop-kept.parent ++ entry_bytes message_kind c.kept-item.result.text c.kept-item.result.moment c.loop-kept.parent) =
-          w.into-is ∙ w.in_ok-push_behind.ensures.ok ∙ ap (λ (t : List ℕ). c.loop-kept.into ++ (front_bytes c.loop-kept.parent ++ entry_bytes message_kind t c.kept-item.result.moment c.loop-kept.parent)) text in
+          w.into-is ∙ w.in_ok-push_after.ensures.ok ∙ ap (λ (t : List ℕ). c.loop-kept.into ++ (front_bytes c.loop-kept.parent ++ entry_bytes message_kind t c.kept-item.result.moment c.loop-kept.parent)) text in
           let parent : c.if-kept-epoch.parent ≡ Some (commit_id message_kind c.kept-item.result.text c.kept-item.result.moment c.loop-kept.parent) =
-          w.parent-is ∙ ap (λ (i : Id20). Some i) w.in_ok-push_behind.ensures.id ∙ ap (λ (t : List ℕ). Some (commit_id message_kind t c.kept-item.result.moment c.loop-kept.parent)) text in
+          w.parent-is ∙ ap (λ (i : Id20). Some i) w.in_ok-push_after.ensures.id ∙ ap (λ (t : List ℕ). Some (commit_id message_kind t c.kept-item.result.moment c.loop-kept.parent)) text in
           (into ∙ more.0, parent ∙ more.1))
       | else-kept-epoch w ↦ (
           let other : (c.kept-item.result.epoch == c.args.epoch) ≡ false = grind (arith, nat_tests, w.if-kept-epoch.false) in

@@ -1,6 +1,6 @@
 use Rattle.epoch_file.proofs.Looks.{sees-by_length, sees-no_length}
 use Rattle.std.proofs.Common.{◌<◌, ◌^◌, rules}
-use Rattle.epoch_file.proofs.sight.look_behind.Goals as goal
+use Rattle.epoch_file.proofs.sight.look_at_commit.Goals as goal
 
 pub returns-in-Some : goal.returns-in-Some
 returns-in-Some c =

@@ -1,6 +1,6 @@
 use Rattle.std.proofs.Common.{refl}
 use Rattle.control_door.proofs.Answering.{opening-found}
-use Rattle.control_door.proofs.answers.open_again.Goals as goal
+use Rattle.control_door.proofs.answers.reopen.Goals as goal
 
 pub returns-in-Ok-clause-acts : goal.returns-in-Ok-clause-acts
 returns-in-Ok-clause-acts g c = λ s bytes fits.

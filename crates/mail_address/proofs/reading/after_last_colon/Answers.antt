@@ -1,7 +1,7 @@
 use Rattle.std.proofs.Common.{◌+◌}
 use Rattle.std.proofs.lemmas.List.{take_rest}
 use Rattle.mail_address.proofs.Parting.{split_last-found, split_last-missing}
-use Rattle.mail_address.proofs.reading.behind_last_colon.Goals as goal
+use Rattle.mail_address.proofs.reading.after_last_colon.Goals as goal
 
 pub returns-in-Some : goal.returns-in-Some
 returns-in-Some c =
