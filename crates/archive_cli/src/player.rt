@@ -13,11 +13,12 @@ use archive_core::Engine;
 use control_door::Session;
 use disk_model::MemDisk;
 use edge_io::{Event, MemSink, Script, What};
+use mem_archive::MemArchive;
 use std::alloc::Global;
 use std::marker::Model;
 
 /// A keeper that tells its disk's count of faults.
-pub(crate) trait CountedKeep: Keep {
+pub trait CountedKeep: Keep {
     /// Returns the disk's count of faults.
     fn failed(&self) -> u64
         ensures { result ≡ Self.faults self.now };
@@ -26,6 +27,12 @@ pub(crate) trait CountedKeep: Keep {
 impl CountedKeep for Engine<MemDisk> {
     fn failed(&self) -> u64 {
         self.disk().failed()
+    }
+}
+
+impl CountedKeep for MemArchive {
+    fn failed(&self) -> u64 {
+        0
     }
 }
 

@@ -234,7 +234,7 @@ fn replay_script<O: Sink>(alloc: Global, config: Config, events: &Script, out: &
 }
 
 /// Plays a script over a keeper, and prints what its events write.
-pub(crate) fn play_script<K: CountedKeep + Drop, O: Sink>(
+pub fn play_script<K: CountedKeep + Drop, O: Sink>(
     alloc: Global,
     keep: K,
     events: &Script,
@@ -279,7 +279,7 @@ fn print_bad<O: Sink>(event: u64, out: &mut O) -> Status
 }
 
 /// Prints that memory ran out.
-pub(crate) fn print_no_memory<O: Sink>(out: &mut O) -> Status
+pub fn print_no_memory<O: Sink>(out: &mut O) -> Status
     ensures printed { Printed (Exactly (whole_line (codes "12 no memory")) Status.Memory) result
         (O.taken out.old) (O.faults out.old) (O.taken out.new) (O.faults out.new) }
     ensures sink { O.alike out.old out.new }

@@ -27,7 +27,7 @@ pub enum Status {
 
 impl Status {
     /// Returns the number of the status.
-    pub(crate) fn code(self) -> u8
+    pub fn code(self) -> u8
         ensures { result ≡ code_of self }
     {
         match self {

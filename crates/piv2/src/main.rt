@@ -2,22 +2,11 @@
 #![tactic(auto)]
 
 mod arguments;
-mod disk_commands;
-mod frames;
-mod laws;
-mod outcome;
-mod player;
-mod program;
-mod reading;
-mod status;
-mod texts;
-mod words;
 
 use arch_base::NoMemory;
+use archive_cli::{Status, print_no_memory};
 use arguments::run_arguments;
-use program::print_no_memory;
 use real_edges::{FolderDisk, StdSink, StdSource, SystemClock};
-use status::Status;
 use std::process::ExitCode;
 use std::{env, io};
 
@@ -69,10 +58,3 @@ fn explain(
         Err(NoMemory) => eprintln!(rt; "piv2: {edge}there is no memory to say why it failed"),
     }
 }
-
-#[cfg(test)]
-mod disk_tests;
-#[cfg(test)]
-mod replay_tests;
-#[cfg(test)]
-mod tests;

@@ -3,21 +3,14 @@
 ghost use Rattle.std.specs.Prelude.{◌≤◌, IfSome};
 ghost use Rattle.arch_base.specs.Configs.{IsConfig};
 
-use crate::player::CountedKeep;
-use crate::program::play_script;
-use crate::tests::{Due, WORKED, numbers, ran};
+use crate::run_tests::{Due, WORKED, numbers, ran};
 use arch_base::{Config, Name, Numbers};
+use archive_cli::play_script;
 use archive_core::Engine;
 use disk_model::MemDisk;
 use edge_io::{MemSink, script};
 use mem_archive::MemArchive;
 use std::alloc::Global;
-
-impl CountedKeep for MemArchive {
-    fn failed(&self) -> u64 {
-        0
-    }
-}
 
 /// Returns the settings of a script.
 fn settings(limit: u64, max: u32) -> Option<Config>

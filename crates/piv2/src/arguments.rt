@@ -1,6 +1,6 @@
 //! The words of the command line, as the system hands them over.
-use crate::program::{print_no_memory, run};
 use arch_base::NoMemory;
+use archive_cli::{print_no_memory, run};
 use disk_model::Disk;
 use edge_io::{Clock, Sink, Source};
 use std::alloc::Global;

@@ -1,8 +1,7 @@
 //! Runs of the program over an input and an output in memory.
 use crate::disk_tests::Still;
-use crate::program::run;
-use crate::words::{Job, read_words};
 use arch_base::{Bytes, Config, Numbers};
+use archive_cli::{Job, read_words, run};
 use disk_model::MemDisk;
 use edge_io::{MemSink, MemSource, Source, SourceFault};
 use std::alloc::Global;

@@ -1,8 +1,8 @@
 //! Runs of the program over a disk in memory: an archive is made, messages are delivered, and it is
 //! checked.
-use crate::program::run;
-use crate::tests::{Due, bytes, numbers};
+use crate::run_tests::{Due, bytes, numbers};
 use arch_base::{NoMemory, Numbers};
+use archive_cli::run;
 use disk_model::{Disk, FileKind, FileName, FuseDisk, MemDisk};
 use edge_io::{Clock, ClockFault, MemSink, MemSource};
 use std::alloc::Global;

@@ -1,0 +1,10 @@
+//! Tests of the program's commands (`archive_cli`), by its public calls alone: over disks, inputs and
+//! outputs in memory, whole and failing.
+#![tactic(auto)]
+
+#[cfg(test)]
+mod disk_tests;
+#[cfg(test)]
+mod replay_tests;
+#[cfg(test)]
+mod run_tests;
