@@ -14,10 +14,9 @@ mod open_file;
 mod std_sink;
 mod std_source;
 mod system_clock;
-#[cfg(test)]
-mod tests;
 
 pub use folder_disk::FolderDisk;
+pub use names::{name_of, path_in};
 pub use std_sink::StdSink;
 pub use std_source::StdSource;
 pub use system_clock::SystemClock;

@@ -7,7 +7,7 @@ use std::alloc::{AllocError, Global};
 ///
 /// The last part is `root` for the root of number 0 and generation 0, `map.GEN` and `cache.GEN` for
 /// a map and a cache of number 0, and `KIND-N.GEN` for every other file, as `epoch-N.GEN`.
-pub(crate) fn path_in(alloc: Global, folder: &str, name: FileName) -> Result<String, AllocError> {
+pub fn path_in(alloc: Global, folder: &str, name: FileName) -> Result<String, AllocError> {
     let word = word_of(name.kind);
     let FileName { number, gen_, .. } = name;
     match name.kind {
@@ -30,7 +30,7 @@ fn word_of(kind: FileKind) -> &'static str {
 }
 
 /// Returns the name that the last part of a path spells, or `None` if it spells none.
-pub(crate) fn name_of(text: &str) -> Option<FileName> {
+pub fn name_of(text: &str) -> Option<FileName> {
     if text == "root" {
         return Some(FileName {
             kind: FileKind::Root,

@@ -1,15 +1,12 @@
-//! Tests of the edges on real folders, and on readers, printers and clocks that fail.
+//! Tests of the disk over real folders.
 ghost use Rattle.std.specs.Prelude.{◌≤◌, length};
 
-use crate::names::{name_of, path_in};
-use crate::{FolderDisk, StdSink, StdSource, SystemClock};
 use arch_base::NoMemory;
 use disk_model::{Disk, DiskFault, FileKind, FileName};
-use edge_io::{Clock, ClockFault, Sink, SinkFault};
+use real_edges::{FolderDisk, name_of, path_in};
 use std::alloc::Global;
-use std::fmt::Display;
 use std::fs::{self, File, Permissions};
-use std::io::{self, ErrorKind, Print};
+use std::io;
 use std::os::unix::fs::{PermissionsExt, symlink};
 use std::test::Fail;
 use std::time::Duration;
@@ -334,7 +331,7 @@ fn other(rt: &HostRuntime, path: &str) -> Result<FolderDisk, NoMemory> {
 }
 
 /// Returns whether a cause has these words.
-fn is_told(cause: Option<String>, words: &str) -> bool {
+pub(crate) fn is_told(cause: Option<String>, words: &str) -> bool {
     match cause {
         Some(text) => text.as_str() == words,
         None => false,
@@ -559,131 +556,5 @@ fn a_folder_above_that_may_not_be_read(rt: HostRuntime) -> Result<(), Fail> {
     let used = File::open(&rt, "above").is_ok() || is_used_below(&rt)?;
     permit(&rt, "above", 0o700)?;
     assert!(rt; used);
-    Ok(())
-}
-
-/// Returns whether a clock gives moments after 2023-11, the second not before the first.
-fn goes_on<C: Clock>(clock: &mut C) -> Result<bool, ClockFault> {
-    let first = clock.now()?;
-    let second = clock.now()?;
-    Ok(first > 1_700_000_000 && second >= first)
-}
-
-#[test]
-fn the_clock_gives_a_moment(rt: HostRuntime) -> Result<(), Fail> {
-    let mut clock = SystemClock::new(&rt, rt.alloc())?;
-    assert!(rt; goes_on(&mut clock)?);
-    Ok(())
-}
-
-/// A clock that stands still, or can't be read.
-#[derive(Drop)]
-struct Stands(Option<u64>);
-
-impl std::time::Clock for Stands {
-    fn monotonic(&self) -> io::Result<Duration> {
-        self.since_1970()
-    }
-
-    fn since_1970(&self) -> io::Result<Duration> {
-        match self.0 {
-            Some(seconds) => Ok(Duration::from_secs(seconds)),
-            None => Err(ErrorKind::Other.into()),
-        }
-    }
-}
-
-/// A time in seconds since 1970, if it can be read, and what the clock returns of it.
-#[derive(Clone, Copy)]
-struct Time {
-    seconds: Option<u64>,
-    wanted: Result<u64, ClockFault>,
-}
-
-/// The first and the last moment, times after it, and one that can't be read.
-const TIMES: [Time; 5] = [
-    Time {
-        seconds: Some(0),
-        wanted: Ok(0),
-    },
-    Time {
-        seconds: Some(253_402_300_799),
-        wanted: Ok(253_402_300_799),
-    },
-    Time {
-        seconds: Some(253_402_300_800),
-        wanted: Err(ClockFault),
-    },
-    Time {
-        seconds: Some(u64::MAX),
-        wanted: Err(ClockFault),
-    },
-    Time {
-        seconds: None,
-        wanted: Err(ClockFault),
-    },
-];
-
-/// Returns whether a clock that stands at a time returns what it should, and tells a cause only of
-/// a fault.
-fn is_right_at(alloc: Global, time: &Time) -> Result<bool, NoMemory> {
-    let stands = Stands(time.seconds);
-    let mut clock = SystemClock::new(&stands, alloc)?;
-    let found = clock.now();
-    let cause = clock.cause(alloc)?;
-    Ok(found == time.wanted && cause.is_none() == time.wanted.is_ok())
-}
-
-#[test]
-fn a_time_that_is_no_moment_is_a_fault(rt: HostRuntime) -> Result<(), Fail> {
-    for time in &TIMES {
-        assert!(rt; is_right_at(rt.alloc(), time)?);
-    }
-    Ok(())
-}
-
-/// A printer whose every call fails.
-#[derive(Drop)]
-struct Closed;
-
-impl Print for Closed {
-    fn print<D: Display + Drop>(&self, _value: D) -> io::Result<()> {
-        Err(ErrorKind::BrokenPipe.into())
-    }
-
-    fn println<D: Display + Drop>(&self, _value: D) -> io::Result<()> {
-        Err(ErrorKind::BrokenPipe.into())
-    }
-
-    fn write_all(&self, _bytes: &[u8]) -> io::Result<()> {
-        Err(ErrorKind::BrokenPipe.into())
-    }
-}
-
-/// Returns whether a failed write is a fault with its cause told.
-fn is_fault_told(sink: &mut StdSink<&Closed>, alloc: Global) -> Result<bool, NoMemory> {
-    let before = sink.cause(alloc)?.is_none();
-    let failed = sink.write(b"a") == Err(SinkFault);
-    Ok(before && failed && is_told(sink.cause(alloc)?, "broken pipe"))
-}
-
-#[test]
-fn what_is_not_printed_is_a_fault(rt: HostRuntime) -> Result<(), Fail> {
-    let closed = Closed;
-    let mut sink = StdSink::new(&closed, rt.alloc())?;
-    assert!(rt; is_fault_told(&mut sink, rt.alloc())?);
-    Ok(())
-}
-
-/// Returns whether a write of no bytes to the standard output is taken.
-fn takes_nothing(rt: &HostRuntime) -> Result<bool, NoMemory> {
-    let mut sink = StdSink::new(rt, rt.alloc())?;
-    Ok(sink.write(b"") == Ok(()))
-}
-
-#[test]
-fn the_standard_streams_are_opened(rt: HostRuntime) -> Result<(), Fail> {
-    assert!(rt; takes_nothing(&rt)?);
-    assert!(rt; StdSource::new(&rt, rt.alloc()).is_ok());
     Ok(())
 }
