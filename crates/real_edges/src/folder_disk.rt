@@ -48,7 +48,7 @@ impl FolderDisk {
 
     /// Creates the disk over the folder at a path. `wait` is the longest time to wait for another
     /// run.
-    pub(crate) fn open_within(
+    pub fn open_within(
         rt: &HostRuntime,
         alloc: Global,
         path: &str,
