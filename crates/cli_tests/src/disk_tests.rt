@@ -275,7 +275,7 @@ fn ends_so(status: u8, printed: &[u8]) -> bool {
 
 /// Delivers a message over a disk that stops after this many calls. Returns the disk, and whether
 /// there was no stop, if the answer is right.
-fn delivered(alloc: Global, disk: MemDisk, passes: u64) -> Option<(MemDisk, bool)> {
+fn try_delivery(alloc: Global, disk: MemDisk, passes: u64) -> Option<(MemDisk, bool)> {
     let fuse = FuseDisk::new(disk, passes);
     let (status, fuse, sink) = ran_on(alloc, fuse, &["deliver"], MAIL)?;
     if ends_so(status, sink.taken()) {
@@ -299,7 +299,7 @@ struct Delivered {
 fn delivered_to_none(alloc: Global, passes: u64) -> Option<Delivered> {
     let made = with_archive(alloc)?;
     let start = made.moments();
-    let (disk, done) = delivered(alloc, made, passes)?;
+    let (disk, done) = try_delivery(alloc, made, passes)?;
     Some(Delivered { disk, start, done })
 }
 
