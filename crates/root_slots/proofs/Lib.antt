@@ -1,5 +1,6 @@
 mod Others
 mod Phases
+mod Commits
 mod Starting
 mod Zeros
 mod Reading
