@@ -1,0 +1,132 @@
+-- Files that are written beside the texts of a root become those of the next one.
+use Rattle.std.specs.Prelude.{◌≡◌, ◌≢◌, ◌+◌, ◌-◌, ◌<◌, ℕ, Bool, true, false, cond, if◌then◌else◌, List, [], ◌++◌, length, Option, Some, None, refl}
+use Rattle.std.proofs.Common.{◌∙◌, sym, ap, subst, inl, inr, arith, length-append}
+use Rattle.std.proofs.lemmas.Grind.{common_steps}
+use Rattle.disk_model.specs.declared.name.FileName.{FileName}
+use Rattle.disk_model.specs.Disk.{Files, Kept, Content, Told, WhereTold, OneFile, Wrote, LeavesOnly, bytes_of, overlay}
+use Rattle.disk_model.specs.Images.{same_or_other, at_itself, at_other}
+use Rattle.disk_model.specs.Moments.{weaker, joined}
+use Rattle.root_slots.specs.declared.root.Root.{Root}
+use Rattle.root_slots.specs.RootName.{root_name}
+use Rattle.root_slots.specs.Spelling.{spelling}
+use Rattle.root_slots.specs.Valid.{RootFits, IsRoot}
+use Rattle.root_change.specs.Tells.{told_where}
+use Rattle.root_change.specs.Beside.{StaysUpTo, Beside, WentBeside, RunsBeside}
+use Rattle.root_change.specs.Names.{place_of, names_file, named_end, bounds_of, other_bound}
+use Rattle.root_change.specs.Texts.{Texts, StandsFor, IsOn, OnDisk, Measures}
+use Rattle.root_change.specs.Replacing.{ToReplace, IsToReplace, StandsForEither}
+use Rattle.root_change.specs.Parts.{Parts, texts_of, PartsFit, RecoversEither, IsOwn}
+use Rattle.root_change.specs.Changing.{ReadsAs, with_more, Becomes}
+use Rattle.root_change.proofs.Drops.{true_or_false}
+use Rattle.root_change.proofs.Phases.{ready_has, front_kept, stands_beside}
+
+-- The text of a file that a root names, and of one that it doesn't.
+pub text_named : (root : Root) (parts : Parts) (name : FileName) → names_file root name ≡ true → texts_of root parts name ≡ parts name.kind name.number
+text_named root parts name is = ap (λ (b : Bool). if b then parts name.kind name.number else []) is
+
+pub text_unnamed : (root : Root) (parts : Parts) (name : FileName) → names_file root name ≡ false → texts_of root parts name ≡ []
+text_unnamed root parts name isnt = ap (λ (b : Bool). if b then parts name.kind name.number else []) isnt
+
+-- Texts of parts are as long as the root says.
+pub parts_measure : (root : Root) (parts : Parts) → PartsFit root parts → Measures root (texts_of root parts)
+parts_measure root parts long name apart = by (names_file root name) where
+  by : (b : Bool) → length (if b then parts name.kind name.number else []) ≡ (if b then (place_of root name.kind name.number).length else 0)
+  by true = long name.kind name.number
+  by false = refl
+
+-- The text that is written to, and the others.
+pub more_here : (texts : Texts) (name : FileName) (bytes : List ℕ) → with_more texts name bytes name ≡ texts name ++ bytes
+more_here texts name bytes = ap (λ (b : Bool). cond b (texts name ++ bytes) (texts name)) (at_itself name)
+
+pub more_elsewhere : (texts : Texts) (name : FileName) (bytes : List ℕ) (other : FileName) → other ≢ name → with_more texts name bytes other ≡ texts other
+more_elsewhere texts name bytes other apart = ap (λ (b : Bool). cond b (texts other ++ bytes) (texts other)) (at_other name other apart)
+
+-- A write at the end of a file appends to it.
+overlay_end : (text bytes : List ℕ) → overlay (length text) bytes text ≡ text ++ bytes
+overlay_end text bytes = grind (arith, common_steps)
+
+-- An appended text isn't empty.
+more_some : (text bytes : List ℕ) → 0 < length bytes → text ++ bytes ≢ []
+more_some text bytes some none = absurd (let size : length (text ++ bytes) ≡ 0 = ap length none in omega (arith, size, some, length-append text bytes))
+
+-- Files that read as texts, after a write at the end of one.
+put_reads : (root : Root) (texts : Texts) (name : FileName) (place : ℕ) (bytes : List ℕ) (k m : Content) → name ≢ root_name → place ≡ length (texts name) → 0 < length bytes → OneFile name (Wrote place bytes) k m → ReadsAs root texts k → ReadsAs root (with_more texts name bytes) m
+put_reads root texts name place bytes k m is_file at_end some one reads = record {
+  bytes = λ other apart. elim (same_or_other name other) [
+    | inl same ↦ subst (λ (n : FileName). bytes_of (m n).seen ≡ with_more texts name bytes n) (sym same) here
+    | inr else_ ↦ ap (λ (kept : Kept). bytes_of kept.seen) (one.elsewhere other else_) ∙ (reads.bytes other apart ∙ sym (more_elsewhere texts name bytes other else_))
+  ];
+  no_other = λ other isnt none. elim (same_or_other name other) [
+    | inl same ↦ absurd (more_some (texts name) bytes some (sym (more_here texts name bytes) ∙ subst (λ (n : FileName). with_more texts name bytes n ≡ []) same none))
+    | inr else_ ↦ ap (λ (kept : Kept). kept.seen) (one.elsewhere other else_) ∙ reads.no_other other isnt (sym (more_elsewhere texts name bytes other else_) ∙ none)
+  ];
+} where
+  here : bytes_of (m name).seen ≡ with_more texts name bytes name
+  here =
+      ap bytes_of one.here.seen
+      ∙ (ap (overlay place bytes) (reads.bytes name is_file)
+      ∙ (ap (λ (n : ℕ). overlay n bytes (texts name)) at_end
+      ∙ (overlay_end (texts name) bytes ∙ sym (more_here texts name bytes))))
+
+pub put_told : (root : Root) (texts : Texts) (name : FileName) (place : ℕ) (bytes : List ℕ) (k m : Option Content) → name ≢ root_name → place ≡ length (texts name) → 0 < length bytes → Told (OneFile name (Wrote place bytes)) k m → WhereTold (ReadsAs root texts) k → WhereTold (ReadsAs root (with_more texts name bytes)) m
+put_told root texts name place bytes k m is_file at_end some one reads = told_where (OneFile name (Wrote place bytes)) (ReadsAs root texts) (ReadsAs root (with_more texts name bytes)) k m (λ a b is new_is wrote was. put_reads root texts name place bytes a b is_file at_end some wrote was) one reads
+
+-- A disk that is exactly that of texts reads as these.
+pub own_reads : (root : Root) (free : ℕ) (texts : Texts) (k : Option Content) → OnDisk root free texts k → WhereTold (ReadsAs root texts) k
+own_reads root free texts None on = absurd on
+own_reads root free texts (Some k) on = record { bytes = on.exact.ends; no_other = λ name isnt none. on.exact.no_other name isnt }
+
+-- What was written beside the texts of the old root makes the disk ready for the new one.
+replaceable_now : (free : ℕ) (old : Root) (texts so_far : Texts) (new : Root) (next : Texts) (k m : Content) → IsOn old free texts k → Measures old texts → WentBeside (bounds_of old) k m → ReadsAs old so_far m → Becomes old so_far new next → IsToReplace free old texts new next m
+replaceable_now free old texts so_far new next k m on measures went reads becomes = record {
+  roots = λ file fits. on.roots file (went.each root_name file fits);
+  later = becomes.later;
+  fronts = λ name apart file fits.
+      front_kept (texts name) (named_end old name) (k name).sure file (measures name apart) (on.fronts name apart)
+      (subst (λ (b : Option ℕ). StaysUpTo b (k name).sure file) (other_bound old name apart) (went.each name file fits));
+  measures = becomes.measures;
+  reads = λ name apart is. reads.bytes name apart ∙ becomes.named name apart is;
+  others = λ name isnt.
+      elim (true_or_false (names_file old name)) [
+        | inl was ↦ inl was
+        | inr wasnt ↦ elim (becomes.others name isnt) [ inl was ↦ inl was | inr none ↦ inr (reads.no_other name wasnt none) ]
+      ];
+}
+
+replaceable : (free : ℕ) (old : Root) (texts so_far : Texts) (new : Root) (next : Texts) (k m : Option Content) → OnDisk old free texts k → Measures old texts → Told (WentBeside (bounds_of old)) k m → WhereTold (ReadsAs old so_far) m → Becomes old so_far new next → ToReplace free old texts new next m
+replaceable free old texts so_far new next None m on measures went reads becomes = absurd on
+replaceable free old texts so_far new next (Some k) None on measures went reads becomes = absurd went
+replaceable free old texts so_far new next (Some k) (Some m) on measures went reads becomes = replaceable_now free old texts so_far new next k m on measures went reads becomes
+
+-- While files are written beside the texts of a root, they stand for these.
+writing : (free : ℕ) (root : Root) (texts : Texts) (k : Option Content) (image : Files) → OnDisk root free texts k → Measures root texts → Beside (bounds_of root) k image → StandsFor root texts image
+writing free root texts None image on measures beside = absurd on
+writing free root texts (Some k) image on measures beside = stands_beside root texts k image measures (λ file fits. ready_has free (spelling root) file (on.roots file fits)) on.fronts beside
+
+-- A command that writes beside the texts of its root and replaces the root then.
+module _ (free : ℕ) (old new : Root) (parts next : Parts) {D : Type 0} (content : D → Option Content) (moment : D → ℕ) (left_since : D → ℕ → Files → Type 0) (disk d1 : D) (own : IsOwn old free parts (content disk)) (run : RunsBeside content moment left_since (bounds_of old) disk d1) where
+  -- Files that stand for the old texts stand for the old parts.
+  old_parts : (image : Files) → StandsFor old (texts_of old parts) image → RecoversEither parts next image
+  old_parts image stands = inl (old, record { valid = own.valid; fits = own.fits; long = own.long; stands = stands })
+
+  -- What a crash leaves before the root is replaced.
+  pub writing_leaves : LeavesOnly moment left_since disk d1 (RecoversEither parts next)
+  writing_leaves = weaker moment left_since disk d1 (Beside (bounds_of old) (content disk)) (RecoversEither parts next) run.moments (λ image beside. old_parts image (writing free old (texts_of old parts) (content disk) image own.on (parts_measure old parts own.long) beside))
+
+  module _ (so_far : Texts) (reads : WhereTold (ReadsAs old so_far) (content d1)) (becomes : Becomes old so_far new (texts_of new next)) (valid : IsRoot new) (fits : RootFits new) (long : PartsFit new next) where
+    -- What the replacement requires.
+    pub to_replace : ToReplace free old (texts_of old parts) new (texts_of new next) (content d1)
+    to_replace = replaceable free old (texts_of old parts) so_far new (texts_of new next) (content disk) (content d1) own.on (parts_measure old parts own.long) run.told reads becomes
+
+    -- What a crash leaves while it is replaced.
+    pub changing_leaves : (d2 : D) → ((texts nexts : Texts) → ToReplace free old texts new nexts (content d1) → LeavesOnly moment left_since d1 d2 (StandsForEither old texts new nexts)) → LeavesOnly moment left_since disk d2 (RecoversEither parts next)
+    changing_leaves d2 replaces =
+        joined moment left_since disk d1 d2 (RecoversEither parts next) (StandsForEither old (texts_of old parts) new (texts_of new next)) (RecoversEither parts next) writing_leaves (replaces (texts_of old parts) (texts_of new next) to_replace) (λ image either. either)
+        (λ image either. elim either [
+          | inl stands ↦ old_parts image stands
+          | inr stands ↦ inr (new, record { valid = valid; fits = fits; long = long; stands = stands })
+        ])
+
+    -- What the disk is then.
+    pub changed : (d2 : D) → OnDisk new (1 - free) (texts_of new next) (content d2) → IsOwn new (1 - free) next (content d2)
+    changed d2 on = record { valid = valid; fits = fits; long = long; on = on }

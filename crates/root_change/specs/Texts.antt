@@ -1,0 +1,75 @@
+-- Which files stand for the bytes that a root names, and which are exactly these.
+use Rattle.std.specs.Prelude.{◌≡◌, ◌≢◌, ℕ, ◌<◌, ◌≤◌, false, List, length, take, Option, Some, None}
+use Rattle.disk_model.specs.declared.name.FileKind.TheVariants as kind
+use Rattle.disk_model.specs.declared.name.FileName.{FileName}
+use Rattle.disk_model.specs.Disk.{File, Files, Content, Fits, bytes_of}
+use Rattle.root_slots.specs.declared.root.Root.{Root}
+use Rattle.root_slots.specs.RootName.{root_name}
+use Rattle.root_slots.specs.Each.{IfThere, EachRoot}
+use Rattle.root_slots.specs.Slots.{HasRoot, Ready, HasRootSize}
+use Rattle.root_slots.specs.Spelling.{spelling}
+use Rattle.root_change.specs.Names.{epoch_name, place_of, names_file, named_end}
+
+-- The bytes of each file that count, none of a file that isn't named. Nothing is said of the root
+-- file.
+abbrev pub Texts : Type 0
+Texts = FileName → List ℕ
+
+-- A file starts with these bytes. A missing file starts with none.
+pub record Fronts (bytes : List ℕ) (file : File) : Type 0 where
+  pub long : length bytes ≤ length (bytes_of file)
+  pub front : take (length bytes) (bytes_of file) ≡ bytes
+
+-- Files stand for texts by a root: it is their current root, and each other file starts with its
+-- text. What follows a text, and files without one, may be anything.
+pub record StandsFor (root : Root) (texts : Texts) (image : Files) : Type 0 where
+  pub current : IfThere (HasRoot (spelling root)) (image root_name)
+  pub fronts : (name : FileName) → name ≢ root_name → Fronts (texts name) (image name)
+
+-- Files are exactly those of texts by a root: each has just its text, and there is none that the
+-- root doesn't name.
+pub record IsExact (root : Root) (texts : Texts) (files : Files) : Type 0 where
+  pub current : IfThere (HasRoot (spelling root)) (files root_name)
+  pub ends : (name : FileName) → name ≢ root_name → bytes_of (files name) ≡ texts name
+  pub no_other : (name : FileName) → names_file root name ≡ false → files name ≡ None
+
+-- The files of a disk as reads give them.
+abbrev pub as_read : Content → Files
+as_read k name = (k name).seen
+
+-- Each text is as long as the root says.
+abbrev pub Measures : Root → Texts → Type 0
+Measures root texts = (name : FileName) → name ≢ root_name
+    → length (texts name) ≡ named_end root name
+
+-- Each file that a crash may leave starts with its text.
+abbrev pub EachFronts : Texts → Content → Type 0
+EachFronts texts k = (name : FileName) → name ≢ root_name → (file : File) → Fits (k name).sure file
+    → Fronts (texts name) file
+
+-- A disk is exactly that of texts by a root, and this slot is ready for the next root: a crash
+-- leaves files that stand for the texts, and the files as reads give them are exactly theirs.
+pub record IsOn (root : Root) (free : ℕ) (texts : Texts) (k : Content) : Type 0 where
+  pub roots : EachRoot (Ready free (spelling root)) (Some k)
+  pub fronts : EachFronts texts k
+  pub exact : IsExact root texts (as_read k)
+
+-- The same for a disk that tells its content.
+abbrev pub OnDisk : Root → ℕ → Texts → Option Content → Type 0
+OnDisk root free texts None = ⊥
+OnDisk root free texts (Some k) = IsOn root free texts k
+
+-- Each file is at least as long as a root says.
+abbrev pub HasLengths : Root → Content → Type 0
+HasLengths root k = (name : FileName) → name ≢ root_name
+    → named_end root name ≤ length (bytes_of (k name).seen)
+
+-- The root file has its size, and each other file is at least as long as the root says.
+pub record HasSizes (root : Root) (k : Content) : Type 0 where
+  pub root_file : HasRootSize k
+  pub lengths : HasLengths root k
+
+-- The files of the epochs below this number are at least as long as a root says.
+abbrev pub EpochsAreLong : Root → ℕ → Content → Type 0
+EpochsAreLong root n k = (e : ℕ) → e < n → (place_of root kind.Epoch e).length
+    ≤ length (bytes_of (k (epoch_name e (place_of root kind.Epoch e).gen_)).seen)
