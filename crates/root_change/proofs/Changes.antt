@@ -10,8 +10,8 @@ use Rattle.root_slots.specs.declared.root.Root.{Root}
 use Rattle.root_slots.specs.RootName.{root_name}
 use Rattle.root_slots.specs.Spelling.{spelling}
 use Rattle.root_slots.specs.Valid.{RootFits, IsRoot}
-use Rattle.root_change.specs.Tells.{told_where}
-use Rattle.root_change.specs.Beside.{StaysUpTo, Beside, WentBeside, RunsBeside}
+use Rattle.disk_model.specs.Tells.{told_where}
+use Rattle.disk_model.specs.Beside.{StaysUpTo, Beside, WentBeside, RunsBeside}
 use Rattle.root_change.specs.Names.{place_of, names_file, named_end, bounds_of, other_bound}
 use Rattle.root_change.specs.Texts.{Texts, StandsFor, IsOn, OnDisk, Measures}
 use Rattle.root_change.specs.Replacing.{ToReplace, IsToReplace, StandsForEither}

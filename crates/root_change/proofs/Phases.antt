@@ -12,7 +12,7 @@ use Rattle.root_slots.specs.RootName.{root_name}
 use Rattle.root_slots.specs.Each.{IfThere, EachRoot}
 use Rattle.root_slots.specs.Slots.{HasRootSize, Current, HasRoot, Ready, OldOrNew, IsOldOrNew, HasNewRoot, IsCommitted, with_root, body_place, sequence_of}
 use Rattle.root_slots.specs.Spelling.{spelling}
-use Rattle.root_change.specs.Beside.{StaysUpTo, AreBeside, Beside, RunsBeside}
+use Rattle.disk_model.specs.Beside.{StaysUpTo, AreBeside, Beside, RunsBeside}
 use Rattle.root_change.specs.Names.{names_file, named_end, bounds_of, other_bound, named_none}
 use Rattle.root_change.specs.Texts.{Texts, Fronts, StandsFor, IsOn, OnDisk, Measures, EachFronts, HasLengths, HasSizes}
 use Rattle.root_change.specs.Replacing.{IsToReplace, ToReplace, StandsForEither, Dropped, IsAny}

@@ -1,6 +1,3 @@
-pub mod Tells
-pub mod Beside
-pub mod BesideLaws
 pub mod Names
 pub mod Texts
 pub mod Replacing

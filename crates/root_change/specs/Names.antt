@@ -12,7 +12,7 @@ use Rattle.root_slots.specs.declared.root.Place.{Place}
 use Rattle.root_slots.specs.declared.root.Root.{Root}
 use Rattle.root_slots.specs.RootName.{root_name}
 use Rattle.root_slots.specs.Valid.{no_place}
-use Rattle.root_change.specs.Beside.{Bounds}
+use Rattle.disk_model.specs.Beside.{Bounds}
 
 -- The file of a map of a generation.
 abbrev pub map_name : ℕ → FileName

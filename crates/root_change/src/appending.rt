@@ -3,7 +3,7 @@ ghost use Rattle.std.specs.Prelude.{◌≡◌, ◌≢◌, ◌+◌, ◌^◌, ◌<
 ghost use Rattle.arch_base.specs.Counts.{IsCaused};
 ghost use Rattle.disk_model.specs.Disk.{Told, WhereTold, OneFile, Wrote};
 ghost use Rattle.root_slots.specs.RootName.{root_name};
-ghost use Rattle.root_change.specs.Beside.{RunsBeside};
+ghost use Rattle.disk_model.specs.Beside.{RunsBeside};
 ghost use Rattle.root_change.specs.Names.{named_end, bounds_of};
 ghost use Rattle.root_change.specs.Texts.{HasSizes};
 

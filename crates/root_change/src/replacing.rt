@@ -6,7 +6,7 @@ ghost use Rattle.disk_model.specs.Sizes.{epoch_count};
 ghost use Rattle.disk_model.specs.Synced.{IsSettled};
 ghost use Rattle.root_slots.specs.Slots.{slot_number, HasRootSize};
 ghost use Rattle.root_slots.specs.Valid.{IsRoot};
-ghost use Rattle.root_change.specs.Beside.{RunsBeside};
+ghost use Rattle.disk_model.specs.Beside.{RunsBeside};
 ghost use Rattle.root_change.specs.Names.{bounds_of};
 ghost use Rattle.root_change.specs.Texts.{Texts, OnDisk, HasLengths, HasSizes};
 ghost use Rattle.root_change.specs.Replacing.{ToReplace, StandsForEither, drops, Dropped, IsOne, IsEpochBelow, IsAny};

@@ -2,8 +2,8 @@
 use Rattle.std.proofs.Common.{sym, subst, ℕ}
 use Rattle.std.proofs.lemmas.Result.{on_ok_weaker}
 use Rattle.disk_model.specs.Disk.{Told, WhereTold, OneFile, Wrote, IsAtMostLength}
-use Rattle.root_change.specs.BesideLaws.{write_told, run_started, run_on}
-use Rattle.root_change.specs.Beside.{Respects}
+use Rattle.disk_model.specs.BesideLaws.{write_told, run_started, run_on}
+use Rattle.disk_model.specs.Beside.{Respects}
 use Rattle.root_change.specs.Names.{bounds_of}
 use Rattle.root_change.proofs.Sizes.{end_inside, end_respects, sizes_stay}
 use Rattle.root_change.proofs.appending.append.Goals as goal

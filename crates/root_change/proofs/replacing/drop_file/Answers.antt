@@ -1,7 +1,7 @@
 -- A removal respects the bounds of the new root, and so does no call at all.
 use Rattle.std.proofs.Common.{◌∙◌, sym}
 use Rattle.std.proofs.lemmas.Result.{on_ok_weaker}
-use Rattle.root_change.specs.BesideLaws.{remove_told, run_started, run_on}
+use Rattle.disk_model.specs.BesideLaws.{remove_told, run_started, run_on}
 use Rattle.root_change.specs.Names.{bounds_of}
 use Rattle.root_change.proofs.Drops.{dropped_bound, stays_there, removed_there}
 use Rattle.root_change.proofs.replacing.drop_file.Goals as goal

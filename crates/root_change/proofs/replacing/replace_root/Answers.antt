@@ -3,7 +3,7 @@ use Rattle.std.proofs.lemmas.Result.{on_ok_weaker}
 use Rattle.disk_model.specs.Laws.{sync_image}
 use Rattle.root_slots.specs.Slots.{slot_number, slot_below}
 use Rattle.root_slots.specs.Spelling.{spelling}
-use Rattle.root_change.specs.BesideLaws.{sync_told, run_on}
+use Rattle.disk_model.specs.BesideLaws.{sync_told, run_on}
 use Rattle.root_change.specs.Names.{bounds_of}
 use Rattle.root_change.proofs.Phases.{later_told, ready_told, done_told, sizes_told, first_leaves, commit_leaves, drops_leave}
 use Rattle.root_change.proofs.replacing.replace_root.Goals as goal
