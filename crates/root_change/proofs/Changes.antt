@@ -42,7 +42,7 @@ pub more_elsewhere : (texts : Texts) (name : FileName) (bytes : List ℕ) (other
 more_elsewhere texts name bytes other apart = ap (λ (b : Bool). cond b (texts other ++ bytes) (texts other)) (at_other name other apart)
 
 -- A write at the end of a file appends to it.
-overlay_end : (text bytes : List ℕ) → overlay (length text) bytes text ≡ text ++ bytes
+pub overlay_end : (text bytes : List ℕ) → overlay (length text) bytes text ≡ text ++ bytes
 overlay_end text bytes = grind (arith, common_steps)
 
 -- An appended text isn't empty.

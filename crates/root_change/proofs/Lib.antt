@@ -6,3 +6,6 @@ mod Roots
 mod Changes
 mod Grown
 mod Remakes
+mod Tidies
+mod Copies
+mod Gathers

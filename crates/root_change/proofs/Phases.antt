@@ -60,7 +60,7 @@ stands_beside root texts k image measures roots fronts beside = record {
 }
 
 -- What a crash leaves after a sync.
-synced_file : (k m : Content) (name : FileName) (file : File) → Synced k m → Fits (m name).sure file → file ≡ (k name).seen
+pub synced_file : (k m : Content) (name : FileName) (file : File) → Synced k m → Fits (m name).sure file → file ≡ (k name).seen
 synced_file k m name file synced fits = Fits-exact (k name).seen file (Fits-Within (m name).sure (exact (k name).seen) file (synced.crash name) fits)
 
 -- What a crash leaves of a settled disk.

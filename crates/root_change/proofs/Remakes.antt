@@ -72,7 +72,6 @@ module _ (old : Root) (e : ℕ) (bytes : List ℕ) (dropped : ℕ) (valid : IsRo
   ends_kept low kind.Map n g not_epoch = same_at_most (named_end new (named kind.Map n g)) (named_end old (named kind.Map n g)) refl
   ends_kept low kind.Cache n g not_epoch = same_at_most (named_end new (named kind.Cache n g)) (named_end old (named kind.Cache n g)) refl
   ends_kept low kind.Epoch n g not_epoch = elim (true_or_false (named_by new kind.Epoch n g)) [
-    | inr isnt ↦ none_at_most (named_end new (named kind.Epoch n g)) (named_end old (named kind.Epoch n g)) (named_none new (named kind.Epoch n g) isnt)
     | inl is ↦ elim (equal_or_not n dropped) [
       | inl gone ↦
           let there = named_bytes new n g is in
@@ -85,6 +84,7 @@ module _ (old : Root) (e : ℕ) (bytes : List ℕ) (dropped : ℕ) (valid : IsRo
         | inr not_e ↦ same_at_most (named_end new (named kind.Epoch n g)) (named_end old (named kind.Epoch n g)) (ap (λ (p : Place). if nat_lt n 64 && has_place p g then p.length else 0) (place_kept n not_e not_dropped))
       ]
     ]
+    | inr isnt ↦ none_at_most (named_end new (named kind.Epoch n g)) (named_end old (named kind.Epoch n g)) (named_none new (named kind.Epoch n g) isnt)
   ]
 
   -- The files are as long as the new root says after the write.

@@ -51,6 +51,17 @@ named_by root kind.Cache number gen_ = number == 0 && has_place root.cache gen_
 abbrev pub names_file : Root → FileName → Bool
 names_file root name = named_by root name.kind name.number name.gen_
 
+-- Whether a name is that of the root file, by the parts of the name.
+abbrev pub root_by : FileKind → ℕ → ℕ → Bool
+root_by kind.Root number gen_ = number == 0 && gen_ == 0
+root_by kind.Map number gen_ = false
+root_by kind.Epoch number gen_ = false
+root_by kind.Cache number gen_ = false
+
+-- Whether a name is that of the root file.
+abbrev pub is_root_name : FileName → Bool
+is_root_name name = root_by name.kind name.number name.gen_
+
 -- The number of bytes of a file that count by a root, 0 for a file that it doesn't name.
 abbrev pub named_end : Root → FileName → ℕ
 named_end root name =

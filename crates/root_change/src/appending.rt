@@ -12,7 +12,7 @@ use disk_model::{Disk, DiskFault, FileName};
 use root_slots::Root;
 
 /// Returns the number of bytes of a file that count by a root.
-fn end_of(root: &Root, name: FileName) -> u64
+pub(crate) fn end_of(root: &Root, name: FileName) -> u64
     ensures { result ≡ named_end root.now name }
 {
     if is_named(root, name) {
