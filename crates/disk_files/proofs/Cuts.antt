@@ -1,5 +1,5 @@
 -- What several cuts leave, one after the other.
-use Rattle.std.specs.Prelude.{◌≡◌, ◌≢◌, ℕ, ◌+◌, ◌<◌, ◌≤◌, min, Option, Some, None, List, length, slice_get, Result, Ok, Err, OnOk, OnErr, refl}
+use Rattle.std.specs.Prelude.{◌≡◌, ◌≢◌, ℕ, ◌+◌, ◌<◌, ◌≤◌, min, Option, Some, None, List, length, get_or, slice_get, Result, Ok, Err, OnOk, OnErr, refl}
 use Rattle.std.specs.List.{Contains}
 use Rattle.std.proofs.Common.{◌∙◌, ap, sym, subst, inl, inr, arith, length-take}
 use Rattle.std.proofs.lemmas.Bool.{cases_lt}
@@ -7,10 +7,11 @@ use Rattle.std.proofs.lemmas.Grind.{common_steps}
 use Rattle.std.proofs.lemmas.List.{take_all}
 use Rattle.std.proofs.lemmas.Option.{same_Some, slice_get-get_or, slice_get_within, get_or_from_slice_get}
 use Rattle.disk_model.specs.declared.name.FileName.{FileName}
-use Rattle.disk_model.specs.Disk.{Content, CutTo, File, Files, Fits, Image, IsLength, Kept, OneFile, ReadsFit, Sure, Told, TornCut, Unchanged, WhereTold, Within, bytes_of, cut_file, cut_sure}
+use Rattle.disk_model.specs.Disk.{Content, CutTo, File, Files, Fits, Image, IsAtMostLength, IsLength, Kept, OneFile, ReadsFit, Sure, Told, TornCut, Unchanged, WhereTold, Within, bytes_of, cut_file, cut_sure}
 use Rattle.disk_model.specs.Cuts.{cut_front}
 use Rattle.disk_model.specs.Laws.{Fits-Within, FrontOrigin, Within-trans, cut_within, cut_wider}
 use Rattle.disk_model.specs.Images.{same_or_other}
+use Rattle.disk_model.specs.Tells.{told_where}
 use Rattle.disk_files.specs.declared.cutting.FilePart.{FilePart}
 use Rattle.disk_files.specs.Cutting.{AreCut, Cutting, HasFronts, IsCutting, KeepsFronts, TrimmedTo}
 
@@ -249,3 +250,11 @@ cutting_after (Ok v) part n (Some k) (Some m) None image longer is same ok err l
 cutting_after (Err e) part n (Some k) (Some m) None image longer is same ok err left = absurd err
 cutting_after (Ok v) part n (Some k) (Some m) (Some o) image longer is same ok err left = cutting_crash part k m o image same (omega (arith, longer, is)) ok.here.crash ok.elsewhere left
 cutting_after (Err e) part n (Some k) (Some m) (Some o) image longer is same ok err left = cutting_crash part k m o image same (omega (arith, longer, is)) err.here.crash err.elsewhere left
+
+-- A file that is longer than a part may be cut to it.
+pub longer_told : (name : FileName) (size n : ℕ) (k m : Option Content) → n ≤ size → WhereTold (IsLength name size) k → Told Unchanged k m → WhereTold (IsAtMostLength name n) m
+longer_told name size n k m less is same = told_where Unchanged (IsLength name size) (IsAtMostLength name n) k m (λ a b old_is new_is kept long. subst (λ (it : Kept). n ≤ length (bytes_of it.seen)) (sym (kept name)) (omega (arith, less, long))) same is
+
+-- The part of the list at an index is listed.
+pub part_listed : (parts : List FilePart) (i : ℕ) (d : FilePart) → i < length parts → Contains parts (get_or parts i d)
+part_listed parts i d below = part_in parts i (get_or parts i d) (slice_get-get_or parts i d below)
