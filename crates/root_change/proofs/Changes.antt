@@ -14,11 +14,12 @@ use Rattle.disk_model.specs.Tells.{told_where}
 use Rattle.disk_model.specs.Beside.{StaysUpTo, Beside, WentBeside, RunsBeside}
 use Rattle.root_change.specs.Names.{place_of, names_file, named_end, bounds_of, other_bound}
 use Rattle.root_change.specs.Texts.{Texts, StandsFor, IsOn, OnDisk, Measures}
+use Rattle.root_change.specs.Leaving.{ready_has}
 use Rattle.root_change.specs.Replacing.{ToReplace, IsToReplace, StandsForEither}
 use Rattle.root_change.specs.Parts.{Parts, texts_of, PartsFit, RecoversEither, IsOwn}
 use Rattle.root_change.specs.Changing.{ReadsAs, with_more, Becomes}
 use Rattle.root_change.proofs.Drops.{true_or_false}
-use Rattle.root_change.proofs.Phases.{ready_has, front_kept, stands_beside}
+use Rattle.root_change.proofs.Phases.{front_kept, stands_beside}
 
 -- The text of a file that a root names, and of one that it doesn't.
 pub text_named : (root : Root) (parts : Parts) (name : FileName) → names_file root name ≡ true → texts_of root parts name ≡ parts name.kind name.number

@@ -18,11 +18,12 @@ use Rattle.root_slots.specs.Each.{IfThere}
 use Rattle.root_slots.specs.Slots.{Ready}
 use Rattle.root_slots.specs.Spelling.{spelling}
 use Rattle.root_change.specs.Names.{names_file, is_root_name, root_by, named_end, bounds_of, named_none}
-use Rattle.root_change.specs.Texts.{Texts, StandsFor, IsOn, OnDisk, HasSizes}
+use Rattle.root_change.specs.Leaving.{ready_has}
+use Rattle.root_change.specs.Texts.{Texts, StandsFor, IsOn, OnDisk}
 use Rattle.root_change.specs.Replacing.{IsOne}
 use Rattle.root_change.specs.Tidying.{Trimmed, Tidied, IsToTidy, ToTidy}
 use Rattle.root_change.proofs.Drops.{both, not_both, is_same, named, unnamed_apart}
-use Rattle.root_change.proofs.Phases.{ready_has, fronts_equal, stands_beside, synced_file}
+use Rattle.root_change.proofs.Phases.{fronts_equal, stands_beside, synced_file}
 use Rattle.root_change.proofs.Roots.{none_at_most, same_at_most, at_most_then}
 
 -- The name of the root file, and any other one.
@@ -282,21 +283,16 @@ module _ (root : Root) where
   tidy_told free texts names (Some k) (Some m) None fit todo tidied synced = absurd synced
   tidy_told free texts names (Some k) (Some m) (Some o) fit todo tidied synced = tidy_now free texts names k m o todo tidied synced fit
 
-  -- The files are still as long as the root says.
-  still_long : (which : FileName → Type 0) (k m o : Content) → HasSizes root k → Tidied which root k m → Synced m o → HasSizes root o
-  still_long which k m o sizes tidied synced = record {
-    root_file = ap (λ (file : File). length (bytes_of file)) (synced.seen root_name ∙ tidied.root_same) ∙ sizes.root_file;
-    lengths = λ name apart.
-        let was = sizes.lengths name apart in
-        let same : length (take (named_end root name) (bytes_of (m name).seen)) ≡ length (take (named_end root name) (bytes_of (k name).seen)) = ap length (tidied.fronts name) in
-        let now : length (bytes_of (o name).seen) ≡ length (bytes_of (m name).seen) = ap (λ (file : File). length (bytes_of file)) (synced.seen name) in
-        omega (arith, was, same, now, length-take {A = ℕ} (named_end root name) (bytes_of (m name).seen), length-take {A = ℕ} (named_end root name) (bytes_of (k name).seen));
+  -- A sync after it leaves the files tidied.
+  tidied_synced : (which : FileName → Type 0) (k m o : Content) → Tidied which root k m → Synced m o → Tidied which root k o
+  tidied_synced which k m o tidied synced = record {
+    gone = λ name is isnt. synced.seen name ∙ tidied.gone name is isnt;
+    short = λ name is apart. subst (λ (file : File). length (bytes_of file) ≤ named_end root name) (sym (synced.seen name)) (tidied.short name is apart);
+    fronts = λ name. ap (λ (file : File). take (named_end root name) (bytes_of file)) (synced.seen name) ∙ tidied.fronts name;
+    no_longer = λ name. subst (λ (file : File). length (bytes_of file) ≤ length (bytes_of (k name).seen)) (sym (synced.seen name)) (tidied.no_longer name);
+    none_made = λ name none. synced.seen name ∙ tidied.none_made name none;
+    root_same = synced.seen root_name ∙ tidied.root_same;
   }
 
-  pub tidy_sizes : (which : FileName → Type 0) (k m o : Option Content) → WhereTold (HasSizes root) k → Told (Tidied which root) k m → Told Synced m o → WhereTold (HasSizes root) o
-  tidy_sizes which None None None sizes tidied synced = tt
-  tidy_sizes which None None (Some o) sizes tidied synced = absurd synced
-  tidy_sizes which None (Some m) o sizes tidied synced = absurd tidied
-  tidy_sizes which (Some k) None o sizes tidied synced = absurd tidied
-  tidy_sizes which (Some k) (Some m) None sizes tidied synced = absurd synced
-  tidy_sizes which (Some k) (Some m) (Some o) sizes tidied synced = still_long which k m o sizes tidied synced
+  pub synced_told : (which : FileName → Type 0) (k m o : Option Content) → Told (Tidied which root) k m → Told Synced m o → Told (Tidied which root) k o
+  synced_told which k m o tidied synced = told_then (Tidied which root) Synced (Tidied which root) k m o (λ a b d is told one two. tidied_synced which a b d one two) tidied synced

@@ -1,5 +1,6 @@
 pub mod Names
 pub mod Texts
+pub mod Leaving
 pub mod Replacing
 pub mod Parts
 pub mod Changing

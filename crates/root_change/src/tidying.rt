@@ -6,7 +6,7 @@ ghost use Rattle.disk_model.specs.Beside.{Bounds, Respects, RunsBeside};
 ghost use Rattle.disk_model.specs.Disk.{Told, WhereTold, OneFile, LeavesOnly};
 ghost use Rattle.disk_model.specs.Synced.{IsSettled};
 ghost use Rattle.root_change.specs.Names.{is_root_name, bounds_of};
-ghost use Rattle.root_change.specs.Texts.{Texts, StandsFor, OnDisk, HasSizes};
+ghost use Rattle.root_change.specs.Texts.{Texts, StandsFor, OnDisk};
 ghost use Rattle.root_change.specs.Replacing.{IsOne};
 ghost use Rattle.root_change.specs.Tidying.{Trimmed, Tidied, ToTidy};
 
@@ -91,8 +91,9 @@ pub fn tidy<D: Disk>(disk: &mut D, root: &Root, names: &[FileName]) -> Result<()
         → OnOk result (OnDisk root.now free texts (D.content disk.new)) }
     // Then all that reads give is on the disk, whatever it held before.
     ensures settled { OnOk result (WhereTold IsSettled (D.content disk.new)) }
-    ensures sizes { WhereTold (HasSizes root.now) (D.content disk.old)
-        → OnOk result (WhereTold (HasSizes root.now) (D.content disk.new)) }
+    // And the listed files are tidied: all bytes that count stay.
+    ensures tidied { OnOk result (Told (Tidied (Contains names.now) root.now)
+        (D.content disk.old) (D.content disk.new)) }
     ensures cause { IsCaused (D.faults disk.old) (D.faults disk.new) result }
     ensures count { D.reads disk.new ≡ D.reads disk.old }
 {

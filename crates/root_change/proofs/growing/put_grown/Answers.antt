@@ -8,6 +8,7 @@ use Rattle.disk_model.specs.BesideLaws.{run_joined}
 use Rattle.root_change.specs.Names.{epoch_name, map_name, place_of, named_end, bounds_of}
 use Rattle.root_change.specs.Parts.{texts_of}
 use Rattle.root_change.specs.Changing.{grown}
+use Rattle.root_change.proofs.Phases.{kept_sizes}
 use Rattle.root_change.proofs.Sizes.{end_at_most, root_sized}
 use Rattle.root_change.proofs.Grown.{epoch_isnt_root, map_isnt_root, long_so, becomes_so, fit_so, reads_so}
 use Rattle.root_change.proofs.Changes.{writing_leaves, to_replace, changing_leaves, changed}
@@ -94,5 +95,5 @@ returns-clause-done g c = λ parts own.
 pub returns-clause-sizes : goal.returns-clause-sizes
 returns-clause-sizes g c =
     let content = g.D.Disk.content in
-    c.replace_root.ensures.sizes
-    (long_so c.args.old.now c.args.epoch c.args.entry.now c.args.line.now c.root_fits.ensures c.requires.epoch c.requires.entry c.requires.line (content c.args.disk.now) (content c.append.new.disk) (content c.append-2.new.disk) c.args.new.now c.epoch_place-place.result c.epoch_file.result c.map_file.result c.requires.made c.epoch_place-place.ensures c.epoch_file.ensures c.map_file.ensures c.requires.sizes c.in_ok-append.ensures.sizes c.in_ok-append-2.ensures.sizes c.in_ok-append.ensures.wrote c.in_ok-append-2.ensures.wrote)
+    let lengths = long_so c.args.old.now c.args.epoch c.args.entry.now c.args.line.now c.root_fits.ensures c.requires.epoch c.requires.entry c.requires.line (content c.args.disk.now) (content c.append.new.disk) (content c.append-2.new.disk) c.args.new.now c.epoch_place-place.result c.epoch_file.result c.map_file.result c.requires.made c.epoch_place-place.ensures c.epoch_file.ensures c.map_file.ensures c.requires.sizes c.in_ok-append.ensures.sizes c.in_ok-append-2.ensures.sizes c.in_ok-append.ensures.wrote c.in_ok-append-2.ensures.wrote in
+    on_ok_weaker c.replace_root.result (kept_sizes c.args.new.now (content c.append-2.new.disk) (content c.replace_root.new.disk) lengths) c.replace_root.ensures.kept

@@ -6,6 +6,7 @@ use Rattle.root_slots.specs.Slots.{slot_number}
 use Rattle.root_change.specs.Names.{epoch_name, named_end, named_none}
 use Rattle.root_change.specs.Parts.{texts_of}
 use Rattle.root_change.specs.Changing.{remade}
+use Rattle.root_change.proofs.Phases.{kept_sizes}
 use Rattle.root_change.proofs.Sizes.{root_sized}
 use Rattle.root_change.proofs.Grown.{epoch_isnt_root}
 use Rattle.root_change.proofs.Remakes.{epoch_fresh, long_so, becomes_so, fit_so, reads_so}
@@ -75,5 +76,5 @@ returns-clause-sizes g c =
     let content = g.D.Disk.content in
     let old = c.args.old.now in
     let name_is = c.epoch_file.ensures ∙ ap (λ (r : Root). epoch_name c.args.epoch r.sequence) c.requires.made in
-    c.replace_root.ensures.sizes
-    (long_so old c.args.epoch c.args.bytes.now c.args.dropped c.requires.root c.root_fits.ensures c.requires.epoch c.requires.apart c.requires.some c.requires.dropped (content c.args.disk.now) (content c.append.new.disk) c.args.new.now c.epoch_file.result c.requires.made name_is c.requires.sizes c.in_ok-append.ensures.sizes c.in_ok-append.ensures.wrote)
+    let lengths = long_so old c.args.epoch c.args.bytes.now c.args.dropped c.requires.root c.root_fits.ensures c.requires.epoch c.requires.apart c.requires.some c.requires.dropped (content c.args.disk.now) (content c.append.new.disk) c.args.new.now c.epoch_file.result c.requires.made name_is c.requires.sizes c.in_ok-append.ensures.sizes c.in_ok-append.ensures.wrote in
+    on_ok_weaker c.replace_root.result (kept_sizes c.args.new.now (content c.append.new.disk) (content c.replace_root.new.disk) lengths) c.replace_root.ensures.kept
