@@ -1,5 +1,5 @@
 -- The results of an archive that owns its disk, by the calls below it.
-use Rattle.std.specs.Prelude.{◌≡◌, ◌⊎◌, ◌≤◌, ◌<◌, ℕ, zero, suc, Bool, true, false, List, length, get_or, Option, Some, None, Result, Ok, Err, refl}
+use Rattle.std.specs.Prelude.{◌≡◌, ◌⊎◌, ◌≤◌, ◌<◌, ℕ, zero, suc, Bool, true, false, List, [], length, get_or, Option, Some, None, Result, Ok, Err, refl}
 use Rattle.std.proofs.Common.{◌∙◌, sym, ap, subst, inl, inr, arith}
 use Rattle.disk_model.specs.declared.name.FileName.{FileName}
 use Rattle.disk_model.specs.Disk.{Files, Content, Image, Told, Unchanged, ReadsFit, LeavesOnly}
@@ -13,6 +13,7 @@ use Rattle.arch_model.specs.declared.opening.OpenRefusal.TheVariants as refusal
 use Rattle.epoch_store.specs.Files.{as_read}
 use Rattle.epoch_store.specs.Opens.{RecoversOf, AllRecoverOf, ReadsAs, IsWant}
 use Rattle.epoch_store.specs.Recovery.{RecoversSome}
+use Rattle.epoch_store.specs.Leaving.{disk_recovers}
 use Rattle.epoch_store.specs.Stores.{View, IsStoreOf, RecoversEither}
 use Rattle.archive_core.specs.Commands.{DoneBy}
 use Rattle.archive_core.specs.Engines.{Owning, needs_opening, store_left}
@@ -57,7 +58,7 @@ either_one a b image (inr after) = (Some b, (1, omega arith, refl), after)
 -- A store's own disk leaves the first of the two.
 stands_for : (v : View) (a b : Archive) (k : Option Content) (image : Files) → IsStoreOf v a k → Image k image → RecoversEither a b image
 stands_for v a b None image store left = absurd store
-stands_for v a b (Some k) image store left = inl (v.root, record { valid = store.keeps.valid; names = store.keeps.names; stands = store.on.images image left })
+stands_for v a b (Some k) image store left = inl (disk_recovers v [] a k image store left)
 
 -- The archive that it holds.
 abbrev pub Holds : {D : Type 0} → (D → Option Content) → Owning D → Archive → Type 0

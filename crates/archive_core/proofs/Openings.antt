@@ -1,5 +1,5 @@
 -- What an archive that wasn't opened leaves.
-use Rattle.std.specs.Prelude.{Option, Some, None}
+use Rattle.std.specs.Prelude.{[], Option, Some, None}
 use Rattle.disk_model.specs.Disk.{Content}
 use Rattle.arch_model.specs.Archives.{Archive}
 use Rattle.epoch_store.specs.Files.{as_read}
@@ -11,7 +11,7 @@ use Rattle.archive_core.specs.Openings.{StillReads}
 -- A store's own disk reads as its archive.
 store_reads : StoreRecovers → ExactRecovers → (v : View) (a : Archive) (k : Option Content) → IsStoreOf v a k → ReadsAs a k
 store_reads recovers exact v a None store = absurd store
-store_reads recovers exact v a (Some k) store = exact (as_read k) a (recovers v a k store).1
+store_reads recovers exact v a (Some k) store = exact [] (as_read k) a (recovers v [] a k store).1
 
 -- So the files that a store was opened from still read so.
 pub opened_reads : StoreRecovers → ExactRecovers → (v : View) (old new : Option Content) → ((a : Archive) → ReadsAs a old → IsStoreOf v a new) → StillReads old new

@@ -1,5 +1,5 @@
 -- What a store keeps, and what its own disk leaves while nothing is done.
-use Rattle.std.specs.Prelude.{◌≡◌, ℕ, List, Option, Some, None}
+use Rattle.std.specs.Prelude.{◌≡◌, ℕ, List, [], Option, Some, None}
 use Rattle.std.proofs.Common.{◌∙◌, sym, ap, inl}
 use Rattle.disk_model.specs.Disk.{Files, Content, Image}
 use Rattle.arch_model.specs.Archives.{Archive, with_entry}
@@ -16,7 +16,7 @@ store_keeps v a (Some k) store = store.keeps
 -- What a crash leaves of a store's own disk stands for the archive.
 pub stands : StoreRecovers → (v : View) (a b : Archive) (k : Option Content) (image : Files) → IsStoreOf v a k → Image k image → RecoversEither a b image
 stands law v a b None image store now = absurd store
-stands law v a b (Some k) image store now = inl ((law v a k store).0 image now)
+stands law v a b (Some k) image store now = inl ((law v [] a k store).0 image now)
 
 -- If a delivery is judged to take a text, the archive after it is the one with that text.
 pub archive_taken : (a : Archive) (text slice : List ℕ) (moment : ℕ) (wanted : Done) (reply : Answer) → slice ≡ text

@@ -1,7 +1,7 @@
 pub mod Files
-pub mod TwoFiles
 pub mod Recovery
 pub mod Stores
+pub mod Leaving
 pub mod Damage
 pub mod Joined
 pub mod Laws

@@ -94,13 +94,13 @@ replaceable_now free old texts so_far new next k m on measures went reads become
       ];
 }
 
-replaceable : (free : ℕ) (old : Root) (texts so_far : Texts) (new : Root) (next : Texts) (k m : Option Content) → OnDisk old free texts k → Measures old texts → Told (WentBeside (bounds_of old)) k m → WhereTold (ReadsAs old so_far) m → Becomes old so_far new next → ToReplace free old texts new next m
+pub replaceable : (free : ℕ) (old : Root) (texts so_far : Texts) (new : Root) (next : Texts) (k m : Option Content) → OnDisk old free texts k → Measures old texts → Told (WentBeside (bounds_of old)) k m → WhereTold (ReadsAs old so_far) m → Becomes old so_far new next → ToReplace free old texts new next m
 replaceable free old texts so_far new next None m on measures went reads becomes = absurd on
 replaceable free old texts so_far new next (Some k) None on measures went reads becomes = absurd went
 replaceable free old texts so_far new next (Some k) (Some m) on measures went reads becomes = replaceable_now free old texts so_far new next k m on measures went reads becomes
 
 -- While files are written beside the texts of a root, they stand for these.
-writing : (free : ℕ) (root : Root) (texts : Texts) (k : Option Content) (image : Files) → OnDisk root free texts k → Measures root texts → Beside (bounds_of root) k image → StandsFor root texts image
+pub writing : (free : ℕ) (root : Root) (texts : Texts) (k : Option Content) (image : Files) → OnDisk root free texts k → Measures root texts → Beside (bounds_of root) k image → StandsFor root texts image
 writing free root texts None image on measures beside = absurd on
 writing free root texts (Some k) image on measures beside = stands_beside root texts k image measures (λ file fits. ready_has free (spelling root) file (on.roots file fits)) on.fronts beside
 

@@ -29,7 +29,7 @@ epoch_isnt_root e gen_ is = let wrong : kind_place (epoch_name e gen_).kind ≡ 
 pub map_isnt_root : (gen_ : ℕ) → map_name gen_ ≢ root_name
 map_isnt_root gen_ is = let wrong : kind_place (map_name gen_).kind ≡ kind_place root_name.kind = ap (λ (f : FileName). kind_place f.kind) is in absurd (omega (arith, wrong))
 
-epoch_isnt_map : (e m n : ℕ) → epoch_name e m ≢ map_name n
+pub epoch_isnt_map : (e m n : ℕ) → epoch_name e m ≢ map_name n
 epoch_isnt_map e m n is = let wrong : kind_place (epoch_name e m).kind ≡ kind_place (map_name n).kind = ap (λ (f : FileName). kind_place f.kind) is in absurd (omega (arith, wrong))
 
 -- A root names the file of an epoch that has bytes, and that of its map.
@@ -38,7 +38,7 @@ epoch_is_named root e gen_ below some is =
     let place = place_of root kind.Epoch e in
     and_from (nat_lt e 64) (has_place place gen_) (less_test e 64 below) (and_from (nat_lt 0 place.length) (place.gen_ == gen_) (less_test 0 place.length some) (same_test place.gen_ gen_ is))
 
-map_is_named : (root : Root) (gen_ : ℕ) → gen_ ≡ root.map.gen_ → names_file root (map_name gen_) ≡ true
+pub map_is_named : (root : Root) (gen_ : ℕ) → gen_ ≡ root.map.gen_ → names_file root (map_name gen_) ≡ true
 map_is_named root gen_ is = and_from (0 == 0) (gen_ == root.map.gen_) (same_test 0 0 refl) (same_test gen_ root.map.gen_ is)
 
 -- A list of length 0 is empty.
@@ -95,7 +95,7 @@ module _ (old : Root) (e : ℕ) (entry line : List ℕ) (fits : RootFits old) (b
   ]
 
   -- The bytes of the epoch count up to the end of its file, also if the file is new.
-  epoch_end : (place_of old kind.Epoch e).length ≤ named_end old epoch
+  pub epoch_end : (place_of old kind.Epoch e).length ≤ named_end old epoch
   epoch_end = elim (cases_lt 0 (place_of old kind.Epoch e).length) [
     | inl bytes ↦ same_at_most (place_of old kind.Epoch e).length (named_end old epoch) (sym (named_some old epoch (epoch_is_named old e place.gen_ below bytes (sym (after_some old e (length entry) bytes)))))
     | inr none ↦ none_at_most (place_of old kind.Epoch e).length (named_end old epoch) (omega (arith, none))
@@ -182,10 +182,10 @@ module _ (old : Root) (e : ℕ) (entry line : List ℕ) (fits : RootFits old) (b
     ]
 
     -- The texts after the first write, and after both.
-    abbrev first : Texts
+    abbrev pub first : Texts
     first = with_more (texts_of old parts) epoch entry
 
-    abbrev written : Texts
+    abbrev pub written : Texts
     written = with_more first map line
 
     at_epoch : written epoch ≡ texts_of new next epoch

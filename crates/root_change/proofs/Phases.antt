@@ -21,7 +21,7 @@ use Rattle.root_change.specs.Replacing.{IsToReplace, ToReplace, StandsForEither,
 use Rattle.root_change.proofs.Drops.{true_or_false, alone_from, unnamed_apart}
 
 -- The current root in a slot is current.
-current_has : (slot : ℕ) (body : List ℕ) (file : File) → IfThere (Current slot body) file → IfThere (HasRoot body) file
+pub current_has : (slot : ℕ) (body : List ℕ) (file : File) → IfThere (Current slot body) file → IfThere (HasRoot body) file
 current_has slot body None there = absurd there
 current_has slot body (Some bytes) there = (slot, there)
 
@@ -61,7 +61,7 @@ pub synced_file : (k m : Content) (name : FileName) (file : File) → Synced k m
 synced_file k m name file synced fits = Fits-exact (k name).seen file (Fits-Within (m name).sure (exact (k name).seen) file (synced.crash name) fits)
 
 -- What a crash leaves of a settled disk.
-settled_file : (k : Content) (name : FileName) (file : File) → IsSettled k → Fits (k name).sure file → file ≡ (k name).seen
+pub settled_file : (k : Content) (name : FileName) (file : File) → IsSettled k → Fits (k name).sure file → file ≡ (k name).seen
 settled_file k name file settled fits = Fits-exact (k name).seen file (Fits-Within (k name).sure (exact (k name).seen) file (settled name) fits)
 
 module _ (free : ℕ) (old : Root) (texts : Texts) (new : Root) (next : Texts) where

@@ -1,4 +1,4 @@
-use Rattle.std.proofs.Common.{◌+◌, ◌<◌, sym, subst}
+use Rattle.std.proofs.Common.{◌+◌, ◌<◌, [], sym, subst}
 use Rattle.disk_model.specs.Moments.{started}
 use Rattle.arch_model.specs.Archives.{with_entry}
 use Rattle.arch_model.specs.Delivery.{new_epoch}
@@ -29,7 +29,7 @@ invariant_of-self-in-Err g c =
 
 pub returns-in-Err-clause-any_moment : goal.returns-in-Err-clause-any_moment
 returns-in-Err-clause-any_moment g c = λ a store room.
-    c.deliver_entry.ensures.any_moment a (subst (λ (v : View). IsStoreOf v a (g.D.Disk.content c.args.disk.now)) (sym c.self.view_is) store) (subst (λ (v : View). v.root.sequence + 1 < 18446744073709551616) (sym c.self.view_is) room)
+    c.deliver_entry.ensures.any_moment a [] (subst (λ (v : View). IsStoreOf v a (g.D.Disk.content c.args.disk.now)) (sym c.self.view_is) store) (subst (λ (v : View). v.root.sequence + 1 < 18446744073709551616) (sym c.self.view_is) room)
 
 pub invariant_of-self-in_default : goal.invariant_of-self-in_default
 invariant_of-self-in_default g c =
@@ -39,8 +39,8 @@ invariant_of-self-in_default g c =
 
 pub returns-clause-any_moment : goal.returns-clause-any_moment
 returns-clause-any_moment g c = λ a store room.
-    c.deliver_entry.ensures.any_moment a (subst (λ (v : View). IsStoreOf v a (g.D.Disk.content c.args.disk.now)) (sym c.self.view_is) store) (subst (λ (v : View). v.root.sequence + 1 < 18446744073709551616) (sym c.self.view_is) room)
+    c.deliver_entry.ensures.any_moment a [] (subst (λ (v : View). IsStoreOf v a (g.D.Disk.content c.args.disk.now)) (sym c.self.view_is) store) (subst (λ (v : View). v.root.sequence + 1 < 18446744073709551616) (sym c.self.view_is) room)
 
 pub returns-clause-done : goal.returns-clause-done
 returns-clause-done g c = λ a store room.
-    c.in_default.ensures.done a (subst (λ (v : View). IsStoreOf v a (g.D.Disk.content c.args.disk.now)) (sym c.self.view_is) store) (subst (λ (v : View). v.root.sequence + 1 < 18446744073709551616) (sym c.self.view_is) room)
+    c.in_default.ensures.done a [] (subst (λ (v : View). IsStoreOf v a (g.D.Disk.content c.args.disk.now)) (sym c.self.view_is) store) (subst (λ (v : View). v.root.sequence + 1 < 18446744073709551616) (sym c.self.view_is) room)
