@@ -21,4 +21,6 @@ pub use sources::{Source, put_sources};
 pub use tidying::tidy;
 
 #[cfg(test)]
+mod file_tests;
+#[cfg(test)]
 mod tests;
