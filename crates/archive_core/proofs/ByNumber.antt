@@ -172,7 +172,7 @@ search_none v a xs n i same keeps count none =
 
 -- The text of the entry with a number is the text of that number.
 pub text_gives : (v : View) (a : Archive) (k : Option Content) (n i : ℕ) (old new : List ℕ) (r : Result Unit TextRefusal) → IsStoreOf v a k → IsNumberAt v.entries n i → GivesTextOf a i old new r → GivesTextIn a.entries n old new r
-text_gives v a k n i old new (Ok done) own at given = (given.0, (text_in v a i n at.0 (store_keeps v a k own) at.1 at.2).0 ∙ given.1, given.2)
+text_gives v a k n i old new (Ok done) own at given = (given.0, (text_in v a i n at.0 (store_keeps v [] a k own) at.1 at.2).0 ∙ given.1, given.2)
 text_gives v a k n i old new (Err (Damaged named found)) own at given = given
 text_gives v a k n i old new (Err DiskFault) own at given = tt
 text_gives v a k n i old new (Err NoMemory) own at given = tt

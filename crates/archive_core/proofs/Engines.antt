@@ -170,12 +170,12 @@ module _ {D : Type 0} (content : D → Option Content) (moment : D → ℕ) (lef
 
     -- The answer to a command on the archive is the answer of its keeper.
     pub command_done : (new : Owning D) (wanted : Archive → Done) (reply : Answer) → new.stale ≡ needs_opening reply → ((a : Archive) → Holds content inside a → LeavesOnly moment left_since inside.disk new.disk (RecoversEither a (wanted a).archive))
-        → ((a : Archive) → Holds content inside a → DoneBy new.view a (wanted a) reply (content new.disk)) → (a : Archive) → Holds content old a → DoesBy (Holds content) stale_of (clock_of moment) (Leaves left_since) a (wanted a) reply new
+        → ((a : Archive) → Holds content inside a → DoneBy new.view [] a (wanted a) reply (content new.disk)) → (a : Archive) → Holds content old a → DoesBy (Holds content) stale_of (clock_of moment) (Leaves left_since) a (wanted a) reply new
     command_done new wanted reply stale run done a store = of_reply reply stale (done a (held_inside a store)) where
       left : (image : Files) → left_since new.disk (moment new.disk) image → RecoversEither a (wanted a).archive image
       left = now_left inside.disk new.disk (RecoversEither a (wanted a).archive) (run a (held_inside a store))
 
-      of_reply : (r : Answer) → new.stale ≡ needs_opening r → DoneBy new.view a (wanted a) r (content new.disk) → DoesBy (Holds content) stale_of (clock_of moment) (Leaves left_since) a (wanted a) r new
+      of_reply : (r : Answer) → new.stale ≡ needs_opening r → DoneBy new.view [] a (wanted a) r (content new.disk) → DoesBy (Holds content) stale_of (clock_of moment) (Leaves left_since) a (wanted a) r new
       of_reply answer.NoMemory is by_store = record { holding = by_store; ready = is }
       of_reply answer.DiskFault is by_store = record { unready = is; left = λ image since. either_one a (wanted a).archive image (left image since) }
       of_reply (answer.Ok number id) is by_store = record { answer_is = by_store.answer_is; held = record { holding = by_store.store; ready = is } }

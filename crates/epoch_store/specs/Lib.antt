@@ -11,3 +11,4 @@ pub mod Openings
 pub mod Finding
 pub mod Reads
 pub mod Opens
+pub mod Promises
