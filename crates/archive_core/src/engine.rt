@@ -1,10 +1,10 @@
 //! An archive that owns its disk.
-ghost use Rattle.std.specs.Prelude.{◌≡◌, false, IfOk};
+ghost use Rattle.std.specs.Prelude.{◌≡◌, ℕ, false, List, IfOk};
 ghost use Rattle.arch_base.specs.Configs.{IsConfig};
 ghost use Rattle.disk_model.specs.Disk.{Files};
-ghost use Rattle.epoch_store.specs.Opens.{RecoversOf};
+ghost use Rattle.epoch_store.specs.Opens.{RecoversOfWith};
 ghost use Rattle.epoch_store.specs.Promises.{MakesArchive, OpensArchive};
-ghost use Rattle.epoch_store.specs.Stores.{IsStoreOf};
+ghost use Rattle.epoch_store.specs.Stores.{IsStoreWith};
 ghost use Rattle.archive_core.specs.Engines.{needs_opening as needs_opening_behind, store_left};
 ghost use Rattle.archive_core.specs.HandedBack.{disk_made, made_or_why, disk_opened, opened_or_why};
 ghost use Rattle.archive_core.specs.Numbers.{has_number};
@@ -124,7 +124,8 @@ impl<D: Disk> Engine<D> {
 }
 
 impl<D: Disk> Keep for Engine<D> {
-    ghost holds = { λ e a. IsStoreOf e.view a (D.content e.disk) };
+    // The archive is held with whatever cache.
+    ghost holds = { λ e a. (cache : List ℕ) × IsStoreWith e.view cache a (D.content e.disk) };
 
     ghost live = { λ e n. has_number e.view.entries n };
 
@@ -132,8 +133,8 @@ impl<D: Disk> Keep for Engine<D> {
 
     ghost clock = { λ e. D.moment e.disk };
 
-    ghost leaves = { λ e t may. (image : Files) → D.left_since e.disk t image
-        → RecoversOf may image };
+    ghost leaves = { λ e t may. (cache : List ℕ) × ((image : Files) → D.left_since e.disk t image
+        → RecoversOfWith cache may image) };
 
     ghost faults = { λ e. D.faults e.disk };
 
@@ -177,8 +178,11 @@ impl<D: Disk> Keep for Engine<D> {
         }
     }
 
-    ghost holds_left = { λ e a store image left.
-        store_left e.view a (D.content e.disk) image store (D.only_now e.disk image left) };
+    ghost holds_left = { λ e a store. (
+      store.0,
+      λ image left.
+          store_left e.view store.0 a (D.content e.disk) image store.1 (D.only_now e.disk image left),
+    ) };
 }
 
 /// Returns whether an archive has to be reopened after this answer.
