@@ -294,6 +294,23 @@ module _ {D : Type 0} (content : D → Option Content)
         told = all;
       }
 
+  -- A run of one call.
+  pub run_call : (bounds : Bounds) (old new : D) → ((image : Files) → left_since old (moment old)
+      image → Image (content old) image) → Elapses (moment old) (moment new) (left_since old)
+      (left_since new) (content new) → Told (WentBeside bounds) (content old) (content new)
+      → RunsBeside content moment left_since bounds old new
+  run_call bounds old new now time call =
+      run_on bounds old old new (run_started bounds old now) time call
+
+  -- A run of one call that changes nothing.
+  pub run_unchanged : (bounds : Bounds) (old new : D)
+      → ((image : Files) → left_since old (moment old)
+      image → Image (content old) image) → Elapses (moment old) (moment new) (left_since old)
+      (left_since new) (content new) → Told Unchanged (content old) (content new)
+      → RunsBeside content moment left_since bounds old new
+  run_unchanged bounds old new now time same =
+      run_call bounds old new now time (unchanged_told bounds (content old) (content new) same)
+
   -- Two runs, one after the other.
   pub run_joined : (bounds : Bounds) (old mid new : D) → RunsBeside content moment left_since bounds
       old mid → RunsBeside content moment left_since bounds mid new

@@ -1,7 +1,7 @@
 -- A write of a part, or no call.
-use Rattle.std.proofs.Common.{◌≡◌, ◌∙◌, List, ℕ, length, take, drop, sym, ap, subst, arith, length-take, length-drop}
+use Rattle.std.proofs.Common.{◌≡◌, ◌∙◌, List, ℕ, take, drop, ap, subst, arith, length-take, length-drop}
 use Rattle.disk_model.specs.Disk.{Told, OneFile, Wrote}
-use Rattle.disk_model.specs.BesideLaws.{write_told, run_started, run_on}
+use Rattle.disk_model.specs.BesideLaws.{write_told, run_started, run_call}
 use Rattle.root_change.specs.Copying.{range_of}
 use Rattle.root_change.proofs.Gathers.{wrote_put, none_put}
 use Rattle.root_change.proofs.sources.put_bytes.Goals as goal
@@ -26,14 +26,14 @@ pub returns-in_err-write_at-clause-beside : goal.returns-in_err-write_at-clause-
 returns-in_err-write_at-clause-beside g c = λ bounds far.
     let disk = c.args.disk.now in
     let content = g.D.Disk.content in
-    run_on content g.D.Disk.moment g.D.Disk.left_since bounds disk disk c.write_at.new.self (run_started content g.D.Disk.moment g.D.Disk.left_since bounds disk (g.met.D.Disk.only_now disk)) c.write_at.ensures.time
+    run_call content g.D.Disk.moment g.D.Disk.left_since bounds disk c.write_at.new.self (g.met.D.Disk.only_now disk) c.write_at.ensures.time
     (write_told c.write_at.result bounds c.args.to c.args.end c.split_at-2.result.0.now (content disk) (content c.write_at.new.self) (g.met.D.Disk.reads_fit disk) far c.requires.inside c.write_at.ensures.written c.write_at.ensures.torn)
 
 pub returns-clause-beside : goal.returns-clause-beside
 returns-clause-beside g c = λ bounds far.
     let disk = c.args.disk.now in
     let content = g.D.Disk.content in
-    run_on content g.D.Disk.moment g.D.Disk.left_since bounds disk disk c.write_at.new.self (run_started content g.D.Disk.moment g.D.Disk.left_since bounds disk (g.met.D.Disk.only_now disk)) c.write_at.ensures.time
+    run_call content g.D.Disk.moment g.D.Disk.left_since bounds disk c.write_at.new.self (g.met.D.Disk.only_now disk) c.write_at.ensures.time
     (write_told c.write_at.result bounds c.args.to c.args.end c.split_at-2.result.0.now (content disk) (content c.write_at.new.self) (g.met.D.Disk.reads_fit disk) far c.requires.inside c.write_at.ensures.written c.write_at.ensures.torn)
 
 pub returns-clause-put : goal.returns-clause-put

@@ -2,7 +2,7 @@
 use Rattle.std.proofs.Common.{◌∙◌, ℕ, sym, subst}
 use Rattle.std.proofs.lemmas.Result.{on_ok_weaker}
 use Rattle.disk_model.specs.Beside.{Respects}
-use Rattle.disk_model.specs.BesideLaws.{remove_told, run_started, run_on}
+use Rattle.disk_model.specs.BesideLaws.{remove_told, run_started, run_call}
 use Rattle.disk_model.specs.Disk.{Told, OneFile}
 use Rattle.root_change.specs.Names.{bounds_of}
 use Rattle.root_change.specs.Tidying.{Trimmed}
@@ -17,7 +17,7 @@ returns-then-not-is_named-clause-beside g c =
     let root = c.args.root.now in
     let content = g.D.Disk.content in
     let isnt = sym c.is_named.ensures ∙ c.if-not-is_named.true in
-    run_on content g.D.Disk.moment g.D.Disk.left_since (bounds_of root) disk disk c.remove.new.self (run_started content g.D.Disk.moment g.D.Disk.left_since (bounds_of root) disk (g.met.D.Disk.only_now disk)) c.remove.ensures.time
+    run_call content g.D.Disk.moment g.D.Disk.left_since (bounds_of root) disk c.remove.new.self (g.met.D.Disk.only_now disk) c.remove.ensures.time
     (remove_told c.remove.result (bounds_of root) c.args.name (content disk) (content c.remove.new.self) (g.met.D.Disk.reads_fit disk) (unnamed_bound root c.args.name isnt) c.remove.ensures.removed c.remove.ensures.torn)
 
 pub returns-then-not-is_named-clause-tidied : goal.returns-then-not-is_named-clause-tidied

@@ -1,7 +1,7 @@
 -- One step for the length, and one for the cut.
 use Rattle.std.proofs.Common.{arith}
 use Rattle.std.proofs.lemmas.Result.{on_ok_weaker}
-use Rattle.disk_model.specs.BesideLaws.{unchanged_told, cut_told, run_started, run_on}
+use Rattle.disk_model.specs.BesideLaws.{cut_told, run_on, run_unchanged}
 use Rattle.root_change.proofs.Tidies.{short_told, trimmed_told, inside_told}
 use Rattle.root_change.proofs.tidying.trim.Goals as goal
 
@@ -9,15 +9,13 @@ pub returns-in_err-size-clause-beside : goal.returns-in_err-size-clause-beside
 returns-in_err-size-clause-beside g c = λ bounds far.
     let disk = c.args.disk.now in
     let content = g.D.Disk.content in
-    run_on content g.D.Disk.moment g.D.Disk.left_since bounds disk disk c.length.new.self (run_started content g.D.Disk.moment g.D.Disk.left_since bounds disk (g.met.D.Disk.only_now disk)) c.length.ensures.time
-    (unchanged_told bounds (content disk) (content c.length.new.self) c.length.ensures.same)
+    run_unchanged content g.D.Disk.moment g.D.Disk.left_since bounds disk c.length.new.self (g.met.D.Disk.only_now disk) c.length.ensures.time c.length.ensures.same
 
 pub returns-then-size-le-length-clause-beside : goal.returns-then-size-le-length-clause-beside
 returns-then-size-le-length-clause-beside g c = λ bounds far.
     let disk = c.args.disk.now in
     let content = g.D.Disk.content in
-    run_on content g.D.Disk.moment g.D.Disk.left_since bounds disk disk c.length.new.self (run_started content g.D.Disk.moment g.D.Disk.left_since bounds disk (g.met.D.Disk.only_now disk)) c.length.ensures.time
-    (unchanged_told bounds (content disk) (content c.length.new.self) c.length.ensures.same)
+    run_unchanged content g.D.Disk.moment g.D.Disk.left_since bounds disk c.length.new.self (g.met.D.Disk.only_now disk) c.length.ensures.time c.length.ensures.same
 
 pub returns-then-size-le-length-clause-trimmed : goal.returns-then-size-le-length-clause-trimmed
 returns-then-size-le-length-clause-trimmed g c =
@@ -30,8 +28,7 @@ returns-clause-beside g c = λ bounds far.
     let content = g.D.Disk.content in
     let name = c.args.name in
     let n = c.args.length in
-    let looked = run_on content g.D.Disk.moment g.D.Disk.left_since bounds disk disk d1 (run_started content g.D.Disk.moment g.D.Disk.left_since bounds disk (g.met.D.Disk.only_now disk)) c.length.ensures.time
-    (unchanged_told bounds (content disk) (content d1) c.length.ensures.same) in
+    let looked = run_unchanged content g.D.Disk.moment g.D.Disk.left_since bounds disk d1 (g.met.D.Disk.only_now disk) c.length.ensures.time c.length.ensures.same in
     let inside = inside_told name c.in_ok-size.size n (content disk) (content d1) (omega arith) c.in_ok-size.ensures.length c.length.ensures.same in
     run_on content g.D.Disk.moment g.D.Disk.left_since bounds disk d1 c.cut.new.self looked c.cut.ensures.time
     (cut_told c.cut.result bounds name n (content d1) (content c.cut.new.self) (g.met.D.Disk.reads_fit d1) far inside c.cut.ensures.cut c.cut.ensures.torn)
