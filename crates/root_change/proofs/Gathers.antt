@@ -1,17 +1,17 @@
 -- Sources that are put into a file, one after the other.
-use Rattle.std.specs.Prelude.{◌≡◌, ◌≢◌, ℕ, ◌+◌, ◌<◌, ◌≤◌, List, [], ◌∷◌, ◌++◌, length, take, get_or, slice_get, Option, Some, None, refl}
+use Rattle.std.specs.Prelude.{◌≡◌, ◌≢◌, ℕ, zero, suc, ◌+◌, ◌<◌, ◌≤◌, List, [], ◌∷◌, ◌++◌, length, take, get_or, slice_get, Option, Some, None, refl}
 use Rattle.std.specs.List.{sum_by}
 use Rattle.std.proofs.Common.{◌∙◌, sym, ap, subst, arith}
 use Rattle.std.proofs.lemmas.List.{take_more, flat_map_more}
 use Rattle.std.proofs.lemmas.List.Sums.{sum_by_more, sum_by_more_le}
-use Rattle.std.proofs.lemmas.Option.{slice_get_within, get_or_from_slice_get}
+use Rattle.std.proofs.lemmas.Option.{same_Some, slice_get_within, get_or_from_slice_get}
 use Rattle.disk_model.specs.declared.name.FileName.{FileName}
 use Rattle.disk_model.specs.Disk.{File, Content, Told, WhereTold, OneFile, Wrote, IsAtMostLength, bytes_of}
 use Rattle.disk_model.specs.Tells.{told_then}
 use Rattle.root_change.specs.declared.sources.Source.{Source}
 use Rattle.root_change.specs.declared.sources.Source.TheVariants.{Bytes, Range}
 use Rattle.root_change.specs.Copying.{range_of, Put}
-use Rattle.root_change.specs.Gathering.{source_count, source_bytes, gathered, IsSource, HasSource, PutSource, PutSources}
+use Rattle.root_change.specs.Gathering.{source_count, source_bytes, gathered, IsSource, AreSources, HasSource, PutSource, PutSources}
 use Rattle.root_change.proofs.Copies.{wrote_added, none_added, put_then}
 
 -- A part of bytes that was written.
@@ -89,3 +89,10 @@ source_left bytes sources (Range range) to end_ None m is told has = absurd has
 source_left bytes sources (Range range) to end_ (Some k) None is told has = absurd told
 source_left bytes sources (Range range) to end_ (Some k) (Some m) is told has =
     subst (λ (f : File). range.place + range.count ≤ length (bytes_of f)) (sym (told.added.others range.file is.0)) has
+
+-- Three sources for a file.
+pub three_sources : (to : FileName) (a b c : Source) → IsSource to a → IsSource to b → IsSource to c → AreSources to (a ∷ b ∷ c ∷ [])
+three_sources to a b c x y z zero s is = subst (IsSource to) (same_Some a s is) x
+three_sources to a b c x y z (suc zero) s is = subst (IsSource to) (same_Some b s is) y
+three_sources to a b c x y z (suc (suc zero)) s is = subst (IsSource to) (same_Some c s is) z
+three_sources to a b c x y z (suc (suc (suc i))) s is = absurd (let wrong : None ≡ Some s = is in cc)

@@ -1,6 +1,6 @@
 //! Tidying a disk in memory, and copies of ranges of its files.
 use crate::tests::{ROOT, Stopped, count_files, current, fill, has_map, is_old, starts};
-use crate::{FileRange, copy_range, epoch_file, map_file, tidy};
+use crate::{FileRange, Source, copy_range, epoch_file, map_file, put_sources, tidy};
 use arch_base::Numbers;
 use disk_model::{Disk, DiskFault, FileKind, FileName, FuseDisk, MemDisk};
 use std::alloc::Global;
@@ -126,5 +126,28 @@ fn is_copied(disk: &mut MemDisk) -> Result<bool, DiskFault> {
 fn a_range_is_copied_by_windows(rt: HostRuntime) -> Result<(), Fail> {
     let mut disk = MemDisk::new(rt.alloc(), Numbers::new(rt.alloc()));
     assert!(rt; is_copied(&mut disk)?);
+    Ok(())
+}
+
+/// Returns whether bytes, a range of a file and a byte are put after one another.
+fn gathers(disk: &mut MemDisk) -> Result<bool, DiskFault> {
+    disk.write_at(LONG, 0, b"0123456789")?;
+    let sources = [
+        Source::Bytes { place: 1, count: 2 },
+        Source::Range(FileRange {
+            file: LONG,
+            place: 3,
+            count: 4,
+        }),
+        Source::Bytes { place: 0, count: 1 },
+    ];
+    let whole = put_sources(disk, b"abc", &sources, COPY, 0)?;
+    Ok(whole && starts(disk, COPY, b"bc3456a", true)?)
+}
+
+#[test]
+fn sources_are_put_after_one_another(rt: HostRuntime) -> Result<(), Fail> {
+    let mut disk = MemDisk::new(rt.alloc(), Numbers::new(rt.alloc()));
+    assert!(rt; gathers(&mut disk)?);
     Ok(())
 }
