@@ -1,0 +1,1 @@
+-- Lines without the line feed at their end.
