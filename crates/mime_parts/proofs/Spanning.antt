@@ -94,7 +94,7 @@ abbrev pub AllIn : List ℕ → List Span → Type 0
 AllIn text [] = Unit {0}
 AllIn text (s ∷ ss) = IsIn text s × AllIn text ss
 
-order_le : (low high : ℕ) (ss : List Span) → InOrder low high ss → low ≤ high
+pub order_le : (low high : ℕ) (ss : List Span) → InOrder low high ss → low ≤ high
 order_le low high [] o = o
 order_le low high (s ∷ ss) o = let rest = order_le s.end high ss o.1.1 in omega (arith, o.0, o.1.0)
 
@@ -104,12 +104,18 @@ order_in text low high (s ∷ ss) h o =
     let rest = order_le s.end high ss o.1.1 in
     (record { ordered = o.1.0; within = omega arith }, order_in text s.end high ss h o.1.1)
 
+-- The parts of a body are in order in it.
+pub cuts_order : (boundary text : List ℕ) (body : Span) → IsIn text body
+    → InOrder body.start body.end (cuts_from boundary body.start (lines_of (bytes_at text body))).parts
+cuts_order boundary text body i =
+    let lines = lines_of (bytes_at text body) in
+    let fit = cuts_fit boundary body.start lines in
+    let all : length (concat lines) ≡ body.end - body.start = ap length (concat-lines_of (bytes_at text body)) ∙ length-bytes_at text body i in
+    let total : body.start + length (concat lines) ≡ body.end = omega (arith, i.ordered) in
+    subst (λ (n : ℕ). InOrder body.start n (cuts_from boundary body.start lines).parts) total (fit.parts body.start (omega arith))
+
 cuts_in : (boundary text : List ℕ) (body : Span) → IsIn text body → AllIn text (cuts_from boundary body.start (lines_of (bytes_at text body))).parts
-cuts_in boundary text body i =
-    let fit = cuts_fit boundary body.start (lines_of (bytes_at text body)) in
-    let all : length (concat (lines_of (bytes_at text body))) ≡ body.end - body.start =
-    ap length (concat-lines_of (bytes_at text body)) ∙ length-bytes_at text body i in
-    order_in text 0 _ _ (omega (arith, i.ordered, i.within)) (fit.parts 0 (omega arith))
+cuts_in boundary text body i = order_in text body.start body.end _ i.within (cuts_order boundary text body i)
 
 if_in : (t : Bool) (text : List ℕ) (ss : List Span) → AllIn text ss → AllIn text (cond t ss [])
 if_in true text ss a = a

@@ -44,17 +44,18 @@ pub(crate) fn divide(
     while !rest.is_empty() {
         let (line, behind) = split_line(rest);
         let next = at + line.len() as u64;
+        let stop = at.saturating_sub(1);
         match line_kind(boundary, line) {
             LineKind::Plain => {}
             LineKind::Delimiter => {
-                push_ended(&mut spans, begun, at.saturating_sub(1))?;
+                push_ended(&mut spans, begun, stop)?;
                 if spans.as_slice().len() >= room {
                     return Ok(Spans::new(alloc));
                 }
                 begun = Some(next);
             }
             LineKind::Closing => {
-                push_ended(&mut spans, begun, at.saturating_sub(1))?;
+                push_ended(&mut spans, begun, stop)?;
                 return Ok(spans);
             }
         }

@@ -1,1 +1,0 @@
--- Lines without the line feed at their end.
