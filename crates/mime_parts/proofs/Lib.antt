@@ -3,3 +3,4 @@ pub mod Parameters
 pub mod Dividing
 pub mod Spanning
 pub mod Turns
+pub mod Trimming

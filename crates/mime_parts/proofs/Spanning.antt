@@ -15,7 +15,7 @@ use Rattle.mime_parts.specs.declared.part.Shape.TheVariants.{Leaf, Message, Mult
 use Rattle.mime_parts.specs.declared.heading.Heading.{Heading}
 use Rattle.mime_parts.specs.declared.delimiters.LineKind.{LineKind}
 use Rattle.mime_parts.specs.declared.delimiters.LineKind.TheVariants.{Plain, Delimiter, Closing}
-use Rattle.mime_parts.specs.Delimiters.{span, kind_of, Cuts, cuts, cuts_by, cuts_from, is_boundary}
+use Rattle.mime_parts.specs.Delimiters.{span_of, kind_of, Cuts, cuts, cuts_by, cuts_from, is_boundary}
 use Rattle.mime_parts.specs.Dividing.{at_most}
 use Rattle.mime_parts.specs.Trees.{IsIn, bytes_at, header_span, body_span, divided, direct_parts}
 

@@ -11,7 +11,7 @@ use Rattle.mime_parts.specs.declared.part.Shape.{Shape}
 use Rattle.mime_parts.specs.declared.part.Shape.TheVariants.{Leaf, Message, Multipart}
 use Rattle.mime_parts.specs.declared.heading.Heading.{Heading}
 use Rattle.mime_parts.specs.Headings.{shape_of, is_digest, opaque_heading}
-use Rattle.mime_parts.specs.Delimiters.{span, cuts_from}
+use Rattle.mime_parts.specs.Delimiters.{span_of, cuts_from}
 use Rattle.mime_parts.specs.Dividing.{at_most}
 use Rattle.mime_parts.specs.Trees.{IsIn, bytes_at, header_span, body_span, divided, direct_parts, heading_at, visited_parts, part_with, part_by, part_at, Visit, visit, visit_all, visit_of, tree_of}
 use Rattle.mime_parts.specs.Laws.{Stands, IsBelow, IsAfter, StartsBelow, StartsBeside, IsFollowed, AllFollowed, StartsWhole, IsTree, TreesAreTrees}
@@ -270,7 +270,7 @@ starts_node text (suc levels) digest count s h i = record {
 pub trees : TreesAreTrees
 unfolding tree_of
 trees text =
-    let s = span 0 (length text) in
+    let s = span_of 0 (length text) in
     let i : IsIn text s = record { ordered = omega arith; within = omega arith } in
     let few = visit_count text 19 false 1 s (lit≤ tt) in
     let row = visit_row text 19 false 1 s (lit≤ tt) i in

@@ -8,9 +8,9 @@ use Rattle.mime_parts.specs.declared.part.Part.{Part}
 use Rattle.mime_parts.specs.declared.visiting.Entity.{Entity}
 use Rattle.mime_parts.specs.declared.heading.Heading.{Heading}
 use Rattle.mime_parts.specs.Headings.{is_digest}
-use Rattle.mime_parts.specs.Delimiters.{span}
+use Rattle.mime_parts.specs.Delimiters.{span_of}
 use Rattle.mime_parts.specs.Trees.{IsIn, IsPartOf, header_span, body_span, direct_parts, heading_at, visited_parts, part_by, part_at, Visit, visit, visit_all, visit_of, tree_of}
-use Rattle.mime_parts.specs.Visiting.{entity, parts_below, below, known, Visits}
+use Rattle.mime_parts.specs.Visiting.{entity_at, parts_below, below, known, Visits}
 use Rattle.mime_parts.proofs.Spanning.{AllIn, header-in, body-in, direct_in, at_most_in, at_most_len}
 
 -- What is told of these entities and of all below them, where so many entities are known.
@@ -21,7 +21,7 @@ run text (e ∷ es) count =
 
 -- The parts of one entity, and then others.
 run_all : (text : List ℕ) (levels : ℕ) (digest : Bool) (ss : List Span) (es : List Entity) (count : ℕ)
-    → run text (map (entity levels digest) ss ++ es) count
+    → run text (map (entity_at levels digest) ss ++ es) count
     ≡ (visit_all (visit_of text levels digest) count ss).parts ++ run text es (visit_all (visit_of text levels digest) count ss).count
 run_all text levels digest [] es count = refl
 run_all text levels digest (s ∷ ss) es count =
@@ -31,7 +31,7 @@ run_all text levels digest (s ∷ ss) es count =
 
 -- An entity is told, and its parts are visited before the others.
 pub run_visit : (text : List ℕ) (levels : ℕ) (digest : Bool) (s : Span) (es : List Entity) (count : ℕ)
-    → run text (entity levels digest s ∷ es) count
+    → run text (entity_at levels digest s ∷ es) count
     ≡ part_at text levels digest (parts_below text levels digest count s) s
     ∷ run text (below text levels digest count s ++ es) (count + length (parts_below text levels digest count s))
 unfolding visit_of
@@ -41,7 +41,7 @@ run_visit text (suc levels) digest s es count =
     let one_less : suc levels - 1 ≡ levels = omega arith in
     ap (λ ps. part_at text (suc levels) digest parts s ∷ ps)
     (sym (run_all text levels (is_digest (heading_at text digest s)) parts es (count + length parts))
-    ∙ ap (λ n. run text (map (entity n (is_digest (heading_at text digest s))) parts ++ es) (count + length parts)) (sym one_less))
+    ∙ ap (λ n. run text (map (entity_at n (is_digest (heading_at text digest s))) parts ++ es) (count + length parts)) (sym one_less))
 
 -- An entity that can be visited.
 pub record IsReady (text : List ℕ) (e : Entity) : Type 0 where
@@ -71,7 +71,7 @@ below_len : (text : List ℕ) (levels : ℕ) (digest : Bool) (count : ℕ) (s : 
 below_len text zero digest count s = omega arith
 below_len text (suc levels) digest count s = at_most_len _ _
 
-ready_all : (text : List ℕ) (levels : ℕ) (digest : Bool) (ss : List Span) → levels < 20 → AllIn text ss → AllReady text (map (entity levels digest) ss)
+ready_all : (text : List ℕ) (levels : ℕ) (digest : Bool) (ss : List Span) → levels < 20 → AllIn text ss → AllReady text (map (entity_at levels digest) ss)
 ready_all text levels digest [] h a = tt
 ready_all text levels digest (s ∷ ss) h a = (record { within = a.0; levels = h }, ready_all text levels digest ss h a.1)
 
@@ -80,7 +80,7 @@ part_placed true text h header body depth p q = record { header = p; body = q }
 part_placed false text h header body depth p q = record { header = p; body = q }
 
 -- The text is the first to be visited.
-pub going_start : (text : List ℕ) → Going text [] (entity 19 false (span 0 (length text)) ∷ [])
+pub going_start : (text : List ℕ) → Going text [] (entity_at 19 false (span_of 0 (length text)) ∷ [])
 unfolding tree_of
 going_start text = record {
   told = append-nil _;
@@ -107,7 +107,7 @@ going_on text parts parts' pending pending' e g v =
     let rest : reverse pending' ≡ news ++ reverse pending =
     ap reverse v.pending_are ∙ reverse-append pending (reverse news) ∙ ap (λ xs. xs ++ reverse pending) (reverse-reverse news) in
     let some : length spans ≤ 1000 - n = below_len text e.levels e.digest n e.span in
-    let made : length news ≡ length spans = length-map spans (entity (e.levels - 1) (is_digest (heading_at text e.digest e.span))) in
+    let made : length news ≡ length spans = length-map spans (entity_at (e.levels - 1) (is_digest (heading_at text e.digest e.span))) in
     let size : length pending' ≡ length pending + length news =
     ap length v.pending_are ∙ length-append pending (reverse news) ∙ ap (λ k. length pending + k) (length-reverse news) in
     let told_len : length parts' ≡ length parts + 1 = ap length v.parts_are ∙ length-append parts (part ∷ []) in

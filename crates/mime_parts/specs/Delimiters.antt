@@ -7,8 +7,8 @@ use Rattle.mime_parts.specs.declared.part.Span.{Span}
 use Rattle.mime_parts.specs.declared.delimiters.LineKind.{LineKind}
 use Rattle.mime_parts.specs.declared.delimiters.LineKind.TheVariants.{Plain, Delimiter, Closing}
 
-abbrev pub span : ℕ → ℕ → Span
-span start end = record { start = start; end = end }
+abbrev pub span_of : ℕ → ℕ → Span
+span_of start end = record { start = start; end = end }
 
 -- The byte is a space or a tab.
 abbrev pub is_blank : ℕ → Bool
@@ -53,7 +53,7 @@ cuts stop parts = record { stop = stop; parts = parts }
 -- does.
 abbrev pub cuts_by : LineKind → ℕ → ℕ → Cuts → Cuts
 cuts_by Plain at next later = later
-cuts_by Delimiter at next later = cuts (at - 1) (span next (max next later.stop) ∷ later.parts)
+cuts_by Delimiter at next later = cuts (at - 1) (span_of next (max next later.stop) ∷ later.parts)
 cuts_by Closing at next later = cuts (at - 1) []
 
 -- The lines from an offset on. A part that no delimiter line ends goes on to the end.

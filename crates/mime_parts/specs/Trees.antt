@@ -11,7 +11,7 @@ use Rattle.mime_parts.specs.declared.part.Shape.TheVariants.{Leaf, Message, Mult
 use Rattle.mime_parts.specs.declared.heading.Heading.{Heading}
 use Rattle.mime_parts.specs.ContentTypes.{param}
 use Rattle.mime_parts.specs.Headings.{heading_of, shape_of, is_digest, opaque_heading, encoding_of}
-use Rattle.mime_parts.specs.Delimiters.{span, cuts_from, is_boundary}
+use Rattle.mime_parts.specs.Delimiters.{span_of, cuts_from, is_boundary}
 use Rattle.mime_parts.specs.Dividing.{at_most}
 
 -- The span is in the text.
@@ -30,7 +30,7 @@ bytes_at text s = slice_range text s.start s.end
 
 -- The span of an entity's header: its fields, from its start on (RFC 5322, section 2.2).
 abbrev pub header_span : List ℕ → Span → Span
-header_span text s = span s.start (s.start + length (wholes (fields_of (bytes_at text s))))
+header_span text s = span_of s.start (s.start + length (wholes (fields_of (bytes_at text s))))
 
 -- The span of an entity's body: what follows its header and the empty line after it, up to its end.
 abbrev pub body_span : List ℕ → Span → Span
@@ -127,4 +127,4 @@ visit_of text (suc levels) digest count s =
 
 -- The entities of a text, each before its parts, and parts in order. The text itself is the first.
 unfoldable pub tree_of : List ℕ → List Part
-tree_of text = (visit_of text 19 false 1 (span 0 (length text))).parts
+tree_of text = (visit_of text 19 false 1 (span_of 0 (length text))).parts

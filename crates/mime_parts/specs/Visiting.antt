@@ -8,8 +8,8 @@ use Rattle.mime_parts.specs.Headings.{shape_of, is_digest}
 use Rattle.mime_parts.specs.Dividing.{at_most}
 use Rattle.mime_parts.specs.Trees.{body_span, direct_parts, heading_at, visited_parts, part_at}
 
-abbrev pub entity : ℕ → Bool → Span → Entity
-entity levels digest s = record { span = s; levels = levels; digest = digest }
+abbrev pub entity_at : ℕ → Bool → Span → Entity
+entity_at levels digest s = record { span = s; levels = levels; digest = digest }
 
 -- The direct parts of an entity that are visited. At the last level there are none.
 abbrev pub parts_below : List ℕ → ℕ → Bool → ℕ → Span → List Span
@@ -25,7 +25,7 @@ found_below text (suc levels) h room s =
 -- These parts as entities to visit.
 abbrev pub below : List ℕ → ℕ → Bool → ℕ → Span → List Entity
 below text levels digest count s =
-    map (entity (levels - 1) (is_digest (heading_at text digest s)))
+    map (entity_at (levels - 1) (is_digest (heading_at text digest s)))
     (parts_below text levels digest count s)
 
 -- How many entities are known while one is visited: those told, those that wait, and itself.

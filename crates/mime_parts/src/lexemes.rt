@@ -1,7 +1,6 @@
 //! Splits a structured field's value into lexemes.
 ghost use Rattle.std.specs.Prelude.{◌≡◌, ◌≤◌, ◌<◌, ◌∷◌, ◌&&◌, ◌==◌, not, false, length, slice_index, IfOk};
 ghost use Rattle.std.specs.List.{prefix_len};
-ghost use Rattle.mime_parts.specs.declared.place.Place.TheVariants.{Outside};
 ghost use Rattle.mime_parts.specs.Lexemes.{lexemes_of, is_token_byte, is_special, is_gap, mark_of, unescaped};
 ghost use Rattle.mime_parts.specs.Reading.{shown, IsFirstLexeme, IsQuoted, IsFirstSaid};
 
@@ -46,7 +45,7 @@ pub(crate) fn first_lexeme(value: &[u8]) -> Option<(Lexeme<'_>, &[u8])>
 /// Returns a value without the spaces and comments at its front.
 fn after_gap(value: &[u8]) -> &[u8]
     ensures lexemes { lexemes_of result.now ≡ lexemes_of value.now }
-    ensures front { 0 < length result.now → is_gap Outside (slice_index result.now 0) ≡ false }
+    ensures front { 0 < length result.now → is_gap Place.Outside (slice_index result.now 0) ≡ false }
     ensures len { length result.now ≤ length value.now }
 {
     let mut place = Place::Outside;
@@ -73,7 +72,7 @@ fn is_gap(place: Place, byte: u8) -> bool
 /// Returns the lexeme at the front of a value, and the bytes after it.
 fn split_lexeme(value: &[u8]) -> (Lexeme<'_>, &[u8])
     requires some { 0 < length value.now }
-    requires front { is_gap Outside (slice_index value.now 0) ≡ false }
+    requires front { is_gap Place.Outside (slice_index value.now 0) ≡ false }
     ensures lexemes { lexemes_of value.now ≡ shown result.0 ∷ lexemes_of result.1.now }
     ensures shorter { length result.1.now < length value.now }
 {

@@ -5,9 +5,9 @@ ghost use Rattle.mail_reader.specs.Fields.{fields_of};
 ghost use Rattle.mail_reader.specs.Laws.{wholes};
 ghost use Rattle.mime_parts.specs.Headings.{shape_of};
 ghost use Rattle.mime_parts.specs.Dividing.{at_most};
-ghost use Rattle.mime_parts.specs.Delimiters.{span};
+ghost use Rattle.mime_parts.specs.Delimiters.{span_of};
 ghost use Rattle.mime_parts.specs.Trees.{IsIn, IsPartOf, bytes_at, header_span, body_span, divided, part_with, part_by, is_opaque, tree_of};
-ghost use Rattle.mime_parts.specs.Visiting.{Visits, entity, found_below};
+ghost use Rattle.mime_parts.specs.Visiting.{Visits, entity_at, found_below};
 
 use crate::content_type::ContentType;
 use crate::delimiters::{Spans, divide};
@@ -59,7 +59,7 @@ pub fn tree(alloc: Global, text: &[u8]) -> Result<Parts, NoMemory>
 
 /// Returns a mail as the entity that is visited first.
 fn whole(text: &[u8]) -> Entity
-    ensures { result ≡ entity 19 false (span 0 (length text.now)) }
+    ensures { result ≡ entity_at 19 false (span_of 0 (length text.now)) }
 {
     Entity {
         span: Span {
@@ -268,7 +268,7 @@ fn put_before(
     digest: bool,
 ) -> Result<(), NoMemory>
     ensures { OnOk result
-        (pending.new.items ≡ pending.old.items ++ reverse (map (entity levels digest) found)) }
+        (pending.new.items ≡ pending.old.items ++ reverse (map (entity_at levels digest) found)) }
 {
     let mut rest = found.into_vec();
     while let Some(span) = rest.pop() {

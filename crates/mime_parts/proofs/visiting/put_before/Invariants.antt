@@ -1,5 +1,5 @@
 use Rattle.std.proofs.Common.{◌≡◌, ◌++◌, map, reverse, vec_len}
-use Rattle.mime_parts.specs.Visiting.{entity}
+use Rattle.mime_parts.specs.Visiting.{entity_at}
 use Rattle.mime_parts.proofs.visiting.put_before.Given as goal
 
 abbrev pub invariant-loop-span : goal.invariant-loop-span
