@@ -1,8 +1,9 @@
 -- The law that the parts of a body, with their delimiter lines, are the body.
-use Rattle.std.proofs.Common.{◌≡◌, ◌⊎◌, inl, inr, ℕ, ◌+◌, ◌-◌, ◌<◌, ◌≤◌, Bool, true, false, cond, eqb, max, List, [], ◌∷◌, ◌++◌, length, take, drop, refl, sym, ap, ◌∙◌, append_assoc, arith, length-append}
+use Rattle.std.proofs.Common.{◌≡◌, ◌⊎◌, inl, inr, ℕ, ◌+◌, ◌-◌, ◌<◌, ◌≤◌, Bool, true, false, cond, eqb, max, List, [], ◌∷◌, ◌++◌, length, take, drop, refl, sym, ap, ◌∙◌, subst, append_assoc, arith, length-append}
 use Rattle.std.specs.List.{concat, onto_first, slice_range}
-use Rattle.std.proofs.lemmas.Bool.{eqb-true, cases_lt}
+use Rattle.std.proofs.lemmas.Bool.{eqb-true}
 use Rattle.std.proofs.lemmas.List.{take-append-le, take-append-drop, length-take-le}
+use Rattle.std.proofs.lemmas.List.Elements.{All-nil}
 use Rattle.std.proofs.lemmas.List.Folds.{drop_split}
 use Rattle.std.proofs.Math.Seq.{take-length, drop-append_seam}
 use Rattle.mail_reader.specs.Lines.{lines_of}
@@ -12,8 +13,9 @@ use Rattle.mime_parts.specs.declared.delimiters.LineKind.{LineKind}
 use Rattle.mime_parts.specs.declared.delimiters.LineKind.TheVariants.{Plain, Delimiter, Closing}
 use Rattle.mime_parts.specs.Delimiters.{kind_of, Cuts, cuts, cuts_by, cuts_from}
 use Rattle.mime_parts.specs.Trees.{IsIn, bytes_at}
-use Rattle.mime_parts.specs.Laws.{IsGap, Closes, AreCut, IsDivided, BodiesAreDivided}
+use Rattle.mime_parts.specs.Laws.{IsGap, Closes, IsPlain, AreCut, IsDivided, BodiesAreDivided}
 use Rattle.mime_parts.proofs.Spanning.{length-bytes_at}
+use Rattle.mime_parts.proofs.Feeding.{EndsFed, AllLines, all_lines, plain_push, plain_unfed}
 
 -- The middle of three pieces.
 slice_mid : (a b c : List ℕ) → slice_range (a ++ (b ++ c)) (length a) (length a + length b) ≡ b
@@ -22,10 +24,9 @@ slice_mid a b c =
     ap (λ n. take n (drop (length a) (a ++ (b ++ c)))) len ∙ ap (take (length b)) (drop-append_seam a (b ++ c))
     ∙ take-append-le (length b) b c (omega arith) ∙ take-length b
 
--- Bytes that end with a line feed.
-record EndsFed (bytes : List ℕ) : Type 0 where
-  before : List ℕ
-  is : bytes ≡ before ++ 10 ∷ []
+-- No bytes.
+slice_none : (text : List ℕ) (n : ℕ) → slice_range text n n ≡ []
+slice_none text n = let none : n - n ≡ 0 = omega arith in ap (λ k. take k (drop n text)) none
 
 -- Each line but the last ends with a line feed.
 abbrev AllEnded : List (List ℕ) → Type 0
@@ -54,26 +55,31 @@ all_ended (b ∷ bs) = step (eqb b 10) refl (all_ended bs)
 record Cut (boundary text : List ℕ) (place end : ℕ) (c : Cuts) : Type 0 where
   ordered : place ≤ max place c.stop
   within : max place c.stop ≤ end
+  plain : IsPlain boundary (slice_range text place (max place c.stop))
   parts : AreCut boundary text (max place c.stop) end c.parts
 
--- A line, with the line feed before it where it isn't at the place.
-record Led (text line : List ℕ) (place at next : ℕ) : Type 0 where
+-- A line, with the line feed before it where it isn't at the place, and what stands before both.
+record Led (boundary text line : List ℕ) (place at next : ℕ) : Type 0 where
   lead : List ℕ
   feed : (lead ≡ []) ⊎ (lead ≡ 10 ∷ [])
   joined : slice_range text (max place (at - 1)) next ≡ lead ++ line
+  plain : IsPlain boundary (slice_range text place (max place (at - 1)))
 
 cut_step : (k : LineKind) (boundary text line : List ℕ) (place at next end : ℕ) (later : Cuts) → kind_of boundary line ≡ k
-    → place ≤ at → at ≤ next → next ≤ end → Led text line place at next → Cut boundary text place end later → Cut boundary text next end later
+    → place ≤ at → at ≤ next → next ≤ end → Led boundary text line place at next
+    → (kind_of boundary line ≡ Plain → Cut boundary text place end later) → Cut boundary text next end later
     → Cut boundary text place end (cuts_by k at next later)
-cut_step Plain boundary text line place at next end later e h i j led before after = before
+cut_step Plain boundary text line place at next end later e h i j led before after = before e
 cut_step Delimiter boundary text line place at next end later e h i j led before after = record {
   ordered = omega arith;
   within = omega arith;
-  parts = (omega arith, (record { lead = led.lead; line = line; joined = led.joined; is = e; feed = led.feed }, (after.ordered, after.parts)));
+  plain = led.plain;
+  parts = (omega arith, (record { lead = led.lead; line = line; joined = led.joined; is = e; feed = led.feed }, (after.ordered, (after.plain, after.parts))));
 }
 cut_step Closing boundary text line place at next end later e h i j led before after = record {
   ordered = omega arith;
   within = omega arith;
+  plain = led.plain;
   parts = inr (record {
     close = next;
     ordered = omega arith;
@@ -82,76 +88,103 @@ cut_step Closing boundary text line place at next end later e h i j led before a
   });
 }
 
--- Where a part began before lines, a line feed stands before them.
-abbrev FedIf : List (List ℕ) → ℕ → List ℕ → Type 0
-FedIf [] place front = Unit {0}
-FedIf (l ∷ ls) place front = place < length front → EndsFed front
+-- Nothing, or bytes that end with a line feed where lines follow them.
+abbrev FedIf : List (List ℕ) → List ℕ → Type 0
+FedIf [] mid = Unit {0}
+FedIf (l ∷ ls) mid = (mid ≡ []) ⊎ EndsFed mid
 
-fed_more : (line : List ℕ) (lines : List (List ℕ)) (place : ℕ) (front : List ℕ) → AllEnded (line ∷ lines) → FedIf lines place (front ++ line)
-fed_more line [] place front e = tt
-fed_more line (m ∷ ls) place front e =
-    λ h. record { before = front ++ e.0.before; is = ap (λ xs. front ++ xs) e.0.is ∙ sym (append_assoc front e.0.before (10 ∷ [])) }
+fed_more : (line : List ℕ) (lines : List (List ℕ)) (mid : List ℕ) → AllEnded (line ∷ lines) → FedIf lines (mid ++ line)
+fed_more line [] mid e = tt
+fed_more line (m ∷ ls) mid e =
+    inr (record { before = mid ++ e.0.before; is = ap (λ xs. mid ++ xs) e.0.is ∙ sym (append_assoc mid e.0.before (10 ∷ [])) })
 
-fed_none : (lines : List (List ℕ)) (front : List ℕ) → FedIf lines (length front) front
-fed_none [] front = tt
-fed_none (l ∷ ls) front = λ h. absurd (omega arith)
+fed_none : (lines : List (List ℕ)) → FedIf lines []
+fed_none [] = tt
+fed_none (l ∷ ls) = inl refl
 
 ended_rest : (line : List ℕ) (lines : List (List ℕ)) → AllEnded (line ∷ lines) → AllEnded lines
 ended_rest line [] e = tt
 ended_rest line (m ∷ ls) e = e.1
 
-led : (text front line rest : List ℕ) (place : ℕ) → text ≡ front ++ (line ++ rest) → place ≤ length front → (place < length front → EndsFed front)
-    → Led text line place (length front) (length front + length line)
-led text front line rest place e h fed = step (cases_lt place (length front))
-  where
-    step : (place < length front) ⊎ (length front ≤ place) → Led text line place (length front) (length front + length line)
-    step (inl less) =
-        let f = fed less in
-        let size : length front ≡ length f.before + 1 = ap length f.is ∙ length-append f.before (10 ∷ []) in
-        let from : max place (length front - 1) ≡ length f.before = omega arith in
-        let to : length front + length line ≡ length f.before + length (10 ∷ line) = omega arith in
-        let split : text ≡ f.before ++ ((10 ∷ line) ++ rest) =
-        e ∙ ap (λ xs. xs ++ (line ++ rest)) f.is ∙ append_assoc f.before (10 ∷ []) (line ++ rest) in
-        record {
-          lead = 10 ∷ [];
-          feed = inr refl;
-          joined =
-              ap (λ n. slice_range text n (length front + length line)) from
-              ∙ ap (λ n. slice_range text (length f.before) n) to
-              ∙ ap (λ xs. slice_range xs (length f.before) (length f.before + length (10 ∷ line))) split
-              ∙ slice_mid f.before (10 ∷ line) rest;
-        }
-    step (inr same) =
-        let from : max place (length front - 1) ≡ length front = omega arith in
-        record {
-          lead = [];
-          feed = inl refl;
-          joined =
-              ap (λ n. slice_range text n (length front + length line)) from
-              ∙ ap (λ xs. slice_range xs (length front) (length front + length line)) e
-              ∙ slice_mid front line rest;
-        }
+led : (boundary text pre mid line rest : List ℕ) → text ≡ pre ++ (mid ++ (line ++ rest)) → (mid ≡ []) ⊎ EndsFed mid → IsPlain boundary mid
+    → Led boundary text line (length pre) (length pre + length mid) ((length pre + length mid) + length line)
+led boundary text pre mid line rest e (inl none) p =
+    let empty : length mid ≡ 0 = ap length none in
+    let from : max (length pre) ((length pre + length mid) - 1) ≡ length pre = omega arith in
+    let to : (length pre + length mid) + length line ≡ length pre + length line = omega arith in
+    let split : text ≡ pre ++ (line ++ rest) = e ∙ ap (λ xs. pre ++ (xs ++ (line ++ rest))) none in
+    let nothing : slice_range text (length pre) (max (length pre) ((length pre + length mid) - 1)) ≡ [] =
+    ap (slice_range text (length pre)) from ∙ slice_none text (length pre) in
+    record {
+      lead = [];
+      feed = inl refl;
+      joined =
+          ap (λ n. slice_range text n ((length pre + length mid) + length line)) from
+          ∙ ap (slice_range text (length pre)) to
+          ∙ ap (λ xs. slice_range xs (length pre) (length pre + length line)) split
+          ∙ slice_mid pre line rest;
+      plain = subst (IsPlain boundary) (sym nothing) (All-nil _);
+    }
+led boundary text pre mid line rest e (inr f) p =
+    let size : length mid ≡ length f.before + 1 = ap length f.is ∙ length-append f.before (10 ∷ []) in
+    let front : length (pre ++ f.before) ≡ length pre + length f.before = length-append pre f.before in
+    let from : max (length pre) ((length pre + length mid) - 1) ≡ length (pre ++ f.before) = omega arith in
+    let to : (length pre + length mid) + length line ≡ length (pre ++ f.before) + length (10 ∷ line) = omega arith in
+    let split : text ≡ pre ++ (f.before ++ ((10 ∷ line) ++ rest)) =
+    e ∙ ap (λ xs. pre ++ (xs ++ (line ++ rest))) f.is ∙ ap (λ xs. pre ++ xs) (append_assoc f.before (10 ∷ []) (line ++ rest)) in
+    let joined : text ≡ (pre ++ f.before) ++ ((10 ∷ line) ++ rest) = split ∙ sym (append_assoc pre f.before ((10 ∷ line) ++ rest)) in
+    let some : slice_range text (length pre) (max (length pre) ((length pre + length mid) - 1)) ≡ f.before =
+    ap (slice_range text (length pre)) (from ∙ front) ∙ ap (λ xs. slice_range xs (length pre) (length pre + length f.before)) split
+    ∙ slice_mid pre f.before ((10 ∷ line) ++ rest) in
+    record {
+      lead = 10 ∷ [];
+      feed = inr refl;
+      joined =
+          ap (λ n. slice_range text n ((length pre + length mid) + length line)) from
+          ∙ ap (slice_range text (length (pre ++ f.before))) to
+          ∙ ap (λ xs. slice_range xs (length (pre ++ f.before)) (length (pre ++ f.before) + length (10 ∷ line))) joined
+          ∙ slice_mid (pre ++ f.before) (10 ∷ line) rest;
+      plain = subst (IsPlain boundary) (sym some) (plain_unfed boundary f.before (subst (IsPlain boundary) f.is p));
+    }
 
-cut_lines : (boundary text front : List ℕ) (lines : List (List ℕ)) (after : List ℕ) (place at : ℕ) → at ≡ length front
-    → text ≡ front ++ (concat lines ++ after) → place ≤ at → FedIf lines place front → AllEnded lines
+cut_lines : (boundary text pre mid : List ℕ) (lines : List (List ℕ)) (after : List ℕ) (place at : ℕ) → place ≡ length pre → at ≡ length pre + length mid
+    → text ≡ pre ++ (mid ++ (concat lines ++ after)) → FedIf lines mid → AllEnded lines → AllLines lines → IsPlain boundary mid
     → Cut boundary text place (at + length (concat lines)) (cuts_from boundary at lines)
-cut_lines boundary text front [] after place at a e h fed ended =
-    record { ordered = omega arith; within = omega arith; parts = inl (omega arith) }
-cut_lines boundary text front (line ∷ lines) after place at a e h fed ended =
+cut_lines boundary text pre mid [] after place at b a e fed ended are p =
+    let whole : max place at ≡ length pre + length mid = omega arith in
+    let bytes : slice_range text place (max place at) ≡ mid =
+    ap (λ n. slice_range text n (max place at)) b ∙ ap (slice_range text (length pre)) whole
+    ∙ ap (λ xs. slice_range xs (length pre) (length pre + length mid)) e ∙ slice_mid pre mid after in
+    record {
+      ordered = omega arith;
+      within = omega arith;
+      plain = subst (IsPlain boundary) (sym bytes) p;
+      parts = inl (omega arith);
+    }
+cut_lines boundary text pre mid (line ∷ lines) after place at b a e fed ended are p =
     let next = at + length line in
-    let split : text ≡ front ++ (line ++ (concat lines ++ after)) = e ∙ ap (λ xs. front ++ xs) (append_assoc line (concat lines) after) in
-    let more : text ≡ (front ++ line) ++ (concat lines ++ after) = split ∙ sym (append_assoc front line (concat lines ++ after)) in
-    let size : next ≡ length (front ++ line) = omega (arith, length-append front line) in
+    let rest = concat lines ++ after in
+    let split : text ≡ pre ++ (mid ++ (line ++ rest)) = e ∙ ap (λ xs. pre ++ (mid ++ xs)) (append_assoc line (concat lines) after) in
+    let longer : text ≡ pre ++ ((mid ++ line) ++ rest) = split ∙ ap (λ xs. pre ++ xs) (sym (append_assoc mid line rest)) in
+    let anew : text ≡ (pre ++ (mid ++ line)) ++ ([] ++ rest) = longer ∙ sym (append_assoc pre (mid ++ line) rest) in
     let total : next + length (concat lines) ≡ at + length (concat (line ∷ lines)) = omega (arith, length-append line (concat lines)) in
-    let goes = λ (p : ℕ) (l : p ≤ next) (f : FedIf lines p (front ++ line)).
-    subst (λ (n : ℕ). Cut boundary text p n (cuts_from boundary next lines)) total
-    (cut_lines boundary text (front ++ line) lines after p next size more l f (ended_rest line lines ended)) in
-    cut_step (kind_of boundary line) boundary text line place at next (at + length (concat (line ∷ lines))) (cuts_from boundary next lines) refl
-    h (omega arith) (omega (arith, length-append line (concat lines)))
-    (subst (λ (n : ℕ). Led text line place n (n + length line)) (sym a)
-    (led text front line (concat lines ++ after) place split (omega arith) fed))
-    (goes place (omega arith) (fed_more line lines place front ended))
-    (goes next (omega arith) (subst (λ (n : ℕ). FedIf lines n (front ++ line)) (sym size) (fed_none lines (front ++ line))))
+    let size : length (mid ++ line) ≡ length mid + length line = length-append mid line in
+    let all : length (pre ++ (mid ++ line)) ≡ length pre + length (mid ++ line) = length-append pre (mid ++ line) in
+    let end = at + length (concat (line ∷ lines)) in
+    let goes = λ (k : kind_of boundary line ≡ Plain).
+    subst (λ (n : ℕ). Cut boundary text place n (cuts_from boundary next lines)) total
+    (cut_lines boundary text pre (mid ++ line) lines after place next b (omega arith) longer
+    (fed_more line lines mid ended) (ended_rest line lines ended) are.1 (plain_push boundary mid line fed are.0 k p)) in
+    let starts =
+    subst (λ (n : ℕ). Cut boundary text next n (cuts_from boundary next lines)) total
+    (cut_lines boundary text (pre ++ (mid ++ line)) [] lines after next next (omega arith) (omega arith) anew
+    (fed_none lines) (ended_rest line lines ended) are.1 (All-nil _)) in
+    let here : Led boundary text line place at next =
+    subst (λ (n : ℕ). Led boundary text line n at next) (sym b)
+    (subst (λ (n : ℕ). Led boundary text line (length pre) n (n + length line)) (sym a)
+    (led boundary text pre mid line rest split fed p)) in
+    cut_step (kind_of boundary line) boundary text line place at next end (cuts_from boundary next lines) refl
+    (omega arith) (omega arith) (omega (arith, length-append line (concat lines))) here goes starts
 
 pub divides : BodiesAreDivided
 divides boundary text body i =
@@ -160,13 +193,19 @@ divides boundary text body i =
     let len = length-bytes_at text body i in
     let ordered = i.ordered in
     let within = i.within in
-    let at : body.start ≡ length (take body.start text) = sym (length-take-le body.start text (omega arith)) in
-    let split : text ≡ take body.start text ++ (concat lines ++ drop body.end text) =
+    let pre = take body.start text in
+    let at : body.start ≡ length pre = sym (length-take-le body.start text (omega arith)) in
+    let split : text ≡ pre ++ (concat lines ++ drop body.end text) =
     sym (take-append-drop body.start text)
-    ∙ ap (λ xs. take body.start text ++ xs) (drop_split text body.start body.end ordered ∙ ap (λ xs. xs ++ drop body.end text) (sym all)) in
+    ∙ ap (λ xs. pre ++ xs) (drop_split text body.start body.end ordered ∙ ap (λ xs. xs ++ drop body.end text) (sym all)) in
     let total : body.start + length (concat lines) ≡ body.end = omega (arith, ap length all) in
     let c = subst (λ (n : ℕ). Cut boundary text body.start n (cuts_from boundary body.start lines)) total
-    (cut_lines boundary text (take body.start text) lines (drop body.end text) body.start body.start at split (omega arith)
-    (subst (λ (n : ℕ). FedIf lines n (take body.start text)) (sym at) (fed_none lines (take body.start text)))
-    (all_ended (bytes_at text body))) in
-    record { from = max body.start (cuts_from boundary body.start lines).stop; ordered = c.ordered; within = c.within; parts = c.parts }
+    (cut_lines boundary text pre [] lines (drop body.end text) body.start body.start at (omega arith) split
+    (fed_none lines) (all_ended (bytes_at text body)) (all_lines (bytes_at text body)) (All-nil _)) in
+    record {
+      from = max body.start (cuts_from boundary body.start lines).stop;
+      ordered = c.ordered;
+      within = c.within;
+      before = c.plain;
+      parts = c.parts;
+    }

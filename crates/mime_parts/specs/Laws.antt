@@ -89,13 +89,18 @@ pub record Closes (boundary text : List ℕ) (at end : ℕ) : Type 0 where
   pub within : close ≤ end
   pub gap : IsGap boundary Closing (slice_range text at close)
 
+-- No line of the bytes is a delimiter line or a closing line.
+abbrev pub IsPlain : List ℕ → List ℕ → Type 0
+IsPlain boundary bytes = All (λ (line : List ℕ). kind_of boundary line ≡ Plain) (lines_of bytes)
+
 -- From an offset on: each part follows a delimiter line, and nothing or a closing line follows the
--- last part.
+-- last part. No line of a part is a delimiter line.
 abbrev pub AreCut : List ℕ → List ℕ → ℕ → ℕ → List Span → Type 0
 AreCut boundary text at end [] = (at ≡ end) ⊎ Closes boundary text at end
 AreCut boundary text at end (s ∷ ss) =
     (at ≤ s.start) × (IsGap boundary Delimiter (slice_range text at s.start)
-    × ((s.start ≤ s.end) × AreCut boundary text s.end end ss))
+    × ((s.start ≤ s.end) × (IsPlain boundary (bytes_at text s)
+    × AreCut boundary text s.end end ss)))
 
 -- The bytes of a body up to an offset are before its first delimiter line, and from there on it is
 -- its parts with their delimiter lines. If it has no delimiter line, the offset is its end.
@@ -103,6 +108,7 @@ pub record IsDivided (boundary text : List ℕ) (body : Span) : Type 0 where
   pub from : ℕ
   pub ordered : body.start ≤ from
   pub within : from ≤ body.end
+  pub before : IsPlain boundary (slice_range text body.start from)
   pub parts : AreCut boundary text from body.end
       (cuts_from boundary body.start (lines_of (bytes_at text body))).parts
 
