@@ -123,13 +123,14 @@ fn push_ended(text: &[u8], into: &mut Bytes) -> Result<(), NoMemory>
 fn part_line(alloc: Global, part: &Part, len: usize) -> Result<Bytes, NoMemory>
     ensures { IfOk result (λ line. line ≡ part_line part.now len) }
 {
+    let digits = decimal(alloc, len as u64)?;
     let mut line = Bytes::new(alloc);
     line.push_slice(b"[-- ")?;
     line.push_slice(part.major.as_slice())?;
     line.push_slice(b"/")?;
     line.push_slice(part.minor.as_slice())?;
     line.push_slice(b", ")?;
-    line.push_slice(decimal(alloc, len as u64)?.as_slice())?;
+    line.push_slice(digits.as_slice())?;
     line.push_slice(b" bytes --]\n")?;
     Ok(line)
 }

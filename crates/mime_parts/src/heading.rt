@@ -133,7 +133,10 @@ fn named_type(alloc: Global, bytes: &[u8]) -> Result<Option<ContentType>, NoMemo
         found ≡ option_and_then type_in (flat_first (codes "Content-Type") bytes.now)) }
 {
     match first_value(bytes, b"Content-Type") {
-        Some(value) => read_type(alloc, flat(alloc, value)?.as_slice()),
+        Some(value) => {
+            let flat_value = flat(alloc, value)?;
+            read_type(alloc, flat_value.as_slice())
+        }
         None => Ok(None),
     }
 }
@@ -154,7 +157,10 @@ fn named_encoding(alloc: Global, bytes: &[u8]) -> Result<Option<Bytes>, NoMemory
         ≡ option_and_then lower_token (flat_first (codes "Content-Transfer-Encoding") bytes.now)) }
 {
     match first_value(bytes, b"Content-Transfer-Encoding") {
-        Some(value) => lower_token(alloc, flat(alloc, value)?.as_slice()),
+        Some(value) => {
+            let flat_value = flat(alloc, value)?;
+            lower_token(alloc, flat_value.as_slice())
+        }
         None => Ok(None),
     }
 }
