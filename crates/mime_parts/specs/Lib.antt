@@ -8,3 +8,4 @@ pub mod Trees
 pub mod Visiting
 pub mod QuotedPrintable
 pub mod Texts
+pub mod Laws

@@ -5,6 +5,7 @@ mod content_type;
 mod decoding;
 mod delimiters;
 mod heading;
+mod laws;
 mod lexemes;
 mod params;
 mod part;
@@ -13,5 +14,6 @@ mod quoted;
 mod visiting;
 
 pub use decoding::{body_text, decode_part};
+pub use laws::{bodies_are_divided, parts_are_a_tree};
 pub use part::{Encoding, Part, Parts, Shape, Span};
 pub use visiting::tree;
