@@ -34,7 +34,7 @@ header_span text s = span_of s.start (s.start + length (wholes (fields_of (bytes
 
 -- The span of an entity's body: what follows its header and the empty line after it, up to its end.
 abbrev pub body_span : List ℕ → Span → Span
-body_span text s = span (s.end - length (body_of (bytes_at text s))) s.end
+body_span text s = span_of (s.end - length (body_of (bytes_at text s))) s.end
 
 -- The parts of a body that a boundary divides.
 abbrev pub divided : List ℕ → List ℕ → Span → List Span

@@ -1,5 +1,5 @@
 //! Reads the parameters of a type.
-ghost use Rattle.std.specs.Prelude.{◌≡◌, ◌++◌, [], IfOk};
+ghost use Rattle.std.specs.Prelude.{◌≡◌, [], IfOk, if◌then◌else◌};
 ghost use Rattle.mime_parts.specs.Lexemes.{lexemes_of};
 ghost use Rattle.mime_parts.specs.ContentTypes.{params_of, step_of, end_at, param};
 ghost use Rattle.mime_parts.specs.Reading.{shown, Takes};
