@@ -27,14 +27,14 @@ pub unopened-delivers : (a : Archive) (bytes : List ℕ) (moment : ℕ) (why : O
 unopened-delivers a bytes moment refusal.NoArchive old new reads want kind = absurd want
 unopened-delivers a bytes moment (refusal.Damaged file at) old new reads want kind = absurd want
 unopened-delivers a bytes moment refusal.DiskFault old new reads want kind = tt
-unopened-delivers a bytes moment refusal.NoMemory old new reads want kind = kind a reads
+unopened-delivers a bytes moment refusal.NoMemory old new reads want kind = kind a [] reads
 
 -- What a refusal to open leaves of an archive that was to be checked.
 pub unopened-checks : (a : Archive) (why : OpenRefusal) (old new : Option Content) → ReadsAs a old → IsWant why → LeavesKindly why old new → ChecksTo a (Unopened why) new
 unopened-checks a refusal.NoArchive old new reads want kind = absurd want
 unopened-checks a (refusal.Damaged file at) old new reads want kind = absurd want
 unopened-checks a refusal.DiskFault old new reads want kind = tt
-unopened-checks a refusal.NoMemory old new reads want kind = kind a reads
+unopened-checks a refusal.NoMemory old new reads want kind = kind a [] reads
 
 -- The counts of a store are those of its archive.
 pub opened-checks : (v : View) (a : Archive) (content : Option Content) (entries live next : ℕ) → IsStoreOf v a content → entries ≡ length v.entries → ((b : Archive) → Keeps v b → live ≡ length b.entries) → next ≡ v.root.next
@@ -44,7 +44,7 @@ opened-checks v a (Some k) entries live next store count lives following =
     (count ∙ (ap (λ (es : List StoredEntry). length es) store.keeps.kept ∙ stored_length [] a.entries), lives a store.keeps, following ∙ store.keeps.names.next, (v, store))
 
 -- The answer of an open archive is the answer on the disk.
-pub done-answers : (v : View) (a : Archive) (wanted : Done) (reply : Answer) (content : Option Content) → DoneBy v a wanted reply content → Answers a wanted reply content
+pub done-answers : (v : View) (a : Archive) (wanted : Done) (reply : Answer) (content : Option Content) → DoneBy v [] a wanted reply content → Answers a wanted reply content
 done-answers v a wanted answer.NoMemory content done = (v, done)
 done-answers v a wanted answer.DiskFault content done = tt
 done-answers v a wanted (answer.Ok number id) content done = record { answer_is = done.answer_is; own = (v, done.store) }

@@ -11,9 +11,10 @@ use Rattle.arch_model.specs.declared.answer.Answer.TheVariants as answer
 use Rattle.arch_model.specs.declared.opening.OpenRefusal.{OpenRefusal}
 use Rattle.arch_model.specs.declared.opening.OpenRefusal.TheVariants as refusal
 use Rattle.epoch_store.specs.Files.{as_read}
-use Rattle.epoch_store.specs.Opens.{RecoversOf, AllRecoverOf, ReadsAs, IsWant}
-use Rattle.epoch_store.specs.Recovery.{RecoversSome}
-use Rattle.epoch_store.specs.Stores.{View, IsStoreOf, RecoversEither}
+use Rattle.epoch_store.specs.Opens.{RecoversOfWith, AllRecoverWith, ReadsWith, IsWant}
+use Rattle.epoch_store.specs.Recovery.{RecoversSomeWith}
+use Rattle.epoch_store.specs.Leaving.{disk_recovers}
+use Rattle.epoch_store.specs.Stores.{View, IsStoreWith, RecoversEitherWith}
 use Rattle.archive_core.specs.Commands.{DoneBy}
 use Rattle.archive_core.specs.Engines.{Owning, needs_opening, store_left}
 
@@ -33,35 +34,35 @@ is_either x (Some y) may (suc zero) below is = (y, sym is, inr refl)
 is_either x (Some y) may (suc (suc i)) below is = absurd (omega (arith, below))
 
 -- Files that stand for one of them stand for the archive or for the one in doubt.
-recovers_either : (s : Standing) (image : Files) → RecoversOf (one_of s) image → (b : Archive) × IsFound s b × RecoversSome image (Some b)
-recovers_either s image recovers =
+recovers_either : (s : Standing) (cache : List ℕ) (image : Files) → RecoversOfWith cache (one_of s) image → (b : Archive) × IsFound s b × RecoversSomeWith cache image (Some b)
+recovers_either s cache image recovers =
     let found = is_either s.archive s.doubt recovers.0 recovers.1.0 recovers.1.1 recovers.1.2 in
-    (found.0, found.2, subst (λ (o : Option Archive). RecoversSome image o) found.1 recovers.2)
+    (found.0, found.2, subst (λ (o : Option Archive). RecoversSomeWith cache image o) found.1 recovers.2)
 
 -- If each image stands for one of these archives, the disk tells its content; otherwise any files
 -- could be there, none included.
-all_recover : (s : Standing) (k : Option Content) → ((image : Files) → Image k image → RecoversOf (one_of s) image) → AllRecoverOf (one_of s) k
-all_recover s None each = let none : Files = λ name. None in absurd ((recovers_either s none (each none tt)).2.1.stands.current)
-all_recover s (Some k) each = each
+all_recover : (s : Standing) (cache : List ℕ) (k : Option Content) → ((image : Files) → Image k image → RecoversOfWith cache (one_of s) image) → AllRecoverWith cache (one_of s) k
+all_recover s cache None each = let none : Files = λ name. None in absurd ((recovers_either s cache none (each none tt)).2.1.stands.current)
+all_recover s cache (Some k) each = each
 
 -- So the disk reads as the archive or as the one in doubt.
-reads_one : (s : Standing) (k : Option Content) → ReadsFit k → AllRecoverOf (one_of s) k → (b : Archive) × IsFound s b × ReadsAs b k
-reads_one s None fit all = absurd all
-reads_one s (Some k) fit all = recovers_either s (as_read k) (all (as_read k) (λ name. fit k refl name))
+reads_one : (s : Standing) (cache : List ℕ) (k : Option Content) → ReadsFit k → AllRecoverWith cache (one_of s) k → (b : Archive) × IsFound s b × ReadsWith cache b k
+reads_one s cache None fit all = absurd all
+reads_one s cache (Some k) fit all = recovers_either s cache (as_read k) (all (as_read k) (λ name. fit k refl name))
 
 -- Files that stand for either archive stand for one of the two.
-pub either_one : (a b : Archive) (image : Files) → RecoversEither a b image → RecoversOf (one_of (standing a (Some b))) image
-either_one a b image (inl before) = (Some a, (0, omega arith, refl), before)
-either_one a b image (inr after) = (Some b, (1, omega arith, refl), after)
+either_one : (a b : Archive) (cache : List ℕ) (image : Files) → RecoversEitherWith cache a b image → RecoversOfWith cache (one_of (standing a (Some b))) image
+either_one a b cache image (inl before) = (Some a, (0, omega arith, refl), before)
+either_one a b cache image (inr after) = (Some b, (1, omega arith, refl), after)
 
 -- A store's own disk leaves the first of the two.
-stands_for : (v : View) (a b : Archive) (k : Option Content) (image : Files) → IsStoreOf v a k → Image k image → RecoversEither a b image
-stands_for v a b None image store left = absurd store
-stands_for v a b (Some k) image store left = inl (v.root, record { valid = store.keeps.valid; names = store.keeps.names; stands = store.on.images image left })
+stands_for : (v : View) (cache : List ℕ) (a b : Archive) (k : Option Content) (image : Files) → IsStoreWith v cache a k → Image k image → RecoversEitherWith cache a b image
+stands_for v cache a b None image store left = absurd store
+stands_for v cache a b (Some k) image store left = inl (disk_recovers v cache a k image store left)
 
--- The archive that it holds.
+-- The archive that it holds, with whatever cache.
 abbrev pub Holds : {D : Type 0} → (D → Option Content) → Owning D → Archive → Type 0
-Holds content e a = IsStoreOf e.view a (content e.disk)
+Holds content e a = (cache : List ℕ) × IsStoreWith e.view cache a (content e.disk)
 
 -- Whether it has to be reopened.
 abbrev pub stale_of : {D : Type 0} → Owning D → Bool
@@ -71,9 +72,9 @@ stale_of e = e.stale
 abbrev pub clock_of : {D : Type 0} → (D → ℕ) → Owning D → ℕ
 clock_of moment e = moment e.disk
 
--- Each crash since a moment has left one of these archives.
+-- Each crash since a moment has left one of these archives, with the same cache.
 abbrev pub Leaves : {D : Type 0} → (D → ℕ → Files → Type 0) → Owning D → ℕ → List (Option Archive) → Type 0
-Leaves left_since e t may = (image : Files) → left_since e.disk t image → RecoversOf may image
+Leaves left_since e t may = (cache : List ℕ) × ((image : Files) → left_since e.disk t image → RecoversOfWith cache may image)
 
 module _ {D : Type 0} (content : D → Option Content) (moment : D → ℕ) (left_since : D → ℕ → Files → Type 0)
     (counts_now : (disk : D) (t : ℕ) (image : Files) → t ≤ moment disk → Image (content disk) image → left_since disk t image)
@@ -92,17 +93,17 @@ module _ {D : Type 0} (content : D → Option Content) (moment : D → ℕ) (lef
   now_left old new P run image left = run.each image (counts_now new (moment old) image run.later (only_now new image left))
 
   -- Each crash of an archive that stands so leaves one of the archives that are there.
-  fits_all : (e : Owning D) (s : Standing) → Stands e s → AllRecoverOf (one_of s) (content e.disk)
-  fits_all e s fits = all_recover s (content e.disk) (λ image left. fits.left image (counts_now e.disk (moment e.disk) image (omega arith) left))
+  fits_all : (e : Owning D) (s : Standing) (fits : Stands e s) → AllRecoverWith fits.left.0 (one_of s) (content e.disk)
+  fits_all e s fits = all_recover s fits.left.0 (content e.disk) (λ image left. fits.left.1 image (counts_now e.disk (moment e.disk) image (omega arith) left))
 
   -- What reopening leaves at each moment.
-  reopening : (old : Owning D) (new : D) (s : Standing) → ((may : List (Option Archive)) → AllRecoverOf may (content old.disk) → LeavesOnly moment left_since old.disk new (RecoversOf may)) → Stands old s
-      → LeavesOnly moment left_since old.disk new (RecoversOf (one_of s))
-  reopening old new s run fits = run (one_of s) (fits_all old s fits)
+  reopening : (old : Owning D) (new : D) (s : Standing) → ((may : List (Option Archive)) (cache : List ℕ) → AllRecoverWith cache may (content old.disk) → LeavesOnly moment left_since old.disk new (RecoversOfWith cache may)) → (fits : Stands old s)
+      → LeavesOnly moment left_since old.disk new (RecoversOfWith fits.left.0 (one_of s))
+  reopening old new s run fits = run (one_of s) fits.left.0 (fits_all old s fits)
 
   -- While nothing is done a crash leaves the archive.
-  pub still_left : (e : Owning D) (a b : Archive) → Holds content e a → (image : Files) → left_since e.disk (clock_of moment e) image → RecoversOf (one_of (standing a (Some b))) image
-  still_left e a b store image left = either_one a b image (stands_for e.view a b (content e.disk) image store (only_now e.disk image left))
+  pub still_left : (e : Owning D) (a b : Archive) → Holds content e a → Leaves left_since e (clock_of moment e) (one_of (standing a (Some b)))
+  still_left e a b store = (store.0, λ image left. either_one a b store.0 image (stands_for e.view store.0 a b (content e.disk) image store.1 (only_now e.disk image left)))
 
   -- Here `inside` is the value by its parts.
   module _ (inside old : Owning D) (is : inside ≡ old) where
@@ -112,16 +113,20 @@ module _ {D : Type 0} (content : D → Option Content) (moment : D → ℕ) (lef
     stands_inside : (s : Standing) → Stands old s → Stands inside s
     stands_inside s = subst (λ (o : Owning D). Stands o s) (sym is)
 
-    left_inside : (new : D) (may : List (Option Archive)) → ((image : Files) → left_since new (clock_of moment inside) image → RecoversOf may image) → (image : Files) → left_since new (clock_of moment old) image → RecoversOf may image
-    left_inside new may = subst (λ (o : Owning D). (image : Files) → left_since new (clock_of moment o) image → RecoversOf may image) is
+    left_inside : (new : D) (cache : List ℕ) (may : List (Option Archive)) → ((image : Files) → left_since new (clock_of moment inside) image → RecoversOfWith cache may image) → (image : Files) → left_since new (clock_of moment old) image → RecoversOfWith cache may image
+    left_inside new cache may = subst (λ (o : Owning D). (image : Files) → left_since new (clock_of moment o) image → RecoversOfWith cache may image) is
 
     -- After a call that only reads it still holds the archive.
-    pub read_holds : (new : D) → Told Unchanged (content inside.disk) (content new) → (a : Archive) → Holds content old a → IsStoreOf inside.view a (content new)
-    read_holds new told a store = subst (λ (k : Option Content). IsStoreOf inside.view a k) (sym (unchanged_is (content inside.disk) (content new) told)) (held_inside a store)
+    pub read_holds : (new : D) → Told Unchanged (content inside.disk) (content new) → (a : Archive) → Holds content old a → (cache : List ℕ) × IsStoreWith inside.view cache a (content new)
+    read_holds new told a store =
+        let own : Holds content inside a = held_inside a store in
+        (own.0, subst (λ (k : Option Content). IsStoreWith inside.view own.0 a k) (sym (unchanged_is (content inside.disk) (content new) told)) own.1)
 
     -- After a call that only reads a crash leaves the archive.
-    pub read_left : (new : D) → LeavesOnly moment left_since inside.disk new (Image (content inside.disk)) → (a : Archive) → Holds content old a → (image : Files) → left_since new (clock_of moment old) image → RecoversOf (one_of (standing a None)) image
-    read_left new run a store = left_inside new (one_of (standing a None)) (λ image left. store_left inside.view a (content inside.disk) image (held_inside a store) (run.each image left))
+    pub read_left : (new : D) → LeavesOnly moment left_since inside.disk new (Image (content inside.disk)) → (a : Archive) → Holds content old a → (cache : List ℕ) × ((image : Files) → left_since new (clock_of moment old) image → RecoversOfWith cache (one_of (standing a None)) image)
+    read_left new run a store =
+        let own : Holds content inside a = held_inside a store in
+        (own.0, left_inside new own.0 (one_of (standing a None)) (λ image left. store_left inside.view own.0 a (content inside.disk) image own.1 (run.each image left)))
 
     -- While it needn't be reopened it is as it was.
     pub still_ready : inside.stale ≡ false → (s : Standing) → Stands old s → Opening s (Ok tt) old
@@ -130,30 +135,34 @@ module _ {D : Type 0} (content : D → Option Content) (moment : D → ℕ) (lef
         (s.archive, inl refl, record { holding = (fits.ready now).0; ready = now })
 
     -- What is reopened is the archive or the one in doubt.
-    pub reopened : (new : Owning D) → ((a : Archive) → ReadsAs a (content inside.disk) → IsStoreOf new.view a (content new.disk)) → new.stale ≡ false → (s : Standing) → Stands old s → Opening s (Ok tt) new
+    pub reopened : (new : Owning D) → ((a : Archive) (cache : List ℕ) → ReadsWith cache a (content inside.disk) → IsStoreWith new.view cache a (content new.disk)) → new.stale ≡ false → (s : Standing) → Stands old s → Opening s (Ok tt) new
     reopened new opened ready s fits =
-        let found = reads_one s (content inside.disk) (reads_fit inside.disk) (fits_all inside s (stands_inside s fits)) in
-        (found.0, found.1, record { holding = opened found.0 found.2; ready = ready })
+        let within : Stands inside s = stands_inside s fits in
+        let cache = within.left.0 in
+        let found = reads_one s cache (content inside.disk) (reads_fit inside.disk) (fits_all inside s within) in
+        (found.0, found.1, record { holding = (cache, opened found.0 cache found.2); ready = ready })
 
     -- A crash while it is reopened leaves no other.
-    pub reopening_left : (new : D) → ((may : List (Option Archive)) → AllRecoverOf may (content inside.disk) → LeavesOnly moment left_since inside.disk new (RecoversOf may)) → (s : Standing) → Stands old s
-        → (image : Files) → left_since new (clock_of moment old) image → RecoversOf (one_of s) image
-    reopening_left new run s fits = left_inside new (one_of s) (reopening inside new s run (stands_inside s fits)).each
+    pub reopening_left : (new : D) → ((may : List (Option Archive)) (cache : List ℕ) → AllRecoverWith cache may (content inside.disk) → LeavesOnly moment left_since inside.disk new (RecoversOfWith cache may)) → (s : Standing) → Stands old s
+        → (cache : List ℕ) × ((image : Files) → left_since new (clock_of moment old) image → RecoversOfWith cache (one_of s) image)
+    reopening_left new run s fits =
+        let within : Stands inside s = stands_inside s fits in
+        (within.left.0, left_inside new within.left.0 (one_of s) (reopening inside new s run within).each)
 
     -- What isn't reopened stands as before.
-    pub unopened : (new : Owning D) (why : OpenRefusal) → ((may : List (Option Archive)) → AllRecoverOf may (content inside.disk) → LeavesOnly moment left_since inside.disk new.disk (RecoversOf may))
-        → ((a : Archive) → ReadsAs a (content inside.disk) → IsWant why) → new.stale ≡ true → (s : Standing) → Stands old s → Opening s (Err why) new
-    unopened new why run well unready s fits = of_why why (well found.0 found.2) where
+    pub unopened : (new : Owning D) (why : OpenRefusal) → ((may : List (Option Archive)) (cache : List ℕ) → AllRecoverWith cache may (content inside.disk) → LeavesOnly moment left_since inside.disk new.disk (RecoversOfWith cache may))
+        → ((a : Archive) (cache : List ℕ) → ReadsWith cache a (content inside.disk) → IsWant why) → new.stale ≡ true → (s : Standing) → Stands old s → Opening s (Err why) new
+    unopened new why run well unready s fits = of_why why (well found.0 within.left.0 found.2) where
       within : Stands inside s
       within = stands_inside s fits
 
-      found : (b : Archive) × IsFound s b × ReadsAs b (content inside.disk)
-      found = reads_one s (content inside.disk) (reads_fit inside.disk) (fits_all inside s within)
+      found : (b : Archive) × IsFound s b × ReadsWith within.left.0 b (content inside.disk)
+      found = reads_one s within.left.0 (content inside.disk) (reads_fit inside.disk) (fits_all inside s within)
 
       still : Stands new s
       still = record {
         ready = λ ready. absurd (let wrong : true ≡ false = sym unready ∙ ready in cc);
-        left = now_left inside.disk new.disk (RecoversOf (one_of s)) (reopening inside new.disk s run within);
+        left = (within.left.0, now_left inside.disk new.disk (RecoversOfWith within.left.0 (one_of s)) (reopening inside new.disk s run within));
       }
 
       of_why : (w : OpenRefusal) → IsWant w → Opening s (Err w) new
@@ -163,27 +172,33 @@ module _ {D : Type 0} (content : D → Option Content) (moment : D → ℕ) (lef
       of_why refusal.NoMemory want = still
 
     -- A crash in a command leaves the archive before it, or the one after it.
-    pub command_left : (new : D) (wanted : Archive → Archive) → ((a : Archive) → Holds content inside a → LeavesOnly moment left_since inside.disk new (RecoversEither a (wanted a))) → (a : Archive) → Holds content old a
-        → (image : Files) → left_since new (clock_of moment old) image → RecoversOf (one_of (standing a (Some (wanted a)))) image
-    command_left new wanted run a store = left_inside new (one_of (standing a (Some (wanted a)))) (λ image left. either_one a (wanted a) image ((run a (held_inside a store)).each image left))
+    pub command_left : (new : D) (wanted : Archive → Archive) → ((a : Archive) (cache : List ℕ) → IsStoreWith inside.view cache a (content inside.disk) → LeavesOnly moment left_since inside.disk new (RecoversEitherWith cache a (wanted a))) → (a : Archive) → Holds content old a
+        → (cache : List ℕ) × ((image : Files) → left_since new (clock_of moment old) image → RecoversOfWith cache (one_of (standing a (Some (wanted a)))) image)
+    command_left new wanted run a store =
+        let own : Holds content inside a = held_inside a store in
+        (own.0, left_inside new own.0 (one_of (standing a (Some (wanted a)))) (λ image left. either_one a (wanted a) own.0 image ((run a own.0 own.1).each image left)))
 
     -- The answer to a command on the archive is the answer of its keeper.
-    pub command_done : (new : Owning D) (wanted : Archive → Done) (reply : Answer) → new.stale ≡ needs_opening reply → ((a : Archive) → Holds content inside a → LeavesOnly moment left_since inside.disk new.disk (RecoversEither a (wanted a).archive))
-        → ((a : Archive) → Holds content inside a → DoneBy new.view a (wanted a) reply (content new.disk)) → (a : Archive) → Holds content old a → DoesBy (Holds content) stale_of (clock_of moment) (Leaves left_since) a (wanted a) reply new
-    command_done new wanted reply stale run done a store = of_reply reply stale (done a (held_inside a store)) where
-      left : (image : Files) → left_since new.disk (moment new.disk) image → RecoversEither a (wanted a).archive image
-      left = now_left inside.disk new.disk (RecoversEither a (wanted a).archive) (run a (held_inside a store))
+    pub command_done : (new : Owning D) (wanted : Archive → Done) (reply : Answer) → new.stale ≡ needs_opening reply
+        → ((a : Archive) (cache : List ℕ) → IsStoreWith inside.view cache a (content inside.disk) → LeavesOnly moment left_since inside.disk new.disk (RecoversEitherWith cache a (wanted a).archive))
+        → ((a : Archive) (cache : List ℕ) → IsStoreWith inside.view cache a (content inside.disk) → DoneBy new.view cache a (wanted a) reply (content new.disk)) → (a : Archive) → Holds content old a → DoesBy (Holds content) stale_of (clock_of moment) (Leaves left_since) a (wanted a) reply new
+    command_done new wanted reply stale run done a store = of_reply reply stale (done a own.0 own.1) where
+      own : Holds content inside a
+      own = held_inside a store
 
-      of_reply : (r : Answer) → new.stale ≡ needs_opening r → DoneBy new.view a (wanted a) r (content new.disk) → DoesBy (Holds content) stale_of (clock_of moment) (Leaves left_since) a (wanted a) r new
-      of_reply answer.NoMemory is by_store = record { holding = by_store; ready = is }
-      of_reply answer.DiskFault is by_store = record { unready = is; left = λ image since. either_one a (wanted a).archive image (left image since) }
-      of_reply (answer.Ok number id) is by_store = record { answer_is = by_store.answer_is; held = record { holding = by_store.store; ready = is } }
-      of_reply (answer.Duplicate number) is by_store = record { answer_is = by_store.answer_is; held = record { holding = by_store.store; ready = is } }
-      of_reply answer.NoFields is by_store = record { answer_is = by_store.answer_is; held = record { holding = by_store.store; ready = is } }
-      of_reply (answer.TooLarge len) is by_store = record { answer_is = by_store.answer_is; held = record { holding = by_store.store; ready = is } }
-      of_reply (answer.Full max) is by_store = record { answer_is = by_store.answer_is; held = record { holding = by_store.store; ready = is } }
-      of_reply (answer.Collision number) is by_store = record { answer_is = by_store.answer_is; held = record { holding = by_store.store; ready = is } }
-      of_reply answer.IsMirror is by_store = record { answer_is = by_store.answer_is; held = record { holding = by_store.store; ready = is } }
+      left : (image : Files) → left_since new.disk (moment new.disk) image → RecoversEitherWith own.0 a (wanted a).archive image
+      left = now_left inside.disk new.disk (RecoversEitherWith own.0 a (wanted a).archive) (run a own.0 own.1)
+
+      of_reply : (r : Answer) → new.stale ≡ needs_opening r → DoneBy new.view own.0 a (wanted a) r (content new.disk) → DoesBy (Holds content) stale_of (clock_of moment) (Leaves left_since) a (wanted a) r new
+      of_reply answer.NoMemory is by_store = record { holding = (own.0, by_store); ready = is }
+      of_reply answer.DiskFault is by_store = record { unready = is; left = (own.0, λ image since. either_one a (wanted a).archive own.0 image (left image since)) }
+      of_reply (answer.Ok number id) is by_store = record { answer_is = by_store.answer_is; held = record { holding = (own.0, by_store.store); ready = is } }
+      of_reply (answer.Duplicate number) is by_store = record { answer_is = by_store.answer_is; held = record { holding = (own.0, by_store.store); ready = is } }
+      of_reply answer.NoFields is by_store = record { answer_is = by_store.answer_is; held = record { holding = (own.0, by_store.store); ready = is } }
+      of_reply (answer.TooLarge len) is by_store = record { answer_is = by_store.answer_is; held = record { holding = (own.0, by_store.store); ready = is } }
+      of_reply (answer.Full max) is by_store = record { answer_is = by_store.answer_is; held = record { holding = (own.0, by_store.store); ready = is } }
+      of_reply (answer.Collision number) is by_store = record { answer_is = by_store.answer_is; held = record { holding = (own.0, by_store.store); ready = is } }
+      of_reply answer.IsMirror is by_store = record { answer_is = by_store.answer_is; held = record { holding = (own.0, by_store.store); ready = is } }
       of_reply (answer.NotLive number) is by_store = absurd by_store
       of_reply (answer.NoText number) is by_store = absurd by_store
       of_reply (answer.Damaged file at) is by_store = absurd by_store

@@ -1,13 +1,14 @@
 -- An archive that owns its disk.
-use Rattle.std.specs.Prelude.{◌≡◌, Bool, true, false, Option, Some, None, refl}
+use Rattle.std.specs.Prelude.{◌≡◌, ℕ, Bool, true, false, List, Option, Some, None, refl}
 use native.Mathlib.Omega.{arith}
 use Rattle.disk_model.specs.Disk.{Files, Content, Image, WhereTold}
 use Rattle.arch_model.specs.Archives.{Archive}
 use Rattle.arch_model.specs.Standing.{standing, one_of}
 use Rattle.arch_model.specs.declared.answer.Answer.{Answer}
 use Rattle.arch_model.specs.declared.answer.Answer.TheVariants as answer
-use Rattle.epoch_store.specs.Opens.{RecoversOf}
-use Rattle.epoch_store.specs.Stores.{View, HasSizes, IsStoreOf}
+use Rattle.epoch_store.specs.Opens.{RecoversOfWith}
+use Rattle.epoch_store.specs.Stores.{View, HasSizes, IsStoreWith}
+use Rattle.epoch_store.specs.Leaving.{disk_recovers}
 
 -- A disk, what is kept in memory of its archive, and whether it has to be reopened.
 pub record Owning (D : Type 0) : Type 0 where
@@ -35,18 +36,9 @@ needs_opening (answer.Damaged file at) = true
 needs_opening answer.NoMemory = false
 
 -- A crash of a store's own disk leaves the archive.
-pub store_left : (v : View) (a : Archive) (k : Option Content) (image : Files) → IsStoreOf v a k
-    → Image k image → RecoversOf (one_of (standing a None)) image
-store_left v a None image store left = absurd store
-store_left v a (Some k) image store left = (
-  Some a,
-  (0, omega arith, refl),
-  (
-    v.root,
-    record {
-      valid = store.keeps.valid;
-      names = store.keeps.names;
-      stands = store.on.images image left;
-    },
-  ),
-)
+pub store_left : (v : View) (cache : List ℕ) (a : Archive) (k : Option Content) (image : Files)
+    → IsStoreWith v cache a k → Image k image
+    → RecoversOfWith cache (one_of (standing a None)) image
+store_left v cache a None image store left = absurd store
+store_left v cache a (Some k) image store left =
+    (Some a, (0, omega arith, refl), disk_recovers v cache a k image store left)

@@ -1,15 +1,10 @@
 //! An archive that owns its disk.
-ghost use Rattle.std.specs.Prelude.{◌≡◌, [], false, Err, IfOk, Option, List};
+ghost use Rattle.std.specs.Prelude.{◌≡◌, ℕ, false, List, IfOk};
 ghost use Rattle.arch_base.specs.Configs.{IsConfig};
-ghost use Rattle.arch_base.specs.Counts.{RoseIf};
-ghost use Rattle.disk_model.specs.Disk.{Files, WhereTold, LeavesOnly};
-ghost use Rattle.arch_model.specs.Archives.{Archive, empty_archive};
-ghost use Rattle.arch_model.specs.declared.opening.OpenRefusal.{OpenRefusal};
-ghost use Rattle.epoch_store.specs.Files.{as_read};
-ghost use Rattle.epoch_store.specs.First.{MakingLeaves, MakingAnswers, RefusesToMake};
-ghost use Rattle.epoch_store.specs.Opens.{RecoversOf, AllRecoverOf, ReadsAs, Opens, OpensWell};
-ghost use Rattle.epoch_store.specs.Stores.{IsDiskOf, IsStoreOf, HasSizes};
-ghost use Rattle.epoch_store.specs.declared.refusal.InitRefusal.{InitRefusal};
+ghost use Rattle.disk_model.specs.Disk.{Files};
+ghost use Rattle.epoch_store.specs.Opens.{RecoversOfWith};
+ghost use Rattle.epoch_store.specs.Promises.{MakesArchive, OpensArchive};
+ghost use Rattle.epoch_store.specs.Stores.{IsStoreWith};
 ghost use Rattle.archive_core.specs.Engines.{needs_opening as needs_opening_after, store_left};
 ghost use Rattle.archive_core.specs.HandedBack.{disk_made, made_or_why, disk_opened, opened_or_why};
 ghost use Rattle.archive_core.specs.Numbers.{has_number};
@@ -60,20 +55,9 @@ impl<D: Disk> Engine<D> {
     /// anything is written.
     pub fn make(alloc: Global, disk: D, config: &Config) -> Result<Engine<D>, NotMade<D>>
         requires config { IsConfig config.now }
-        ensures any_moment { LeavesOnly D.moment D.left_since disk (disk_made result)
-            (MakingLeaves (empty_archive config.now) (D.content disk)) }
-        ensures answer { WhereTold (MakingAnswers (made_or_why result)) (D.content disk) }
-        // After `Exists` and `NoMemory` the disk is synced, and otherwise unchanged.
-        ensures refused { RefusesToMake (made_or_why result) (D.content disk)
-            (D.content (disk_made result)) }
-        ensures done { IfOk result (λ made.
-            WhereTold (IsDiskOf made.view (empty_archive config.now)) (D.content made.disk)) }
-        ensures sizes { IfOk result (λ made. WhereTold (HasSizes made.view) (D.content made.disk)) }
+        ensures made { MakesArchive D.content D.moment D.left_since D.faults disk
+            (disk_made result) config.now (made_or_why result) }
         ensures ready { IfOk result (λ made. made.stale ≡ false) }
-        ensures first { IfOk result (λ made. made.view.root.sequence ≡ 1) }
-        ensures none { IfOk result (λ made. made.view.entries ≡ []) }
-        ensures cause { RoseIf (made_or_why result ≡ Err InitRefusal.DiskFault) (D.faults disk)
-            (D.faults (disk_made result)) }
     {
         let mut disk = disk;
         match DiskArchive::init(alloc, &mut disk, config) {
@@ -100,20 +84,11 @@ impl<D: Disk> Engine<D> {
     /// read as before. `DiskFault` comes only if the disk's count of faults rose. `NoMemory` comes
     /// only if memory runs out, and the files still stand for the archive that they stood for.
     pub fn open(alloc: Global, disk: D) -> Result<Engine<D>, NotOpened<D>>
-        ensures any_moment { (may : List (Option Archive)) → AllRecoverOf may (D.content disk)
-            → LeavesOnly D.moment D.left_since disk (disk_opened result) (RecoversOf may) }
-        ensures answer { WhereTold (λ k. Opens (as_read k) (opened_or_why result)) (D.content disk) }
-        ensures done { (a : Archive) → ReadsAs a (D.content disk)
-            → IfOk result (λ opened. IsStoreOf opened.view a (D.content opened.disk)) }
-        ensures well { (a : Archive) → ReadsAs a (D.content disk)
-            → OpensWell (opened_or_why result) }
+        ensures opened { OpensArchive D.content D.moment D.left_since D.faults disk
+            (disk_opened result) (opened_or_why result) }
         ensures refused { RefusesKindly (opened_or_why result) (D.content disk)
             (D.content (disk_opened result)) }
-        ensures sizes { IfOk result (λ opened.
-            WhereTold (HasSizes opened.view) (D.content opened.disk)) }
         ensures ready { IfOk result (λ opened. opened.stale ≡ false) }
-        ensures cause { RoseIf (opened_or_why result ≡ Err OpenRefusal.DiskFault) (D.faults disk)
-            (D.faults (disk_opened result)) }
     {
         let mut disk = disk;
         match DiskArchive::open(alloc, &mut disk) {
@@ -149,7 +124,8 @@ impl<D: Disk> Engine<D> {
 }
 
 impl<D: Disk> Keep for Engine<D> {
-    ghost holds = { λ e a. IsStoreOf e.view a (D.content e.disk) };
+    // The archive is held with whatever cache.
+    ghost holds = { λ e a. (cache : List ℕ) × IsStoreWith e.view cache a (D.content e.disk) };
 
     ghost live = { λ e n. has_number e.view.entries n };
 
@@ -157,8 +133,8 @@ impl<D: Disk> Keep for Engine<D> {
 
     ghost clock = { λ e. D.moment e.disk };
 
-    ghost leaves = { λ e t may. (image : Files) → D.left_since e.disk t image
-        → RecoversOf may image };
+    ghost leaves = { λ e t may. (cache : List ℕ) × ((image : Files) → D.left_since e.disk t image
+        → RecoversOfWith cache may image) };
 
     ghost faults = { λ e. D.faults e.disk };
 
@@ -202,8 +178,11 @@ impl<D: Disk> Keep for Engine<D> {
         }
     }
 
-    ghost holds_left = { λ e a store image left.
-        store_left e.view a (D.content e.disk) image store (D.only_now e.disk image left) };
+    ghost holds_left = { λ e a store. (
+      store.0,
+      λ image left.
+          store_left e.view store.0 a (D.content e.disk) image store.1 (D.only_now e.disk image left),
+    ) };
 }
 
 /// Returns whether an archive has to be reopened after this answer.

@@ -1,12 +1,12 @@
 //! Reads an archive on a disk: its messages by their numbers, and its epochs.
-ghost use Rattle.std.specs.Prelude.{◌≡◌, ◌≤◌, ◌<◌, ◌+◌, ◌^◌, ◌↔◌, true, length, Err, IsTrue, IsSome, IfSome, OnErr};
+ghost use Rattle.std.specs.Prelude.{◌≡◌, ◌≤◌, ◌<◌, ◌+◌, ◌^◌, ◌↔◌, ℕ, List, true, length, Err, IsTrue, IsSome, IfSome, OnErr};
 ghost use Rattle.arch_base.specs.Counts.{RoseIf};
 ghost use Rattle.disk_model.specs.Disk.{Image, Told, Unchanged, LeavesOnly};
 ghost use Rattle.arch_model.specs.Archives.{Archive, in_epoch};
 ghost use Rattle.arch_model.specs.Standing.{IsLeastLive, IsKnownLive, GivesTextIn, GivesEpochIn, KeepsUnlessFound};
 ghost use Rattle.arch_model.specs.declared.text_refusal.TextRefusal.{TextRefusal};
 ghost use Rattle.epoch_store.specs.Reads.{AnswersQuietly};
-ghost use Rattle.epoch_store.specs.Stores.{IsStoreOf, Keeps};
+ghost use Rattle.epoch_store.specs.Stores.{IsStoreWith, Keeps};
 ghost use Rattle.archive_core.specs.Numbers.{has_number, NumbersRise, IsNumberAt, IsCountBelow, GivesTextKept};
 
 use crate::archive::DiskArchive;
@@ -43,7 +43,8 @@ impl DiskArchive {
     /// runs out. An error leaves the bytes unchanged.
     pub fn text<D: Disk>(&self, disk: &mut D, n: u32, into: &mut Bytes) -> Result<(), TextRefusal>
         requires live { has_number self.now.entries n ≡ true }
-        ensures text { (a : Archive) → IsStoreOf self.now a (D.content disk.old)
+        ensures text { (a : Archive) (cache : List ℕ)
+            → IsStoreWith self.now cache a (D.content disk.old)
             → GivesTextIn a.entries n into.old into.new result }
         ensures kept { GivesTextKept self.now.entries n into.old into.new result }
         ensures refused { OnErr result (into.new ≡ into.old) }
@@ -73,7 +74,8 @@ impl DiskArchive {
         epoch: u32,
         into: &mut Bytes,
     ) -> Result<bool, TextRefusal>
-        ensures bytes { (a : Archive) → IsStoreOf self.now a (D.content disk.old)
+        ensures bytes { (a : Archive) (cache : List ℕ)
+            → IsStoreWith self.now cache a (D.content disk.old)
             → GivesEpochIn (in_epoch a.entries epoch) into.old into.new result }
         ensures kept { KeepsUnlessFound into.old into.new result }
         ensures undamaged { AnswersQuietly result }
