@@ -16,9 +16,9 @@ spliced_front : (n : ℕ) (bytes seen : List ℕ) (i : ℕ) → n ≤ length byt
 spliced_front n bytes seen i long below = grind (arith, common_steps)
 
 -- The rest are the old bytes.
-spliced_behind : (n : ℕ) (bytes seen : List ℕ) (i : ℕ) → n ≤ length bytes → n ≤ i
+spliced_after : (n : ℕ) (bytes seen : List ℕ) (i : ℕ) → n ≤ length bytes → n ≤ i
     → get_or (spliced n bytes seen) i 0 ≡ get_or seen i 0
-spliced_behind n bytes seen i long above = grind (arith, common_steps)
+spliced_after n bytes seen i long above = grind (arith, common_steps)
 
 -- Their number.
 spliced_length : (n : ℕ) (bytes seen : List ℕ) → n ≤ length bytes → n ≤ length seen
@@ -53,8 +53,10 @@ front_below n s seen bytes below h left =
         no_longer = omega (arith, size, high);
         outside = λ i under out.
             elim (cases_lt i n) [
-              | inl front ↦ spliced_front n bytes seen i long front ∙ left.outside i (omega (arith, under, front)) out
-              | inr behind ↦ spliced_behind n bytes seen i long behind ∙ h.outside i under out
+              | inl front ↦
+                  spliced_front n bytes seen i long front
+                  ∙ left.outside i (omega (arith, under, front)) out
+              | inr after ↦ spliced_after n bytes seen i long after ∙ h.outside i under out
             ];
       };
       same = sym (spliced_take n bytes seen long);

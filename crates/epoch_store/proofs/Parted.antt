@@ -8,7 +8,7 @@ use Rattle.std.proofs.lemmas.List.{get_or_past}
 use Rattle.disk_model.specs.declared.name.FileKind.{FileKind}
 use Rattle.disk_model.specs.declared.name.FileKind.TheVariants as kind
 use Rattle.disk_model.specs.declared.name.FileName.{FileName}
-use Rattle.disk_model.specs.Name.{kind_place}
+use Rattle.disk_model.specs.Name.{kind_index}
 use Rattle.disk_model.specs.Disk.{Files, Content}
 use Rattle.arch_model.specs.Archives.{Entry, Archive, in_epoch}
 use Rattle.arch_model.specs.Epochs.{epoch_bytes}
@@ -43,7 +43,7 @@ none_above (e ∷ es) n all above =
 
 -- The file of a cache isn't the root file.
 cache_isnt_root : (gen_ : ℕ) → cache_name gen_ ≢ root_name
-cache_isnt_root gen_ is = let wrong : kind_place (cache_name gen_).kind ≡ kind_place root_name.kind = ap (λ (f : FileName). kind_place f.kind) is in absurd (omega (arith, wrong))
+cache_isnt_root gen_ is = let wrong : kind_index (cache_name gen_).kind ≡ kind_index root_name.kind = ap (λ (f : FileName). kind_index f.kind) is in absurd (omega (arith, wrong))
 
 -- A root names the file of its cache, if that has bytes.
 cache_is_named : (root : Root) → 0 < root.cache.length → names_file root (cache_file_of root) ≡ true

@@ -123,17 +123,17 @@ slots_same : (slot : ℕ) (body a : List ℕ) → gate a (1 - slot) ≡ 1 → Ke
 slots_same slot body a opened = record { size = refl; gates = λ s below. refl; current = refl; other = λ is. refl; filled = λ shut. absurd (shut opened) }
 
 -- The slots of a root file whose other body was written.
-slots_filled : (slot : ℕ) (body a : List ℕ) → slot < 2 → length body ≡ 1536 → length a ≡ 4096 → gate a (1 - slot) ≢ 1 → KeepsSlots slot body a (overlay (body_place (1 - slot)) body a)
+slots_filled : (slot : ℕ) (body a : List ℕ) → slot < 2 → length body ≡ 1536 → length a ≡ 4096 → gate a (1 - slot) ≢ 1 → KeepsSlots slot body a (overlay (body_offset (1 - slot)) body a)
 unfolding body_at
 slots_filled slot body a low whole size shut =
-    let b = overlay (body_place (1 - slot)) body a in
-    let same : SameOutside (body_place (1 - slot)) 1536 a b = subst (λ (n : ℕ). SameOutside (body_place (1 - slot)) n a b) whole (overlay-torn (body_place (1 - slot)) body a (omega (arith, size, whole, low))) in
+    let b = overlay (body_offset (1 - slot)) body a in
+    let same : SameOutside (body_offset (1 - slot)) 1536 a b = subst (λ (n : ℕ). SameOutside (body_offset (1 - slot)) n a b) whole (overlay-torn (body_offset (1 - slot)) body a (omega (arith, size, whole, low))) in
     record {
       size = same.size;
       gates = λ s below. same.bytes s (inl (omega (arith, below)));
-      current = body_kept (body_place (1 - slot)) 1536 slot a b same (bodies_apart slot low);
+      current = body_kept (body_offset (1 - slot)) 1536 slot a b same (bodies_apart slot low);
       other = λ opened. absurd (shut opened);
-      filled = λ still. ap (λ (n : ℕ). take n (drop (body_place (1 - slot)) b)) (sym whole) ∙ overlay-inside (body_place (1 - slot)) body a (omega (arith, size, low));
+      filled = λ still. ap (λ (n : ℕ). take n (drop (body_offset (1 - slot)) b)) (sym whole) ∙ overlay-inside (body_offset (1 - slot)) body a (omega (arith, size, low));
     }
 
 -- The same of disks that may tell their content.
@@ -146,14 +146,14 @@ slots_open slot body (Some k) (Some m) same opened = record {
   elsewhere = λ other apart. ap (λ (kept : Kept). kept.seen) (same other);
 }
 
-pub slots_written : (slot : ℕ) (body : List ℕ) (k m n : Option Content) → slot < 2 → length body ≡ 1536 → WhereTold HasRootSize k → Told Unchanged k m → WhereTold (IsGateOpen (1 - slot) false) k → Told (IsWritten root_name (body_place (1 - slot)) body) m n → Told (ReadiesSlot slot body) k n
+pub slots_written : (slot : ℕ) (body : List ℕ) (k m n : Option Content) → slot < 2 → length body ≡ 1536 → WhereTold HasRootSize k → Told Unchanged k m → WhereTold (IsGateOpen (1 - slot) false) k → Told (IsWritten root_name (body_offset (1 - slot)) body) m n → Told (ReadiesSlot slot body) k n
 slots_written slot body None None None low whole size same shut written = tt
 slots_written slot body None None (Some n) low whole size same shut written = absurd written
 slots_written slot body None (Some m) n low whole size same shut written = absurd same
 slots_written slot body (Some k) None n low whole size same shut written = absurd same
 slots_written slot body (Some k) (Some m) None low whole size same shut written = absurd written
 slots_written slot body (Some k) (Some m) (Some n) low whole size same shut written =
-    let is : bytes_of (n root_name).seen ≡ overlay (body_place (1 - slot)) body (bytes_of (k root_name).seen) = ap bytes_of written.here ∙ ap (λ (kept : Kept). overlay (body_place (1 - slot)) body (bytes_of kept.seen)) (same root_name) in
+    let is : bytes_of (n root_name).seen ≡ overlay (body_offset (1 - slot)) body (bytes_of (k root_name).seen) = ap bytes_of written.here ∙ ap (λ (kept : Kept). overlay (body_offset (1 - slot)) body (bytes_of kept.seen)) (same root_name) in
     record {
       slots = subst (λ (bytes : List ℕ). KeepsSlots slot body (bytes_of (k root_name).seen) bytes) (sym is) (slots_filled slot body (bytes_of (k root_name).seen) low whole size shut);
       elsewhere = λ other apart. written.elsewhere other apart ∙ ap (λ (kept : Kept). kept.seen) (same other);

@@ -18,9 +18,9 @@ take_then m n bytes =
     ap (λ (front_ : List ℕ). front_ ++ take n (drop m bytes)) (sym front)
     ∙ (ap (λ (rest_ : List ℕ). take m (take (m + n) bytes) ++ rest_) (sym rest) ∙ take-append-drop m (take (m + n) bytes))
 
-range_then : (place m n : ℕ) (bytes : List ℕ) → range_of bytes place m ++ range_of bytes (place + m) n ≡ range_of bytes place (m + n)
-range_then place m n bytes =
-    ap (λ (rest : List ℕ). take m (drop place bytes) ++ take n rest) (sym (drop-drop m place bytes)) ∙ take_then m n (drop place bytes)
+range_then : (offset m n : ℕ) (bytes : List ℕ) → range_of bytes offset m ++ range_of bytes (offset + m) n ≡ range_of bytes offset (m + n)
+range_then offset m n bytes =
+    ap (λ (rest : List ℕ). take m (drop offset bytes) ++ take n rest) (sym (drop-drop m offset bytes)) ∙ take_then m n (drop offset bytes)
 
 -- Bytes aren't none if there are some.
 some_isnt_none : (bytes : List ℕ) → 0 < length bytes → bytes ≢ []
@@ -74,19 +74,19 @@ put_then xs ys m n to end_ next k l o next_is first second =
     }
 
 -- A range that comes after one that was copied.
-copied_next : (file : FileName) (place done count : ℕ) (to : FileName) (end_ : ℕ) (at next : ℕ) (k m o : Content) → file ≢ to → at ≡ place + done → next ≡ end_ + done → Copied file place done to end_ k m → Copied file at count to next m o → Copied file place (done + count) to end_ k o
-copied_next file place done count to end_ at next k m o apart at_is next_is first second =
-    let same : file_range m file at count ≡ file_range k file (place + done) count = ap (λ (f : File). range_of (bytes_of f) at count) (first.added.others file apart) ∙ ap (λ (n : ℕ). range_of (bytes_of (k file).seen) n count) at_is in
-    let one : file_range k file place done ++ file_range m file at count ≡ file_range k file place (done + count) = ap (λ (rest : List ℕ). file_range k file place done ++ rest) same ∙ range_then place done count (bytes_of (k file).seen) in
-    subst (λ (bytes : List ℕ). Put bytes (done + count) to end_ k o) one (put_then (file_range k file place done) (file_range m file at count) done count to end_ next k m o next_is first second)
+copied_next : (file : FileName) (offset done count : ℕ) (to : FileName) (end_ : ℕ) (at next : ℕ) (k m o : Content) → file ≢ to → at ≡ offset + done → next ≡ end_ + done → Copied file offset done to end_ k m → Copied file at count to next m o → Copied file offset (done + count) to end_ k o
+copied_next file offset done count to end_ at next k m o apart at_is next_is first second =
+    let same : file_range m file at count ≡ file_range k file (offset + done) count = ap (λ (f : File). range_of (bytes_of f) at count) (first.added.others file apart) ∙ ap (λ (n : ℕ). range_of (bytes_of (k file).seen) n count) at_is in
+    let one : file_range k file offset done ++ file_range m file at count ≡ file_range k file offset (done + count) = ap (λ (rest : List ℕ). file_range k file offset done ++ rest) same ∙ range_then offset done count (bytes_of (k file).seen) in
+    subst (λ (bytes : List ℕ). Put bytes (done + count) to end_ k o) one (put_then (file_range k file offset done) (file_range m file at count) done count to end_ next k m o next_is first second)
 
 -- A window that was filled and written.
-window_copied : (file : FileName) (place count : ℕ) (to : FileName) (end_ n : ℕ) (before after : List ℕ) (k l m : Content) → 0 < count → length before ≡ count → count ≤ n → HasRead file place n before after k → Unchanged k l → end_ ≤ length (bytes_of (k to).seen) → OneFile to (Wrote end_ after) l m → Copied file place count to end_ k m
-window_copied file place count to end_ n before after k l m some size most read same inside one =
+window_copied : (file : FileName) (offset count : ℕ) (to : FileName) (end_ n : ℕ) (before after : List ℕ) (k l m : Content) → 0 < count → length before ≡ count → count ≤ n → HasRead file offset n before after k → Unchanged k l → end_ ≤ length (bytes_of (k to).seen) → OneFile to (Wrote end_ after) l m → Copied file offset count to end_ k m
+window_copied file offset count to end_ n before after k l m some size most read same inside one =
     let count_is = read.count in
     let whole : n ≡ count = omega (arith, count_is, size, most) in
-    let after_is : after ≡ file_range k file place count = read.bytes ∙ (ap (λ (rest : List ℕ). take n (drop place (bytes_of (k file).seen)) ++ rest) (drop_all n before (omega (arith, size, whole))) ∙ (append-nil (take n (drop place (bytes_of (k file).seen))) ∙ ap (λ (i : ℕ). take i (drop place (bytes_of (k file).seen))) whole)) in
-    let full : length (file_range k file place count) ≡ count = omega (arith, count_is, size, whole, length-take {A = ℕ} count (drop place (bytes_of (k file).seen)), length-drop {A = ℕ} place (bytes_of (k file).seen)) in
+    let after_is : after ≡ file_range k file offset count = read.bytes ∙ (ap (λ (rest : List ℕ). take n (drop offset (bytes_of (k file).seen)) ++ rest) (drop_all n before (omega (arith, size, whole))) ∙ (append-nil (take n (drop offset (bytes_of (k file).seen))) ∙ ap (λ (i : ℕ). take i (drop offset (bytes_of (k file).seen))) whole)) in
+    let full : length (file_range k file offset count) ≡ count = omega (arith, count_is, size, whole, length-take {A = ℕ} count (drop offset (bytes_of (k file).seen)), length-drop {A = ℕ} offset (bytes_of (k file).seen)) in
     let long : 0 < length after = subst (λ (bytes : List ℕ). 0 < length bytes) (sym after_is) (omega (arith, full, some)) in
     let added = wrote_added after to end_ l m long (subst (λ (kept : Kept). end_ ≤ length (bytes_of kept.seen)) (sym (same to)) inside) one in
     record {
@@ -100,40 +100,40 @@ window_copied file place count to end_ n before after k l m some size most read 
     }
 
 -- The same, of a disk that may tell its content.
-pub window_told : (file : FileName) (place count : ℕ) (to : FileName) (end_ n : ℕ) (before after : List ℕ) (k l m : Option Content) → 0 < count → length before ≡ count → count ≤ n → WhereTold (HasRead file place n before after) k → Told Unchanged k l → WhereTold (IsAtMostLength to end_) k → Told (OneFile to (Wrote end_ after)) l m → Told (Copied file place count to end_) k m
-window_told file place count to end_ n before after None None None some size most read same inside one = tt
-window_told file place count to end_ n before after None None (Some m) some size most read same inside one = absurd one
-window_told file place count to end_ n before after None (Some l) m some size most read same inside one = absurd same
-window_told file place count to end_ n before after (Some k) None m some size most read same inside one = absurd same
-window_told file place count to end_ n before after (Some k) (Some l) None some size most read same inside one = absurd one
-window_told file place count to end_ n before after (Some k) (Some l) (Some m) some size most read same inside one = window_copied file place count to end_ n before after k l m some size most read same inside one
+pub window_told : (file : FileName) (offset count : ℕ) (to : FileName) (end_ n : ℕ) (before after : List ℕ) (k l m : Option Content) → 0 < count → length before ≡ count → count ≤ n → WhereTold (HasRead file offset n before after) k → Told Unchanged k l → WhereTold (IsAtMostLength to end_) k → Told (OneFile to (Wrote end_ after)) l m → Told (Copied file offset count to end_) k m
+window_told file offset count to end_ n before after None None None some size most read same inside one = tt
+window_told file offset count to end_ n before after None None (Some m) some size most read same inside one = absurd one
+window_told file offset count to end_ n before after None (Some l) m some size most read same inside one = absurd same
+window_told file offset count to end_ n before after (Some k) None m some size most read same inside one = absurd same
+window_told file offset count to end_ n before after (Some k) (Some l) None some size most read same inside one = absurd one
+window_told file offset count to end_ n before after (Some k) (Some l) (Some m) some size most read same inside one = window_copied file offset count to end_ n before after k l m some size most read same inside one
 
 -- A range that is whole fills the window.
-pub window_full : (file : FileName) (place count n : ℕ) (before after : List ℕ) (k : Option Content) → length before ≡ count → WhereTold (HasRead file place n before after) k → HasRange file place count k → count ≤ n
-window_full file place count n before after None size read has = absurd has
-window_full file place count n before after (Some k) size read has = (let is = read.count in omega (arith, is, size, has))
+pub window_full : (file : FileName) (offset count n : ℕ) (before after : List ℕ) (k : Option Content) → length before ≡ count → WhereTold (HasRead file offset n before after) k → HasRange file offset count k → count ≤ n
+window_full file offset count n before after None size read has = absurd has
+window_full file offset count n before after (Some k) size read has = (let is = read.count in omega (arith, is, size, has))
 
-pub next_told : (file : FileName) (place done count : ℕ) (to : FileName) (end_ at next : ℕ) (k m o : Option Content) → file ≢ to → at ≡ place + done → next ≡ end_ + done → Told (Copied file place done to end_) k m → Told (Copied file at count to next) m o → Told (Copied file place (done + count) to end_) k o
-next_told file place done count to end_ at next k m o apart at_is next_is first second =
-    told_then (Copied file place done to end_) (Copied file at count to next) (Copied file place (done + count) to end_) k m o (λ a b d is told one two. copied_next file place done count to end_ at next a b d apart at_is next_is one two) first second
+pub next_told : (file : FileName) (offset done count : ℕ) (to : FileName) (end_ at next : ℕ) (k m o : Option Content) → file ≢ to → at ≡ offset + done → next ≡ end_ + done → Told (Copied file offset done to end_) k m → Told (Copied file at count to next) m o → Told (Copied file offset (done + count) to end_) k o
+next_told file offset done count to end_ at next k m o apart at_is next_is first second =
+    told_then (Copied file offset done to end_) (Copied file at count to next) (Copied file offset (done + count) to end_) k m o (λ a b d is told one two. copied_next file offset done count to end_ at next a b d apart at_is next_is one two) first second
 
 -- Nothing was copied yet.
-pub first_copied : (file : FileName) (place : ℕ) (to : FileName) (end_ : ℕ) (k : Option Content) → WhereTold (IsAtMostLength to end_) k → Told (Copied file place 0 to end_) k k
-first_copied file place to end_ None inside = tt
-first_copied file place to end_ (Some k) inside = record { added = none_added to end_ k inside; full = refl }
+pub first_copied : (file : FileName) (offset : ℕ) (to : FileName) (end_ : ℕ) (k : Option Content) → WhereTold (IsAtMostLength to end_) k → Told (Copied file offset 0 to end_) k k
+first_copied file offset to end_ None inside = tt
+first_copied file offset to end_ (Some k) inside = record { added = none_added to end_ k inside; full = refl }
 
 -- The offset after the bytes is within the file.
-pub copied_inside : (file : FileName) (place count : ℕ) (to : FileName) (end_ next : ℕ) (k m : Option Content) → next ≡ end_ + count → Told (Copied file place count to end_) k m → WhereTold (IsAtMostLength to next) m
-copied_inside file place count to end_ next None None next_is told = tt
-copied_inside file place count to end_ next None (Some m) next_is told = absurd told
-copied_inside file place count to end_ next (Some k) None next_is told = absurd told
-copied_inside file place count to end_ next (Some k) (Some m) next_is told = (let reached = told.added.reaches in let full = told.full in omega (arith, reached, full, next_is))
+pub copied_inside : (file : FileName) (offset count : ℕ) (to : FileName) (end_ next : ℕ) (k m : Option Content) → next ≡ end_ + count → Told (Copied file offset count to end_) k m → WhereTold (IsAtMostLength to next) m
+copied_inside file offset count to end_ next None None next_is told = tt
+copied_inside file offset count to end_ next None (Some m) next_is told = absurd told
+copied_inside file offset count to end_ next (Some k) None next_is told = absurd told
+copied_inside file offset count to end_ next (Some k) (Some m) next_is told = (let reached = told.added.reaches in let full = told.full in omega (arith, reached, full, next_is))
 
 -- The rest of a whole range is whole.
-pub range_left : (file : FileName) (place done count all at : ℕ) (to : FileName) (end_ : ℕ) (k m : Option Content) → file ≢ to → at ≡ place + done → done + count ≤ all → Told (Copied file place done to end_) k m → HasRange file place all k → HasRange file at count m
-range_left file place done count all at to end_ None m apart at_is most told has = absurd has
-range_left file place done count all at to end_ (Some k) None apart at_is most told has = absurd told
-range_left file place done count all at to end_ (Some k) (Some m) apart at_is most told has =
+pub range_left : (file : FileName) (offset done count all at : ℕ) (to : FileName) (end_ : ℕ) (k m : Option Content) → file ≢ to → at ≡ offset + done → done + count ≤ all → Told (Copied file offset done to end_) k m → HasRange file offset all k → HasRange file at count m
+range_left file offset done count all at to end_ None m apart at_is most told has = absurd has
+range_left file offset done count all at to end_ (Some k) None apart at_is most told has = absurd told
+range_left file offset done count all at to end_ (Some k) (Some m) apart at_is most told has =
     subst (λ (f : File). at + count ≤ length (bytes_of f)) (sym (told.added.others file apart)) (omega (arith, at_is, most, has))
 
 -- An offset after one that respects a bound respects it too.

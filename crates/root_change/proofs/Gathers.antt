@@ -22,14 +22,14 @@ wrote_put bytes count to end_ (Some k) None size some inside one = absurd one
 wrote_put bytes count to end_ (Some k) (Some m) size some inside one = record { added = wrote_added bytes to end_ k m (omega (arith, size, some)) inside one; full = size }
 
 -- No bytes.
-pub none_put : (bytes : List ℕ) (place count : ℕ) (to : FileName) (end_ : ℕ) (k : Option Content) → count ≡ 0 → WhereTold (IsAtMostLength to end_) k → Told (Put (range_of bytes place count) count to end_) k k
-none_put bytes place count to end_ None none inside = tt
-none_put bytes place count to end_ (Some k) none inside = subst (λ (n : ℕ). Put (range_of bytes place n) n to end_ k k) (sym none) (record { added = none_added to end_ k inside; full = refl })
+pub none_put : (bytes : List ℕ) (offset count : ℕ) (to : FileName) (end_ : ℕ) (k : Option Content) → count ≡ 0 → WhereTold (IsAtMostLength to end_) k → Told (Put (range_of bytes offset count) count to end_) k k
+none_put bytes offset count to end_ None none inside = tt
+none_put bytes offset count to end_ (Some k) none inside = subst (λ (n : ℕ). Put (range_of bytes offset n) n to end_ k k) (sym none) (record { added = none_added to end_ k inside; full = refl })
 
 -- A source reads the same while another file is written.
 same_source : (bytes : List ℕ) (source : Source) (to : FileName) (k m : Content) → IsSource to source → ((name : FileName) → name ≢ to → (m name).seen ≡ (k name).seen) → source_bytes bytes m source ≡ source_bytes bytes k source
-same_source bytes (Bytes place count) to k m is others = refl
-same_source bytes (Range range) to k m is others = ap (λ (f : File). range_of (bytes_of f) range.place range.count) (others range.file is.0)
+same_source bytes (Bytes offset count) to k m is others = refl
+same_source bytes (Range range) to k m is others = ap (λ (f : File). range_of (bytes_of f) range.offset range.count) (others range.file is.0)
 
 -- One more source of a list.
 one_more : (sources : List Source) (i : ℕ) (source : Source) → slice_get sources i ≡ Some source → take (i + 1) sources ≡ take i sources ++ source ∷ []
@@ -84,11 +84,11 @@ put_inside bytes sources to end_ next (Some k) (Some m) next_is told = (let reac
 
 -- A source that was whole is whole while another file is written.
 pub source_left : (bytes : List ℕ) (sources : List Source) (source : Source) (to : FileName) (end_ : ℕ) (k m : Option Content) → IsSource to source → Told (PutSources bytes sources to end_) k m → HasSource bytes k source → HasSource bytes m source
-source_left bytes sources (Bytes place count) to end_ k m is told has = has
+source_left bytes sources (Bytes offset count) to end_ k m is told has = has
 source_left bytes sources (Range range) to end_ None m is told has = absurd has
 source_left bytes sources (Range range) to end_ (Some k) None is told has = absurd told
 source_left bytes sources (Range range) to end_ (Some k) (Some m) is told has =
-    subst (λ (f : File). range.place + range.count ≤ length (bytes_of f)) (sym (told.added.others range.file is.0)) has
+    subst (λ (f : File). range.offset + range.count ≤ length (bytes_of f)) (sym (told.added.others range.file is.0)) has
 
 -- Three sources for a file.
 pub three_sources : (to : FileName) (a b c : Source) → IsSource to a → IsSource to b → IsSource to c → AreSources to (a ∷ b ∷ c ∷ [])

@@ -5,16 +5,16 @@ use Rattle.disk_model.specs.Disk.{Content, bytes_of}
 
 -- So many bytes from an offset on, or as many as there are.
 abbrev pub range_of : List ℕ → ℕ → ℕ → List ℕ
-range_of bytes place count = take count (drop place bytes)
+range_of bytes offset count = take count (drop offset bytes)
 
 -- The same of a file, as reads give it.
 abbrev pub file_range : Content → FileName → ℕ → ℕ → List ℕ
-file_range k file place count = range_of (bytes_of (k file).seen) place count
+file_range k file offset count = range_of (bytes_of (k file).seen) offset count
 
 -- A disk tells that a range is whole in its file.
 abbrev pub HasRange : FileName → ℕ → ℕ → Option Content → Type 0
-HasRange file place count None = ⊥
-HasRange file place count (Some k) = place + count ≤ length (bytes_of (k file).seen)
+HasRange file offset count None = ⊥
+HasRange file offset count (Some k) = offset + count ≤ length (bytes_of (k file).seen)
 
 -- A file that ended at an offset has these bytes after it, and one that went on has at least as
 -- many. Without bytes it is as it was. No other file reads otherwise.
@@ -33,5 +33,5 @@ pub record Put (bytes : List ℕ) (count : ℕ) (to : FileName) (end_ : ℕ) (ol
 
 -- The bytes of a whole range of a file were added to another one.
 abbrev pub Copied : FileName → ℕ → ℕ → FileName → ℕ → Content → Content → Type 0
-Copied file place count to end_ old new =
-    Put (file_range old file place count) count to end_ old new
+Copied file offset count to end_ old new =
+    Put (file_range old file offset count) count to end_ old new

@@ -9,13 +9,13 @@ use Rattle.root_change.specs.Copying.{range_of, file_range, HasRange, Put}
 
 -- The number of bytes of a source.
 abbrev pub source_count : Source → ℕ
-source_count (Bytes place count) = count
+source_count (Bytes offset count) = count
 source_count (Range range) = range.count
 
 -- The bytes of a source: a range of the bytes that are passed beside it, or of a file.
 abbrev pub source_bytes : List ℕ → Content → Source → List ℕ
-source_bytes bytes k (Bytes place count) = range_of bytes place count
-source_bytes bytes k (Range range) = file_range k range.file range.place range.count
+source_bytes bytes k (Bytes offset count) = range_of bytes offset count
+source_bytes bytes k (Range range) = file_range k range.file range.offset range.count
 
 -- The bytes of several sources, one after the other.
 abbrev pub gathered : List ℕ → Content → List Source → List ℕ
@@ -23,8 +23,8 @@ gathered bytes k sources = flat_map (source_bytes bytes k) sources
 
 -- A source for a file: bytes, or a range of another file that ends below 2^64.
 abbrev pub IsSource : FileName → Source → Type 0
-IsSource to (Bytes place count) = Unit {0}
-IsSource to (Range range) = (range.file ≢ to) × (range.place + range.count < 2 ^ 64)
+IsSource to (Bytes offset count) = Unit {0}
+IsSource to (Range range) = (range.file ≢ to) × (range.offset + range.count < 2 ^ 64)
 
 -- Each of them is one.
 abbrev pub AreSources : FileName → List Source → Type 0
@@ -33,8 +33,8 @@ AreSources to sources = (i : ℕ) (source : Source) → slice_get sources i ≡ 
 
 -- A source is whole.
 abbrev pub HasSource : List ℕ → Option Content → Source → Type 0
-HasSource bytes content (Bytes place count) = place + count ≤ length bytes
-HasSource bytes content (Range range) = HasRange range.file range.place range.count content
+HasSource bytes content (Bytes offset count) = offset + count ≤ length bytes
+HasSource bytes content (Range range) = HasRange range.file range.offset range.count content
 
 -- Each source is whole.
 abbrev pub HasSources : List ℕ → Option Content → List Source → Type 0

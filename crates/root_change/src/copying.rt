@@ -16,7 +16,7 @@ pub struct FileRange {
     /// The file.
     pub file: FileName,
     /// The offset of the first byte.
-    pub place: u64,
+    pub offset: u64,
     /// The number of bytes.
     pub count: u64,
 }
@@ -24,15 +24,15 @@ pub struct FileRange {
 /// Returns the next bytes of a range that are copied at once, after so many.
 fn next_window(range: FileRange, done: u64) -> FileRange
     requires done { done < range.count }
-    requires end { range.place + range.count < 2 ^ 64 }
+    requires end { range.offset + range.count < 2 ^ 64 }
     ensures file { result.file ≡ range.file }
-    ensures place { result.place ≡ range.place + done }
+    ensures offset { result.offset ≡ range.offset + done }
     ensures count { result.count ≡ min 4096 (range.count - done) }
     ensures some { 0 < result.count }
 {
     FileRange {
         file: range.file,
-        place: range.place + done,
+        offset: range.offset + done,
         count: WINDOW.min(range.count - done),
     }
 }
@@ -54,13 +54,13 @@ fn copy_window<D: Disk>(
     ensures beside { (bounds : Bounds) → Respects (bounds to) end
         → RunsBeside D.content D.moment D.left_since bounds disk.old disk.new }
     ensures copied { IfOk result (λ whole. whole ≡ true
-        → Told (Copied range.file range.place range.count to end) (D.content disk.old)
+        → Told (Copied range.file range.offset range.count to end) (D.content disk.old)
         (D.content disk.new)) }
-    ensures whole { HasRange range.file range.place range.count (D.content disk.old)
+    ensures whole { HasRange range.file range.offset range.count (D.content disk.old)
         → IfOk result (λ whole. whole ≡ true) }
     ensures cause { IsCaused (D.faults disk.old) (D.faults disk.new) result }
 {
-    let count = disk.read(range.file, range.place, window)?;
+    let count = disk.read(range.file, range.offset, window)?;
     if count < window.len() {
         return Ok(false);
     }
@@ -79,16 +79,16 @@ pub fn copy_range<D: Disk>(
     end: u64,
 ) -> Result<bool, DiskFault>
     requires apart { range.file ≢ to }
-    requires range { range.place + range.count < 2 ^ 64 }
+    requires range { range.offset + range.count < 2 ^ 64 }
     requires inside { WhereTold (IsAtMostLength to end) (D.content disk.old) }
     requires end { end + range.count < 2 ^ 63 }
     // All that is before the offset stays at each moment, whatever the call returns.
     ensures beside { (bounds : Bounds) → Respects (bounds to) end
         → RunsBeside D.content D.moment D.left_since bounds disk.old disk.new }
     ensures copied { IfOk result (λ whole. whole ≡ true
-        → Told (Copied range.file range.place range.count to end) (D.content disk.old)
+        → Told (Copied range.file range.offset range.count to end) (D.content disk.old)
         (D.content disk.new)) }
-    ensures whole { HasRange range.file range.place range.count (D.content disk.old)
+    ensures whole { HasRange range.file range.offset range.count (D.content disk.old)
         → IfOk result (λ whole. whole ≡ true) }
     ensures cause { IsCaused (D.faults disk.old) (D.faults disk.new) result }
 {

@@ -103,7 +103,7 @@ fn tidying_keeps_all_bytes_that_count(rt: HostRuntime) -> Result<(), Fail> {
 fn copies(disk: &mut MemDisk, count: u32) -> Result<bool, DiskFault> {
     let range = FileRange {
         file: LONG,
-        place: 100,
+        offset: 100,
         count: u64::from(count),
     };
     copy_range(disk, range, COPY, 0)
@@ -133,13 +133,19 @@ fn a_range_is_copied_by_windows(rt: HostRuntime) -> Result<(), Fail> {
 fn gathers(disk: &mut MemDisk) -> Result<bool, DiskFault> {
     disk.write_at(LONG, 0, b"0123456789")?;
     let sources = [
-        Source::Bytes { place: 1, count: 2 },
+        Source::Bytes {
+            offset: 1,
+            count: 2,
+        },
         Source::Range(FileRange {
             file: LONG,
-            place: 3,
+            offset: 3,
             count: 4,
         }),
-        Source::Bytes { place: 0, count: 1 },
+        Source::Bytes {
+            offset: 0,
+            count: 1,
+        },
     ];
     let whole = put_sources(disk, b"abc", &sources, COPY, 0)?;
     Ok(whole && starts(disk, COPY, b"bc3456a", true)?)

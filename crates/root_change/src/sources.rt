@@ -16,7 +16,7 @@ pub enum Source {
     /// A range of the bytes that are passed beside the sources.
     Bytes {
         /// The offset of the first byte.
-        place: usize,
+        offset: usize,
         /// The number of bytes.
         count: usize,
     },
@@ -40,7 +40,7 @@ fn count_of(source: Source) -> u64
 fn put_bytes<D: Disk>(
     disk: &mut D,
     bytes: &[u8],
-    place: usize,
+    offset: usize,
     count: usize,
     to: FileName,
     end: u64,
@@ -49,15 +49,15 @@ fn put_bytes<D: Disk>(
     requires end { end + count < 2 ^ 63 }
     ensures beside { (bounds : Bounds) → Respects (bounds to) end
         → RunsBeside D.content D.moment D.left_since bounds disk.old disk.new }
-    ensures put { IfOk result (λ whole. whole ≡ true → Told (Put (range_of bytes.now place count)
+    ensures put { IfOk result (λ whole. whole ≡ true → Told (Put (range_of bytes.now offset count)
         count to end) (D.content disk.old) (D.content disk.new)) }
-    ensures whole { place + count ≤ length bytes.now → IfOk result (λ whole. whole ≡ true) }
+    ensures whole { offset + count ≤ length bytes.now → IfOk result (λ whole. whole ≡ true) }
     ensures cause { IsCaused (D.faults disk.old) (D.faults disk.new) result }
 {
-    if place > bytes.len() {
+    if offset > bytes.len() {
         return Ok(false);
     }
-    let rest = bytes.split_at(place).1;
+    let rest = bytes.split_at(offset).1;
     if count > rest.len() {
         return Ok(false);
     }
@@ -88,7 +88,7 @@ fn put_source<D: Disk>(
     ensures cause { IsCaused (D.faults disk.old) (D.faults disk.new) result }
 {
     match source {
-        Source::Bytes { place, count } => put_bytes(disk, bytes, place, count, to, end),
+        Source::Bytes { offset, count } => put_bytes(disk, bytes, offset, count, to, end),
         Source::Range(range) => copy_range(disk, range, to, end),
     }
 }

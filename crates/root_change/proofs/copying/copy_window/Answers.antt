@@ -19,7 +19,7 @@ returns-then-count-lt-len-clause-beside g c = λ bounds far.
 
 pub returns-then-count-lt-len-clause-whole : goal.returns-then-count-lt-len-clause-whole
 returns-then-count-lt-len-clause-whole g c = λ has.
-    let full : c.args.range.count ≤ c.in_ok-count.count = window_full c.args.range.file c.args.range.place c.args.range.count c.in_ok-count.count c.args.window.now c.read.new.into (g.D.Disk.content c.args.disk.now) c.requires.window c.in_ok-count.ensures.bytes has in
+    let full : c.args.range.count ≤ c.in_ok-count.count = window_full c.args.range.file c.args.range.offset c.args.range.count c.in_ok-count.count c.args.window.now c.read.new.into (g.D.Disk.content c.args.disk.now) c.requires.window c.in_ok-count.ensures.bytes has in
     absurd (omega (arith, full, c.requires.window))
 
 pub returns-in_err-write_at-clause-beside : goal.returns-in_err-write_at-clause-beside
@@ -46,4 +46,4 @@ pub returns-clause-copied : goal.returns-clause-copied
 returns-clause-copied g c = λ is.
     let content = g.D.Disk.content in
     let range = c.args.range in
-    window_told range.file range.place range.count c.args.to c.args.end c.in_ok-count.count c.args.window.now c.read.new.into (content c.args.disk.now) (content c.read.new.self) (content c.write_at.new.self) c.requires.some c.requires.window (omega (arith, c.requires.window)) c.in_ok-count.ensures.bytes c.read.ensures.same c.requires.inside c.in_ok-write_at.ensures.written
+    window_told range.file range.offset range.count c.args.to c.args.end c.in_ok-count.count c.args.window.now c.read.new.into (content c.args.disk.now) (content c.read.new.self) (content c.write_at.new.self) c.requires.some c.requires.window (omega (arith, c.requires.window)) c.in_ok-count.ensures.bytes c.read.ensures.same c.requires.inside c.in_ok-write_at.ensures.written

@@ -1,4 +1,5 @@
 -- The root is in its ranges.
+use Rattle.std.proofs.Common.{rules}
 use Rattle.root_change.proofs.Roots.{remade_so}
 use Rattle.root_change.proofs.remaking.remade_root.Goals as goal
 

@@ -6,8 +6,8 @@ use Rattle.root_change.specs.Copying.{range_of}
 use Rattle.root_change.proofs.Gathers.{wrote_put, none_put}
 use Rattle.root_change.proofs.sources.put_bytes.Goals as goal
 
-pub returns-then-place-gt-len-clause-beside : goal.returns-then-place-gt-len-clause-beside
-returns-then-place-gt-len-clause-beside g c = λ bounds far.
+pub returns-then-offset-gt-len-clause-beside : goal.returns-then-offset-gt-len-clause-beside
+returns-then-offset-gt-len-clause-beside g c = λ bounds far.
     run_started g.D.Disk.content g.D.Disk.moment g.D.Disk.left_since bounds c.args.disk.now (g.met.D.Disk.only_now c.args.disk.now)
 
 pub returns-then-count-gt-len-clause-beside : goal.returns-then-count-gt-len-clause-beside
@@ -20,7 +20,7 @@ returns-then-count-eq0-clause-beside g c = λ bounds far.
 
 pub returns-then-count-eq0-clause-put : goal.returns-then-count-eq0-clause-put
 returns-then-count-eq0-clause-put g c = λ is.
-    none_put c.args.bytes.now c.args.place c.args.count c.args.to c.args.end (g.D.Disk.content c.args.disk.now) (omega arith) c.requires.inside
+    none_put c.args.bytes.now c.args.offset c.args.count c.args.to c.args.end (g.D.Disk.content c.args.disk.now) (omega arith) c.requires.inside
 
 pub returns-in_err-write_at-clause-beside : goal.returns-in_err-write_at-clause-beside
 returns-in_err-write_at-clause-beside g c = λ bounds far.
@@ -41,6 +41,6 @@ returns-clause-put g c = λ is.
     let content = g.D.Disk.content in
     let bytes = c.args.bytes.now in
     let count = c.args.count in
-    let part : c.split_at-2.result.0.now ≡ range_of bytes c.args.place count = c.split_at-2.ensures.front ∙ ap (take count) c.split_at.ensures.back in
+    let part : c.split_at-2.result.0.now ≡ range_of bytes c.args.offset count = c.split_at-2.ensures.front ∙ ap (take count) c.split_at.ensures.back in
     let written = subst (λ (b : List ℕ). Told (OneFile c.args.to (Wrote c.args.end b)) (content c.args.disk.now) (content c.write_at.new.self)) part c.in_ok-write_at.ensures.written in
-    wrote_put (range_of bytes c.args.place count) count c.args.to c.args.end (content c.args.disk.now) (content c.write_at.new.self) (omega (arith, length-take {A = ℕ} count (drop c.args.place bytes), length-drop {A = ℕ} c.args.place bytes)) (omega arith) c.requires.inside written
+    wrote_put (range_of bytes c.args.offset count) count c.args.to c.args.end (content c.args.disk.now) (content c.write_at.new.self) (omega (arith, length-take {A = ℕ} count (drop c.args.offset bytes), length-drop {A = ℕ} c.args.offset bytes)) (omega arith) c.requires.inside written

@@ -1,7 +1,7 @@
 -- The root goes on from the one before.
-use Rattle.std.proofs.Common.{subst, sym}
+use Rattle.std.proofs.Common.{subst, rules}
 use Rattle.root_slots.specs.declared.root.Root.{Root}
-use Rattle.epoch_store.specs.Stores.{GoesOn, root_after}
+use Rattle.epoch_store.specs.Stores.{GoesOn}
 use Rattle.epoch_store.proofs.Delivering.{goes_on_after}
 use Rattle.epoch_store.proofs.store.Store.next_root.Goals as goal
 
