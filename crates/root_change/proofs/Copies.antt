@@ -5,7 +5,7 @@ use Rattle.std.proofs.lemmas.List.{append-nil, append_assoc, nil_from_length, ta
 use Rattle.disk_model.specs.declared.name.FileName.{FileName}
 use Rattle.disk_model.specs.Disk.{File, Kept, Content, Told, WhereTold, OneFile, Unchanged, Wrote, HasRead, IsAtMostLength, bytes_of, overlay}
 use Rattle.disk_model.specs.Beside.{Respects}
-use Rattle.disk_model.specs.Tells.{told_then}
+use Rattle.disk_model.specs.Tells.{told_then, told_where}
 use Rattle.root_change.specs.Copying.{range_of, file_range, HasRange, Added, Put, Copied}
 use Rattle.root_change.proofs.Sizes.{overlay_least}
 use Rattle.root_change.proofs.Changes.{overlay_end}
@@ -140,3 +140,7 @@ range_left file offset done count all at to end_ (Some k) (Some m) apart at_is m
 pub respects_more : (bound : Option ℕ) (at next : ℕ) → at ≤ next → Respects bound at → Respects bound next
 respects_more None at next more far = absurd far
 respects_more (Some n) at next more far = omega (arith, more, far)
+
+-- An offset within a file is within it after a call that changes nothing.
+pub inside_still : (name : FileName) (at : ℕ) (k m : Option Content) → WhereTold (IsAtMostLength name at) k → Told Unchanged k m → WhereTold (IsAtMostLength name at) m
+inside_still name at k m inside same = told_where Unchanged (IsAtMostLength name at) (IsAtMostLength name at) k m (λ a b old_is new_is kept long. subst (λ (it : Kept). at ≤ length (bytes_of it.seen)) (sym (kept name)) long) same inside

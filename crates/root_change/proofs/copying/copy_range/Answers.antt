@@ -1,4 +1,5 @@
 -- One more window.
+use native.Mathlib.Numerals.{unary_clauses}
 use Rattle.std.specs.Prelude.{refl}
 use Rattle.std.proofs.Common.{◌≡◌, ◌+◌, ℕ, sym, subst, arith}
 use Rattle.disk_model.specs.declared.name.FileName.{FileName}
@@ -17,7 +18,7 @@ loop-done-init g c =
       bound = omega arith;
       beside = λ bounds far. run_started content g.D.Disk.moment g.D.Disk.left_since bounds disk (g.met.D.Disk.only_now disk);
       copied = first_copied c.args.range.file c.args.range.offset c.args.to c.args.end (content disk) c.requires.inside;
-      inside = c.requires.inside;
+      inside = simp unary_clauses c.requires.inside;
       later = omega arith;
     }
 

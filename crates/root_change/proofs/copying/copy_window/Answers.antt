@@ -1,8 +1,7 @@
 -- A read that fills the window, and a write of it.
 use Rattle.std.proofs.Common.{◌≤◌, arith}
-use Rattle.disk_model.specs.Laws.{IsAtMostLength-unchanged}
 use Rattle.disk_model.specs.BesideLaws.{write_told, run_on, run_unchanged}
-use Rattle.root_change.proofs.Copies.{window_told, window_full}
+use Rattle.root_change.proofs.Copies.{inside_still, window_told, window_full}
 use Rattle.root_change.proofs.copying.copy_window.Goals as goal
 
 pub returns-in_err-count-clause-beside : goal.returns-in_err-count-clause-beside
@@ -11,14 +10,14 @@ returns-in_err-count-clause-beside g c = λ bounds far.
     let content = g.D.Disk.content in
     run_unchanged content g.D.Disk.moment g.D.Disk.left_since bounds disk c.read.new.self (g.met.D.Disk.only_now disk) c.read.ensures.time c.read.ensures.same
 
-pub returns-then-count-lt-len-clause-beside : goal.returns-then-count-lt-len-clause-beside
-returns-then-count-lt-len-clause-beside g c = λ bounds far.
+pub returns-then-count-window-clause-beside : goal.returns-then-count-window-clause-beside
+returns-then-count-window-clause-beside g c = λ bounds far.
     let disk = c.args.disk.now in
     let content = g.D.Disk.content in
     run_unchanged content g.D.Disk.moment g.D.Disk.left_since bounds disk c.read.new.self (g.met.D.Disk.only_now disk) c.read.ensures.time c.read.ensures.same
 
-pub returns-then-count-lt-len-clause-whole : goal.returns-then-count-lt-len-clause-whole
-returns-then-count-lt-len-clause-whole g c = λ has.
+pub returns-then-count-window-clause-whole : goal.returns-then-count-window-clause-whole
+returns-then-count-window-clause-whole g c = λ has.
     let full : c.args.range.count ≤ c.in_ok-count.count = window_full c.args.range.file c.args.range.offset c.args.range.count c.in_ok-count.count c.args.window.now c.read.new.into (g.D.Disk.content c.args.disk.now) c.requires.window c.in_ok-count.ensures.bytes has in
     absurd (omega (arith, full, c.requires.window))
 
@@ -28,7 +27,7 @@ returns-in_err-write_at-clause-beside g c = λ bounds far.
     let d1 = c.read.new.self in
     let content = g.D.Disk.content in
     let read = run_unchanged content g.D.Disk.moment g.D.Disk.left_since bounds disk d1 (g.met.D.Disk.only_now disk) c.read.ensures.time c.read.ensures.same in
-    let inside = IsAtMostLength-unchanged c.args.to c.args.end (content disk) (content d1) c.requires.inside c.read.ensures.same in
+    let inside = inside_still c.args.to c.args.end (content disk) (content d1) c.requires.inside c.read.ensures.same in
     run_on content g.D.Disk.moment g.D.Disk.left_since bounds disk d1 c.write_at.new.self read c.write_at.ensures.time
     (write_told c.write_at.result bounds c.args.to c.args.end c.read.new.into (content d1) (content c.write_at.new.self) (g.met.D.Disk.reads_fit d1) far inside c.write_at.ensures.written c.write_at.ensures.torn)
 
@@ -38,7 +37,7 @@ returns-clause-beside g c = λ bounds far.
     let d1 = c.read.new.self in
     let content = g.D.Disk.content in
     let read = run_unchanged content g.D.Disk.moment g.D.Disk.left_since bounds disk d1 (g.met.D.Disk.only_now disk) c.read.ensures.time c.read.ensures.same in
-    let inside = IsAtMostLength-unchanged c.args.to c.args.end (content disk) (content d1) c.requires.inside c.read.ensures.same in
+    let inside = inside_still c.args.to c.args.end (content disk) (content d1) c.requires.inside c.read.ensures.same in
     run_on content g.D.Disk.moment g.D.Disk.left_since bounds disk d1 c.write_at.new.self read c.write_at.ensures.time
     (write_told c.write_at.result bounds c.args.to c.args.end c.read.new.into (content d1) (content c.write_at.new.self) (g.met.D.Disk.reads_fit d1) far inside c.write_at.ensures.written c.write_at.ensures.torn)
 

@@ -6,12 +6,12 @@ use Rattle.root_change.specs.Copying.{range_of}
 use Rattle.root_change.proofs.Gathers.{wrote_put, none_put}
 use Rattle.root_change.proofs.sources.put_bytes.Goals as goal
 
-pub returns-then-offset-gt-len-clause-beside : goal.returns-then-offset-gt-len-clause-beside
-returns-then-offset-gt-len-clause-beside g c = λ bounds far.
+pub returns-then-offset-bytes-clause-beside : goal.returns-then-offset-bytes-clause-beside
+returns-then-offset-bytes-clause-beside g c = λ bounds far.
     run_started g.D.Disk.content g.D.Disk.moment g.D.Disk.left_since bounds c.args.disk.now (g.met.D.Disk.only_now c.args.disk.now)
 
-pub returns-then-count-gt-len-clause-beside : goal.returns-then-count-gt-len-clause-beside
-returns-then-count-gt-len-clause-beside g c = λ bounds far.
+pub returns-then-count-rest-clause-beside : goal.returns-then-count-rest-clause-beside
+returns-then-count-rest-clause-beside g c = λ bounds far.
     run_started g.D.Disk.content g.D.Disk.moment g.D.Disk.left_since bounds c.args.disk.now (g.met.D.Disk.only_now c.args.disk.now)
 
 pub returns-then-count-eq0-clause-beside : goal.returns-then-count-eq0-clause-beside

@@ -60,13 +60,13 @@ loop-source-preserved g c =
     let below : i < length sources = omega arith in
     let put : Told (PutSources c.args.bytes.now (take (i + 1) sources) c.args.to c.args.end) k o =
     more_put c.args.bytes.now sources i _ c.args.to c.args.end next k m o (slice_get-get_or sources i _ below) (c.requires.sources i _ (slice_get-get_or sources i _ below)) before.next_is before.put (c.in_ok-whole.ensures.put c.if-not-whole.false) in
-    let after : next + c.count_of.result ≡ c.args.end + sum_by source_count (take (i + 1) sources) =
-    next_after sources i _ c.args.end next c.count_of.result (slice_get-get_or sources i _ below) before.next_is c.count_of.ensures in
+    let after : next + c.count_of-next.result ≡ c.args.end + sum_by source_count (take (i + 1) sources) =
+    next_after sources i _ c.args.end next c.count_of-next.result (slice_get-get_or sources i _ below) before.next_is c.count_of-next.ensures in
     record {
       next_is = after;
       beside = λ bounds far. run_joined content g.D.Disk.moment g.D.Disk.left_since bounds c.args.disk.now c.loop-source.disk c.put_source.new.disk (before.beside bounds far) (c.put_source.ensures.beside bounds (respects_more (bounds c.args.to) c.args.end next (omega (arith, before.next_is)) far));
       put = put;
-      inside = put_inside c.args.bytes.now (take (i + 1) sources) c.args.to c.args.end (next + c.count_of.result) k o after put;
+      inside = put_inside c.args.bytes.now (take (i + 1) sources) c.args.to c.args.end (next + c.count_of-next.result) k o after put;
       later = omega (arith, before.later, c.put_source.ensures.cause.later);
     }
 

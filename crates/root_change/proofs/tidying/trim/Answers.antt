@@ -11,14 +11,14 @@ returns-in_err-size-clause-beside g c = λ bounds far.
     let content = g.D.Disk.content in
     run_unchanged content g.D.Disk.moment g.D.Disk.left_since bounds disk c.length.new.self (g.met.D.Disk.only_now disk) c.length.ensures.time c.length.ensures.same
 
-pub returns-then-size-le-length-clause-beside : goal.returns-then-size-le-length-clause-beside
-returns-then-size-le-length-clause-beside g c = λ bounds far.
+pub returns-then-size-length-clause-beside : goal.returns-then-size-length-clause-beside
+returns-then-size-length-clause-beside g c = λ bounds far.
     let disk = c.args.disk.now in
     let content = g.D.Disk.content in
     run_unchanged content g.D.Disk.moment g.D.Disk.left_since bounds disk c.length.new.self (g.met.D.Disk.only_now disk) c.length.ensures.time c.length.ensures.same
 
-pub returns-then-size-le-length-clause-trimmed : goal.returns-then-size-le-length-clause-trimmed
-returns-then-size-le-length-clause-trimmed g c =
+pub returns-then-size-length-clause-trimmed : goal.returns-then-size-length-clause-trimmed
+returns-then-size-length-clause-trimmed g c =
     short_told c.args.name c.in_ok-size.size c.args.length (g.D.Disk.content c.args.disk.now) (g.D.Disk.content c.length.new.self) (omega arith) c.in_ok-size.ensures.length c.length.ensures.same
 
 pub returns-clause-beside : goal.returns-clause-beside
