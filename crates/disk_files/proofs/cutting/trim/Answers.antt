@@ -28,8 +28,8 @@ returns-in_err-length-clause-beside g c = λ bounds far.
     let content = g.D.Disk.content in
     run_unchanged content g.D.Disk.moment g.D.Disk.left_since bounds disk c.length.new.self (g.met.D.Disk.only_now disk) c.length.ensures.time c.length.ensures.same
 
-pub returns-then-length-le-length-clause-beside : goal.returns-then-length-le-length-clause-beside
-returns-then-length-le-length-clause-beside g c = λ bounds far.
+pub returns-then-length-part-clause-beside : goal.returns-then-length-part-clause-beside
+returns-then-length-part-clause-beside g c = λ bounds far.
     let disk = c.args.disk.now in
     let content = g.D.Disk.content in
     run_unchanged content g.D.Disk.moment g.D.Disk.left_since bounds disk c.length.new.self (g.met.D.Disk.only_now disk) c.length.ensures.time c.length.ensures.same

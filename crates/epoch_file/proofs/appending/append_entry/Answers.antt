@@ -6,8 +6,8 @@ pub returns-in_err-piece-clause-beside : goal.returns-in_err-piece-clause-beside
 returns-in_err-piece-clause-beside g c = λ bounds far.
     run_started g.D.Disk.content g.D.Disk.moment g.D.Disk.left_since bounds c.args.disk.now (g.met.D.Disk.only_now c.args.disk.now)
 
-pub returns-then-len-gt-MOST-clause-beside : goal.returns-then-len-gt-MOST-clause-beside
-returns-then-len-gt-MOST-clause-beside g c = λ bounds far.
+pub returns-then-bytes-gt-MOST-clause-beside : goal.returns-then-bytes-gt-MOST-clause-beside
+returns-then-bytes-gt-MOST-clause-beside g c = λ bounds far.
     run_started g.D.Disk.content g.D.Disk.moment g.D.Disk.left_since bounds c.args.disk.now (g.met.D.Disk.only_now c.args.disk.now)
 
 pub returns-in_err-write_at-clause-beside : goal.returns-in_err-write_at-clause-beside
