@@ -20,7 +20,7 @@ use Rattle.mail_commits.specs.Entries.{entry_bytes}
 use Rattle.arch_model.specs.Epochs.{last_commit}
 use Rattle.number_map.specs.Records.{record_bytes}
 use Rattle.number_map.specs.Sizes.{record_length}
-use Rattle.epoch_file.specs.Entries.{bytes_after}
+use Rattle.epoch_file.specs.Entries.{EpochEntry, bytes_after}
 use Rattle.epoch_file.specs.declared.entry.NewEntry.{NewEntry}
 use Rattle.epoch_file.specs.Appending.{front_at, appended, entry_of}
 use Rattle.root_slots.specs.declared.root.Place.{Place}
@@ -46,9 +46,13 @@ use Rattle.arch_model.proofs.ValidArchives.{archive_grows, not_before}
 use Rattle.epoch_store.proofs.Growing.{map_grows, bytes_here, bytes_other, stored_more}
 
 -- An entry has some bytes.
-some_bytes : (parent : Option Id20) (e : Entry) → 0 < length (bytes_after parent (in_file e))
+some_bytes : (parent : Option Id20) (e : EpochEntry) → 0 < length (bytes_after parent e)
 unfolding entry_bytes
 some_bytes parent e = omega arith
+
+-- What is appended for an entry has some bytes.
+pub appended_some : (at : ℕ) (e : NewEntry) → 0 < length (appended at e)
+appended_some at e = (let some = some_bytes e.parent (entry_of e) in omega (arith, some, length-append (front_at at) (bytes_after e.parent (entry_of e))))
 
 -- The new entry.
 abbrev pub new_entry : Archive → NextPlace → List ℕ → ℕ → Entry
@@ -65,7 +69,7 @@ new_line a p text moment = record_bytes (record_for a.next (Some (new_entry a p 
 -- Both have their lengths.
 pub piece_some : (a : Archive) (p : NextPlace) (text : List ℕ) (moment : ℕ) → 0 < length (new_piece a p text moment)
 piece_some a p text moment =
-    let some = some_bytes (last_commit None (in_epoch a.entries p.epoch)) (new_entry a p text moment) in
+    let some = some_bytes (last_commit None (in_epoch a.entries p.epoch)) (in_file (new_entry a p text moment)) in
     omega (arith, some, length-append (front_at (length (bytes_in a p.epoch))) (bytes_after (last_commit None (in_epoch a.entries p.epoch)) (in_file (new_entry a p text moment))))
 
 pub line_size : (a : Archive) (p : NextPlace) (text : List ℕ) (moment : ℕ) → length (new_line a p text moment) ≡ 28
@@ -411,11 +415,11 @@ module _ (v : View) (p : NextPlace) (end_ at : ℕ) (entries : List StoredEntry)
   sizes_after (Some k) (Some l) (Some m) (Some n) sizes inside one two kept = all_there k l m n sizes inside one two kept
 
 -- The root file keeps its size while two other files are written.
-pub root_still : (v : View) (epoch map : FileName) (at place : ℕ) (piece line : List ℕ) (k l m : Option Content) → epoch ≢ root_name → map ≢ root_name → WhereTold (HasSizes v) k → Told (OneFile epoch (Wrote at piece)) k l → Told (OneFile map (Wrote place line)) l m → WhereTold HasRootSize m
-root_still v epoch map at place piece line None None None first second sizes one two = tt
-root_still v epoch map at place piece line None None (Some m) first second sizes one two = absurd two
-root_still v epoch map at place piece line None (Some l) m first second sizes one two = absurd one
-root_still v epoch map at place piece line (Some k) None m first second sizes one two = absurd one
-root_still v epoch map at place piece line (Some k) (Some l) None first second sizes one two = absurd two
-root_still v epoch map at place piece line (Some k) (Some l) (Some m) first second sizes one two =
+pub root_still : (v : View) (one_file two_file : FileName) (at place : ℕ) (piece line : List ℕ) (k l m : Option Content) → one_file ≢ root_name → two_file ≢ root_name → WhereTold (HasSizes v) k → Told (OneFile one_file (Wrote at piece)) k l → Told (OneFile two_file (Wrote place line)) l m → WhereTold HasRootSize m
+root_still v one_file two_file at place piece line None None None first second sizes one two = tt
+root_still v one_file two_file at place piece line None None (Some m) first second sizes one two = absurd two
+root_still v one_file two_file at place piece line None (Some l) m first second sizes one two = absurd one
+root_still v one_file two_file at place piece line (Some k) None m first second sizes one two = absurd one
+root_still v one_file two_file at place piece line (Some k) (Some l) None first second sizes one two = absurd two
+root_still v one_file two_file at place piece line (Some k) (Some l) (Some m) first second sizes one two =
     ap (λ (it : Kept). length (bytes_of it.seen)) (two.elsewhere root_name (λ same. second (sym same)) ∙ one.elsewhere root_name (λ same. first (sym same))) ∙ sizes.root

@@ -1,5 +1,5 @@
 //! Reads the epochs of an archive on a disk.
-ghost use Rattle.std.specs.Prelude.{◌≡◌, ◌<◌, ◌≤◌, ◌+◌, get_or, Err};
+ghost use Rattle.std.specs.Prelude.{◌≡◌, ◌<◌, ◌≤◌, ◌+◌, ℕ, List, get_or, Err};
 ghost use Rattle.arch_base.specs.Counts.{RoseIf};
 ghost use Rattle.arch_model.specs.Archives.{Archive, in_epoch};
 ghost use Rattle.arch_model.specs.Standing.{GivesEpochIn, KeepsUnlessFound};

@@ -1,5 +1,5 @@
 //! The archive on a disk, as it is kept in memory.
-ghost use Rattle.std.specs.Prelude.{◌≡◌, ◌≤◌, ◌<◌, ◌+◌, ◌-◌, ◌^◌, [], Err, Some, IsSome, IfOk, OnOk, OnErr, ◌==◌, if◌then◌else◌, decimal, length};
+ghost use Rattle.std.specs.Prelude.{◌≡◌, ◌≤◌, ◌<◌, ◌+◌, ◌-◌, ◌^◌, ℕ, List, [], Err, Some, IsSome, IfOk, OnOk, OnErr, ◌==◌, if◌then◌else◌, decimal, length};
 ghost use Rattle.arch_base.specs.Counts.{RoseIf};
 ghost use Rattle.disk_model.specs.Disk.{WhereTold, LeavesOnly};
 ghost use Rattle.disk_model.specs.Sizes.{greatest_epoch, epoch_count};

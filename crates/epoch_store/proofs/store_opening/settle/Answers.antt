@@ -24,21 +24,21 @@ returns-in-Ok-sweep-clause-any_moment g c = λ texts found.
     let k1 = g.D.Disk.content mid in
     let root = c.args.root.now in
     let slot = slot_number c.args.slot in
-    let names = c.as_slice-in-Ok-present_files.result.now in
-    let all = subst (λ (l : List FileName). WhereTold (AreAllNames l) k0) (sym c.as_slice-in-Ok-present_files.ensures) c.in-Ok-present_files.ensures.names in
+    let names = c.as_slice.result.now in
+    let all = subst (λ (l : List FileName). WhereTold (AreAllNames l) k0) (sym c.as_slice.ensures) c.in-Ok.ensures.names in
     settling_leaves root slot texts k0 found g.D.Disk.moment g.D.Disk.left_since disk mid c.sweep.new.disk c.present_files.ensures.reads.any_moment
     (c.sweep.ensures.any_moment texts (listed_to_settle root slot texts names k0 k1 found c.present_files.ensures.reads.same all))
 
-pub returns-in-Ok-present_files-clause-any_moment : goal.returns-in-Ok-present_files-clause-any_moment
-returns-in-Ok-present_files-clause-any_moment g c = λ texts found.
+pub returns-in-Ok-clause-any_moment : goal.returns-in-Ok-clause-any_moment
+returns-in-Ok-clause-any_moment g c = λ texts found.
     let disk = c.args.disk.now in
     let mid = c.present_files.new.disk in
     let k0 = g.D.Disk.content disk in
     let k1 = g.D.Disk.content mid in
     let root = c.args.root.now in
     let slot = slot_number c.args.slot in
-    let names = c.as_slice-in-Ok-present_files.result.now in
-    let all = subst (λ (l : List FileName). WhereTold (AreAllNames l) k0) (sym c.as_slice-in-Ok-present_files.ensures) c.in-Ok-present_files.ensures.names in
+    let names = c.as_slice.result.now in
+    let all = subst (λ (l : List FileName). WhereTold (AreAllNames l) k0) (sym c.as_slice.ensures) c.in-Ok.ensures.names in
     settling_leaves root slot texts k0 found g.D.Disk.moment g.D.Disk.left_since disk mid c.sweep.new.disk c.present_files.ensures.reads.any_moment
     (c.sweep.ensures.any_moment texts (listed_to_settle root slot texts names k0 k1 found c.present_files.ensures.reads.same all))
 
@@ -46,14 +46,14 @@ pub returns-in-Ok-sweep-clause-done : goal.returns-in-Ok-sweep-clause-done
 returns-in-Ok-sweep-clause-done g c = λ texts found.
     let k0 = g.D.Disk.content c.args.disk.now in
     let k1 = g.D.Disk.content c.present_files.new.disk in
-    let names = c.as_slice-in-Ok-present_files.result.now in
-    let all = subst (λ (l : List FileName). WhereTold (AreAllNames l) k0) (sym c.as_slice-in-Ok-present_files.ensures) c.in-Ok-present_files.ensures.names in
+    let names = c.as_slice.result.now in
+    let all = subst (λ (l : List FileName). WhereTold (AreAllNames l) k0) (sym c.as_slice.ensures) c.in-Ok.ensures.names in
     c.in-Ok-sweep.ensures.done texts (listed_to_settle c.args.root.now (slot_number c.args.slot) texts names k0 k1 found c.present_files.ensures.reads.same all)
 
 pub returns-in-Ok-sweep-clause-kept : goal.returns-in-Ok-sweep-clause-kept
 returns-in-Ok-sweep-clause-kept g c =
     let content = g.D.Disk.content in
     let k0 = content c.args.disk.now in
-    let names = c.as_slice-in-Ok-present_files.result.now in
-    let all = subst (λ (l : List FileName). WhereTold (AreAllNames l) k0) (sym c.as_slice-in-Ok-present_files.ensures) c.in-Ok-present_files.ensures.names in
+    let names = c.as_slice.result.now in
+    let all = subst (λ (l : List FileName). WhereTold (AreAllNames l) k0) (sym c.as_slice.ensures) c.in-Ok.ensures.names in
     settled_told c.args.root.now (slot_number c.args.slot) names k0 (content c.present_files.new.disk) (content c.sweep.new.disk) all c.present_files.ensures.reads.same c.in-Ok-sweep.ensures.swept

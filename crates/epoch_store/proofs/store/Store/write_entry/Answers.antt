@@ -1,19 +1,15 @@
 -- One step for the entry, one for its record, and one for the root.
-use Rattle.std.proofs.Common.{◌≡◌, ◌<◌, ◌+◌, ◌-◌, ◌^◌, ◌∙◌, ℕ, List, length, sym, ap, subst, arith}
-use Rattle.std.specs.Prelude.{Option, refl}
-use Rattle.arch_base.specs.declared.ids.Id20.{Id20}
+use Rattle.std.proofs.Common.{◌≡◌, ◌<◌, ◌+◌, ◌-◌, ◌∙◌, ℕ, List, length, sym, ap, subst, arith}
+use Rattle.std.specs.Prelude.{refl}
 use Rattle.disk_model.specs.Disk.{Told, WhereTold, OneFile, Wrote, IsAtMostLength}
 use Rattle.disk_model.specs.declared.name.FileName.{FileName}
 use Rattle.disk_model.specs.BesideLaws.{run_joined}
-use Rattle.git_objects.specs.Objects.{blob_id_of, blob_spelling}
-use Rattle.git_objects.proofs.ObjectIds.{IsId-id_of}
 use Rattle.number_map.specs.Records.{record_bytes}
-use Rattle.number_map.specs.Sizes.{record_length}
 use Rattle.epoch_file.specs.declared.entry.Written.{Written}
-use Rattle.epoch_file.specs.Appending.{appended, written_of}
+use Rattle.epoch_file.specs.Appending.{appended}
 use Rattle.root_slots.specs.declared.root.Root.{Root}
 use Rattle.root_slots.specs.Slots.{slot_number}
-use Rattle.root_change.specs.Names.{map_name, epoch_name, bounds_of}
+use Rattle.root_change.specs.Names.{epoch_name, bounds_of}
 use Rattle.root_change.specs.Parts.{texts_of}
 use Rattle.root_change.specs.Texts.{KeepsNamed}
 use Rattle.root_change.proofs.Grown.{epoch_isnt_root, map_isnt_root}
@@ -21,22 +17,16 @@ use Rattle.epoch_store.specs.Files.{map_file_of}
 use Rattle.epoch_store.specs.Recovery.{parts_of}
 use Rattle.epoch_store.specs.Stores.{View, HasSizes, IsStoreWith, GoesNext, place_of, root_after, with_message, view_after}
 use Rattle.epoch_store.proofs.Kept.{place_inside}
-use Rattle.epoch_store.proofs.Delivering.{sizes_after, root_still, goes_on_after}
+use Rattle.epoch_store.proofs.Delivering.{appended_some, sizes_after, root_still}
 use Rattle.epoch_store.proofs.EntryWriting.{entry_respects, map_respects, entry_leaves, to_replace, replacing_leaves, replaced}
 use Rattle.epoch_store.proofs.store.Store.write_entry.Goals as goal
 
 pub returns-in_err-written-clause-any_moment : goal.returns-in_err-written-clause-any_moment
 returns-in_err-written-clause-any_moment g c = λ a cache store goes.
-    let disk = c.args.disk.now in
-    let content = g.D.Disk.content in
+    let v = c.args.self.now in
     let p = c.args.place.now in
-    let e = c.args.entry.now in
-    let w : View = record { root = c.self.inside.root; slot = slot_number c.self.inside.slot; entries = c.self.inside.entries.items } in
-    let own = subst (λ (u : View). IsStoreWith u cache a (content disk)) (sym c.self.view_is) store in
-    let next = subst (λ (u : View). GoesNext u a p e) (sym c.self.view_is) goes in
-    let place = subst (λ (u : View). p ≡ place_of u.root p.epoch p.parent) (sym c.self.view_is) c.requires.place in
-    let run = c.append_entry.ensures.beside (bounds_of w.root) (entry_respects w.root p c.epoch_file-epoch.result c.epoch_file-epoch.ensures place c.requires.small) in
-    entry_leaves content g.D.Disk.moment g.D.Disk.left_since w cache a p e disk own next c.append_entry.new.disk run
+    let run = c.append_entry.ensures.beside (bounds_of v.root) (entry_respects v.root p c.epoch_file-epoch.result c.epoch_file-epoch.ensures c.requires.place c.requires.small) in
+    entry_leaves g.D.Disk.content g.D.Disk.moment g.D.Disk.left_since v cache a p c.args.entry.now c.args.disk.now store goes c.append_entry.new.disk run
 
 pub returns-in_err-append-clause-any_moment : goal.returns-in_err-append-clause-any_moment
 returns-in_err-append-clause-any_moment g c = λ a cache store goes.
@@ -134,7 +124,7 @@ returns-clause-sizes g c =
     let root_is : c.self.inside.root ≡ v.root = ap (λ (u : View). u.root) c.self.view_is in
     let line : List ℕ = record_bytes (record { number = c.self.inside.root.next; epoch = p.epoch; blob = written.blob }) in
     let ends : written.end ≡ p.length + length (appended p.length e) = ap (λ (u : Written). u.end) c.in_ok-written.ensures.written in
-    let some : 0 < written.end = omega arith in
+    let some : 0 < written.end = (let piece = appended_some p.length e in omega (arith, ends, piece)) in
     let inside : WhereTold (IsAtMostLength (epoch_name p.epoch p.gen_) p.length) k0 = place_inside v p c.requires.place c.requires.small k0 c.requires.sizes in
     let one = subst (λ (f : FileName). Told (OneFile f (Wrote p.length (appended p.length e))) k0 k1) c.epoch_file-epoch.ensures c.in_ok-written.ensures.left in
     let named = subst (λ (f : FileName). Told (OneFile f (Wrote c.self.inside.root.map.length line)) k1 k2) (c.map_file-map.ensures ∙ ap map_file_of root_is) c.in_ok-append.ensures.written in
