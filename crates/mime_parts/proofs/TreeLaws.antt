@@ -1,0 +1,290 @@
+-- The law that the parts of a text are a tree.
+use Rattle.std.proofs.Common.{◌≡◌, ℕ, zero, suc, ◌+◌, ◌-◌, ◌<◌, ◌≤◌, Bool, true, false, max, List, [], ◌∷◌, ◌++◌, length, refl, sym, ap, ◌∙◌, subst, append_assoc, arith, length-append, lit≤}
+use Rattle.std.specs.List.{All}
+use Rattle.std.proofs.lemmas.List.{append-nil}
+use Rattle.std.proofs.lemmas.List.Elements.{All-nil, All-cons, All-head, All-tail, All-append, All-weaker}
+use Rattle.mail_reader.specs.Lines.{lines_of}
+use Rattle.mail_reader.proofs.LineEnds.{concat-lines_of}
+use Rattle.mime_parts.specs.declared.part.Span.{Span}
+use Rattle.mime_parts.specs.declared.part.Part.{Part}
+use Rattle.mime_parts.specs.declared.part.Shape.{Shape}
+use Rattle.mime_parts.specs.declared.part.Shape.TheVariants.{Leaf, Message, Multipart}
+use Rattle.mime_parts.specs.declared.heading.Heading.{Heading}
+use Rattle.mime_parts.specs.Headings.{shape_of, is_digest, opaque_heading}
+use Rattle.mime_parts.specs.Delimiters.{span_of, cuts_from}
+use Rattle.mime_parts.specs.Dividing.{at_most}
+use Rattle.mime_parts.specs.Trees.{IsIn, bytes_at, header_span, body_span, divided, direct_parts, heading_at, visited_parts, part_with, part_by, part_at, Visit, visit, visit_all, visit_of, tree_of}
+use Rattle.mime_parts.specs.Laws.{Stands, IsBelow, IsAfter, StartsBelow, StartsBeside, IsFollowed, AllFollowed, StartsWhole, IsTree, TreesAreTrees}
+use Rattle.mime_parts.proofs.Spanning.{InOrder, order_le, cuts_order, AllIn, parts_len, length-bytes_at, body-in, direct_in, at_most_in, at_most_len}
+
+-- A part lies between two offsets, from a depth on.
+pub record Lies (depth low high : ℕ) (p : Part) : Type 0 where
+  pub deep : depth ≤ p.depth
+  pub low : low ≤ p.header.start
+  pub high : p.body.end ≤ high
+
+-- The first of the parts, if there is one, is at a depth.
+abbrev pub StartsAt : ℕ → List Part → Type 0
+StartsAt depth [] = Unit {0}
+StartsAt depth (p ∷ ps) = p.depth ≡ depth
+
+-- The parts of visits one after another.
+pub record Row (text : List ℕ) (depth low high : ℕ) (ps : List Part) : Type 0 where
+  pub ordered : low ≤ high
+  pub starts : StartsAt depth ps
+  pub stand : All (Stands text) ps
+  pub lie : All (Lies depth low high) ps
+  pub followed : AllFollowed ps
+
+row_none : (text : List ℕ) (depth low high : ℕ) → low ≤ high → Row text depth low high []
+row_none text depth low high h =
+    record { ordered = h; starts = tt; stand = All-nil _; lie = All-nil _; followed = tt }
+
+-- The first of two rows of parts.
+first_of : (depth : ℕ) (xs ys : List Part) → StartsAt depth xs → StartsAt depth ys → StartsAt depth (xs ++ ys)
+first_of depth [] ys p q = q
+first_of depth (x ∷ xs) ys p q = p
+
+beside : (depth : ℕ) (x : Part) (later ys : List Part) → StartsBeside x later → StartsAt depth ys → depth ≤ x.depth → StartsBeside x (later ++ ys)
+beside depth x [] [] b s h = tt
+beside depth x [] (y ∷ ys) b s h = omega arith
+beside depth x (l ∷ ls) ys b s h = b
+
+-- A part that others follow, and then a row of parts beside it.
+followed_one : (depth mid : ℕ) (x : Part) (xs ys : List Part) → IsFollowed x xs → depth ≤ x.depth → x.body.end ≤ mid
+    → All (λ (y : Part). mid ≤ y.header.start) ys → StartsAt depth ys → IsFollowed x (xs ++ ys)
+followed_one depth mid x xs ys f d e a s = record {
+  below = f.below;
+  later = f.later ++ ys;
+  split = ap (λ ps. ps ++ ys) f.split ∙ append_assoc f.below f.later ys;
+  first = f.first;
+  next = beside depth x f.later ys f.next s d;
+  are_below = f.are_below;
+  are_after = All-append (IsAfter x) f.later ys f.are_after
+      (All-weaker (λ (y : Part). mid ≤ y.header.start) (IsAfter x) (λ y h. omega arith) ys a);
+}
+
+followed_append : (depth low mid : ℕ) (xs ys : List Part) → AllFollowed xs → All (Lies depth low mid) xs → AllFollowed ys
+    → All (λ (y : Part). mid ≤ y.header.start) ys → StartsAt depth ys → AllFollowed (xs ++ ys)
+followed_append depth low mid [] ys f l g a s = g
+followed_append depth low mid (x ∷ xs) ys f l g a s =
+    let here = All-head (Lies depth low mid) x xs l in (
+      followed_one depth mid x xs ys f.0 here.deep here.high a s,
+      followed_append depth low mid xs ys f.1 (All-tail (Lies depth low mid) x xs l) g a s,
+    )
+
+row_append : (text : List ℕ) (depth low mid high : ℕ) (xs ys : List Part) → Row text depth low mid xs → Row text depth mid high ys
+    → Row text depth low high (xs ++ ys)
+row_append text depth low mid high xs ys p q =
+    let first = p.ordered in
+    let second = q.ordered in
+    record {
+      ordered = omega arith;
+      starts = first_of depth xs ys p.starts q.starts;
+      stand = All-append (Stands text) xs ys p.stand q.stand;
+      lie = All-append (Lies depth low high) xs ys
+          (All-weaker (Lies depth low mid) (Lies depth low high) (λ x h. record { deep = h.deep; low = h.low; high = omega (arith, h.high) }) xs p.lie)
+          (All-weaker (Lies depth mid high) (Lies depth low high) (λ x h. record { deep = h.deep; low = omega (arith, h.low); high = h.high }) ys q.lie);
+      followed = followed_append depth low mid xs ys p.followed p.lie q.followed
+          (All-weaker (Lies depth mid high) (λ (y : Part). mid ≤ y.header.start) (λ y h. h.low) ys q.lie) q.starts;
+    }
+
+row_low : (text : List ℕ) (depth low from high : ℕ) (ps : List Part) → low ≤ from → Row text depth from high ps → Row text depth low high ps
+row_low text depth low from high ps h r =
+    let rest = r.ordered in
+    record {
+      ordered = omega arith;
+      starts = r.starts;
+      stand = r.stand;
+      lie = All-weaker (Lies depth from high) (Lies depth low high) (λ x i. record { deep = i.deep; low = omega (arith, i.low); high = i.high }) ps r.lie;
+      followed = r.followed;
+    }
+
+-- An entity as a part: it is where its span says.
+pub record IsAt (text : List ℕ) (depth : ℕ) (s : Span) (p : Part) : Type 0 where
+  pub depth_is : p.depth ≡ depth
+  pub start : p.header.start ≡ s.start
+  pub end : p.body.end ≡ s.end
+  pub stands : Stands text p
+
+is_with : (h : Heading) (shape : Shape) (text : List ℕ) (s : Span) (depth : ℕ) → IsIn text s → 1 ≤ depth → depth ≤ 20
+    → IsAt text depth s (part_with h shape (header_span text s) (body_span text s) depth)
+is_with h shape text s depth i low high =
+    let less = parts_len (bytes_at text s) in
+    let len = length-bytes_at text s i in
+    let ordered = i.ordered in
+    record {
+      depth_is = refl;
+      start = refl;
+      end = refl;
+      stands = record {
+        depth = low;
+        depth_most = high;
+        header = omega arith;
+        between = omega arith;
+        body = omega arith;
+        within = i.within;
+      };
+    }
+
+is_at : (opaque : Bool) (text : List ℕ) (h : Heading) (s : Span) (depth : ℕ) → IsIn text s → 1 ≤ depth → depth ≤ 20
+    → IsAt text depth s (part_by opaque h (header_span text s) (body_span text s) depth)
+is_at true text h s depth i low high = is_with (opaque_heading h) Leaf text s depth i low high
+is_at false text h s depth i low high = is_with h (shape_of h) text s depth i low high
+
+starts_below : (depth : ℕ) (p : Part) (below : List Part) → p.depth ≡ depth → StartsAt (depth + 1) below → StartsBelow p below
+starts_below depth p [] e s = tt
+starts_below depth p (q ∷ qs) e s = omega arith
+
+-- An entity, and then the parts below it.
+row_node : (text : List ℕ) (depth : ℕ) (s : Span) (p : Part) (below : List Part) → IsAt text depth s p
+    → Row text (depth + 1) p.body.start p.body.end below → Row text depth s.start s.end (p ∷ below)
+row_node text depth s p below a r =
+    let stands = a.stands in
+    let inside = λ (q : Part) (l : Lies (depth + 1) p.body.start p.body.end q).
+    let deep = l.deep in
+    let low = l.low in
+    let high = l.high in
+    (omega (arith, a.depth_is), (omega arith, omega arith)) in
+    record {
+      ordered = omega (arith, a.start, a.end, stands.header, stands.between, stands.body);
+      starts = a.depth_is;
+      stand = All-cons (Stands text) p below stands r.stand;
+      lie = All-cons (Lies depth s.start s.end) p below
+          (record { deep = omega (arith, a.depth_is); low = omega (arith, a.start); high = omega (arith, a.end) })
+          (All-weaker (Lies (depth + 1) p.body.start p.body.end) (Lies depth s.start s.end)
+          (λ q l. record {
+            deep = omega (arith, l.deep);
+            low = omega (arith, l.low, a.start, stands.header, stands.between);
+            high = omega (arith, l.high, a.end);
+          }) below r.lie);
+      followed = (
+        record {
+          below = below;
+          later = [];
+          split = sym (append-nil below);
+          first = starts_below depth p below a.depth_is r.starts;
+          next = tt;
+          are_below = All-weaker (Lies (depth + 1) p.body.start p.body.end) (IsBelow p)
+              (λ q l. record { deeper = omega (arith, l.deep, a.depth_is); starts = l.low; ends = l.high }) below r.lie;
+          are_after = All-nil _;
+        },
+        r.followed,
+      );
+    }
+
+-- Entities one after another, where each visit is a row.
+row_all : (text : List ℕ) (depth : ℕ) (each : ℕ → Span → Visit) → ((count : ℕ) (s : Span) → IsIn text s → Row text depth s.start s.end (each count s).parts)
+    → (count : ℕ) (ss : List Span) (low high : ℕ) → InOrder low high ss → AllIn text ss → Row text depth low high (visit_all each count ss).parts
+row_all text depth each rows count [] low high o a = row_none text depth low high o
+row_all text depth each rows count (s ∷ ss) low high o a =
+    let first = each count s in
+    row_append text depth low s.end high first.parts (visit_all each first.count ss).parts
+    (row_low text depth low s.start s.end first.parts o.0 (rows count s a.0))
+    (row_all text depth each rows first.count ss s.end high o.1.1 a.1)
+
+-- The direct parts of an entity are in order in its body.
+if_order : (t : Bool) (low high : ℕ) (ss : List Span) → InOrder low high ss → InOrder low high (cond t ss [])
+if_order true low high ss o = o
+if_order false low high ss o = order_le low high ss o
+
+direct_order : (shape : Shape) (h : Heading) (text : List ℕ) (body : Span) → IsIn text body → InOrder body.start body.end (direct_parts shape h text body)
+direct_order Leaf h text body i = i.ordered
+direct_order Message h text body i = (omega arith, (i.ordered, omega arith))
+direct_order Multipart h text body i = if_order _ body.start body.end _ (cuts_order _ text body i)
+
+visited_order : (text : List ℕ) (digest : Bool) (count : ℕ) (s : Span) → IsIn text s
+    → InOrder (body_span text s).start (body_span text s).end (visited_parts text digest count s)
+visited_order text digest count s i = if_order _ _ _ _ (direct_order _ _ text _ (body-in text s i))
+
+visited_in : (text : List ℕ) (digest : Bool) (count : ℕ) (s : Span) → IsIn text s → AllIn text (visited_parts text digest count s)
+visited_in text digest count s i = at_most_in _ text _ (direct_in _ _ text _ (body-in text s i))
+
+-- Each visit is a row.
+visit_row : (text : List ℕ) (levels : ℕ) (digest : Bool) (count : ℕ) (s : Span) → levels ≤ 19 → IsIn text s
+    → Row text (20 - levels) s.start s.end (visit_of text levels digest count s).parts
+unfolding visit_of
+visit_row text zero digest count s h i =
+    let a = is_at _ text (heading_at text digest s) s (20 - zero) i (omega arith) (omega arith) in
+    row_node text (20 - zero) s _ [] a (row_none text _ _ _ a.stands.body)
+visit_row text (suc levels) digest count s h i =
+    let parts = visited_parts text digest count s in
+    let inner = is_digest (heading_at text digest s) in
+    let a = is_at _ text (heading_at text digest s) s (20 - suc levels) i (omega arith) (omega arith) in
+    let deeper : 20 - levels ≡ (20 - suc levels) + 1 = omega arith in
+    let below = row_all text (20 - levels) (visit_of text levels inner)
+    (λ n t j. visit_row text levels inner n t (omega arith) j) (count + length parts) parts _ _
+    (visited_order text digest count s i) (visited_in text digest count s i) in
+    row_node text (20 - suc levels) s _ _ a
+    (subst (λ (d : ℕ). Row text d (body_span text s).start (body_span text s).end _) deeper below)
+
+-- How many entities are known after a visit of `many`.
+pub record Counts (count many : ℕ) (v : Visit) : Type 0 where
+  pub sum : v.count + many ≡ count + length v.parts
+  pub most : v.count ≤ 1000
+
+count_all : (each : ℕ → Span → Visit) → ((count : ℕ) (s : Span) → count ≤ 1000 → Counts count 1 (each count s))
+    → (count : ℕ) (ss : List Span) → count ≤ 1000 → Counts count (length ss) (visit_all each count ss)
+count_all each counts count [] h = record { sum = refl; most = h }
+count_all each counts count (s ∷ ss) h =
+    let first = counts count s h in
+    let later = count_all each counts (each count s).count ss first.most in
+    record {
+      sum = omega (arith, first.sum, later.sum, length-append (each count s).parts (visit_all each (each count s).count ss).parts);
+      most = later.most;
+    }
+
+visit_count : (text : List ℕ) (levels : ℕ) (digest : Bool) (count : ℕ) (s : Span) → count ≤ 1000 → Counts count 1 (visit_of text levels digest count s)
+unfolding visit_of
+visit_count text zero digest count s h = record { sum = refl; most = h }
+visit_count text (suc levels) digest count s h =
+    let parts = visited_parts text digest count s in
+    let inner = is_digest (heading_at text digest s) in
+    let few : length parts ≤ 1000 - count = at_most_len _ _ in
+    let below = count_all (visit_of text levels inner) (λ n t j. visit_count text levels inner n t j) (count + length parts) parts (omega arith) in
+    record { sum = omega (arith, below.sum); most = below.most }
+
+-- The first of a visit is the entity itself.
+record StartsNode (text : List ℕ) (depth : ℕ) (s : Span) (ps : List Part) : Type 0 where
+  part : Part
+  below : List Part
+  split : ps ≡ part ∷ below
+  is : IsAt text depth s part
+
+starts_node : (text : List ℕ) (levels : ℕ) (digest : Bool) (count : ℕ) (s : Span) → levels ≤ 19 → IsIn text s
+    → StartsNode text (20 - levels) s (visit_of text levels digest count s).parts
+unfolding visit_of
+starts_node text zero digest count s h i = record {
+  part = _;
+  below = _;
+  split = refl;
+  is = is_at _ text (heading_at text digest s) s (20 - zero) i (omega arith) (omega arith);
+}
+starts_node text (suc levels) digest count s h i = record {
+  part = _;
+  below = _;
+  split = refl;
+  is = is_at _ text (heading_at text digest s) s (20 - suc levels) i (omega arith) (omega arith);
+}
+
+pub trees : TreesAreTrees
+unfolding tree_of
+trees text =
+    let s = span_of 0 (length text) in
+    let i : IsIn text s = record { ordered = omega arith; within = omega arith } in
+    let few = visit_count text 19 false 1 s (lit≤ tt) in
+    let row = visit_row text 19 false 1 s (lit≤ tt) i in
+    let first = starts_node text 19 false 1 s (lit≤ tt) i in
+    record {
+      count = omega (arith, few.sum, few.most);
+      whole = record {
+        whole = first.part;
+        others = first.below;
+        split = first.split;
+        depth = first.is.depth_is;
+        start = first.is.start;
+        end = first.is.end;
+      };
+      stand = row.stand;
+      followed = row.followed;
+    }
