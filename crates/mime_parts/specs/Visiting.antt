@@ -34,7 +34,9 @@ known parts pending = length parts + length pending + 1
 
 -- An entity is visited: it is told after the others, and its parts wait in front of the others. The
 -- last of those that wait is the next one.
-pub record Visits (text : List ℕ) (e : Entity) (parts : List Part) (pending : List Entity) (parts' : List Part) (pending' : List Entity) : Type 0 where
+pub record Visits
+    (text : List ℕ) (e : Entity) (parts : List Part) (pending : List Entity)
+    (parts' : List Part) (pending' : List Entity) : Type 0 where
   pub parts_are : parts' ≡ parts ++ part_at text e.levels e.digest
       (parts_below text e.levels e.digest (known parts pending) e.span) e.span ∷ []
   pub pending_are : pending' ≡ pending

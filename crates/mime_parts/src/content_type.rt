@@ -10,7 +10,7 @@ use arch_base::{Bytes, NoMemory, Texts};
 use std::alloc::Global;
 
 /// The type of an entity (RFC 2045, section 5). Its names are in lower case.
-#[derive(Debug, Drop)]
+#[derive(Drop)]
 pub(crate) struct ContentType {
     pub(crate) major: Bytes,
     pub(crate) minor: Bytes,
@@ -66,7 +66,7 @@ fn named(alloc: Global, major: &[u8], minor: &[u8], params: Texts) -> Result<Con
 }
 
 /// The front of a value: the names of a type, and the bytes after them.
-#[derive(Debug, Clone, Copy, Drop)]
+#[derive(Clone, Copy, Drop)]
 pub(crate) struct Front<'a> {
     pub(crate) major: &'a [u8],
     pub(crate) minor: &'a [u8],

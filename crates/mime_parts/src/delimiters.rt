@@ -15,7 +15,7 @@ use std::alloc::Global;
 pub(crate) type Spans = Sequence<Span>;
 
 /// What a line is in the body of a multipart.
-#[derive(Debug, Clone, Copy, PartialEq, Eq, Drop)]
+#[derive(Clone, Copy, Drop)]
 pub(crate) enum LineKind {
     /// A line of a part, or of what is before or after the parts.
     Plain,
@@ -42,7 +42,7 @@ pub(crate) fn divide(
     let mut rest = body;
     let mut at = start;
     while !rest.is_empty() {
-        let (line, behind) = split_line(rest);
+        let (line, after) = split_line(rest);
         let next = at + line.len() as u64;
         let stop = at.saturating_sub(1);
         match line_kind(boundary, line) {
@@ -59,7 +59,7 @@ pub(crate) fn divide(
                 return Ok(spans);
             }
         }
-        rest = behind;
+        rest = after;
         at = next;
     }
     push_ended(&mut spans, begun, at)?;

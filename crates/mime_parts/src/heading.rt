@@ -15,7 +15,7 @@ use mail_reader::{Field, fields, flat};
 use std::alloc::Global;
 
 /// What the header of an entity says of its body.
-#[derive(Debug, Drop)]
+#[derive(Drop)]
 pub(crate) struct Heading {
     pub(crate) content_type: ContentType,
     /// The name of its encoding, in lower case.

@@ -9,7 +9,7 @@ use arch_base::{Bytes, NoMemory};
 use std::alloc::Global;
 
 /// A byte that is a lexeme by itself.
-#[derive(Debug, Clone, Copy, Drop)]
+#[derive(Clone, Copy, Drop)]
 pub(crate) enum Mark {
     Semicolon,
     Slash,
@@ -19,7 +19,7 @@ pub(crate) enum Mark {
 }
 
 /// A lexeme of a structured field's value (RFC 2045, section 5.1).
-#[derive(Debug, Clone, Copy, Drop)]
+#[derive(Clone, Copy, Drop)]
 pub(crate) enum Lexeme<'a> {
     /// A token.
     Token(&'a [u8]),
@@ -83,8 +83,8 @@ fn split_lexeme(value: &[u8]) -> (Lexeme<'_>, &[u8])
     }
     let rest = value.split_at(1).1;
     if byte == b'"' {
-        let (inside, behind) = split_quoted(rest);
-        return (Lexeme::Quoted(inside), behind);
+        let (inside, after) = split_quoted(rest);
+        return (Lexeme::Quoted(inside), after);
     }
     (Lexeme::Mark(mark_of(byte)), rest)
 }
@@ -168,9 +168,9 @@ pub(crate) fn unescape(alloc: Global, inside: &[u8]) -> Result<Bytes, NoMemory>
 {
     let mut text = Bytes::new(alloc);
     let mut rest = inside;
-    while let Some((byte, behind)) = first_said(rest) {
+    while let Some((byte, after)) = first_said(rest) {
         text.push(byte)?;
-        rest = behind;
+        rest = after;
     }
     Ok(text)
 }

@@ -10,7 +10,7 @@ use arch_base::{Bytes, NoMemory, Texts};
 use std::alloc::Global;
 
 /// What is expected next in a list of parameters.
-#[derive(Debug, Clone, Copy, Drop)]
+#[derive(Clone, Copy, Drop)]
 pub(crate) enum Expected {
     /// The semicolon before a parameter.
     Semicolon,
@@ -33,12 +33,12 @@ pub(crate) fn read_params(alloc: Global, value: &[u8]) -> Result<Option<Texts>, 
     let mut params = Texts::new(alloc);
     let mut expected = Expected::Semicolon;
     let mut rest = value;
-    while let Some((lexeme, behind)) = first_lexeme(rest) {
+    while let Some((lexeme, after)) = first_lexeme(rest) {
         match push_lexeme(alloc, &mut params, expected, lexeme)? {
             None => return Ok(None),
             Some(next) => expected = next,
         }
-        rest = behind;
+        rest = after;
     }
     if may_end(expected) {
         Ok(Some(params))

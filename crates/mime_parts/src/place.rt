@@ -4,7 +4,7 @@ ghost use Rattle.std.specs.Prelude.{◌≡◌, ◌≤◌, ◌<◌, ◌+◌};
 ghost use Rattle.mime_parts.specs.Lexemes.{next_place, depth_of, after_plain, after_quoted, after_comment};
 
 /// Where a byte is.
-#[derive(Debug, Clone, Copy, Drop)]
+#[derive(Clone, Copy, Drop)]
 pub(crate) enum Place {
     /// Outside of quoted strings and comments.
     Outside,

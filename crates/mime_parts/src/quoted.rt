@@ -18,9 +18,9 @@ pub(crate) fn unquoted(alloc: Global, text: &[u8]) -> Result<Bytes, NoMemory>
     let mut bytes = Bytes::new(alloc);
     let mut rest = text;
     while !rest.is_empty() {
-        let (line, behind) = split_line(rest);
+        let (line, after) = split_line(rest);
         push_line(line, &mut bytes)?;
-        rest = behind;
+        rest = after;
     }
     Ok(bytes)
 }
@@ -65,9 +65,9 @@ fn push_escapes(text: &[u8], into: &mut Bytes) -> Result<(), NoMemory>
 {
     let mut rest = text;
     while !rest.is_empty() {
-        let (byte, behind) = split_byte(rest);
+        let (byte, after) = split_byte(rest);
         into.push(byte)?;
-        rest = behind;
+        rest = after;
     }
     Ok(())
 }

@@ -28,7 +28,7 @@ const MAX_COUNT: usize = 1000;
 const MAX_BOUNDARY_LEN: usize = 70;
 
 /// An entity that is to be visited.
-#[derive(Debug, Clone, Copy, Drop)]
+#[derive(Clone, Copy, Drop)]
 pub(crate) struct Entity {
     /// Where it is in the text.
     span: Span,
