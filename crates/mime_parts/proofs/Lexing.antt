@@ -1,8 +1,8 @@
 -- Gaps, tokens, quoted strings and marks at the front of a value.
-use Rattle.std.proofs.Common.{◌≡◌, ℕ, ◌+◌, ◌<◌, ◌≤◌, Bool, true, false, cond, eqb, ◌&&◌, ◌||◌, not, List, [], ◌∷◌, ◌++◌, length, take, drop, get_or, refl, sym, ap, ◌∙◌, append_assoc, arith}
+use Rattle.std.proofs.Common.{◌≡◌, ℕ, suc, ◌+◌, ◌<◌, ◌≤◌, Bool, true, false, cond, eqb, ◌&&◌, ◌||◌, not, List, [], ◌∷◌, ◌++◌, length, take, drop, get_or, refl, sym, ap, ◌∙◌, append_assoc, arith, add-zero}
 use Rattle.std.specs.List.{prefix_len}
 use Rattle.std.proofs.lemmas.Bool.{eqb-true, or_parts, and_parts, true≢false}
-use Rattle.std.proofs.lemmas.List.{drop_more, take_more, take_all, drop_all, append-nil}
+use Rattle.std.proofs.lemmas.List.{drop_more, take_more, take_all, drop_all, append-nil, get_or-drop}
 use Rattle.mime_parts.specs.declared.place.Place.{Place}
 use Rattle.mime_parts.specs.declared.place.Place.TheVariants.{Outside, Quoted, QuotedPair, Comment, CommentPair}
 use Rattle.mime_parts.specs.declared.lexemes.Mark.{Mark}
@@ -66,6 +66,22 @@ pub gap_more : (p : Place) (value : List ℕ) (i : ℕ) → i < length value →
 gap_more p value i h g =
     ap (λ bs. closed (lexed_from p bs)) (drop_more value i 0 h) ∙ gap_step p (get_or value i 0) (drop (i + 1) value) g
 
+-- The first byte after a gap, or none.
+pub gap_end : (p : Place) (value : List ℕ) (i : ℕ) → is_gap p (get_or value i 0) ≡ false → is_between p ≡ true
+    → closed (lexed_from p (drop i value)) ≡ lexemes_of value → lexemes_of (drop i value) ≡ lexemes_of value
+gap_end p value i g b e =
+    ap (λ q. closed (lexed_from q (drop i value))) (sym (outside_of p (get_or value i 0) g b)) ∙ e
+
+pub gap_front : (p : Place) (value : List ℕ) (i : ℕ) → is_gap p (get_or value i 0) ≡ false → is_between p ≡ true
+    → is_gap Outside (get_or (drop i value) 0 0) ≡ false
+gap_front p value i g b =
+    ap (is_gap Outside) (get_or-drop i value 0 0 ∙ ap (λ k. get_or value k 0) (add-zero i))
+    ∙ ap (λ q. is_gap q (get_or value i 0)) (sym (outside_of p (get_or value i 0) g b)) ∙ g
+
+pub gap_all : (p : Place) (value : List ℕ) (i : ℕ) → length value ≤ i → closed (lexed_from p (drop i value)) ≡ lexemes_of value
+    → lexemes_of [] ≡ lexemes_of value
+gap_all p value i h e = sym (ap (λ bs. closed (lexed_from p bs)) (drop_all i value h)) ∙ e
+
 -- A byte that is no part of a token or a quoted string starts no token.
 no_token : (r : Role) (b : ℕ) (l : Lexed) → (r ≡ Content → ⊥) → lexed_by r b l ≡ lexed [] (closed (lexed_by r b l))
 no_token Content b l h = absurd (h refl)
@@ -87,6 +103,9 @@ token_outside b true t p q h = absurd (true≢false (sym (rw (eqb-true b 34 p) a
 token_outside b false true p q h = absurd (true≢false (sym (rw (eqb-true b 40 q) at h)))
 token_outside b false false p q h = rw (p, q) refl
 
+one-more : (n : ℕ) → 1 + n ≡ suc n
+one-more n = omega arith
+
 -- A token is the longest run of its bytes.
 token_split : (bs : List ℕ) → lexed_from Outside bs ≡ lexed (take (prefix_len is_token_byte bs) bs) (lexemes_of (drop (prefix_len is_token_byte bs) bs))
 token_split [] = refl
@@ -94,13 +113,13 @@ token_split (b ∷ bs) = step (is_token_byte b) refl (token_split bs)
   where
     step : (t : Bool) → is_token_byte b ≡ t → lexed_from Outside bs ≡ lexed (take (prefix_len is_token_byte bs) bs) (lexemes_of (drop (prefix_len is_token_byte bs) bs))
         → lexed_from Outside (b ∷ bs) ≡ lexed (take (prefix_len is_token_byte (b ∷ bs)) (b ∷ bs)) (lexemes_of (drop (prefix_len is_token_byte (b ∷ bs)) (b ∷ bs)))
-    step true e i = rw (e, token_outside b (eqb b 34) (eqb b 40) refl refl e, i) refl
+    step true e i = rw (e, one-more (prefix_len is_token_byte bs), token_outside b (eqb b 34) (eqb b 40) refl refl e, i) refl
     step false e i = rw e (no_token (plain_role b) b (lexed_from (next_place Outside b) bs) (plain_other b e))
 
 pub token_first : (value : List ℕ) → 0 < length value → is_token_byte (get_or value 0 0) ≡ true
     → lexemes_of value ≡ TokenText (take (prefix_len is_token_byte value) value) ∷ lexemes_of (drop (prefix_len is_token_byte value) value)
 token_first [] l h = absurd (omega arith)
-token_first (b ∷ bs) l h = ap closed (token_split (b ∷ bs)) ∙ rw h refl
+token_first (b ∷ bs) l h = ap closed (token_split (b ∷ bs)) ∙ rw (h, one-more (prefix_len is_token_byte bs)) refl
 
 -- A token isn't empty.
 pub token_some : (value : List ℕ) → 0 < length value → is_token_byte (get_or value 0 0) ≡ true → 0 < prefix_len is_token_byte value

@@ -1,0 +1,16 @@
+use Rattle.std.proofs.Common.{◌≡◌, Some, None, refl, sym, ap, ◌∙◌, option_map}
+use Rattle.mail_reader.specs.Fields.{FieldText, fields_of, first_named}
+use Rattle.mail_reader.specs.Reading.{shown}
+use Rattle.mime_parts.proofs.heading.first_value.Goals as goal
+
+pub returns-then-eq_ignore_ascii_case : goal.returns-then-eq_ignore_ascii_case
+returns-then-eq_ignore_ascii_case c =
+    let found : first_named c.args.name.now (fields_of c.args.bytes.now) ≡ Some (shown c.in-Some.field) =
+    sym c.loop-field.invariant ∙ ap (first_named c.args.name.now) c.in-Some.ensures.steps ∙ rw (sym c.eq_ignore_ascii_case.ensures, c.if-eq_ignore_ascii_case.true) refl in
+    rw found refl
+
+pub returns : goal.returns
+returns c =
+    let none : first_named c.args.name.now (fields_of c.args.bytes.now) ≡ None =
+    sym c.loop-field.invariant ∙ ap (first_named c.args.name.now) c.in-None.ensures.steps.0 in
+    rw none refl
