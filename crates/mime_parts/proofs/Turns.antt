@@ -10,7 +10,7 @@ use Rattle.mime_parts.specs.declared.heading.Heading.{Heading}
 use Rattle.mime_parts.specs.Headings.{is_digest}
 use Rattle.mime_parts.specs.Delimiters.{span_of}
 use Rattle.mime_parts.specs.Trees.{IsIn, IsPartOf, header_span, body_span, direct_parts, heading_at, visited_parts, part_by, part_at, Visit, visit, visit_all, visit_of, tree_of}
-use Rattle.mime_parts.specs.Visiting.{entity_at, parts_below, below, known, Visits}
+use Rattle.mime_parts.specs.Visiting.{entity_at, parts_below, found_below, below, known, Visits}
 use Rattle.mime_parts.proofs.Spanning.{AllIn, header-in, body-in, direct_in, at_most_in, at_most_len}
 
 -- What is told of these entities and of all below them, where so many entities are known.
@@ -70,6 +70,12 @@ below_in text (suc levels) digest count s i = at_most_in _ text _ (direct_in _ _
 below_len : (text : List ℕ) (levels : ℕ) (digest : Bool) (count : ℕ) (s : Span) → length (parts_below text levels digest count s) ≤ 1000 - count
 below_len text zero digest count s = omega arith
 below_len text (suc levels) digest count s = at_most_len _ _
+
+-- The parts that are found by the heading of an entity are those that are visited.
+pub found_is : (text : List ℕ) (levels : ℕ) (digest : Bool) (count : ℕ) (s : Span)
+    → found_below text levels (heading_at text digest s) (1000 - count) s ≡ parts_below text levels digest count s
+found_is text zero digest count s = refl
+found_is text (suc levels) digest count s = refl
 
 ready_all : (text : List ℕ) (levels : ℕ) (digest : Bool) (ss : List Span) → levels < 20 → AllIn text ss → AllReady text (map (entity_at levels digest) ss)
 ready_all text levels digest [] h a = tt
