@@ -68,11 +68,11 @@ pub plain_push : (boundary mid line : List ℕ) → (mid ≡ []) ⊎ EndsFed mid
     → IsPlain boundary mid → IsPlain boundary (mid ++ line)
 plain_push boundary mid line (inl e) l k p =
     let is : lines_of (mid ++ line) ≡ line ∷ [] = ap (λ xs. lines_of (xs ++ line)) e ∙ l in
-    All-same _ _ _ is (All-cons (λ (it : List ℕ). kind_of boundary it ≡ Plain) line [] k (All-nil _))
+    All-same (λ (it : List ℕ). kind_of boundary it ≡ Plain) _ _ is (All-cons (λ (it : List ℕ). kind_of boundary it ≡ Plain) line [] k (All-nil _))
 plain_push boundary mid line (inr f) l k p =
     let is : lines_of (mid ++ line) ≡ lines_of mid ++ line ∷ [] =
     ap (λ xs. lines_of (xs ++ line)) f.is ∙ lines_fed f.before line ∙ ap (λ xs. lines_of xs ++ lines_of line) (sym f.is) ∙ ap (λ ls. lines_of mid ++ ls) l in
-    All-same _ _ _ is (All-push (λ (it : List ℕ). kind_of boundary it ≡ Plain) (lines_of mid) line p k)
+    All-same (λ (it : List ℕ). kind_of boundary it ≡ Plain) _ _ is (All-push (λ (it : List ℕ). kind_of boundary it ≡ Plain) (lines_of mid) line p k)
 
 -- Each line of the first list is, but for a line feed, that of the second.
 abbrev pub SameFront : List (List ℕ) → List (List ℕ) → Type 0

@@ -1,5 +1,5 @@
 -- Gaps, tokens, quoted strings and marks at the front of a value.
-use Rattle.std.proofs.Common.{◌≡◌, ℕ, suc, ◌+◌, ◌<◌, ◌≤◌, Bool, true, false, cond, eqb, ◌&&◌, ◌||◌, not, List, [], ◌∷◌, ◌++◌, length, take, drop, get_or, refl, sym, ap, ◌∙◌, append_assoc, arith, add-zero}
+use Rattle.std.proofs.Common.{◌≡◌, ℕ, suc, ◌+◌, ◌-◌, ◌<◌, ◌≤◌, Bool, true, false, cond, eqb, leb, ◌&&◌, ◌||◌, not, List, [], ◌∷◌, ◌++◌, length, take, drop, get_or, refl, sym, ap, ◌∙◌, append_assoc, arith, add-zero}
 use Rattle.std.specs.List.{prefix_len}
 use Rattle.std.proofs.lemmas.Bool.{eqb-true, or_parts, and_parts, true≢false}
 use Rattle.std.proofs.lemmas.List.{drop_more, take_more, take_all, drop_all, append-nil, get_or-drop}
@@ -46,7 +46,7 @@ pub gap_between : (p : Place) (b : ℕ) → is_gap p b ≡ true → is_between (
 gap_between Outside b h = plain_between b (eqb b 32) (eqb b 40) refl refl h
 gap_between Quoted b h = cc
 gap_between QuotedPair b h = cc
-gap_between (Comment d) b h = comment_between _ _ _ _ _ _ _
+gap_between (Comment d) b h = comment_between (eqb b 92) (eqb b 40) (eqb b 41) (leb d 1) d (d + 1) (d - 1)
 gap_between (CommentPair d) b h = refl
 
 -- A byte that is no gap, and not in a quoted string, is outside.
@@ -114,7 +114,10 @@ token_split (b ∷ bs) = step (is_token_byte b) refl (token_split bs)
     step : (t : Bool) → is_token_byte b ≡ t → lexed_from Outside bs ≡ lexed (take (prefix_len is_token_byte bs) bs) (lexemes_of (drop (prefix_len is_token_byte bs) bs))
         → lexed_from Outside (b ∷ bs) ≡ lexed (take (prefix_len is_token_byte (b ∷ bs)) (b ∷ bs)) (lexemes_of (drop (prefix_len is_token_byte (b ∷ bs)) (b ∷ bs)))
     step true e i = rw (e, one-more (prefix_len is_token_byte bs), token_outside b (eqb b 34) (eqb b 40) refl refl e, i) refl
-    step false e i = rw e (no_token (plain_role b) b (lexed_from (next_place Outside b) bs) (plain_other b e))
+    step false e i =
+        let zero : prefix_len is_token_byte (b ∷ bs) ≡ 0 = rw e refl in
+        no_token (plain_role b) b (lexed_from (next_place Outside b) bs) (plain_other b e)
+        ∙ ap (λ n. lexed (take n (b ∷ bs)) (lexemes_of (drop n (b ∷ bs)))) (sym zero)
 
 pub token_first : (value : List ℕ) → 0 < length value → is_token_byte (get_or value 0 0) ≡ true
     → lexemes_of value ≡ TokenText (take (prefix_len is_token_byte value) value) ∷ lexemes_of (drop (prefix_len is_token_byte value) value)

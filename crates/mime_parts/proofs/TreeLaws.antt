@@ -1,5 +1,5 @@
 -- The law that the parts of a text are a tree.
-use Rattle.std.proofs.Common.{◌≡◌, ℕ, zero, suc, ◌+◌, ◌-◌, ◌<◌, ◌≤◌, Bool, true, false, max, List, [], ◌∷◌, ◌++◌, length, refl, sym, ap, ◌∙◌, subst, append_assoc, arith, length-append, lit≤}
+use Rattle.std.proofs.Common.{◌≡◌, ℕ, zero, suc, ◌+◌, ◌-◌, ◌<◌, ◌≤◌, Bool, true, false, cond, eqb, leb, max, List, [], ◌∷◌, ◌++◌, length, refl, sym, ap, ◌∙◌, subst, append_assoc, arith, length-append, lit≤}
 use Rattle.std.specs.List.{All}
 use Rattle.std.proofs.lemmas.List.{append-nil}
 use Rattle.std.proofs.lemmas.List.Elements.{All-nil, All-cons, All-head, All-tail, All-append, All-weaker}
@@ -13,15 +13,15 @@ use Rattle.mime_parts.specs.declared.heading.Heading.{Heading}
 use Rattle.mime_parts.specs.Headings.{shape_of, is_digest, opaque_heading}
 use Rattle.mime_parts.specs.Delimiters.{span_of, cuts_from}
 use Rattle.mime_parts.specs.Dividing.{at_most}
-use Rattle.mime_parts.specs.Trees.{IsIn, bytes_at, header_span, body_span, divided, direct_parts, heading_at, visited_parts, part_with, part_by, part_at, Visit, visit, visit_all, visit_of, tree_of}
+use Rattle.mime_parts.specs.Trees.{IsIn, bytes_at, header_span, body_span, divided, max_count, direct_parts, heading_at, visited_parts, part_with, part_by, part_at, is_opaque, Visit, visit, visit_all, visit_of, tree_of}
 use Rattle.mime_parts.specs.Laws.{Stands, IsBelow, IsAfter, StartsBelow, StartsBeside, IsFollowed, AllFollowed, StartsWhole, IsTree, TreesAreTrees}
 use Rattle.mime_parts.proofs.Spanning.{InOrder, order_le, cuts_order, AllIn, parts_len, length-bytes_at, body-in, direct_in, at_most_in, at_most_len}
 
 -- A part lies between two offsets, from a depth on.
-pub record Lies (depth low high : ℕ) (p : Part) : Type 0 where
-  pub deep : depth ≤ p.depth
-  pub low : low ≤ p.header.start
-  pub high : p.body.end ≤ high
+pub record Lies (least from to : ℕ) (p : Part) : Type 0 where
+  pub deep : least ≤ p.depth
+  pub low : from ≤ p.header.start
+  pub high : p.body.end ≤ to
 
 -- The first of the parts, if there is one, is at a depth.
 abbrev pub StartsAt : ℕ → List Part → Type 0
@@ -105,6 +105,7 @@ pub record IsAt (text : List ℕ) (depth : ℕ) (s : Span) (p : Part) : Type 0 w
   pub depth_is : p.depth ≡ depth
   pub start : p.header.start ≡ s.start
   pub end : p.body.end ≡ s.end
+  pub body_is : p.body ≡ body_span text s
   pub stands : Stands text p
 
 is_with : (h : Heading) (shape : Shape) (text : List ℕ) (s : Span) (depth : ℕ) → IsIn text s → 1 ≤ depth → depth ≤ 20
@@ -117,6 +118,7 @@ is_with h shape text s depth i low high =
       depth_is = refl;
       start = refl;
       end = refl;
+      body_is = refl;
       stands = record {
         depth = low;
         depth_most = high;
@@ -141,11 +143,6 @@ row_node : (text : List ℕ) (depth : ℕ) (s : Span) (p : Part) (below : List P
     → Row text (depth + 1) p.body.start p.body.end below → Row text depth s.start s.end (p ∷ below)
 row_node text depth s p below a r =
     let stands = a.stands in
-    let inside = λ (q : Part) (l : Lies (depth + 1) p.body.start p.body.end q).
-    let deep = l.deep in
-    let low = l.low in
-    let high = l.high in
-    (omega (arith, a.depth_is), (omega arith, omega arith)) in
     record {
       ordered = omega (arith, a.start, a.end, stands.header, stands.between, stands.body);
       starts = a.depth_is;
@@ -195,10 +192,17 @@ direct_order Multipart h text body i = if_order _ body.start body.end _ (cuts_or
 
 visited_order : (text : List ℕ) (digest : Bool) (count : ℕ) (s : Span) → IsIn text s
     → InOrder (body_span text s).start (body_span text s).end (visited_parts text digest count s)
-visited_order text digest count s i = if_order _ _ _ _ (direct_order _ _ text _ (body-in text s i))
+visited_order text digest count s i =
+    let h = heading_at text digest s in
+    let body = body_span text s in
+    let parts = direct_parts (shape_of h) h text body in
+    if_order (leb (length parts) (max_count - count)) body.start body.end parts (direct_order (shape_of h) h text body (body-in text s i))
 
 visited_in : (text : List ℕ) (digest : Bool) (count : ℕ) (s : Span) → IsIn text s → AllIn text (visited_parts text digest count s)
-visited_in text digest count s i = at_most_in _ text _ (direct_in _ _ text _ (body-in text s i))
+visited_in text digest count s i =
+    let h = heading_at text digest s in
+    let body = body_span text s in
+    at_most_in (max_count - count) text (direct_parts (shape_of h) h text body) (direct_in (shape_of h) h text body (body-in text s i))
 
 -- Each visit is a row.
 visit_row : (text : List ℕ) (levels : ℕ) (digest : Bool) (count : ℕ) (s : Span) → levels ≤ 19 → IsIn text s
@@ -210,13 +214,17 @@ visit_row text zero digest count s h i =
 visit_row text (suc levels) digest count s h i =
     let parts = visited_parts text digest count s in
     let inner = is_digest (heading_at text digest s) in
-    let a = is_at _ text (heading_at text digest s) s (20 - suc levels) i (omega arith) (omega arith) in
+    let part = part_at text (suc levels) digest parts s in
+    let a : IsAt text (20 - suc levels) s part =
+    is_at (is_opaque (suc levels) (shape_of (heading_at text digest s)) (eqb (length parts) 0)) text (heading_at text digest s) s (20 - suc levels) i (omega arith) (omega arith) in
     let deeper : 20 - levels ≡ (20 - suc levels) + 1 = omega arith in
     let below = row_all text (20 - levels) (visit_of text levels inner)
-    (λ n t j. visit_row text levels inner n t (omega arith) j) (count + length parts) parts _ _
+    (λ n t j. visit_row text levels inner n t (omega arith) j) (count + length parts) parts (body_span text s).start (body_span text s).end
     (visited_order text digest count s i) (visited_in text digest count s i) in
-    row_node text (20 - suc levels) s _ _ a
-    (subst (λ (d : ℕ). Row text d (body_span text s).start (body_span text s).end _) deeper below)
+    let told = (visit_all (visit_of text levels inner) (count + length parts) parts).parts in
+    row_node text (20 - suc levels) s part told a
+    (subst (λ (b : Span). Row text ((20 - suc levels) + 1) b.start b.end told) (sym a.body_is)
+    (subst (λ (d : ℕ). Row text d (body_span text s).start (body_span text s).end told) deeper below))
 
 -- How many entities are known after a visit of `many`.
 pub record Counts (count many : ℕ) (v : Visit) : Type 0 where
@@ -240,7 +248,8 @@ visit_count text zero digest count s h = record { sum = refl; most = h }
 visit_count text (suc levels) digest count s h =
     let parts = visited_parts text digest count s in
     let inner = is_digest (heading_at text digest s) in
-    let few : length parts ≤ 1000 - count = at_most_len _ _ in
+    let head = heading_at text digest s in
+    let few : length parts ≤ 1000 - count = at_most_len (1000 - count) (direct_parts (shape_of head) head text (body_span text s)) in
     let below = count_all (visit_of text levels inner) (λ n t j. visit_count text levels inner n t j) (count + length parts) parts (omega arith) in
     record { sum = omega (arith, below.sum); most = below.most }
 

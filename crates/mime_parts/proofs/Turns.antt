@@ -1,5 +1,5 @@
 -- The visits that are still to be made, one after another.
-use Rattle.std.proofs.Common.{◌≡◌, ℕ, zero, suc, ◌+◌, ◌-◌, ◌<◌, ◌≤◌, Bool, List, [], ◌∷◌, ◌++◌, map, reverse, length, refl, sym, ap, ◌∙◌, subst, append_assoc, arith, length-append, add-zero, lit<, lit≤}
+use Rattle.std.proofs.Common.{◌≡◌, ℕ, zero, suc, ◌+◌, ◌-◌, ◌<◌, ◌≤◌, Bool, true, false, eqb, List, [], ◌∷◌, ◌++◌, map, reverse, length, refl, sym, ap, ◌∙◌, subst, append_assoc, arith, length-append, add-zero, lit<, lit≤}
 use Rattle.std.specs.List.{All}
 use Rattle.std.proofs.lemmas.List.{reverse-append, reverse-reverse, length-reverse, length-map, append-nil}
 use Rattle.std.proofs.lemmas.List.Elements.{All-push}
@@ -7,9 +7,9 @@ use Rattle.mime_parts.specs.declared.part.Span.{Span}
 use Rattle.mime_parts.specs.declared.part.Part.{Part}
 use Rattle.mime_parts.specs.declared.visiting.Entity.{Entity}
 use Rattle.mime_parts.specs.declared.heading.Heading.{Heading}
-use Rattle.mime_parts.specs.Headings.{is_digest}
+use Rattle.mime_parts.specs.Headings.{shape_of, is_digest}
 use Rattle.mime_parts.specs.Delimiters.{span_of}
-use Rattle.mime_parts.specs.Trees.{IsIn, IsPartOf, header_span, body_span, direct_parts, heading_at, visited_parts, part_by, part_at, Visit, visit, visit_all, visit_of, tree_of}
+use Rattle.mime_parts.specs.Trees.{IsIn, IsPartOf, header_span, body_span, direct_parts, heading_at, visited_parts, part_by, part_at, is_opaque, Visit, visit, visit_all, visit_of, tree_of}
 use Rattle.mime_parts.specs.Visiting.{entity_at, parts_below, found_below, below, known, Visits}
 use Rattle.mime_parts.proofs.Spanning.{AllIn, header-in, body-in, direct_in, at_most_in, at_most_len}
 
@@ -65,11 +65,16 @@ pub record Going (text : List ℕ) (parts : List Part) (pending : List Entity) :
 
 below_in : (text : List ℕ) (levels : ℕ) (digest : Bool) (count : ℕ) (s : Span) → IsIn text s → AllIn text (parts_below text levels digest count s)
 below_in text zero digest count s i = tt
-below_in text (suc levels) digest count s i = at_most_in _ text _ (direct_in _ _ text _ (body-in text s i))
+below_in text (suc levels) digest count s i =
+    let h = heading_at text digest s in
+    let body = body_span text s in
+    at_most_in (1000 - count) text (direct_parts (shape_of h) h text body) (direct_in (shape_of h) h text body (body-in text s i))
 
 below_len : (text : List ℕ) (levels : ℕ) (digest : Bool) (count : ℕ) (s : Span) → length (parts_below text levels digest count s) ≤ 1000 - count
 below_len text zero digest count s = omega arith
-below_len text (suc levels) digest count s = at_most_len _ _
+below_len text (suc levels) digest count s =
+    let h = heading_at text digest s in
+    at_most_len (1000 - count) (direct_parts (shape_of h) h text (body_span text s))
 
 -- The parts that are found by the heading of an entity are those that are visited.
 pub found_is : (text : List ℕ) (levels : ℕ) (digest : Bool) (count : ℕ) (s : Span)
@@ -95,9 +100,39 @@ going_start text = record {
   count = lit≤ tt;
 }
 
+pub going_from : (text : List ℕ) (parts : List Part) (pending : List Entity) → parts ≡ [] → pending ≡ entity_at 19 false (span_of 0 (length text)) ∷ []
+    → Going text parts pending
+going_from text parts pending p q =
+    subst (λ (ps : List Part). Going text ps pending) (sym p)
+    (subst (Going text []) (sym q) (going_start text))
+
 -- The last of the pending ones is the first in the order of the visit.
 pub going_next : (text : List ℕ) (parts : List Part) (pending : List Entity) (e : Entity) → Going text parts (pending ++ e ∷ []) → IsReady text e
 going_next text parts pending e g = let ready = subst (AllReady text) (reverse-append pending (e ∷ [])) g.ready in ready.0
+
+-- What is read and found of an entity makes its visit.
+pub visited : (text : List ℕ) (e : Entity) (parts parts' : List Part) (pending pending' : List Entity) (h : Heading) (found : List Span) (part : Part)
+    (is_empty digest : Bool) (levels room : ℕ) → h ≡ heading_at text e.digest e.span → room ≡ 1000 - known parts pending
+    → found ≡ found_below text e.levels h room e.span → is_empty ≡ eqb (length found) 0 → digest ≡ is_digest h → levels ≡ e.levels - 1
+    → part ≡ part_by (is_opaque e.levels (shape_of h) is_empty) h (header_span text e.span) (body_span text e.span) (20 - e.levels)
+    → parts' ≡ parts ++ part ∷ [] → pending' ≡ pending ++ reverse (map (entity_at levels digest) found) → Visits text e parts pending parts' pending'
+visited text e parts parts' pending pending' h found part is_empty digest levels room head space all empty dig less told ps qs =
+    let n = known parts pending in
+    let spans = parts_below text e.levels e.digest n e.span in
+    let are : found ≡ spans =
+    all ∙ ap (λ x. found_below text e.levels x room e.span) head ∙ ap (λ r. found_below text e.levels (heading_at text e.digest e.span) r e.span) space
+    ∙ found_is text e.levels e.digest n e.span in
+    let is : part ≡ part_at text e.levels e.digest spans e.span =
+    told
+    ∙ ap (λ b. part_by (is_opaque e.levels (shape_of h) b) h (header_span text e.span) (body_span text e.span) (20 - e.levels)) (empty ∙ ap (λ ss. eqb (length ss) 0) are)
+    ∙ ap (λ x. part_by (is_opaque e.levels (shape_of x) (eqb (length spans) 0)) x (header_span text e.span) (body_span text e.span) (20 - e.levels)) head in
+    record {
+      parts_are = ps ∙ ap (λ p. parts ++ p ∷ []) is;
+      pending_are =
+          qs ∙ ap (λ ss. pending ++ reverse (map (entity_at levels digest) ss)) are
+          ∙ ap (λ k. pending ++ reverse (map (entity_at k digest) spans)) less
+          ∙ ap (λ d. pending ++ reverse (map (entity_at (e.levels - 1) d) spans)) (dig ∙ ap is_digest head);
+    }
 
 -- One visit.
 pub going_on : (text : List ℕ) (parts parts' : List Part) (pending pending' : List Entity) (e : Entity)
@@ -121,6 +156,7 @@ going_on text parts parts' pending pending' e g v =
     let old : parts ++ run text (e ∷ reverse pending) n ≡ tree_of text =
     ap (λ es. parts ++ run text es n) (sym order) ∙ ap (λ k. parts ++ run text (reverse (pending ++ e ∷ [])) k) (sym total) ∙ g.told in
     let bound = g.count in
+    let head = heading_at text e.digest e.span in
     record {
       told =
           ap (λ ps. ps ++ run text (reverse pending') (length parts' + length pending')) v.parts_are
@@ -135,7 +171,7 @@ going_on text parts parts' pending pending' e g v =
           ready.1);
       placed = subst (All (IsPartOf text)) (sym v.parts_are)
           (All-push (IsPartOf text) parts part g.placed
-          (part_placed _ text _ _ _ _ (header-in text e.span ready.0.within) (body-in text e.span ready.0.within)));
+          (part_placed (is_opaque e.levels (shape_of head) (eqb (length spans) 0)) text head (header_span text e.span) (body_span text e.span) (20 - e.levels) (header-in text e.span ready.0.within) (body-in text e.span ready.0.within)));
       count = omega arith;
     }
 

@@ -16,6 +16,7 @@ use std::alloc::Global;
 /// Returns the decoded bytes of a part's body (RFC 2045, section 6).
 ///
 /// `part` is a part of `text`, as [`tree`] returns it. The only error is `NoMemory`.
+#[tactic(auto, unfolding(crate::specs::Texts::decoded_part))]
 pub fn decode_part(alloc: Global, text: &[u8], part: &Part) -> Result<Bytes, NoMemory>
     requires { IsIn text.now part.now.body }
     ensures { IfOk result (λ bytes. bytes ≡ decoded_part text.now part.now) }
@@ -40,6 +41,7 @@ fn decode(alloc: Global, encoding: Encoding, bytes: &[u8]) -> Result<Bytes, NoMe
 /// end, and for each other leaf the line `[-- TYPE/SUBTYPE, N bytes --]`, where N is the number of
 /// its decoded bytes. Bytes of `iso-8859-1` are the characters with these numbers. All others are
 /// read as UTF-8, with U+FFFD for bytes that aren't. The only error is `NoMemory`.
+#[tactic(auto, unfolding(crate::specs::Texts::body_text_of))]
 pub fn body_text(alloc: Global, text: &[u8]) -> Result<Bytes, NoMemory>
     ensures { IfOk result (λ shown. shown ≡ body_text_of text.now) }
 {

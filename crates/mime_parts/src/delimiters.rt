@@ -94,6 +94,7 @@ pub(crate) fn split_line(text: &[u8]) -> (&[u8], &[u8])
 }
 
 /// Returns what a line is, by the boundary of its multipart.
+#[tactic(auto, unfolding(crate::specs::Delimiters::kind_of))]
 fn line_kind(boundary: &[u8], line: &[u8]) -> LineKind
     ensures { result ≡ kind_of boundary.now line.now }
 {

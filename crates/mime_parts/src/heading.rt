@@ -8,7 +8,7 @@ ghost use Rattle.std.specs.List.{list_any};
 ghost use Rattle.mime_parts.specs.ContentTypes.{type_in};
 
 use crate::content_type::{ContentType, read_type, split_token};
-use crate::params::{copied, lower};
+use crate::params::{copied, is_same_name, lower};
 use crate::part::{Encoding, Shape};
 use arch_base::{Bytes, NoMemory};
 use mail_reader::{Field, fields, flat};
@@ -28,6 +28,7 @@ impl Heading {
     /// Reads the heading of an entity with these bytes.
     ///
     /// `digest` says whether the entity is a direct part of a digest. The only error is `NoMemory`.
+    #[tactic(auto, unfolding(crate::specs::Headings::heading_of))]
     pub(crate) fn read(alloc: Global, digest: bool, bytes: &[u8]) -> Result<Heading, NoMemory>
         ensures { IfOk result (λ heading. heading ≡ heading_of digest bytes.now) }
     {
@@ -110,7 +111,7 @@ fn first_value<'a>(bytes: &'a [u8], name: &[u8]) -> Option<&'a [u8]>
         ≡ option_map (λ (field : FieldText). field.value) (first_named name.now (fields_of bytes.now)) }
 {
     for field in fields(bytes) {
-        if field.name.eq_ignore_ascii_case(name) {
+        if is_same_name(field.name, name) {
             return Some(field.value);
         }
     }
@@ -191,7 +192,7 @@ fn is_attached(alloc: Global, bytes: &[u8]) -> Result<bool, NoMemory>
 fn is_attachment(alloc: Global, field: Field<'_>) -> Result<bool, NoMemory>
     ensures { IfOk result (λ attached. attached ≡ is_attachment (shown field.entry)) }
 {
-    if !field.name.eq_ignore_ascii_case(b"Content-Disposition") {
+    if !is_same_name(field.name, b"Content-Disposition") {
         return Ok(false);
     }
     let value = flat(alloc, field.value)?;
@@ -203,5 +204,5 @@ fn begins_with(bytes: &[u8], word: &[u8]) -> bool
     ensures { result ≡ str_eq_ignore_ascii_case (take (length word.now) bytes.now) word.now }
 {
     let len = word.len().min(bytes.len());
-    bytes.split_at(len).0.eq_ignore_ascii_case(word)
+    is_same_name(bytes.split_at(len).0, word)
 }

@@ -3,7 +3,7 @@ ghost use Rattle.std.specs.Prelude.{◌≡◌, [], IfOk, if◌then◌else◌};
 ghost use Rattle.mime_parts.specs.Lexemes.{lexemes_of};
 ghost use Rattle.mime_parts.specs.ContentTypes.{params_of, step_of, end_at, param};
 ghost use Rattle.mime_parts.specs.Reading.{shown, Takes};
-ghost use Rattle.std.specs.Str.{str_to_ascii_lowercase};
+ghost use Rattle.std.specs.Str.{str_to_ascii_lowercase, str_eq_ignore_ascii_case};
 
 use crate::lexemes::{Lexeme, Mark, first_lexeme, unescape};
 use arch_base::{Bytes, NoMemory, Texts};
@@ -96,12 +96,19 @@ pub(crate) fn param<'a>(params: &'a [Bytes], name: &[u8]) -> &'a [u8]
 {
     let mut at = 0;
     while at + 1 < params.len() {
-        if params[at].as_slice().eq_ignore_ascii_case(name) {
+        if is_same_name(params[at].as_slice(), name) {
             return params[at + 1].as_slice();
         }
         at += 2;
     }
     &[]
+}
+
+/// Returns whether two names are equal, ignoring case.
+pub(crate) fn is_same_name(name: &[u8], other: &[u8]) -> bool
+    ensures { result ≡ str_eq_ignore_ascii_case name.now other.now }
+{
+    name.eq_ignore_ascii_case(other)
 }
 
 /// Copies bytes in lower case.

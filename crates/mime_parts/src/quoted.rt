@@ -12,6 +12,7 @@ use std::alloc::Global;
 /// `=` and two hexadecimal digits, in either case, are a byte. Spaces and tabs before a line feed
 /// are dropped, and a `=` before them joins the line to the next one. Any other `=` stays. The only
 /// error is `NoMemory`.
+#[tactic(auto, unfolding(crate::specs::QuotedPrintable::unquoted))]
 pub(crate) fn unquoted(alloc: Global, text: &[u8]) -> Result<Bytes, NoMemory>
     ensures { IfOk result (λ bytes. bytes ≡ unquoted text.now) }
 {

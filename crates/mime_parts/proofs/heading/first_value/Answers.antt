@@ -3,10 +3,10 @@ use Rattle.mail_reader.specs.Fields.{FieldText, fields_of, first_named}
 use Rattle.mail_reader.specs.Reading.{shown}
 use Rattle.mime_parts.proofs.heading.first_value.Goals as goal
 
-pub returns-then-eq_ignore_ascii_case : goal.returns-then-eq_ignore_ascii_case
-returns-then-eq_ignore_ascii_case c =
+pub returns-then-is_same_name : goal.returns-then-is_same_name
+returns-then-is_same_name c =
     let found : first_named c.args.name.now (fields_of c.args.bytes.now) ≡ Some (shown c.in-Some.field) =
-    sym c.loop-field.invariant ∙ ap (first_named c.args.name.now) c.in-Some.ensures.steps ∙ rw (sym c.eq_ignore_ascii_case.ensures, c.if-eq_ignore_ascii_case.true) refl in
+    sym c.loop-field.invariant ∙ ap (first_named c.args.name.now) c.in-Some.ensures.steps ∙ rw (sym c.is_same_name.ensures, c.if-is_same_name.true) refl in
     rw found refl
 
 pub returns : goal.returns

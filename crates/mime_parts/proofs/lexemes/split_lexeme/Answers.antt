@@ -17,10 +17,10 @@ returns-then-is_token_byte-clause-shorter c =
 pub returns-then-byte-eq34-clause-lexemes : goal.returns-then-byte-eq34-clause-lexemes
 returns-then-byte-eq34-clause-lexemes c =
     quoted_first c.args.value.now c.split_quoted.result.0.now c.split_quoted.result.1.now c.requires.some c.if-byte-eq34.true
-    (rw c.split_at-rest.ensures.back at c.split_quoted.ensures.quoted)
+    (rw c.split_at-2.ensures.back at c.split_quoted.ensures.quoted)
 
 pub returns-clause-lexemes : goal.returns-clause-lexemes
 returns-clause-lexemes c =
     let other : eqb (get_or c.args.value.now 0 0) 34 ≡ false = grind (arith, nat_tests) in
-    rw (c.split_at-rest.ensures.back, c.mark_of.ensures)
+    rw (c.split_at-2.ensures.back, c.mark_of.ensures)
     (mark_first c.args.value.now c.requires.some (sym c.is_token_byte.ensures ∙ c.if-is_token_byte.false) c.requires.front other)

@@ -4,7 +4,7 @@ use Rattle.mime_parts.proofs.lexemes.split_quoted.Goals as goal
 
 pub returns-then-is_quote-clause-quoted : goal.returns-then-is_quote-clause-quoted
 returns-then-is_quote-clause-quoted c =
-    rw (c.split_at.ensures.front, c.split_at-2.ensures.back)
+    rw (c.split_at.ensures.front, c.split_at-then-is_quote.ensures.back)
     (content_end c.loop-at.escaped c.args.bytes.now c.loop-at.at c.loop-at-test.true (sym c.is_quote.ensures ∙ c.if-is_quote.true) c.loop-at.invariant)
 
 pub loop-at-preserved : goal.loop-at-preserved

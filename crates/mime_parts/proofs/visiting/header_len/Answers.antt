@@ -6,7 +6,7 @@ use Rattle.mime_parts.proofs.visiting.header_len.Goals as goal
 
 pub loop-field-init : goal.loop-field-init
 loop-field-init c = record {
-  len = omega (arith, ap (λ fs. length (wholes fs)) c.fields.ensures.value);
+  len = omega (arith, ap (λ fs. length (wholes fs)) (c.into_iter-field-iterator.ensures.into_iter_gives ∙ c.fields-field-items.ensures.value));
   within = omega (arith, parts_len c.args.bytes.now);
 }
 
