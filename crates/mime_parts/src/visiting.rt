@@ -6,8 +6,8 @@ ghost use Rattle.mail_reader.specs.Laws.{wholes};
 ghost use Rattle.mime_parts.specs.Headings.{shape_of};
 ghost use Rattle.mime_parts.specs.Dividing.{at_most};
 ghost use Rattle.mime_parts.specs.Delimiters.{span_of};
-ghost use Rattle.mime_parts.specs.Trees.{IsIn, IsPartOf, bytes_at, header_span, body_span, divided, part_with, part_by, is_opaque, tree_of};
-ghost use Rattle.mime_parts.specs.Visiting.{Visits, entity_at, found_below};
+ghost use Rattle.mime_parts.specs.Trees.{max_count, IsIn, IsPartOf, bytes_at, header_span, body_span, divided, part_with, part_by, is_opaque, tree_of};
+ghost use Rattle.mime_parts.specs.Visiting.{known, Visits, entity_at, found_below};
 
 use crate::content_type::ContentType;
 use crate::delimiters::{Spans, divide};
@@ -87,12 +87,21 @@ fn visit(
         (Visits text.now entity parts.old pending.old.items parts.new pending.new.items) }
 {
     let heading = Heading::read(alloc, entity.digest, bytes_at(text, entity.span))?;
-    let known = parts.as_slice().len() + pending.len() + 1;
-    let found = parts_below(alloc, text, entity, &heading, MAX_COUNT - known)?;
+    let room = room_left(parts, pending.as_slice());
+    let found = parts_below(alloc, text, entity, &heading, room)?;
     let digest = heading.is_digest();
     let is_empty = found.as_slice().is_empty();
     parts.push(part_of(alloc, text, entity, heading, is_empty)?)?;
     put_before(pending, found, entity.levels.saturating_sub(1), digest)
+}
+
+/// Returns how many more entities may be known while one is visited. `parts` and `pending` are the
+/// others that are known.
+fn room_left(parts: &Parts, pending: &[Entity]) -> usize
+    requires { length parts.now + length pending.now < 1000 }
+    ensures { result ≡ max_count - known parts.now pending.now }
+{
+    MAX_COUNT - (parts.as_slice().len() + pending.len() + 1)
 }
 
 /// Returns the bytes of a span.
