@@ -122,10 +122,10 @@ if_in true text ss a = a
 if_in false text ss a = tt
 
 -- The direct parts of an entity are in the text.
-pub direct_in : (shape : Shape) (h : Heading) (text : List ℕ) (body : Span) → IsIn text body → AllIn text (direct_parts shape h text body)
-direct_in Leaf h text body i = tt
-direct_in Message h text body i = (i, tt)
-direct_in Multipart h text body i = if_in _ text _ (cuts_in _ text body i)
+pub direct_in : (shape : Shape) (params : List (List ℕ)) (text : List ℕ) (body : Span) → IsIn text body → AllIn text (direct_parts shape params text body)
+direct_in Leaf params text body i = tt
+direct_in Message params text body i = (i, tt)
+direct_in Multipart params text body i = if_in _ text _ (cuts_in _ text body i)
 
 pub at_most_in : (room : ℕ) (text : List ℕ) (ss : List Span) → AllIn text ss → AllIn text (at_most room ss)
 at_most_in room text ss a = if_in (leb (length ss) room) text ss a

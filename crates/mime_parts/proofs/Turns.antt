@@ -68,13 +68,13 @@ below_in text zero digest count s i = tt
 below_in text (suc levels) digest count s i =
     let h = heading_at text digest s in
     let body = body_span text s in
-    at_most_in (1000 - count) text (direct_parts (shape_of h) h text body) (direct_in (shape_of h) h text body (body-in text s i))
+    at_most_in (1000 - count) text (direct_parts (shape_of h) h.content_type.params text body) (direct_in (shape_of h) h.content_type.params text body (body-in text s i))
 
 below_len : (text : List ℕ) (levels : ℕ) (digest : Bool) (count : ℕ) (s : Span) → length (parts_below text levels digest count s) ≤ 1000 - count
 below_len text zero digest count s = omega arith
 below_len text (suc levels) digest count s =
     let h = heading_at text digest s in
-    at_most_len (1000 - count) (direct_parts (shape_of h) h text (body_span text s))
+    at_most_len (1000 - count) (direct_parts (shape_of h) h.content_type.params text (body_span text s))
 
 -- The parts that are found by the heading of an entity are those that are visited.
 pub found_is : (text : List ℕ) (levels : ℕ) (digest : Bool) (count : ℕ) (s : Span)

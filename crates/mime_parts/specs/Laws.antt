@@ -1,12 +1,13 @@
 -- Laws of the tree of parts.
-use Rattle.std.specs.Prelude.{◌≡◌, ◌⊎◌, ℕ, ◌<◌, ◌≤◌, suc, ◌+◌, max, true, false, List, [], ◌∷◌, ◌++◌, length, slice_range, All}
+use Rattle.std.specs.Prelude.{◌≡◌, ◌⊎◌, ℕ, ◌<◌, ◌≤◌, ◌+◌, ◌==◌, max, map, List, [], ◌∷◌, ◌++◌, length, slice_range, All}
+use Rattle.std.specs.List.{filter}
 use Rattle.mail_reader.specs.Lines.{lines_of}
 use Rattle.mime_parts.specs.declared.part.Span.{Span}
 use Rattle.mime_parts.specs.declared.part.Part.{Part}
 use Rattle.mime_parts.specs.declared.delimiters.LineKind.{LineKind}
 use Rattle.mime_parts.specs.declared.delimiters.LineKind.TheVariants.{Plain, Delimiter, Closing}
-use Rattle.mime_parts.specs.Delimiters.{kind_of, cuts_from}
-use Rattle.mime_parts.specs.Trees.{IsIn, bytes_at, tree_of}
+use Rattle.mime_parts.specs.Delimiters.{span_of, kind_of, cuts_from}
+use Rattle.mime_parts.specs.Trees.{IsIn, bytes_at, direct_parts, tree_of}
 
 -- The header of a part is before its body, with at most one byte between them. Both are in the
 -- text, at a depth from 1 to 20.
@@ -38,9 +39,18 @@ abbrev pub StartsBeside : Part → List Part → Type 0
 StartsBeside p [] = Unit {0}
 StartsBeside p (q ∷ qs) = q.depth ≤ p.depth
 
+-- The span of a part: its header and its body, with the empty line between them.
+abbrev pub whole_span : Part → Span
+whole_span p = span_of p.header.start p.body.end
+
+-- The spans of the parts at a depth.
+abbrev pub spans_at : ℕ → List Part → List Span
+spans_at depth parts = map whole_span (filter (λ (p : Part). p.depth == depth) parts)
+
 -- The parts that follow one: first those below it, from one that is one level deeper up to one that
--- isn't deeper. That one and all after it start after its end.
-pub record IsFollowed (p : Part) (others : List Part) : Type 0 where
+-- isn't deeper. That one and all after it start after its end. Those one level deeper are its
+-- direct parts, all of them in order.
+pub record IsFollowed (text : List ℕ) (p : Part) (others : List Part) : Type 0 where
   pub below : List Part
   pub later : List Part
   pub split : others ≡ below ++ later
@@ -48,10 +58,11 @@ pub record IsFollowed (p : Part) (others : List Part) : Type 0 where
   pub next : StartsBeside p later
   pub are_below : All (IsBelow p) below
   pub are_after : All (IsAfter p) later
+  pub direct : spans_at (p.depth + 1) below ≡ direct_parts p.shape p.params text p.body
 
-abbrev pub AllFollowed : List Part → Type 0
-AllFollowed [] = Unit {0}
-AllFollowed (p ∷ ps) = IsFollowed p ps × AllFollowed ps
+abbrev pub AllFollowed : List ℕ → List Part → Type 0
+AllFollowed text [] = Unit {0}
+AllFollowed text (p ∷ ps) = IsFollowed text p ps × AllFollowed text ps
 
 -- The first of the parts is the whole text, at depth 1, and all others are below it.
 pub record StartsWhole (text : List ℕ) (parts : List Part) : Type 0 where
@@ -64,12 +75,13 @@ pub record StartsWhole (text : List ℕ) (parts : List Part) : Type 0 where
 
 -- The tree of a text: at most 1,000 parts, the first of which is the text. By their order and their
 -- depths it is known which are below which: those below a part are in its body, and any two of
--- which neither is below the other are apart, in order.
+-- which neither is below the other are apart, in order. The direct parts of each are those that its
+-- shape, its boundary and its body say.
 pub record IsTree (text : List ℕ) : Type 0 where
   pub count : length (tree_of text) ≤ 1000
   pub whole : StartsWhole text (tree_of text)
   pub stand : All (Stands text) (tree_of text)
-  pub followed : AllFollowed (tree_of text)
+  pub followed : AllFollowed text (tree_of text)
 
 abbrev pub TreesAreTrees : Type 0
 TreesAreTrees = (text : List ℕ) → IsTree text

@@ -42,13 +42,12 @@ divided boundary text body =
     if is_boundary boundary
     then (cuts_from boundary body.start (lines_of (bytes_at text body))).parts else []
 
--- The direct parts of an entity, by its shape and its body: a message has one, and those of a
--- multipart are divided by its boundary.
-abbrev pub direct_parts : Shape → Heading → List ℕ → Span → List Span
-direct_parts Leaf h text body = []
-direct_parts Message h text body = body ∷ []
-direct_parts Multipart h text body =
-    divided (param (codes "boundary") h.content_type.params) text body
+-- The direct parts of an entity, by its shape, the parameters of its type and its body: a message
+-- has one, and those of a multipart are divided by its boundary.
+abbrev pub direct_parts : Shape → List (List ℕ) → List ℕ → Span → List Span
+direct_parts Leaf params text body = []
+direct_parts Message params text body = body ∷ []
+direct_parts Multipart params text body = divided (param (codes "boundary") params) text body
 
 -- The heading of an entity that stands at a span.
 abbrev pub heading_at : List ℕ → Bool → Span → Heading
@@ -63,7 +62,7 @@ max_count = 1000
 abbrev pub visited_parts : List ℕ → Bool → ℕ → Span → List Span
 visited_parts text digest count s =
     at_most (max_count - count) (direct_parts (shape_of (heading_at text digest s))
-    (heading_at text digest s) text (body_span text s))
+    (heading_at text digest s).content_type.params text (body_span text s))
 
 -- An entity of a shape isn't divided further, though it might be: at the last level each one, and
 -- above it a message or a multipart of which no part is visited.

@@ -20,7 +20,7 @@ parts_below text (suc levels) digest count s = visited_parts text digest count s
 abbrev pub found_below : List ℕ → ℕ → Heading → ℕ → Span → List Span
 found_below text zero h room s = []
 found_below text (suc levels) h room s =
-    at_most room (direct_parts (shape_of h) h text (body_span text s))
+    at_most room (direct_parts (shape_of h) h.content_type.params text (body_span text s))
 
 -- These parts as entities to visit.
 abbrev pub below : List ℕ → ℕ → Bool → ℕ → Span → List Entity

@@ -3,6 +3,7 @@ ghost use Rattle.mime_parts.specs.Laws.{TreesAreTrees, BodiesAreDivided};
 
 /// Shows that the parts of a text are a tree: each part's body has the parts below it, and parts
 /// beside each other are apart, in order. Their order and their depths show which are below which.
+/// Those directly below a part are what its body is divided into.
 pub fn parts_are_a_tree()
     ensures { TreesAreTrees }
 {}
