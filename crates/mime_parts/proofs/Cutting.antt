@@ -1,5 +1,5 @@
 -- The law that the parts of a body, with their delimiter lines, are the body.
-use Rattle.std.proofs.Common.{◌≡◌, ◌⊎◌, inl, inr, ℕ, ◌+◌, ◌-◌, ◌<◌, ◌≤◌, Bool, true, false, cond, eqb, max, List, [], ◌∷◌, ◌++◌, length, take, drop, refl, sym, ap, ◌∙◌, subst, append_assoc, arith, length-append}
+use Rattle.std.proofs.Common.{◌≡◌, ◌⊎◌, inl, inr, ℕ, ◌+◌, ◌-◌, ◌≤◌, Bool, true, false, eqb, max, List, [], ◌∷◌, ◌++◌, length, take, drop, refl, sym, ap, ◌∙◌, subst, append_assoc, arith, length-append}
 use Rattle.std.specs.List.{concat, onto_first, slice_range}
 use Rattle.std.proofs.lemmas.Bool.{eqb-true}
 use Rattle.std.proofs.lemmas.List.{take-append-le, take-append-drop, length-take-le}
@@ -8,12 +8,11 @@ use Rattle.std.proofs.lemmas.List.Folds.{drop_split}
 use Rattle.std.proofs.Math.Seq.{take-length, drop-append_seam}
 use Rattle.mail_reader.specs.Lines.{lines_of}
 use Rattle.mail_reader.proofs.LineEnds.{concat-lines_of}
-use Rattle.mime_parts.specs.declared.part.Span.{Span}
 use Rattle.mime_parts.specs.declared.delimiters.LineKind.{LineKind}
 use Rattle.mime_parts.specs.declared.delimiters.LineKind.TheVariants.{Plain, Delimiter, Closing}
-use Rattle.mime_parts.specs.Delimiters.{kind_of, Cuts, cuts, cuts_by, cuts_from}
-use Rattle.mime_parts.specs.Trees.{IsIn, bytes_at}
-use Rattle.mime_parts.specs.Laws.{IsGap, Closes, IsPlain, AreCut, IsDivided, BodiesAreDivided}
+use Rattle.mime_parts.specs.Delimiters.{kind_of, Cuts, cuts_by, cuts_from}
+use Rattle.mime_parts.specs.Trees.{bytes_at}
+use Rattle.mime_parts.specs.Laws.{IsPlain, AreCut, BodiesAreDivided}
 use Rattle.mime_parts.proofs.Spanning.{length-bytes_at}
 use Rattle.mime_parts.proofs.Feeding.{EndsFed, AllLines, all_lines, plain_push, plain_unfed}
 

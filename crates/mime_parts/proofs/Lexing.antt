@@ -6,7 +6,7 @@ use Rattle.std.proofs.lemmas.List.{drop_more, take_more, take_all, drop_all, app
 use Rattle.mime_parts.specs.declared.place.Place.{Place}
 use Rattle.mime_parts.specs.declared.place.Place.TheVariants.{Outside, Quoted, QuotedPair, Comment, CommentPair}
 use Rattle.mime_parts.specs.declared.lexemes.Mark.{Mark}
-use Rattle.mime_parts.specs.Lexemes.{next_place, is_token_byte, mark_of, Role, Content, Opening, Gap, Single, is_gap, plain_role, role_of, LexemeText, TokenText, QuotedText, MarkText, Lexed, lexed, token_before, closed, lexed_by, lexed_from, lexemes_of}
+use Rattle.mime_parts.specs.Lexemes.{next_place, is_token_byte, mark_of, Role, Content, Opening, Gap, Single, is_gap, plain_role, role_of, TokenText, QuotedText, MarkText, Lexed, lexed, closed, lexed_by, lexed_from, lexemes_of}
 
 -- The place is not in a quoted string.
 abbrev pub is_between : Place → Bool

@@ -1,9 +1,8 @@
 -- Parameters that are read lexeme by lexeme, and looked up pair by pair.
-use Rattle.std.proofs.Common.{◌≡◌, ℕ, ◌+◌, ◌<◌, ◌≤◌, Bool, true, false, List, [], ◌∷◌, ◌++◌, Option, None, Some, length, take, drop, get_or, refl, sym, ap, ◌∙◌, append_assoc, arith, length-drop}
-use Rattle.std.proofs.lemmas.List.{drop_more, drop_all}
+use Rattle.std.proofs.Common.{◌≡◌, ℕ, ◌+◌, ◌<◌, ◌≤◌, List, [], ◌∷◌, ◌++◌, Option, None, Some, length, drop, get_or, refl, sym, ap, ◌∙◌, append_assoc, arith}
+use Rattle.std.proofs.lemmas.List.{drop_more}
 use Rattle.mime_parts.specs.declared.params.Expected.{Expected}
-use Rattle.mime_parts.specs.Lexemes.{LexemeText}
-use Rattle.mime_parts.specs.ContentTypes.{Step, step_of, with_front, after_step, params_of, param}
+use Rattle.mime_parts.specs.ContentTypes.{Step, with_front, after_step, param}
 use Rattle.mime_parts.specs.Reading.{Takes}
 
 pub with_front-none : (found : Option (List (List ℕ))) → with_front [] found ≡ found

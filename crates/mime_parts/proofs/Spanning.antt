@@ -1,5 +1,5 @@
 -- The spans of headers, bodies and parts.
-use Rattle.std.proofs.Common.{◌≡◌, ℕ, ◌+◌, ◌-◌, ◌<◌, ◌≤◌, Bool, true, false, cond, leb, max, List, [], ◌∷◌, ◌++◌, length, take, drop, refl, sym, ap, ◌∙◌, subst, arith, length-append, length-drop, lit≤}
+use Rattle.std.proofs.Common.{◌≡◌, ℕ, ◌+◌, ◌-◌, ◌≤◌, Bool, true, false, cond, leb, max, List, [], ◌∷◌, length, drop, refl, ap, ◌∙◌, subst, arith, length-append, length-drop, lit≤}
 use Rattle.std.specs.List.{concat}
 use Rattle.std.proofs.lemmas.List.{length-take-le}
 use Rattle.std.proofs.lemmas.Bool.{leb-true}
@@ -12,12 +12,11 @@ use Rattle.mail_reader.proofs.LineEnds.{concat-lines_of}
 use Rattle.mime_parts.specs.declared.part.Span.{Span}
 use Rattle.mime_parts.specs.declared.part.Shape.{Shape}
 use Rattle.mime_parts.specs.declared.part.Shape.TheVariants.{Leaf, Message, Multipart}
-use Rattle.mime_parts.specs.declared.heading.Heading.{Heading}
 use Rattle.mime_parts.specs.declared.delimiters.LineKind.{LineKind}
 use Rattle.mime_parts.specs.declared.delimiters.LineKind.TheVariants.{Plain, Delimiter, Closing}
-use Rattle.mime_parts.specs.Delimiters.{span_of, kind_of, Cuts, cuts, cuts_by, cuts_from, is_boundary}
+use Rattle.mime_parts.specs.Delimiters.{kind_of, Cuts, cuts_by, cuts_from}
 use Rattle.mime_parts.specs.Dividing.{at_most}
-use Rattle.mime_parts.specs.Trees.{IsIn, bytes_at, header_span, body_span, divided, direct_parts}
+use Rattle.mime_parts.specs.Trees.{IsIn, bytes_at, header_span, body_span, direct_parts}
 
 -- Lines without an empty one at their front aren't longer.
 after_empty-len : (lines : List (List ℕ)) → length (concat (after_empty lines)) ≤ length (concat lines)

@@ -1,21 +1,19 @@
 -- The law that the parts of a text are a tree.
-use Rattle.std.proofs.Common.{◌≡◌, ◌⊎◌, inl, inr, ℕ, zero, suc, ◌+◌, ◌-◌, ◌<◌, ◌≤◌, Bool, true, false, cond, eqb, leb, map, ◌==◌, max, List, [], ◌∷◌, ◌++◌, length, refl, sym, ap, ◌∙◌, subst, append_assoc, arith, length-append, lit≤}
+use Rattle.std.proofs.Common.{◌≡◌, ◌⊎◌, inl, inr, ℕ, zero, suc, ◌+◌, ◌-◌, ◌≤◌, Bool, true, false, cond, eqb, leb, map, ◌==◌, List, [], ◌∷◌, ◌++◌, length, refl, sym, ap, ◌∙◌, subst, append_assoc, arith, length-append, lit≤}
 use Rattle.std.specs.List.{All, filter}
 use Rattle.std.proofs.lemmas.Bool.{eqb-true, eq-eqb, ne_eqb, or_cases, or_parts, true≢false}
 use Rattle.std.proofs.lemmas.List.{append-nil, nil_from_length}
 use Rattle.std.proofs.lemmas.List.Elements.{All-nil, All-cons, All-head, All-tail, All-append, All-weaker}
-use Rattle.mail_reader.specs.Lines.{lines_of}
-use Rattle.mail_reader.proofs.LineEnds.{concat-lines_of}
 use Rattle.mime_parts.specs.declared.part.Span.{Span}
 use Rattle.mime_parts.specs.declared.part.Part.{Part}
 use Rattle.mime_parts.specs.declared.part.Shape.{Shape}
 use Rattle.mime_parts.specs.declared.part.Shape.TheVariants.{Leaf, Message, Multipart}
 use Rattle.mime_parts.specs.declared.heading.Heading.{Heading}
 use Rattle.mime_parts.specs.Headings.{shape_of, is_digest, opaque_heading}
-use Rattle.mime_parts.specs.Delimiters.{span_of, cuts_from}
+use Rattle.mime_parts.specs.Delimiters.{span_of}
 use Rattle.mime_parts.specs.Dividing.{at_most}
-use Rattle.mime_parts.specs.Trees.{IsIn, bytes_at, header_span, body_span, divided, max_count, direct_parts, heading_at, visited_parts, part_with, part_by, part_at, is_opaque, Visit, visit, visit_all, visit_of, tree_of}
-use Rattle.mime_parts.specs.Laws.{Stands, IsBelow, IsAfter, StartsBelow, StartsBeside, whole_span, spans_at, IsFollowed, AllFollowed, StartsWhole, IsTree, TreesAreTrees}
+use Rattle.mime_parts.specs.Trees.{IsIn, bytes_at, header_span, body_span, max_count, direct_parts, heading_at, visited_parts, part_with, part_by, part_at, is_opaque, Visit, visit_all, visit_of, tree_of}
+use Rattle.mime_parts.specs.Laws.{Stands, IsBelow, IsAfter, StartsBelow, StartsBeside, whole_span, spans_at, IsFollowed, AllFollowed, TreesAreTrees}
 use Rattle.mime_parts.proofs.Spanning.{InOrder, order_le, cuts_order, AllIn, parts_len, length-bytes_at, body-in, direct_in, at_most_in, at_most_len}
 
 -- A part lies between two offsets, from a depth on.

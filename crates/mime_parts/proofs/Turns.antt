@@ -9,7 +9,7 @@ use Rattle.mime_parts.specs.declared.visiting.Entity.{Entity}
 use Rattle.mime_parts.specs.declared.heading.Heading.{Heading}
 use Rattle.mime_parts.specs.Headings.{shape_of, is_digest}
 use Rattle.mime_parts.specs.Delimiters.{span_of}
-use Rattle.mime_parts.specs.Trees.{IsIn, IsPartOf, header_span, body_span, direct_parts, heading_at, visited_parts, part_by, part_at, is_opaque, Visit, visit, visit_all, visit_of, tree_of}
+use Rattle.mime_parts.specs.Trees.{IsIn, IsPartOf, header_span, body_span, direct_parts, heading_at, visited_parts, part_by, part_at, is_opaque, visit_all, visit_of, tree_of}
 use Rattle.mime_parts.specs.Visiting.{entity_at, parts_below, found_below, below, known, Visits}
 use Rattle.mime_parts.proofs.Spanning.{AllIn, header-in, body-in, direct_in, at_most_in, at_most_len}
 

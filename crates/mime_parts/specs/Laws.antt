@@ -1,5 +1,5 @@
 -- Laws of the tree of parts.
-use Rattle.std.specs.Prelude.{◌≡◌, ◌⊎◌, ℕ, ◌<◌, ◌≤◌, ◌+◌, ◌==◌, max, map, List, [], ◌∷◌, ◌++◌, length, slice_range, All}
+use Rattle.std.specs.Prelude.{◌≡◌, ◌⊎◌, ℕ, ◌<◌, ◌≤◌, ◌+◌, ◌==◌, map, List, [], ◌∷◌, ◌++◌, length, slice_range, All}
 use Rattle.std.specs.List.{filter}
 use Rattle.mail_reader.specs.Lines.{lines_of}
 use Rattle.mime_parts.specs.declared.part.Span.{Span}

@@ -3,7 +3,7 @@ use Rattle.std.specs.Prelude.{◌≡◌, ℕ, ◌<◌, List, [], ◌∷◌, ◌+
 use Rattle.std.specs.Borrow.{Bor}
 use Rattle.mime_parts.specs.declared.params.Expected.{Expected}
 use Rattle.mime_parts.specs.declared.content_type.Front.{Front}
-use Rattle.mime_parts.specs.ContentTypes.{Step, FirstToken, Opening, first_token, after_slash, opening_of}
+use Rattle.mime_parts.specs.ContentTypes.{Step, Opening, first_token, after_slash, opening_of}
 use Rattle.mime_parts.specs.declared.place.Place.TheVariants as place
 use Rattle.mime_parts.specs.declared.lexemes.Lexeme.{Lexeme}
 use Rattle.mime_parts.specs.declared.lexemes.Lexeme.TheVariants.{Token, Quoted, Mark}

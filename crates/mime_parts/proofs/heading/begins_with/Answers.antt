@@ -1,6 +1,5 @@
-use Rattle.std.proofs.Common.{length, ap, ◌∙◌}
+use Rattle.std.proofs.Common.{length, ◌∙◌}
 use Rattle.std.proofs.lemmas.List.{take_min}
-use Rattle.std.specs.Str.{str_eq_ignore_ascii_case}
 use Rattle.mime_parts.proofs.heading.begins_with.Goals as goal
 
 pub returns : goal.returns

@@ -1,5 +1,5 @@
-use Rattle.std.proofs.Common.{◌≡◌, Some, None, refl, sym, ap, ◌∙◌, option_map}
-use Rattle.mail_reader.specs.Fields.{FieldText, fields_of, first_named}
+use Rattle.std.proofs.Common.{◌≡◌, Some, None, refl, sym, ap, ◌∙◌}
+use Rattle.mail_reader.specs.Fields.{fields_of, first_named}
 use Rattle.mail_reader.specs.Reading.{shown}
 use Rattle.mime_parts.proofs.heading.first_value.Goals as goal
 

@@ -1,4 +1,4 @@
-use Rattle.std.proofs.Common.{◌≡◌, true, false, sym, ap, ◌∙◌, get_or, arith, rules}
+use Rattle.std.proofs.Common.{◌≡◌, true, sym, ◌∙◌, get_or, arith, rules}
 use Rattle.mime_parts.specs.Lexemes.{is_gap}
 use Rattle.mime_parts.proofs.Lexing.{gap_more, gap_between, gap_end, gap_front, gap_all}
 use Rattle.mime_parts.proofs.lexemes.after_gap.Goals as goal

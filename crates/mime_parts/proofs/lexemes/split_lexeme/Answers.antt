@@ -1,6 +1,5 @@
-use Rattle.std.proofs.Common.{◌≡◌, true, false, eqb, sym, ◌∙◌, get_or, arith, length-drop}
+use Rattle.std.proofs.Common.{◌≡◌, false, eqb, sym, ◌∙◌, get_or, arith}
 use Rattle.std.proofs.lemmas.Bool.Decides.{nat_tests}
-use Rattle.mime_parts.specs.Lexemes.{is_token_byte}
 use Rattle.mime_parts.proofs.Lexing.{token_first, token_some, quoted_first, mark_first}
 use Rattle.mime_parts.proofs.lexemes.split_lexeme.Goals as goal
 

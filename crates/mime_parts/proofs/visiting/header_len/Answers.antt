@@ -1,5 +1,4 @@
 use Rattle.std.proofs.Common.{◌≡◌, ◌+◌, length, ap, ◌∙◌, arith, length-append}
-use Rattle.mail_reader.specs.Fields.{fields_of}
 use Rattle.mail_reader.specs.Laws.{wholes}
 use Rattle.mime_parts.proofs.Spanning.{parts_len}
 use Rattle.mime_parts.proofs.visiting.header_len.Goals as goal

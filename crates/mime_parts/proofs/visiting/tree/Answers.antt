@@ -1,6 +1,6 @@
-use Rattle.std.proofs.Common.{◌≡◌, ◌++◌, ◌∷◌, [], ap, ◌∙◌, subst}
+use Rattle.std.proofs.Common.{◌++◌, ◌∷◌, [], ap, ◌∙◌, subst}
 use Rattle.std.specs.Option.{option_to_list}
-use Rattle.mime_parts.proofs.Turns.{Going, IsReady, going_from, going_next, going_on, going_end}
+use Rattle.mime_parts.proofs.Turns.{Going, going_from, going_on}
 use Rattle.mime_parts.proofs.visiting.tree.Goals as goal
 
 pub loop-entity-init : goal.loop-entity-init

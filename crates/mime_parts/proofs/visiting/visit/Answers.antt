@@ -1,4 +1,4 @@
-use Rattle.std.proofs.Common.{◌≡◌, ◌++◌, ◌-◌, eqb, length, ap, ◌∙◌}
+use Rattle.std.proofs.Common.{◌-◌, eqb, length, ap, ◌∙◌}
 use Rattle.std.proofs.lemmas.Result.{on_ok_weaker}
 use Rattle.mime_parts.specs.Headings.{heading_of}
 use Rattle.mime_parts.specs.Visiting.{known}
