@@ -1,0 +1,19 @@
+//! Divides a mail into its parts, decodes them, and shows its body as text (RFC 2045 and RFC 2046).
+#![tactic(auto)]
+
+mod content_type;
+mod decoding;
+mod delimiters;
+mod heading;
+mod laws;
+mod lexemes;
+mod params;
+mod part;
+mod place;
+mod quoted;
+mod visiting;
+
+pub use decoding::{body_text, decode_part};
+pub use laws::{bodies_are_divided, parts_are_a_tree};
+pub use part::{Encoding, Part, Parts, Shape, Span};
+pub use visiting::tree;
