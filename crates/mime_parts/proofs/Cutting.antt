@@ -51,31 +51,31 @@ all_ended (b ∷ bs) = step (eqb b 10) refl (all_ended bs)
     step false e i = rw e (ended_onto b (lines_of bs) i)
 
 -- What stood before the lines and goes on with them, and the parts that start among them.
-record Cut (boundary text : List ℕ) (place end : ℕ) (c : Cuts) : Type 0 where
-  ordered : place ≤ max place c.stop
-  within : max place c.stop ≤ end
-  plain : IsPlain boundary (slice_range text place (max place c.stop))
-  parts : AreCut boundary text (max place c.stop) end c.parts
+record Cut (boundary text : List ℕ) (offset end : ℕ) (c : Cuts) : Type 0 where
+  ordered : offset ≤ max offset c.stop
+  within : max offset c.stop ≤ end
+  plain : IsPlain boundary (slice_range text offset (max offset c.stop))
+  parts : AreCut boundary text (max offset c.stop) end c.parts
 
--- A line, with the line feed before it where it isn't at the place, and what stands before both.
-record Led (boundary text line : List ℕ) (place at next : ℕ) : Type 0 where
+-- A line, with the line feed before it where it isn't at the offset, and what stands before both.
+record Led (boundary text line : List ℕ) (offset at next : ℕ) : Type 0 where
   lead : List ℕ
   feed : (lead ≡ []) ⊎ (lead ≡ 10 ∷ [])
-  joined : slice_range text (max place (at - 1)) next ≡ lead ++ line
-  plain : IsPlain boundary (slice_range text place (max place (at - 1)))
+  joined : slice_range text (max offset (at - 1)) next ≡ lead ++ line
+  plain : IsPlain boundary (slice_range text offset (max offset (at - 1)))
 
-cut_step : (k : LineKind) (boundary text line : List ℕ) (place at next end : ℕ) (later : Cuts) → kind_of boundary line ≡ k
-    → place ≤ at → at ≤ next → next ≤ end → Led boundary text line place at next
-    → (kind_of boundary line ≡ Plain → Cut boundary text place end later) → Cut boundary text next end later
-    → Cut boundary text place end (cuts_by k at next later)
-cut_step Plain boundary text line place at next end later e h i j led before after = before e
-cut_step Delimiter boundary text line place at next end later e h i j led before after = record {
+cut_step : (k : LineKind) (boundary text line : List ℕ) (offset at next end : ℕ) (later : Cuts) → kind_of boundary line ≡ k
+    → offset ≤ at → at ≤ next → next ≤ end → Led boundary text line offset at next
+    → (kind_of boundary line ≡ Plain → Cut boundary text offset end later) → Cut boundary text next end later
+    → Cut boundary text offset end (cuts_by k at next later)
+cut_step Plain boundary text line offset at next end later e h i j led before after = before e
+cut_step Delimiter boundary text line offset at next end later e h i j led before after = record {
   ordered = omega arith;
   within = omega arith;
   plain = led.plain;
   parts = (omega arith, (record { lead = led.lead; line = line; joined = led.joined; is = e; feed = led.feed }, (after.ordered, (after.plain, after.parts))));
 }
-cut_step Closing boundary text line place at next end later e h i j led before after = record {
+cut_step Closing boundary text line offset at next end later e h i j led before after = record {
   ordered = omega arith;
   within = omega arith;
   plain = led.plain;
@@ -146,13 +146,13 @@ led boundary text pre mid line rest e (inr f) p =
       plain = subst (IsPlain boundary) (sym some) (plain_unfed boundary f.before (subst (IsPlain boundary) f.is p));
     }
 
-cut_lines : (boundary text pre mid : List ℕ) (lines : List (List ℕ)) (after : List ℕ) (place at : ℕ) → place ≡ length pre → at ≡ length pre + length mid
+cut_lines : (boundary text pre mid : List ℕ) (lines : List (List ℕ)) (after : List ℕ) (offset at : ℕ) → offset ≡ length pre → at ≡ length pre + length mid
     → text ≡ pre ++ (mid ++ (concat lines ++ after)) → FedIf lines mid → AllEnded lines → AllLines lines → IsPlain boundary mid
-    → Cut boundary text place (at + length (concat lines)) (cuts_from boundary at lines)
-cut_lines boundary text pre mid [] after place at b a e fed ended are p =
-    let whole : max place at ≡ length pre + length mid = omega arith in
-    let bytes : slice_range text place (max place at) ≡ mid =
-    ap (λ n. slice_range text n (max place at)) b ∙ ap (slice_range text (length pre)) whole
+    → Cut boundary text offset (at + length (concat lines)) (cuts_from boundary at lines)
+cut_lines boundary text pre mid [] after offset at b a e fed ended are p =
+    let whole : max offset at ≡ length pre + length mid = omega arith in
+    let bytes : slice_range text offset (max offset at) ≡ mid =
+    ap (λ n. slice_range text n (max offset at)) b ∙ ap (slice_range text (length pre)) whole
     ∙ ap (λ xs. slice_range xs (length pre) (length pre + length mid)) e ∙ slice_mid pre mid after in
     record {
       ordered = omega arith;
@@ -160,7 +160,7 @@ cut_lines boundary text pre mid [] after place at b a e fed ended are p =
       plain = subst (IsPlain boundary) (sym bytes) p;
       parts = inl (omega arith);
     }
-cut_lines boundary text pre mid (line ∷ lines) after place at b a e fed ended are p =
+cut_lines boundary text pre mid (line ∷ lines) after offset at b a e fed ended are p =
     let next = at + length line in
     let rest = concat lines ++ after in
     let split : text ≡ pre ++ (mid ++ (line ++ rest)) = e ∙ ap (λ xs. pre ++ (mid ++ xs)) (append_assoc line (concat lines) after) in
@@ -171,18 +171,18 @@ cut_lines boundary text pre mid (line ∷ lines) after place at b a e fed ended 
     let all : length (pre ++ (mid ++ line)) ≡ length pre + length (mid ++ line) = length-append pre (mid ++ line) in
     let end = at + length (concat (line ∷ lines)) in
     let goes = λ (k : kind_of boundary line ≡ Plain).
-    subst (λ (n : ℕ). Cut boundary text place n (cuts_from boundary next lines)) total
-    (cut_lines boundary text pre (mid ++ line) lines after place next b (omega arith) longer
+    subst (λ (n : ℕ). Cut boundary text offset n (cuts_from boundary next lines)) total
+    (cut_lines boundary text pre (mid ++ line) lines after offset next b (omega arith) longer
     (fed_more line lines mid ended) (ended_rest line lines ended) are.1 (plain_push boundary mid line fed are.0 k p)) in
     let starts =
     subst (λ (n : ℕ). Cut boundary text next n (cuts_from boundary next lines)) total
     (cut_lines boundary text (pre ++ (mid ++ line)) [] lines after next next (omega arith) (omega arith) anew
     (fed_none lines) (ended_rest line lines ended) are.1 (All-nil _)) in
-    let here : Led boundary text line place at next =
+    let here : Led boundary text line offset at next =
     subst (λ (n : ℕ). Led boundary text line n at next) (sym b)
     (subst (λ (n : ℕ). Led boundary text line (length pre) n (n + length line)) (sym a)
     (led boundary text pre mid line rest split fed p)) in
-    cut_step (kind_of boundary line) boundary text line place at next end (cuts_from boundary next lines) refl
+    cut_step (kind_of boundary line) boundary text line offset at next end (cuts_from boundary next lines) refl
     (omega arith) (omega arith) (omega (arith, length-append line (concat lines))) here goes starts
 
 pub divides : BodiesAreDivided
