@@ -39,9 +39,11 @@ abbrev pub in_order : Option ℕ → Option ℕ → Option (ℕ × ℕ)
 in_order (Some first) (Some last) = if nat_le first last then Some (first, last) else None
 in_order _ _ = None
 
+-- The text has two dots after its first 8 bytes, and 8 bytes after these.
+abbrev pub has_dots : List ℕ → Bool
+has_dots text = length text == 18 && slice_index text 8 == 46 && slice_index text 9 == 46
+
 -- The first and the last day of the range that `YYYYMMDD..YYYYMMDD` spells.
 abbrev pub range_of : List ℕ → Option (ℕ × ℕ)
 range_of text =
-    if length text == 18 && slice_index text 8 == 46 && slice_index text 9 == 46
-    then in_order (date_of (take 8 text)) (date_of (drop 10 text))
-    else None
+    if has_dots text then in_order (date_of (take 8 text)) (date_of (drop 10 text)) else None

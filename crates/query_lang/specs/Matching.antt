@@ -19,11 +19,15 @@ has_in Subject words word = has_word words.subject word
 has_in From words word = has_word words.from word
 has_in Body words word = has_word words.body word
 
--- The day lies in each range. Each two numbers are a first and a last day, both in their range.
+-- The day lies in a range, of which the first and the last day are part.
+abbrev pub is_between : ℕ → ℕ → ℕ → Bool
+is_between day first last = nat_le first day && nat_le day last
+
+-- The day lies in each range. Each two numbers are the first and the last day of one.
 abbrev pub in_ranges : List ℕ → ℕ → Bool
 in_ranges [] day = true
 in_ranges (first ∷ []) day = true
-in_ranges (first ∷ last ∷ days) day = nat_le first day && nat_le day last && in_ranges days day
+in_ranges (first ∷ last ∷ days) day = is_between day first last && in_ranges days day
 
 -- A message with these words, of this day, has each word that the query asks, and its day lies in
 -- each range.

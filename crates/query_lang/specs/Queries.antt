@@ -13,8 +13,9 @@ nothing = record { any = []; subject = []; from = []; body = []; days = [] }
 
 -- A range before further days, if both are there.
 abbrev pub range_before : Option (ℕ × ℕ) → Option (List ℕ) → Option (List ℕ)
+range_before None days = None
+range_before (Some range) None = None
 range_before (Some range) (Some days) = Some (range.0 ∷ range.1 ∷ days)
-range_before _ _ = None
 
 -- The first and the last day of each range that these texts spell; none if one of them spells none.
 abbrev pub days_of : List (List ℕ) → Option (List ℕ)

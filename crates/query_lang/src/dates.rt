@@ -1,7 +1,7 @@
 //! Days, and ranges of days.
-ghost use Rattle.std.specs.Prelude.{◌≡◌, ◌<◌, ◌≤◌, [], ◌∷◌, IfSome};
+ghost use Rattle.std.specs.Prelude.{◌≡◌, ◌<◌, ◌≤◌, [], ◌∷◌, length, IsTrue, IfSome};
 ghost use Rattle.mail_date.specs.Pieces.{number_of, year_of};
-ghost use Rattle.query_lang.specs.Dates.{utc_day, from_1970, is_date, day_number, date_of, in_order, range_of};
+ghost use Rattle.query_lang.specs.Dates.{utc_day, from_1970, is_date, day_number, date_of, in_order, has_dots, range_of};
 
 use jiff_core::civil::{Date, days_in_month};
 use mail_date::Moment;
@@ -23,13 +23,20 @@ pub fn utc_day(moment: &Moment) -> u64
 pub fn range_of(text: &[u8]) -> Option<(u64, u64)>
     ensures { result ≡ range_of text.now }
 {
-    if text.len() != 18 || text[8] != b'.' || text[9] != b'.' {
+    if !has_dots(text) {
         return None;
     }
-    in_order(
-        date_of(text.split_at(8).0),
-        date_of(text.split_at(10).1),
-    )
+    let first = date_of(text.split_at(8).0);
+    let last = date_of(text.split_at(10).1);
+    in_order(first, last)
+}
+
+/// Returns whether a text has two dots after its first 8 bytes, and 8 bytes after these.
+fn has_dots(text: &[u8]) -> bool
+    ensures value { result ≡ has_dots text.now }
+    ensures len { IsTrue result → length text.now ≡ 18 }
+{
+    text.len() == 18 && text[8] == b'.' && text[9] == b'.'
 }
 
 /// Returns two days, if both are there and in order.

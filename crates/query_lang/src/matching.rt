@@ -1,7 +1,7 @@
 //! Which messages match a query.
 ghost use Rattle.std.specs.Prelude.{◌≡◌};
 ghost use Rattle.std.specs.List.{list_all};
-ghost use Rattle.query_lang.specs.Matching.{has_word, has_in, in_ranges, matches};
+ghost use Rattle.query_lang.specs.Matching.{has_word, has_in, is_between, in_ranges, matches};
 
 use crate::query::Query;
 use arch_base::Bytes;
@@ -40,13 +40,20 @@ pub fn in_ranges(days: &[u64], day: u64) -> bool
     ensures { result ≡ in_ranges days.now day }
 {
     let mut rest = days;
-    while let [first, last, others @ ..] = rest {
-        if day < *first || day > *last {
+    while rest.len() >= 2 {
+        if !is_between(day, rest[0], rest[1]) {
             return false;
         }
-        rest = others;
+        rest = rest.split_at(2).1;
     }
     true
+}
+
+/// Returns whether a day lies in a range.
+fn is_between(day: u64, first: u64, last: u64) -> bool
+    ensures { result ≡ is_between day first last }
+{
+    first <= day && day <= last
 }
 
 /// Returns whether each word is there.

@@ -1,9 +1,9 @@
 //! The terms of a query, and their prefixes.
-ghost use Rattle.std.specs.Prelude.{◌≡◌, ◌<◌, ◌≤◌, [], ◌∷◌, length, IfSome, MatchOption};
+ghost use Rattle.std.specs.Prelude.{◌≡◌, ◌<◌, ◌≤◌, [], ◌∷◌, length, IsTrue, IfSome, MatchOption};
 ghost use Rattle.std.specs.List.{prefix_len};
 ghost use Rattle.std.specs.Option.{option_copied};
 ghost use Rattle.text_words.specs.Runs.{fails};
-ghost use Rattle.query_lang.specs.Terms.{is_term_byte, terms_of, after};
+ghost use Rattle.query_lang.specs.Terms.{is_term_byte, terms_of, starts, after};
 
 /// Returns the first term of a query, and the text after it.
 pub fn first_term(text: &[u8]) -> Option<(&[u8], &[u8])>
@@ -24,9 +24,7 @@ fn space_len(text: &[u8]) -> usize
     ensures value { result ≡ prefix_len (fails is_term_byte) text.now }
     ensures bound { result ≤ length text.now }
 {
-    text.iter()
-        .take_while(|byte| !is_term_byte(**byte))
-        .count()
+    text.iter().take_while(|byte| !is_term_byte(**byte)).count()
 }
 
 /// Returns the number of bytes before the first space of a text.
@@ -48,8 +46,20 @@ fn is_term_byte(byte: u8) -> bool
 pub fn after(letter: u8, term: &[u8]) -> Option<&[u8]>
     ensures { option_copied result ≡ after letter term.now }
 {
-    if term.len() < 2 || term[0] != letter || term[1] != b':' {
-        return None;
+    if starts(letter, term) {
+        Some(term.split_at(2).1)
+    } else {
+        None
     }
-    Some(term.split_at(2).1)
+}
+
+/// Returns whether a term starts with a letter and a colon.
+fn starts(letter: u8, term: &[u8]) -> bool
+    ensures value { result ≡ starts letter term.now }
+    ensures len { IsTrue result → 2 ≤ length term.now }
+{
+    match term {
+        [first, b':', ..] => *first == letter,
+        _ => false,
+    }
 }
