@@ -1,8 +1,8 @@
 -- The numbers of rows by their days.
-use Rattle.std.specs.Prelude.{ℕ, Bool, ◌&&◌, nat_le, List, map}
+use Rattle.std.specs.Prelude.{ℕ, Bool, nat_le, List, map, take_while}
 use Rattle.std.specs.Ordering.{nat_cmp, ordering_then}
 use Rattle.std.specs.declared.cmp.Ordering.{Ordering}
-use Rattle.std.specs.declared.ops.Bound.TheVariants.{Included}
+use Rattle.std.specs.declared.ops.Bound.TheVariants.{Included, Unbounded}
 use Rattle.std.specs.BTreeSet.{BTreeSet, contains, keys_between}
 use Rattle.query_lang.specs.Matching.{is_between}
 use Rattle.word_index.specs.declared.rows.Dated.{Dated}
@@ -24,5 +24,5 @@ is_within first last row = is_between row.day first last
 abbrev pub numbers_between : BTreeSet Dated → ℕ → ℕ → List ℕ
 numbers_between days first last =
     map (λ (d : Dated). d.number)
-    (keys_between dated_cmp (Included (record { day = first; number = 0 }))
-    (Included (record { day = last; number = 4294967295 })) days)
+        (take_while (λ (d : Dated). nat_le d.day last)
+            (keys_between dated_cmp (Included (record { day = first; number = 0 })) Unbounded days))

@@ -1,6 +1,7 @@
 //! Reads numbers of rows from the tables of an index.
-ghost use Rattle.std.specs.Prelude.{◌≡◌, ◌≤◌, ◌||◌, true, IfOk, OnOk};
+ghost use Rattle.std.specs.Prelude.{◌≡◌, ◌||◌, true, IfOk, OnOk};
 ghost use Rattle.std.specs.List.{list_any, list_all};
+ghost use Rattle.std.specs.List.Sorted.{IsStrictlySortedBy};
 ghost use Rattle.std.specs.Ordering.{nat_cmp};
 ghost use Rattle.std.specs.Rc.{rc_slice_items};
 ghost use Rattle.std.specs.BTreeMap.{is_at, keys};
@@ -9,7 +10,7 @@ ghost use Rattle.word_index.specs.Rows.{passes_at};
 ghost use Rattle.word_index.specs.Postings.{posted, IsListOf};
 ghost use Rattle.word_index.specs.Tables.{rows_of, IsIndex};
 ghost use Rattle.word_index.specs.Asked.{listed_in, is_listed, matches_asked};
-ghost use Rattle.word_index.specs.Days.{is_within, numbers_between};
+ghost use Rattle.word_index.specs.Days.{dated_cmp, is_within, numbers_between};
 
 use crate::asking::Asked;
 use crate::postings::{Postings, count, has, include, listed, numbers};
@@ -70,28 +71,20 @@ pub fn count_asked(tables: &Tables, asked: &Asked) -> usize {
 }
 
 /// Returns how many rows are of the days of a range, or `limit` if there are as many or more.
-pub fn count_days(tables: &Tables, first: u64, last: u64, limit: usize) -> usize
-    requires { first ≤ last }
-{
-    let range = day_start(first)..=day_end(last);
-    tables.days.range(range).take(limit).count()
+pub fn count_days(tables: &Tables, first: u64, last: u64, limit: usize) -> usize {
+    tables
+        .days
+        .range(first_of(first)..)
+        .take_while(|dated| dated.day <= last)
+        .take(limit)
+        .count()
 }
 
-/// Returns the least value of a day.
-fn day_start(day: u64) -> Dated
+/// Returns the first value that a day may have.
+fn first_of(day: u64) -> Dated
     ensures { result ≡ record { day = day; number = 0 } }
 {
     Dated { day, number: 0 }
-}
-
-/// Returns the greatest value of a day.
-fn day_end(day: u64) -> Dated
-    ensures { result ≡ record { day = day; number = 4294967295 } }
-{
-    Dated {
-        day,
-        number: u32::MAX,
-    }
 }
 
 /// Returns the numbers of all rows, rising.
@@ -121,9 +114,6 @@ pub fn numbers_on(
     ensures { IfOk result (λ found.
         IsListOf found.items (passes_at (is_within first last) (rows_of tables.now))) }
 {
-    if first > last {
-        return Ok(Vec::new(alloc));
-    }
     let dated = dated_between(alloc, &tables.days, first, last)?;
     sorted(alloc, dated.as_slice())
 }
@@ -145,10 +135,11 @@ fn dated_between(
     first: u64,
     last: u64,
 ) -> Result<Vec<u32>, AllocError>
-    requires { first ≤ last }
-    ensures { IfOk result (λ found. found.items ≡ numbers_between days.now first last) }
+    ensures numbers { IfOk result (λ found. found.items ≡ numbers_between days.now first last) }
+    ensures ordered { IsStrictlySortedBy dated_cmp days.now.keys }
 {
-    days.range(day_start(first)..=day_end(last))
+    days.range(first_of(first)..)
+        .take_while(|dated| dated.day <= last)
         .map(|dated| dated.number)
         .collect(alloc)
 }

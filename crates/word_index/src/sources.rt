@@ -81,9 +81,6 @@ fn least_days<'a>(tables: &Tables, days: &[u64], least: Choice<'a>) -> Choice<'a
 fn with_days<'a>(tables: &Tables, first: u64, last: u64, least: Choice<'a>) -> Choice<'a>
     ensures { (result.source ≡ least.source) ⊎ (result.source ≡ Source.Days first last) }
 {
-    if first > last {
-        return least;
-    }
     let size = count_days(tables, first, last, least.size);
     least.or(Choice {
         source: Source::Days { first, last },
