@@ -38,9 +38,9 @@ pub matches-at : (t : Tables) → IsIndex t → (asked : List Asked) (days : Lis
 matches-at t index asked days n row some =
     ap (λ (b : Bool). b && in_ranges days row.day)
     (all-same (λ (a : Asked). is_listed t a n) (has_asked row)
-      (λ a. listed-is t index a.field (rc_slice_items a.word) n
-        ∙ ap (λ (o : Option Row). option_map_or (λ (r : Row). has_in a.field r.words (rc_slice_items a.word)) o false) some)
-      asked)
+    (λ a. listed-is t index a.field (rc_slice_items a.word) n
+    ∙ ap (λ (o : Option Row). option_map_or (λ (r : Row). has_in a.field r.words (rc_slice_items a.word)) o false) some)
+    asked)
     ∙ sym (ap (λ (o : Option Row). option_map_or (matches_asked asked days) o false) some)
 
 -- One more word that is asked.

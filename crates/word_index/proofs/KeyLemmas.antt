@@ -29,9 +29,9 @@ module _ {K : Type 0} (bytes : K → List ℕ) where
   are_apart k w other x h =
       false_from_ne_true (is_at (looks w) x)
       (λ found.
-        let same : bytes k ≡ w = from_at (bytes k) x h ∙ sym (from_at w x found) in
-        let yes : bytes_eq (bytes k) w ≡ true = (bytes_eq-Decides (bytes k) w).1 same in
-        let wrong : true ≡ false = sym yes ∙ other in cc)
+      let same : bytes k ≡ w = from_at (bytes k) x h ∙ sym (from_at w x found) in
+      let yes : bytes_eq (bytes k) w ≡ true = (bytes_eq-Decides (bytes k) w).1 same in
+      let wrong : true ≡ false = sym yes ∙ other in cc)
 
   module _ {X : Type 0} where
     kept : (old new : BTreeMap K X) (k : K) (v : Option X) → UpdatesBy word_cmp (word_cmp k) old new v → (w : List ℕ) → bytes_eq (bytes k) w ≡ false → get_by (looks w) new ≡ get_by (looks w) old

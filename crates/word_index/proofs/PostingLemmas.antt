@@ -93,9 +93,9 @@ pub begins : (old new : Postings) (word k : RcSlice ℕ Global) (none v : BTreeS
 begins old new word k none v n empty same nil is updates =
     subst (λ (w : List ℕ). Puts old new w n) same
     (puts old new k v n updates (λ m.
-      is m ∙ cond_or (is_at (nat_cmp n) m) (contains nat_cmp none m)
-      ∙ ap (λ (ks : List ℕ). list_any (is_at (nat_cmp m)) ks || is_at (nat_cmp n) m) nil
-      ∙ ap (λ (b : Bool). b || is_at (nat_cmp n) m) (sym (ap (λ (w : List ℕ). posted old w m) same ∙ empty m))))
+    is m ∙ cond_or (is_at (nat_cmp n) m) (contains nat_cmp none m)
+    ∙ ap (λ (ks : List ℕ). list_any (is_at (nat_cmp m)) ks || is_at (nat_cmp n) m) nil
+    ∙ ap (λ (b : Bool). b || is_at (nat_cmp n) m) (sym (ap (λ (w : List ℕ). posted old w m) same ∙ empty m))))
 
 -- One number less of a word that has some.
 pub struck_found : (old new : Postings) (k : RcSlice ℕ Global) (v w : BTreeSet ℕ) (n : ℕ) → Some v ≡ get_by (key_cmp k) old → WritesThrough key_cmp (key_cmp k) old w new → ((m : ℕ) → contains nat_cmp w m ≡ cond (is_at (nat_cmp n) m) false (contains nat_cmp v m)) → Loses old new (items k) n

@@ -103,7 +103,7 @@ pub found-is : (query : Query) (rows : List (ℕ × Row)) (asked : List Asked) (
 found-is query rows asked days source numbers rising same is list =
     one_list (filter (passes_at (matches_asked asked days) rows) numbers) (found query rows) (passes_at (matches_asked asked days) rows)
     (IsListOf-same (filter (passes_at (matches_asked asked days) rows) numbers) (λ n. passes_at (passes source) rows n && passes_at (matches_asked asked days) rows n) (passes_at (matches_asked asked days) rows)
-      (λ n. stands (row_at rows n)) (IsListOf-filter numbers (passes_at (passes source) rows) (passes_at (matches_asked asked days) rows) list))
+    (λ n. stands (row_at rows n)) (IsListOf-filter numbers (passes_at (passes source) rows) (passes_at (matches_asked asked days) rows) list))
     (IsListOf-same (found query rows) (passes_at (λ (row : Row). matches query row.words row.day) rows) (passes_at (matches_asked asked days) rows) (λ n. alike (row_at rows n)) (found-list query rows rising))
   where
     stands : (o : Option Row) → (option_map_or (passes source) o false && option_map_or (matches_asked asked days) o false) ≡ option_map_or (matches_asked asked days) o false

@@ -24,5 +24,5 @@ is_within first last row = is_between row.day first last
 abbrev pub numbers_between : BTreeSet Dated → ℕ → ℕ → List ℕ
 numbers_between days first last =
     map (λ (d : Dated). d.number)
-        (take_while (λ (d : Dated). nat_le d.day last)
-            (keys_between dated_cmp (Included (record { day = first; number = 0 })) Unbounded days))
+    (take_while (λ (d : Dated). nat_le d.day last)
+    (keys_between dated_cmp (Included (record { day = first; number = 0 })) Unbounded days))

@@ -75,7 +75,7 @@ pub fn count_days(tables: &Tables, first: u64, last: u64, limit: usize) -> usize
     tables
         .days
         .range(first_of(first)..)
-        .take_while(|dated| dated.day <= last)
+        .take_while(|at| at.day <= last)
         .take(limit)
         .count()
 }

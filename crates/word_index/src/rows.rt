@@ -54,4 +54,14 @@ impl KeptRow {
         share_all(alloc, held, words.body.as_slice(), &mut self.body)?;
         Ok(())
     }
+
+    /// Returns the row's day, with a number.
+    pub fn dated(&self, number: u32) -> Dated
+        ensures { result ≡ record { day = self.now.day; number = number } }
+    {
+        Dated {
+            day: self.day,
+            number,
+        }
+    }
 }

@@ -100,10 +100,7 @@ impl Tables {
         put_all(alloc, &mut self.subject, row.subject.as_slice(), n)?;
         put_all(alloc, &mut self.from, row.from.as_slice(), n)?;
         put_all(alloc, &mut self.body, row.body.as_slice(), n)?;
-        self.days.insert(Dated {
-            day: row.day,
-            number: n,
-        })?;
+        self.days.insert(row.dated(n))?;
         Ok(())
     }
 
@@ -138,10 +135,7 @@ impl Tables {
         remove_all(&mut self.subject, row.subject.as_slice(), n);
         remove_all(&mut self.from, row.from.as_slice(), n);
         remove_all(&mut self.body, row.body.as_slice(), n);
-        let _ = self.days.remove(&Dated {
-            day: row.day,
-            number: n,
-        });
+        let _ = self.days.remove(&row.dated(n));
         self.free_words(row);
     }
 
