@@ -120,26 +120,26 @@ step_bad : (q : Query) (term text : List ℕ) (ts : List (List ℕ)) → after 1
 step_bad q term text ts is bad = step_range q term text ts is ∙ ap (ranged q ts) bad
 
 -- What a call that ran out of memory leaves is free.
-abbrev free : {T : Type 0} (old : Query) (term : List ℕ) (e : QueryRefusal) (new : Query) → e ≡ NoMemory → Asks {T = T} old term (Err e) new
-free {T = T} old term e new is = subst (λ (x : QueryRefusal). Asks {T = T} old term (Err x) new) (sym is) tt
+abbrev free : (T : Type 0) (old : Query) (term : List ℕ) (e : QueryRefusal) (new : Query) → e ≡ NoMemory → Asks {T = T} old term (Err e) new
+free T old term e new is = subst (λ (x : QueryRefusal). Asks {T = T} old term (Err x) new) (sym is) tt
 
 -- The words of a term were appended to those of a field.
 pub asks_subject : {T : Type 0} (old : Query) (term text : List ℕ) (r : Result T QueryRefusal) (list : List (List ℕ)) → Some text ≡ after 115 term → OnOk r (list ≡ old.subject ++ words_of text) → IfErr r (λ e. e ≡ NoMemory) → Asks old term r (record old { subject = list })
 asks_subject old term text (Ok x) list is ok err = λ ts. step_subject old term text ts (sym is) ∙ ap (λ (l : List (List ℕ)). with_terms (record old { subject = l }) ts) (sym ok)
-asks_subject {T = T} old term text (Err e) list is ok err = free {T = T} old term e (record old { subject = list }) err
+asks_subject {T = T} old term text (Err e) list is ok err = free T old term e (record old { subject = list }) err
 
 pub asks_from : {T : Type 0} (old : Query) (term text : List ℕ) (r : Result T QueryRefusal) (list : List (List ℕ)) → Some text ≡ after 102 term → OnOk r (list ≡ old.from ++ words_of text) → IfErr r (λ e. e ≡ NoMemory) → Asks old term r (record old { from = list })
 asks_from old term text (Ok x) list is ok err = λ ts. step_from old term text ts (sym is) ∙ ap (λ (l : List (List ℕ)). with_terms (record old { from = l }) ts) (sym ok)
-asks_from {T = T} old term text (Err e) list is ok err = free {T = T} old term e (record old { from = list }) err
+asks_from {T = T} old term text (Err e) list is ok err = free T old term e (record old { from = list }) err
 
 pub asks_body : {T : Type 0} (old : Query) (term text : List ℕ) (r : Result T QueryRefusal) (list : List (List ℕ)) → Some text ≡ after 98 term → OnOk r (list ≡ old.body ++ words_of text) → IfErr r (λ e. e ≡ NoMemory) → Asks old term r (record old { body = list })
 asks_body old term text (Ok x) list is ok err = λ ts. step_body old term text ts (sym is) ∙ ap (λ (l : List (List ℕ)). with_terms (record old { body = l }) ts) (sym ok)
-asks_body {T = T} old term text (Err e) list is ok err = free {T = T} old term e (record old { body = list }) err
+asks_body {T = T} old term text (Err e) list is ok err = free T old term e (record old { body = list }) err
 
 pub asks_any : {T : Type 0} (old : Query) (term : List ℕ) (r : Result T QueryRefusal) (list : List (List ℕ)) → None ≡ after 115 term → None ≡ after 102 term → None ≡ after 98 term → None ≡ after 100 term → OnOk r (list ≡ old.any ++ words_of term) → IfErr r (λ e. e ≡ NoMemory)
     → Asks old term r (record old { any = list })
 asks_any old term (Ok x) list s f b d ok err = λ ts. step_any old term ts (sym s) (sym f) (sym b) (sym d) ∙ ap (λ (l : List (List ℕ)). with_terms (record old { any = l }) ts) (sym ok)
-asks_any {T = T} old term (Err e) list s f b d ok err = free {T = T} old term e (record old { any = list }) err
+asks_any {T = T} old term (Err e) list s f b d ok err = free T old term e (record old { any = list }) err
 
 -- The days of a term's range were appended, or the term is a bad range.
 pub asks_days : {T : Type 0} (old : Query) (term text : List ℕ) (r : Result T QueryRefusal) (list : List ℕ) → Some text ≡ after 100 term → AsksDays old.days text r list → Asks old term r (record old { days = list })
@@ -152,6 +152,6 @@ pub with_terms-none : (q : Query) → with_terms q [] ≡ Some q
 with_terms-none q = rw (append-nil q.any, append-nil q.subject, append-nil q.from, append-nil q.body, append-nil q.days) refl
 
 -- A term that is refused makes the whole text no query.
-pub refused_by : {T : Type 0} (old new : Query) (term : List ℕ) (ts : List (List ℕ)) (e : QueryRefusal) (wanted : Option Query) → with_terms old (term ∷ ts) ≡ wanted → Asks {T = T} old term (Err e) new → Gives (Err e) wanted
-refused_by old new term ts BadRange wanted is asked = sym is ∙ asked ts
-refused_by old new term ts NoMemory wanted is asked = tt
+pub refused_by : (T : Type 0) (old new : Query) (term : List ℕ) (ts : List (List ℕ)) (e : QueryRefusal) (wanted : Option Query) → with_terms old (term ∷ ts) ≡ wanted → Asks {T = T} old term (Err e) new → Gives (Err e) wanted
+refused_by T old new term ts BadRange wanted is asked = sym is ∙ asked ts
+refused_by T old new term ts NoMemory wanted is asked = tt

@@ -15,7 +15,7 @@ loop-term-preserved c =
 
 pub returns-in-Err : goal.returns-in-Err
 returns-in-Err c =
-    refused_by c.loop-term.query c.ask.new.query c.in-Some.term.now (terms_of c.in-Some.others.now) c.in-Err.refusal (query_of c.args.text.now)
+    refused_by (Unit {0}) c.loop-term.query c.ask.new.query c.in-Some.term.now (terms_of c.in-Some.others.now) c.in-Err.refusal (query_of c.args.text.now)
     (ap (with_terms c.loop-term.query) (sym c.in-Some.ensures.terms) ∙ c.loop-term.invariant) c.in-Err.ensures
 
 pub returns : goal.returns
