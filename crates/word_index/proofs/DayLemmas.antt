@@ -20,6 +20,7 @@ use Rattle.word_index.specs.declared.rows.Dated.{Dated}
 use Rattle.word_index.specs.Rows.{Row, row_at, passes_at}
 use Rattle.word_index.specs.Days.{dated_cmp, dated, is_within, numbers_between}
 use Rattle.word_index.specs.Tables.{is_of, Lists}
+use Rattle.word_index.specs.Postings.{IsListOf}
 use Rattle.word_index.proofs.Bools.{cond_or, cond_and}
 use Rattle.word_index.proofs.ListLemmas.{any-map, at-same}
 
@@ -210,3 +211,14 @@ within_is rows days first last n lists =
             let parts = and_parts (found.it.day == row.day) (is_at (nat_cmp n) found.it.number) (sym (at_dated row.day n found.it) ∙ found.passes) in
             let lies : inside found.it ≡ true = ap (λ (d : ℕ). is_between d first last) (eqb-true found.it.day row.day parts.0) ∙ k in
             filtered_any here inside days.keys found.it found.among parts.1 lies
+
+-- The list of the numbers of the days of a range.
+pub within-list : (rows : List (ℕ × Row)) (days : BTreeSet Dated) (first last : ℕ) (numbers list : List ℕ) → numbers ≡ numbers_between days first last → IsStrictlySortedBy dated_cmp days.keys → Lists is_of rows (dated days)
+    → IsListOf list (λ n. list_any (is_at (nat_cmp n)) numbers) → IsListOf list (passes_at (is_within first last) rows)
+within-list rows days first last numbers list is sorted lists listed =
+    record {
+      rising = listed.rising;
+      has = λ n.
+          listed.has n ∙ ap (list_any (is_at (nat_cmp n))) (is ∙ numbers_between-is days first last sorted)
+          ∙ within_is rows days first last n lists;
+    }

@@ -6,6 +6,7 @@ use Rattle.std.proofs.lemmas.Slice.Eq.{bytes_eq-Decides}
 use Rattle.std.specs.Str.{bytes_eq}
 use Rattle.std.specs.Ordering.{nat_cmp, is_eq, eq_by_cmp}
 use Rattle.std.specs.declared.cmp.Ordering.{Ordering}
+use Rattle.std.specs.declared.cmp.Ordering.TheVariants.{Equal}
 use Rattle.std.specs.Cmp.Lexicographic.{slice_cmp}
 use Rattle.std.specs.Map.{IsKeyTest, AreApart, KeepsOthers}
 use Rattle.std.specs.BTreeMap.{BTreeMap, get_by, is_at, UpdatesBy}
@@ -21,6 +22,10 @@ module _ {K : Type 0} (bytes : K → List ℕ) where
   -- A word finds a key that has its bytes.
   from_at : (w : List ℕ) (k : K) → is_at (looks w) k ≡ true → w ≡ bytes k
   from_at w k h = (bytes_eq-Decides w (bytes k)).0 (sym (is_eq-slice_cmp w (bytes k)) ∙ h)
+
+  -- Keys that are equal have the same bytes.
+  pub same_bytes : (a k : K) → word_cmp a k ≡ Equal → bytes a ≡ bytes k
+  same_bytes a k h = from_at (bytes a) k (ap is_eq h)
 
   is_key_test : (w : List ℕ) → IsKeyTest (eq_by_cmp word_cmp) (is_at (looks w))
   is_key_test w x y h = ap (λ (b : List ℕ). is_eq (slice_cmp nat_cmp b (bytes y))) (from_at w x h)

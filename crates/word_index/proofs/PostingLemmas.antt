@@ -1,12 +1,12 @@
 -- The numbers of words after a change.
-use Rattle.std.proofs.Common.{◌≡◌, ℕ, ◌+◌, ◌<◌, Bool, true, false, not, cond, ◌&&◌, ◌||◌, List, [], length, get_or, take, Option, Some, None, IsSome, refl, sym, ap, subst, ◌∙◌, arith}
+use Rattle.std.proofs.Common.{◌≡◌, ℕ, ◌+◌, ◌<◌, Bool, true, false, not, cond, ◌&&◌, ◌||◌, List, [], length, get_or, take, Option, Some, None, IsSome, Result, Ok, Err, OnErr, refl, sym, ap, subst, ◌∙◌}
 use Rattle.std.proofs.lemmas.List.{nil_from_length}
 use Rattle.std.proofs.lemmas.Slice.Eq.{bytes_eq-Decides}
 use Rattle.std.specs.Str.{bytes_eq}
 use Rattle.std.specs.List.{list_any}
 use Rattle.std.specs.Ordering.{nat_cmp}
 use Rattle.std.specs.declared.cmp.Ordering.{Ordering}
-use Rattle.std.specs.BTreeMap.{BTreeMap, get_by, is_at, UpdatesBy, WritesThrough, IsUnchanged}
+use Rattle.std.specs.BTreeMap.{get_by, is_at, UpdatesBy, WritesThrough, IsUnchanged}
 use Rattle.std.specs.BTreeSet.{BTreeSet, contains}
 use Rattle.std.specs.Map.{lookup}
 use Rattle.std.specs.Rc.{rc_slice_items}
@@ -145,6 +145,11 @@ puts_all-more old mid new words i word n h is all one w m =
     one w m ∙ ap (λ (b : Bool). b || (bytes_eq (items word) w && at)) (all w m)
     ∙ or_more (posted old w m) (has_word (bytes_of (take i words)) w) (bytes_eq (items word) w) at
     ∙ ap (λ (b : Bool). posted old w m || (b && at)) (sym (has_word-more words i word w h is))
+
+-- What holds in any case holds of an error.
+pub on_err : {T E P : Type 0} (r : Result T E) → P → OnErr r P
+on_err (Ok x) p = tt
+on_err (Err e) p = p
 
 -- A call that ran out of memory in between.
 pub may_put : (old mid new : Postings) (words : List (RcSlice ℕ Global)) (i n : ℕ) → PutsAll old mid (bytes_of (take i words)) n → SamePosted mid new → MayPut old new (bytes_of words) n

@@ -1,5 +1,5 @@
 -- Rows that are kept, as the rows that they are.
-use Rattle.std.proofs.Common.{◌≡◌, ℕ, Bool, true, false, cond, List, [], ◌∷◌, ◌++◌, map, Option, Some, None, option_map, refl, sym, ap, ◌∙◌}
+use Rattle.std.proofs.Common.{◌≡◌, ℕ, Bool, true, false, cond, List, [], ◌∷◌, Option, Some, None, is_some, option_map, refl, sym, ap, ◌∙◌}
 use Rattle.std.proofs.lemmas.Map.Made.{lookup-map_values, keys_of-map_values}
 use Rattle.std.specs.Map.{lookup, keys_of, remove_entry}
 use Rattle.std.specs.Ordering.{nat_cmp, match_ordering}
@@ -20,6 +20,21 @@ shown-ordered : (o : Ordering) (a b c : List (ℕ × KeptRow)) → shown_all (ma
 shown-ordered Less a b c = refl
 shown-ordered Equal a b c = refl
 shown-ordered Greater a b c = refl
+
+-- A number has a row exactly if one is kept under it.
+pub has_row : (entries : List (ℕ × KeptRow)) (n : ℕ) → is_some (row_at (shown_all entries) n) ≡ is_some (lookup (is_at (nat_cmp n)) entries)
+has_row entries n = ap is_some (row_at-shown entries n) ∙ mapped (lookup (is_at (nat_cmp n)) entries)
+  where
+    mapped : (o : Option KeptRow) → is_some (option_map shown o) ≡ is_some o
+    mapped None = refl
+    mapped (Some row) = refl
+
+-- The row of which one is kept, and of which none is.
+pub row_at-some : (entries : List (ℕ × KeptRow)) (n : ℕ) (row : KeptRow) → Some row ≡ lookup (is_at (nat_cmp n)) entries → row_at (shown_all entries) n ≡ Some (shown row)
+row_at-some entries n row found = row_at-shown entries n ∙ ap (option_map shown) (sym found)
+
+pub row_at-none : (entries : List (ℕ × KeptRow)) (n : ℕ) → None ≡ lookup (is_at (nat_cmp n)) entries → row_at (shown_all entries) n ≡ None
+row_at-none entries n none = row_at-shown entries n ∙ ap (option_map shown) (sym none)
 
 -- One more row.
 pub shown-insert : (entries : List (ℕ × KeptRow)) (n : ℕ) (row : KeptRow) → shown_all (insert_entry nat_cmp entries n row) ≡ insert_entry nat_cmp (shown_all entries) n (shown row)

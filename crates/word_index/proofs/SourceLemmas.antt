@@ -1,5 +1,5 @@
 -- Lists in which all rows of an answer stand, and what is found by them.
-use Rattle.std.proofs.Common.{◌≡◌, ℕ, ◌<◌, ◌≤◌, Bool, true, false, cond, ◌&&◌, ◌⊎◌, inl, inr, List, [], ◌∷◌, length, get_or, drop, map, Option, Some, None, is_some, refl, sym, ap, subst, ◌∙◌, arith}
+use Rattle.std.proofs.Common.{◌≡◌, ℕ, ◌<◌, ◌≤◌, Bool, true, false, cond, ◌&&◌, ◌⊎◌, inl, inr, List, [], ◌∷◌, length, get_or, drop, Option, Some, None, is_some, refl, sym, ap, subst, ◌∙◌, arith}
 use Rattle.std.specs.Borrow.{Bor}
 use Rattle.std.proofs.lemmas.Bool.{and_parts}
 use Rattle.std.proofs.lemmas.Map.Entries.{option_filter, lookup-filter-values}
@@ -7,10 +7,10 @@ use Rattle.std.proofs.lemmas.Map.Keys.{IsDistinct-from_sorted}
 use Rattle.std.proofs.lemmas.Map.Made.{is_some-lookup}
 use Rattle.std.specs.Cmp.{nat_cmp_total, eq_by_cmp_equiv}
 use Rattle.std.specs.Option.{option_map_or}
-use Rattle.std.specs.List.{filter, list_any, list_all, AllByRecursion}
+use Rattle.std.specs.List.{filter, list_all, AllByRecursion}
 use Rattle.std.specs.List.Sorted.{IsStrictlySortedBy}
-use Rattle.std.specs.Map.{lookup, keys_of}
-use Rattle.std.specs.Ordering.{nat_cmp, eq_by_cmp}
+use Rattle.std.specs.Map.{keys_of}
+use Rattle.std.specs.Ordering.{nat_cmp}
 use Rattle.std.specs.declared.cmp.Ordering.TheVariants.{Less}
 use Rattle.std.specs.BTreeMap.{is_at}
 use Rattle.query_lang.specs.declared.query.Query.{Query}
@@ -83,6 +83,14 @@ is_some-filter test (Some row) = go (test row)
     go : (b : Bool) → is_some (cond b (Some row) None) ≡ b
     go true = refl
     go false = refl
+
+-- The numbers of all rows.
+pub all-list : (rows : List (ℕ × Row)) → IsStrictlySortedBy nat_cmp (keys_of rows) → IsListOf (keys_of rows) (passes_at (λ (row : Row). true) rows)
+all-list rows rising = record { rising = rising; has = λ n. sym (is_some-lookup (is_at (nat_cmp n)) rows) ∙ there (row_at rows n) }
+  where
+    there : (o : Option Row) → is_some o ≡ option_map_or (λ (row : Row). true) o false
+    there None = refl
+    there (Some row) = refl
 
 -- What is found by a query is the list of the numbers whose rows match.
 pub found-list : (query : Query) (rows : List (ℕ × Row)) → IsStrictlySortedBy nat_cmp (keys_of rows) → IsListOf (found query rows) (passes_at (λ (row : Row). matches query row.words row.day) rows)

@@ -1,12 +1,11 @@
 -- What tables list after each step of a change.
-use Rattle.std.specs.Prelude.{◌==◌}
-use Rattle.std.proofs.Common.{◌≡◌, ℕ, Bool, true, false, not, cond, ◌&&◌, ◌||◌, List, Option, Some, None, refl, sym, ap, subst, ◌∙◌}
+use Rattle.std.proofs.Common.{◌≡◌, ℕ, Bool, true, false, not, cond, ◌&&◌, ◌||◌, List, Option, Some, None, refl, sym, ap, ◌∙◌}
 use Rattle.std.specs.Option.{option_map_or}
 use Rattle.std.specs.Ordering.{nat_cmp}
 use Rattle.std.specs.BTreeMap.{is_at}
 use Rattle.query_lang.specs.Matching.{has_word}
 use Rattle.word_index.specs.Rows.{Row, row_at, passes_at}
-use Rattle.word_index.specs.Postings.{Postings, posted, PutsAll, LosesAll, MayPut}
+use Rattle.word_index.specs.Postings.{Postings, posted, MayPut}
 use Rattle.word_index.specs.Tables.{Lists, ListsAlso, ListsPartly}
 use Rattle.word_index.proofs.Bools.{or_none, and_none, kept_step, taken_step, undone_step}
 use Rattle.word_index.proofs.ListLemmas.{at-same}

@@ -1,5 +1,5 @@
 -- The rows of an index, by number.
-use Rattle.std.specs.Prelude.{◌≡◌, ℕ, Bool, false, List, [], map, Option}
+use Rattle.std.specs.Prelude.{ℕ, Bool, false, List, [], map, Option}
 use Rattle.std.specs.Option.{option_map_or}
 use Rattle.std.specs.List.{filter}
 use Rattle.std.specs.Map.{lookup}

@@ -1,5 +1,5 @@
 //! The numbers of the rows that have each word in one field.
-ghost use Rattle.std.specs.Prelude.{◌≡◌, ◌↔◌, cond, true, false, IsTrue, IfOk, OnOk, OnErr};
+ghost use Rattle.std.specs.Prelude.{◌≡◌, ℕ, cond, true, false, IsTrue, IfOk, OnOk, OnErr};
 ghost use Rattle.std.specs.Ordering.{nat_cmp};
 ghost use Rattle.std.specs.Rc.{rc_slice_items};
 ghost use Rattle.std.specs.BTreeMap.{is_at};

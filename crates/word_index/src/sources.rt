@@ -32,7 +32,7 @@ struct Choice<'a> {
 impl<'a> Choice<'a> {
     /// Returns the smaller of two.
     fn or(self, other: Choice<'a>) -> Choice<'a>
-        ensures { (result.source ≡ self.source) ⊎ (result.source ≡ other.source) }
+        ensures { (result.source ≡ self.entry.source) ⊎ (result.source ≡ other.entry.source) }
     {
         if other.size < self.size { other } else { self }
     }
@@ -52,7 +52,7 @@ pub fn least_source<'a>(tables: &Tables, asked: &'a [Asked], days: &[u64]) -> So
 
 /// Returns the smallest of a list and those of the words that are asked.
 fn least_word<'a>(tables: &Tables, asked: &'a [Asked], least: Choice<'a>) -> Choice<'a>
-    ensures { (result.source ≡ least.source) ⊎ IsWordSource asked.now result.source }
+    ensures { (result.source ≡ least.entry.source) ⊎ IsWordSource asked.now result.source }
 {
     let mut least = least;
     for word in asked {
@@ -66,7 +66,7 @@ fn least_word<'a>(tables: &Tables, asked: &'a [Asked], least: Choice<'a>) -> Cho
 
 /// Returns the smallest of a list and those of the ranges of days that are asked.
 fn least_days<'a>(tables: &Tables, days: &[u64], least: Choice<'a>) -> Choice<'a>
-    ensures { (result.source ≡ least.source) ⊎ IsDaySource days.now result.source }
+    ensures { (result.source ≡ least.entry.source) ⊎ IsDaySource days.now result.source }
 {
     let mut least = least;
     let mut rest = days;
@@ -79,7 +79,7 @@ fn least_days<'a>(tables: &Tables, days: &[u64], least: Choice<'a>) -> Choice<'a
 
 /// Returns the smaller of a list and that of a range of days.
 fn with_days<'a>(tables: &Tables, first: u64, last: u64, least: Choice<'a>) -> Choice<'a>
-    ensures { (result.source ≡ least.source) ⊎ (result.source ≡ Source.Days first last) }
+    ensures { (result.source ≡ least.entry.source) ⊎ (result.source ≡ Source.Days first last) }
 {
     let size = count_days(tables, first, last, least.size);
     least.or(Choice {
@@ -92,7 +92,7 @@ fn with_days<'a>(tables: &Tables, first: u64, last: u64, least: Choice<'a>) -> C
 pub fn read(alloc: Global, tables: &Tables, source: Source<'_>) -> Result<Vec<u32>, NoMemory>
     requires { IsIndex tables.now }
     ensures { IfOk result (λ found.
-        IsListOf found.items (passes_at (passes source) (rows_of tables.now))) }
+        IsListOf found.items (passes_at (passes source.entry) (rows_of tables.now))) }
 {
     match source {
         Source::All => all_rows(alloc, tables),
