@@ -10,6 +10,7 @@ use text_words::WordLists;
 use word_index::WordIndex;
 
 /// Numbers that follow one another as if by chance.
+#[derive(Drop)]
 struct Chance(u64);
 
 impl Chance {
