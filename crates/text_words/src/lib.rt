@@ -1,0 +1,8 @@
+//! The words of texts, by which messages are searched.
+#![tactic(auto)]
+
+mod word_lists;
+mod words;
+
+pub use word_lists::WordLists;
+pub use words::{MAX_WORD_LEN, push_words};

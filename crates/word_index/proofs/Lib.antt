@@ -1,0 +1,9 @@
+pub mod Bools
+pub mod KeyLemmas
+pub mod PostingLemmas
+pub mod RowLemmas
+pub mod ListLemmas
+pub mod TableLemmas
+pub mod DayLemmas
+pub mod AskedLemmas
+pub mod SourceLemmas

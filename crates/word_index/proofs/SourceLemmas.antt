@@ -1,0 +1,131 @@
+-- Lists in which all rows of an answer stand, and what is found by them.
+use Rattle.std.proofs.Common.{◌≡◌, ℕ, ◌<◌, ◌≤◌, Bool, true, false, cond, ◌&&◌, ◌⊎◌, inl, inr, List, [], ◌∷◌, length, get_or, drop, Option, Some, None, is_some, refl, sym, ap, subst, ◌∙◌, arith}
+use Rattle.std.specs.Borrow.{Bor}
+use Rattle.std.proofs.lemmas.Bool.{and_parts}
+use Rattle.std.proofs.lemmas.Map.Entries.{option_filter, lookup-filter-values}
+use Rattle.std.proofs.lemmas.Map.Keys.{IsDistinct-from_sorted}
+use Rattle.std.proofs.lemmas.Map.Made.{is_some-lookup}
+use Rattle.std.specs.Cmp.{nat_cmp_total, eq_by_cmp_equiv}
+use Rattle.std.specs.Option.{option_map_or}
+use Rattle.std.specs.List.{filter, list_all, AllByRecursion}
+use Rattle.std.specs.List.Sorted.{IsStrictlySortedBy}
+use Rattle.std.specs.Map.{keys_of}
+use Rattle.std.specs.Ordering.{nat_cmp}
+use Rattle.std.specs.declared.cmp.Ordering.TheVariants.{Less}
+use Rattle.std.specs.BTreeMap.{is_at}
+use Rattle.query_lang.specs.declared.query.Query.{Query}
+use Rattle.query_lang.specs.Matching.{is_between, in_ranges, matches}
+use Rattle.word_index.specs.declared.asking.Asked.{Asked}
+use Rattle.word_index.specs.declared.sources.Source.{Source}
+use Rattle.word_index.specs.declared.sources.Source.TheVariants.{All, Days, Word}
+use Rattle.word_index.specs.Rows.{Row, row_at, passes_at, found}
+use Rattle.word_index.specs.Postings.{IsListOf}
+use Rattle.word_index.specs.Asked.{has_asked, matches_asked}
+use Rattle.word_index.specs.Sources.{passes, IsSource, IsWordSource, IsDaySource}
+use Rattle.word_index.proofs.ListLemmas.{all_at, IsListOf-same, IsListOf-filter, one_list}
+
+-- A word that is asked.
+pub word-source : (asked : List Asked) (i : ℕ) (word : Bor Asked) → i < length asked → word.now ≡ get_or asked i word.now → IsWordSource asked (Word word)
+word-source asked i word h is row all = ap (has_asked row) is ∙ all_at (has_asked row) asked i word.now h all
+
+-- One more word may be chosen.
+pub word-step : (asked : List Asked) (start old new : Source) (word : Bor Asked) → (old ≡ start) ⊎ IsWordSource asked old → (new ≡ old) ⊎ (new ≡ Word word) → IsWordSource asked (Word word) → (new ≡ start) ⊎ IsWordSource asked new
+word-step asked start old new word (inl same) (inl kept) is = inl (kept ∙ same)
+word-step asked start old new word (inr source) (inl kept) is = inr (subst (IsWordSource asked) (sym kept) source)
+word-step asked start old new word before (inr chosen) is = inr (subst (IsWordSource asked) (sym chosen) is)
+
+-- A range that is asked.
+pub day-source : (days rest : List ℕ) → 2 ≤ length rest → ((day : ℕ) → in_ranges days day ≡ true → in_ranges rest day ≡ true) → IsDaySource days (Days (get_or rest 0 0) (get_or rest 1 0))
+day-source days [] long within row all = absurd (omega arith)
+day-source days (first ∷ []) long within row all = absurd (omega arith)
+day-source days (first ∷ last ∷ rest) long within row all = (and_parts (is_between row.day first last) (in_ranges rest row.day) (within row.day all)).0
+
+-- The ranges after it are asked, too.
+pub days-more : (days rest : List ℕ) → 2 ≤ length rest → ((day : ℕ) → in_ranges days day ≡ true → in_ranges rest day ≡ true) → (day : ℕ) → in_ranges days day ≡ true → in_ranges (drop 2 rest) day ≡ true
+days-more days [] long within day all = absurd (omega arith)
+days-more days (first ∷ []) long within day all = absurd (omega arith)
+days-more days (first ∷ last ∷ rest) long within day all = (and_parts (is_between day first last) (in_ranges rest day) (within day all)).1
+
+-- One more range may be chosen.
+pub day-step : (days : List ℕ) (start old new : Source) (first last : ℕ) → (old ≡ start) ⊎ IsDaySource days old → (new ≡ old) ⊎ (new ≡ Days first last) → IsDaySource days (Days first last) → (new ≡ start) ⊎ IsDaySource days new
+day-step days start old new first last (inl same) (inl kept) is = inl (kept ∙ same)
+day-step days start old new first last (inr source) (inl kept) is = inr (subst (IsDaySource days) (sym kept) source)
+day-step days start old new first last before (inr chosen) is = inr (subst (IsDaySource days) (sym chosen) is)
+
+-- All rows, a word or a range.
+pub source-is : (asked : List Asked) (days : List ℕ) (words source : Source) → (words ≡ All) ⊎ IsWordSource asked words → (source ≡ words) ⊎ IsDaySource days source → IsSource asked days source
+source-is asked days words source (inl all) (inl same) row h = ap (λ (s : Source). passes s row) (same ∙ all)
+source-is asked days words source (inr word) (inl same) row h = ap (λ (s : Source). passes s row) same ∙ word row (and_parts (list_all (has_asked row) asked) (in_ranges days row.day) h).0
+source-is asked days words source before (inr day) row h = day row (and_parts (list_all (has_asked row) asked) (in_ranges days row.day) h).1
+
+-- The numbers of some rows rise.
+all_keys-filter : (P : ℕ → Type 0) (test : ℕ × Row → Bool) (rows : List (ℕ × Row)) → AllByRecursion P (keys_of rows) → AllByRecursion P (keys_of (filter test rows))
+all_keys-filter P test [] h = h
+all_keys-filter P test (r ∷ rs) h = go (test r) (all_keys-filter P test rs h.1)
+  where
+    go : (b : Bool) → AllByRecursion P (keys_of (filter test rs)) → AllByRecursion P (keys_of (cond b (r ∷ filter test rs) (filter test rs)))
+    go true ih = (h.0, ih)
+    go false ih = ih
+
+sorted-filter : (test : ℕ × Row → Bool) (rows : List (ℕ × Row)) → IsStrictlySortedBy nat_cmp (keys_of rows) → IsStrictlySortedBy nat_cmp (keys_of (filter test rows))
+unfolding IsStrictlySortedBy
+sorted-filter test [] h = tt
+sorted-filter test (r ∷ rs) h = go (test r) (sorted-filter test rs h.1)
+  where
+    go : (b : Bool) → IsStrictlySortedBy nat_cmp (keys_of (filter test rs)) → IsStrictlySortedBy nat_cmp (keys_of (cond b (r ∷ filter test rs) (filter test rs)))
+    go true ih = (all_keys-filter (λ (n : ℕ). nat_cmp r.0 n ≡ Less) test rs h.0, ih)
+    go false ih = ih
+
+is_some-filter : (test : Row → Bool) (o : Option Row) → is_some (option_filter test o) ≡ option_map_or test o false
+is_some-filter test None = refl
+is_some-filter test (Some row) = go (test row)
+  where
+    go : (b : Bool) → is_some (cond b (Some row) None) ≡ b
+    go true = refl
+    go false = refl
+
+-- The numbers of all rows.
+pub all-list : (rows : List (ℕ × Row)) → IsStrictlySortedBy nat_cmp (keys_of rows) → IsListOf (keys_of rows) (passes_at (λ (row : Row). true) rows)
+all-list rows rising = record { rising = rising; has = λ n. sym (is_some-lookup (is_at (nat_cmp n)) rows) ∙ there (row_at rows n) }
+  where
+    there : (o : Option Row) → is_some o ≡ option_map_or (λ (row : Row). true) o false
+    there None = refl
+    there (Some row) = refl
+
+-- What is found by a query is the list of the numbers whose rows match.
+pub found-list : (query : Query) (rows : List (ℕ × Row)) → IsStrictlySortedBy nat_cmp (keys_of rows) → IsListOf (found query rows) (passes_at (λ (row : Row). matches query row.words row.day) rows)
+found-list query rows rising =
+    let test : Row → Bool = λ row. matches query row.words row.day in
+    record {
+      rising = sorted-filter (λ (r : ℕ × Row). test r.1) rows rising;
+      has = λ n.
+          sym (is_some-lookup (is_at (nat_cmp n)) (filter (λ (r : ℕ × Row). test r.1) rows))
+          ∙ ap is_some (lookup-filter-values (eq_by_cmp_equiv nat_cmp_total) test n rows (IsDistinct-from_sorted nat_cmp (keys_of rows) rising))
+          ∙ is_some-filter test (row_at rows n);
+    }
+
+-- So is what matches in a list in which all rows of the answer stand.
+pub found-is : (query : Query) (rows : List (ℕ × Row)) (asked : List Asked) (days : List ℕ) (source : Source) (numbers : List ℕ) → IsStrictlySortedBy nat_cmp (keys_of rows)
+    → ((row : Row) → matches query row.words row.day ≡ matches_asked asked days row) → IsSource asked days source → IsListOf numbers (passes_at (passes source) rows)
+    → filter (passes_at (matches_asked asked days) rows) numbers ≡ found query rows
+found-is query rows asked days source numbers rising same is list =
+    one_list (filter (passes_at (matches_asked asked days) rows) numbers) (found query rows) (passes_at (matches_asked asked days) rows)
+    (IsListOf-same (filter (passes_at (matches_asked asked days) rows) numbers) (λ n. passes_at (passes source) rows n && passes_at (matches_asked asked days) rows n) (passes_at (matches_asked asked days) rows)
+    (λ n. stands (row_at rows n)) (IsListOf-filter numbers (passes_at (passes source) rows) (passes_at (matches_asked asked days) rows) list))
+    (IsListOf-same (found query rows) (passes_at (λ (row : Row). matches query row.words row.day) rows) (passes_at (matches_asked asked days) rows) (λ n. alike (row_at rows n)) (found-list query rows rising))
+  where
+    stands : (o : Option Row) → (option_map_or (passes source) o false && option_map_or (matches_asked asked days) o false) ≡ option_map_or (matches_asked asked days) o false
+    stands None = refl
+    stands (Some row) = go (matches_asked asked days row) refl
+      where
+        go : (b : Bool) → matches_asked asked days row ≡ b → (passes source row && b) ≡ b
+        go true h = ap (λ (x : Bool). x && true) (is row h)
+        go false h = none (passes source row)
+          where
+            none : (x : Bool) → (x && false) ≡ false
+            none true = refl
+            none false = refl
+
+    alike : (o : Option Row) → option_map_or (λ (row : Row). matches query row.words row.day) o false ≡ option_map_or (matches_asked asked days) o false
+    alike None = refl
+    alike (Some row) = same row

@@ -1,0 +1,6 @@
+use Rattle.word_index.proofs.PostingLemmas.{struck_found}
+use Rattle.word_index.proofs.postings.strike.Goals as goal
+
+pub returns-in-Some : goal.returns-in-Some
+returns-in-Some c =
+    struck_found c.args.postings.now (c.get_mut.follows.lender c.exclude.new.numbers) c.args.word.now c.in-Some.numbers.now c.exclude.new.numbers c.args.n c.in-Some.ensures.value (c.get_mut.follows.holds c.exclude.new.numbers) c.exclude.ensures

@@ -1,0 +1,57 @@
+-- The rows of an index, by number.
+use Rattle.std.specs.Prelude.{ℕ, Bool, false, List, [], map, Option}
+use Rattle.std.specs.Option.{option_map_or}
+use Rattle.std.specs.List.{filter}
+use Rattle.std.specs.Map.{lookup}
+use Rattle.std.specs.Ordering.{nat_cmp}
+use Rattle.std.specs.BTreeMap.{is_at}
+use Rattle.std.specs.Rc.{rc_slice_items}
+use Rattle.std.specs.declared.alloc.Global.{Global}
+use Rattle.std.specs.declared.rc.RcSlice.{RcSlice}
+use Rattle.text_words.specs.declared.word_lists.WordLists.{WordLists}
+use Rattle.query_lang.specs.declared.query.Query.{Query}
+use Rattle.query_lang.specs.Matching.{matches}
+use Rattle.word_index.specs.declared.rows.KeptRow.{KeptRow}
+
+-- A row: its words, by field, and its day.
+pub record Row : Type 0 where
+  pub words : WordLists
+  pub day : ℕ
+
+-- A row of a day, without words.
+abbrev pub bare : ℕ → Row
+bare day = record { words = record { subject = []; from = []; body = [] }; day = day }
+
+-- The row with a number.
+abbrev pub row_at : List (ℕ × Row) → ℕ → Option Row
+row_at rows n = lookup (is_at (nat_cmp n)) rows
+
+-- The number has a row, which passes a test.
+abbrev pub passes_at : (Row → Bool) → List (ℕ × Row) → ℕ → Bool
+passes_at test rows n = option_map_or test (row_at rows n) false
+
+-- The numbers of the rows that match a query, in the order of the rows.
+abbrev pub found : Query → List (ℕ × Row) → List ℕ
+found query rows =
+    map (λ (row : ℕ × Row). row.0)
+    (filter (λ (row : ℕ × Row). matches query row.1.words row.1.day) rows)
+
+-- The bytes of words.
+abbrev pub bytes_of : List (RcSlice ℕ Global) → List (List ℕ)
+bytes_of words = map (λ (word : RcSlice ℕ Global). rc_slice_items word) words
+
+-- The row of which this is kept.
+abbrev pub shown : KeptRow → Row
+shown row =
+    record {
+      words = record {
+        subject = bytes_of row.subject.items;
+        from = bytes_of row.from.items;
+        body = bytes_of row.body.items;
+      };
+      day = row.day;
+    }
+
+-- All rows that are kept, by number.
+abbrev pub shown_all : List (ℕ × KeptRow) → List (ℕ × Row)
+shown_all entries = map (λ (e : ℕ × KeptRow). (e.0, shown e.1)) entries

@@ -1,0 +1,14 @@
+//! An index of messages by their words and the days of their dates.
+#![tactic(auto)]
+
+mod asking;
+mod finding;
+mod index;
+mod postings;
+mod reading;
+mod rows;
+mod sources;
+mod tables;
+mod word;
+
+pub use index::WordIndex;
