@@ -4,7 +4,7 @@ use Rattle.std.specs.List.{list_any}
 use Rattle.std.proofs.lemmas.Bool.{cases_Bool, cases_eq, false≢true, and_parts, and_from, or_cases, or_left, or_right, eqb-true, eq-eqb}
 use Rattle.thread_model.specs.Members.{Among, has, has_number}
 use Rattle.thread_model.specs.Threads.{Row, shares, reached, thread, Respects, Joined, Linked, AreInOneThread, AreThreads}
-use Rattle.thread_model.specs.Labelling.{IsLabelling}
+use Rattle.thread_model.specs.Labelling.{IsLabelling, IsTouched}
 use Rattle.thread_model.proofs.Members.{any-among, among-any, none-any, has-among, among-has, number-among, among-number, among-filter, among-filtered, cases_among}
 use Rattle.thread_model.proofs.Rounds.{same_bools, shares-key, key-shares, reached-begin, reached-one, reached-respects, linked-sym, linked-trans, linked-key, linked-more, thread-linked, linked-thread}
 
@@ -48,11 +48,6 @@ pub record Adds (rows later : List Row) (row : Row) : Type 0 where
   pub cases : (x : Row) → Among later x → (x ≡ row) ⊎ Among rows x
   pub here : Among later row
   pub kept : (x : Row) → Among rows x → Among later x
-
--- The labels that rows with a key of the new row have, and no others.
-pub record IsTouched (rows : List Row) (label : ℕ → ℕ) (keys : List (List ℕ)) (touched : List ℕ) : Type 0 where
-  pub hit : (s : Row) → Among rows s → (k : List ℕ) → Among s.1 k → Among keys k → Among touched (label s.0)
-  pub only : (l : ℕ) → Among touched l → (s : Row) × (k : List ℕ) × Among rows s × (label s.0 ≡ l) × Among s.1 k × Among keys k
 
 -- Some row of a touched label holds a key.
 abbrev holds_touched : List Row → (ℕ → ℕ) → List ℕ → List ℕ → Bool

@@ -5,7 +5,7 @@ use Rattle.std.specs.List.Sorted.{IsStrictlySortedBy}
 use Rattle.std.proofs.lemmas.Bool.{false≢true, eqb-true, eq-eqb}
 use Rattle.std.proofs.lemmas.Cmp.{ranked}
 use Rattle.std.proofs.lemmas.Map.Keys.{sorted_head, sorted_tail}
-use Rattle.thread_model.specs.Members.{Among, Once}
+use Rattle.thread_model.specs.Members.{Among, Once, Rises}
 use Rattle.thread_model.proofs.Members.{among-append, among-map, among-mapped, among-filter}
 
 -- The numbers without the first place of one.
@@ -75,12 +75,50 @@ all-among P [] x all h = absurd h
 all-among P (y ∷ ys) x all (inl is) = subst P (sym is) all.0
 all-among P (y ∷ ys) x all (inr h) = all-among P ys x all.1 h
 
+pub rises-from_sorted : (xs : List ℕ) → IsStrictlySortedBy nat_cmp xs → Rises xs
+rises-from_sorted [] sorted = tt
+rises-from_sorted (x ∷ xs) sorted = (
+    λ n h. ranked x n Less (sym (all-among (λ y. nat_cmp x y ≡ Less) xs n (sorted_head nat_cmp x xs sorted) h)),
+    rises-from_sorted xs (sorted_tail nat_cmp x xs sorted))
+
 -- Numbers that rise are all different.
+pub rises-once : (xs : List ℕ) → Rises xs → Once xs
+rises-once [] rises = tt
+rises-once (x ∷ xs) rises = (λ h. let lt : x < x = rises.0 x h in absurd (omega arith), rises-once xs rises.1)
+
 pub sorted-once : (xs : List ℕ) → IsStrictlySortedBy nat_cmp xs → Once xs
-sorted-once [] sorted = tt
-sorted-once (x ∷ xs) sorted = (
-    λ h.
-        let less : nat_cmp x x ≡ Less = all-among (λ y. nat_cmp x y ≡ Less) xs x (sorted_head nat_cmp x xs sorted) h in
-        let lt : x < x = ranked x x Less (sym less) in
-        absurd (omega arith),
-    sorted-once xs (sorted_tail nat_cmp x xs sorted))
+sorted-once xs sorted = rises-once xs (rises-from_sorted xs sorted)
+
+rises-filter-by : {X : Type 0} (f : X → ℕ) (test : X → Bool) (x : X) (xs : List X) (t : Bool) → Rises (map f (x ∷ xs)) → Rises (map f (filter test xs)) → Rises (map f (cond t (x ∷ filter test xs) (filter test xs)))
+rises-filter-by f test x xs true rises ih = (
+    λ n h.
+        let r = among-mapped f (filter test xs) n h in
+        subst (λ m. f x < m) r.2 (rises.0 (f r.0) (among-map f xs r.0 (among-filter test xs r.0 r.1).0)),
+    ih)
+rises-filter-by f test x xs false rises ih = ih
+
+-- A part of items whose numbers rise has rising numbers.
+pub rises-filter : {X : Type 0} (f : X → ℕ) (test : X → Bool) (xs : List X) → Rises (map f xs) → Rises (map f (filter test xs))
+rises-filter f test [] rises = rises
+rises-filter f test (x ∷ xs) rises = rises-filter-by f test x xs (test x) rises (rises-filter f test xs rises.1)
+
+same-front : (x y : ℕ) (xs ys : List ℕ) → Rises (x ∷ xs) → Rises (y ∷ ys) → (x ≡ y) ⊎ Among ys x → (y ≡ x) ⊎ Among xs y → x ≡ y
+same-front x y xs ys a b (inl is) k = is
+same-front x y xs ys a b (inr h) (inl is) = sym is
+same-front x y xs ys a b (inr h) (inr k) = let one : y < x = b.0 x h in let two : x < y = a.0 y k in absurd (omega arith)
+
+later-one : (x y n : ℕ) (ys : List ℕ) → x ≡ y → x < n → (n ≡ y) ⊎ Among ys n → Among ys n
+later-one x y n ys same less (inl is) = absurd (omega arith)
+later-one x y n ys same less (inr h) = h
+
+-- Rising numbers are known by what they hold.
+pub rises-same : (xs ys : List ℕ) → Rises xs → Rises ys → ((n : ℕ) → Among xs n → Among ys n) → ((n : ℕ) → Among ys n → Among xs n) → xs ≡ ys
+rises-same [] [] a b f g = refl
+rises-same [] (y ∷ ys) a b f g = absurd (g y (inl refl))
+rises-same (x ∷ xs) [] a b f g = absurd (f x (inl refl))
+rises-same (x ∷ xs) (y ∷ ys) a b f g =
+    let same : x ≡ y = same-front x y xs ys a b (f x (inl refl)) (g y (inl refl)) in
+    let rest : xs ≡ ys = rises-same xs ys a.1 b.1
+            (λ n h. later-one x y n ys same (a.0 n h) (f n (inr h)))
+            (λ n h. later-one y x n xs (sym same) (b.0 n h) (g n (inr h))) in
+    λ i. same i ∷ rest i

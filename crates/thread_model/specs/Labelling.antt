@@ -30,3 +30,11 @@ pub record IsLabelling (rows : List Row) (label : ℕ → ℕ) : Type 0 where
       → (k : List ℕ) → Among r.1 k → Among s.1 k → label r.0 ≡ label s.0
   pub tight : (r s : Row) → Among rows r → Among rows s → label r.0 ≡ label s.0
       → (r ≡ s) ⊎ Linked rows r s
+
+-- The labels that rows with one of some keys have, and no others.
+pub record IsTouched (rows : List Row) (label : ℕ → ℕ) (keys : List (List ℕ))
+    (touched : List ℕ) : Type 0 where
+  pub hit : (s : Row) → Among rows s → (k : List ℕ) → Among s.1 k → Among keys k
+      → Among touched (label s.0)
+  pub only : (l : ℕ) → Among touched l
+      → (s : Row) × (k : List ℕ) × Among rows s × (label s.0 ≡ l) × Among s.1 k × Among keys k

@@ -1,5 +1,5 @@
 -- What a list holds.
-use Rattle.std.specs.Prelude.{◌≡◌, ◌⊎◌, ℕ, Bool, ◌==◌, List, [], ◌∷◌}
+use Rattle.std.specs.Prelude.{◌≡◌, ◌⊎◌, ◌<◌, ℕ, Bool, ◌==◌, List, [], ◌∷◌}
 use Rattle.std.specs.List.{list_any}
 use Rattle.std.specs.Str.{bytes_eq}
 
@@ -12,6 +12,11 @@ Among (y ∷ ys) x = (x ≡ y) ⊎ Among ys x
 abbrev pub Once : List ℕ → Type 0
 Once [] = Unit {0}
 Once (n ∷ ns) = (Among ns n → ⊥) × Once ns
+
+-- Each number is below all that follow it.
+abbrev pub Rises : List ℕ → Type 0
+Rises [] = Unit {0}
+Rises (n ∷ ns) = ((m : ℕ) → Among ns m → n < m) × Rises ns
 
 -- Whether a text is one of some texts.
 abbrev pub has : List (List ℕ) → List ℕ → Bool
