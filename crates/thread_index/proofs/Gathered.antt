@@ -262,3 +262,6 @@ held-all old new keys i n past is = record {
   new' = λ k in_k. is.new' k (take-end keys i k past in_k);
   cases = λ k m h. elim (is.cases k m h) [ inl a ↦ inl a | inr b ↦ inr (b.0, take-among keys i k b.1) ];
 }
+
+pub target-first : (members : ℕ → List ℕ) (touched : List ℕ) (target : ℕ) → Among touched target → IsTargetOf members touched [] target
+target-first members touched target in_target = record { one = in_target; most = λ l none. absurd none }
