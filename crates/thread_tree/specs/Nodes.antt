@@ -1,11 +1,16 @@
 -- Nodes as the code has them, and their indices.
-use Rattle.std.specs.Prelude.{◌≡◌, ◌⊎◌, ◌<◌, ◌&&◌, ◌==◌, ℕ, zero, suc, Bool, true, false, not, List, [], ◌∷◌, ◌++◌, map, length, get_or, slice_get, Option, Some, None, option_map, if◌then◌else◌}
-use Rattle.std.specs.Option.{unwrap_or}
+use Rattle.std.specs.Prelude.{◌≡◌, ◌⊎◌, ◌<◌, ◌&&◌, ◌==◌, ℕ, zero, suc, Bool, true, false, not, List, [], ◌∷◌, ◌++◌, map, length, get_or, slice_get, Option, Some, None, if◌then◌else◌}
+use Rattle.std.specs.Option.{option_map, unwrap_or}
+use Rattle.std.specs.BTreeMap.{BTreeMap}
 use Rattle.std.specs.List.{filter}
 use Rattle.std.specs.Global.{Vec}
 use Rattle.thread_model.specs.Members.{Among, Once}
-use Rattle.thread_tree.specs.Trees.{Node, nodes, up}
-use Rattle.thread_tree.specs.declared.twigs.Twig.{Twig}
+use Rattle.thread_tree.specs.Trees.{Node}
+use Rattle.thread_tree.specs.Facts.{at_id, kept_is_ghost, kept_up}
+use Rattle.thread_tree.specs.declared.lines.Line.{Line}
+use Rattle.thread_tree.specs.declared.lines.Who.{Who}
+use Rattle.thread_tree.specs.declared.lines.Who.TheVariants.{Live, Ghost}
+use Rattle.thread_tree.specs.declared.facts.Facts.{Facts}
 
 -- A node as the code has it.
 abbrev pub node_in : ℕ × ℕ × Vec ℕ → Node
@@ -49,12 +54,41 @@ StaysIn jumps = (i j : ℕ) → i < length jumps → jump_at jumps i ≡ Some j 
 abbrev pub OnLoop : List (Option ℕ) → ℕ → Type 0
 OnLoop jumps i = (k : ℕ) × (far_by jumps (suc k) i ≡ Some i)
 
+-- No two nodes have one id.
+abbrev pub HaveNodeIds : List Node → Type 0
+HaveNodeIds ns = (i j : ℕ) → i < length ns → j < length ns → id_at ns i ≡ id_at ns j → i ≡ j
+
+-- An index of nodes by their ids.
+pub record IsIndexOf (ns : List Node) (index : BTreeMap (Vec ℕ) ℕ) : Type 0 where
+  pub found : (q : List ℕ) (j : ℕ) → at_id index q ≡ Some j → (j < length ns) × (id_at ns j ≡ q)
+  pub here : (j : ℕ) → j < length ns → at_id index (id_at ns j) ≡ Some j
+
+-- What an id stands under is a node.
+abbrev pub AreClosed : Facts → List Node → Type 0
+AreClosed facts ns = (id q : List ℕ) → kept_up facts id ≡ Some q
+    → (j : ℕ) × (j < length ns) × (id_at ns j ≡ q)
+
 -- Of each node the index of the one that it stands under.
-pub record AreUps (twigs : List Twig) (ups : List (Option ℕ)) : Type 0 where
-  pub size : length ups ≡ length (nodes twigs)
+pub record AreUps (above : List ℕ → Option (List ℕ)) (ns : List Node)
+    (ups : List (Option ℕ)) : Type 0 where
+  pub size : length ups ≡ length ns
   pub inside : StaysIn ups
-  pub each : (i : ℕ) → i < length ups
-      → option_map (id_at (nodes twigs)) (jump_at ups i) ≡ up twigs (id_at (nodes twigs) i)
+  pub each : (i : ℕ) → i < length ns
+      → option_map (id_at ns) (jump_at ups i) ≡ above (id_at ns i)
+
+-- The index of an id that may be there.
+abbrev pub index_bound : BTreeMap (Vec ℕ) ℕ → Option (List ℕ) → Option ℕ
+index_bound index None = None
+index_bound index (Some id) = at_id index id
+
+-- The node at an index.
+abbrev pub node_at : List Node → ℕ → Node
+node_at ns i = get_or ns i (0, 0, [])
+
+-- The line of a node at a depth, by what is kept.
+abbrev pub kept_line : Facts → ℕ → Node → Line
+kept_line facts depth n =
+    record { depth = depth; who = if kept_is_ghost facts n.2 then Ghost n.2 else Live n.1 }
 
 -- Each jump is two jumps of a list.
 pub record AreTwice (jumps twice : List (Option ℕ)) : Type 0 where
@@ -132,3 +166,8 @@ pub data Walks (under : ℕ → List ℕ) : ℕ → List ℕ → List (ℕ × �
       → all ≡ (depth, n) ∷ (own ++ rest)
       → Walks under (suc depth) (under n) own
       → Walks under depth ns rest → Walks under depth (n ∷ ns) all
+
+-- Indices of one depth as they wait on a stack, the first on top.
+abbrev pub stacked : ℕ → List ℕ → List (ℕ × ℕ)
+stacked depth [] = []
+stacked depth (i ∷ is) = stacked depth is ++ (depth, i) ∷ []

@@ -30,16 +30,16 @@ abbrev pub before : Option (List ℕ) → List (List ℕ) → List ℕ → Optio
 before prev [] id = None
 before prev (r ∷ rs) id = or_else (if bytes_eq r id then prev else None) (before (Some r) rs id)
 
--- Of two messages that may be there, the one with the lesser number.
-abbrev pub lesser : Option Twig → Option Twig → Option Twig
-lesser None second = second
-lesser (Some t) None = Some t
-lesser (Some t) (Some u) = if nat_lt u.number t.number then Some u else Some t
+-- Of two things that may be there, the one with the lesser number; the first of two alike.
+abbrev pub lesser_by : {X : Type 0} → (X → ℕ) → Option X → Option X → Option X
+lesser_by number None second = second
+lesser_by number (Some a) None = Some a
+lesser_by number (Some a) (Some b) = if nat_lt (number b) (number a) then Some b else Some a
 
 -- The least-numbered message that passes a test.
 abbrev pub least : (Twig → Bool) → List Twig → Option Twig
 least test [] = None
-least test (t ∷ ts) = lesser (if test t then Some t else None) (least test ts)
+least test (t ∷ ts) = lesser_by (λ (u : Twig). u.number) (if test t then Some t else None) (least test ts)
 
 -- The message with an id.
 abbrev pub message_of : List Twig → List ℕ → Option Twig

@@ -1,8 +1,11 @@
 //! What messages say of ids: what a message stands under, which message names an id, and which one
 //! places it, by what stands before it.
-ghost use Rattle.std.specs.Prelude.{◌≡◌, ◌<◌, ◌≤◌, ℕ, true, nat_lt, Option, Some, None, option_map, length, IfOk, OnOk, if◌then◌else◌};
-ghost use Rattle.std.specs.Option.{unwrap_or};
+ghost use Rattle.std.specs.Prelude.{◌≡◌, IfOk, OnOk, is_none};
+ghost use Rattle.std.specs.Option.{option_copied};
+ghost use Rattle.thread_tree.specs.Trees.{last_other};
+ghost use Rattle.thread_tree.specs.Facts.{NamesAll, NotesAbove, NotesNaming, NotesPlacing, PlacesAll, above_value, is_lesser, naming_of};
 
+use crate::nodes::PlainNode;
 use crate::twigs::Twig;
 use arch_base::{Bytes, NoMemory};
 use std::alloc::Global;
@@ -162,8 +165,9 @@ fn note_placings(
 }
 
 impl Facts {
-    ghost use Rattle.thread_tree.specs.Facts.{AreFacts};
-    ghost use Rattle.thread_tree.specs.Trees.{HaveOwnIds, named_by, up};
+    ghost use Rattle.thread_tree.specs.Facts.{AreFacts, kept_ghost, kept_is_ghost, kept_up};
+    ghost use Rattle.thread_tree.specs.Nodes.{node_in};
+    ghost use Rattle.thread_tree.specs.Trees.{HaveOwnIds};
 
     /// Returns what messages say of ids.
     pub(crate) fn of(alloc: Global, twigs: &[Twig]) -> Result<Facts, NoMemory>
@@ -187,7 +191,7 @@ impl Facts {
 
     /// Returns whether no message has an id.
     pub(crate) fn is_ghost(&self, id: &[u8]) -> bool
-        ensures { result ≡ is_none (at_id self.now.live id.now) }
+        ensures { result ≡ kept_is_ghost self.now id.now }
     {
         !self.live.contains_key(id)
     }

@@ -88,7 +88,7 @@ impl Twigs {
         let twigs = self.twigs.as_slice();
         let facts = Facts::of(self.alloc, twigs)?;
         let nodes = nodes_of(self.alloc, twigs, &facts)?;
-        let ups = ups_of(self.alloc, twigs, &facts, nodes.as_slice())?;
+        let ups = ups_of(self.alloc, &facts, nodes.as_slice())?;
         let flags = root_flags(self.alloc, ups.as_slice())?;
         let under = under_lists(self.alloc, ups.as_slice(), flags.as_slice())?;
         let roots = roots_of(self.alloc, flags.as_slice())?;
