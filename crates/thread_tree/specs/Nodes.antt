@@ -138,6 +138,11 @@ items_of (Some list) = list.items
 abbrev pub under_at : List (Vec ℕ) → ℕ → List ℕ
 under_at lists p = items_of (slice_get lists p)
 
+-- So many lists, all empty.
+pub record AreEmpty (lists : List (Vec ℕ)) (count : ℕ) : Type 0 where
+  pub size : length lists ≡ count
+  pub each : (p : ℕ) → under_at lists p ≡ []
+
 -- An index was put into the list of the one above it, unless it is a root.
 pub record IsPlaced (old new : List (Vec ℕ)) (up : Option ℕ) (root : Bool) (i : ℕ) : Type 0 where
   pub size : length new ≡ length old

@@ -1,6 +1,6 @@
 //! The lists under each node, and a walk over them without recursion.
-ghost use Rattle.std.specs.Prelude.{◌≡◌, ◌+◌, ◌++◌, length, map, IfOk, OnOk};
-ghost use Rattle.thread_tree.specs.Nodes.{AreUnder, IsForest, IsPlaced, Walks, stacked, under_at};
+ghost use Rattle.std.specs.Prelude.{◌≡◌, ◌++◌, length, IfOk, OnOk};
+ghost use Rattle.thread_tree.specs.Nodes.{AreEmpty, AreUnder, IsForest, IsPlaced, Walks, stacked, under_at};
 
 use arch_base::NoMemory;
 use std::alloc::Global;
@@ -28,7 +28,9 @@ fn place(
 }
 
 /// Returns so many empty lists.
-fn empty_lists(alloc: Global, count: usize) -> Result<Vec<Vec<usize>>, NoMemory> {
+fn empty_lists(alloc: Global, count: usize) -> Result<Vec<Vec<usize>>, NoMemory>
+    ensures { IfOk result (λ lists. AreEmpty lists.items count) }
+{
     let mut lists = Vec::new(alloc);
     for _ in 0..count {
         lists.push(Vec::new(alloc))?;

@@ -1,6 +1,6 @@
 //! Roots: what stands under nothing, or on a loop. Loops are found by doubling a step until it is as
 //! long as there are nodes.
-ghost use Rattle.std.specs.Prelude.{◌≡◌, map, length, IfOk, is_none};
+ghost use Rattle.std.specs.Prelude.{◌≡◌, ◌++◌, ◌∷◌, [], map, length, IfOk, OnOk, is_none, if◌then◌else◌};
 ghost use Rattle.std.specs.List.{filter};
 ghost use Rattle.thread_tree.specs.Nodes.{AreFar, AreRoots, AreTwice, IsMarked, StaysIn, count_up, flag_at, step_by};
 
@@ -79,15 +79,23 @@ pub(crate) fn root_flags(alloc: Global, ups: &[Option<usize>]) -> Result<Vec<boo
     Ok(flags)
 }
 
+/// Appends an index that is flagged.
+fn push_root(roots: &mut Vec<usize>, flag: bool, i: usize) -> Result<(), NoMemory>
+    ensures { OnOk result (roots.new.items ≡ roots.old.items ++ (if flag then i ∷ [] else [])) }
+{
+    if flag {
+        roots.push(i)?;
+    }
+    Ok(())
+}
+
 /// Returns the indices of the roots.
 pub(crate) fn roots_of(alloc: Global, flags: &[bool]) -> Result<Vec<usize>, NoMemory>
     ensures { IfOk result (λ roots. roots.items ≡ filter (flag_at flags.now) (count_up (length flags.now))) }
 {
     let mut roots = Vec::new(alloc);
     for i in 0..flags.len() {
-        if flags[i] {
-            roots.push(i)?;
-        }
+        push_root(&mut roots, flags[i], i)?;
     }
     Ok(roots)
 }
