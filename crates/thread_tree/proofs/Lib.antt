@@ -3,3 +3,7 @@ pub mod Doubling
 pub mod Marks
 pub mod Unders
 pub mod Walking
+pub mod Lesser
+pub mod Kept
+pub mod Ordered
+pub mod Ties

@@ -5,8 +5,7 @@ use Rattle.thread_model.specs.Members.{Among, Once}
 use Rattle.thread_model.proofs.Members.{among-left, among-right, among-append, among-push, among-pushed, among-map, among-mapped}
 use Rattle.thread_model.proofs.Numbers.{once-append, once-push, once-length}
 use Rattle.thread_tree.specs.Trees.{below}
-use Rattle.thread_tree.specs.Nodes.{IsForest, Walks, stacked}
-use Rattle.thread_tree.specs.Nodes.Walks.{none, node}
+use Rattle.thread_tree.specs.Nodes.{IsForest, Walks, ends, stacked, visits}
 use Rattle.thread_tree.proofs.Pigeons.{among-below, length-below}
 
 -- A stack from its top on.
@@ -39,13 +38,13 @@ stack-next under x stack all (next own rest e w s) = (own, rest, e, w, s)
 
 -- Brothers on top of a stack are printed first.
 brothers : (under : ℕ → List ℕ) (depth : ℕ) (is : List ℕ) (stack all : List (ℕ × ℕ)) → StackWalks under (at_depth depth is ++ stack) all → (own : List (ℕ × ℕ)) × (rest : List (ℕ × ℕ)) × (all ≡ own ++ rest) × Walks under depth is own × StackWalks under stack rest
-brothers under depth [] stack all s = ([], all, refl, none, s)
+brothers under depth [] stack all s = ([], all, refl, ends, s)
 brothers under depth (i ∷ is) stack all s =
     let a = stack-next under (depth, i) (at_depth depth is ++ stack) all s in
     let b = brothers under depth is stack a.1 a.4 in
     ((depth, i) ∷ (a.0 ++ b.0), b.1,
     a.2 ∙ ap (λ (zs : List (ℕ × ℕ)). (depth, i) ∷ (a.0 ++ zs)) b.2 ∙ ap (λ (zs : List (ℕ × ℕ)). (depth, i) ∷ zs) (sym (append_assoc a.0 b.0 b.1)),
-    node a.0 b.0 refl a.3 b.3, b.4)
+    visits a.0 b.0 refl a.3 b.3, b.4)
 
 -- What is written, with whatever the stack prints, walks the roots.
 pub record HasWalked (under : ℕ → List ℕ) (roots : List ℕ) (out stack : List (ℕ × ℕ)) : Type 0 where

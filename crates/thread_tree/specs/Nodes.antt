@@ -166,8 +166,8 @@ pub record IsForest (under : ℕ → List ℕ) (roots : List ℕ) (bound : ℕ) 
 
 -- Lines of depths and indices: each index before those under it.
 pub data Walks (under : ℕ → List ℕ) : ℕ → List ℕ → List (ℕ × ℕ) → Type 0 where
-  none : {depth : ℕ} → Walks under depth [] []
-  node : {depth n : ℕ} {ns : List ℕ} {all : List (ℕ × ℕ)} (own rest : List (ℕ × ℕ))
+  ends : {depth : ℕ} → Walks under depth [] []
+  visits : {depth n : ℕ} {ns : List ℕ} {all : List (ℕ × ℕ)} (own rest : List (ℕ × ℕ))
       → all ≡ (depth, n) ∷ (own ++ rest)
       → Walks under (suc depth) (under n) own
       → Walks under depth ns rest → Walks under depth (n ∷ ns) all

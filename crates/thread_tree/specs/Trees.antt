@@ -151,7 +151,7 @@ line_of twigs depth n = record { depth = depth; who = who_of twigs n }
 
 -- Lines print nodes of one depth: each node before those under it, brothers in order.
 pub data Prints (twigs : List Twig) : ℕ → List Node → List Line → Type 0 where
-  none : {depth : ℕ} → Prints twigs depth [] []
+  nothing : {depth : ℕ} → Prints twigs depth [] []
   node : {depth : ℕ} {n : Node} {ns : List Node} {all : List Line} (own rest : List Line)
       → all ≡ line_of twigs depth n ∷ (own ++ rest)
       → Prints twigs (suc depth) (under twigs n) own
