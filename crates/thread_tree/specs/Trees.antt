@@ -45,6 +45,10 @@ least test (t ∷ ts) = lesser_by (λ (u : Twig). u.number) (if test t then Some
 abbrev pub message_of : List Twig → List ℕ → Option Twig
 message_of twigs id = find (λ (t : Twig). bytes_eq t.id id) twigs
 
+-- Whether a message has an id.
+abbrev pub names_id : List Twig → List ℕ → Bool
+names_id twigs id = list_any (λ (t : Twig). bytes_eq t.id id) twigs
+
 -- The least-numbered message that names an id.
 abbrev pub named_by : List Twig → List ℕ → Option Twig
 named_by twigs id = least (λ (t : Twig). has t.refs id) twigs

@@ -1,4 +1,7 @@
 //! Messages with their references, and the tree of them.
+ghost use Rattle.std.specs.Prelude.{◌≡◌};
+ghost use Rattle.thread_tree.specs.Trees.{names_id};
+
 use crate::above::ups_of;
 use crate::facts::Facts;
 use crate::forest::{preorder, under_lists};
@@ -40,6 +43,7 @@ impl Model for Twigs {
 
 impl Twigs {
     ghost use Rattle.std.specs.Prelude.{◌≡◌, ◌++◌, ◌∷◌, [], IfOk, OnErr, OnOk};
+    ghost use Rattle.std.specs.Bool.{MatchBool};
     ghost use Rattle.thread_model.specs.Members.{Among};
     ghost use Rattle.thread_tree.specs.declared.twigs.Twig.{Twig};
     ghost use Rattle.thread_tree.specs.Trees.{Prints, roots};
@@ -52,6 +56,13 @@ impl Twigs {
             alloc,
             twigs: Vec::new(alloc),
         }
+    }
+
+    /// Returns whether a message has an id. It goes over all messages.
+    pub fn contains(&self, id: &[u8]) -> bool
+        ensures { MatchBool result ((t : Twig) × Among self.now t × (t.id ≡ id.now)) ((t : Twig) → Among self.now t → t.id ≡ id.now → ⊥) }
+    {
+        has_id(self.twigs.as_slice(), id)
     }
 
     /// Adds a message whose id is new.
@@ -95,4 +106,16 @@ impl Twigs {
         let walked = preorder(self.alloc, under.as_slice(), roots.as_slice())?;
         lines_of(self.alloc, &facts, nodes.as_slice(), walked.as_slice())
     }
+}
+
+/// Returns whether a message has an id.
+fn has_id(twigs: &[Twig], id: &[u8]) -> bool
+    ensures { result ≡ names_id twigs.now id.now }
+{
+    for twig in twigs {
+        if twig.id.as_slice() == id {
+            return true;
+        }
+    }
+    false
 }
