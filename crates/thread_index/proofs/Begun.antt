@@ -28,7 +28,6 @@ leaves-row rows n once = record {
 module _ (rows left : List Row) (labels : List (ℕ × ℕ)) (members members' : ℕ → List ℕ) (holders holders' : List ℕ → List ℕ) (n : ℕ) (keys : List (List ℕ)) (pending : List ℕ)
     (is : IsIndex rows labels members holders) (taken : Among rows (n, keys)) (leaves : Leaves rows left n) (distinct : Once (map (λ (r : Row). r.0) left))
     (puts : PutsList members members' (label_in labels n) []) (are : AreOthers (members (label_in labels n)) n pending) (go : LetGo holders holders' keys n) where
-
   -- A pending row had the label of the one that was taken.
   pending-label : (x : ℕ) → Among pending x → label_in labels x ≡ label_in labels n
   pending-label x p = let r = is.of_list (label_in labels n) x (are.to x p).0 in r.3
@@ -50,9 +49,9 @@ module _ (rows left : List Row) (labels : List (ℕ × ℕ)) (members members' :
       let cr = leaves.cases r in_r in
       let cs = leaves.cases s in_s in
       elim (is.threads.tight r s cr.0 cs.0 e) [
-          inl one ↦ inl one
+        | inl one ↦ inl one
         | inr l ↦ inr (still-linked rows left (label_in labels) (label_in labels n) is.threads left-kept r s cr.0 cs.0 (shut-label r in_r shut_r) (shut-label s in_s shut_s) l)
-        ]
+      ]
 
   left-apart : (r s : Row) → Among left r → (Among pending r.0 → ⊥) → Among left s → Among pending s.0 → (k : List ℕ) → Among r.1 k → Among s.1 k → ⊥
   left-apart r s in_r shut in_s p k kr ks =
@@ -66,17 +65,17 @@ module _ (rows left : List Row) (labels : List (ℕ × ℕ)) (members members' :
 
   left-of : (l x : ℕ) → Among (members' l) x → (r : Row) × Among left r × (r.0 ≡ x) × (Among pending x → ⊥) × (label_in labels x ≡ l)
   left-of l x in_x = elim (cases_eq l (label_in labels n)) [
-      inl e ↦ absurd (subst (λ ns. Among ns x) (ap members' e ∙ put-here members members' (label_in labels n) [] puts) in_x)
+    | inl e ↦ absurd (subst (λ ns. Among ns x) (ap members' e ∙ put-here members members' (label_in labels n) [] puts) in_x)
     | inr other ↦
         let r = is.of_list l x (subst (λ ns. Among ns x) (left-list l other) in_x) in
         (r.0, leaves.kept r.0 (λ e. other (sym r.3 ∙ ap (label_in labels) (sym r.2 ∙ e))) r.1, r.2, λ p. other (sym r.3 ∙ pending-label x p), r.3)
-    ]
+  ]
 
   left-once : (l : ℕ) → Once (members' l)
   left-once l = elim (cases_eq l (label_in labels n)) [
-      inl e ↦ subst Once (sym (ap members' e ∙ put-here members members' (label_in labels n) [] puts)) tt
+    | inl e ↦ subst Once (sym (ap members' e ∙ put-here members members' (label_in labels n) [] puts)) tt
     | inr other ↦ subst Once (sym (left-list l other)) (is.once l)
-    ]
+  ]
 
   left-named : (r : Row) → Among left r → (Among pending r.0 → ⊥) → (s : Row) × Among left s × (Among pending s.0 → ⊥) × (s.0 ≡ label_in labels r.0) × (label_in labels s.0 ≡ label_in labels r.0)
   left-named r in_r shut =
@@ -95,10 +94,14 @@ module _ (rows left : List Row) (labels : List (ℕ × ℕ)) (members members' :
     distinct = distinct;
     held = λ r k in_r in_k. let c = leaves.cases r in_r in go.kept k r.0 (is.has.held r k c.0 in_k) c.1;
     holds = λ k x in_x.
-        let r = is.has.holds k x (go.less k x in_x) in
-        (r.0, leaves.kept r.0 (λ e.
-            let same : r.0 ≡ (n, keys) = once-single (λ (y : Row). y.0) rows is.has.distinct r.0 (n, keys) r.1 taken e in
-            go.gone k (subst (λ (y : Row). Among y.1 k) same r.3) (subst (Among (holders' k)) (sym r.2 ∙ e) in_x)) r.1, r.2, r.3);
+        let r = is.has.holds k x (go.less k x in_x) in (
+          r.0,
+          leaves.kept r.0 (λ e.
+              let same : r.0 ≡ (n, keys) = once-single (λ (y : Row). y.0) rows is.has.distinct r.0 (n, keys) r.1 taken e in
+              go.gone k (subst (λ (y : Row). Among y.1 k) same r.3) (subst (Among (holders' k)) (sym r.2 ∙ e) in_x)) r.1,
+          r.2,
+          r.3,
+        );
   }
 
   pub partial-begins : IsPartial left pending labels members' holders'

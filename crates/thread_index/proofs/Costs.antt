@@ -21,10 +21,10 @@ pub thread-list : (rows : List Row) (labels : List (ℕ × ℕ)) (members : ℕ 
 thread-list rows labels members holders is r in_r =
     let once : Once (numbers (thread rows r.1)) = once-filter (λ (x : Row). x.0) (shares (reached rows r.1)) rows is.has.distinct in
     let le : length (numbers (thread rows r.1)) ≤ length (members (label_in labels r.0)) = once-length (numbers (thread rows r.1)) (members (label_in labels r.0)) once (λ n h.
-            let s = among-mapped (λ (x : Row). x.0) (thread rows r.1) n h in
-            let in_s = thread-row rows r.1 s.0 s.1 in
-            let e : label_in labels r.0 ≡ label_in labels s.0.0 = linked-label rows (label_in labels) is.threads r s.0 in_r in_s (thread-linked rows r s.0 in_r s.1) in
-            subst (Among (members (label_in labels r.0))) s.2 (subst (λ l. Among (members l) s.0.0) (sym e) (is.in_list s.0 in_s))) in
+    let s = among-mapped (λ (x : Row). x.0) (thread rows r.1) n h in
+    let in_s = thread-row rows r.1 s.0 s.1 in
+    let e : label_in labels r.0 ≡ label_in labels s.0.0 = linked-label rows (label_in labels) is.threads r s.0 in_r in_s (thread-linked rows r s.0 in_r s.1) in
+    subst (Among (members (label_in labels r.0))) s.2 (subst (λ l. Among (members l) s.0.0) (sym e) (is.in_list s.0 in_s))) in
     let len : length (numbers (thread rows r.1)) ≡ length (thread rows r.1) = length-map (thread rows r.1) (λ (x : Row). x.0) in
     omega arith
 
@@ -58,12 +58,12 @@ module _ (rows : List Row) (labels : List (ℕ × ℕ)) (members mid : ℕ → L
   both-count : Among touched target → length moved + length (members target) ≤ length (thread rows keys)
   both-count t =
       let once : Once (moved ++ members target) = once-append moved (members target) moved-own (is.once target) (λ x in_moved in_target.
-              let g = gathers.from x in_moved in
-              let r = is.of_list g.0 x g.3 in
-              let s = is.of_list target x in_target in
-              g.2 (sym r.3 ∙ s.3)) in
+      let g = gathers.from x in_moved in
+      let r = is.of_list g.0 x g.3 in
+      let s = is.of_list target x in_target in
+      g.2 (sym r.3 ∙ s.3)) in
       let le : length (moved ++ members target) ≤ length (numbers (thread rows keys)) = once-length (moved ++ members target) (numbers (thread rows keys)) once (λ x h.
-              elim (among-append moved (members target) x h) [ inl a ↦ moved-thread x a | inr b ↦ listed-thread target x t b ]) in
+      elim (among-append moved (members target) x h) [ inl a ↦ moved-thread x a | inr b ↦ listed-thread target x t b ]) in
       let sum : length (moved ++ members target) ≡ length moved + length (members target) = length-append moved (members target) in
       let len = thread-count in
       omega arith
@@ -94,12 +94,12 @@ pub cost-of-take : (rows : List Row) (labels : List (ℕ × ℕ)) (members : ℕ
     → (before after : ℕ) → after ≡ before + length others → IsCostOfTake rows n before after
 cost-of-take rows labels members holders is n others are before after e = λ r in_r own.
     let le : length others ≤ length (numbers (thread rows r.1)) = once-length others (numbers (thread rows r.1)) are.once (λ x in_x.
-            let o = are.to x in_x in
-            let s = is.of_list (label_in labels n) x o.0 in
-            let same : label_in labels r.0 ≡ label_in labels s.0.0 = ap (label_in labels) own ∙ sym s.3 ∙ sym (ap (label_in labels) s.2) in
-            elim (is.threads.tight r s.0 in_r s.1 same) [
-              inl one ↦ absurd (o.1 (sym s.2 ∙ sym (ap (λ (y : Row). y.0) one) ∙ own))
-            | inr l ↦ subst (Among (numbers (thread rows r.1))) s.2 (among-map (λ (y : Row). y.0) (thread rows r.1) s.0 (linked-thread rows r s.0 s.1 l))
-            ]) in
+    let o = are.to x in_x in
+    let s = is.of_list (label_in labels n) x o.0 in
+    let same : label_in labels r.0 ≡ label_in labels s.0.0 = ap (label_in labels) own ∙ sym s.3 ∙ sym (ap (label_in labels) s.2) in
+    elim (is.threads.tight r s.0 in_r s.1 same) [
+      | inl one ↦ absurd (o.1 (sym s.2 ∙ sym (ap (λ (y : Row). y.0) one) ∙ own))
+      | inr l ↦ subst (Among (numbers (thread rows r.1))) s.2 (among-map (λ (y : Row). y.0) (thread rows r.1) s.0 (linked-thread rows r s.0 s.1 l))
+    ]) in
     let len : length (numbers (thread rows r.1)) ≡ length (thread rows r.1) = length-map (thread rows r.1) (λ (x : Row). x.0) in
     omega arith

@@ -24,13 +24,13 @@ pub touched-more : (rows : List Row) (labels : List (ℕ × ℕ)) (done later : 
     → IsTouched rows (label_in labels) done old → NotesLabel rows labels key old new → IsTouched rows (label_in labels) later new
 touched-more rows labels done later key old new cases kept here is notes = record {
   hit = λ s in_s k in_k in_later. elim (cases k in_later) [
-      inl a ↦ notes.kept (label_in labels s.0) (is.hit s in_s k in_k a)
+    | inl a ↦ notes.kept (label_in labels s.0) (is.hit s in_s k in_k a)
     | inr e ↦ notes.hit s in_s (subst (Among s.1) e in_k)
-    ];
+  ];
   only = λ l in_l. elim (notes.only l in_l) [
-      inl a ↦ let x = is.only l a in (x.0, x.1, x.2, x.3, x.4, kept x.1 x.5)
+    | inl a ↦ let x = is.only l a in (x.0, x.1, x.2, x.3, x.4, kept x.1 x.5)
     | inr x ↦ (x.0, key, x.1, x.2, x.3, here)
-    ];
+  ];
 }
 
 -- The same at so many keys of a list.
@@ -54,13 +54,13 @@ pub record IsTargetOf (members : ℕ → List ℕ) (touched done : List ℕ) (ta
 pub target-take : (members : ℕ → List ℕ) (touched : List ℕ) (i d target target' : ℕ) → i < length touched → IsTargetOf members touched (take i touched) target → IsLonger members target (get_or touched i d) target' → IsTargetOf members touched (take (i + 1) touched) target'
 target-take members touched i d target target' in' is longer = record {
   one = elim longer.one [
-      inl e ↦ subst (Among touched) (sym e) is.one
+    | inl e ↦ subst (Among touched) (sym e) is.one
     | inr e ↦ subst (Among touched) (sym e) (take-among touched (i + 1) (get_or touched i d) (take-new touched i d in'))
-    ];
+  ];
   most = λ l in_l. elim (take-cases touched i d l in' in_l) [
-      inl a ↦ let one : length (members l) ≤ length (members target) = is.most l a in let two = longer.first in omega arith
+    | inl a ↦ let one : length (members l) ≤ length (members target) = is.most l a in let two = longer.first in omega arith
     | inr e ↦ subst (λ m. length (members m) ≤ length (members target')) (sym e) longer.second
-    ];
+  ];
 }
 
 pub target-all : (members : ℕ → List ℕ) (touched : List ℕ) (i n target : ℕ) → length touched ≤ i → IsTargetOf members touched (take i touched) target → IsTarget members touched n target
@@ -106,9 +106,9 @@ module _ (old mid new : ℕ → List ℕ) (done later : List ℕ) (label target 
   -- What a label still has is what it had.
   mid-old : (l n : ℕ) → (l ≡ target → ⊥) → Among (mid l) n → Among (old l) n
   mid-old l n other in_n = elim (cases_among done l) [
-      inl a ↦ absurd (subst (λ ns. Among ns n) (is.emptied l a other) in_n)
+    | inl a ↦ absurd (subst (λ ns. Among ns n) (is.emptied l a other) in_n)
     | inr f ↦ subst (λ ns. Among ns n) (is.stay l (λ a. absurd (f a))) in_n
-    ]
+  ]
 
   moved-old : (n : ℕ) → (label ≡ target → ⊥) → Among moved' n → Among moved n ⊎ Among (mid label) n
   moved-old n other in_n = among-append moved (mid label) n (subst (λ ns. Among ns n) (moves.goes other).0 in_n)
@@ -118,40 +118,40 @@ module _ (old mid new : ℕ → List ℕ) (done later : List ℕ) (label target 
 
   mid-once : (label ≡ target → ⊥) → ((l : ℕ) → Once (old l)) → Once (mid label)
   mid-once other o = elim (cases_among done label) [
-      inl a ↦ subst Once (sym (is.emptied label a other)) tt
+    | inl a ↦ subst Once (sym (is.emptied label a other)) tt
     | inr f ↦ subst Once (sym (is.stay label (λ a. absurd (f a)))) (o label)
-    ]
+  ]
 
   gather-all : (label ≡ target → ⊥) → (l n : ℕ) → Among later l → (l ≡ target → ⊥) → Among (old l) n → Among moved' n
   gather-all other l n in_l apart in_n = elim (cases_among done l) [
-      inl a ↦ old-moved n other (is.all l n a apart in_n)
+    | inl a ↦ old-moved n other (is.all l n a apart in_n)
     | inr f ↦ elim (cases l in_l) [
-          inl a ↦ absurd (f a)
-        | inr e ↦ subst (λ ns. Among ns n) (sym (moves.goes other).0)
-            (among-right moved (mid label) n (subst (λ m. Among (mid m) n) e (subst (λ ns. Among ns n) (sym (is.stay l (λ a. absurd (f a)))) in_n)))
-        ]
+      | inl a ↦ absurd (f a)
+      | inr e ↦ subst (λ ns. Among ns n) (sym (moves.goes other).0)
+          (among-right moved (mid label) n (subst (λ m. Among (mid m) n) e (subst (λ ns. Among ns n) (sym (is.stay l (λ a. absurd (f a)))) in_n)))
     ]
+  ]
 
   gather-emptied : (label ≡ target → ⊥) → (l : ℕ) → Among later l → (l ≡ target → ⊥) → new l ≡ []
   gather-emptied other l in_l apart = elim (cases_eq l label) [
-      inl e ↦ ap new e ∙ gone-here other
+    | inl e ↦ ap new e ∙ gone-here other
     | inr f ↦ elim (cases l in_l) [
-          inl a ↦ gone-other other l f ∙ is.emptied l a apart
-        | inr e ↦ absurd (f e)
-        ]
+      | inl a ↦ gone-other other l f ∙ is.emptied l a apart
+      | inr e ↦ absurd (f e)
     ]
+  ]
 
   gather-stay : (label ≡ target → ⊥) → (l : ℕ) → (Among later l → l ≡ target) → new l ≡ old l
   gather-stay other l f = elim (cases_eq l label) [
-      inl e ↦ absurd (other (sym e ∙ f (subst (Among later) (sym e) here)))
+    | inl e ↦ absurd (other (sym e ∙ f (subst (Among later) (sym e) here)))
     | inr g ↦ gone-other other l g ∙ is.stay l (λ a. f (kept l a))
-    ]
+  ]
 
   gather-from : (label ≡ target → ⊥) → (n : ℕ) → Among moved' n → (l : ℕ) × Among later l × (l ≡ target → ⊥) × Among (old l) n
   gather-from other n in_n = elim (moved-old n other in_n) [
-      inl a ↦ let x = is.from n a in (x.0, kept x.0 x.1, x.2, x.3)
+    | inl a ↦ let x = is.from n a in (x.0, kept x.0 x.1, x.2, x.3)
     | inr b ↦ (label, here, other, mid-old label n other b)
-    ]
+  ]
 
   gather-once : (label ≡ target → ⊥) → ((l : ℕ) → Once (old l)) → ((l m n : ℕ) → Among (old l) n → Among (old m) n → l ≡ m) → Once moved'
   gather-once other o apart = subst Once (sym (moves.goes other).0) (once-append moved (mid label) (is.once o apart) (mid-once other o) (λ n in_moved in_mid.
@@ -161,15 +161,15 @@ module _ (old mid new : ℕ → List ℕ) (done later : List ℕ) (label target 
 
   pub gathers-more : Gathers old new later target moved'
   gathers-more = elim (cases_eq label target) [
-      inl own ↦ same-target own
+    | inl own ↦ same-target own
     | inr other ↦ record {
-        emptied = gather-emptied other;
-        stay = gather-stay other;
-        from = gather-from other;
-        all = gather-all other;
-        once = gather-once other;
-      }
-    ]
+      emptied = gather-emptied other;
+      stay = gather-stay other;
+      from = gather-from other;
+      all = gather-all other;
+      once = gather-once other;
+    }
+  ]
 
 pub gathers-take : (old mid new : ℕ → List ℕ) (touched : List ℕ) (i d target : ℕ) (moved moved' : List ℕ) → i < length touched → Gathers old mid (take i touched) target moved → MovesList mid new (get_or touched i d) target moved moved' → Gathers old new (take (i + 1) touched) target moved'
 gathers-take old mid new touched i d target moved moved' in' is moves =
@@ -191,12 +191,12 @@ gives-none labels label = record { given = λ n none. absurd none; kept = λ n f
 pub gives-take : (old mid new : List (ℕ × ℕ)) (ns : List ℕ) (i d label : ℕ) → i < length ns → GiveLabel old mid (take i ns) label → Sets mid new (get_or ns i d) label → GiveLabel old new (take (i + 1) ns) label
 gives-take old mid new ns i d label in' is sets = record {
   given = λ n in_n. elim (cases_eq (get_or ns i d) n) [
-      inl e ↦ sets n ∙ ap (λ (t : Bool). if t then Some label else label_at mid n) (eq-eqb (get_or ns i d) n e)
+    | inl e ↦ sets n ∙ ap (λ (t : Bool). if t then Some label else label_at mid n) (eq-eqb (get_or ns i d) n e)
     | inr f ↦ elim (take-cases ns i d n in' in_n) [
-          inl a ↦ sets n ∙ ap (λ (t : Bool). if t then Some label else label_at mid n) (ne_eqb (get_or ns i d) n f) ∙ is.given n a
-        | inr e ↦ absurd (f (sym e))
-        ]
-    ];
+      | inl a ↦ sets n ∙ ap (λ (t : Bool). if t then Some label else label_at mid n) (ne_eqb (get_or ns i d) n f) ∙ is.given n a
+      | inr e ↦ absurd (f (sym e))
+    ]
+  ];
   kept = λ n f.
       sets n
       ∙ ap (λ (t : Bool). if t then Some label else label_at mid n) (ne_eqb (get_or ns i d) n (λ e. f (subst (Among (take (i + 1) ns)) e (take-new ns i d in'))))
@@ -220,40 +220,40 @@ held-none old n = record {
 pub held-one : (old new : List ℕ → List ℕ) (key : List ℕ) (n : ℕ) → PutsKey old new key (old key ++ n ∷ []) → HeldBy old new (key ∷ []) n
 held-one old new key n puts = record {
   kept = λ k m h. elim (cases_Bool (bytes_eq k key)) [
-      inl t ↦
+    | inl t ↦
         let e : k ≡ key = (bytes_eq-Decides k key).0 t in
         subst (λ ns. Among ns m) (sym (ap new e ∙ key-here old new key (old key ++ n ∷ []) puts)) (among-left (old key) (n ∷ []) m (subst (λ q. Among (old q) m) e h))
     | inr f ↦ subst (λ ns. Among ns m) (sym (key-other old new key (old key ++ n ∷ []) puts k f)) h
-    ];
+  ];
   new' = λ k in_k. elim in_k [
-      inl e ↦ subst (λ ns. Among ns n) (sym (ap new e ∙ key-here old new key (old key ++ n ∷ []) puts)) (among-pushed (old key) n)
+    | inl e ↦ subst (λ ns. Among ns n) (sym (ap new e ∙ key-here old new key (old key ++ n ∷ []) puts)) (among-pushed (old key) n)
     | inr none ↦ absurd none
-    ];
+  ];
   cases = λ k m h. elim (cases_Bool (bytes_eq k key)) [
-      inl t ↦
+    | inl t ↦
         let e : k ≡ key = (bytes_eq-Decides k key).0 t in
         elim (among-push (old key) n m (subst (λ ns. Among ns m) (ap new e ∙ key-here old new key (old key ++ n ∷ []) puts) h)) [
-          inl a ↦ inl (subst (λ q. Among (old q) m) (sym e) a)
-        | inr is ↦ inr (is, inl e)
+          | inl a ↦ inl (subst (λ q. Among (old q) m) (sym e) a)
+          | inr is ↦ inr (is, inl e)
         ]
     | inr f ↦ inl (subst (λ ns. Among ns m) (key-other old new key (old key ++ n ∷ []) puts k f) h)
-    ];
+  ];
 }
 
 pub held-take : (old mid new : List ℕ → List ℕ) (keys : List (List ℕ)) (i : ℕ) (d : List ℕ) (n : ℕ) → i < length keys → HeldBy old mid (take i keys) n → HeldBy mid new (get_or keys i d ∷ []) n → HeldBy old new (take (i + 1) keys) n
 held-take old mid new keys i d n in' is one = record {
   kept = λ k m h. one.kept k m (is.kept k m h);
   new' = λ k in_k. elim (take-cases keys i d k in' in_k) [
-      inl a ↦ one.kept k n (is.new' k a)
+    | inl a ↦ one.kept k n (is.new' k a)
     | inr e ↦ one.new' k (inl e)
-    ];
+  ];
   cases = λ k m h. elim (one.cases k m h) [
-      inl a ↦ elim (is.cases k m a) [
-          inl b ↦ inl b
-        | inr b ↦ inr (b.0, take-old keys i d k in' b.1)
-        ]
+    | inl a ↦ elim (is.cases k m a) [
+      | inl b ↦ inl b
+      | inr b ↦ inr (b.0, take-old keys i d k in' b.1)
+    ]
     | inr b ↦ inr (b.0, elim b.1 [ inl e ↦ subst (Among (take (i + 1) keys)) (sym e) (take-new keys i d in') | inr none ↦ absurd none ])
-    ];
+  ];
 }
 
 pub held-all : (old new : List ℕ → List ℕ) (keys : List (List ℕ)) (i n : ℕ) → length keys ≤ i → HeldBy old new (take i keys) n → HeldBy old new keys n

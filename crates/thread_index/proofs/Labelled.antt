@@ -15,13 +15,12 @@ use Rattle.thread_index.proofs.Added.{label-found, found-label}
 
 module _ (rows : List Row) (holders : List ℕ → List ℕ) (pending pending' : List ℕ) (labels labels' : List (ℕ × ℕ)) (members members' : ℕ → List ℕ) (seed : ℕ) (part : List ℕ)
     (is : IsPartial rows (seed ∷ pending) labels members holders) (walked : IsPart rows holders pending pending' seed part (length part)) (gives : GiveLabel labels labels' part seed) (puts : PutsList members members' seed part) where
-
   -- A number that isn't pending any more is in the part, or was not pending before.
   was-shut : (x : ℕ) → (Among pending' x → ⊥) → (Among part x → ⊥) → Among (seed ∷ pending) x → ⊥
   was-shut x shut out p = elim p [
-      inl e ↦ out (subst (Among part) (sym e) walked.seeded)
+    | inl e ↦ out (subst (Among part) (sym e) walked.seeded)
     | inr h ↦ elim (walked.split x h) [ inl q ↦ shut q | inr a ↦ out a ]
-    ]
+  ]
 
   part-pending : (x : ℕ) → Among part x → Among (seed ∷ pending) x
   part-pending x a = walked.from x a
@@ -49,15 +48,15 @@ module _ (rows : List Row) (holders : List ℕ → List ℕ) (pending pending' :
 
   more-sound : (r s : Row) → Among rows r → (Among pending' r.0 → ⊥) → Among rows s → (Among pending' s.0 → ⊥) → (k : List ℕ) → Among r.1 k → Among s.1 k → label_in labels' r.0 ≡ label_in labels' s.0
   more-sound r s in_r shut_r in_s shut_s k kr ks = elim (cases_among part r.0) [
-      inl a ↦ elim (cases_among part s.0) [
-          inl b ↦ label-part r.0 a ∙ sym (label-part s.0 b)
-        | inr out ↦ absurd (part-old r s in_r a in_s (was-shut s.0 shut_s out) k kr ks)
-        ]
-    | inr out ↦ elim (cases_among part s.0) [
-          inl b ↦ absurd (part-old s r in_s b in_r (was-shut r.0 shut_r out) k ks kr)
-        | inr off ↦ label-other r.0 out ∙ is.sound r s in_r (was-shut r.0 shut_r out) in_s (was-shut s.0 shut_s off) k kr ks ∙ sym (label-other s.0 off)
-        ]
+    | inl a ↦ elim (cases_among part s.0) [
+      | inl b ↦ label-part r.0 a ∙ sym (label-part s.0 b)
+      | inr out ↦ absurd (part-old r s in_r a in_s (was-shut s.0 shut_s out) k kr ks)
     ]
+    | inr out ↦ elim (cases_among part s.0) [
+      | inl b ↦ absurd (part-old s r in_s b in_r (was-shut r.0 shut_r out) k ks kr)
+      | inr off ↦ label-other r.0 out ∙ is.sound r s in_r (was-shut r.0 shut_r out) in_s (was-shut s.0 shut_s off) k kr ks ∙ sym (label-other s.0 off)
+    ]
+  ]
 
   -- The row of the first number.
   seed-row : (z : Row) × Among rows z × (z.0 ≡ seed)
@@ -67,39 +66,39 @@ module _ (rows : List Row) (holders : List ℕ → List ℕ) (pending pending' :
   part-tight r s in_r a in_s b =
       let z = seed-row in
       elim (walked.joined r z.0 in_r a z.1 z.2) [
-          inl e ↦ elim (walked.joined s z.0 in_s b z.1 z.2) [
-              inl f ↦ inl (e ∙ sym f)
-            | inr l ↦ inr (linked-sym rows s r (subst (Linked rows s) (sym e) l))
-            ]
-        | inr l ↦ elim (walked.joined s z.0 in_s b z.1 z.2) [
-              inl f ↦ inr (subst (Linked rows r) (sym f) l)
-            | inr m ↦ inr (linked-trans rows r z.0 s z.1 l (linked-sym rows s z.0 m))
-            ]
+        | inl e ↦ elim (walked.joined s z.0 in_s b z.1 z.2) [
+          | inl f ↦ inl (e ∙ sym f)
+          | inr l ↦ inr (linked-sym rows s r (subst (Linked rows s) (sym e) l))
         ]
+        | inr l ↦ elim (walked.joined s z.0 in_s b z.1 z.2) [
+          | inl f ↦ inr (subst (Linked rows r) (sym f) l)
+          | inr m ↦ inr (linked-trans rows r z.0 s z.1 l (linked-sym rows s z.0 m))
+        ]
+      ]
 
   more-tight : (r s : Row) → Among rows r → (Among pending' r.0 → ⊥) → Among rows s → (Among pending' s.0 → ⊥) → label_in labels' r.0 ≡ label_in labels' s.0 → (r ≡ s) ⊎ Linked rows r s
   more-tight r s in_r shut_r in_s shut_s e = elim (cases_among part r.0) [
-      inl a ↦ elim (cases_among part s.0) [
-          inl b ↦ part-tight r s in_r a in_s b
-        | inr out ↦ absurd (not-seed s in_s (was-shut s.0 shut_s out) (sym (label-other s.0 out) ∙ sym e ∙ label-part r.0 a))
-        ]
-    | inr out ↦ elim (cases_among part s.0) [
-          inl b ↦ absurd (not-seed r in_r (was-shut r.0 shut_r out) (sym (label-other r.0 out) ∙ e ∙ label-part s.0 b))
-        | inr off ↦ is.tight r s in_r (was-shut r.0 shut_r out) in_s (was-shut s.0 shut_s off) (sym (label-other r.0 out) ∙ e ∙ label-other s.0 off)
-        ]
+    | inl a ↦ elim (cases_among part s.0) [
+      | inl b ↦ part-tight r s in_r a in_s b
+      | inr out ↦ absurd (not-seed s in_s (was-shut s.0 shut_s out) (sym (label-other s.0 out) ∙ sym e ∙ label-part r.0 a))
     ]
+    | inr out ↦ elim (cases_among part s.0) [
+      | inl b ↦ absurd (not-seed r in_r (was-shut r.0 shut_r out) (sym (label-other r.0 out) ∙ e ∙ label-part s.0 b))
+      | inr off ↦ is.tight r s in_r (was-shut r.0 shut_r out) in_s (was-shut s.0 shut_s off) (sym (label-other r.0 out) ∙ e ∙ label-other s.0 off)
+    ]
+  ]
 
   more-apart : (r s : Row) → Among rows r → (Among pending' r.0 → ⊥) → Among rows s → Among pending' s.0 → (k : List ℕ) → Among r.1 k → Among s.1 k → ⊥
   more-apart r s in_r shut in_s p k kr ks = elim (cases_among part r.0) [
-      inl a ↦ part-apart r s in_r a in_s p k kr ks
+    | inl a ↦ part-apart r s in_r a in_s p k kr ks
     | inr out ↦ is.apart r s in_r (was-shut r.0 shut out) in_s (inr (walked.less s.0 p)) k kr ks
-    ]
+  ]
 
   more-labelled : (r : Row) → Among rows r → (Among pending' r.0 → ⊥) → label_at labels' r.0 ≡ Some (label_in labels' r.0)
   more-labelled r in_r shut = elim (cases_among part r.0) [
-      inl a ↦ found-label (label_at labels' r.0) seed (gives.given r.0 a)
+    | inl a ↦ found-label (label_at labels' r.0) seed (gives.given r.0 a)
     | inr out ↦ found-label (label_at labels' r.0) (label_in labels r.0) (gives.kept r.0 out ∙ is.labelled r in_r (was-shut r.0 shut out))
-    ]
+  ]
 
   list-seed : members' seed ≡ part
   list-seed = put-here members members' seed part puts
@@ -109,36 +108,36 @@ module _ (rows : List Row) (holders : List ℕ → List ℕ) (pending pending' :
 
   more-in : (r : Row) → Among rows r → (Among pending' r.0 → ⊥) → Among (members' (label_in labels' r.0)) r.0
   more-in r in_r shut = elim (cases_among part r.0) [
-      inl a ↦ subst (λ ns. Among ns r.0) (sym (ap members' (label-part r.0 a) ∙ list-seed)) a
+    | inl a ↦ subst (λ ns. Among ns r.0) (sym (ap members' (label-part r.0 a) ∙ list-seed)) a
     | inr out ↦
         let before : Among (seed ∷ pending) r.0 → ⊥ = was-shut r.0 shut out in
         let e : members' (label_in labels' r.0) ≡ members (label_in labels r.0) = ap members' (label-other r.0 out) ∙ list-rest (label_in labels r.0) (not-seed r in_r before) in
         subst (λ ns. Among ns r.0) (sym e) (is.in_list r in_r before)
-    ]
+  ]
 
   part-row : (x : ℕ) → Among part x → (r : Row) × Among rows r × (r.0 ≡ x)
   part-row x a = is.opened x (part-pending x a)
 
   more-of : (l x : ℕ) → Among (members' l) x → (r : Row) × Among rows r × (r.0 ≡ x) × (Among pending' x → ⊥) × (label_in labels' x ≡ l)
   more-of l x in_x = elim (cases_eq l seed) [
-      inl e ↦
+    | inl e ↦
         let a : Among part x = subst (λ ns. Among ns x) (ap members' e ∙ list-seed) in_x in
         let r = part-row x a in
         (r.0, r.1, r.2, λ p. walked.apart x p a, label-part x a ∙ sym e)
     | inr other ↦
         let r = is.of_list l x (subst (λ ns. Among ns x) (list-rest l other) in_x) in
         (r.0, r.1, r.2, still-shut x r.3, label-other x (λ a. r.3 (part-pending x a)) ∙ r.4)
-    ]
+  ]
 
   more-once : (l : ℕ) → Once (members' l)
   more-once l = elim (cases_eq l seed) [
-      inl e ↦ subst Once (sym (ap members' e ∙ list-seed)) walked.once
+    | inl e ↦ subst Once (sym (ap members' e ∙ list-seed)) walked.once
     | inr other ↦ subst Once (sym (list-rest l other)) (is.once l)
-    ]
+  ]
 
   more-named : (r : Row) → Among rows r → (Among pending' r.0 → ⊥) → (s : Row) × Among rows s × (Among pending' s.0 → ⊥) × (s.0 ≡ label_in labels' r.0) × (label_in labels' s.0 ≡ label_in labels' r.0)
   more-named r in_r shut = elim (cases_among part r.0) [
-      inl a ↦
+    | inl a ↦
         let z = seed-row in
         let in_z : Among part z.0.0 = subst (Among part) (sym z.2) walked.seeded in
         (z.0, z.1, λ p. walked.apart z.0.0 p in_z, z.2 ∙ sym (label-part r.0 a), label-part z.0.0 in_z ∙ sym (label-part r.0 a))
@@ -146,7 +145,7 @@ module _ (rows : List Row) (holders : List ℕ → List ℕ) (pending pending' :
         let s = is.named r in_r (was-shut r.0 shut out) in
         let e : label_in labels' r.0 ≡ label_in labels r.0 = label-other r.0 out in
         (s.0, s.1, still-shut s.0.0 s.2, s.3 ∙ sym e, label-other s.0.0 (λ a. s.2 (part-pending s.0.0 a)) ∙ s.4 ∙ sym e)
-    ]
+  ]
 
   pub partial-more : IsPartial rows pending' labels' members' holders
   partial-more = record {

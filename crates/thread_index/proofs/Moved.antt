@@ -42,17 +42,17 @@ moves-one pending pending' part part' n once here is len sorted pushed = record 
   from = λ x in_x. (in_x, elim in_x [ inl e ↦ subst (Among pending) (sym e) here | inr none ↦ absurd none ]);
   less = λ x h. (key-removed pending n once x (subst (λ ks. Among ks x) is h)).0;
   split = λ x h. elim (cases_eq x n) [
-      inl e ↦ inr (inl e)
+    | inl e ↦ inr (inl e)
     | inr other ↦ inl (subst (λ ks. Among ks x) (sym is) (key-left pending n x other h))
-    ];
+  ];
   apart = λ x h in_x. elim in_x [
-      inl e ↦ (key-removed pending n once x (subst (λ ks. Among ks x) is h)).1 e
+    | inl e ↦ (key-removed pending n once x (subst (λ ks. Among ks x) is h)).1 e
     | inr none ↦ none
-    ];
+  ];
   gone = λ x in_x h. elim in_x [
-      inl e ↦ (key-removed pending n once x (subst (λ ks. Among ks x) is h)).1 e
+    | inl e ↦ (key-removed pending n once x (subst (λ ks. Among ks x) is h)).1 e
     | inr none ↦ none
-    ];
+  ];
   size = let e : length part' ≡ length part + 1 = ap length pushed ∙ length_push part n in omega arith;
   once = sorted-once pending' sorted;
   once_xs = ((λ none. none), tt);
@@ -65,18 +65,18 @@ moves-then First Second Both pending mid pending' part part' part'' a b cases on
   xs = a.xs ++ b.xs;
   is = b.is ∙ ap (λ (ns : List ℕ). ns ++ b.xs) a.is ∙ append_assoc part a.xs b.xs;
   from = λ x h. elim (among-append a.xs b.xs x h) [
-      inl i ↦ let r = a.from x i in (one x r.0, r.1)
+    | inl i ↦ let r = a.from x i in (one x r.0, r.1)
     | inr j ↦ let r = b.from x j in (two x r.0, a.less x r.1)
-    ];
+  ];
   less = λ x h. a.less x (b.less x h);
   split = λ x h. elim (a.split x h) [
-      inl m ↦ elim (b.split x m) [ inl p ↦ inl p | inr j ↦ inr (among-right a.xs b.xs x j) ]
+    | inl m ↦ elim (b.split x m) [ inl p ↦ inl p | inr j ↦ inr (among-right a.xs b.xs x j) ]
     | inr i ↦ inr (among-left a.xs b.xs x i)
-    ];
+  ];
   apart = λ x h in_x. elim (among-append a.xs b.xs x in_x) [
-      inl i ↦ a.apart x (b.less x h) i
+    | inl i ↦ a.apart x (b.less x h) i
     | inr j ↦ b.apart x h j
-    ];
+  ];
   gone = λ x k h. elim (cases x k) [ inl f ↦ a.gone x f (b.less x h) | inr s ↦ b.gone x s h ];
   size = let s : length part' + length mid ≡ length part + length pending = a.size in let t = b.size in omega arith;
   once = b.once;
@@ -130,8 +130,8 @@ row-shares rows holders n keys pending pending' part part' are in_row a =
     moves-as (HoldsOne holders keys) (SharesKey rows holders n) pending pending' part part' a
     (λ x h. ((n, keys), h.0, in_row, refl, h.1, h.2))
     (λ x h.
-        let e : h.0 ≡ (n, keys) = once-single (λ (r : Row). r.0) rows are.distinct h.0 (n, keys) h.2 in_row h.3 in
-        (h.1, subst (λ (r : Row). Among r.1 h.1) e h.4, h.5))
+    let e : h.0 ≡ (n, keys) = once-single (λ (r : Row). r.0) rows are.distinct h.0 (n, keys) h.2 in_row h.3 in
+    (h.1, subst (λ (r : Row). Among r.1 h.1) e h.4, h.5))
 
 -- What was seen.
 pub seen-none : (seen : BTreeSet (Vec ℕ)) (holders : List ℕ → List ℕ) (pending : List ℕ) → seen.keys ≡ [] → AreSeen seen holders pending
@@ -147,9 +147,9 @@ pub seen-more : (seen seen' : BTreeSet (Vec ℕ)) (holders : List ℕ → List �
 seen-more seen seen' holders pending key bytes is put are gone = record {
   shut = λ k t x h p.
       elim (any-inserted (λ (a b : Vec ℕ). slice_cmp nat_cmp a.items b.items) (is_at (λ (v : Vec ℕ). slice_cmp nat_cmp k v.items)) seen.keys key (sym (ap (list_any (is_at (λ (v : Vec ℕ). slice_cmp nat_cmp k v.items))) put) ∙ t)) [
-        inl one ↦
-          let e : k ≡ bytes = (bytes_eq-Decides k key.items).0 (sym (is_eq-slice_cmp k key.items) ∙ one) ∙ is in
-          gone x (subst (λ q. Among (holders q) x) e h) p
-      | inr more ↦ are.shut k more x h p
+        | inl one ↦
+            let e : k ≡ bytes = (bytes_eq-Decides k key.items).0 (sym (is_eq-slice_cmp k key.items) ∙ one) ∙ is in
+            gone x (subst (λ q. Among (holders q) x) e h) p
+        | inr more ↦ are.shut k more x h p
       ];
 }

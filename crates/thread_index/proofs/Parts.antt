@@ -22,13 +22,14 @@ part-begins rows holders pending part seed are once fresh is = record {
   apart = λ x h in_x. elim (alone part seed is x in_x) [ inl e ↦ fresh (subst (Among pending) e h) | inr none ↦ none ];
   closed = λ n x none. absurd none;
   joined = λ r s in_r in_part in_s own. elim (alone part seed is r.0 in_part) [
-      inl e ↦ inl (once-single (λ (y : Row). y.0) rows are.distinct r s in_r in_s (e ∙ sym own))
+    | inl e ↦ inl (once-single (λ (y : Row). y.0) rows are.distinct r s in_r in_s (e ∙ sym own))
     | inr none ↦ absurd none
-    ];
+  ];
   size = let e : length part ≡ 1 = ap length is in omega arith;
   once = subst Once (sym is) ((λ none. none), tt);
   once_pending = once;
 }
+
 -- One row more was visited.
 module _ (rows : List Row) (holders : List ℕ → List ℕ) (pending mid pending' : List ℕ) (seed : ℕ) (part part' : List ℕ) (i n : ℕ) (are : AreHolders rows holders) (in' : i < length part) (here : n ≡ get_or part i 0) (is : IsPart rows holders pending mid seed part i) (moves : Moves (SharesKey rows holders n) mid pending' part part') where
   part-cases : (x : ℕ) → Among part' x → Among part x ⊎ Among moves.xs x
@@ -49,15 +50,15 @@ module _ (rows : List Row) (holders : List ℕ → List ℕ) (pending mid pendin
       let first : take i part' ≡ take i part = ap (take i) moves.is ∙ take-append-le i part moves.xs below in
       let last : get_or part' i 0 ≡ get_or part i 0 = ap (λ (ns : List ℕ). get_or ns i 0) moves.is ∙ get_or_append_left part moves.xs 0 i in' in
       elim (take-cases part' i 0 m inside h) [
-          inl a ↦ inl (subst (λ ns. Among ns m) first a)
+        | inl a ↦ inl (subst (λ ns. Among ns m) first a)
         | inr e ↦ inr (e ∙ last ∙ sym here)
-        ]
+      ]
 
   closed-more : (m x : ℕ) → Among (take (i + 1) part') m → SharesKey rows holders m x → Among pending' x → ⊥
   closed-more m x h shares p = elim (front-cases m h) [
-      inl a ↦ is.closed m x a shares (moves.less x p)
+    | inl a ↦ is.closed m x a shares (moves.less x p)
     | inr e ↦ moves.gone x (subst (λ k. SharesKey rows holders k x) e shares) p
-    ]
+  ]
 
   in-visited : Among part n
   in-visited = subst (Among part) (sym here) (get-among part i 0 in')
@@ -71,15 +72,15 @@ module _ (rows : List Row) (holders : List ℕ → List ℕ) (pending mid pendin
       let to : Linked rows r x.0 = linked-key rows r x.0 x.1 (subst (λ (y : Row). Among y.1 x.1) same q.3) x.4 in
       let in_front : Among part x.0.0 = subst (Among part) (sym x.3) in-visited in
       elim (is.joined x.0 s x.2 in_front in_s own) [
-          inl e ↦ subst (Linked rows r) e to
+        | inl e ↦ subst (Linked rows r) e to
         | inr l ↦ linked-trans rows r x.0 s x.2 to l
-        ]
+      ]
 
   joined-more : (r s : Row) → Among rows r → Among part' r.0 → Among rows s → s.0 ≡ seed → (r ≡ s) ⊎ Linked rows r s
   joined-more r s in_r in_part in_s own = elim (part-cases r.0 in_part) [
-      inl a ↦ is.joined r s in_r a in_s own
+    | inl a ↦ is.joined r s in_r a in_s own
     | inr b ↦ inr (joined-new r s in_r b in_s own)
-    ]
+  ]
 
   pub part-more : IsPart rows holders pending pending' seed part' (i + 1)
   part-more = record {
@@ -87,13 +88,13 @@ module _ (rows : List Row) (holders : List ℕ → List ℕ) (pending mid pendin
     from = λ x h. elim (part-cases x h) [ inl a ↦ is.from x a | inr b ↦ inr (is.less x (moves.from x b).1) ];
     less = λ x h. is.less x (moves.less x h);
     split = λ x h. elim (is.split x h) [
-        inl m ↦ elim (moves.split x m) [ inl p ↦ inl p | inr b ↦ inr (part-new x b) ]
+      | inl m ↦ elim (moves.split x m) [ inl p ↦ inl p | inr b ↦ inr (part-new x b) ]
       | inr a ↦ inr (part-old x a)
-      ];
+    ];
     apart = λ x h in_x. elim (part-cases x in_x) [
-        inl a ↦ is.apart x (moves.less x h) a
+      | inl a ↦ is.apart x (moves.less x h) a
       | inr b ↦ moves.apart x h b
-      ];
+    ];
     closed = closed-more;
     joined = joined-more;
     size = let s : length part + length mid ≡ 1 + length pending = is.size in let t = moves.size in omega arith;

@@ -99,12 +99,7 @@ pub(crate) fn append(
 }
 
 /// Appends a number to the list of a key.
-fn hold_one(
-    alloc: Global,
-    holders: &mut ListsByKey,
-    key: &[u8],
-    n: u32,
-) -> Result<(), NoMemory>
+fn hold_one(alloc: Global, holders: &mut ListsByKey, key: &[u8], n: u32) -> Result<(), NoMemory>
     ensures { OnOk result (HeldBy (list_at_key holders.old) (list_at_key holders.new) (key.now ∷ []) n) }
 {
     let mut list = take_key(alloc, holders, key);

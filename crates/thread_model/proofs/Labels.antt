@@ -40,8 +40,9 @@ linked-label rows label is r s in_r in_s l =
 -- Labels stand for threads.
 pub labels-threads : (rows : List Row) (label : ℕ → ℕ) → IsLabelling rows label → AreThreads rows label
 labels-threads rows label is = λ r s in_r in_s. (
-    λ e. elim (is.tight r s in_r in_s e) [ inl same ↦ inl same | inr l ↦ inr (linked-thread rows r s in_s l) ],
-    λ one. elim one [ inl same ↦ ap (λ (x : Row). label x.0) same | inr h ↦ linked-label rows label is r s in_r in_s (thread-linked rows r s in_r h) ])
+  λ e. elim (is.tight r s in_r in_s e) [ inl same ↦ inl same | inr l ↦ inr (linked-thread rows r s in_s l) ],
+  λ one. elim one [ inl same ↦ ap (λ (x : Row). label x.0) same | inr h ↦ linked-label rows label is r s in_r in_s (thread-linked rows r s in_r h) ],
+)
 
 -- A list of rows with one row more, in any order.
 pub record Adds (rows later : List Row) (row : Row) : Type 0 where
@@ -68,9 +69,9 @@ module _ (rows : List Row) (label : ℕ → ℕ) (keys : List (List ℕ)) (touch
   -- A row with a key that is the new row's, or that a row of a touched label holds, has a touched label.
   reached-touched : (s : Row) → Among rows s → (k : List ℕ) → Among s.1 k → (has keys k || holds_touched rows label touched k) ≡ true → Among touched (label s.0)
   reached-touched s in_s k in_k t = elim (or_cases (has keys k) (holds_touched rows label touched k) t) [
-      inl a ↦ hits.hit s in_s k in_k (has-among keys k a)
+    | inl a ↦ hits.hit s in_s k in_k (has-among keys k a)
     | inr b ↦ let x = touched-holder rows label touched k b in subst (Among touched) (is.sound x.0 s x.1 in_s k x.3 in_k) x.2
-    ]
+  ]
 
   touched-respects : Respects (λ k. has keys k || holds_touched rows label touched k) rows
   touched-respects = record {
@@ -95,12 +96,12 @@ module _ (rows : List Row) (label : ℕ → ℕ) (keys : List (List ℕ)) (touch
   touched-thread s in_s t =
       let x = hits.only (label s.0) t in
       elim (is.tight x.0 s x.2 in_s x.3) [
-          inl same ↦ among-filtered (shares (reached rows keys)) rows s in_s
+        | inl same ↦ among-filtered (shares (reached rows keys)) rows s in_s
             (key-shares (reached rows keys) s x.1 (subst (λ (y : Row). Among y.1 x.1) same x.4) (reached-begin rows keys x.1 x.5))
         | inr l ↦ among-filtered (shares (reached rows keys)) rows s in_s
             (key-shares (reached rows keys) s l.1 l.3 (has-among (reached rows keys) l.1
             (sym (l.4 (has (reached rows keys)) (reached-respects rows keys)) ∙ reached-row x.0 x.2 x.1 x.4 x.5 l.0 l.2)))
-        ]
+      ]
 
 -- Touched labels become the target, which no other row has. The rest stay.
 pub record Relabels (rows : List Row) (label after : ℕ → ℕ) (touched : List ℕ) (target number : ℕ) : Type 0 where
@@ -116,64 +117,64 @@ module _ (rows later : List Row) (row : Row) (label after : ℕ → ℕ) (touche
   touched-linked s in_s t =
       let x = hits.only (label s.0) t in
       elim (is.tight x.0 s x.2 in_s x.3) [
-          inl same ↦ linked-key later row s x.1 x.5 (subst (λ (y : Row). Among y.1 x.1) same x.4)
+        | inl same ↦ linked-key later row s x.1 x.5 (subst (λ (y : Row). Among y.1 x.1) same x.4)
         | inr l ↦ linked-trans later row x.0 s (adds.kept x.0 x.2) (linked-key later row x.0 x.1 x.5 x.4) (linked-more rows later adds.kept x.0 s l)
-        ]
+      ]
 
   -- A row whose label becomes the target had a touched one.
   target-touched : (s : Row) → Among rows s → after s.0 ≡ target → Among touched (label s.0)
   target-touched s in_s e = elim (cases_among touched (label s.0)) [
-      inl t ↦ t
+    | inl t ↦ t
     | inr f ↦ absurd (moves.apart s in_s f (sym (moves.stays s in_s f) ∙ e))
-    ]
+  ]
 
   sound-new : (s : Row) → Among rows s → (k : List ℕ) → Among row.1 k → Among s.1 k → after row.0 ≡ after s.0
   sound-new s in_s k in_row in_k = moves.new' ∙ sym (moves.moved s in_s (hits.hit s in_s k in_k in_row))
 
   sound-old : (r s : Row) → Among rows r → Among rows s → label r.0 ≡ label s.0 → after r.0 ≡ after s.0
   sound-old r s in_r in_s e = elim (cases_among touched (label r.0)) [
-      inl t ↦ moves.moved r in_r t ∙ sym (moves.moved s in_s (subst (Among touched) e t))
+    | inl t ↦ moves.moved r in_r t ∙ sym (moves.moved s in_s (subst (Among touched) e t))
     | inr f ↦ moves.stays r in_r f ∙ e ∙ sym (moves.stays s in_s (λ t. f (subst (Among touched) (sym e) t)))
-    ]
+  ]
 
   tight-old : (r s : Row) → Among rows r → Among rows s → after r.0 ≡ after s.0 → (r ≡ s) ⊎ Linked later r s
   tight-old r s in_r in_s e = elim (cases_among touched (label r.0)) [
-      inl t ↦ inr (linked-trans later r row s adds.here (linked-sym later row r (touched-linked r in_r t)) (touched-linked s in_s (target-touched s in_s (sym e ∙ moves.moved r in_r t))))
+    | inl t ↦ inr (linked-trans later r row s adds.here (linked-sym later row r (touched-linked r in_r t)) (touched-linked s in_s (target-touched s in_s (sym e ∙ moves.moved r in_r t))))
     | inr f ↦ elim (cases_among touched (label s.0)) [
-          inl t ↦ absurd (f (target-touched r in_r (e ∙ moves.moved s in_s t)))
-        | inr g ↦ elim (is.tight r s in_r in_s (sym (moves.stays r in_r f) ∙ e ∙ moves.stays s in_s g)) [
-              inl same ↦ inl same
-            | inr l ↦ inr (linked-more rows later adds.kept r s l)
-            ]
-        ]
+      | inl t ↦ absurd (f (target-touched r in_r (e ∙ moves.moved s in_s t)))
+      | inr g ↦ elim (is.tight r s in_r in_s (sym (moves.stays r in_r f) ∙ e ∙ moves.stays s in_s g)) [
+        | inl same ↦ inl same
+        | inr l ↦ inr (linked-more rows later adds.kept r s l)
+      ]
     ]
+  ]
 
   sound-later : (r s : Row) → Among later r → Among later s → (k : List ℕ) → Among r.1 k → Among s.1 k → after r.0 ≡ after s.0
   sound-later r s in_r in_s k kr ks = elim (adds.cases r in_r) [
-      inl p ↦ elim (adds.cases s in_s) [
-          inl q ↦ ap (λ (x : Row). after x.0) (p ∙ sym q)
-        | inr old ↦ ap (λ (x : Row). after x.0) p ∙ sound-new s old k (subst (λ (x : Row). Among x.1 k) p kr) ks
-        ]
-    | inr here ↦ elim (adds.cases s in_s) [
-          inl q ↦ sym (sound-new r here k (subst (λ (x : Row). Among x.1 k) q ks) kr) ∙ sym (ap (λ (x : Row). after x.0) q)
-        | inr old ↦ sound-old r s here old (is.sound r s here old k kr ks)
-        ]
+    | inl p ↦ elim (adds.cases s in_s) [
+      | inl q ↦ ap (λ (x : Row). after x.0) (p ∙ sym q)
+      | inr old ↦ ap (λ (x : Row). after x.0) p ∙ sound-new s old k (subst (λ (x : Row). Among x.1 k) p kr) ks
     ]
+    | inr here ↦ elim (adds.cases s in_s) [
+      | inl q ↦ sym (sound-new r here k (subst (λ (x : Row). Among x.1 k) q ks) kr) ∙ sym (ap (λ (x : Row). after x.0) q)
+      | inr old ↦ sound-old r s here old (is.sound r s here old k kr ks)
+    ]
+  ]
 
   tight-new : (s : Row) → Among rows s → after row.0 ≡ after s.0 → Linked later row s
   tight-new s in_s e = touched-linked s in_s (target-touched s in_s (sym e ∙ moves.new'))
 
   tight-later : (r s : Row) → Among later r → Among later s → after r.0 ≡ after s.0 → (r ≡ s) ⊎ Linked later r s
   tight-later r s in_r in_s e = elim (adds.cases r in_r) [
-      inl p ↦ elim (adds.cases s in_s) [
-          inl q ↦ inl (p ∙ sym q)
-        | inr old ↦ inr (subst (λ (x : Row). Linked later x s) (sym p) (tight-new s old (sym (ap (λ (x : Row). after x.0) p) ∙ e)))
-        ]
-    | inr here ↦ elim (adds.cases s in_s) [
-          inl q ↦ inr (subst (λ (x : Row). Linked later r x) (sym q) (linked-sym later row r (tight-new r here (sym (ap (λ (x : Row). after x.0) q) ∙ sym e))))
-        | inr old ↦ tight-old r s here old e
-        ]
+    | inl p ↦ elim (adds.cases s in_s) [
+      | inl q ↦ inl (p ∙ sym q)
+      | inr old ↦ inr (subst (λ (x : Row). Linked later x s) (sym p) (tight-new s old (sym (ap (λ (x : Row). after x.0) p) ∙ e)))
     ]
+    | inr here ↦ elim (adds.cases s in_s) [
+      | inl q ↦ inr (subst (λ (x : Row). Linked later r x) (sym q) (linked-sym later row r (tight-new r here (sym (ap (λ (x : Row). after x.0) q) ∙ sym e))))
+      | inr old ↦ tight-old r s here old e
+    ]
+  ]
 
   pub joins : IsLabelling later after
   joins = record { sound = sound-later; tight = tight-later }
@@ -198,11 +199,17 @@ module _ (rows left : List Row) (label : ℕ → ℕ) (gone : ℕ) (is : IsLabel
   outside-respects : (test : List ℕ → Bool) → Respects test left → Respects (outside rows label gone test) rows
   outside-respects test t = record {
     same = λ row h k m in_k in_m. elim (cases_eq (label row.0) gone) [
-        inl own ↦ outside-gone test row h own k in_k ∙ sym (outside-gone test row h own m in_m)
+      | inl own ↦ outside-gone test row h own k in_k ∙ sym (outside-gone test row h own m in_m)
       | inr other ↦ outside-other test row h other k in_k ∙ t.same row (keeps row h other) k m in_k in_m ∙ sym (outside-other test row h other m in_m)
-      ];
+    ];
   }
 
   pub still-linked : (r s : Row) → Among rows r → Among rows s → (label r.0 ≡ gone → ⊥) → (label s.0 ≡ gone → ⊥) → Linked rows r s → Linked left r s
-  still-linked r s in_r in_s or os l = (l.0, l.1, l.2, l.3, λ test t.
-      sym (outside-other test r in_r or l.0 l.2) ∙ l.4 (outside rows label gone test) (outside-respects test t) ∙ outside-other test s in_s os l.1 l.3)
+  still-linked r s in_r in_s or os l = (
+    l.0,
+    l.1,
+    l.2,
+    l.3,
+    λ test t.
+        sym (outside-other test r in_r or l.0 l.2) ∙ l.4 (outside rows label gone test) (outside-respects test t) ∙ outside-other test s in_s os l.1 l.3,
+  )

@@ -53,9 +53,9 @@ among-filtered test (y ∷ ys) x (inr h) t = filtered-later test y ys x (test y)
 pub among-flat_map : {X Y : Type 0} (f : X → List Y) (xs : List X) (y : Y) → Among (flat_map f xs) y → (x : X) × Among xs x × Among (f x) y
 among-flat_map f [] y h = absurd h
 among-flat_map f (x ∷ xs) y h = elim (among-append (f x) (flat_map f xs) y h) [
-    inl a ↦ (x, inl refl, a)
+  | inl a ↦ (x, inl refl, a)
   | inr b ↦ let r = among-flat_map f xs y b in (r.0, inr r.1, r.2)
-  ]
+]
 
 pub among-flattened : {X Y : Type 0} (f : X → List Y) (xs : List X) (x : X) (y : Y) → Among xs x → Among (f x) y → Among (flat_map f xs) y
 among-flattened f [] x y h k = absurd h
@@ -76,9 +76,9 @@ among-mapped f (x ∷ xs) y (inr h) = let r = among-mapped f xs y h in (r.0, inr
 pub any-among : {X : Type 0} (test : X → Bool) (xs : List X) → list_any test xs ≡ true → (x : X) × Among xs x × (test x ≡ true)
 any-among test [] h = absurd (false≢true h)
 any-among test (y ∷ ys) h = elim (or_cases (test y) (list_any test ys) h) [
-    inl a ↦ (y, inl refl, a)
+  | inl a ↦ (y, inl refl, a)
   | inr b ↦ let r = any-among test ys b in (r.0, inr r.1, r.2)
-  ]
+]
 
 pub among-any : {X : Type 0} (test : X → Bool) (xs : List X) (x : X) → Among xs x → test x ≡ true → list_any test xs ≡ true
 among-any test [] x h t = absurd h
@@ -87,9 +87,9 @@ among-any test (y ∷ ys) x (inr h) t = or_right (test y) (list_any test ys) (am
 
 pub none-any : {X : Type 0} (test : X → Bool) (xs : List X) → ((x : X) → Among xs x → test x ≡ true → ⊥) → list_any test xs ≡ false
 none-any test xs f = elim (cases_Bool (list_any test xs)) [
-    inl t ↦ let r = any-among test xs t in absurd (f r.0 r.1 r.2)
+  | inl t ↦ let r = any-among test xs t in absurd (f r.0 r.1 r.2)
   | inr none ↦ none
-  ]
+]
 
 pub has-among : (texts : List (List ℕ)) (text : List ℕ) → has texts text ≡ true → Among texts text
 has-among texts text h =
@@ -110,9 +110,9 @@ among-number ns n h = among-any (λ (m : ℕ). m == n) ns n h (eq-eqb n n refl)
 -- A number is one of some, or not.
 pub cases_among : (ns : List ℕ) (n : ℕ) → Among ns n ⊎ (Among ns n → ⊥)
 cases_among ns n = elim (cases_Bool (has_number ns n)) [
-    inl t ↦ inl (number-among ns n t)
+  | inl t ↦ inl (number-among ns n t)
   | inr f ↦ inr (λ h. false≢true (sym f ∙ among-number ns n h))
-  ]
+]
 
 -- In a loop: the items up to an index, and one more.
 pub take-cases : {X : Type 0} (xs : List X) (i : ℕ) (d x : X) → i < length xs → Among (take (i + 1) xs) x → Among (take i xs) x ⊎ (x ≡ get_or xs i d)

@@ -43,18 +43,20 @@ once-length (x ∷ xs) ys once f =
 pub once-append : (xs ys : List ℕ) → Once xs → Once ys → ((n : ℕ) → Among xs n → Among ys n → ⊥) → Once (xs ++ ys)
 once-append [] ys a b apart = b
 once-append (x ∷ xs) ys a b apart = (
-    λ h. elim (among-append xs ys x h) [ inl i ↦ a.0 i | inr j ↦ apart x (inl refl) j ],
-    once-append xs ys a.1 b (λ n h k. apart n (inr h) k))
+  λ h. elim (among-append xs ys x h) [ inl i ↦ a.0 i | inr j ↦ apart x (inl refl) j ],
+  once-append xs ys a.1 b (λ n h k. apart n (inr h) k),
+)
 
 pub once-push : (xs : List ℕ) (y : ℕ) → Once xs → (Among xs y → ⊥) → Once (xs ++ y ∷ [])
 once-push xs y once ne = once-append xs (y ∷ []) once ((λ h. h), tt) (λ n h k. elim k [ inl is ↦ ne (subst (Among xs) is h) | inr none ↦ none ])
 
 once-filter-by : {X : Type 0} (f : X → ℕ) (test : X → Bool) (x : X) (xs : List X) (t : Bool) → Once (map f (x ∷ xs)) → Once (map f (filter test xs)) → Once (map f (cond t (x ∷ filter test xs) (filter test xs)))
 once-filter-by f test x xs true once ih = (
-    λ h.
-        let r = among-mapped f (filter test xs) (f x) h in
-        once.0 (subst (Among (map f xs)) r.2 (among-map f xs r.0 (among-filter test xs r.0 r.1).0)),
-    ih)
+  λ h.
+      let r = among-mapped f (filter test xs) (f x) h in
+      once.0 (subst (Among (map f xs)) r.2 (among-map f xs r.0 (among-filter test xs r.0 r.1).0)),
+  ih,
+)
 once-filter-by f test x xs false once ih = ih
 
 -- A part of items with numbers of their own has such numbers too.
@@ -78,8 +80,9 @@ all-among P (y ∷ ys) x all (inr h) = all-among P ys x all.1 h
 pub rises-from_sorted : (xs : List ℕ) → IsStrictlySortedBy nat_cmp xs → Rises xs
 rises-from_sorted [] sorted = tt
 rises-from_sorted (x ∷ xs) sorted = (
-    λ n h. ranked x n Less (sym (all-among (λ y. nat_cmp x y ≡ Less) xs n (sorted_head nat_cmp x xs sorted) h)),
-    rises-from_sorted xs (sorted_tail nat_cmp x xs sorted))
+  λ n h. ranked x n Less (sym (all-among (λ y. nat_cmp x y ≡ Less) xs n (sorted_head nat_cmp x xs sorted) h)),
+  rises-from_sorted xs (sorted_tail nat_cmp x xs sorted),
+)
 
 -- Numbers that rise are all different.
 pub rises-once : (xs : List ℕ) → Rises xs → Once xs
@@ -91,10 +94,11 @@ sorted-once xs sorted = rises-once xs (rises-from_sorted xs sorted)
 
 rises-filter-by : {X : Type 0} (f : X → ℕ) (test : X → Bool) (x : X) (xs : List X) (t : Bool) → Rises (map f (x ∷ xs)) → Rises (map f (filter test xs)) → Rises (map f (cond t (x ∷ filter test xs) (filter test xs)))
 rises-filter-by f test x xs true rises ih = (
-    λ n h.
-        let r = among-mapped f (filter test xs) n h in
-        subst (λ m. f x < m) r.2 (rises.0 (f r.0) (among-map f xs r.0 (among-filter test xs r.0 r.1).0)),
-    ih)
+  λ n h.
+      let r = among-mapped f (filter test xs) n h in
+      subst (λ m. f x < m) r.2 (rises.0 (f r.0) (among-map f xs r.0 (among-filter test xs r.0 r.1).0)),
+  ih,
+)
 rises-filter-by f test x xs false rises ih = ih
 
 -- A part of items whose numbers rise has rising numbers.
@@ -119,6 +123,6 @@ rises-same (x ∷ xs) [] a b f g = absurd (f x (inl refl))
 rises-same (x ∷ xs) (y ∷ ys) a b f g =
     let same : x ≡ y = same-front x y xs ys a b (f x (inl refl)) (g y (inl refl)) in
     let rest : xs ≡ ys = rises-same xs ys a.1 b.1
-            (λ n h. later-one x y n ys same (a.0 n h) (f n (inr h)))
-            (λ n h. later-one y x n xs (sym same) (b.0 n h) (g n (inr h))) in
+    (λ n h. later-one x y n ys same (a.0 n h) (f n (inr h)))
+    (λ n h. later-one y x n xs (sym same) (b.0 n h) (g n (inr h))) in
     λ i. same i ∷ rest i

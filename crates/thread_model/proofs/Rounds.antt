@@ -80,12 +80,12 @@ round-keeps rows keys k h = among-left keys (flat_map (λ (r : Row). r.1) (filte
 
 round-cases : (rows : List Row) (keys : List (List ℕ)) (k : List ℕ) → Among (round rows keys) k → Among keys k ⊎ ((row : Row) × Among rows row × (shares keys row ≡ true) × Among row.1 k)
 round-cases rows keys k h = elim (among-append keys (flat_map (λ (r : Row). r.1) (filter (shares keys) rows)) k h) [
-    inl a ↦ inl a
+  | inl a ↦ inl a
   | inr b ↦
-    let r = among-flat_map (λ (x : Row). x.1) (filter (shares keys) rows) k b in
-    let s = among-filter (shares keys) rows r.0 r.1 in
-    inr (r.0, s.0, s.1, r.2)
-  ]
+      let r = among-flat_map (λ (x : Row). x.1) (filter (shares keys) rows) k b in
+      let s = among-filter (shares keys) rows r.0 r.1 in
+      inr (r.0, s.0, s.1, r.2)
+]
 
 -- The keys have all keys of each row that shares one.
 record Stable (rows : List Row) (keys : List (List ℕ)) : Type 0 where
@@ -99,9 +99,9 @@ stable-round rows keys le = record {
 
 stable-inside : (rows : List Row) (keys : List (List ℕ)) → Stable rows keys → (k : List ℕ) → Among (round rows keys) k → Among keys k
 stable-inside rows keys stable k h = elim (round-cases rows keys k h) [
-    inl a ↦ a
+  | inl a ↦ a
   | inr r ↦ stable.all r.0 r.1 r.2 k r.3
-  ]
+]
 
 stable-kept : (rows : List Row) (keys : List (List ℕ)) → Stable rows keys → Stable rows (round rows keys)
 stable-kept rows keys stable = record {
@@ -117,12 +117,12 @@ stable-rounds (suc n) rows keys stable = stable-kept rows (rounds n rows keys) (
 progress : (n : ℕ) (rows : List Row) (keys : List (List ℕ)) → Stable rows (rounds n rows keys) ⊎ (n + counted (shares keys) rows ≤ counted (shares (rounds n rows keys)) rows)
 progress zero rows keys = inr (omega arith)
 progress (suc n) rows keys = elim (progress n rows keys) [
-    inl stable ↦ inl (stable-kept rows (rounds n rows keys) stable)
+  | inl stable ↦ inl (stable-kept rows (rounds n rows keys) stable)
   | inr more ↦ elim (cases_lt (counted (shares (rounds n rows keys)) rows) (counted (shares (rounds (suc n) rows keys)) rows)) [
-        inl less ↦ inr (omega arith)
-      | inr same ↦ inl (stable-round rows (rounds n rows keys) same)
-      ]
+    | inl less ↦ inr (omega arith)
+    | inr same ↦ inl (stable-round rows (rounds n rows keys) same)
   ]
+]
 
 stable-unshared : (rows : List Row) (keys : List (List ℕ)) → counted (shares keys) rows ≡ 0 → Stable rows keys
 stable-unshared rows keys none = record {
@@ -131,12 +131,12 @@ stable-unshared rows keys none = record {
 
 enough : (rows : List Row) (keys : List (List ℕ)) → Stable rows (rounds (length rows) rows keys)
 enough rows keys = elim (progress (length rows) rows keys) [
-    inl stable ↦ stable
+  | inl stable ↦ stable
   | inr more ↦
-    let le : counted (shares (rounds (length rows) rows keys)) rows ≤ length rows = counted-length (shares (rounds (length rows) rows keys)) rows in
-    let none : counted (shares keys) rows ≡ 0 = omega arith in
-    stable-rounds (length rows) rows keys (stable-unshared rows keys none)
-  ]
+      let le : counted (shares (rounds (length rows) rows keys)) rows ≤ length rows = counted-length (shares (rounds (length rows) rows keys)) rows in
+      let none : counted (shares keys) rows ≡ 0 = omega arith in
+      stable-rounds (length rows) rows keys (stable-unshared rows keys none)
+]
 
 -- As many rounds as there are rows are enough.
 pub reached-stable : (rows : List Row) (keys : List (List ℕ)) (row : Row) → Among rows row → shares (reached rows keys) row ≡ true → (k : List ℕ) → Among row.1 k → Among (reached rows keys) k
@@ -155,11 +155,11 @@ reached-begin rows keys k h = rounds-begin (length rows) rows keys k h
 rounds-one : (n : ℕ) (rows : List Row) (keys : List (List ℕ)) (test : List ℕ → Bool) → Respects test rows → (b : Bool) → ((k : List ℕ) → Among keys k → test k ≡ b) → (k : List ℕ) → Among (rounds n rows keys) k → test k ≡ b
 rounds-one zero rows keys test is b f k h = f k h
 rounds-one (suc n) rows keys test is b f k h = elim (round-cases rows (rounds n rows keys) k h) [
-    inl a ↦ rounds-one n rows keys test is b f k a
+  | inl a ↦ rounds-one n rows keys test is b f k a
   | inr r ↦
-    let s = shares-key (rounds n rows keys) r.0 r.2 in
-    is.same r.0 r.1 k s.0 r.3 s.1 ∙ rounds-one n rows keys test is b f s.0 s.2
-  ]
+      let s = shares-key (rounds n rows keys) r.0 r.2 in
+      is.same r.0 r.1 k s.0 r.3 s.1 ∙ rounds-one n rows keys test is b f s.0 s.2
+]
 
 -- A test that respects the rows is one for all that is reached if it is for the first keys.
 pub reached-one : (rows : List Row) (keys : List (List ℕ)) (test : List ℕ → Bool) → Respects test rows → (b : Bool) → ((k : List ℕ) → Among keys k → test k ≡ b) → (k : List ℕ) → Among (reached rows keys) k → test k ≡ b
@@ -208,8 +208,14 @@ linked-more rows later kept r s l = (l.0, l.1, l.2, l.3, λ test is. l.4 test (r
 
 linked-from : (rows : List Row) (n : ℕ) (keys : List (List ℕ)) (s : Row) → Among rows (n, keys) → (k : List ℕ) → Among (reached rows keys) k → Among s.1 k → Linked rows (n, keys) s
 linked-from rows n [] s in_r k there in_s = absurd (reached-none rows k there)
-linked-from rows n (j ∷ js) s in_r k there in_s = (j, k, inl refl, in_s, λ test is.
-    sym (reached-one rows (j ∷ js) test is (test j) (λ i in_i. is.same (n, j ∷ js) in_r i j in_i (inl refl)) k there))
+linked-from rows n (j ∷ js) s in_r k there in_s = (
+  j,
+  k,
+  inl refl,
+  in_s,
+  λ test is.
+      sym (reached-one rows (j ∷ js) test is (test j) (λ i in_i. is.same (n, j ∷ js) in_r i j in_i (inl refl)) k there),
+)
 
 -- Rows are in one thread exactly where they are linked.
 pub thread-linked : (rows : List Row) (r s : Row) → Among rows r → Among (thread rows r.1) s → Linked rows r s

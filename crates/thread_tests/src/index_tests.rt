@@ -27,20 +27,62 @@ struct Case {
 /// taken. Four in a thread and one alone, and a sixth of both that is taken again. A row without
 /// keys.
 static CASES: [Case; 14] = [
-    Case { change: Change::Add(1, b"a"), threads: &[(1, &[1]), (2, &[])] },
-    Case { change: Change::Add(2, b"b"), threads: &[(1, &[1]), (2, &[2])] },
-    Case { change: Change::Add(3, b"cgab"), threads: &[(1, &[1, 2, 3]), (2, &[1, 2, 3])] },
-    Case { change: Change::Take(3), threads: &[(1, &[1]), (2, &[2]), (3, &[])] },
-    Case { change: Change::Take(3), threads: &[(1, &[1]), (2, &[2]), (3, &[])] },
-    Case { change: Change::Add(3, b"ca"), threads: &[(1, &[1, 3]), (2, &[2])] },
-    Case { change: Change::Add(4, b"da"), threads: &[(4, &[1, 3, 4]), (2, &[2])] },
-    Case { change: Change::Add(5, b"ea"), threads: &[(5, &[1, 3, 4, 5]), (2, &[2])] },
-    Case { change: Change::Add(6, b"fab"), threads: &[(2, &[1, 2, 3, 4, 5, 6])] },
-    Case { change: Change::Take(6), threads: &[(1, &[1, 3, 4, 5]), (2, &[2])] },
-    Case { change: Change::Take(1), threads: &[(5, &[3, 4, 5]), (1, &[]), (2, &[2])] },
-    Case { change: Change::Add(9, b""), threads: &[(9, &[]), (5, &[3, 4, 5])] },
-    Case { change: Change::Add(7, b"be"), threads: &[(2, &[2, 3, 4, 5, 7])] },
-    Case { change: Change::Take(9), threads: &[(9, &[]), (2, &[2, 3, 4, 5, 7])] },
+    Case {
+        change: Change::Add(1, b"a"),
+        threads: &[(1, &[1]), (2, &[])],
+    },
+    Case {
+        change: Change::Add(2, b"b"),
+        threads: &[(1, &[1]), (2, &[2])],
+    },
+    Case {
+        change: Change::Add(3, b"cgab"),
+        threads: &[(1, &[1, 2, 3]), (2, &[1, 2, 3])],
+    },
+    Case {
+        change: Change::Take(3),
+        threads: &[(1, &[1]), (2, &[2]), (3, &[])],
+    },
+    Case {
+        change: Change::Take(3),
+        threads: &[(1, &[1]), (2, &[2]), (3, &[])],
+    },
+    Case {
+        change: Change::Add(3, b"ca"),
+        threads: &[(1, &[1, 3]), (2, &[2])],
+    },
+    Case {
+        change: Change::Add(4, b"da"),
+        threads: &[(4, &[1, 3, 4]), (2, &[2])],
+    },
+    Case {
+        change: Change::Add(5, b"ea"),
+        threads: &[(5, &[1, 3, 4, 5]), (2, &[2])],
+    },
+    Case {
+        change: Change::Add(6, b"fab"),
+        threads: &[(2, &[1, 2, 3, 4, 5, 6])],
+    },
+    Case {
+        change: Change::Take(6),
+        threads: &[(1, &[1, 3, 4, 5]), (2, &[2])],
+    },
+    Case {
+        change: Change::Take(1),
+        threads: &[(5, &[3, 4, 5]), (1, &[]), (2, &[2])],
+    },
+    Case {
+        change: Change::Add(9, b""),
+        threads: &[(9, &[]), (5, &[3, 4, 5])],
+    },
+    Case {
+        change: Change::Add(7, b"be"),
+        threads: &[(2, &[2, 3, 4, 5, 7])],
+    },
+    Case {
+        change: Change::Take(9),
+        threads: &[(9, &[]), (2, &[2, 3, 4, 5, 7])],
+    },
 ];
 
 /// Adds a row of a new number with letters for keys.

@@ -1,7 +1,6 @@
 //! Numbers that look random, and are the same in each run.
 ghost use Rattle.std.specs.Prelude.{◌<◌};
 
-
 /// A generator of such numbers.
 #[derive(Drop)]
 pub(crate) struct Random {

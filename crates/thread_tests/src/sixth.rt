@@ -32,10 +32,7 @@ pub fn add_sixth<L: Ledger>(
 }
 
 /// Takes the sixth row again, in at most six steps.
-pub fn take_sixth<L: Ledger>(
-    index: &mut ThreadIndex,
-    steps: &mut Steps<L>,
-) -> Result<(), NoMemory>
+pub fn take_sixth<L: Ledger>(index: &mut ThreadIndex, steps: &mut Steps<L>) -> Result<(), NoMemory>
     requires whole { index.old.whole ≡ true }
     requires rows { index.old.rows ≡ six_rows }
     ensures whole { index.new.whole ≡ is_ok result }

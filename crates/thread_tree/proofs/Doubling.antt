@@ -72,7 +72,7 @@ pub twice-more : (jumps old new : List (Option ℕ)) (n : ℕ) (jump found : Opt
 twice-more jumps old new n jump found in' are is leads pushed = record {
   size = ap length pushed ∙ length_push old found ∙ ap (λ k. k + 1) are.size;
   each = λ i lt. elim (cases_lt i n) [
-      inl less ↦
+    | inl less ↦
         ap (λ (js : List (Option ℕ)). jump_at js i) pushed
         ∙ ap jump_of (get-push old found i (subst (λ k. i < k) (sym are.size) less))
         ∙ are.each i less
@@ -83,7 +83,7 @@ twice-more jumps old new n jump found in' are is leads pushed = record {
         ∙ ap (λ k. jump_at (old ++ found ∷ []) k) (e ∙ sym are.size)
         ∙ ap jump_of (get-pushed old found)
         ∙ leads ∙ ap (step_by jumps) (sym here)
-    ];
+  ];
 }
 
 pub twice-all : (jumps twice : List (Option ℕ)) (n : ℕ) → length jumps ≤ n → n ≤ length jumps → AreTwiceOf jumps twice n → AreTwice jumps twice

@@ -176,14 +176,14 @@ least-in-by : (test : Twig → Bool) (t : Twig) (ts : List Twig) (u : Twig) → 
     → lesser_by (λ (v : Twig). v.number) (if b then Some t else None) o ≡ Some u → Among (t ∷ ts) u × (test u ≡ true)
 least-in-by test t ts u ih true is None later e = let same : t ≡ u = some-same t u e in (inl (sym same), ap test (sym same) ∙ is)
 least-in-by test t ts u ih true is (Some v) later e = elim (cases_Bool (nat_lt v.number t.number)) [
-    inl c ↦
+  | inl c ↦
       let same : v ≡ u = some-same v u (sym (lesser-lt (λ (w : Twig). w.number) t v c) ∙ e) in
       let r = ih v later in
       (inr (subst (Among ts) same r.0), ap test (sym same) ∙ r.1)
   | inr c ↦
       let same : t ≡ u = some-same t u (sym (lesser-ge (λ (w : Twig). w.number) t v c) ∙ e) in
       (inl (sym same), ap test (sym same) ∙ is)
-  ]
+]
 least-in-by test t ts u ih false is o later e = let r = ih u (later ∙ e) in (inr r.0, r.1)
 
 pub least-in : (test : Twig → Bool) (ts : List Twig) (u : Twig) → least test ts ≡ Some u → Among ts u × (test u ≡ true)

@@ -24,27 +24,27 @@ lesser-assoc f None b c = refl
 lesser-assoc f (Some x) None c = refl
 lesser-assoc f (Some x) (Some y) None = lesser-none f (lesser_by f (Some x) (Some y))
 lesser-assoc f (Some x) (Some y) (Some z) = elim (cases_Bool (nat_lt (f y) (f x))) [
-    inl one ↦ elim (cases_Bool (nat_lt (f z) (f y))) [
-        inl two ↦
-          let a : f y < f x = ltb-true (f y) (f x) one in
-          let b : f z < f y = ltb-true (f z) (f y) two in
-          ap (λ o. lesser_by f o (Some z)) (lesser-lt f x y one) ∙ lesser-lt f y z two
-          ∙ sym (ap (lesser_by f (Some x)) (lesser-lt f y z two) ∙ lesser-lt f x z (lt-ltb (f z) (f x) (omega arith)))
-      | inr two ↦
-          ap (λ o. lesser_by f o (Some z)) (lesser-lt f x y one) ∙ lesser-ge f y z two
-          ∙ sym (ap (lesser_by f (Some x)) (lesser-ge f y z two) ∙ lesser-lt f x y one)
-      ]
-  | inr one ↦ elim (cases_Bool (nat_lt (f z) (f y))) [
-        inl two ↦
-          ap (λ o. lesser_by f o (Some z)) (lesser-ge f x y one)
-          ∙ sym (ap (lesser_by f (Some x)) (lesser-lt f y z two))
-      | inr two ↦
-          let a : f x ≤ f y = ltb-false (f y) (f x) one in
-          let b : f y ≤ f z = ltb-false (f z) (f y) two in
-          ap (λ o. lesser_by f o (Some z)) (lesser-ge f x y one) ∙ lesser-ge f x z (le-ltb (f z) (f x) (omega arith))
-          ∙ sym (ap (lesser_by f (Some x)) (lesser-ge f y z two) ∙ lesser-ge f x y one)
-      ]
+  | inl one ↦ elim (cases_Bool (nat_lt (f z) (f y))) [
+    | inl two ↦
+        let a : f y < f x = ltb-true (f y) (f x) one in
+        let b : f z < f y = ltb-true (f z) (f y) two in
+        ap (λ o. lesser_by f o (Some z)) (lesser-lt f x y one) ∙ lesser-lt f y z two
+        ∙ sym (ap (lesser_by f (Some x)) (lesser-lt f y z two) ∙ lesser-lt f x z (lt-ltb (f z) (f x) (omega arith)))
+    | inr two ↦
+        ap (λ o. lesser_by f o (Some z)) (lesser-lt f x y one) ∙ lesser-ge f y z two
+        ∙ sym (ap (lesser_by f (Some x)) (lesser-ge f y z two) ∙ lesser-lt f x y one)
   ]
+  | inr one ↦ elim (cases_Bool (nat_lt (f z) (f y))) [
+    | inl two ↦
+        ap (λ o. lesser_by f o (Some z)) (lesser-ge f x y one)
+        ∙ sym (ap (lesser_by f (Some x)) (lesser-lt f y z two))
+    | inr two ↦
+        let a : f x ≤ f y = ltb-false (f y) (f x) one in
+        let b : f y ≤ f z = ltb-false (f z) (f y) two in
+        ap (λ o. lesser_by f o (Some z)) (lesser-ge f x y one) ∙ lesser-ge f x z (le-ltb (f z) (f x) (omega arith))
+        ∙ sym (ap (lesser_by f (Some x)) (lesser-ge f y z two) ∙ lesser-ge f x y one)
+  ]
+]
 
 -- A list that is one message longer.
 pub least-push : (test : Twig → Bool) (ts : List Twig) (t : Twig) → least test (ts ++ t ∷ []) ≡ lesser_by (λ (u : Twig). u.number) (least test ts) (if test t then Some t else None)

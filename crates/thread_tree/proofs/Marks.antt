@@ -42,20 +42,20 @@ marked-more ups far later to old new cases kept here are marks = record {
   size = marks.size ∙ are.size;
   top = λ i in' e. set i in' (are.top i in' e);
   led = λ i in' h. elim (cases (Some i) h) [
-      inl a ↦ set i in' (are.led i in' a)
+    | inl a ↦ set i in' (are.led i in' a)
     | inr e ↦ marks.here i (subst (λ k. i < k) (sym are.size) in') (sym e)
-    ];
+  ];
   only = λ i in' t. elim (cases-to to i) [
-      inl e ↦ inr (subst (Among later) e here)
+    | inl e ↦ inr (subst (Among later) e here)
     | inr f ↦ elim (are.only i in' (sym (marks.kept i f) ∙ t)) [ inl n ↦ inl n | inr a ↦ inr (kept (Some i) a) ]
-    ];
+  ];
 }
   where
     set : (i : ℕ) → i < length ups → flag_at old i ≡ true → flag_at new i ≡ true
     set i in' t = elim (cases-to to i) [
-        inl e ↦ marks.here i (subst (λ k. i < k) (sym are.size) in') e
+      | inl e ↦ marks.here i (subst (λ k. i < k) (sym are.size) in') e
       | inr f ↦ marks.kept i f ∙ t
-      ]
+    ]
 
 pub marked-take : (ups far : List (Option ℕ)) (n : ℕ) (d : Option ℕ) (old new : List Bool) → n < length far → AreMarked ups (take n far) old → IsMarked old new (get_or far n d) → AreMarked ups (take (n + 1) far) new
 marked-take ups far n d old new in' are marks = marked-more ups (take n far) (take (n + 1) far) (get_or far n d) old new (λ x. take-cases far n d x in') (λ x. take-old far n d x in') (take-new far n d in') are marks
@@ -76,9 +76,9 @@ marked-all ups far n flags past is are = record {
       let r = is.all j in' loop in
       are.led j in' (take-end far n (Some j) past (subst (Among far) r.2 (jump-among far r.0 (subst (λ k. r.0 < k) (sym is.size) r.1))));
   only = λ j in' t. elim (are.only j in' t) [
-      inl e ↦ inl e
+    | inl e ↦ inl e
     | inr h ↦
-      let r = among-jump far (Some j) (take-among far n (Some j) h) in
-      inr (is.loops r.0 j (subst (λ k. r.0 < k) is.size r.1) r.2)
-    ];
+        let r = among-jump far (Some j) (take-among far n (Some j) h) in
+        inr (is.loops r.0 j (subst (λ k. r.0 < k) is.size r.1) r.2)
+  ];
 }

@@ -67,8 +67,8 @@ ghosts-take g p refs i d start old new lt is puts =
     ∙ ap (λ (ns : List Node). put_nodes ns (map g (if p r then r ∷ [] else []))) is
     ∙ sym (put-append start (map g (filter p (take i refs))) (map g (if p r then r ∷ [] else [])))
     ∙ ap (put_nodes start) (
-        sym (map-append g (filter p (take i refs)) (if p r then r ∷ [] else []))
-        ∙ ap (map g) (ap (λ (xs : List (List ℕ)). filter p (take i refs) ++ xs) (sym (filter-last p r (p r) refl)) ∙ sym (filter-append p (take i refs) (r ∷ [])) ∙ ap (filter p) (sym (take_more refs i d lt))))
+    sym (map-append g (filter p (take i refs)) (if p r then r ∷ [] else []))
+    ∙ ap (map g) (ap (λ (xs : List (List ℕ)). filter p (take i refs) ++ xs) (sym (filter-last p r (p r) refl)) ∙ sym (filter-append p (take i refs) (r ∷ [])) ∙ ap (filter p) (sym (take_more refs i d lt))))
 
 flat-push : {X Y : Type 0} (f : X → List Y) (xs : List X) (x : X) → flat_map f (xs ++ x ∷ []) ≡ flat_map f xs ++ f x
 flat-push f [] x = append-nil (f x)
@@ -100,17 +100,17 @@ kept_ghosts facts t = map (kept_ghost facts) (filter (kept_is_ghost facts) t.ref
 pub nodes-kept : (twigs : List Twig) (facts : Facts) → AreFacts twigs facts → put_nodes (put_nodes [] (map live_node twigs)) (flat_map (kept_ghosts facts) twigs) ≡ nodes twigs
 nodes-kept twigs facts are =
     ap (put_nodes (put_nodes [] (map live_node twigs))) (flat-agree (kept_ghosts facts) (ghosts_of twigs) (λ t.
-        map-agree (kept_ghost facts) (ghost_node twigs) (kept-node twigs facts are) (filter (kept_is_ghost facts) t.refs)
-        ∙ ap (map (ghost_node twigs)) (filter-agree (kept_is_ghost facts) (is_ghost twigs) (kept-ghost twigs facts are) t.refs)) twigs)
+    map-agree (kept_ghost facts) (ghost_node twigs) (kept-node twigs facts are) (filter (kept_is_ghost facts) t.refs)
+    ∙ ap (map (ghost_node twigs)) (filter-agree (kept_is_ghost facts) (is_ghost twigs) (kept-ghost twigs facts are) t.refs)) twigs)
     ∙ sym (put-append [] (map live_node twigs) (flat_map (ghosts_of twigs) twigs))
 
 -- A node of all is a message's or a ghost's.
 put-cases : (done ns : List Node) (n : Node) → Among (put_nodes done ns) n → Among done n ⊎ Among ns n
 put-cases done [] n h = inl h
 put-cases done (x ∷ xs) n h = elim (put-cases (insert_key node_cmp done x) xs n h) [
-    inl a ↦ elim (key-cases node_cmp done x n a) [ inl e ↦ inr (inl e) | inr b ↦ inl b ]
+  | inl a ↦ elim (key-cases node_cmp done x n a) [ inl e ↦ inr (inl e) | inr b ↦ inl b ]
   | inr b ↦ inr (inr b)
-  ]
+]
 
 -- The message with an id.
 find-in : (ts : List Twig) (id : List ℕ) (u : Twig) → message_of ts id ≡ Some u → Among ts u × (u.id ≡ id)
@@ -153,21 +153,21 @@ none-message (Some t) e = absurd (false≢true e)
 
 pub known-by-id : (twigs : List Twig) → HaveOwnIds twigs → (n : Node) → Among (nodes twigs) n → n ≡ node_of twigs n.2
 known-by-id twigs own n h = elim (put-cases [] (map live_node twigs ++ flat_map (ghosts_of twigs) twigs) n h) [
-    inl none ↦ absurd none
+  | inl none ↦ absurd none
   | inr b ↦ elim (among-append (map live_node twigs) (flat_map (ghosts_of twigs) twigs) n b) [
-        inl live ↦
-          let r = among-mapped live_node twigs n live in
-          let e : message_of twigs n.2 ≡ Some r.0 = ap (λ (m : Node). message_of twigs m.2) (sym r.2) ∙ message-own twigs own r.0 r.1 in
-          sym r.2 ∙ sym (ap (λ (o : Option Twig). node_of_by o (ghost_node twigs n.2)) e)
-      | inr ghost ↦
-          let r = among-flat_map (ghosts_of twigs) twigs n ghost in
-          let s = among-mapped (ghost_node twigs) (filter (is_ghost twigs) r.0.refs) n r.2 in
-          let t = among-filter (is_ghost twigs) r.0.refs s.0 s.1 in
-          let id : s.0 ≡ n.2 = sym (ghost-id (named_by twigs s.0) s.0) ∙ ap (λ (m : Node). m.2) s.2 in
-          let e : message_of twigs n.2 ≡ None = ap (message_of twigs) (sym id) ∙ none-message (message_of twigs s.0) t.1 in
-          sym s.2 ∙ ap (ghost_node twigs) id ∙ sym (ap (λ (o : Option Twig). node_of_by o (ghost_node twigs n.2)) e)
-      ]
+    | inl live ↦
+        let r = among-mapped live_node twigs n live in
+        let e : message_of twigs n.2 ≡ Some r.0 = ap (λ (m : Node). message_of twigs m.2) (sym r.2) ∙ message-own twigs own r.0 r.1 in
+        sym r.2 ∙ sym (ap (λ (o : Option Twig). node_of_by o (ghost_node twigs n.2)) e)
+    | inr ghost ↦
+        let r = among-flat_map (ghosts_of twigs) twigs n ghost in
+        let s = among-mapped (ghost_node twigs) (filter (is_ghost twigs) r.0.refs) n r.2 in
+        let t = among-filter (is_ghost twigs) r.0.refs s.0 s.1 in
+        let id : s.0 ≡ n.2 = sym (ghost-id (named_by twigs s.0) s.0) ∙ ap (λ (m : Node). m.2) s.2 in
+        let e : message_of twigs n.2 ≡ None = ap (message_of twigs) (sym id) ∙ none-message (message_of twigs s.0) t.1 in
+        sym s.2 ∙ ap (ghost_node twigs) id ∙ sym (ap (λ (o : Option Twig). node_of_by o (ghost_node twigs n.2)) e)
   ]
+]
 
 -- The order tells nodes apart.
 pub cmp-self : (n : Node) → node_cmp n n ≡ Equal
@@ -210,7 +210,7 @@ apart-ids twigs own list d sorted is i j less lt e =
     let in_i : Among (nodes twigs) (get_or (nodes_in list) i (0, 0, [])) = subst (λ (ns : List Node). Among ns (get_or (nodes_in list) i (0, 0, []))) is (get-among (nodes_in list) i (0, 0, []) (omega arith)) in
     let in_j : Among (nodes twigs) (get_or (nodes_in list) j (0, 0, [])) = subst (λ (ns : List Node). Among ns (get_or (nodes_in list) j (0, 0, []))) is (get-among (nodes_in list) j (0, 0, []) (omega arith)) in
     let same : get_or (nodes_in list) i (0, 0, []) ≡ get_or (nodes_in list) j (0, 0, []) =
-        known-by-id twigs own (get_or (nodes_in list) i (0, 0, [])) in_i ∙ ap (node_of twigs) e ∙ sym (known-by-id twigs own (get_or (nodes_in list) j (0, 0, [])) in_j) in
+    known-by-id twigs own (get_or (nodes_in list) i (0, 0, [])) in_i ∙ ap (node_of twigs) e ∙ sym (known-by-id twigs own (get_or (nodes_in list) j (0, 0, [])) in_j) in
     let plain : node_in (get_or list i d) ≡ node_in (get_or list j d) = sym (get_or-map node_in list i d (0, 0, []) lti) ∙ same ∙ get_or-map node_in list j d (0, 0, []) lt in
     less-equal (sym cmp ∙ ap (λ (n : Node). node_cmp n (node_in (get_or list j d))) plain ∙ cmp-self (node_in (get_or list j d)))
 
@@ -219,11 +219,11 @@ own-node-ids twigs own [] sorted is = λ i j lt lj e. absurd (omega arith)
 own-node-ids twigs own (x ∷ xs) sorted is = λ i j lt lj e.
     let len : length (nodes_in (x ∷ xs)) ≡ length (x ∷ xs) = length-map (x ∷ xs) node_in in
     elim (cases_order i j) [
-      inl same ↦ same
-    | inr apart ↦ elim apart [
-          inl less ↦ absurd (apart-ids twigs own (x ∷ xs) x sorted is i j less (omega arith) e)
+      | inl same ↦ same
+      | inr apart ↦ elim apart [
+        | inl less ↦ absurd (apart-ids twigs own (x ∷ xs) x sorted is i j less (omega arith) e)
         | inr more ↦ absurd (apart-ids twigs own (x ∷ xs) x sorted is j i more (omega arith) (sym e))
-        ]
+      ]
     ]
 
 -- What an id stands under is a reference.
@@ -242,26 +242,28 @@ if-other false r q e = some-same r q e
 last-ref : (refs : List (List ℕ)) (id q : List ℕ) → last_other refs id ≡ Some q → Among refs q
 last-ref [] id q e = absurd (none-some q e)
 last-ref (r ∷ rs) id q e = elim (or-cases (last_other rs id) (if bytes_eq r id then None else Some r) q e) [
-    inl a ↦ inr (last-ref rs id q a)
+  | inl a ↦ inr (last-ref rs id q a)
   | inr b ↦ inl (sym (if-other (bytes_eq r id) r q b))
-  ]
+]
 
 before-ref : (prev : Option (List ℕ)) (refs : List (List ℕ)) (id q : List ℕ) → before prev refs id ≡ Some q → (prev ≡ Some q) ⊎ Among refs q
 before-ref prev [] id q e = absurd (none-some q e)
 before-ref prev (r ∷ rs) id q e = elim (or-cases (if bytes_eq r id then prev else None) (before (Some r) rs id) q e) [
-    inl a ↦ inl (if-some (bytes_eq r id) prev q a)
+  | inl a ↦ inl (if-some (bytes_eq r id) prev q a)
   | inr b ↦ elim (before-ref (Some r) rs id q b) [
-        inl is ↦ inr (inl (sym (some-same r q is)))
-      | inr h ↦ inr (inr h)
-      ]
+    | inl is ↦ inr (inl (sym (some-same r q is)))
+    | inr h ↦ inr (inr h)
   ]
+]
 
 up-ref-by : (twigs : List Twig) (id q : List ℕ) (m p : Option Twig) → message_of twigs id ≡ m → placed_by twigs id ≡ p → up_by m p id ≡ Some q → (t : Twig) × Among twigs t × Among t.refs q
 up-ref-by twigs id q (Some t) p is places e = (t, (find-in twigs id t is).0, last-ref t.refs t.id q e)
 up-ref-by twigs id q None None is places e = absurd (none-some q e)
-up-ref-by twigs id q None (Some t) is places e =
-    (t, (least-in (λ (u : Twig). is_some (before None u.refs id)) twigs t places).0,
-    elim (before-ref None t.refs id q e) [ inl none ↦ absurd (none-some q none) | inr h ↦ h ])
+up-ref-by twigs id q None (Some t) is places e = (
+  t,
+  (least-in (λ (u : Twig). is_some (before None u.refs id)) twigs t places).0,
+  elim (before-ref None t.refs id q e) [ inl none ↦ absurd (none-some q none) | inr h ↦ h ],
+)
 
 up-ref : (twigs : List Twig) (id q : List ℕ) → up twigs id ≡ Some q → (t : Twig) × Among twigs t × Among t.refs q
 up-ref twigs id q e = up-ref-by twigs id q (message_of twigs id) (placed_by twigs id) refl refl e
@@ -299,11 +301,12 @@ ref-node-by : (twigs : List Twig) (t : Twig) (q : List ℕ) → Among twigs t �
 ref-node-by twigs t q in_t in_q (Some u) is =
     let r = find-in twigs q u is in
     (live_node u, put-new [] (map live_node twigs ++ flat_map (ghosts_of twigs) twigs) (live_node u) (among-left (map live_node twigs) (flat_map (ghosts_of twigs) twigs) (live_node u) (among-map live_node twigs u r.0)), r.1)
-ref-node-by twigs t q in_t in_q None is =
-    (ghost_node twigs q,
-    put-new [] (map live_node twigs ++ flat_map (ghosts_of twigs) twigs) (ghost_node twigs q) (among-right (map live_node twigs) (flat_map (ghosts_of twigs) twigs) (ghost_node twigs q)
-        (among-flattened (ghosts_of twigs) twigs t (ghost_node twigs q) in_t (among-map (ghost_node twigs) (filter (is_ghost twigs) t.refs) q (among-filtered (is_ghost twigs) t.refs q in_q (ap is_none is))))),
-    ghost-id (named_by twigs q) q)
+ref-node-by twigs t q in_t in_q None is = (
+  ghost_node twigs q,
+  put-new [] (map live_node twigs ++ flat_map (ghosts_of twigs) twigs) (ghost_node twigs q) (among-right (map live_node twigs) (flat_map (ghosts_of twigs) twigs) (ghost_node twigs q)
+      (among-flattened (ghosts_of twigs) twigs t (ghost_node twigs q) in_t (among-map (ghost_node twigs) (filter (is_ghost twigs) t.refs) q (among-filtered (is_ghost twigs) t.refs q in_q (ap is_none is))))),
+  ghost-id (named_by twigs q) q,
+)
 
 among-place : (ns : List Node) (n : Node) → Among ns n → (j : ℕ) × (j < length ns) × (get_or ns j (0, 0, []) ≡ n)
 among-place [] n h = absurd h

@@ -17,9 +17,9 @@ below-among (suc m) a (inr h) = let lt : a < m = below-among m a h in omega arit
 pub among-below : (m a : ℕ) → a < m → Among (below m) a
 among-below zero a lt = absurd (omega arith)
 among-below (suc m) a lt = elim (cases_lt a m) [
-    inl less ↦ inr (among-below m a less)
+  | inl less ↦ inr (among-below m a less)
   | inr more ↦ inl (omega arith)
-  ]
+]
 
 pub length-below : (m : ℕ) → length (below m) ≡ m
 length-below zero = refl
@@ -29,29 +29,29 @@ length-below (suc m) = ap suc (length-below m)
 once-or-twice : (g : ℕ → ℕ) (m : ℕ) → Once (map g (below m)) ⊎ ((a : ℕ) × (d : ℕ) × (a + suc d < m) × (g a ≡ g (a + suc d)))
 once-or-twice g zero = inl tt
 once-or-twice g (suc m) = elim (cases_among (map g (below m)) (g m)) [
-    inl h ↦
+  | inl h ↦
       let r = among-mapped g (below m) (g m) h in
       let lt : r.0 < m = below-among m r.0 r.1 in
       let e : r.0 + suc (m - suc r.0) ≡ m = omega arith in
       inr (r.0, m - suc r.0, omega arith, r.2 ∙ sym (ap g e))
   | inr fresh ↦ elim (once-or-twice g m) [
-        inl once ↦ inl (fresh, once)
-      | inr two ↦ inr (two.0, two.1, (let lt = two.2 in omega arith), two.3)
-      ]
+    | inl once ↦ inl (fresh, once)
+    | inr two ↦ inr (two.0, two.1, (let lt = two.2 in omega arith), two.3)
   ]
+]
 
 -- Of more values than numbers below a bound, two are the same.
 pub pigeons : (g : ℕ → ℕ) (m bound : ℕ) → bound < m → ((k : ℕ) → k < m → g k < bound) → (a : ℕ) × (d : ℕ) × (a + suc d < m) × (g a ≡ g (a + suc d))
 pigeons g m bound more small = elim (once-or-twice g m) [
-    inl once ↦
+  | inl once ↦
       let le : length (map g (below m)) ≤ length (below bound) = once-length (map g (below m)) (below bound) once (λ n h.
-              let r = among-mapped g (below m) n h in
-              among-below bound n (subst (λ x. x < bound) r.2 (small r.0 (below-among m r.0 r.1)))) in
+      let r = among-mapped g (below m) n h in
+      among-below bound n (subst (λ x. x < bound) r.2 (small r.0 (below-among m r.0 r.1)))) in
       let one : length (map g (below m)) ≡ m = length-map (below m) g ∙ length-below m in
       let two : length (below bound) ≡ bound = length-below bound in
       absurd (omega arith)
   | inr two ↦ two
-  ]
+]
 
 -- First so many steps, then so many more.
 pub far-then : (jumps : List (Option ℕ)) (a n x : ℕ) → far_by jumps a n ≡ Some x → (b : ℕ) → far_by jumps (a + b) n ≡ far_by jumps b x
@@ -90,9 +90,9 @@ meets-twice : (jumps : List (Option ℕ)) → StaysIn jumps → (m n x : ℕ) �
     → (y : ℕ) × (a : ℕ) × (d : ℕ) × (a + suc d ≤ m) × (far_by jumps a n ≡ Some y) × (far_by jumps (suc d) y ≡ Some y)
 meets-twice jumps stays m n x in' more e =
     let two = pigeons (λ k. number_of (far_by jumps k n)) (suc m) (length jumps) more (λ k lt.
-            let s : k + (m - k) ≡ m = omega arith in
-            let r = far-part jumps k (m - k) n x (ap (λ q. far_by jumps q n) s ∙ e) in
-            subst (λ o. number_of o < length jumps) (sym r.1) (far-inside jumps stays k n r.0 in' r.1)) in
+    let s : k + (m - k) ≡ m = omega arith in
+    let r = far-part jumps k (m - k) n x (ap (λ q. far_by jumps q n) s ∙ e) in
+    subst (λ o. number_of o < length jumps) (sym r.1) (far-inside jumps stays k n r.0 in' r.1)) in
     let lt = two.2 in
     let s : (two.0 + suc two.1) + (m - (two.0 + suc two.1)) ≡ m = omega arith in
     let r = far-part jumps (two.0 + suc two.1) (m - (two.0 + suc two.1)) n x (ap (λ q. far_by jumps q n) s ∙ e) in

@@ -39,9 +39,9 @@ module _ (twigs : List Twig) (ns : List Node) (ups : List (Option ℕ)) (flags :
 
   same-id : (i j : ℕ) → i < length ns → j < length ns → bytes_eq (id_at ns j) (id_at ns i) ≡ (j == i)
   same-id i j li lj = elim (cases_eq j i) [
-      inl e ↦ (bytes_eq-Decides (id_at ns j) (id_at ns i)).1 (ap (id_at ns) e) ∙ sym (eq-eqb j i e)
+    | inl e ↦ (bytes_eq-Decides (id_at ns j) (id_at ns i)).1 (ap (id_at ns) e) ∙ sym (eq-eqb j i e)
     | inr f ↦ apart (bytes_eq (id_at ns j) (id_at ns i)) refl f ∙ sym (ne_eqb j i f)
-    ]
+  ]
     where
       apart : (b : Bool) → bytes_eq (id_at ns j) (id_at ns i) ≡ b → (j ≡ i → ⊥) → bytes_eq (id_at ns j) (id_at ns i) ≡ false
       apart true e f = absurd (f (ids j i lj li ((bytes_eq-Decides (id_at ns j) (id_at ns i)).0 e)))
@@ -87,20 +87,20 @@ module _ (twigs : List Twig) (ns : List Node) (ups : List (Option ℕ)) (flags :
   pub root-tie : (i : ℕ) → i < length ns → is_root twigs (node_at ns i) ≡ flag_at flags i
   root-tie i lt = same_bools (is_root twigs (node_at ns i)) (flag_at flags i)
       (λ t. elim (or_cases (is_none (up twigs (id_at ns i))) (is_on_loop twigs (id_at ns i)) t) [
-          inl a ↦ marks.top i (inside i lt) (none-by (jump_at ups i) (ap is_none (are.each i lt) ∙ a))
+        | inl a ↦ marks.top i (inside i lt) (none-by (jump_at ups i) (ap is_none (are.each i lt) ∙ a))
         | inr b ↦ marks.loop i (inside i lt) (loop-to i lt b)
-        ])
+      ])
       (λ t. elim (marks.only i (inside i lt) t) [
-          inl e ↦ or_left (is_none (up twigs (id_at ns i))) (is_on_loop twigs (id_at ns i)) (ap is_none (sym (are.each i lt)) ∙ ap (λ (o : Option ℕ). is_none (option_map (id_at ns) o)) e)
+        | inl e ↦ or_left (is_none (up twigs (id_at ns i))) (is_on_loop twigs (id_at ns i)) (ap is_none (sym (are.each i lt)) ∙ ap (λ (o : Option ℕ). is_none (option_map (id_at ns) o)) e)
         | inr loop ↦ or_right (is_none (up twigs (id_at ns i))) (is_on_loop twigs (id_at ns i)) (loop-from i lt loop)
-        ])
+      ])
 
   pub under-tie : (p i : ℕ) → p < length ns → i < length ns → (not (is_root twigs (node_at ns i)) && is_id (up twigs (id_at ns i)) (id_at ns p)) ≡ is_under ups flags p i
   under-tie p i lp li =
       ap (λ (b : Bool). not b && is_id (up twigs (id_at ns i)) (id_at ns p)) (root-tie i li)
       ∙ ap (λ (b : Bool). not (flag_at flags i) && b) (
-          ap (λ (o : Option (List ℕ)). is_id o (id_at ns p)) (sym (are.each i li))
-          ∙ leads-by p lp (jump_at ups i) (λ j e. are.inside i j (inside i li) e))
+      ap (λ (o : Option (List ℕ)). is_id o (id_at ns p)) (sym (are.each i li))
+      ∙ leads-by p lp (jump_at ups i) (λ j e. are.inside i j (inside i li) e))
 
 -- A filter of nodes is one of their indices.
 filter-map : {X Y : Type 0} (p : Y → Bool) (f : X → Y) (xs : List X) → filter p (map f xs) ≡ map f (filter (λ x. p (f x)) xs)
@@ -167,11 +167,11 @@ pub walk-below : (lists : ℕ → List ℕ) (bound : ℕ) → ((p i : ℕ) → A
 walk-below lists bound below ends small x h = absurd h
 walk-below lists bound below (visits {depth = depth} {n = n} own rest e w r) small x h =
     elim (subst (λ (ls : List (ℕ × ℕ)). Among ls x) e h) [
-      inl is ↦ subst (λ k. k < bound) (sym (ap (λ (y : ℕ × ℕ). y.1) is)) (small n (inl refl))
-    | inr later ↦ elim (among-append own rest x later) [
-          inl a ↦ walk-below lists bound below w (λ i k. below n i k) x a
+      | inl is ↦ subst (λ k. k < bound) (sym (ap (λ (y : ℕ × ℕ). y.1) is)) (small n (inl refl))
+      | inr later ↦ elim (among-append own rest x later) [
+        | inl a ↦ walk-below lists bound below w (λ i k. below n i k) x a
         | inr b ↦ walk-below lists bound below r (λ i k. small i (inr k)) x b
-        ]
+      ]
     ]
 
 -- The line of a node, by what is kept.

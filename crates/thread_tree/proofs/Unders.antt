@@ -12,16 +12,16 @@ use Rattle.thread_tree.specs.Nodes.{jump_at, leads_to, flag_at, count_up, is_und
 pub among-count : (n i : ℕ) → Among (count_up n) i → i < n
 among-count zero i h = absurd h
 among-count (suc n) i h = elim (among-push (count_up n) n i h) [
-    inl a ↦ (let lt : i < n = among-count n i a in omega arith)
+  | inl a ↦ (let lt : i < n = among-count n i a in omega arith)
   | inr e ↦ omega arith
-  ]
+]
 
 pub count-among : (n i : ℕ) → i < n → Among (count_up n) i
 count-among zero i lt = absurd (omega arith)
 count-among (suc n) i lt = elim (cases_lt i n) [
-    inl less ↦ among-left (count_up n) (n ∷ []) i (count-among n i less)
+  | inl less ↦ among-left (count_up n) (n ∷ []) i (count-among n i less)
   | inr more ↦ let e : i ≡ n = omega arith in subst (Among (count_up n ++ n ∷ [])) (sym e) (among-pushed (count_up n) n)
-  ]
+]
 
 pub count-once : (n : ℕ) → Once (count_up n)
 count-once zero = tt
@@ -72,17 +72,17 @@ under-says ups flags p i t =
 module _ (ups : List (Option ℕ)) (flags : List Bool) (lists : List (Vec ℕ)) (are : AreUnder ups flags lists (length ups)) (past : (p : ℕ) → length lists ≤ p → under_at lists p ≡ []) where
   under-in : (p i : ℕ) → Among (under_at lists p) i → (is_under ups flags p i ≡ true) × (i < length ups)
   under-in p i h = elim (cases_lt p (length lists)) [
-      inl less ↦
+    | inl less ↦
         let r = among-filter (is_under ups flags p) (count_up (length ups)) i (subst (λ ns. Among ns i) (are.each p (subst (λ k. p < k) are.size less)) h) in
         (r.1, among-count (length ups) i r.0)
     | inr more ↦ absurd (subst (λ ns. Among ns i) (past p more) h)
-    ]
+  ]
 
   under-once : (p : ℕ) → Once (under_at lists p)
   under-once p = elim (cases_lt p (length lists)) [
-      inl less ↦ subst Once (sym (are.each p (subst (λ k. p < k) are.size less))) (filter-once (is_under ups flags p) (count_up (length ups)) (count-once (length ups)))
+    | inl less ↦ subst Once (sym (are.each p (subst (λ k. p < k) are.size less))) (filter-once (is_under ups flags p) (count_up (length ups)) (count-once (length ups)))
     | inr more ↦ subst Once (sym (past p more)) tt
-    ]
+  ]
 
   -- They are a forest, with the flagged indices as roots.
   pub forest : IsForest (under_at lists) (filter (flag_at flags) (count_up (length ups))) (length lists)

@@ -41,10 +41,13 @@ brothers : (under : ℕ → List ℕ) (depth : ℕ) (is : List ℕ) (stack all :
 brothers under depth [] stack all s = ([], all, refl, ends, s)
 brothers under depth (i ∷ is) stack all s =
     let a = stack-next under (depth, i) (at_depth depth is ++ stack) all s in
-    let b = brothers under depth is stack a.1 a.4 in
-    ((depth, i) ∷ (a.0 ++ b.0), b.1,
-    a.2 ∙ ap (λ (zs : List (ℕ × ℕ)). (depth, i) ∷ (a.0 ++ zs)) b.2 ∙ ap (λ (zs : List (ℕ × ℕ)). (depth, i) ∷ zs) (sym (append_assoc a.0 b.0 b.1)),
-    visits a.0 b.0 refl a.3 b.3, b.4)
+    let b = brothers under depth is stack a.1 a.4 in (
+      (depth, i) ∷ (a.0 ++ b.0),
+      b.1,
+      a.2 ∙ ap (λ (zs : List (ℕ × ℕ)). (depth, i) ∷ (a.0 ++ zs)) b.2 ∙ ap (λ (zs : List (ℕ × ℕ)). (depth, i) ∷ zs) (sym (append_assoc a.0 b.0 b.1)),
+      visits a.0 b.0 refl a.3 b.3,
+      b.4,
+    )
 
 -- What is written, with whatever the stack prints, walks the roots.
 pub record HasWalked (under : ℕ → List ℕ) (roots : List ℕ) (out stack : List (ℕ × ℕ)) : Type 0 where
@@ -108,9 +111,9 @@ meets-count under roots bound out waiting is =
 module _ (under : ℕ → List ℕ) (roots : List ℕ) (bound : ℕ) (out waiting : List ℕ) (n : ℕ) (forest : IsForest under roots bound) (is : Meets under roots bound out (n ∷ waiting)) where
   fresh-child : (i : ℕ) → Among (under n) i → Among out i ⊎ Among (n ∷ waiting) i → ⊥
   fresh-child i c met = elim (is.from i met) [
-      inl r ↦ forest.no_root n i c r
+    | inl r ↦ forest.no_root n i c r
     | inr p ↦ is.apart n (subst (Among out) (forest.one p.0 n i p.2 c) p.1) (inl refl)
-    ]
+  ]
 
   new-waiting : (i : ℕ) → Among (under n ++ waiting) i → Among (under n) i ⊎ Among waiting i
   new-waiting i h = among-append (under n) waiting i h
@@ -120,23 +123,23 @@ module _ (under : ℕ → List ℕ) (roots : List ℕ) (bound : ℕ) (out waitin
     once_out = once-push out n is.once_out (λ h. is.apart n h (inl refl));
     once_waiting = once-append (under n) waiting (forest.once n) is.once_waiting.1 (λ i c w. fresh-child i c (inr (inr w)));
     apart = λ i o w. elim (among-push out n i o) [
-        inl a ↦ elim (new-waiting i w) [ inl c ↦ fresh-child i c (inl a) | inr b ↦ is.apart i a (inr b) ]
+      | inl a ↦ elim (new-waiting i w) [ inl c ↦ fresh-child i c (inl a) | inr b ↦ is.apart i a (inr b) ]
       | inr e ↦ elim (new-waiting i w) [
-            inl c ↦ fresh-child i c (inr (inl e))
-          | inr b ↦ is.once_waiting.0 (subst (Among waiting) e b)
-          ]
-      ];
+        | inl c ↦ fresh-child i c (inr (inl e))
+        | inr b ↦ is.once_waiting.0 (subst (Among waiting) e b)
+      ]
+    ];
     small = λ i h. elim h [
-        inl o ↦ elim (among-push out n i o) [ inl a ↦ is.small i (inl a) | inr e ↦ is.small i (inr (inl e)) ]
+      | inl o ↦ elim (among-push out n i o) [ inl a ↦ is.small i (inl a) | inr e ↦ is.small i (inr (inl e)) ]
       | inr w ↦ elim (new-waiting i w) [ inl c ↦ forest.below n i c | inr b ↦ is.small i (inr (inr b)) ]
-      ];
+    ];
     from = λ i h. elim h [
-        inl o ↦ elim (among-push out n i o) [ inl a ↦ lift i (is.from i (inl a)) | inr e ↦ lift i (is.from i (inr (inl e))) ]
+      | inl o ↦ elim (among-push out n i o) [ inl a ↦ lift i (is.from i (inl a)) | inr e ↦ lift i (is.from i (inr (inl e))) ]
       | inr w ↦ elim (new-waiting i w) [
-            inl c ↦ inr (n, among-pushed out n, c)
-          | inr b ↦ lift i (is.from i (inr (inr b)))
-          ]
-      ];
+        | inl c ↦ inr (n, among-pushed out n, c)
+        | inr b ↦ lift i (is.from i (inr (inr b)))
+      ]
+    ];
   }
     where
       lift : (i : ℕ) → Among roots i ⊎ ((p : ℕ) × Among out p × Among (under p) i) → Among roots i ⊎ ((p : ℕ) × Among (out ++ n ∷ []) p × Among (under p) i)
@@ -172,13 +175,13 @@ shallow-more out old stack new depth i is are popped pushed = record {
   deep = λ x h.
       let len : length (out ++ (depth, i) ∷ []) ≡ length out + 1 = length_push out (depth, i) in
       elim (among-append (at_depth (depth + 1) is) stack x (subst (λ (st : List (ℕ × ℕ)). Among st x) pushed h)) [
-        inl a ↦
-          let r = among-mapped (λ (j : ℕ). (depth + 1, j)) is x a in
-          let e : depth + 1 ≡ x.0 = ap (λ (y : ℕ × ℕ). y.0) r.2 in
-          let top : depth ≤ length out = are.deep (depth, i) (subst (λ (st : List (ℕ × ℕ)). Among st (depth, i)) (sym popped) (inl refl)) in
-          omega arith
-      | inr b ↦
-          let le : x.0 ≤ length out = are.deep x (subst (λ (st : List (ℕ × ℕ)). Among st x) (sym popped) (inr b)) in
-          omega arith
+        | inl a ↦
+            let r = among-mapped (λ (j : ℕ). (depth + 1, j)) is x a in
+            let e : depth + 1 ≡ x.0 = ap (λ (y : ℕ × ℕ). y.0) r.2 in
+            let top : depth ≤ length out = are.deep (depth, i) (subst (λ (st : List (ℕ × ℕ)). Among st (depth, i)) (sym popped) (inl refl)) in
+            omega arith
+        | inr b ↦
+            let le : x.0 ≤ length out = are.deep x (subst (λ (st : List (ℕ × ℕ)). Among st x) (sym popped) (inr b)) in
+            omega arith
       ];
 }

@@ -68,13 +68,7 @@ impl Twigs {
     /// Adds a message whose id is new.
     ///
     /// `NoMemory` leaves the messages unchanged.
-    pub fn add(
-        &mut self,
-        number: u32,
-        id: &[u8],
-        refs: &Texts,
-        secs: u64,
-    ) -> Result<(), NoMemory>
+    pub fn add(&mut self, number: u32, id: &[u8], refs: &Texts, secs: u64) -> Result<(), NoMemory>
         requires { (t : Twig) → Among self.old t → t.id ≡ id.now → ⊥ }
         ensures ok { OnOk result (self.new ≡ self.old ++ record { number = number; id = id.now; refs = refs.now; secs = secs } ∷ []) }
         ensures err { OnErr result (self.new ≡ self.old) }
