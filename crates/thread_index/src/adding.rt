@@ -41,7 +41,8 @@ fn gather_one(
     label: u32,
     target: u32,
 ) -> Result<(), NoMemory>
-    ensures { OnOk result (MovesList (list_at members.old) (list_at members.new) label target moved.old.items moved.new.items) }
+    ensures { OnOk result (MovesList (list_at members.old) (list_at members.new) label target
+        moved.old.items moved.new.items) }
 {
     if label == target {
         return Ok(());
@@ -58,7 +59,8 @@ pub(crate) fn gather(
     touched: &[u32],
     target: u32,
 ) -> Result<Vec<u32>, NoMemory>
-    ensures { IfOk result (λ moved. Gathers (list_at members.old) (list_at members.new) touched.now target moved.items) }
+    ensures { IfOk result (λ moved. Gathers (list_at members.old) (list_at members.new) touched.now
+        target moved.items) }
 {
     let mut moved = Vec::new(alloc);
     for label in touched {
@@ -90,7 +92,8 @@ pub(crate) fn append(
     label: u32,
     rows: &[u32],
 ) -> Result<(), NoMemory>
-    ensures { OnOk result (PutsList (list_at members.old) (list_at members.new) label (list_at members.old label ++ rows.now)) }
+    ensures { OnOk result (PutsList (list_at members.old) (list_at members.new) label
+        (list_at members.old label ++ rows.now)) }
 {
     let mut list = take_list(alloc, members, label);
     list.extend_from_slice(rows)?;
@@ -100,7 +103,8 @@ pub(crate) fn append(
 
 /// Appends a number to the list of a key.
 fn hold_one(alloc: Global, holders: &mut ListsByKey, key: &[u8], n: u32) -> Result<(), NoMemory>
-    ensures { OnOk result (HeldBy (list_at_key holders.old) (list_at_key holders.new) (key.now ∷ []) n) }
+    ensures { OnOk result (HeldBy (list_at_key holders.old) (list_at_key holders.new)
+        (key.now ∷ []) n) }
 {
     let mut list = take_key(alloc, holders, key);
     list.push(n)?;

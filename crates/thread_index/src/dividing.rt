@@ -22,7 +22,8 @@ type SeenKeys = BTreeSet<Vec<u8>>;
 /// Moves a number to the end of a part, if it is pending.
 fn move_one(pending: &mut BTreeSet<u32>, part: &mut Vec<u32>, n: u32) -> Result<(), NoMemory>
     requires { Once pending.old.keys }
-    ensures { OnOk result (Moves (Among (n ∷ [])) pending.old.keys pending.new.keys part.old.items part.new.items) }
+    ensures { OnOk result (Moves (Among (n ∷ [])) pending.old.keys pending.new.keys part.old.items
+        part.new.items) }
 {
     if !pending.remove(&n) {
         return Ok(());
@@ -34,7 +35,8 @@ fn move_one(pending: &mut BTreeSet<u32>, part: &mut Vec<u32>, n: u32) -> Result<
 /// Moves the pending ones of some numbers to the end of a part.
 fn move_all(pending: &mut BTreeSet<u32>, part: &mut Vec<u32>, ns: &[u32]) -> Result<(), NoMemory>
     requires { Once pending.old.keys }
-    ensures { OnOk result (Moves (Among ns.now) pending.old.keys pending.new.keys part.old.items part.new.items) }
+    ensures { OnOk result (Moves (Among ns.now) pending.old.keys pending.new.keys part.old.items
+        part.new.items) }
 {
     for n in ns {
         move_one(pending, part, *n)?;
@@ -53,7 +55,8 @@ fn visit_key(
 ) -> Result<(), NoMemory>
     requires once { Once pending.old.keys }
     requires seen { AreSeen seen.old (list_at_key holders.now) pending.old.keys }
-    ensures moves { OnOk result (Moves (Among (list_at_key holders.now key.now)) pending.old.keys pending.new.keys part.old.items part.new.items) }
+    ensures moves { OnOk result (Moves (Among (list_at_key holders.now key.now)) pending.old.keys
+        pending.new.keys part.old.items part.new.items) }
     ensures seen { OnOk result (AreSeen seen.new (list_at_key holders.now) pending.new.keys) }
 {
     if seen.contains(key) {
@@ -76,7 +79,8 @@ fn visit_keys(
 ) -> Result<(), NoMemory>
     requires once { Once pending.old.keys }
     requires seen { AreSeen seen.old (list_at_key holders.now) pending.old.keys }
-    ensures moves { OnOk result (Moves (HoldsOne (list_at_key holders.now) keys.now) pending.old.keys pending.new.keys part.old.items part.new.items) }
+    ensures moves { OnOk result (Moves (HoldsOne (list_at_key holders.now) keys.now)
+        pending.old.keys pending.new.keys part.old.items part.new.items) }
     ensures seen { OnOk result (AreSeen seen.new (list_at_key holders.now) pending.new.keys) }
 {
     for key in keys {
@@ -98,7 +102,8 @@ fn visit(
     requires once { Once pending.old.keys }
     requires seen { AreSeen seen.old (list_at_key holders.now) pending.old.keys }
     requires held { AreHolders rows.now.entries (list_at_key holders.now) }
-    ensures moves { OnOk result (Moves (SharesKey rows.now.entries (list_at_key holders.now) n) pending.old.keys pending.new.keys part.old.items part.new.items) }
+    ensures moves { OnOk result (Moves (SharesKey rows.now.entries (list_at_key holders.now) n)
+        pending.old.keys pending.new.keys part.old.items part.new.items) }
     ensures seen { OnOk result (AreSeen seen.new (list_at_key holders.now) pending.new.keys) }
 {
     let Some(keys) = rows.get(&n) else {
@@ -119,7 +124,8 @@ fn walk(
     requires once { Once pending.old.keys }
     requires held { AreHolders rows.now.entries (list_at_key holders.now) }
     requires seed { Among pending.old.keys seed → ⊥ }
-    ensures { IfOk result (λ part. IsPart rows.now.entries (list_at_key holders.now) pending.old.keys pending.new.keys seed part.items (length part.items)) }
+    ensures { IfOk result (λ part. IsPart rows.now.entries (list_at_key holders.now)
+        pending.old.keys pending.new.keys seed part.items (length part.items)) }
 {
     let mut part = Vec::new(alloc);
     part.push(seed)?;
@@ -145,8 +151,10 @@ pub(crate) fn divide<L: Ledger>(
     mut pending: BTreeSet<u32>,
     steps: &mut Steps<L>,
 ) -> Result<(), NoMemory>
-    requires { IsPartial rows.now.entries pending.keys labels.old (list_at members.old) (list_at_key holders.now) }
-    ensures index { OnOk result (IsPartial rows.now.entries [] labels.new (list_at members.new) (list_at_key holders.now)) }
+    requires { IsPartial rows.now.entries pending.keys labels.old (list_at members.old)
+        (list_at_key holders.now) }
+    ensures index { OnOk result (IsPartial rows.now.entries [] labels.new (list_at members.new)
+        (list_at_key holders.now)) }
     ensures steps { OnOk result (steps.new ≡ steps.old + length pending.keys) }
 {
     while let Some(seed) = pending.pop_first() {

@@ -67,7 +67,8 @@ pub(crate) fn put_key(
     key: &[u8],
     list: Vec<u32>,
 ) -> Result<(), NoMemory>
-    ensures { OnOk result (PutsKey (list_at_key lists.old) (list_at_key lists.new) key.now list.items) }
+    ensures { OnOk result (PutsKey (list_at_key lists.old) (list_at_key lists.new) key.now
+        list.items) }
 {
     if list.is_empty() {
         let _ = lists.remove(key);

@@ -51,7 +51,8 @@ impl Tables {
 
     /// Returns whether there is a row of a number.
     pub(crate) fn has_row(&self, n: u32) -> bool
-        ensures { MatchBool result (IsNew self.now.rows.entries n → ⊥) (IsNew self.now.rows.entries n) }
+        ensures { MatchBool result (IsNew self.now.rows.entries n → ⊥)
+            (IsNew self.now.rows.entries n) }
     {
         self.rows.contains_key(&n)
     }
@@ -104,7 +105,8 @@ impl Tables {
     /// Notes the label of the rows that have a key, if there are some.
     fn note_label(&self, found: &mut Vec<u32>, key: &[u8]) -> Result<(), NoMemory>
         requires { AreTables self.now }
-        ensures { OnOk result (NotesLabel self.now.rows.entries self.now.labels key.now found.old.items found.new.items) }
+        ensures { OnOk result (NotesLabel self.now.rows.entries self.now.labels key.now
+            found.old.items found.new.items) }
     {
         let Some(label) = self.label_of_key(key) else {
             return Ok(());
@@ -116,7 +118,8 @@ impl Tables {
     /// Returns the labels of the rows that have one of some keys.
     fn touched(&self, alloc: Global, keys: &[Bytes]) -> Result<Vec<u32>, NoMemory>
         requires { AreTables self.now }
-        ensures { IfOk result (λ found. IsTouched self.now.rows.entries (label_in self.now.labels) keys.now found.items) }
+        ensures { IfOk result (λ found. IsTouched self.now.rows.entries (label_in self.now.labels)
+            keys.now found.items) }
     {
         let mut found = Vec::new(alloc);
         for key in keys {
@@ -139,8 +142,10 @@ impl Tables {
         requires index { AreTables self.old }
         requires new { IsNew self.old.rows.entries n }
         ensures index { OnOk result (AreTables self.new) }
-        ensures rows { OnOk result (self.new.rows.entries ≡ insert_entry nat_cmp self.old.rows.entries n keys.now) }
-        ensures steps { OnOk result (IsCostOfAdd self.old.rows.entries keys.now steps.old steps.new) }
+        ensures rows { OnOk result (self.new.rows.entries ≡ insert_entry nat_cmp
+            self.old.rows.entries n keys.now) }
+        ensures steps { OnOk result (IsCostOfAdd self.old.rows.entries keys.now steps.old
+            steps.new) }
     {
         let row = keys.copy()?;
         let touched = self.touched(alloc, keys.as_slice())?;
@@ -165,7 +170,8 @@ impl Tables {
     ) -> Result<(), NoMemory>
         requires { AreTables self.old }
         ensures index { OnOk result (AreTables self.new) }
-        ensures rows { OnOk result (self.new.rows.entries ≡ remove_entry (is_at (nat_cmp n)) self.old.rows.entries) }
+        ensures rows { OnOk result (self.new.rows.entries ≡ remove_entry (is_at (nat_cmp n))
+            self.old.rows.entries) }
         ensures steps { OnOk result (IsCostOfTake self.old.rows.entries n steps.old steps.new) }
     {
         let Some(row) = self.rows.remove(&n) else {

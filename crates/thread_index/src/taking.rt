@@ -39,7 +39,8 @@ fn leave(list: &mut Vec<u32>, n: u32)
 
 /// Removes a number from the list of a key.
 fn let_go_one(alloc: Global, holders: &mut ListsByKey, key: &[u8], n: u32) -> Result<(), NoMemory>
-    ensures { OnOk result (LetGo (list_at_key holders.old) (list_at_key holders.new) (key.now ∷ []) n) }
+    ensures { OnOk result (LetGo (list_at_key holders.old) (list_at_key holders.new) (key.now ∷ [])
+        n) }
 {
     let mut list = take_key(alloc, holders, key);
     leave(&mut list, n);

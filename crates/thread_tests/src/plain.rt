@@ -120,7 +120,8 @@ fn push_all(keys: &mut Texts, more: &[Bytes]) -> Result<(), NoMemory>
 
 /// Appends the keys of a row, if it has one of some keys.
 fn push_shared(next: &mut Texts, keys: &[Bytes], row: &[Bytes]) -> Result<(), NoMemory>
-    ensures { OnOk result (next.new ≡ (if list_any (has keys.now) row.now then next.old ++ row.now else next.old)) }
+    ensures { OnOk result (next.new ≡ (if list_any (has keys.now) row.now then next.old ++ row.now
+        else next.old)) }
 {
     if !shares_key(keys, row) {
         return Ok(());
@@ -152,7 +153,8 @@ fn reach(rows: &[PlainRow], keys: &Texts) -> Result<Texts, NoMemory>
 
 /// Appends the number of a row, if it has one of some keys.
 fn push_number(numbers: &mut Numbers, keys: &[Bytes], row: &PlainRow) -> Result<(), NoMemory>
-    ensures { OnOk result (numbers.new ≡ (if shares keys.now row.now then numbers.old ++ row.now.0 ∷ [] else numbers.old)) }
+    ensures { OnOk result (numbers.new ≡ (if shares keys.now row.now then numbers.old ++ row.now.0
+        ∷ [] else numbers.old)) }
 {
     if !shares_key(keys, row.1.as_slice()) {
         return Ok(());
@@ -162,7 +164,8 @@ fn push_number(numbers: &mut Numbers, keys: &[Bytes], row: &PlainRow) -> Result<
 
 /// Returns the numbers of the rows that have one of some keys.
 fn numbers_with(alloc: Global, rows: &[PlainRow], keys: &Texts) -> Result<Numbers, NoMemory>
-    ensures { IfOk result (λ numbers. numbers ≡ map (λ (r : Row). r.0) (filter (shares keys.now) rows.now)) }
+    ensures { IfOk result (λ numbers. numbers ≡ map (λ (r : Row). r.0)
+        (filter (shares keys.now) rows.now)) }
 {
     let mut numbers = Numbers::new(alloc);
     for row in rows {

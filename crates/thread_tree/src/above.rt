@@ -15,7 +15,8 @@ type NodeIndex = BTreeMap<Vec<u8>, usize>;
 
 /// Puts the index of an id into an index.
 fn put_index(alloc: Global, index: &mut NodeIndex, id: &[u8], i: usize) -> Result<(), NoMemory>
-    ensures { OnOk result ((q : List ℕ) → at_id index.new q ≡ (if bytes_eq q id.now then Some i else at_id index.old q)) }
+    ensures { OnOk result ((q : List ℕ) → at_id index.new q ≡ (if bytes_eq q id.now then Some i
+        else at_id index.old q)) }
 {
     let key = id.to_vec(alloc)?;
     index.insert(key, i)?;

@@ -159,7 +159,13 @@ fn note_placings(
     ensures { OnOk result (PlacesAll placings.old placings.new number refs.now) }
 {
     for i in 1..refs.len() {
-        note_placing(alloc, placings, refs[i].as_slice(), number, refs[i - 1].as_slice())?;
+        note_placing(
+            alloc,
+            placings,
+            refs[i].as_slice(),
+            number,
+            refs[i - 1].as_slice(),
+        )?;
     }
     Ok(())
 }
@@ -208,10 +214,14 @@ impl Facts {
     }
 
     /// Returns the node of a ghost.
-    pub(crate) fn ghost(&self, alloc: Global, id: &[u8]) -> Result<PlainNode, NoMemory>
+    pub(crate) fn ghost_of(&self, alloc: Global, id: &[u8]) -> Result<PlainNode, NoMemory>
         ensures { IfOk result (λ node. node_in node ≡ kept_ghost self.now id.now) }
     {
-        let naming = self.naming.get(id).copied().unwrap_or(Naming { number: 0, secs: 0 });
+        let naming = self
+            .naming
+            .get(id)
+            .copied()
+            .unwrap_or(Naming { number: 0, secs: 0 });
         Ok((naming.secs, naming.number, id.to_vec(alloc)?))
     }
 }

@@ -91,7 +91,8 @@ fn push_root(roots: &mut Vec<usize>, flag: bool, i: usize) -> Result<(), NoMemor
 
 /// Returns the indices of the roots.
 pub(crate) fn roots_of(alloc: Global, flags: &[bool]) -> Result<Vec<usize>, NoMemory>
-    ensures { IfOk result (λ roots. roots.items ≡ filter (flag_at flags.now) (count_up (length flags.now))) }
+    ensures { IfOk result (λ roots. roots.items ≡ filter (flag_at flags.now)
+        (count_up (length flags.now))) }
 {
     let mut roots = Vec::new(alloc);
     for i in 0..flags.len() {

@@ -22,7 +22,8 @@ type NodeSet = BTreeSet<PlainNode>;
 
 /// Puts the node of a message at its place.
 fn put_live(alloc: Global, nodes: &mut NodeSet, twig: &Twig) -> Result<(), NoMemory>
-    ensures { OnOk result (nodes_in nodes.new.keys ≡ insert_key node_cmp (nodes_in nodes.old.keys) (live_node twig.now)) }
+    ensures { OnOk result (nodes_in nodes.new.keys ≡ insert_key node_cmp (nodes_in nodes.old.keys)
+        (live_node twig.now)) }
 {
     let id = twig.id.as_slice().to_vec(alloc)?;
     nodes.insert((twig.secs, twig.number, id))?;
@@ -31,7 +32,8 @@ fn put_live(alloc: Global, nodes: &mut NodeSet, twig: &Twig) -> Result<(), NoMem
 
 /// Puts the nodes of messages at their places.
 fn put_all_live(alloc: Global, nodes: &mut NodeSet, twigs: &[Twig]) -> Result<(), NoMemory>
-    ensures { OnOk result (nodes_in nodes.new.keys ≡ put_nodes (nodes_in nodes.old.keys) (map live_node twigs.now)) }
+    ensures { OnOk result (nodes_in nodes.new.keys ≡ put_nodes (nodes_in nodes.old.keys)
+        (map live_node twigs.now)) }
 {
     for twig in twigs {
         put_live(alloc, nodes, twig)?;
@@ -41,12 +43,14 @@ fn put_all_live(alloc: Global, nodes: &mut NodeSet, twigs: &[Twig]) -> Result<()
 
 /// Puts the node of a reference at its place, if it is a ghost.
 fn put_ghost(alloc: Global, nodes: &mut NodeSet, facts: &Facts, id: &[u8]) -> Result<(), NoMemory>
-    ensures { OnOk result (nodes_in nodes.new.keys ≡ (if kept_is_ghost facts.now id.now then insert_key node_cmp (nodes_in nodes.old.keys) (kept_ghost facts.now id.now) else nodes_in nodes.old.keys)) }
+    ensures { OnOk result (nodes_in nodes.new.keys ≡ (if kept_is_ghost facts.now id.now then
+        insert_key node_cmp (nodes_in nodes.old.keys) (kept_ghost facts.now id.now) else nodes_in
+        nodes.old.keys)) }
 {
     if !facts.is_ghost(id) {
         return Ok(());
     }
-    let node = facts.ghost(alloc, id)?;
+    let node = facts.ghost_of(alloc, id)?;
     nodes.insert(node)?;
     Ok(())
 }
@@ -58,7 +62,8 @@ fn put_ghosts(
     facts: &Facts,
     refs: &[Bytes],
 ) -> Result<(), NoMemory>
-    ensures { OnOk result (nodes_in nodes.new.keys ≡ put_nodes (nodes_in nodes.old.keys) (map (kept_ghost facts.now) (filter (kept_is_ghost facts.now) refs.now))) }
+    ensures { OnOk result (nodes_in nodes.new.keys ≡ put_nodes (nodes_in nodes.old.keys)
+        (map (kept_ghost facts.now) (filter (kept_is_ghost facts.now) refs.now))) }
 {
     for id in refs {
         put_ghost(alloc, nodes, facts, id.as_slice())?;
@@ -119,7 +124,8 @@ pub(crate) fn lines_of(
     walked: &[(u64, usize)],
 ) -> Result<Lines, NoMemory>
     requires { (x : ℕ × ℕ) → Among walked.now x → x.1 < length nodes.now }
-    ensures { IfOk result (λ lines. lines ≡ map (λ (x : ℕ × ℕ). kept_line facts.now x.0 (node_at (nodes_in nodes.now) x.1)) walked.now) }
+    ensures { IfOk result (λ lines. lines ≡ map (λ (x : ℕ × ℕ). kept_line facts.now x.0
+        (node_at (nodes_in nodes.now) x.1)) walked.now) }
 {
     let mut lines = Lines::new(alloc);
     for (depth, index) in walked {

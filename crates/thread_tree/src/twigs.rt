@@ -60,7 +60,8 @@ impl Twigs {
 
     /// Returns whether a message has an id. It goes over all messages.
     pub fn contains(&self, id: &[u8]) -> bool
-        ensures { MatchBool result ((t : Twig) × Among self.now t × (t.id ≡ id.now)) ((t : Twig) → Among self.now t → t.id ≡ id.now → ⊥) }
+        ensures { MatchBool result ((t : Twig) × Among self.now t × (t.id ≡ id.now))
+            ((t : Twig) → Among self.now t → t.id ≡ id.now → ⊥) }
     {
         has_id(self.twigs.as_slice(), id)
     }
@@ -70,7 +71,12 @@ impl Twigs {
     /// `NoMemory` leaves the messages unchanged.
     pub fn add(&mut self, number: u32, id: &[u8], refs: &Texts, secs: u64) -> Result<(), NoMemory>
         requires { (t : Twig) → Among self.old t → t.id ≡ id.now → ⊥ }
-        ensures ok { OnOk result (self.new ≡ self.old ++ record { number = number; id = id.now; refs = refs.now; secs = secs } ∷ []) }
+        ensures ok { OnOk result (self.new ≡ self.old ++ record {
+          number = number;
+          id = id.now;
+          refs = refs.now;
+          secs = secs;
+        } ∷ []) }
         ensures err { OnErr result (self.new ≡ self.old) }
     {
         let mut copy = Bytes::new(self.alloc);
