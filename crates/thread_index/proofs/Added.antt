@@ -7,7 +7,7 @@ use Rattle.thread_model.specs.Threads.{Row}
 use Rattle.thread_model.specs.Labelling.{IsLabelling, IsTouched, label_at, label_in, label_or_zero}
 use Rattle.thread_model.proofs.Members.{among-left, among-right, among-append, among-push, among-pushed, cases_among}
 use Rattle.thread_model.proofs.Numbers.{once-append, once-push}
-use Rattle.thread_model.proofs.Labels.{Adds, Relabels, joins}
+use Rattle.thread_model.proofs.ThreadLabels.{Adds, Relabels, joins}
 use Rattle.thread_model.proofs.Entries.{insert-cases, insert-here, insert-kept}
 use Rattle.thread_index.specs.Lists.{PutsList}
 use Rattle.thread_index.specs.Index.{IsNew}

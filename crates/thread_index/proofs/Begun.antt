@@ -7,7 +7,7 @@ use Rattle.thread_model.specs.Members.{Among, Once}
 use Rattle.thread_model.specs.Threads.{Row, Linked}
 use Rattle.thread_model.specs.Labelling.{label_at, label_in}
 use Rattle.thread_model.proofs.Numbers.{once-single}
-use Rattle.thread_model.proofs.Labels.{still-linked}
+use Rattle.thread_model.proofs.ThreadLabels.{still-linked}
 use Rattle.thread_model.proofs.Entries.{removed-cases, removed-kept}
 use Rattle.thread_index.specs.Lists.{PutsList}
 use Rattle.thread_index.specs.Tables.{IsIndex, AreHolders}

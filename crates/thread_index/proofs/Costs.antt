@@ -7,7 +7,7 @@ use Rattle.thread_model.specs.Labelling.{IsTouched, label_in}
 use Rattle.thread_model.proofs.Members.{among-append, among-map, among-mapped, among-filter}
 use Rattle.thread_model.proofs.Numbers.{once-length, once-append, once-filter, once-single}
 use Rattle.thread_model.proofs.Rounds.{thread-row, thread-linked, linked-thread}
-use Rattle.thread_model.proofs.Labels.{linked-label, thread-touched, touched-thread}
+use Rattle.thread_model.proofs.ThreadLabels.{linked-label, thread-touched, touched-thread}
 use Rattle.thread_index.specs.Index.{IsCostOfAdd, IsCostOfTake}
 use Rattle.thread_index.specs.Tables.{IsIndex}
 use Rattle.thread_index.specs.Adding.{IsTarget, Gathers}

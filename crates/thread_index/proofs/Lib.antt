@@ -7,3 +7,4 @@ pub mod Moved
 pub mod Parts
 pub mod Begun
 pub mod Labelled
+pub mod Shown

@@ -1,5 +1,5 @@
 -- Maps of lists after a list was put in or taken out.
-use Rattle.std.proofs.Common.{◌≡◌, ◌==◌, ℕ, Bool, true, false, cond, List, [], ◌∷◌, Option, Some, None, unwrap_or, if◌then◌else◌, refl, sym, ◌∙◌, ap, inl, nat_cmp, bytes_eq, slice_get, BTreeMap}
+use Rattle.std.proofs.Common.{◌≡◌, ◌==◌, ◌<◌, ℕ, Bool, true, false, cond, List, [], ◌∷◌, Option, Some, None, unwrap_or, if◌then◌else◌, refl, sym, ◌∙◌, ap, inl, nat_cmp, bytes_eq, slice_get, BTreeMap, suc, length, arith}
 use Rattle.std.specs.Cmp.Lexicographic.{slice_cmp}
 use Rattle.std.specs.Map.{remove_entry}
 use Rattle.std.specs.BTreeMap.{get, get_by, insert_entry, is_at}
@@ -7,6 +7,7 @@ use Rattle.std.specs.Global.{Vec}
 use Rattle.std.proofs.lemmas.Bool.{eq-eqb, ne_eqb}
 use Rattle.std.proofs.lemmas.Slice.Eq.{bytes_eq-Decides}
 use Rattle.thread_model.specs.Members.{Among}
+use Rattle.thread_model.specs.Labelling.{label_or_zero}
 use Rattle.thread_model.proofs.Entries.{at-eqb, none-some, some-none, some-same}
 use Rattle.thread_model.proofs.Texts.{found_after, lost_after}
 use Rattle.thread_index.specs.Lists.{items_in, list_at, list_at_key, PutsList, PutsKey}
@@ -78,3 +79,22 @@ first-none (x ∷ xs) e = absurd (some-none x e)
 pub first-some : (xs : List ℕ) (x : ℕ) → slice_get xs 0 ≡ Some x → Among xs x
 first-some [] x e = absurd (none-some x e)
 first-some (y ∷ ys) x e = inl (sym (some-same y x e))
+
+-- Lists of no items.
+pub length-none : {X : Type 0} (xs : List X) → length xs ≡ 0 → xs ≡ []
+length-none [] e = refl
+length-none (x ∷ xs) e = absurd (succ-none (length xs) e)
+  where
+    succ-none : (n : ℕ) → suc n ≡ 0 → ⊥
+    succ-none n e = omega arith
+
+pub none-by : {X : Type 0} (xs : List X) → (0 < length xs → ⊥) → xs ≡ []
+none-by [] f = refl
+none-by (x ∷ xs) f = absurd (f (some-left (length xs)))
+  where
+    some-left : (n : ℕ) → 0 < suc n
+    some-left n = omega arith
+
+pub unwrap-zero : (found : Option ℕ) → unwrap_or found 0 ≡ label_or_zero found
+unwrap-zero None = refl
+unwrap-zero (Some label) = refl

@@ -34,6 +34,15 @@ moves-idle Kind pending part once gone = record {
   once_xs = tt;
 }
 
+-- The one number was not pending.
+pub moves-missing : (pending pending' part : List ℕ) (n : ℕ) → Once pending → list_any (is_at (nat_cmp n)) pending ≡ false → pending' ≡ pending → Moves (Among (n ∷ [])) pending pending' part part
+moves-missing pending pending' part n once off same =
+    subst (λ ks. Moves (Among (n ∷ [])) pending ks part part) (sym same)
+    (moves-idle (Among (n ∷ [])) pending part once (λ x in_x h. elim in_x [
+      | inl e ↦ false≢true (sym off ∙ among-at pending n (subst (Among pending) e h))
+      | inr none ↦ none
+    ]))
+
 -- One number was removed from the pending ones and put behind.
 pub moves-one : (pending pending' part part' : List ℕ) (n : ℕ) → Once pending → Among pending n → pending' ≡ remove_key (is_at (nat_cmp n)) pending → length pending' + 1 ≡ length pending → IsStrictlySortedBy nat_cmp pending' → part' ≡ part ++ n ∷ [] → Moves (Among (n ∷ [])) pending pending' part part'
 moves-one pending pending' part part' n once here is len sorted pushed = record {

@@ -31,7 +31,7 @@ part-begins rows holders pending part seed are once fresh is = record {
 }
 
 -- One row more was visited.
-module _ (rows : List Row) (holders : List ℕ → List ℕ) (pending mid pending' : List ℕ) (seed : ℕ) (part part' : List ℕ) (i n : ℕ) (are : AreHolders rows holders) (in' : i < length part) (here : n ≡ get_or part i 0) (is : IsPart rows holders pending mid seed part i) (moves : Moves (SharesKey rows holders n) mid pending' part part') where
+module _ (rows : List Row) (holders : List ℕ → List ℕ) (pending mid pending' : List ℕ) (seed : ℕ) (part part' : List ℕ) (i n d : ℕ) (are : AreHolders rows holders) (in' : i < length part) (here : n ≡ get_or part i d) (is : IsPart rows holders pending mid seed part i) (moves : Moves (SharesKey rows holders n) mid pending' part part') where
   part-cases : (x : ℕ) → Among part' x → Among part x ⊎ Among moves.xs x
   part-cases x h = among-append part moves.xs x (subst (λ ns. Among ns x) moves.is h)
 
@@ -48,8 +48,8 @@ module _ (rows : List Row) (holders : List ℕ → List ℕ) (pending mid pendin
       let inside : i < length part' = omega arith in
       let below : i ≤ length part = omega arith in
       let first : take i part' ≡ take i part = ap (take i) moves.is ∙ take-append-le i part moves.xs below in
-      let last : get_or part' i 0 ≡ get_or part i 0 = ap (λ (ns : List ℕ). get_or ns i 0) moves.is ∙ get_or_append_left part moves.xs 0 i in' in
-      elim (take-cases part' i 0 m inside h) [
+      let last : get_or part' i d ≡ get_or part i d = ap (λ (ns : List ℕ). get_or ns i d) moves.is ∙ get_or_append_left part moves.xs d i in' in
+      elim (take-cases part' i d m inside h) [
         | inl a ↦ inl (subst (λ ns. Among ns m) first a)
         | inr e ↦ inr (e ∙ last ∙ sym here)
       ]
@@ -61,7 +61,7 @@ module _ (rows : List Row) (holders : List ℕ → List ℕ) (pending mid pendin
   ]
 
   in-visited : Among part n
-  in-visited = subst (Among part) (sym here) (get-among part i 0 in')
+  in-visited = subst (Among part) (sym here) (get-among part i d in')
 
   -- A moved row is linked to the one that was visited, so to the first one.
   joined-new : (r s : Row) → Among rows r → Among moves.xs r.0 → Among rows s → s.0 ≡ seed → Linked rows r s

@@ -1,0 +1,16 @@
+use Rattle.std.proofs.Common.{rules, ◌≡◌, ◌+◌, ◌++◌, ◌∷◌, [], length, IfOk, OnOk, ℕ, ◌-◌, ◌*◌, ◌<◌, ◌≤◌, ◌/◌, ◌%◌, Bool, true, false, nat_eq, nat_lt, List, slice_index_or, slice_set, bit_and, bit_or, Fits, w8, w32, w64, Bor, MutBor}
+use Rattle.thread_index.specs.Adding.{Gathers, GiveLabel, HeldBy, IsLonger, IsTarget, MovesList}
+use Rattle.thread_index.specs.Lists.{PutsList, list_at, list_at_key}
+use Rattle.std.proofs.Common.{arith}
+use Rattle.thread_index.proofs.Gathered.{gives-take}
+use Rattle.thread_index.proofs.adding.relabel.Goals as goal
+
+-- src/adding.rt:82:5
+pub loop-n-preserved : goal.loop-n-preserved
+loop-n-preserved g c =
+    record {
+      labels = gives-take c.args.labels.now c.loop-n.labels c.set.new.self c.args.ns.now c.loop-n.n-index 0 c.args.label c.loop-n-test.true c.loop-n.invariant.labels c.in_ok-set.ensures.set;
+      steps = let before : c.loop-n.steps ≡ c.args.steps.now + c.loop-n.n-index = c.loop-n.invariant.steps in
+          let step : c.set.new.steps ≡ c.loop-n.steps + 1 = c.in_ok-set.ensures.steps in
+          omega arith;
+    }

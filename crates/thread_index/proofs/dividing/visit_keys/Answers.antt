@@ -1,0 +1,18 @@
+use Rattle.std.proofs.Common.{rules, ◌≡◌, ◌+◌, ◌∷◌, [], length, IfOk, OnOk, ℕ, ◌-◌, ◌*◌, ◌<◌, ◌≤◌, ◌/◌, ◌%◌, Bool, true, false, nat_eq, nat_lt, List, ◌++◌, slice_index_or, slice_set, bit_and, bit_or, Fits, w8, w32, w64, Bor, MutBor}
+use Rattle.thread_index.specs.Lists.{list_at, list_at_key}
+use Rattle.thread_index.specs.Tables.{AreHolders}
+use Rattle.thread_index.specs.Taking.{AreSeen, HoldsOne, IsPart, IsPartial, Moves, SharesKey}
+use Rattle.thread_model.specs.Members.{Among, Once}
+use Rattle.std.proofs.Common.{sym, ◌∙◌, subst, get_or}
+use Rattle.thread_index.proofs.Moved.{keys-take}
+use Rattle.thread_index.proofs.dividing.visit_keys.Goals as goal
+
+-- src/dividing.rt:86:5
+pub loop-key-preserved : goal.loop-key-preserved
+loop-key-preserved c =
+    let at : c.as_slice.result.now ≡ get_or c.args.keys.now c.loop-key.key-index c.key-item.result = c.as_slice.ensures ∙ c.key-item.is in
+    record {
+      moves = keys-take (list_at_key c.args.holders.now) c.args.keys.now c.loop-key.key-index c.key-item.result c.args.pending.now.keys c.loop-key.pending.keys c.visit_key.new.pending.keys c.args.part.now.items c.loop-key.part.items c.visit_key.new.part.items c.loop-key-test.true c.loop-key.invariant.moves
+          (subst (λ (k : List ℕ). Moves (Among (list_at_key c.args.holders.now k)) c.loop-key.pending.keys c.visit_key.new.pending.keys c.loop-key.part.items c.visit_key.new.part.items) at c.in_ok-visit_key.ensures.moves);
+      seen = c.in_ok-visit_key.ensures.seen;
+    }

@@ -1,0 +1,23 @@
+use Rattle.std.proofs.Common.{rules, ◌≡◌, [], IfOk, OnOk, ℕ, ◌+◌, ◌-◌, ◌*◌, ◌<◌, ◌≤◌, length, ◌/◌, ◌%◌, Bool, true, false, nat_eq, nat_lt, List, ◌∷◌, ◌++◌, slice_index_or, slice_set, bit_and, bit_or, Fits, w8, w32, w64, Bor, MutBor}
+use Rattle.std.specs.Bool.{MatchBool}
+use Rattle.std.specs.Map.{remove_entry}
+use Rattle.std.specs.BTreeMap.{insert_entry, is_at}
+use Rattle.std.specs.Ordering.{nat_cmp}
+use Rattle.thread_model.specs.Members.{Rises}
+use Rattle.thread_model.specs.Labelling.{IsTouched, label_in}
+use Rattle.thread_index.specs.Adding.{NotesLabel}
+use Rattle.thread_index.specs.Index.{IsCostOfAdd, IsCostOfTake, IsLabelOf, IsNew, ListsThread, members_of}
+use Rattle.thread_index.specs.Tables.{AreTables, IsLabelOfKey}
+use Rattle.std.proofs.Common.{sym, subst}
+use Rattle.thread_model.specs.Members.{Among}
+use Rattle.thread_index.specs.Lists.{list_at, list_at_key}
+use Rattle.thread_index.proofs.MapLists.{first-some}
+use Rattle.thread_index.proofs.Shown.{key-shown}
+use Rattle.thread_index.proofs.tables.Tables.label_of_key.Goals as goal
+
+-- src/tables.rt:97:5
+pub returns : goal.returns
+returns c =
+    key-shown c.args.self.now.rows.entries c.args.self.now.labels (list_at c.args.self.now.members) (list_at_key c.args.self.now.holders) c.requires c.args.key.now c.in_ok-first.first.now
+    (subst (λ (ns : List ℕ). Among ns c.in_ok-first.first.now) c.list_of_key.ensures (first-some c.list_of_key.result.now c.in_ok-first.first.now (sym c.in_ok-first.ensures.value)))
+    c.get.result c.get.ensures
