@@ -1,11 +1,11 @@
 -- An index whose row was taken, with the rest of its thread pending; and one with nothing pending.
-use Rattle.std.proofs.Common.{◌≡◌, ◌⊎◌, ℕ, List, [], ◌∷◌, map, Option, Some, refl, sym, ◌∙◌, ap, subst, inl, inr, nat_cmp}
+use Rattle.std.proofs.Common.{◌≡◌, ◌⊎◌, ℕ, List, [], map, sym, ◌∙◌, ap, subst, inl, inr, nat_cmp}
 use Rattle.std.specs.Map.{remove_entry}
 use Rattle.std.specs.BTreeMap.{is_at}
 use Rattle.std.proofs.lemmas.Bool.{cases_eq}
 use Rattle.thread_model.specs.Members.{Among, Once}
 use Rattle.thread_model.specs.Threads.{Row, Linked}
-use Rattle.thread_model.specs.Labelling.{label_at, label_in}
+use Rattle.thread_model.specs.Labelling.{label_in}
 use Rattle.thread_model.proofs.Numbers.{once-single}
 use Rattle.thread_model.proofs.ThreadLabels.{still-linked}
 use Rattle.thread_model.proofs.Entries.{removed-cases, removed-kept}

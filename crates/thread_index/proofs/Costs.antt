@@ -1,11 +1,11 @@
 -- What adding and taking a row cost.
-use Rattle.std.proofs.Common.{◌≡◌, ◌⊎◌, ◌+◌, ◌≤◌, ℕ, List, [], ◌∷◌, ◌++◌, length, map, refl, sym, ◌∙◌, ap, subst, inl, inr, arith, length-append}
+use Rattle.std.proofs.Common.{◌≡◌, ◌+◌, ◌≤◌, ℕ, List, [], ◌∷◌, ◌++◌, length, map, sym, ◌∙◌, ap, subst, inl, inr, arith, length-append}
 use Rattle.std.proofs.lemmas.List.{length-map, length_push}
 use Rattle.thread_model.specs.Members.{Among, Once}
 use Rattle.thread_model.specs.Threads.{Row, thread, shares, reached}
 use Rattle.thread_model.specs.Labelling.{IsTouched, label_in}
-use Rattle.thread_model.proofs.Members.{among-append, among-map, among-mapped, among-filter}
-use Rattle.thread_model.proofs.Numbers.{once-length, once-append, once-filter, once-single}
+use Rattle.thread_model.proofs.Members.{among-append, among-map, among-mapped}
+use Rattle.thread_model.proofs.Numbers.{once-length, once-append, once-filter}
 use Rattle.thread_model.proofs.Rounds.{thread-row, thread-linked, linked-thread}
 use Rattle.thread_model.proofs.ThreadLabels.{linked-label, thread-touched, touched-thread}
 use Rattle.thread_index.specs.Index.{IsCostOfAdd, IsCostOfTake}

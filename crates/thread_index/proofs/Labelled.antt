@@ -1,7 +1,6 @@
 -- A thread whose rows are pending, after one part more got its label.
-use Rattle.std.proofs.Common.{◌≡◌, ◌⊎◌, ℕ, List, [], ◌∷◌, length, take, Option, Some, refl, sym, ◌∙◌, ap, subst, inl, inr, arith}
+use Rattle.std.proofs.Common.{◌≡◌, ◌⊎◌, ℕ, List, ◌∷◌, length, Some, refl, sym, ◌∙◌, ap, subst, inl, inr, arith}
 use Rattle.std.proofs.lemmas.Bool.{cases_eq}
-use Rattle.std.proofs.lemmas.List.{take_all}
 use Rattle.thread_model.specs.Members.{Among, Once}
 use Rattle.thread_model.specs.Threads.{Row, Linked}
 use Rattle.thread_model.specs.Labelling.{label_at, label_in, label_or_zero}
@@ -9,7 +8,7 @@ use Rattle.thread_model.proofs.Members.{cases_among, take-end}
 use Rattle.thread_model.proofs.Rounds.{linked-sym, linked-trans}
 use Rattle.thread_index.specs.Lists.{PutsList}
 use Rattle.thread_index.specs.Adding.{GiveLabel}
-use Rattle.thread_index.specs.Taking.{IsPart, IsPartial, SharesKey}
+use Rattle.thread_index.specs.Taking.{IsPart, IsPartial}
 use Rattle.thread_index.proofs.MapLists.{put-here, put-other}
 use Rattle.thread_index.proofs.Added.{label-found, found-label}
 

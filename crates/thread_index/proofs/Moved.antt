@@ -1,5 +1,5 @@
 -- Pending numbers that were moved to the end of a part, one kind after the other.
-use Rattle.std.proofs.Common.{◌≡◌, ◌⊎◌, ◌+◌, ◌≤◌, ◌<◌, ℕ, Bool, true, false, List, [], ◌∷◌, ◌++◌, length, take, get_or, refl, sym, ◌∙◌, ap, subst, inl, inr, arith, append_assoc, append-nil, nat_cmp, bytes_eq, BTreeSet}
+use Rattle.std.proofs.Common.{◌≡◌, ◌⊎◌, ◌+◌, ◌≤◌, ◌<◌, ℕ, false, List, [], ◌∷◌, ◌++◌, length, take, get_or, refl, sym, ◌∙◌, ap, subst, inl, inr, arith, append_assoc, append-nil, nat_cmp, BTreeSet}
 use Rattle.std.specs.List.{list_any}
 use Rattle.std.specs.Cmp.Lexicographic.{slice_cmp}
 use Rattle.std.specs.BTreeMap.{is_at}
@@ -15,9 +15,9 @@ use Rattle.thread_model.specs.Members.{Among, Once}
 use Rattle.thread_model.specs.Threads.{Row}
 use Rattle.thread_model.proofs.Members.{among-left, among-right, among-append, take-cases, take-old, take-new, take-among, take-end}
 use Rattle.thread_model.proofs.Numbers.{once-append, sorted-once, once-single}
-use Rattle.thread_model.proofs.Entries.{at-among, among-at, key-removed, key-left, any-inserted}
+use Rattle.thread_model.proofs.Entries.{among-at, key-removed, key-left, any-inserted}
 use Rattle.thread_index.specs.Tables.{AreHolders}
-use Rattle.thread_index.specs.Taking.{Moves, HoldsOne, SharesKey, AreSeen, has_seen}
+use Rattle.thread_index.specs.Taking.{Moves, HoldsOne, SharesKey, AreSeen}
 
 -- Nothing of a kind was pending.
 pub moves-idle : (Kind : ℕ → Type 0) (pending part : List ℕ) → Once pending → ((x : ℕ) → Kind x → Among pending x → ⊥) → Moves Kind pending pending part part

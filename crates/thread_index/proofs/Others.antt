@@ -1,10 +1,10 @@
 -- The loops of taking a row: the other rows of its list, and the keys that let it go.
-use Rattle.std.proofs.Common.{◌≡◌, ◌⊎◌, ◌==◌, ◌+◌, ◌≤◌, ◌<◌, ℕ, Bool, true, false, not, List, [], ◌∷◌, length, take, get_or, refl, sym, ◌∙◌, ap, subst, inl, inr, nat_cmp, bytes_eq}
+use Rattle.std.proofs.Common.{◌≡◌, ◌==◌, ◌+◌, ◌≤◌, ◌<◌, ℕ, not, List, [], ◌∷◌, length, take, get_or, refl, sym, ◌∙◌, ap, subst, inl, inr, nat_cmp, bytes_eq}
 use Rattle.std.specs.BTreeSet.{insert_key}
 use Rattle.std.specs.List.Sorted.{IsStrictlySortedBy}
-use Rattle.std.proofs.lemmas.Bool.{cases_Bool, false≢true, not-true, eqb-false, ne_eqb, eq-eqb}
+use Rattle.std.proofs.lemmas.Bool.{cases_Bool, not-true, eqb-false, ne_eqb}
 use Rattle.std.proofs.lemmas.Slice.Eq.{bytes_eq-Decides}
-use Rattle.thread_model.specs.Members.{Among, Once, Rises}
+use Rattle.thread_model.specs.Members.{Among, Once}
 use Rattle.thread_model.proofs.Members.{among-filter, among-filtered, take-cases, take-old, take-new, take-among, take-end}
 use Rattle.thread_model.proofs.Numbers.{sorted-once, rises-from_sorted}
 use Rattle.thread_model.proofs.Entries.{key-cases, key-here, key-kept}

@@ -1,14 +1,14 @@
 -- What the tables show of a row and of a key.
-use Rattle.std.proofs.Common.{◌≡◌, ◌⊎◌, ◌+◌, ◌≤◌, ◌<◌, ℕ, Bool, true, false, cond, List, [], ◌∷◌, ◌++◌, length, map, take, get_or, Option, Some, None, is_some, refl, sym, ◌∙◌, ap, subst, inl, inr, nat_cmp, MatchBool, MatchOption}
+use Rattle.std.proofs.Common.{◌≡◌, ◌⊎◌, ℕ, Bool, true, false, cond, List, [], ◌∷◌, ◌++◌, map, Option, Some, None, is_some, refl, sym, ◌∙◌, ap, subst, inl, inr, nat_cmp, MatchBool}
 use Rattle.std.specs.Map.{lookup, remove_entry}
 use Rattle.std.specs.BTreeMap.{is_at}
 use Rattle.std.proofs.lemmas.Bool.{false≢true}
-use Rattle.thread_model.specs.Members.{Among, Once, Rises}
+use Rattle.thread_model.specs.Members.{Among, Rises}
 use Rattle.thread_model.specs.Threads.{Row, thread, shares, reached}
 use Rattle.thread_model.specs.Labelling.{label_at, label_in}
 use Rattle.thread_model.proofs.Members.{among-left, among-push, among-pushed, among-map, among-mapped, among-filter, among-filtered}
 use Rattle.thread_model.proofs.Numbers.{rises-filter, rises-same}
-use Rattle.thread_model.proofs.Entries.{lookup-among, lookup-none, none-some, at-true}
+use Rattle.thread_model.proofs.Entries.{lookup-among, lookup-none, at-true}
 use Rattle.thread_model.proofs.Rounds.{thread-row, thread-linked, linked-thread, reached-none, reached-begin, shares-key, key-shares}
 use Rattle.thread_model.proofs.ThreadLabels.{linked-label}
 use Rattle.thread_index.specs.Index.{IsLabelOf, IsNew, ListsThread, AreInOrder, members_of, keys_of_row}

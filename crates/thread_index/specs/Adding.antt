@@ -1,5 +1,5 @@
 -- The steps of adding a row.
-use Rattle.std.specs.Prelude.{◌≡◌, ◌⊎◌, ◌==◌, ◌≤◌, ℕ, List, [], ◌++◌, length, Option, Some, if◌then◌else◌}
+use Rattle.std.specs.Prelude.{◌≡◌, ◌⊎◌, ◌==◌, ◌≤◌, ℕ, List, [], ◌++◌, length, Some, if◌then◌else◌}
 use Rattle.thread_model.specs.Members.{Among, Once}
 use Rattle.thread_model.specs.Threads.{Row}
 use Rattle.thread_model.specs.Labelling.{label_at, label_in}

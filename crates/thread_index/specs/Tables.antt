@@ -1,7 +1,7 @@
 -- The tables of an index of threads.
 use Rattle.std.specs.Prelude.{◌≡◌, ℕ, List, map, Option, Some, MatchOption}
 use Rattle.thread_model.specs.Members.{Among, Once}
-use Rattle.thread_model.specs.Threads.{Row, Linked}
+use Rattle.thread_model.specs.Threads.{Row}
 use Rattle.thread_model.specs.Labelling.{IsLabelling, label_at, label_in}
 use Rattle.thread_index.specs.Lists.{list_at, list_at_key}
 use Rattle.thread_index.specs.declared.tables.Tables.{Tables}

@@ -1,6 +1,5 @@
-use Rattle.std.proofs.Common.{rules, ◌≡◌, ◌+◌, ◌++◌, ◌∷◌, [], length, IfOk, OnOk, ℕ, ◌-◌, ◌*◌, ◌<◌, ◌≤◌, ◌/◌, ◌%◌, Bool, true, false, nat_eq, nat_lt, List, slice_index_or, slice_set, bit_and, bit_or, Fits, w8, w32, w64, Bor, MutBor}
-use Rattle.thread_index.specs.Adding.{Gathers, GiveLabel, HeldBy, IsLonger, IsTarget, MovesList}
-use Rattle.thread_index.specs.Lists.{PutsList, list_at, list_at_key}
+use Rattle.std.proofs.Common.{◌≡◌, ◌++◌, ◌∷◌, [], ℕ, List}
+use Rattle.thread_index.specs.Lists.{list_at_key}
 use Rattle.std.proofs.Common.{subst, ap, ◌∙◌}
 use Rattle.thread_index.specs.Lists.{PutsKey}
 use Rattle.thread_index.proofs.MapLists.{keys-again}

@@ -1,6 +1,4 @@
-use Rattle.std.proofs.Common.{rules, ◌≡◌, ◌+◌, ◌++◌, ◌∷◌, [], length, IfOk, OnOk, ℕ, ◌-◌, ◌*◌, ◌<◌, ◌≤◌, ◌/◌, ◌%◌, Bool, true, false, nat_eq, nat_lt, List, slice_index_or, slice_set, bit_and, bit_or, Fits, w8, w32, w64, Bor, MutBor}
-use Rattle.thread_index.specs.Adding.{Gathers, GiveLabel, HeldBy, IsLonger, IsTarget, MovesList}
-use Rattle.thread_index.specs.Lists.{PutsList, list_at, list_at_key}
+use Rattle.thread_index.specs.Lists.{list_at}
 use Rattle.thread_index.proofs.Gathered.{target-take}
 use Rattle.thread_index.proofs.adding.target_of.Goals as goal
 

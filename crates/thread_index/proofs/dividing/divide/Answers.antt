@@ -1,10 +1,8 @@
-use Rattle.std.proofs.Common.{rules, ◌≡◌, ◌+◌, ◌∷◌, [], length, IfOk, OnOk, ℕ, ◌-◌, ◌*◌, ◌<◌, ◌≤◌, ◌/◌, ◌%◌, Bool, true, false, nat_eq, nat_lt, List, ◌++◌, slice_index_or, slice_set, bit_and, bit_or, Fits, w8, w32, w64, Bor, MutBor}
+use Rattle.std.proofs.Common.{◌≡◌, ◌+◌, ◌∷◌, length, ℕ, List}
 use Rattle.thread_index.specs.Lists.{list_at, list_at_key}
-use Rattle.thread_index.specs.Tables.{AreHolders}
-use Rattle.thread_index.specs.Taking.{AreSeen, HoldsOne, IsPart, IsPartial, Moves, SharesKey}
-use Rattle.thread_model.specs.Members.{Among, Once}
+use Rattle.thread_index.specs.Taking.{IsPartial}
 use Rattle.thread_index.proofs.Labelled.{partial-more}
-use Rattle.std.proofs.Common.{ap, sym, ◌∙◌, subst, arith, suc}
+use Rattle.std.proofs.Common.{ap, ◌∙◌, subst, arith, suc}
 use Rattle.std.proofs.lemmas.Bool.{false≢true}
 use Rattle.thread_index.specs.Adding.{GiveLabel}
 use Rattle.thread_index.proofs.MapLists.{none-by}

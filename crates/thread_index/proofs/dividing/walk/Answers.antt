@@ -1,9 +1,6 @@
-use Rattle.std.proofs.Common.{rules, ◌≡◌, ◌+◌, ◌∷◌, [], length, IfOk, OnOk, ℕ, ◌-◌, ◌*◌, ◌<◌, ◌≤◌, ◌/◌, ◌%◌, Bool, true, false, nat_eq, nat_lt, List, ◌++◌, slice_index_or, slice_set, bit_and, bit_or, Fits, w8, w32, w64, Bor, MutBor}
-use Rattle.thread_index.specs.Lists.{list_at, list_at_key}
-use Rattle.thread_index.specs.Tables.{AreHolders}
-use Rattle.thread_index.specs.Taking.{AreSeen, HoldsOne, IsPart, IsPartial, Moves, SharesKey}
-use Rattle.thread_model.specs.Members.{Among, Once}
-use Rattle.std.proofs.Common.{ap, ◌∙◌, subst}
+use Rattle.std.proofs.Common.{◌∷◌, [], length, ℕ, ◌<◌, List, ◌++◌}
+use Rattle.thread_index.specs.Lists.{list_at_key}
+use Rattle.std.proofs.Common.{ap, ◌∙◌}
 use Rattle.thread_index.proofs.Moved.{seen-none}
 use Rattle.thread_index.proofs.Parts.{part-begins, part-more}
 use Rattle.std.proofs.Common.{arith}

@@ -1,5 +1,5 @@
-use Rattle.std.proofs.Common.{rules, ◌≡◌, [], OnOk, ℕ, ◌+◌, ◌-◌, ◌*◌, ◌<◌, ◌≤◌, length, ◌/◌, ◌%◌, Bool, true, false, nat_eq, nat_lt, List, ◌∷◌, ◌++◌, slice_index_or, slice_set, bit_and, bit_or, Fits, w8, w32, w64, Bor, MutBor}
-use Rattle.thread_index.specs.Lists.{PutsKey, PutsList, list_at, list_at_key}
+use Rattle.std.proofs.Common.{◌≡◌, length}
+use Rattle.thread_index.specs.Lists.{PutsKey, list_at_key}
 use Rattle.std.proofs.Common.{sym, subst, length}
 use Rattle.thread_index.proofs.MapLists.{puts-key, takes-key, length-none}
 use Rattle.std.proofs.Common.{sym, ◌∙◌, subst, length, arith}

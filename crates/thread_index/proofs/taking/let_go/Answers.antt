@@ -1,6 +1,6 @@
-use Rattle.std.proofs.Common.{rules, ◌≡◌, ◌∷◌, [], IfOk, OnOk, ℕ, ◌+◌, ◌-◌, ◌*◌, ◌<◌, ◌≤◌, length, ◌/◌, ◌%◌, Bool, true, false, nat_eq, nat_lt, List, ◌++◌, slice_index_or, slice_set, bit_and, bit_or, Fits, w8, w32, w64, Bor, MutBor}
+use Rattle.std.proofs.Common.{◌≡◌, ◌∷◌, [], ℕ, List}
 use Rattle.thread_index.specs.Lists.{list_at_key}
-use Rattle.thread_index.specs.Taking.{AreOthers, LetGo, PutsOther, all_but}
+use Rattle.thread_index.specs.Taking.{LetGo}
 use Rattle.std.proofs.Common.{subst, ◌∙◌, get_or}
 use Rattle.thread_index.proofs.Others.{let-take}
 use Rattle.thread_index.proofs.taking.let_go.Goals as goal

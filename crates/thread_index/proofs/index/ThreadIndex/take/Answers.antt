@@ -1,11 +1,8 @@
-use Rattle.std.proofs.Common.{rules, ◌≡◌, ◌≤◌, true, is_ok, [], IfOk, OnOk, ℕ, ◌+◌, ◌-◌, ◌*◌, ◌<◌, length, ◌/◌, ◌%◌, Bool, false, nat_eq, nat_lt, List, ◌∷◌, ◌++◌, slice_index_or, slice_set, bit_and, bit_or, Fits, w8, w32, w64, Bor, MutBor}
+use Rattle.std.proofs.Common.{◌≡◌}
 use Rattle.std.specs.Map.{remove_entry}
-use Rattle.std.specs.BTreeMap.{insert_entry, is_at}
+use Rattle.std.specs.BTreeMap.{is_at}
 use Rattle.std.specs.Ordering.{nat_cmp}
-use Rattle.thread_model.specs.Members.{Rises}
-use Rattle.thread_model.specs.Threads.{AreThreads}
-use Rattle.thread_model.specs.Labelling.{label_in}
-use Rattle.thread_index.specs.Index.{IsCostOfAdd, IsCostOfTake, IsLabelOf, IsNew, members_of}
+use Rattle.thread_index.specs.Index.{IsNew}
 use Rattle.std.proofs.Common.{subst, sym}
 use Rattle.thread_index.specs.Index.{Threads}
 use Rattle.thread_index.proofs.Shown.{removed-idle}
