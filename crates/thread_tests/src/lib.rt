@@ -16,5 +16,3 @@ mod random;
 mod random_tests;
 #[cfg(test)]
 mod rows;
-#[cfg(test)]
-mod tree_tests;

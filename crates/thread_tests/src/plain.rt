@@ -145,8 +145,10 @@ fn reach(rows: &[PlainRow], keys: &Texts) -> Result<Texts, NoMemory>
     ensures { IfOk result (λ all. all ≡ reached rows.now keys.now) }
 {
     let mut all = keys.copy()?;
-    for _round in 0..rows.len() {
+    let mut made = 0;
+    while made < rows.len() {
         all = next_round(rows, &all)?;
+        made += 1;
     }
     Ok(all)
 }
