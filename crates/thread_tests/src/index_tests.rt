@@ -141,28 +141,26 @@ fn has_threads(index: &ThreadIndex, threads: &[(u32, &[u64])]) -> Result<bool, N
     Ok(true)
 }
 
-/// Returns the number of the first case that fails, from 1; 0 if all are as wanted.
-fn failing_case<L: Ledger>(alloc: Global, blank: Blank) -> Result<usize, NoMemory>
+/// Returns the index of the first case that fails, if one does.
+fn failing_case<L: Ledger>(alloc: Global, blank: Blank) -> Result<Option<usize>, NoMemory>
     requires name { blank.name ≡ L.name }
     requires parts { blank.parts ≡ L.parts }
     requires some { 0 < L.parts }
 {
     let mut steps = Steps::<L>::new(blank);
     let mut index = ThreadIndex::new(alloc);
-    let mut number = 0;
-    for case in &CASES {
-        number += 1;
+    for (i, case) in CASES.iter().enumerate() {
         let applied = apply(alloc, &mut index, case.change, &mut steps)?;
         if !(applied && has_threads(&index, case.threads)?) {
-            return Ok(number);
+            return Ok(Some(i));
         }
     }
-    Ok(0)
+    Ok(None)
 }
 
 #[test]
 fn threads_join_and_part(rt: HostRuntime) -> Result<(), Fail> {
-    assert_eq!(rt; failing_case::<Brand>(rt.alloc(), Blank::new(1))?, 0);
+    assert_eq!(rt; failing_case::<Brand>(rt.alloc(), Blank::new(1))?, None);
     Ok(())
 }
 
