@@ -7,3 +7,7 @@ pub mod Lesser
 pub mod Kept
 pub mod Ordered
 pub mod Ties
+pub mod Aboves
+pub mod Preorder
+pub mod Grown
+pub mod Stepped

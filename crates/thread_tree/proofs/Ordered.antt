@@ -172,7 +172,7 @@ known-by-id twigs own n h = elim (put-cases [] (map live_node twigs ++ flat_map 
 -- The order tells nodes apart.
 pub cmp-self : (n : Node) → node_cmp n n ≡ Equal
 cmp-self n =
-    ap (λ (o : Ordering). ordering_then o (ordering_then (nat_cmp n.1 n.1) (slice_cmp nat_cmp n.2 n.2))) (tied_itself nat_cmp_total n.0)
+    ap (λ (o : Ordering). ordering_then (ordering_then o (nat_cmp n.1 n.1)) (slice_cmp nat_cmp n.2 n.2)) (tied_itself nat_cmp_total n.0)
     ∙ ap (λ (o : Ordering). ordering_then o (slice_cmp nat_cmp n.2 n.2)) (tied_itself nat_cmp_total n.1)
     ∙ tied_itself nat_list_cmp_total n.2
 
@@ -189,11 +189,11 @@ then-equal Greater p e = absurd (greater-equal e)
 
 pub cmp-same : (a b : Node) → node_cmp a b ≡ Equal → a ≡ b
 cmp-same a b e =
-    let first = then-equal (nat_cmp a.0 b.0) (ordering_then (nat_cmp a.1 b.1) (slice_cmp nat_cmp a.2 b.2)) e in
-    let second = then-equal (nat_cmp a.1 b.1) (slice_cmp nat_cmp a.2 b.2) first.1 in
-    let p : a.0 ≡ b.0 = equal-true a.0 b.0 first.0 in
-    let q : a.1 ≡ b.1 = equal-true a.1 b.1 second.0 in
-    let r : a.2 ≡ b.2 = (bytes_eq-Decides a.2 b.2).0 (sym (is_eq-slice_cmp a.2 b.2) ∙ ap is_eq second.1) in
+    let first = then-equal (ordering_then (nat_cmp a.0 b.0) (nat_cmp a.1 b.1)) (slice_cmp nat_cmp a.2 b.2) e in
+    let second = then-equal (nat_cmp a.0 b.0) (nat_cmp a.1 b.1) first.0 in
+    let p : a.0 ≡ b.0 = equal-true a.0 b.0 second.0 in
+    let q : a.1 ≡ b.1 = equal-true a.1 b.1 second.1 in
+    let r : a.2 ≡ b.2 = (bytes_eq-Decides a.2 b.2).0 (sym (is_eq-slice_cmp a.2 b.2) ∙ ap is_eq first.1) in
     λ i. (p i, q i, r i)
 
 -- Nodes in order are known by their ids.

@@ -1,9 +1,10 @@
 //! What messages say of ids: what a message stands under, which message names an id, and which one
 //! places it, by what stands before it.
-ghost use Rattle.std.specs.Prelude.{◌≡◌, IfOk, OnOk, is_none};
-ghost use Rattle.std.specs.Option.{option_copied};
+ghost use Rattle.std.specs.Prelude.{◌≡◌, IfOk, OnOk, is_none, ℕ, List};
+ghost use Rattle.std.specs.Option.{option_copied, option_map};
 ghost use Rattle.thread_tree.specs.Trees.{last_other};
-ghost use Rattle.thread_tree.specs.Facts.{NamesAll, NotesAbove, NotesNaming, NotesPlacing, PlacesAll, above_value, is_lesser, naming_of};
+ghost use Rattle.thread_tree.specs.Facts.{NamesAll, NotesAbove, NotesNaming, NotesPlacing, PlacesAll, above_value, at_id, is_lesser, naming_of, placing_at};
+ghost use Rattle.thread_tree.specs.declared.facts.Naming.{Naming};
 
 use crate::nodes::PlainNode;
 use crate::twigs::Twig;
@@ -59,7 +60,7 @@ fn last_other<'a>(refs: &'a [Bytes], id: &[u8]) -> Option<&'a [u8]>
 
 /// Returns a copy of an id that may be there.
 fn copied(alloc: Global, id: Option<&[u8]>) -> Result<Above, NoMemory>
-    ensures { IfOk result (λ above. above_value above ≡ option_copied id) }
+    ensures { IfOk result (λ above. above_value above ≡ option_copied id.entry) }
 {
     let Some(id) = id else {
         return Ok(Above { id: None });
@@ -93,6 +94,22 @@ fn is_lesser(number: u32, kept: Option<u32>) -> bool
     }
 }
 
+/// Returns the number of the message that names an id, as it is kept.
+fn naming_number(namings: &BTreeMap<Vec<u8>, Naming>, id: &[u8]) -> Option<u32>
+    ensures { result ≡ option_map (λ (n : Naming). n.number) (at_id namings.now id.now) }
+{
+    let naming = namings.get(id)?;
+    Some(naming.number)
+}
+
+/// Returns the number of the message that places an id, as it is kept.
+fn placing_number(placings: &BTreeMap<Vec<u8>, Placing>, id: &[u8]) -> Option<u32>
+    ensures { result ≡ option_map (λ (p : ℕ × List ℕ). p.0) (placing_at placings.now id.now) }
+{
+    let placing = placings.get(id)?;
+    Some(placing.number)
+}
+
 /// Notes that a message names an id, if no message of a lesser number does.
 fn note_naming(
     alloc: Global,
@@ -102,8 +119,7 @@ fn note_naming(
 ) -> Result<(), NoMemory>
     ensures { OnOk result (NotesNaming namings.old namings.new id.now naming) }
 {
-    let kept = namings.get(id).map(|kept| kept.number);
-    if !is_lesser(naming.number, kept) {
+    if !is_lesser(naming.number, naming_number(namings, id)) {
         return Ok(());
     }
     let key = id.to_vec(alloc)?;
@@ -121,8 +137,7 @@ fn note_placing(
 ) -> Result<(), NoMemory>
     ensures { OnOk result (NotesPlacing placings.old placings.new id.now (number, before.now)) }
 {
-    let kept = placings.get(id).map(|kept| kept.number);
-    if !is_lesser(number, kept) {
+    if !is_lesser(number, placing_number(placings, id)) {
         return Ok(());
     }
     let before = before.to_vec(alloc)?;

@@ -32,8 +32,10 @@ fn empty_lists(alloc: Global, count: usize) -> Result<Vec<Vec<usize>>, NoMemory>
     ensures { IfOk result (λ lists. AreEmpty lists.items count) }
 {
     let mut lists = Vec::new(alloc);
-    for _ in 0..count {
+    let mut made = 0;
+    while made < count {
         lists.push(Vec::new(alloc))?;
+        made += 1;
     }
     Ok(lists)
 }

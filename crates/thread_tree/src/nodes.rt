@@ -116,6 +116,15 @@ fn line_of(facts: &Facts, depth: u64, node: &PlainNode) -> Result<Line, NoMemory
     Ok(Line { depth, who })
 }
 
+/// Returns the line of the node at an index.
+fn line_at(facts: &Facts, depth: u64, nodes: &[PlainNode], index: usize) -> Result<Line, NoMemory>
+    requires { index < length nodes.now }
+    ensures { IfOk result (λ line. line ≡ kept_line facts.now depth (node_at (nodes_in nodes.now)
+        index)) }
+{
+    line_of(facts, depth, &nodes[index])
+}
+
 /// Returns the lines of nodes at depths, by their indices.
 pub(crate) fn lines_of(
     alloc: Global,
@@ -129,7 +138,7 @@ pub(crate) fn lines_of(
 {
     let mut lines = Lines::new(alloc);
     for (depth, index) in walked {
-        lines.push(line_of(facts, *depth, &nodes[*index])?)?;
+        lines.push(line_at(facts, *depth, nodes, *index)?)?;
     }
     Ok(lines)
 }

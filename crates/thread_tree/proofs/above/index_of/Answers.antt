@@ -1,0 +1,32 @@
+use Rattle.std.proofs.Common.{rules, ◌≡◌, Some, IfOk, OnOk, if◌then◌else◌, ℕ, List, ◌+◌, ◌-◌, ◌*◌, ◌<◌, ◌≤◌, length, ◌/◌, ◌%◌, Bool, true, false, nat_eq, nat_lt, [], ◌∷◌, ◌++◌, slice_index_or, slice_set, bit_and, bit_or, Fits, w8, w32, w64, Bor, MutBor}
+use Rattle.std.specs.Str.{bytes_eq}
+use Rattle.thread_tree.specs.Facts.{at_id, kept_up}
+use Rattle.thread_tree.specs.Nodes.{AreClosed, AreUps, HaveNodeIds, IsIndexOf, index_bound, nodes_in}
+use Rattle.std.proofs.Common.{sym, ap, subst, ◌∙◌, arith}
+use Rattle.std.specs.Global.{Vec}
+use Rattle.std.proofs.lemmas.List.{length-map}
+use Rattle.thread_tree.specs.Nodes.{node_in}
+use Rattle.thread_tree.proofs.Aboves.{index-all, index-more, index-put}
+use Rattle.thread_tree.proofs.above.index_of.Goals as goal
+
+-- src/above.rt:32:5
+pub loop-i-preserved : goal.loop-i-preserved
+loop-i-preserved c =
+    let nodes = c.args.nodes.now in
+    let ns = nodes_in nodes in
+    let i = c.loop-i.i in
+    let d = c.index-nodes-i.result in
+    let low : i < length ns = subst (λ n. i < n) (sym (length-map nodes node_in)) c.loop-i-test.true in
+    index-more ns c.loop-i.index c.put_index.new.index i c.requires low c.loop-i.invariant
+    (index-put nodes c.loop-i.index c.put_index.new.index i d c.as_slice.result.now c.loop-i-test.true
+    c.as_slice.ensures.value c.in_ok-put_index.ensures)
+
+-- src/above.rt:27:1
+pub returns : goal.returns
+returns c =
+    let nodes = c.args.nodes.now in
+    let past : length nodes ≤ c.loop-i.i = c.loop-i-test.false in
+    let within : c.loop-i.i ≤ length nodes = c.loop-i.auto.i-end in
+    let count : length (nodes_in nodes) ≡ length nodes = length-map nodes node_in in
+    let all : c.loop-i.i ≡ length (nodes_in nodes) = omega arith in
+    index-all (nodes_in nodes) c.loop-i.index c.loop-i.i all c.loop-i.invariant

@@ -1,0 +1,18 @@
+use Rattle.std.proofs.Common.{rules, ◌≡◌, ◌++◌, ◌∷◌, [], map, length, IfOk, OnOk, is_none, if◌then◌else◌, ℕ, ◌+◌, ◌-◌, ◌*◌, ◌<◌, ◌≤◌, ◌/◌, ◌%◌, Bool, true, false, nat_eq, nat_lt, List, slice_index_or, slice_set, bit_and, bit_or, Fits, w8, w32, w64, Bor, MutBor}
+use Rattle.std.specs.List.{filter}
+use Rattle.thread_tree.specs.Nodes.{AreFar, AreRoots, AreTwice, IsMarked, StaysIn, count_up, flag_at, step_by}
+use Rattle.std.proofs.Common.{subst, arith}
+use Rattle.thread_tree.proofs.Doubling.{jumps-far, jumps-twice}
+use Rattle.thread_tree.proofs.loops.far_of.Goals as goal
+
+-- src/loops.rt:38:5
+pub loop-length-preserved : goal.loop-length-preserved
+loop-length-preserved c =
+    let m = c.loop-length.length in
+    let double : m * 2 ≡ m + m = omega arith in
+    jumps-twice c.args.ups.now c.loop-length.jumps.items c.in_ok-jumps.jumps.items m (m * 2) c.requires c.loop-length.invariant
+    (subst (λ js. AreTwice js c.in_ok-jumps.jumps.items) c.as_slice.ensures.value c.in_ok-jumps.ensures) double
+
+-- src/loops.rt:31:1
+pub returns : goal.returns
+returns c = jumps-far c.args.ups.now c.loop-length.jumps.items c.loop-length.length c.requires c.loop-length.invariant c.loop-length-test.false
