@@ -16,3 +16,5 @@ mod random;
 mod random_tests;
 #[cfg(test)]
 mod rows;
+#[cfg(test)]
+mod tree_tests;

@@ -1,5 +1,5 @@
 -- The index of nodes by their ids, and what each stands under.
-use Rattle.std.proofs.Common.{◌≡◌, ◌⊎◌, ◌+◌, ◌≤◌, ◌<◌, ℕ, zero, suc, Bool, true, false, List, [], ◌∷◌, ◌++◌, length, map, get_or, slice_get, Option, Some, None, BTreeMap, if◌then◌else◌, bytes_eq, refl, sym, ◌∙◌, ap, subst, inl, inr, arith}
+use Rattle.std.proofs.Common.{◌≡◌, ◌+◌, ◌<◌, ℕ, zero, suc, Bool, true, false, List, [], ◌∷◌, length, map, get_or, Option, Some, None, BTreeMap, if◌then◌else◌, bytes_eq, refl, sym, ◌∙◌, ap, subst, inl, inr, arith}
 use Rattle.std.specs.Option.{option_map}
 use Rattle.std.specs.Global.{Vec}
 use Rattle.std.proofs.lemmas.Bool.{cases_Bool, cases_eq}
@@ -8,9 +8,8 @@ use Rattle.std.proofs.lemmas.Slice.Eq.{bytes_eq-Decides}
 use Rattle.thread_model.proofs.Entries.{none-some, some-same}
 use Rattle.thread_tree.specs.Trees.{Node}
 use Rattle.thread_tree.specs.Facts.{at_id, kept_up}
-use Rattle.thread_tree.specs.Nodes.{AreClosed, AreUps, HaveNodeIds, IsIndexOf, StaysIn, id_at, index_bound, jump_at, jump_of, node_in, nodes_in}
+use Rattle.thread_tree.specs.Nodes.{AreClosed, AreUps, HaveNodeIds, IsIndexOf, id_at, index_bound, jump_at, node_in, nodes_in}
 use Rattle.thread_tree.specs.declared.facts.Facts.{Facts}
-use Rattle.thread_tree.proofs.Doubling.{get-some, get-past}
 
 -- The index of the first so many nodes.
 pub record IsIndexSoFar (ns : List Node) (index : BTreeMap (Vec ℕ) ℕ) (n : ℕ) : Type 0 where

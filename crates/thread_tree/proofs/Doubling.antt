@@ -1,9 +1,8 @@
 -- Jumps of a length that is doubled until it is as long as the list.
-use Rattle.std.proofs.Common.{◌≡◌, ◌⊎◌, ◌+◌, ◌*◌, ◌≤◌, ◌<◌, ℕ, zero, suc, List, [], ◌∷◌, ◌++◌, length, take, get_or, map, slice_get, Option, Some, None, refl, sym, ◌∙◌, ap, subst, inl, inr, arith}
+use Rattle.std.proofs.Common.{◌≡◌, ◌+◌, ◌≤◌, ◌<◌, ℕ, zero, suc, List, [], ◌∷◌, ◌++◌, length, get_or, slice_get, Option, Some, None, refl, sym, ◌∙◌, ap, subst, inl, inr, arith}
 use Rattle.std.proofs.lemmas.Bool.{cases_lt}
 use Rattle.std.proofs.lemmas.List.{length_push}
-use Rattle.thread_model.proofs.Entries.{none-some, some-same}
-use Rattle.thread_tree.specs.Nodes.{jump_at, jump_of, step_by, far_by, StaysIn, OnLoop, AreTwice, AreFar}
+use Rattle.thread_tree.specs.Nodes.{jump_at, jump_of, step_by, far_by, StaysIn, AreTwice, AreFar}
 use Rattle.thread_tree.proofs.Pigeons.{far-then, far-none, far-inside, far-loops, loop-reached}
 
 -- Each jump is so many steps long.

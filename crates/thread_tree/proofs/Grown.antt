@@ -1,5 +1,5 @@
 -- A tree from what is kept: the forest of its indices, and what a walk over it prints.
-use Rattle.std.proofs.Common.{◌≡◌, ◌+◌, ◌≤◌, ◌<◌, ℕ, Bool, List, [], ◌∷◌, length, map, filter, Option, refl, sym, ◌∙◌, ap, subst, arith}
+use Rattle.std.proofs.Common.{◌≡◌, ◌≤◌, ◌<◌, ℕ, Bool, List, [], length, map, filter, Option, sym, ◌∙◌, ap, subst}
 use Rattle.std.specs.Global.{Vec}
 use Rattle.std.proofs.lemmas.List.{length-map}
 use Rattle.thread_model.specs.Members.{Among}

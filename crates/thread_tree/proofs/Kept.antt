@@ -1,7 +1,6 @@
 -- What is kept of messages, after one message more, and what it says.
-use Rattle.std.proofs.Common.{◌≡◌, ◌⊎◌, ◌+◌, ◌-◌, ◌≤◌, ◌<◌, ℕ, zero, suc, Bool, true, false, cond, ◌||◌, List, [], ◌∷◌, ◌++◌, length, take, get_or, Option, Some, None, is_some, is_none, nat_lt, if◌then◌else◌, bytes_eq, find, refl, sym, ◌∙◌, ap, subst, inl, inr, arith}
+use Rattle.std.proofs.Common.{◌≡◌, ◌+◌, ◌-◌, ◌≤◌, ◌<◌, ℕ, zero, suc, Bool, true, false, cond, ◌||◌, List, [], ◌∷◌, ◌++◌, length, take, get_or, Option, Some, None, is_some, is_none, nat_lt, if◌then◌else◌, bytes_eq, refl, sym, ◌∙◌, ap, subst, inl, inr, arith}
 use Rattle.std.specs.Option.{option_map}
-use Rattle.std.specs.List.{list_any}
 use Rattle.std.specs.BTreeMap.{BTreeMap}
 use Rattle.std.specs.Global.{Vec}
 use Rattle.std.proofs.lemmas.Bool.{cases_Bool, false≢true}
@@ -10,11 +9,10 @@ use Rattle.std.proofs.lemmas.Slice.Eq.{bytes_eq-Decides}
 use Rattle.thread_model.specs.Members.{Among, has}
 use Rattle.thread_model.proofs.Members.{get-among}
 use Rattle.thread_model.proofs.Rounds.{same_bools}
-use Rattle.thread_model.proofs.Entries.{none-some, some-none, some-same}
-use Rattle.thread_tree.specs.Trees.{Node, or_else, last_other, before, lesser_by, least, message_of, named_by, placed_by, up_by, up_of_ghost, up, node_by, ghost_node, is_ghost, HaveOwnIds}
-use Rattle.thread_tree.specs.Facts.{AreFacts, NamesAll, NotesAbove, NotesNaming, NotesPlacing, PlacesAll, above_at, above_value, at_id, kept_ghost, kept_is_ghost, kept_node, kept_up, kept_up_by, least_placing, lesser_naming, lesser_placing, naming_of, placing_at, placing_in}
+use Rattle.thread_model.proofs.Entries.{none-some, some-same}
+use Rattle.thread_tree.specs.Trees.{or_else, last_other, before, lesser_by, least, message_of, named_by, placed_by, up_by, up_of_ghost, up, node_by, ghost_node, is_ghost, HaveOwnIds}
+use Rattle.thread_tree.specs.Facts.{AreFacts, NamesAll, NotesAbove, NotesNaming, NotesPlacing, PlacesAll, above_value, at_id, kept_ghost, kept_is_ghost, kept_node, kept_up, kept_up_by, least_placing, lesser_naming, lesser_placing, naming_of, placing_at, placing_in}
 use Rattle.thread_tree.specs.declared.twigs.Twig.{Twig}
-use Rattle.thread_tree.specs.declared.facts.Above.{Above}
 use Rattle.thread_tree.specs.declared.facts.Naming.{Naming}
 use Rattle.thread_tree.specs.declared.facts.Placing.{Placing}
 use Rattle.thread_tree.specs.declared.facts.Facts.{Facts}

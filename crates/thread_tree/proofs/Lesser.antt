@@ -1,8 +1,8 @@
 -- The lesser of two things, and the least-numbered message of a list that is one longer.
-use Rattle.std.proofs.Common.{◌≡◌, ◌⊎◌, ◌+◌, ◌≤◌, ◌<◌, ℕ, Bool, true, false, nat_lt, List, [], ◌∷◌, ◌++◌, Option, Some, None, is_some, if◌then◌else◌, refl, sym, ◌∙◌, ap, inl, inr, arith}
+use Rattle.std.proofs.Common.{◌≡◌, ◌≤◌, ◌<◌, ℕ, Bool, true, false, nat_lt, List, [], ◌∷◌, ◌++◌, Option, Some, None, if◌then◌else◌, refl, sym, ◌∙◌, ap, inl, inr, arith}
 use Rattle.std.specs.Option.{option_map}
 use Rattle.std.proofs.lemmas.Bool.{cases_Bool, false≢true, ltb-true, ltb-false, lt-ltb, le-ltb}
-use Rattle.thread_tree.specs.Trees.{before, least, lesser_by}
+use Rattle.thread_tree.specs.Trees.{least, lesser_by}
 use Rattle.thread_tree.specs.Facts.{is_lesser, least_placing, lesser_naming, lesser_placing, naming_of, placing_in}
 use Rattle.thread_tree.specs.declared.twigs.Twig.{Twig}
 

@@ -1,11 +1,11 @@
 -- Flags of the roots: what has nothing above it, and what far steps lead to.
-use Rattle.std.proofs.Common.{◌≡◌, ◌⊎◌, ◌+◌, ◌≤◌, ◌<◌, ℕ, zero, suc, Bool, true, false, List, [], ◌∷◌, length, take, get_or, map, slice_get, Option, Some, None, is_none, unwrap_or, refl, sym, ◌∙◌, ap, subst, inl, inr, arith}
-use Rattle.std.proofs.lemmas.Bool.{cases_Bool, cases_eq, false≢true}
+use Rattle.std.proofs.Common.{◌≡◌, ◌⊎◌, ◌+◌, ◌≤◌, ◌<◌, ℕ, zero, suc, Bool, true, List, [], ◌∷◌, length, take, get_or, map, Option, Some, None, is_none, refl, sym, ◌∙◌, ap, subst, inl, inr, arith}
+use Rattle.std.proofs.lemmas.Bool.{cases_eq, false≢true}
 use Rattle.std.proofs.lemmas.List.{length-map}
 use Rattle.thread_model.specs.Members.{Among}
 use Rattle.thread_model.proofs.Members.{take-cases, take-old, take-new, take-among, take-end, get-among}
-use Rattle.thread_model.proofs.Entries.{none-some, some-none, some-same}
-use Rattle.thread_tree.specs.Nodes.{jump_at, jump_of, flag_at, OnLoop, AreFar, AreRoots, IsMarked}
+use Rattle.thread_model.proofs.Entries.{none-some, some-same}
+use Rattle.thread_tree.specs.Nodes.{jump_at, jump_of, flag_at, AreFar, AreRoots, IsMarked}
 use Rattle.thread_tree.proofs.Doubling.{get-some}
 
 -- Marks so far: what has nothing above it, and what one of some jumps leads to.

@@ -1,11 +1,11 @@
 -- The nodes in order: how they are put there, and that they are known by their ids.
-use Rattle.std.proofs.Common.{◌≡◌, ◌⊎◌, ◌+◌, ◌≤◌, ◌<◌, ℕ, zero, suc, Bool, true, false, cond, List, [], ◌∷◌, ◌++◌, length, take, get_or, map, filter, flat_map, find, Option, Some, None, is_some, is_none, if◌then◌else◌, bytes_eq, refl, sym, ◌∙◌, ap, subst, inl, inr, arith, append_assoc, append-nil, nat_cmp, is_eq, Ordering, Less, Equal, Greater}
+use Rattle.std.proofs.Common.{◌≡◌, ◌⊎◌, ◌+◌, ◌<◌, ℕ, zero, suc, Bool, true, false, cond, List, [], ◌∷◌, ◌++◌, length, take, get_or, map, filter, flat_map, Option, Some, None, is_some, is_none, if◌then◌else◌, bytes_eq, refl, sym, ◌∙◌, ap, subst, inl, inr, arith, append_assoc, append-nil, nat_cmp, is_eq, Ordering, Less, Equal, Greater}
 use Rattle.std.specs.Ordering.{match_ordering, ordering_then}
 use Rattle.std.specs.Cmp.Lexicographic.{slice_cmp}
 use Rattle.std.specs.BTreeSet.{insert_key}
 use Rattle.std.specs.Global.{Vec}
 use Rattle.std.specs.List.Sorted.{IsStrictlySortedBy}
-use Rattle.std.proofs.lemmas.Bool.{cases_Bool, cases_order, false≢true}
+use Rattle.std.proofs.lemmas.Bool.{cases_order, false≢true}
 use Rattle.std.proofs.lemmas.List.{take_more, map_push, length-map, get_or-map}
 use Rattle.std.proofs.lemmas.List.Elements.{filter-append}
 use Rattle.std.proofs.lemmas.Cmp.{nat_cmp_total, nat_list_cmp_total, tied_itself}
@@ -14,9 +14,9 @@ use Rattle.std.proofs.lemmas.Map.Text.{is_eq-slice_cmp}
 use Rattle.std.proofs.lemmas.Slice.Eq.{bytes_eq-Decides}
 use Rattle.thread_model.specs.Members.{Among}
 use Rattle.thread_model.proofs.Members.{among-left, among-right, among-append, among-filter, among-filtered, among-flat_map, among-flattened, among-map, among-mapped}
-use Rattle.thread_model.proofs.Entries.{equal-true, key-cases, none-some, some-none, some-same}
-use Rattle.thread_tree.specs.Trees.{Node, before, ghost_node, ghosts_of, HaveOwnIds, is_ghost, last_other, live_node, message_of, named_by, node_by, node_cmp, nodes, or_else, placed_by, put_nodes, up, up_by, up_of_ghost}
-use Rattle.thread_tree.specs.Facts.{AreFacts, kept_ghost, kept_is_ghost, kept_up}
+use Rattle.thread_model.proofs.Entries.{equal-true, key-cases, none-some, some-same}
+use Rattle.thread_tree.specs.Trees.{Node, before, ghost_node, ghosts_of, HaveOwnIds, is_ghost, last_other, live_node, message_of, named_by, node_by, node_cmp, nodes, or_else, placed_by, put_nodes, up, up_by}
+use Rattle.thread_tree.specs.Facts.{AreFacts, kept_ghost, kept_is_ghost}
 use Rattle.thread_tree.specs.Nodes.{AreClosed, HaveNodeIds, id_at, node_in, nodes_in}
 use Rattle.thread_tree.specs.declared.twigs.Twig.{Twig}
 use Rattle.thread_tree.specs.declared.facts.Facts.{Facts}

@@ -1,5 +1,5 @@
 -- The loop of a walk: what it has written, and what waits on its stack.
-use Rattle.std.proofs.Common.{◌≡◌, ◌⊎◌, ◌+◌, ◌≤◌, ◌<◌, ℕ, suc, List, [], ◌∷◌, ◌++◌, length, refl, sym, ◌∙◌, ap, subst, inl, inr, arith, append-nil}
+use Rattle.std.proofs.Common.{◌≡◌, ◌+◌, ◌≤◌, ◌<◌, ℕ, suc, List, [], ◌∷◌, ◌++◌, length, refl, sym, ◌∙◌, ap, subst, inl, arith, append-nil}
 use Rattle.std.proofs.lemmas.List.{length-map}
 use Rattle.thread_model.specs.Members.{Among}
 use Rattle.thread_tree.specs.Nodes.{IsForest, Walks, stacked}

@@ -1,11 +1,11 @@
 -- Single steps of loops and maps.
-use Rattle.std.proofs.Common.{◌≡◌, ◌⊎◌, ◌+◌, ◌-◌, ◌≤◌, ◌<◌, ℕ, zero, suc, Bool, true, false, cond, not, List, [], ◌∷◌, ◌++◌, length, map, take, get_or, slice_get, filter, Option, Some, None, unwrap_or, if◌then◌else◌, bytes_eq, BTreeMap, refl, sym, ◌∙◌, ap, subst, inl, inr, arith, MatchBool}
+use Rattle.std.proofs.Common.{◌≡◌, ◌+◌, ◌-◌, ◌≤◌, ◌<◌, ℕ, zero, suc, Bool, true, false, cond, List, [], ◌∷◌, ◌++◌, length, map, take, get_or, filter, Option, Some, None, unwrap_or, if◌then◌else◌, bytes_eq, BTreeMap, refl, sym, ◌∙◌, ap, inl, inr, arith, MatchBool}
 use Rattle.std.specs.Option.{option_map}
 use Rattle.std.specs.Ordering.{nat_cmp}
 use Rattle.std.specs.Cmp.Lexicographic.{slice_cmp}
 use Rattle.std.specs.BTreeMap.{insert_entry}
 use Rattle.std.specs.Global.{Vec}
-use Rattle.std.proofs.lemmas.Bool.{cases_Bool, false≢true, not-true}
+use Rattle.std.proofs.lemmas.Bool.{false≢true}
 use Rattle.std.proofs.lemmas.List.{take_more, map_push}
 use Rattle.std.proofs.lemmas.List.Elements.{filter-append}
 use Rattle.std.proofs.lemmas.Slice.Eq.{bytes_eq-Decides}
@@ -13,7 +13,7 @@ use Rattle.thread_model.specs.Members.{Among}
 use Rattle.thread_model.proofs.Members.{any-among, among-any, among-push}
 use Rattle.thread_model.proofs.Texts.{found_after}
 use Rattle.thread_tree.specs.Trees.{Node, HaveOwnIds, last_other, lesser_by, names_id, or_else}
-use Rattle.thread_tree.specs.Facts.{NotesAbove, NotesNaming, NotesPlacing, above_at, above_value, at_id, is_lesser, lesser_naming, lesser_placing, placing_at, placing_value}
+use Rattle.thread_tree.specs.Facts.{NotesAbove, NotesNaming, NotesPlacing, above_at, above_value, at_id, is_lesser, placing_at, placing_value}
 use Rattle.thread_tree.specs.Nodes.{count_up, flag_at, jump_at, jump_of, kept_line, node_at, node_in, nodes_in}
 use Rattle.thread_tree.specs.declared.twigs.Twig.{Twig}
 use Rattle.thread_tree.specs.declared.lines.Line.{Line}

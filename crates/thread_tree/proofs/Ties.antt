@@ -1,24 +1,21 @@
 -- What is found over indices is what the definition says of messages.
-use Rattle.std.proofs.Common.{◌≡◌, ◌⊎◌, ◌==◌, ◌&&◌, ◌||◌, ◌+◌, ◌≤◌, ◌<◌, ℕ, zero, suc, Bool, true, false, not, cond, List, [], ◌∷◌, ◌++◌, length, get_or, take, map, filter, Option, Some, None, is_none, if◌then◌else◌, bytes_eq, refl, sym, ◌∙◌, ap, subst, inl, inr, arith}
+use Rattle.std.proofs.Common.{◌≡◌, ◌==◌, ◌&&◌, ◌+◌, ◌≤◌, ◌<◌, ℕ, zero, suc, Bool, true, false, not, cond, List, [], ◌∷◌, ◌++◌, length, take, map, filter, Option, Some, None, is_none, if◌then◌else◌, bytes_eq, refl, sym, ◌∙◌, ap, subst, inl, inr, arith}
 use Rattle.std.specs.Option.{option_map}
-use Rattle.std.specs.List.{list_any}
-use Rattle.std.specs.Global.{Vec}
-use Rattle.std.proofs.lemmas.Bool.{cases_Bool, cases_eq, false≢true, or_left, or_right, or_cases, eq-eqb, eqb-true, ne_eqb}
+use Rattle.std.proofs.lemmas.Bool.{cases_eq, false≢true, or_left, or_right, or_cases, eq-eqb, eqb-true, ne_eqb}
 use Rattle.std.proofs.lemmas.List.{take_all, take_more}
 use Rattle.std.proofs.lemmas.Slice.Eq.{bytes_eq-Decides}
 use Rattle.thread_model.specs.Members.{Among}
-use Rattle.thread_model.proofs.Members.{among-append, among-any, any-among, among-filter}
+use Rattle.thread_model.proofs.Members.{among-append, among-any, any-among}
 use Rattle.thread_model.proofs.Rounds.{same_bools}
-use Rattle.thread_model.proofs.Entries.{none-some, some-same}
 use Rattle.thread_tree.specs.Trees.{Node, Prints, below, far_up, is_id, is_on_loop, is_root, line_of, node, nodes, nothing, roots, step_up, under, up}
-use Rattle.thread_tree.specs.Facts.{AreFacts, kept_up}
-use Rattle.thread_tree.specs.Nodes.{AreRoots, AreUnder, AreUps, HaveNodeIds, OnLoop, StaysIn, Walks, count_up, ends, far_by, flag_at, id_at, is_under, jump_at, kept_line, leads_to, node_at, step_by, under_at, visits}
+use Rattle.thread_tree.specs.Facts.{AreFacts}
+use Rattle.thread_tree.specs.Nodes.{AreRoots, AreUps, HaveNodeIds, OnLoop, Walks, count_up, ends, far_by, flag_at, id_at, is_under, jump_at, kept_line, leads_to, node_at, step_by, visits}
 use Rattle.thread_tree.specs.declared.twigs.Twig.{Twig}
 use Rattle.thread_tree.specs.declared.lines.Line.{Line}
 use Rattle.thread_tree.specs.declared.lines.Who.TheVariants.{Live, Ghost}
 use Rattle.thread_tree.specs.declared.facts.Facts.{Facts}
-use Rattle.thread_tree.proofs.Kept.{kept-ghost, kept-up}
-use Rattle.thread_tree.proofs.Pigeons.{among-below, below-among, far-inside, loop-short}
+use Rattle.thread_tree.proofs.Kept.{kept-ghost}
+use Rattle.thread_tree.proofs.Pigeons.{among-below, far-inside, loop-short}
 use Rattle.thread_tree.proofs.Unders.{among-count}
 
 -- Two ids are one exactly where their indices are.

@@ -1,13 +1,13 @@
 -- The lists under each index: they are a forest, and what stands in them.
-use Rattle.std.proofs.Common.{◌≡◌, ◌⊎◌, ◌==◌, ◌&&◌, ◌+◌, ◌≤◌, ◌<◌, ℕ, zero, suc, Bool, true, false, not, cond, List, [], ◌∷◌, ◌++◌, length, map, get_or, filter, slice_get, Option, Some, None, if◌then◌else◌, refl, sym, ◌∙◌, ap, subst, inl, inr, arith, append-nil}
+use Rattle.std.proofs.Common.{◌≡◌, ◌&&◌, ◌+◌, ◌≤◌, ◌<◌, ℕ, zero, suc, Bool, true, false, not, cond, List, [], ◌∷◌, ◌++◌, length, filter, Option, Some, None, if◌then◌else◌, refl, sym, ◌∙◌, ap, subst, inl, inr, arith}
 use Rattle.std.specs.Global.{Vec}
-use Rattle.std.proofs.lemmas.Bool.{cases_Bool, cases_lt, false≢true, and_parts, eqb-true}
+use Rattle.std.proofs.lemmas.Bool.{cases_lt, false≢true, and_parts, eqb-true}
 use Rattle.std.proofs.lemmas.List.Elements.{filter-append}
 use Rattle.thread_model.specs.Members.{Among, Once}
 use Rattle.thread_model.proofs.Members.{among-filter, among-push, among-left, among-pushed}
 use Rattle.thread_model.proofs.Numbers.{once-push}
-use Rattle.thread_model.proofs.Entries.{none-some, some-same}
-use Rattle.thread_tree.specs.Nodes.{jump_at, leads_to, flag_at, count_up, is_under, under_at, AreEmpty, AreUnder, IsPlaced, IsForest, StaysIn}
+use Rattle.thread_model.proofs.Entries.{some-same}
+use Rattle.thread_tree.specs.Nodes.{jump_at, leads_to, flag_at, count_up, is_under, under_at, AreEmpty, AreUnder, IsPlaced, IsForest}
 
 pub among-count : (n i : ℕ) → Among (count_up n) i → i < n
 among-count zero i h = absurd h

@@ -1,8 +1,8 @@
 -- A walk over a forest by a stack: what is written, with whatever the stack still prints.
-use Rattle.std.proofs.Common.{◌≡◌, ◌⊎◌, ◌+◌, ◌-◌, ◌≤◌, ◌<◌, ℕ, zero, suc, List, [], ◌∷◌, ◌++◌, length, map, refl, sym, ◌∙◌, ap, subst, inl, inr, arith, append_assoc, append-nil, length-append, add-one}
-use Rattle.std.proofs.lemmas.List.{length_push, length-map, map_push}
+use Rattle.std.proofs.Common.{◌≡◌, ◌⊎◌, ◌+◌, ◌≤◌, ◌<◌, ℕ, suc, List, [], ◌∷◌, ◌++◌, length, map, refl, sym, ◌∙◌, ap, subst, inl, inr, arith, append_assoc, append-nil, length-append}
+use Rattle.std.proofs.lemmas.List.{length_push}
 use Rattle.thread_model.specs.Members.{Among, Once}
-use Rattle.thread_model.proofs.Members.{among-left, among-right, among-append, among-push, among-pushed, among-map, among-mapped}
+use Rattle.thread_model.proofs.Members.{among-left, among-append, among-push, among-pushed, among-mapped}
 use Rattle.thread_model.proofs.Numbers.{once-append, once-push, once-length}
 use Rattle.thread_tree.specs.Trees.{below}
 use Rattle.thread_tree.specs.Nodes.{IsForest, Walks, ends, stacked, visits}

@@ -8,7 +8,6 @@ use Rattle.thread_model.specs.Members.{Among, Once}
 use Rattle.thread_tree.specs.Trees.{Node}
 use Rattle.thread_tree.specs.Facts.{at_id, kept_is_ghost, kept_up}
 use Rattle.thread_tree.specs.declared.lines.Line.{Line}
-use Rattle.thread_tree.specs.declared.lines.Who.{Who}
 use Rattle.thread_tree.specs.declared.lines.Who.TheVariants.{Live, Ghost}
 use Rattle.thread_tree.specs.declared.facts.Facts.{Facts}
 

@@ -1,8 +1,6 @@
-use Rattle.std.proofs.Common.{rules, ◌≡◌, IfOk, OnOk, is_none, ℕ, ◌+◌, ◌-◌, ◌*◌, ◌<◌, ◌≤◌, length, ◌/◌, ◌%◌, Bool, true, false, nat_eq, nat_lt, List, [], ◌∷◌, ◌++◌, slice_index_or, slice_set, bit_and, bit_or, Fits, w8, w32, w64, Bor, MutBor}
-use Rattle.std.specs.Option.{option_copied}
+use Rattle.std.proofs.Common.{◌≡◌, ◌-◌, ◌≤◌, length, Bool, true, false}
 use Rattle.thread_tree.specs.Trees.{last_other}
-use Rattle.thread_tree.specs.Facts.{NamesAll, NotesAbove, NotesNaming, NotesPlacing, PlacesAll, above_value, is_lesser, naming_of}
-use Rattle.std.proofs.Common.{bytes_eq, ap, sym, ◌∙◌, not, if◌then◌else◌, get_or, take, arith, Option, Some, None}
+use Rattle.std.proofs.Common.{bytes_eq, ap, sym, ◌∙◌, if◌then◌else◌, get_or, take, arith, Some, None}
 use Rattle.std.proofs.lemmas.Bool.{not-true, not-false}
 use Rattle.thread_tree.specs.Trees.{or_else}
 use Rattle.thread_tree.proofs.Stepped.{last-step}

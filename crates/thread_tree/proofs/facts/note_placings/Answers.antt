@@ -1,7 +1,5 @@
-use Rattle.std.proofs.Common.{rules, ◌≡◌, IfOk, OnOk, is_none, ℕ, ◌+◌, ◌-◌, ◌*◌, ◌<◌, ◌≤◌, length, ◌/◌, ◌%◌, Bool, true, false, nat_eq, nat_lt, List, [], ◌∷◌, ◌++◌, slice_index_or, slice_set, bit_and, bit_or, Fits, w8, w32, w64, Bor, MutBor}
-use Rattle.std.specs.Option.{option_copied}
-use Rattle.thread_tree.specs.Trees.{last_other}
-use Rattle.thread_tree.specs.Facts.{NamesAll, NotesAbove, NotesNaming, NotesPlacing, PlacesAll, above_value, is_lesser, naming_of}
+use Rattle.std.proofs.Common.{◌≡◌, ℕ, ◌-◌, ◌<◌, ◌≤◌, length, List}
+use Rattle.thread_tree.specs.Facts.{NotesPlacing}
 use Rattle.std.proofs.Common.{get_or, subst, ◌∙◌, arith}
 use Rattle.thread_tree.specs.Facts.{NotesPlacing}
 use Rattle.thread_tree.proofs.Kept.{places-take}

@@ -1,5 +1,5 @@
-use Rattle.std.proofs.Common.{rules, ◌≡◌, ◌++◌, length, IfOk, OnOk, ℕ, ◌+◌, ◌-◌, ◌*◌, ◌<◌, ◌≤◌, ◌/◌, ◌%◌, Bool, true, false, nat_eq, nat_lt, List, [], ◌∷◌, slice_index_or, slice_set, bit_and, bit_or, Fits, w8, w32, w64, Bor, MutBor}
-use Rattle.thread_tree.specs.Nodes.{AreEmpty, AreUnder, IsForest, IsPlaced, Walks, stacked, under_at}
+use Rattle.std.proofs.Common.{◌≡◌, length, ◌+◌, ◌<◌, ◌≤◌}
+use Rattle.thread_tree.specs.Nodes.{under_at}
 use Rattle.std.proofs.Common.{arith, ◌<◌, sym, ap, ◌∙◌}
 use Rattle.std.proofs.lemmas.List.{length_push}
 use Rattle.thread_tree.proofs.Preorder.{walk-begins, walk-ends, walk-more, walk-room}

@@ -1,5 +1,4 @@
-use Rattle.std.proofs.Common.{rules, ◌≡◌, ◌++◌, length, IfOk, OnOk, ℕ, ◌+◌, ◌-◌, ◌*◌, ◌<◌, ◌≤◌, ◌/◌, ◌%◌, Bool, true, false, nat_eq, nat_lt, List, [], ◌∷◌, slice_index_or, slice_set, bit_and, bit_or, Fits, w8, w32, w64, Bor, MutBor}
-use Rattle.thread_tree.specs.Nodes.{AreEmpty, AreUnder, IsForest, IsPlaced, Walks, stacked, under_at}
+use Rattle.std.proofs.Common.{◌<◌}
 use Rattle.std.proofs.Common.{sym, subst}
 use Rattle.thread_tree.proofs.Unders.{under-more}
 use Rattle.thread_tree.proofs.Stepped.{jump-is, flag-is}

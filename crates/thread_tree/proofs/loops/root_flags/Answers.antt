@@ -1,7 +1,5 @@
-use Rattle.std.proofs.Common.{rules, ◌≡◌, ◌++◌, ◌∷◌, [], map, length, IfOk, OnOk, is_none, if◌then◌else◌, ℕ, ◌+◌, ◌-◌, ◌*◌, ◌<◌, ◌≤◌, ◌/◌, ◌%◌, Bool, true, false, nat_eq, nat_lt, List, slice_index_or, slice_set, bit_and, bit_or, Fits, w8, w32, w64, Bor, MutBor}
-use Rattle.std.specs.List.{filter}
-use Rattle.thread_tree.specs.Nodes.{AreFar, AreRoots, AreTwice, IsMarked, StaysIn, count_up, flag_at, step_by}
-use Rattle.std.proofs.Common.{subst, sym, Option, None}
+use Rattle.thread_tree.specs.Nodes.{AreFar}
+use Rattle.std.proofs.Common.{subst, sym, None}
 use Rattle.thread_tree.proofs.Marks.{marked-all, marked-take}
 use Rattle.thread_tree.proofs.loops.root_flags.Goals as goal
 

@@ -1,11 +1,9 @@
-use Rattle.std.proofs.Common.{rules, ◌≡◌, ◌<◌, ℕ, map, length, IfOk, OnOk, if◌then◌else◌, ◌+◌, ◌-◌, ◌*◌, ◌≤◌, ◌/◌, ◌%◌, Bool, true, false, nat_eq, nat_lt, List, [], ◌∷◌, ◌++◌, slice_index_or, slice_set, bit_and, bit_or, Fits, w8, w32, w64, Bor, MutBor}
+use Rattle.std.proofs.Common.{◌≡◌, ℕ, map, List, []}
 use Rattle.std.specs.List.{filter}
-use Rattle.std.specs.BTreeSet.{insert_key}
-use Rattle.thread_model.specs.Members.{Among}
-use Rattle.thread_tree.specs.Facts.{AreFacts, kept_ghost, kept_is_ghost}
-use Rattle.thread_tree.specs.Nodes.{HaveNodeIds, kept_line, node_at, node_in, nodes_in}
-use Rattle.thread_tree.specs.Trees.{HaveOwnIds, live_node, node_cmp, nodes, put_nodes}
-use Rattle.std.proofs.Common.{ap, ◌∙◌, subst, sym, flat_map, [], ◌≤◌, take}
+use Rattle.thread_tree.specs.Facts.{kept_ghost, kept_is_ghost}
+use Rattle.thread_tree.specs.Nodes.{nodes_in}
+use Rattle.thread_tree.specs.Trees.{live_node, nodes, put_nodes}
+use Rattle.std.proofs.Common.{ap, ◌∙◌, subst, sym, flat_map, []}
 use Rattle.std.proofs.lemmas.List.{take_all}
 use Rattle.std.proofs.lemmas.Result.{IfOk-weaker}
 use Rattle.std.specs.List.Sorted.{IsStrictlySortedBy}

@@ -1,10 +1,8 @@
-use Rattle.std.proofs.Common.{rules, ◌≡◌, ◌<◌, ℕ, map, length, IfOk, OnOk, if◌then◌else◌, ◌+◌, ◌-◌, ◌*◌, ◌≤◌, ◌/◌, ◌%◌, Bool, true, false, nat_eq, nat_lt, List, [], ◌∷◌, ◌++◌, slice_index_or, slice_set, bit_and, bit_or, Fits, w8, w32, w64, Bor, MutBor}
-use Rattle.std.specs.List.{filter}
+use Rattle.std.proofs.Common.{◌≡◌, ℕ, if◌then◌else◌, List}
 use Rattle.std.specs.BTreeSet.{insert_key}
-use Rattle.thread_model.specs.Members.{Among}
-use Rattle.thread_tree.specs.Facts.{AreFacts, kept_ghost, kept_is_ghost}
-use Rattle.thread_tree.specs.Nodes.{HaveNodeIds, kept_line, node_at, node_in, nodes_in}
-use Rattle.thread_tree.specs.Trees.{HaveOwnIds, live_node, node_cmp, nodes, put_nodes}
+use Rattle.thread_tree.specs.Facts.{kept_ghost, kept_is_ghost}
+use Rattle.thread_tree.specs.Nodes.{nodes_in}
+use Rattle.thread_tree.specs.Trees.{node_cmp}
 use Rattle.std.proofs.Common.{ap, ◌∙◌, get_or}
 use Rattle.thread_tree.proofs.Ordered.{ghosts-take}
 use Rattle.thread_tree.proofs.nodes.put_ghosts.Goals as goal

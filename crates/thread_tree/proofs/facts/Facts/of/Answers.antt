@@ -1,11 +1,7 @@
-use Rattle.std.proofs.Common.{rules, ◌≡◌, IfOk, OnOk, is_none, ℕ, ◌+◌, ◌-◌, ◌*◌, ◌<◌, ◌≤◌, length, ◌/◌, ◌%◌, Bool, true, false, nat_eq, nat_lt, List, [], ◌∷◌, ◌++◌, slice_index_or, slice_set, bit_and, bit_or, Fits, w8, w32, w64, Bor, MutBor}
-use Rattle.std.specs.Option.{option_copied}
-use Rattle.thread_tree.specs.Trees.{last_other, HaveOwnIds}
-use Rattle.thread_tree.specs.Facts.{NamesAll, NotesAbove, NotesNaming, NotesPlacing, PlacesAll, above_value, is_lesser, naming_of, AreFacts, kept_ghost, kept_is_ghost, kept_up}
-use Rattle.thread_tree.specs.Nodes.{node_in}
-use Rattle.std.proofs.Common.{get_or, subst, sym, ap, ◌∙◌, take}
+use Rattle.std.proofs.Common.{List, [], ◌∷◌, ◌++◌}
+use Rattle.thread_tree.specs.Facts.{PlacesAll, AreFacts}
+use Rattle.std.proofs.Common.{subst, sym, ap, ◌∙◌, take}
 use Rattle.std.proofs.lemmas.List.{take_more}
-use Rattle.thread_model.specs.Members.{Among}
 use Rattle.thread_tree.specs.declared.twigs.Twig.{Twig}
 use Rattle.thread_tree.specs.declared.facts.Facts.{Facts}
 use Rattle.thread_tree.proofs.Kept.{facts-more, own-before}

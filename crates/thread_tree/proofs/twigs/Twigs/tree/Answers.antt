@@ -1,6 +1,5 @@
-use Rattle.std.proofs.Common.{rules, ◌≡◌, ◌++◌, ◌∷◌, [], IfOk, OnErr, OnOk, ℕ, ◌+◌, ◌-◌, ◌*◌, ◌<◌, ◌≤◌, length, ◌/◌, ◌%◌, Bool, true, false, nat_eq, nat_lt, List, slice_index_or, slice_set, bit_and, bit_or, Fits, w8, w32, w64, Bor, MutBor}
-use Rattle.thread_tree.specs.Trees.{names_id, Prints, roots}
-use Rattle.std.specs.Bool.{MatchBool}
+use Rattle.std.proofs.Common.{ℕ, ◌<◌, length, Bool, List}
+use Rattle.thread_tree.specs.Trees.{Prints, roots}
 use Rattle.thread_model.specs.Members.{Among}
 use Rattle.thread_tree.specs.declared.twigs.Twig.{Twig}
 use Rattle.std.proofs.Common.{subst, sym, ap, ◌∙◌, length, filter, map, ℕ, List, Option, Bool}
