@@ -1,0 +1,10 @@
+pub mod MapLists
+pub mod Gathered
+pub mod Added
+pub mod Costs
+pub mod Others
+pub mod Moved
+pub mod Parts
+pub mod Begun
+pub mod Labelled
+pub mod Shown

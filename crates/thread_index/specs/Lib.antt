@@ -1,0 +1,5 @@
+pub mod Lists
+pub mod Index
+pub mod Tables
+pub mod Adding
+pub mod Taking

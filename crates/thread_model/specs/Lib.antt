@@ -1,0 +1,4 @@
+pub mod Members
+pub mod Threads
+pub mod Labelling
+pub mod Laws

@@ -1,0 +1,14 @@
+//! Threads of rows as they are defined, with their laws; steps that contracts count; labels of
+//! numbers.
+#![tactic(auto)]
+
+mod labels;
+mod laws;
+mod steps;
+
+pub use labels::LabelTable;
+pub use laws::{
+    first_are_reached, reached_is_least, rounds_suffice, threads_are_linked, threads_go_back,
+    threads_go_on,
+};
+pub use steps::Steps;

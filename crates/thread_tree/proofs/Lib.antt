@@ -1,0 +1,13 @@
+pub mod Pigeons
+pub mod Doubling
+pub mod Marks
+pub mod Unders
+pub mod Walking
+pub mod Lesser
+pub mod Kept
+pub mod Ordered
+pub mod Ties
+pub mod Aboves
+pub mod Preorder
+pub mod Grown
+pub mod Stepped

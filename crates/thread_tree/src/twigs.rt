@@ -1,0 +1,121 @@
+//! Messages with their references, and the tree of them.
+ghost use Rattle.std.specs.Prelude.{◌≡◌};
+ghost use Rattle.thread_tree.specs.Trees.{names_id};
+
+use crate::above::ups_of;
+use crate::facts::Facts;
+use crate::forest::{preorder, under_lists};
+use crate::lines::Lines;
+use crate::loops::{root_flags, roots_of};
+use crate::nodes::{lines_of, nodes_of};
+use arch_base::{Bytes, NoMemory, Texts};
+use std::alloc::Global;
+use std::marker::Model;
+
+/// A message: its number, its id, its references and its date's seconds.
+#[derive(Drop)]
+pub struct Twig {
+    pub number: u32,
+    pub id: Bytes,
+    pub refs: Texts,
+    pub secs: u64,
+}
+
+/// Messages of a tree, in the order in which they were added.
+#[derive(Drop)]
+pub struct Twigs {
+    alloc: Global,
+    twigs: Vec<Twig>,
+}
+
+impl Model for Twigs {
+    ghost use Rattle.std.specs.Prelude.{List};
+    ghost use Rattle.thread_tree.specs.declared.twigs.Twig.{Twig};
+
+    ghost Value = { List Twig };
+
+    ghost use Rattle.thread_tree.specs.Trees.{HaveOwnIds};
+
+    ghost view = { λ t. t.twigs.items };
+
+    ghost invariant = { λ t. HaveOwnIds t.twigs.items };
+}
+
+impl Twigs {
+    ghost use Rattle.std.specs.Prelude.{◌≡◌, ◌++◌, ◌∷◌, [], IfOk, OnErr, OnOk};
+    ghost use Rattle.std.specs.Bool.{MatchBool};
+    ghost use Rattle.thread_model.specs.Members.{Among};
+    ghost use Rattle.thread_tree.specs.declared.twigs.Twig.{Twig};
+    ghost use Rattle.thread_tree.specs.Trees.{Prints, roots};
+
+    /// Returns no messages. Allocates nothing.
+    pub fn new(alloc: Global) -> Self
+        ensures { result ≡ [] }
+    {
+        Twigs {
+            alloc,
+            twigs: Vec::new(alloc),
+        }
+    }
+
+    /// Returns whether a message has an id. It goes over all messages.
+    pub fn contains(&self, id: &[u8]) -> bool
+        ensures { MatchBool result ((t : Twig) × Among self.now t × (t.id ≡ id.now))
+            ((t : Twig) → Among self.now t → t.id ≡ id.now → ⊥) }
+    {
+        has_id(self.twigs.as_slice(), id)
+    }
+
+    /// Adds a message whose id is new.
+    ///
+    /// `NoMemory` leaves the messages unchanged.
+    pub fn add(&mut self, number: u32, id: &[u8], refs: &Texts, secs: u64) -> Result<(), NoMemory>
+        requires { (t : Twig) → Among self.old t → t.id ≡ id.now → ⊥ }
+        ensures ok { OnOk result (self.new ≡ self.old ++ record {
+          number = number;
+          id = id.now;
+          refs = refs.now;
+          secs = secs;
+        } ∷ []) }
+        ensures err { OnErr result (self.new ≡ self.old) }
+    {
+        let mut copy = Bytes::new(self.alloc);
+        copy.push_slice(id)?;
+        let twig = Twig {
+            number,
+            id: copy,
+            refs: refs.copy()?,
+            secs,
+        };
+        self.twigs.push(twig)?;
+        Ok(())
+    }
+
+    /// Returns the lines of the tree: each node before those under it, brothers by date, number and
+    /// id.
+    pub fn tree(&self) -> Result<Lines, NoMemory>
+        ensures { IfOk result (λ lines. Prints self.now 0 (roots self.now) lines) }
+    {
+        let twigs = self.twigs.as_slice();
+        let facts = Facts::of(self.alloc, twigs)?;
+        let nodes = nodes_of(self.alloc, twigs, &facts)?;
+        let ups = ups_of(self.alloc, &facts, nodes.as_slice())?;
+        let flags = root_flags(self.alloc, ups.as_slice())?;
+        let under = under_lists(self.alloc, ups.as_slice(), flags.as_slice())?;
+        let roots = roots_of(self.alloc, flags.as_slice())?;
+        let walked = preorder(self.alloc, under.as_slice(), roots.as_slice())?;
+        lines_of(self.alloc, &facts, nodes.as_slice(), walked.as_slice())
+    }
+}
+
+/// Returns whether a message has an id.
+fn has_id(twigs: &[Twig], id: &[u8]) -> bool
+    ensures { result ≡ names_id twigs.now id.now }
+{
+    for twig in twigs {
+        if twig.id.as_slice() == id {
+            return true;
+        }
+    }
+    false
+}
