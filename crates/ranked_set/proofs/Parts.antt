@@ -1,0 +1,87 @@
+-- Lists in two sides around one item: what is at an index, one item more or less, and windows.
+use Rattle.std.proofs.Common.{◌≡◌, ℕ, ◌+◌, ◌-◌, ◌<◌, ◌≤◌, zero, suc, Bool, true, false, cond, ◌||◌, List, [], ◌∷◌, ◌++◌, length, take, drop, Option, Some, None, refl, sym, ap, ◌∙◌, subst, arith, append_assoc, append-nil, length-append}
+use Rattle.std.specs.Prelude.{nat_le, ◌==◌}
+use Rattle.std.proofs.lemmas.Bool.{leb-true}
+use Rattle.std.specs.List.{insert, remove, slice_get}
+use Rattle.std.proofs.lemmas.List.{take-append-le, drop-append-le, take_all, drop_all}
+use Rattle.std.proofs.lemmas.List.Edits.{insert-append_left, insert-append_right, remove-append_left, remove-append_right}
+use Rattle.ranked_set.specs.Windows.{seen_by, after}
+use Rattle.ranked_set.specs.declared.window.Window.{Window}
+
+-- The item at an index on the left, in the middle or on the right.
+pub get-left : {X : Type 0} (xs ys : List X) (i : ℕ) → i < length xs → slice_get (xs ++ ys) i ≡ slice_get xs i
+get-left [] ys i h = absurd (omega arith)
+get-left (x ∷ xs) ys zero h = refl
+get-left (x ∷ xs) ys (suc i) h = get-left xs ys i (omega arith)
+
+pub get-middle : {X : Type 0} (xs : List X) (y : X) (ys : List X) (i : ℕ) → i ≡ length xs → slice_get (xs ++ y ∷ ys) i ≡ Some y
+get-middle [] y ys i e = rw e refl
+get-middle (x ∷ xs) y ys i e = rw e (get-middle xs y ys (length xs) refl)
+
+pub get-right : {X : Type 0} (xs : List X) (y : X) (ys : List X) (i : ℕ) → length xs < i → slice_get (xs ++ y ∷ ys) i ≡ slice_get ys (i - length xs - 1)
+get-right [] y ys zero h = absurd (omega arith)
+get-right [] y ys (suc i) h = let e : suc i - 0 - 1 ≡ i = omega arith in rw e refl
+get-right (x ∷ xs) y ys zero h = absurd (omega arith)
+get-right (x ∷ xs) y ys (suc i) h = let e : suc i - suc (length xs) - 1 ≡ i - length xs - 1 = omega arith in rw e (get-right xs y ys i (omega arith))
+
+-- One item more on the left or on the right.
+pub insert-right : {X : Type 0} (xs : List X) (y : X) (ys : List X) (i : ℕ) (z : X) → length xs < i → insert (xs ++ y ∷ ys) i z ≡ xs ++ y ∷ insert ys (i - length xs - 1) z
+insert-right xs y ys i z h = insert-append_right xs (y ∷ ys) (length xs) i z refl (omega arith) ∙ ap (λ t. xs ++ t) (step (i - length xs) (omega arith))
+  where
+    step : (n : ℕ) → 0 < n → insert (y ∷ ys) n z ≡ y ∷ insert ys (n - 1) z
+    step zero k = absurd (omega arith)
+    step (suc n) k = let e : suc n - 1 ≡ n = omega arith in rw e refl
+
+-- One item less on the left, in the middle or on the right.
+pub remove-middle : {X : Type 0} (xs : List X) (y : X) (ys : List X) (i : ℕ) → i ≡ length xs → remove (xs ++ y ∷ ys) i ≡ xs ++ ys
+remove-middle xs y ys i e =
+    remove-append_right xs (y ∷ ys) (length xs) i refl (omega arith) ∙ ap (λ n. xs ++ remove (y ∷ ys) n) (let none : i - length xs ≡ 0 = omega arith in none)
+
+pub remove-right : {X : Type 0} (xs : List X) (y : X) (ys : List X) (i : ℕ) → length xs < i → remove (xs ++ y ∷ ys) i ≡ xs ++ y ∷ remove ys (i - length xs - 1)
+remove-right xs y ys i h = remove-append_right xs (y ∷ ys) (length xs) i refl (omega arith) ∙ ap (λ t. xs ++ t) (step (i - length xs) (omega arith))
+  where
+    step : (n : ℕ) → 0 < n → remove (y ∷ ys) n ≡ y ∷ remove ys (n - 1)
+    step zero k = absurd (omega arith)
+    step (suc n) k = let e : suc n - 1 ≡ n = omega arith in rw e refl
+
+-- The items around a rotation, grouped the other way.
+pub regroup : {X : Type 0} (xs : List X) (y : X) (ys : List X) (z : X) (zs : List X) → (xs ++ y ∷ ys) ++ z ∷ zs ≡ xs ++ y ∷ (ys ++ z ∷ zs)
+regroup xs y ys z zs = append_assoc xs (y ∷ ys) (z ∷ zs)
+
+-- A window on two lists, one after another.
+drop-two : {X : Type 0} (s : ℕ) (xs ys : List X) → drop s (xs ++ ys) ≡ drop s xs ++ drop (s - length xs) ys
+drop-two zero xs ys = let e : 0 - length xs ≡ 0 = omega arith in rw e refl
+drop-two (suc s) [] ys = let e : suc s - 0 ≡ suc s = omega arith in rw e refl
+drop-two (suc s) (x ∷ xs) ys = let e : suc s - suc (length xs) ≡ s - length xs = omega arith in rw e (drop-two s xs ys)
+
+take-two : {X : Type 0} (c : ℕ) (xs ys : List X) → take c (xs ++ ys) ≡ take c xs ++ take (c - length xs) ys
+take-two zero xs ys = let e : 0 - length xs ≡ 0 = omega arith in rw e refl
+take-two (suc c) [] ys = let e : suc c - 0 ≡ suc c = omega arith in rw e refl
+take-two (suc c) (x ∷ xs) ys = let e : suc c - suc (length xs) ≡ c - length xs = omega arith in rw e (ap (λ t. x ∷ t) (take-two c xs ys))
+
+length-dropped : {X : Type 0} (s : ℕ) (xs : List X) → length (drop s xs) ≡ length xs - s
+length-dropped zero xs = omega arith
+length-dropped (suc s) [] = omega arith
+length-dropped (suc s) (x ∷ xs) = omega (arith, length-dropped s xs)
+
+pub seen-two : {X : Type 0} (w : Window) (xs ys : List X) → seen_by w (xs ++ ys) ≡ seen_by w xs ++ seen_by (after w (length xs)) ys
+seen-two w xs ys =
+    ap (take w.count) (drop-two w.skip xs ys) ∙ take-two w.count (drop w.skip xs) (drop (w.skip - length xs) ys)
+    ∙ rw (length-dropped w.skip xs) refl
+
+-- A window on a left side, an item and a right side.
+pub seen-three : {X : Type 0} (w : Window) (xs : List X) (y : X) (ys : List X)
+    → seen_by w (xs ++ y ∷ ys) ≡ seen_by w xs ++ (seen_by (after w (length xs)) (y ∷ []) ++ seen_by (after (after w (length xs)) 1) ys)
+seen-three w xs y ys = seen-two w xs (y ∷ ys) ∙ ap (λ t. seen_by w xs ++ t) (seen-two (after w (length xs)) (y ∷ []) ys)
+
+-- A window shows nothing of a list that it is past.
+pub seen-none : {X : Type 0} (w : Window) (xs : List X) → (w.count == 0 || nat_le (length xs) w.skip) ≡ true → seen_by w xs ≡ []
+seen-none w xs h = by (w.count) (w.skip) h
+  where
+    nothing : (c : ℕ) → take {A = X} c [] ≡ []
+    nothing zero = refl
+    nothing (suc c) = refl
+
+    by : (c s : ℕ) → (c == 0 || nat_le (length xs) s) ≡ true → take c (drop s xs) ≡ []
+    by zero s h = refl
+    by (suc c) s h = ap (take (suc c)) (drop_all s xs (leb-true (length xs) s h)) ∙ nothing (suc c)
