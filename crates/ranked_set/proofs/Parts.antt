@@ -1,9 +1,9 @@
 -- Lists in two sides around one item: what is at an index, one item more or less, and windows.
-use Rattle.std.proofs.Common.{◌≡◌, ℕ, ◌+◌, ◌-◌, ◌<◌, ◌≤◌, zero, suc, Bool, true, false, cond, ◌||◌, List, [], ◌∷◌, ◌++◌, length, take, drop, Option, Some, None, refl, sym, ap, ◌∙◌, subst, arith, append_assoc, append-nil, length-append}
+use Rattle.std.proofs.Common.{◌≡◌, ℕ, ◌+◌, ◌-◌, ◌<◌, ◌≤◌, zero, suc, Bool, true, false, cond, ◌||◌, List, [], ◌∷◌, ◌++◌, length, reverse, take, drop, Option, Some, None, refl, sym, ap, ◌∙◌, subst, arith, append_assoc, append-nil, length-append}
 use Rattle.std.specs.Prelude.{nat_le, ◌==◌}
 use Rattle.std.proofs.lemmas.Bool.{leb-true}
 use Rattle.std.specs.List.{insert, remove, slice_get}
-use Rattle.std.proofs.lemmas.List.{take-append-le, drop-append-le, take_all, drop_all}
+use Rattle.std.proofs.lemmas.List.{take-append-le, drop-append-le, take_all, drop_all, reverse-append, length-reverse}
 use Rattle.std.proofs.lemmas.List.Edits.{insert-append_left, insert-append_right, remove-append_left, remove-append_right}
 use Rattle.ranked_set.specs.Windows.{seen_by, after}
 use Rattle.ranked_set.specs.declared.window.Window.{Window}
@@ -69,10 +69,17 @@ seen-two w xs ys =
     ap (take w.count) (drop-two w.skip xs ys) ∙ take-two w.count (drop w.skip xs) (drop (w.skip - length xs) ys)
     ∙ rw (length-dropped w.skip xs) refl
 
--- A window on a left side, an item and a right side.
-pub seen-three : {X : Type 0} (w : Window) (xs : List X) (y : X) (ys : List X)
-    → seen_by w (xs ++ y ∷ ys) ≡ seen_by w xs ++ (seen_by (after w (length xs)) (y ∷ []) ++ seen_by (after (after w (length xs)) 1) ys)
-seen-three w xs y ys = seen-two w xs (y ∷ ys) ∙ ap (λ t. seen_by w xs ++ t) (seen-two (after w (length xs)) (y ∷ []) ys)
+-- The items of two sides and one between, from the end on.
+reverse-sides : {X : Type 0} (xs : List X) (y : X) (ys : List X) → reverse (xs ++ y ∷ ys) ≡ reverse ys ++ (y ∷ [] ++ reverse xs)
+reverse-sides xs y ys =
+    reverse-append xs (y ∷ ys) ∙ ap (λ t. t ++ reverse xs) (reverse-append (y ∷ []) ys) ∙ append_assoc (reverse ys) (y ∷ []) (reverse xs)
+
+-- A window on a left side, an item and a right side, from the end on.
+pub seen-sides : {X : Type 0} (w : Window) (xs : List X) (y : X) (ys : List X)
+    → seen_by w (reverse (xs ++ y ∷ ys)) ≡ seen_by w (reverse ys) ++ (seen_by (after w (length ys)) (y ∷ []) ++ seen_by (after (after w (length ys)) 1) (reverse xs))
+seen-sides w xs y ys =
+    ap (seen_by w) (reverse-sides xs y ys) ∙ seen-two w (reverse ys) (y ∷ [] ++ reverse xs)
+    ∙ rw (length-reverse ys) (ap (λ t. seen_by w (reverse ys) ++ t) (seen-two (after w (length ys)) (y ∷ []) (reverse xs)))
 
 -- A window shows nothing of a list that it is past.
 pub seen-none : {X : Type 0} (w : Window) (xs : List X) → (w.count == 0 || nat_le (length xs) w.skip) ≡ true → seen_by w xs ≡ []

@@ -3,7 +3,7 @@ use Rattle.std.proofs.Common.{◌≡◌, ℕ, ◌+◌, ◌<◌, ◌≤◌, zero,
 use Rattle.std.specs.declared.cmp.Ordering.{Ordering}
 use Rattle.std.specs.declared.cmp.Ordering.TheVariants.{Less, Equal, Greater}
 use Rattle.std.specs.Ordering.{is_lt, is_eq, match_ordering, ordering_reverse}
-use Rattle.std.specs.Cmp.{IsTotalOrder}
+use Rattle.std.specs.Cmp.{IsTotalOrder, tied_itself}
 use Rattle.std.specs.List.{AllByRecursion, list_any, prefix_len, count_by, insert, remove, slice_get}
 use Rattle.std.specs.List.Sorted.{IsStrictlySortedBy}
 use Rattle.std.specs.BTreeMap.{is_at}
@@ -216,3 +216,99 @@ module _ {K : Type 0} {R : K → K → Ordering} (o : IsTotalOrder R) where
   rank-removable key [] n h = absurd (cc)
   rank-removable key (x ∷ xs) zero h = omega arith
   rank-removable key (x ∷ xs) (suc n) h = omega (arith, rank-removable key xs n h)
+
+  -- A new key that was inserted and removed again leaves what was there.
+  pub remove-insert : (key : K) (xs : List K) → list_any (is_at (R key)) xs ≡ false → remove_key (is_at (R key)) (insert_key R xs key) ≡ xs
+  remove-insert key [] h = rw (tied_itself o key) refl
+  remove-insert key (x ∷ xs) h =
+      let parts = or_parts (is_eq (R key x)) (list_any (is_at (R key)) xs) h in
+      step (R key x) refl parts.0 (remove-insert key xs parts.1)
+    where
+      step : (r : Ordering) → R key x ≡ r → is_eq r ≡ false → remove_key (is_at (R key)) (insert_key R xs key) ≡ xs
+          → remove_key (is_at (R key)) (match_ordering r (key ∷ x ∷ xs) (x ∷ xs) (x ∷ insert_key R xs key)) ≡ x ∷ xs
+      step Less e f ih = rw (tied_itself o key) refl
+      step Equal e f ih = absurd (cc)
+      step Greater e f ih = rw e (ap (λ t. x ∷ t) ih)
+
+  -- A list of which one key is inserted, by the order of the two.
+  through : (p : Ordering) (xs ys zs : List K) (key : K) → insert_key R (match_ordering p xs ys zs) key ≡ match_ordering p (insert_key R xs key) (insert_key R ys key) (insert_key R zs key)
+  through Less xs ys zs key = refl
+  through Equal xs ys zs key = refl
+  through Greater xs ys zs key = refl
+
+  -- How two keys stand to a third and to each other.
+  record Stand (a b : K) (p q r : Ordering) : Type 0 where
+    same : r ≡ Equal → a ≡ b
+    less_equal : p ≡ Less → q ≡ Equal → r ≡ Greater
+    less_greater : p ≡ Less → q ≡ Greater → r ≡ Greater
+    equal_less : p ≡ Equal → q ≡ Less → r ≡ Less
+    greater_less : p ≡ Greater → q ≡ Less → r ≡ Less
+
+  stand : ((x y : K) → R x y ≡ Equal → x ≡ y) → (a b x : K) → Stand a b (R a x) (R b x) (R b a)
+  stand exact a b x = record {
+    same = λ e. sym (exact b a e);
+    less_equal = λ p q. o.congr b x a q ∙ reversed a x Less p;
+    less_greater = λ p q. reversed a b Less (o.trans a x b p (reversed b x Greater q));
+    equal_less = λ p q. reversed a b Greater (o.congr a x b p ∙ reversed b x Less q);
+    greater_less = λ p q. o.trans b x a q (reversed a x Greater p);
+  }
+
+  -- Two keys before a list, by how they stand to its first key and to each other.
+  commute-step : (a b x : K) (xs ia ib iab iba : List K) (p q r : Ordering) → iab ≡ iba → Stand a b p q r
+      → match_ordering p (match_ordering r (b ∷ a ∷ x ∷ xs) (a ∷ x ∷ xs) (a ∷ match_ordering q (b ∷ x ∷ xs) (x ∷ xs) (x ∷ ib))) (match_ordering q (b ∷ x ∷ xs) (x ∷ xs) (x ∷ ib))
+          (match_ordering q (b ∷ x ∷ ia) (x ∷ ia) (x ∷ iab))
+        ≡ match_ordering q (match_ordering (ordering_reverse r) (a ∷ b ∷ x ∷ xs) (b ∷ x ∷ xs) (b ∷ match_ordering p (a ∷ x ∷ xs) (x ∷ xs) (x ∷ ia))) (match_ordering p (a ∷ x ∷ xs) (x ∷ xs) (x ∷ ia))
+          (match_ordering p (a ∷ x ∷ ib) (x ∷ ib) (x ∷ iba))
+  commute-step a b x xs ia ib iab iba Less Less Less e h = refl
+  commute-step a b x xs ia ib iab iba Less Less Equal e h = ap (λ t. t ∷ x ∷ xs) (h.same refl)
+  commute-step a b x xs ia ib iab iba Less Less Greater e h = refl
+  commute-step a b x xs ia ib iab iba Less Equal Less e h = absurd (let no : Less ≡ Greater = h.less_equal refl refl in cc)
+  commute-step a b x xs ia ib iab iba Less Equal Equal e h = absurd (let no : Equal ≡ Greater = h.less_equal refl refl in cc)
+  commute-step a b x xs ia ib iab iba Less Equal Greater e h = refl
+  commute-step a b x xs ia ib iab iba Less Greater Less e h = absurd (let no : Less ≡ Greater = h.less_greater refl refl in cc)
+  commute-step a b x xs ia ib iab iba Less Greater Equal e h = absurd (let no : Equal ≡ Greater = h.less_greater refl refl in cc)
+  commute-step a b x xs ia ib iab iba Less Greater Greater e h = refl
+  commute-step a b x xs ia ib iab iba Equal Less Less e h = refl
+  commute-step a b x xs ia ib iab iba Equal Less Equal e h = absurd (let no : Equal ≡ Less = h.equal_less refl refl in cc)
+  commute-step a b x xs ia ib iab iba Equal Less Greater e h = absurd (let no : Greater ≡ Less = h.equal_less refl refl in cc)
+  commute-step a b x xs ia ib iab iba Equal Equal r e h = refl
+  commute-step a b x xs ia ib iab iba Equal Greater r e h = refl
+  commute-step a b x xs ia ib iab iba Greater Less Less e h = refl
+  commute-step a b x xs ia ib iab iba Greater Less Equal e h = absurd (let no : Equal ≡ Less = h.greater_less refl refl in cc)
+  commute-step a b x xs ia ib iab iba Greater Less Greater e h = absurd (let no : Greater ≡ Less = h.greater_less refl refl in cc)
+  commute-step a b x xs ia ib iab iba Greater Equal r e h = refl
+  commute-step a b x xs ia ib iab iba Greater Greater r e h = ap (λ t. x ∷ t) e
+
+  -- The same, with the order of the two the other way round.
+  commute-both : (a b x : K) (xs ia ib iab iba : List K) (p q r s : Ordering) → s ≡ ordering_reverse r → iab ≡ iba → Stand a b p q r
+      → match_ordering p (match_ordering r (b ∷ a ∷ x ∷ xs) (a ∷ x ∷ xs) (a ∷ match_ordering q (b ∷ x ∷ xs) (x ∷ xs) (x ∷ ib))) (match_ordering q (b ∷ x ∷ xs) (x ∷ xs) (x ∷ ib))
+          (match_ordering q (b ∷ x ∷ ia) (x ∷ ia) (x ∷ iab))
+        ≡ match_ordering q (match_ordering s (a ∷ b ∷ x ∷ xs) (b ∷ x ∷ xs) (b ∷ match_ordering p (a ∷ x ∷ xs) (x ∷ xs) (x ∷ ia))) (match_ordering p (a ∷ x ∷ xs) (x ∷ xs) (x ∷ ia))
+          (match_ordering p (a ∷ x ∷ ib) (x ∷ ib) (x ∷ iba))
+  commute-both a b x xs ia ib iab iba p q r s back e h = rw back (commute-step a b x xs ia ib iab iba p q r e h)
+
+  commute-two : (a b : K) (r : Ordering) → (r ≡ Equal → a ≡ b) → match_ordering r (b ∷ a ∷ []) (a ∷ []) (a ∷ b ∷ []) ≡ match_ordering (ordering_reverse r) (a ∷ b ∷ []) (b ∷ []) (b ∷ a ∷ [])
+  commute-two a b Less same = refl
+  commute-two a b Equal same = ap (λ t. t ∷ []) (same refl)
+  commute-two a b Greater same = refl
+
+  -- Two keys may be inserted in either order, if keys that compare as equal are one.
+  pub insert-insert : ((x y : K) → R x y ≡ Equal → x ≡ y) → (a b : K) (xs : List K) → insert_key R (insert_key R xs a) b ≡ insert_key R (insert_key R xs b) a
+  insert-insert exact a b [] = rw (o.antisymm a b) (commute-two a b (R b a) (λ e. sym (exact b a e)))
+  insert-insert exact a b (x ∷ xs) =
+      through (R a x) (a ∷ x ∷ xs) (x ∷ xs) (x ∷ insert_key R xs a) b
+      ∙ commute-both a b x xs (insert_key R xs a) (insert_key R xs b) (insert_key R (insert_key R xs a) b) (insert_key R (insert_key R xs b) a) (R a x) (R b x) (R b a) (R a b) (o.antisymm a b)
+          (insert-insert exact a b xs) (stand exact a b x)
+      ∙ sym (through (R b x) (b ∷ x ∷ xs) (x ∷ xs) (x ∷ insert_key R xs b) a)
+
+  -- A list with one key more is longer by one, if the key is new.
+  pub length-insert_key : (key : K) (xs : List K) → list_any (is_at (R key)) xs ≡ false → length (insert_key R xs key) ≡ length xs + 1
+  length-insert_key key [] h = refl
+  length-insert_key key (x ∷ xs) h =
+      let parts = or_parts (is_eq (R key x)) (list_any (is_at (R key)) xs) h in
+      step (R key x) parts.0 (length-insert_key key xs parts.1)
+    where
+      step : (r : Ordering) → is_eq r ≡ false → length (insert_key R xs key) ≡ length xs + 1 → length (match_ordering r (key ∷ x ∷ xs) (x ∷ xs) (x ∷ insert_key R xs key)) ≡ suc (length xs) + 1
+      step Less f ih = omega arith
+      step Equal f ih = absurd (cc)
+      step Greater f ih = omega arith

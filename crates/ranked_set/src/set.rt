@@ -1,5 +1,5 @@
 //! An ordered set that knows the rank of each key.
-ghost use Rattle.std.specs.Prelude.{◌≡◌, ◌^◌, ◌<◌, ◌≤◌, [], length, take, drop, slice_get, IfOk, OnOk, OnErr};
+ghost use Rattle.std.specs.Prelude.{◌≡◌, ◌≤◌, [], length, reverse, take, drop, slice_get, IfOk, OnOk, OnErr};
 ghost use Rattle.std.specs.BTreeMap.{is_at};
 ghost use Rattle.std.specs.BTreeSet.{insert_key};
 ghost use Rattle.std.specs.List.{list_any};
@@ -12,6 +12,9 @@ use crate::window::Window;
 use arch_base::NoMemory;
 use std::alloc::Global;
 use std::marker::Model;
+
+/// The greatest number of keys, which no memory holds.
+const MAX_LEN: usize = 4_611_686_018_427_387_904;
 
 /// A set of keys in order, which knows how many keys are less than any.
 ///
@@ -78,9 +81,9 @@ impl<K: Ord + Copy> RankedSet<K> {
 
     /// Inserts a key, unless an equal one is in the set.
     ///
-    /// `NoMemory` leaves the set unchanged.
+    /// `NoMemory` if an allocation fails, or the set has 2^62 keys; the set is unchanged.
     pub fn insert(&mut self, key: K) -> Result<(), NoMemory>
-        requires room { length self.old < 2 ^ 63 }
+        ensures ordered { IsStrictlySortedBy K.cmp self.old }
         ensures ok { OnOk result (self.new ≡ insert_key K.cmp self.old key) }
         ensures err { OnErr result (self.new ≡ self.old) }
     {
@@ -88,12 +91,16 @@ impl<K: Ord + Copy> RankedSet<K> {
         if self.is_at(index, &key) {
             return Ok(());
         }
+        if self.tree.len() >= MAX_LEN {
+            return Err(NoMemory);
+        }
         self.tree.insert(self.alloc, index, key)
     }
 
     /// Removes a key, if it is in the set.
     pub fn remove(&mut self, key: &K)
-        ensures { self.new ≡ remove_key (is_at (K.cmp key.now)) self.old }
+        ensures ordered { IsStrictlySortedBy K.cmp self.old }
+        ensures keys { self.new ≡ remove_key (is_at (K.cmp key.now)) self.old }
     {
         let index = self.tree.rank(key);
         if self.is_at(index, key) {
@@ -112,14 +119,15 @@ impl<K: Ord + Copy> RankedSet<K> {
         }
     }
 
-    /// Returns so many keys after so many that are skipped, or as many as there are.
+    /// Returns the keys from the greatest on: so many after so many that are skipped, or as many as
+    /// there are.
     ///
     /// `NoMemory` if an allocation fails.
-    pub fn page(&self, alloc: Global, skip: usize, count: usize) -> Result<Vec<K>, NoMemory>
-        ensures { IfOk result (λ keys. keys.items ≡ take count (drop skip self.now)) }
+    pub fn page(&self, skip: usize, count: usize) -> Result<Vec<K>, NoMemory>
+        ensures { IfOk result (λ keys. keys.items ≡ take count (drop skip (reverse self.now))) }
     {
-        let mut keys = Vec::new(alloc);
-        self.tree.push_seen(Window { skip, count }, &mut keys)?;
+        let mut keys = Vec::new(self.alloc);
+        self.tree.push_last(Window { skip, count }, &mut keys)?;
         Ok(keys)
     }
 }

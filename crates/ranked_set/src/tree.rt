@@ -1,6 +1,6 @@
 //! A list in a balanced tree, in which each node counts the items below it.
-ghost use Rattle.std.specs.Prelude.{◌≡◌, ◌+◌, ◌-◌, ◌^◌, ◌<◌, ◌≤◌, [], ◌∷◌, ◌++◌, length, take, drop, insert, remove, slice_get, is_ok, if◌then◌else◌, IfOk, IfNone, OnOk};
-ghost use Rattle.std.specs.List.{prefix_len};
+ghost use Rattle.std.specs.Prelude.{◌≡◌, ◌+◌, ◌^◌, ◌<◌, ◌≤◌, [], ◌∷◌, ◌++◌, length, reverse, slice_get, is_ok, if◌then◌else◌, IfOk, IfNone, OnOk};
+ghost use Rattle.std.specs.List.{prefix_len, insert, remove};
 ghost use Rattle.std.specs.List.Sorted.{IsStrictlySortedBy};
 ghost use Rattle.std.specs.Option.{option_to_list};
 ghost use Rattle.std.specs.Ordering.{is_lt};
@@ -174,11 +174,12 @@ impl<T: Copy> Tree<T> {
         }
     }
 
-    /// Appends the items that a window shows.
+    /// Appends the items that a window shows of the list from its end on, the last item first.
     ///
     /// `NoMemory` may leave some of them appended.
-    pub(crate) fn push_seen(&self, window: Window, into: &mut Vec<T>) -> Result<(), NoMemory>
-        ensures { OnOk result (into.new.items ≡ into.old.items ++ seen_by window self.now) }
+    pub(crate) fn push_last(&self, window: Window, into: &mut Vec<T>) -> Result<(), NoMemory>
+        ensures { OnOk result (into.new.items
+            ≡ into.old.items ++ seen_by window (reverse self.now)) }
     {
         match &self.node {
             Node::Leaf => Ok(()),
@@ -186,10 +187,10 @@ impl<T: Copy> Tree<T> {
                 if window.is_past(*len) {
                     return Ok(());
                 }
-                left.push_seen(window, into)?;
-                let here = window.after(left.len());
+                right.push_last(window, into)?;
+                let here = window.after(right.len());
                 here.push_item(*item, into)?;
-                right.push_seen(here.after(1), into)
+                left.push_last(here.after(1), into)
             }
         }
     }

@@ -1,0 +1,5 @@
+pub mod ByteKeys
+pub mod RowLists
+pub mod Orders
+pub mod Ranges
+pub mod Indexing
