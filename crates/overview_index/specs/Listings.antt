@@ -60,14 +60,6 @@ IsGreatestTo rows n None = (m : ℕ) → m ≤ n → row_in rows m ≡ None
 IsGreatestTo rows n (Some found) = (found ≤ n) × IsSome (row_in rows found)
     × ((m : ℕ) → m ≤ n → found < m → row_in rows m ≡ None)
 
--- How many rows have a number that passes a test.
-abbrev pub numbers_that : (ℕ → Bool) → List (ℕ × Row) → ℕ
-numbers_that test rows = count_by test (keys_of rows)
-
--- How many rows have a number of at most this one.
-abbrev pub numbers_to : List (ℕ × Row) → ℕ → ℕ
-numbers_to rows n = numbers_that (λ m. nat_le m n) rows
-
 -- How many rows have a number from `low` to `high`, both included.
 abbrev pub live_between : List (ℕ × Row) → ℕ → ℕ → ℕ
-live_between rows low high = numbers_that (λ m. nat_le low m && nat_le m high) rows
+live_between rows low high = count_by (λ m. nat_le low m && nat_le m high) (keys_of rows)

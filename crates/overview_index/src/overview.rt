@@ -1,6 +1,6 @@
 //! The rows of mails by number, by id, and by date and number.
 ghost use Rattle.std.specs.Prelude.{◌≡◌, [], map, take, drop, None, IfOk, OnOk, OnErr, is_some, option_copied};
-ghost use Rattle.overview_index.specs.Listings.{row_in, number_of, number_at, with_row, without, listing, live_between, numbers_to, IsLeastFrom, IsGreatestTo};
+ghost use Rattle.overview_index.specs.Listings.{row_in, number_of, number_at, with_row, without, listing, live_between, IsLeastFrom, IsGreatestTo};
 
 use crate::spot::Spot;
 use crate::views::Views;
@@ -118,18 +118,9 @@ impl Overview {
     pub fn live_count(&self, low: u32, high: u32) -> u64
         ensures { result ≡ live_between self.now low high }
     {
-        let below = self.views.numbers.rank(&low);
-        self.up_to(high).saturating_sub(below) as u64
-    }
-
-    /// Returns how many rows have a number of at most this one.
-    fn up_to(&self, n: u32) -> usize
-        ensures { result ≡ numbers_to self.now n }
-    {
-        match n.checked_add(1) {
-            Some(next) => self.views.numbers.rank(&next),
-            None => self.views.numbers.len(),
-        }
+        let below = self.views.numbers.rank(&u64::from(low));
+        let up_to = self.views.numbers.rank(&(u64::from(high) + 1));
+        up_to.saturating_sub(below) as u64
     }
 
     /// Returns the numbers of rows, newest first: by the seconds of their dates, and then by number,

@@ -18,7 +18,7 @@ pub(crate) struct Views {
     /// Where the rows stand in the order of dates.
     pub(crate) dates: RankedSet<Spot>,
     /// The numbers of the rows.
-    pub(crate) numbers: RankedSet<u32>,
+    pub(crate) numbers: RankedSet<u64>,
     /// The numbers of the rows by their ids.
     pub(crate) ids: BTreeMap<Vec<u8>, u32>,
 }
@@ -62,9 +62,9 @@ impl Views {
         ensures ok { OnOk result (AddsNumber self.old self.new id.items number) }
         ensures err { OnErr result (IsSame self.old self.new) }
     {
-        self.numbers.insert(number)?;
+        self.numbers.insert(u64::from(number))?;
         if let Err(refused) = self.ids.insert(id, number) {
-            self.numbers.remove(&number);
+            self.numbers.remove(&u64::from(number));
             return Err(refused.into());
         }
         Ok(())
@@ -75,7 +75,7 @@ impl Views {
         ensures { Loses self.old self.new id.now spot }
     {
         self.dates.remove(&spot);
-        self.numbers.remove(&spot.number);
+        self.numbers.remove(&u64::from(spot.number));
         let _ = self.ids.remove(id);
     }
 }
