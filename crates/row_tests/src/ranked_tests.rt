@@ -19,8 +19,9 @@ fn has_keys(set: &RankedSet<u64>, keys: &[u64]) -> Result<bool, NoMemory> {
         same = same && set.get(index) == Some(*key);
         same = same && set.rank(key) == index && set.contains(key);
     }
-    let page = set.page(0, keys.len())?;
-    Ok(same && page.iter().rev().eq(keys.iter()))
+    let mut page = set.page(0, keys.len())?;
+    page.reverse();
+    Ok(same && page.as_slice() == keys)
 }
 
 /// Returns whether keys that are inserted in an order come out in theirs.
