@@ -42,12 +42,7 @@ pub(crate) fn overview_line(
 /// Appends the flat value of the first field with a name, and a tab.
 ///
 /// `NoMemory` may leave the value appended without the tab.
-fn push_first(
-    alloc: Global,
-    text: &[u8],
-    name: &[u8],
-    into: &mut Bytes,
-) -> Result<(), NoMemory>
+fn push_first(alloc: Global, text: &[u8], name: &[u8], into: &mut Bytes) -> Result<(), NoMemory>
     ensures { OnOk result (into.new
         ≡ into.old ++ (flat_of_first name.now text.now ++ 9 ∷ [])) }
 {

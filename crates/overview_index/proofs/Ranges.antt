@@ -64,9 +64,10 @@ none_between low high h (m ∷ ms) =
     let zero = here.0 in
     let less = here.1 in
     let none = ih.0 in
-    let fewer = ih.1 in
-    (omega (arith, count-cons (λ m. nat_le low m && nat_le m high) m ms, zero, none),
-     omega (arith, count-cons (λ m. nat_le m high) m ms, count-cons (λ m. nat_lt m low) m ms, less, fewer))
+    let fewer = ih.1 in (
+      omega (arith, count-cons (λ m. nat_le low m && nat_le m high) m ms, zero, none),
+      omega (arith, count-cons (λ m. nat_le m high) m ms, count-cons (λ m. nat_lt m low) m ms, less, fewer),
+    )
 
 -- How many numbers are from one to another, by how many are up to the latter and how many are below
 -- the former.

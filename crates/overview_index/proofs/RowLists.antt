@@ -172,7 +172,7 @@ differ-insert (e ∷ rows) n row h free d =
     let parts = none_front (is_at (nat_cmp n) e.0) e.1 (row_in rows n) h in
     let frees = none_front (bytes_eq row.id e.1.id) e.0 (number_of rows row.id) free in
     step (nat_cmp n e.0) parts.0 (differ-insert rows n row parts.1 frees.1 d.1)
-        (all-insert (λ (f : ℕ × Row). bytes_eq f.1.id e.1.id ≡ false) rows n row parts.1 frees.0 d.0)
+    (all-insert (λ (f : ℕ × Row). bytes_eq f.1.id e.1.id ≡ false) rows n row parts.1 frees.0 d.0)
   where
     step : (r : Ordering) → is_eq r ≡ false → IdsDiffer (insert_entry nat_cmp rows n row) → AllByRecursion (λ (f : ℕ × Row). bytes_eq f.1.id e.1.id ≡ false) (insert_entry nat_cmp rows n row)
         → IdsDiffer (match_ordering r ((n, row) ∷ e ∷ rows) ((e.0, row) ∷ rows) (e ∷ insert_entry nat_cmp rows n row))

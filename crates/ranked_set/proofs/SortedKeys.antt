@@ -256,9 +256,9 @@ module _ {K : Type 0} {R : K → K → Ordering} (o : IsTotalOrder R) where
   -- Two keys before a list, by how they stand to its first key and to each other.
   commute-step : (a b x : K) (xs ia ib iab iba : List K) (p q r : Ordering) → iab ≡ iba → Stand a b p q r
       → match_ordering p (match_ordering r (b ∷ a ∷ x ∷ xs) (a ∷ x ∷ xs) (a ∷ match_ordering q (b ∷ x ∷ xs) (x ∷ xs) (x ∷ ib))) (match_ordering q (b ∷ x ∷ xs) (x ∷ xs) (x ∷ ib))
-          (match_ordering q (b ∷ x ∷ ia) (x ∷ ia) (x ∷ iab))
-        ≡ match_ordering q (match_ordering (ordering_reverse r) (a ∷ b ∷ x ∷ xs) (b ∷ x ∷ xs) (b ∷ match_ordering p (a ∷ x ∷ xs) (x ∷ xs) (x ∷ ia))) (match_ordering p (a ∷ x ∷ xs) (x ∷ xs) (x ∷ ia))
-          (match_ordering p (a ∷ x ∷ ib) (x ∷ ib) (x ∷ iba))
+      (match_ordering q (b ∷ x ∷ ia) (x ∷ ia) (x ∷ iab))
+      ≡ match_ordering q (match_ordering (ordering_reverse r) (a ∷ b ∷ x ∷ xs) (b ∷ x ∷ xs) (b ∷ match_ordering p (a ∷ x ∷ xs) (x ∷ xs) (x ∷ ia))) (match_ordering p (a ∷ x ∷ xs) (x ∷ xs) (x ∷ ia))
+      (match_ordering p (a ∷ x ∷ ib) (x ∷ ib) (x ∷ iba))
   commute-step a b x xs ia ib iab iba Less Less Less e h = refl
   commute-step a b x xs ia ib iab iba Less Less Equal e h = ap (λ t. t ∷ x ∷ xs) (h.same refl)
   commute-step a b x xs ia ib iab iba Less Less Greater e h = refl
@@ -282,9 +282,9 @@ module _ {K : Type 0} {R : K → K → Ordering} (o : IsTotalOrder R) where
   -- The same, with the order of the two the other way round.
   commute-both : (a b x : K) (xs ia ib iab iba : List K) (p q r s : Ordering) → s ≡ ordering_reverse r → iab ≡ iba → Stand a b p q r
       → match_ordering p (match_ordering r (b ∷ a ∷ x ∷ xs) (a ∷ x ∷ xs) (a ∷ match_ordering q (b ∷ x ∷ xs) (x ∷ xs) (x ∷ ib))) (match_ordering q (b ∷ x ∷ xs) (x ∷ xs) (x ∷ ib))
-          (match_ordering q (b ∷ x ∷ ia) (x ∷ ia) (x ∷ iab))
-        ≡ match_ordering q (match_ordering s (a ∷ b ∷ x ∷ xs) (b ∷ x ∷ xs) (b ∷ match_ordering p (a ∷ x ∷ xs) (x ∷ xs) (x ∷ ia))) (match_ordering p (a ∷ x ∷ xs) (x ∷ xs) (x ∷ ia))
-          (match_ordering p (a ∷ x ∷ ib) (x ∷ ib) (x ∷ iba))
+      (match_ordering q (b ∷ x ∷ ia) (x ∷ ia) (x ∷ iab))
+      ≡ match_ordering q (match_ordering s (a ∷ b ∷ x ∷ xs) (b ∷ x ∷ xs) (b ∷ match_ordering p (a ∷ x ∷ xs) (x ∷ xs) (x ∷ ia))) (match_ordering p (a ∷ x ∷ xs) (x ∷ xs) (x ∷ ia))
+      (match_ordering p (a ∷ x ∷ ib) (x ∷ ib) (x ∷ iba))
   commute-both a b x xs ia ib iab iba p q r s back e h = rw back (commute-step a b x xs ia ib iab iba p q r e h)
 
   commute-two : (a b : K) (r : Ordering) → (r ≡ Equal → a ≡ b) → match_ordering r (b ∷ a ∷ []) (a ∷ []) (a ∷ b ∷ []) ≡ match_ordering (ordering_reverse r) (a ∷ b ∷ []) (b ∷ []) (b ∷ a ∷ [])
@@ -298,7 +298,7 @@ module _ {K : Type 0} {R : K → K → Ordering} (o : IsTotalOrder R) where
   insert-insert exact a b (x ∷ xs) =
       through (R a x) (a ∷ x ∷ xs) (x ∷ xs) (x ∷ insert_key R xs a) b
       ∙ commute-both a b x xs (insert_key R xs a) (insert_key R xs b) (insert_key R (insert_key R xs a) b) (insert_key R (insert_key R xs b) a) (R a x) (R b x) (R b a) (R a b) (o.antisymm a b)
-          (insert-insert exact a b xs) (stand exact a b x)
+      (insert-insert exact a b xs) (stand exact a b x)
       ∙ sym (through (R b x) (b ∷ x ∷ xs) (x ∷ xs) (x ∷ insert_key R xs b) a)
 
   -- A list with one key more is longer by one, if the key is new.

@@ -85,10 +85,12 @@ fn pages_by_date(overview: &Overview) -> Result<bool, NoMemory> {
     let middle = overview.page(2, 3)?;
     let last = overview.page(6, 18_446_744_073_709_551_615)?;
     let past = overview.page(7, 1)?;
-    Ok(are(&all, &[9, 4, 1, 4_294_967_295, 10, 2, 5])
-        && are(&middle, &[1, 4_294_967_295, 10])
-        && are(&last, &[5])
-        && are(&past, &[]))
+    Ok(
+        are(&all, &[9, 4, 1, 4_294_967_295, 10, 2, 5])
+            && are(&middle, &[1, 4_294_967_295, 10])
+            && are(&last, &[5])
+            && are(&past, &[]),
+    )
 }
 
 /// Returns whether an overview of the rows, added in an order, finds and pages them.
