@@ -20,7 +20,7 @@ use Rattle.overview_index.proofs.RowLists.{none_front, put-back}
 
 -- Spots that compare as equal are one.
 pub exact_spots : CmpEqualImpliesEq spot_cmp
-exact_spots a b h = ap (λ (p : ℕ × ℕ). let spot : Spot = record { secs = p.0; number = p.1 } in spot) (exact_pairs nat_cmp nat_cmp exact_unsigned exact_unsigned (a.secs, a.number) (b.secs, b.number) h)
+exact_spots a b h = ap (λ (p : ℕ × ℕ). record { secs = p.0; number = p.1 }) (exact_pairs nat_cmp nat_cmp exact_unsigned exact_unsigned (a.secs, a.number) (b.secs, b.number) h)
 
 pub spots_total : IsTotalOrder spot_cmp
 spots_total = then_total (on_total (λ (s : Spot). s.secs) nat_cmp_total) (on_total (λ (s : Spot). s.number) nat_cmp_total)

@@ -10,16 +10,13 @@ use Rattle.std.proofs.lemmas.List.Sums.{sum_by-cons}
 use Rattle.ranked_set.specs.Ranks.{rank_of}
 
 -- The test by which ranks are counted.
+lt_cases : (t u : Bool) → is_lt (cond t Less (cond u Equal Greater)) ≡ t
+lt_cases true u = refl
+lt_cases false true = refl
+lt_cases false false = refl
+
 less_is : (m n : ℕ) → is_lt (nat_cmp m n) ≡ nat_lt m n
-less_is m n = by (nat_lt m n)
-  where
-    by : (t : Bool) → is_lt (cond t Less (cond (eqb m n) Equal Greater)) ≡ t
-    by true = refl
-    by false = other (eqb m n)
-      where
-        other : (u : Bool) → is_lt (cond u Equal Greater) ≡ false
-        other true = refl
-        other false = refl
+less_is m n = lt_cases (nat_lt m n) (eqb m n)
 
 -- A count with one number more.
 count-cons : (test : ℕ → Bool) (m : ℕ) (ms : List ℕ) → count_by test (m ∷ ms) ≡ cond (test m) 1 0 + count_by test ms

@@ -14,6 +14,7 @@ use Rattle.std.specs.Set.{remove_key}
 use Rattle.std.specs.Str.{bytes_eq}
 use Rattle.std.proofs.lemmas.Map.Keys.{sorted_head, sorted_tail}
 use Rattle.std.proofs.lemmas.Map.Lookups.{exact_unsigned}
+use Rattle.std.proofs.lemmas.Option.{same_Some}
 use Rattle.std.proofs.lemmas.Slice.Eq.{bytes_eq-Decides}
 use Rattle.mail_rows.specs.declared.row.Row.{Row}
 use Rattle.overview_index.specs.Listings.{row_in, number_of, with_row, without}
@@ -24,6 +25,10 @@ use Rattle.overview_index.proofs.ByteKeys.{bytes_eq-refl}
 pub none_front : {X : Type 0} (t : Bool) (x : X) (later : Option X) → cond t (Some x) later ≡ None → (t ≡ false) × (later ≡ None)
 none_front true x later h = absurd (cc)
 none_front false x later h = (refl, h)
+
+-- A row under its number, by the two.
+pair_is : (n : ℕ) (row : Row) (e : ℕ × Row) → n ≡ e.0 → e.1 ≡ row → let p : ℕ × Row = (n, row) in p ≡ e
+pair_is n row e a b = λ i. (a i, sym b i)
 
 -- The numbers after one row more or less.
 pub keys-insert : (rows : List (ℕ × Row)) (n : ℕ) (row : Row) → keys_of (insert_entry nat_cmp rows n row) ≡ insert_key nat_cmp (keys_of rows) n
@@ -91,8 +96,9 @@ put-back (e ∷ rows) n row s h = step (nat_cmp n e.0) refl h (put-back rows n r
     step Less f g ih = (let none : row_in rows n ≡ None = below rows (sorted_head nat_cmp e.0 (keys_of rows) s) f in absurd (cc))
     step Equal f g ih =
         let same : n ≡ e.0 = exact_unsigned n e.0 f in
-        let value : e.1 ≡ row = cc in
-        first rows (sorted_head nat_cmp e.0 (keys_of rows) s) same ∙ ap (λ (p : ℕ × Row). p ∷ rows) (rw (same, ← value) refl)
+        let here : Some e.1 ≡ Some row = g in
+        let value : e.1 ≡ row = same_Some e.1 row here in
+        first rows (sorted_head nat_cmp e.0 (keys_of rows) s) same ∙ ap (λ (p : ℕ × Row). p ∷ rows) (pair_is n row e same value)
     step Greater f g ih = rw f (ap (λ t. e ∷ t) (ih g))
 
 -- What holds of each row holds after one more.
@@ -122,11 +128,11 @@ all-found P [] n row a h = absurd (cc)
 all-found P (e ∷ rows) n row a h = step (nat_cmp n e.0) refl h (λ found. all-found P rows n row a.1 found)
   where
     here : n ≡ e.0 → e.1 ≡ row → P (n, row)
-    here same value = subst P (rw (same, ← value) refl) a.0
+    here same value = subst P (sym (pair_is n row e same value)) a.0
 
     step : (r : Ordering) → nat_cmp n e.0 ≡ r → cond (is_eq r) (Some e.1) (row_in rows n) ≡ Some row → (row_in rows n ≡ Some row → P (n, row)) → P (n, row)
     step Less f g ih = ih g
-    step Equal f g ih = here (exact_unsigned n e.0 f) (cc)
+    step Equal f g ih = (let found : Some e.1 ≡ Some row = g in here (exact_unsigned n e.0 f) (same_Some e.1 row found))
     step Greater f g ih = ih g
 
 -- No row has an id that isn't found.
@@ -136,22 +142,21 @@ unowned (e ∷ rows) id h =
     let parts = none_front (bytes_eq id e.1.id) e.0 (number_of rows id) h in
     (parts.0, unowned rows id parts.1)
 
+-- What equals a text differs from what differs from that.
+apart_from : (q id other : List ℕ) → bytes_eq q id ≡ true → bytes_eq other id ≡ false → (t : Bool) → bytes_eq q other ≡ t → t ≡ false
+apart_from q id other same differ true f =
+    (let one : q ≡ id = (bytes_eq-Decides q id).0 same in
+    let two : q ≡ other = (bytes_eq-Decides q other).0 f in
+    let is : bytes_eq other id ≡ true = bytes_eq-refl other id (sym two ∙ one) in
+    absurd (cc))
+apart_from q id other same differ false f = refl
+
 -- An id that no row has isn't found.
 pub not_found : (rows : List (ℕ × Row)) (id : List ℕ) → AllByRecursion (λ (f : ℕ × Row). bytes_eq f.1.id id ≡ false) rows → (q : List ℕ) → bytes_eq q id ≡ true → number_of rows q ≡ None
 not_found [] id a q same = refl
-not_found (e ∷ rows) id a q same = rw other (not_found rows id a.1 q same)
-  where
-    other : bytes_eq q e.1.id ≡ false
-    other = by (bytes_eq q e.1.id) refl
-      where
-        by : (t : Bool) → bytes_eq q e.1.id ≡ t → t ≡ false
-        by true f =
-            let one : q ≡ id = (bytes_eq-Decides q id).0 same in
-            let two : q ≡ e.1.id = (bytes_eq-Decides q e.1.id).0 f in
-            let yes : bytes_eq e.1.id id ≡ true = bytes_eq-refl e.1.id id (sym two ∙ one) in
-            let no : bytes_eq e.1.id id ≡ false = a.0 in
-            absurd (cc)
-        by false f = refl
+not_found (e ∷ rows) id a q same =
+    let other : bytes_eq q e.1.id ≡ false = apart_from q id e.1.id same a.0 (bytes_eq q e.1.id) refl in
+    rw other (not_found rows id a.1 q same)
 
 -- Two texts are compared either way round.
 pub bytes_eq-flip : (a b : List ℕ) → bytes_eq a b ≡ false → bytes_eq b a ≡ false
@@ -221,8 +226,8 @@ number-remove (e ∷ rows) n row q d h =
     step : (r t u : Bool) → bytes_eq q row.id ≡ t → bytes_eq q e.1.id ≡ u → cond r (Some e.1) (row_in rows n) ≡ Some row
         → (row_in rows n ≡ Some row → number_of (without rows n) q ≡ (if bytes_eq q row.id then None else number_of rows q))
         → number_of (cond r rows (e ∷ without rows n)) q ≡ (if t then None else if u then Some e.0 else number_of rows q)
-    step true true u a b f ih = (let same : e.1 ≡ row = cc in not_found rows e.1.id d.0 q (ap (λ (x : Row). bytes_eq q x.id) same ∙ a))
-    step true false true a b f ih = (let same : e.1 ≡ row = cc in let no : true ≡ false = sym b ∙ ap (λ (x : Row). bytes_eq q x.id) same ∙ a in absurd (cc))
+    step true true u a b f ih = (let here : Some e.1 ≡ Some row = f in let same : e.1 ≡ row = same_Some e.1 row here in not_found rows e.1.id d.0 q (ap (λ (x : Row). bytes_eq q x.id) same ∙ a))
+    step true false true a b f ih = (let here : Some e.1 ≡ Some row = f in let same : e.1 ≡ row = same_Some e.1 row here in let no : true ≡ false = sym b ∙ ap (λ (x : Row). bytes_eq q x.id) same ∙ a in absurd (cc))
     step true false false a b f ih = refl
     step false true true a b f ih =
         (let one : q ≡ row.id = (bytes_eq-Decides q row.id).0 a in

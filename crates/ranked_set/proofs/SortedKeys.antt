@@ -194,7 +194,7 @@ module _ {K : Type 0} {R : K → K → Ordering} (o : IsTotalOrder R) where
       step : (r : Ordering) → R key x ≡ r → has_key R key (slice_get (x ∷ xs) (cond (is_lt (ordering_reverse r)) (1 + prefix_len (before R key) xs) 0)) ≡ true
           → (has_key R key (slice_get xs (prefix_len (before R key) xs)) ≡ true → remove xs (prefix_len (before R key) xs) ≡ remove_key (is_at (R key)) xs)
           → remove (x ∷ xs) (cond (is_lt (ordering_reverse r)) (1 + prefix_len (before R key) xs) 0) ≡ cond (is_eq r) xs (x ∷ remove_key (is_at (R key)) xs)
-      step Less e found ih = (let greater : is_eq (R x key) ≡ false = ap is_eq (reversed key x Less e) in absurd (cc))
+      step Less e found ih = (let yes' : is_eq (R x key) ≡ true = found in let greater : is_eq (R x key) ≡ false = ap is_eq (reversed key x Less e) in absurd (cc))
       step Equal e found ih = refl
       step Greater e found ih =
           let one_more : 1 + prefix_len (before R key) xs ≡ suc (prefix_len (before R key) xs) = omega arith in
