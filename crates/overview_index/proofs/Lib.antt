@@ -3,3 +3,4 @@ pub mod RowLists
 pub mod Orders
 pub mod Ranges
 pub mod Indexing
+pub mod SpotLaws
