@@ -1,5 +1,5 @@
 -- The lengths of pieces of a mailbox file.
-use Rattle.std.proofs.Common.{◌≡◌, ℕ, ◌+◌, ◌<◌, ◌≤◌, Bool, true, false, cond, eqb, List, [], ◌∷◌, ◌++◌, length, take, drop, refl, sym, ap, ◌∙◌, arith, length-append}
+use Rattle.std.proofs.Common.{◌≡◌, ℕ, ◌+◌, ◌<◌, ◌≤◌, suc, Bool, true, false, cond, eqb, List, [], ◌∷◌, ◌++◌, length, take, drop, refl, sym, ap, ◌∙◌, arith, length-append}
 use Rattle.std.specs.List.{flat_map, concat, count_by, onto_first}
 use Rattle.std.proofs.lemmas.List.Sums.{sum_by-cons, count_by-le-length}
 use Rattle.mail_reader.specs.Lines.{lines_of}
@@ -7,7 +7,7 @@ use Rattle.mail_reader.proofs.LineEnds.{concat-lines_of}
 use Rattle.mail_forms.specs.Mailboxes.{is_from_line, quoted, separator, mbox_of}
 
 length-quoted : (from : Bool) (line : List ℕ) → length (cond from (62 ∷ line) line) ≡ cond from 1 0 + length line
-length-quoted true line = refl
+length-quoted true line = omega arith
 length-quoted false line = omega arith
 
 -- One more line that may be quoted.
@@ -29,7 +29,7 @@ length-mbox text =
     omega (arith, length-append separator (flat_map quoted (lines_of text) ++ 10 ∷ []), length-append (flat_map quoted (lines_of text)) (10 ∷ []), inner, whole)
 
 -- There are no more lines than bytes.
-short_first : (b : ℕ) (lines : List (List ℕ)) (n : ℕ) → length lines ≤ n → length (onto_first b lines) ≤ 1 + n
+short_first : (b : ℕ) (lines : List (List ℕ)) (n : ℕ) → length lines ≤ n → length (onto_first b lines) ≤ suc n
 short_first b [] n h = omega arith
 short_first b (l ∷ ls) n h = omega arith
 
@@ -37,7 +37,7 @@ lines-short : (text : List ℕ) → length (lines_of text) ≤ length text
 lines-short [] = omega arith
 lines-short (b ∷ bs) = step (eqb b 10) (lines-short bs)
   where
-    step : (t : Bool) → length (lines_of bs) ≤ length bs → length (cond t ((b ∷ []) ∷ lines_of bs) (onto_first b (lines_of bs))) ≤ 1 + length bs
+    step : (t : Bool) → length (lines_of bs) ≤ length bs → length (cond t ((b ∷ []) ∷ lines_of bs) (onto_first b (lines_of bs))) ≤ suc (length bs)
     step true h = omega arith
     step false h = short_first b (lines_of bs) (length bs) h
 
