@@ -1,9 +1,9 @@
 -- The lengths and the line ends of wire forms.
-use Rattle.std.proofs.Common.{◌≡◌, ℕ, ◌+◌, Bool, true, false, cond, eqb, ◌||◌, List, [], ◌∷◌, ◌++◌, length, take, drop, get_or, refl, sym, ap, ◌∙◌, arith, length-append, append_assoc, append-nil}
-use Rattle.std.specs.Prelude.{◌≢◌, ◌<◌}
+use Rattle.std.proofs.Common.{◌≡◌, ℕ, ◌+◌, Bool, true, false, cond, eqb, ◌||◌, List, [], ◌∷◌, ◌++◌, length, take, drop, get_or, refl, sym, ap, ◌∙◌, arith, length-append, append_assoc, append-nil, length-take}
+use Rattle.std.specs.Prelude.{◌≢◌, ◌<◌, ◌≤◌}
 use Rattle.std.specs.List.{flat_map, count_by}
 use Rattle.std.proofs.lemmas.Bool.{eq-eqb, or_parts}
-use Rattle.std.proofs.lemmas.List.{drop_more}
+use Rattle.std.proofs.lemmas.List.{drop_more, drop_all, take-append-le}
 use Rattle.std.proofs.lemmas.List.Sums.{sum_by-cons}
 use Rattle.mail_forms.specs.WireForms.{sent, wire_of, is_feed, feeds_of}
 use Rattle.mail_forms.specs.Laws.{EndAsSent}
@@ -42,6 +42,16 @@ wire-more old new all text i b within is pushed so_far =
     let next : wire_of (drop i text) ≡ sent b ++ wire_of (drop (i + 1) text) =
     ap wire_of (drop_more text i 0 within) ∙ wire-cons (get_or text i 0) (drop (i + 1) text) ∙ ap (λ x. sent x ++ wire_of (drop (i + 1) text)) (sym is) in
     rw pushed (append_assoc old (sent b) (wire_of (drop (i + 1) text)) ∙ ap (λ t. old ++ t) (sym next) ∙ so_far)
+
+-- All is sent at the end of the text.
+pub wire-end : (new all text : List ℕ) (i : ℕ) → length text ≤ i → new ++ wire_of (drop i text) ≡ all → new ≡ all
+wire-end new all text i past so_far = sym (append-nil new) ∙ ap (λ t. new ++ t) (sym (ap wire_of (drop_all i text past) ∙ wire-nil)) ∙ so_far
+
+-- What stood there at first stays in front.
+pub kept-more : (old now new more : List ℕ) → new ≡ now ++ more → take (length old) now ≡ old → take (length old) new ≡ old
+kept-more old now new more pushed kept =
+    let within : length old ≤ length now = omega (arith, length-take (length old) now, ap length kept) in
+    ap (take (length old)) pushed ∙ take-append-le (length old) now more within ∙ kept
 
 -- The line ends of what is sent for a byte, and of what follows it.
 ends_step : (feed blank : Bool) (b : ℕ) (more : List ℕ) → eqb b 10 ≡ feed → (eqb b 13 || eqb b 0) ≡ blank → EndAsSent false more → EndAsSent false (sent_by feed blank b ++ more)
