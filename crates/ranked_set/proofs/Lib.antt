@@ -1,2 +1,3 @@
 pub mod SortedKeys
 pub mod Parts
+pub mod SetSteps

@@ -1,7 +1,7 @@
 -- Lists in two sides around one item: what is at an index, one item more or less, and windows.
 use Rattle.std.proofs.Common.{◌≡◌, ℕ, ◌+◌, ◌-◌, ◌<◌, ◌≤◌, zero, suc, Bool, true, false, cond, ◌||◌, List, [], ◌∷◌, ◌++◌, length, reverse, take, drop, Option, Some, None, refl, sym, ap, ◌∙◌, subst, arith, append_assoc, append-nil, length-append}
 use Rattle.std.specs.Prelude.{nat_le, ◌==◌}
-use Rattle.std.proofs.lemmas.Bool.{leb-true}
+use Rattle.std.proofs.lemmas.Bool.{leb-true, eqb-true}
 use Rattle.std.specs.List.{insert, remove, slice_get}
 use Rattle.std.proofs.lemmas.List.{take-append-le, drop-append-le, take_all, drop_all, reverse-append, length-reverse}
 use Rattle.std.proofs.lemmas.List.Edits.{insert-append_left, insert-append_right, remove-append_left, remove-append_right}
@@ -83,12 +83,24 @@ seen-sides w xs y ys =
 
 -- A window shows nothing of a list that it is past.
 pub seen-none : {X : Type 0} (w : Window) (xs : List X) → (w.count == 0 || nat_le (length xs) w.skip) ≡ true → seen_by w xs ≡ []
-seen-none w xs h = by (w.count) (w.skip) h
+seen-none {X = X} w xs h = by (w.count == 0) refl h
   where
     nothing : (c : ℕ) → take {A = X} c [] ≡ []
     nothing zero = refl
     nothing (suc c) = refl
 
-    by : (c s : ℕ) → (c == 0 || nat_le (length xs) s) ≡ true → take c (drop s xs) ≡ []
-    by zero s h = refl
-    by (suc c) s h = ap (take (suc c)) (drop_all s xs (leb-true (length xs) s h)) ∙ nothing (suc c)
+    by : (t : Bool) → (w.count == 0) ≡ t → (t || nat_le (length xs) w.skip) ≡ true → take w.count (drop w.skip xs) ≡ []
+    by true e h = let none : w.count ≡ 0 = eqb-true w.count 0 e in rw none refl
+    by false e h = ap (take w.count) (drop_all w.skip xs (leb-true (length xs) w.skip h)) ∙ nothing w.count
+
+-- What was appended on the right, in the middle and on the left is what a window shows.
+pub seen-pushed : {X : Type 0} (w here next : Window) (xs : List X) (y : X) (ys old one two new : List X) → here ≡ after w (length ys) → next ≡ after here 1
+    → one ≡ old ++ seen_by w (reverse ys) → two ≡ one ++ seen_by here (y ∷ []) → new ≡ two ++ seen_by next (reverse xs) → new ≡ old ++ seen_by w (reverse (xs ++ y ∷ ys))
+seen-pushed w here next xs y ys old one two new h n a b c =
+    let left = seen_by w (reverse ys) in
+    let middle = seen_by (after w (length ys)) (y ∷ []) in
+    let right = seen_by (after (after w (length ys)) 1) (reverse xs) in
+    let third : new ≡ two ++ right = c ∙ rw (n, h) refl in
+    let second : two ≡ one ++ middle = b ∙ rw h refl in
+    third ∙ ap (λ t. t ++ right) (second ∙ ap (λ t. t ++ middle) a) ∙ append_assoc (old ++ left) middle right ∙ append_assoc old left (middle ++ right)
+    ∙ ap (λ t. old ++ t) (sym (seen-sides w xs y ys))

@@ -27,6 +27,11 @@ pub all_map : {X : Type 0} (P Q : X → Type 0) → ((x : X) → P x → Q x) �
 all_map P Q f [] h = tt
 all_map P Q f (x ∷ xs) h = (f x h.0, all_map P Q f xs h.1)
 
+pub less-of : (r : Ordering) → is_lt r ≡ true → r ≡ Less
+less-of Less h = refl
+less-of Equal h = absurd (cc)
+less-of Greater h = absurd (cc)
+
 module _ {K : Type 0} (R : K → K → Ordering) where
   -- The test for keys that are less than one.
   abbrev pub before : K → K → Bool
@@ -53,6 +58,12 @@ module _ {K : Type 0} (R : K → K → Ordering) where
   pub sorted_after : (xs : List K) (y : K) (ys : List K) → IsStrictlySortedBy R (xs ++ y ∷ ys) → IsStrictlySortedBy R ys
   sorted_after xs y ys s = sorted_tail R y ys (sorted_back xs (y ∷ ys) s)
 
+  -- The parts of keys in order.
+  pub sorted_sides : (whole xs : List K) (y : K) (ys : List K) → whole ≡ xs ++ y ∷ ys → IsStrictlySortedBy R whole → IsStrictlySortedBy R xs × IsStrictlySortedBy R ys
+  sorted_sides whole xs y ys e s =
+      let parts = rw e at s in
+      (sorted_front xs (y ∷ ys) parts, sorted_after xs y ys parts)
+
   -- No key before one that isn't less is counted beyond it.
   pub rank-left : (key : K) (xs : List K) (y : K) (ys : List K) → is_lt (R y key) ≡ false → prefix_len (before key) (xs ++ y ∷ ys) ≡ prefix_len (before key) xs
   rank-left key [] y ys h = rw h refl
@@ -63,7 +74,7 @@ module _ {K : Type 0} (R : K → K → Ordering) where
   rank-within key [] = omega arith
   rank-within key (x ∷ xs) = step (is_lt (R x key)) (rank-within key xs)
     where
-      step : (t : Bool) → prefix_len (before key) xs ≤ length xs → cond t (1 + prefix_len (before key) xs) 0 ≤ 1 + length xs
+      step : (t : Bool) → prefix_len (before key) xs ≤ length xs → cond t (1 + prefix_len (before key) xs) 0 ≤ suc (length xs)
       step true h = omega arith
       step false h = omega arith
 

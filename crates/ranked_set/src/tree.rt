@@ -207,7 +207,7 @@ impl<T: Ord + Copy> Tree<T> {
             Node::Leaf => 0,
             Node::Fork(left, item, _, right) => {
                 if item.cmp(key).is_lt() {
-                    left.len() + 1 + right.rank(key)
+                    self.len() - right.len() + right.rank(key)
                 } else {
                     left.rank(key)
                 }
