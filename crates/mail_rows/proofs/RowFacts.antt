@@ -54,10 +54,10 @@ pub commit-author : (text : List ℕ) (tree : Id20) (parent : Option Id20) (mome
 unfolding commit_of
 commit-author text tree parent moment = refl
 
-pub commit-date : (text : List ℕ) (tree : Id20) (parent : Option Id20) (moment : ℕ) (zone : ℤ) → zone ≡ (commit_of text tree parent moment).zone
-    → let date : Moment = record { secs = (commit_of text tree parent moment).secs; zone = zone } in date ≡ written_at (date_fact text) moment
+pub commit-date : (text : List ℕ) (tree : Id20) (parent : Option Id20) (moment secs : ℕ) (zone : ℤ) → secs ≡ (commit_of text tree parent moment).secs → zone ≡ (commit_of text tree parent moment).zone
+    → let date : Moment = record { secs = secs; zone = zone } in date ≡ written_at (date_fact text) moment
 unfolding commit_of
-commit-date text tree parent moment zone e = rw e refl
+commit-date text tree parent moment secs zone s z = rw (s, z) refl
 
 -- The zone of a commit fits in 16 bits.
 pub zone_fits : (zone : ℤ) → IsZone zone → FitsSigned w16 zone
