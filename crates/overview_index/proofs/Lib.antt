@@ -4,3 +4,4 @@ pub mod Orders
 pub mod Ranges
 pub mod Indexing
 pub mod SpotLaws
+pub mod Pages

@@ -2,6 +2,7 @@
 ghost use Rattle.std.specs.Prelude.{◌≡◌, [], false, OnOk, OnErr};
 ghost use Rattle.std.specs.BTreeMap.{is_at};
 ghost use Rattle.std.specs.List.{list_any};
+ghost use Rattle.std.specs.List.Sorted.{IsStrictlySortedBy};
 ghost use Rattle.std.specs.Ordering.{nat_cmp};
 ghost use Rattle.overview_index.specs.Listings.{spot_cmp};
 ghost use Rattle.overview_index.specs.Views.{Adds, AddsNumber, Loses, IsSame};
@@ -72,7 +73,8 @@ impl Views {
 
     /// Removes a row.
     pub(crate) fn remove(&mut self, id: &[u8], spot: Spot)
-        ensures { Loses self.old self.new id.now spot }
+        ensures loses { Loses self.old self.new id.now spot }
+        ensures sorted { IsStrictlySortedBy nat_cmp self.old.numbers }
     {
         self.dates.remove(&spot);
         self.numbers.remove(&u64::from(spot.number));
