@@ -6,12 +6,13 @@ use Rattle.overview_index.specs.Listings.{number_at, spots, listing}
 use Rattle.overview_index.specs.declared.spot.Spot.{Spot}
 
 -- One more number was appended, and what is left of the spots is one less.
-pub numbers-more : (old new : List ℕ) (all : List ℕ) (found : List Spot) (i : ℕ) (spot : Spot) → i < length found → spot ≡ get_or found i spot → new ≡ old ++ spot.number ∷ []
+pub numbers-more : (old new : List ℕ) (all : List ℕ) (found : List Spot) (i : ℕ) (spot : Spot) → i < length found → new ≡ old ++ (get_or found i spot).number ∷ []
     → old ++ map number_at (drop i found) ≡ all → new ++ map number_at (drop (i + 1) found) ≡ all
-numbers-more old new all found i spot within is pushed so_far =
-    let next : map number_at (drop i found) ≡ spot.number ∷ map number_at (drop (i + 1) found) =
-    ap (map number_at) (drop_more found i spot within) ∙ ap (λ (s : Spot). s.number ∷ map number_at (drop (i + 1) found)) (sym is) in
-    rw pushed (append_assoc old (spot.number ∷ []) (map number_at (drop (i + 1) found)) ∙ ap (λ t. old ++ t) (sym next) ∙ so_far)
+numbers-more old new all found i spot within pushed so_far =
+    let number = (get_or found i spot).number in
+    let next : map number_at (drop i found) ≡ number ∷ map number_at (drop (i + 1) found) =
+    ap (map number_at) (drop_more found i spot within) in
+    rw pushed (append_assoc old (number ∷ []) (map number_at (drop (i + 1) found)) ∙ ap (λ t. old ++ t) (sym next) ∙ so_far)
 
 pub numbers-end : (new all : List ℕ) (found : List Spot) (i : ℕ) → length found ≤ i → new ++ map number_at (drop i found) ≡ all → new ≡ all
 numbers-end new all found i past so_far = sym (append-nil new) ∙ ap (λ t. new ++ t) (sym (ap (map number_at) (drop_all i found past))) ∙ so_far

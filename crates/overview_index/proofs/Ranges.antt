@@ -141,7 +141,7 @@ none_of (Some row) h = absurd (h refl)
 pub greatest-is : (rows : List (ℕ × Row)) (n found : ℕ) (row : Row) → is_gt (nat_cmp found n) ≡ false → row_in rows found ≡ Some row
     → ((m : ℕ) → is_gt (nat_cmp m n) ≡ false → IsSome (row_in rows m) → is_lt (nat_cmp found m) ≡ false)
     → (found ≤ n) × IsSome (row_in rows found) × ((m : ℕ) → m ≤ n → found < m → row_in rows m ≡ None)
-greatest-is rows n found row up_to here last = (at_most found n up_to, (ap is_some here, none))
+greatest-is rows n found row least here last = (at_most found n least, ap is_some here, none)
   where
     none : (m : ℕ) → m ≤ n → found < m → row_in rows m ≡ None
     none m le lt = none_of (row_in rows m) (λ some. apart (last m (not_above m n le) some))

@@ -12,7 +12,7 @@ returns-in-Err-clause-err c =
     let same = c.in-Err.ensures.err in
     record {
       dates = c.remove.ensures.keys ∙ ap (remove_key (is_at (spot_cmp spot))) (same.dates ∙ c.in_ok-insert.ensures.ok)
-        ∙ remove-insert spots_total spot c.args.self.now.dates c.requires.new_spot;
+          ∙ remove-insert spots_total spot c.args.self.now.dates c.requires.new_spot;
       numbers = same.numbers;
       ids = same.ids;
     }
