@@ -1,0 +1,3 @@
+pub mod WireLengths
+pub mod MailboxLengths
+pub mod FirstValues

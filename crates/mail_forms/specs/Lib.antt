@@ -1,0 +1,4 @@
+pub mod WireForms
+pub mod Mailboxes
+pub mod NamedValues
+pub mod Laws

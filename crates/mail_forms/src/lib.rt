@@ -1,0 +1,12 @@
+//! The forms in which a text is sent, with their lengths, and the values of its fields.
+#![tactic(auto)]
+
+mod laws;
+mod mailbox;
+mod named_values;
+mod wire_form;
+
+pub use laws::{wire_len_is_sum, wire_lines_end_as_sent};
+pub use mailbox::mbox_len;
+pub use named_values::{first_value, flat_first};
+pub use wire_form::{line_feeds, wire, wire_len};

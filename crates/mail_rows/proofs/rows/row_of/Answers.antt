@@ -1,0 +1,11 @@
+use Rattle.mail_rows.proofs.RowFacts.{row-made}
+use Rattle.mail_rows.proofs.rows.row_of.Goals as goal
+
+pub returns : goal.returns
+returns c =
+    let heading = c.in_ok-heading in
+    let links = c.in_ok-links in
+    let lengths = c.lengths_of-lengths in
+    row-made c.args.number c.args.text.now c.args.arrived c.args.blob.now links.links.id links.links.refs heading.heading.subject heading.heading.from heading.heading.date
+    lengths.result.size lengths.result.wire lengths.result.mbox lengths.result.lines c.in_ok-over.over c.content_id.result c.requires.blob links.ensures.id links.ensures.refs
+    heading.ensures.subject heading.ensures.from heading.ensures.date lengths.ensures.size lengths.ensures.wire lengths.ensures.mbox lengths.ensures.lines c.in_ok-over.ensures c.content_id.ensures

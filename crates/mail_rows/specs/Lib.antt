@@ -1,0 +1,2 @@
+pub mod Overviews
+pub mod Rows

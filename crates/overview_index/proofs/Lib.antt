@@ -1,0 +1,7 @@
+pub mod ByteKeys
+pub mod RowLists
+pub mod Orders
+pub mod Ranges
+pub mod Indexing
+pub mod SpotLaws
+pub mod Pages

@@ -1,0 +1,22 @@
+-- A law of the listing.
+use Rattle.std.specs.Prelude.{◌≡◌, ◌⊎◌, ℕ, List, [], ◌∷◌}
+use Rattle.std.specs.List.Sorted.{IsStrictlySortedBy}
+use Rattle.mail_rows.specs.declared.row.Row.{Row}
+use Rattle.overview_index.specs.Listings.{spot_of, spot_cmp, spots}
+use Rattle.overview_index.specs.declared.spot.Spot.{Spot}
+
+-- One of a list.
+abbrev pub Among : {X : Type 0} → List X → X → Type 0
+Among [] x = ⊥
+Among (y ∷ ys) x = (x ≡ y) ⊎ Among ys x
+
+-- Spots that rise are just those of some rows.
+pub record AreSpots (rows : List (ℕ × Row)) (found : List Spot) : Type 0 where
+  pub rise : IsStrictlySortedBy spot_cmp found
+  pub from : (spot : Spot) → Among found spot
+      → (e : ℕ × Row) × Among rows e × (spot ≡ spot_of e.1)
+  pub all : (e : ℕ × Row) → Among rows e → Among found (spot_of e.1)
+
+-- The spots of rows, whichever way the rows are ordered, rise and are just theirs.
+abbrev pub SpotsAreInOrder : Type 0
+SpotsAreInOrder = (rows : List (ℕ × Row)) → AreSpots rows (spots rows)

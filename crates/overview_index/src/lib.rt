@@ -1,0 +1,10 @@
+//! The rows of mails by number, by id, and by date and number.
+#![tactic(auto)]
+
+mod laws;
+mod overview;
+mod spot;
+mod views;
+
+pub use laws::spots_are_in_order;
+pub use overview::Overview;

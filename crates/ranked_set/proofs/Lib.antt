@@ -1,0 +1,3 @@
+pub mod SortedKeys
+pub mod Parts
+pub mod SetSteps

@@ -1,0 +1,8 @@
+//! An ordered set that knows the rank of each key.
+#![tactic(auto)]
+
+mod set;
+mod tree;
+mod window;
+
+pub use set::RankedSet;
