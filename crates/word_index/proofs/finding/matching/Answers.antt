@@ -14,8 +14,8 @@ loop-n-preserved c =
     let i = c.loop-n.n-index in
     let so_far = filter test (take i numbers) in
     elim c.if-is_match.branch [
-    | then-is_match+in_ok-push w ↦
-        w.kept-is ∙ w.in_ok-push.ensures ∙ ap (λ (l : List ℕ). l ++ w.from.result ∷ []) c.loop-n.invariant ∙ ap (λ (n : ℕ). so_far ++ n ∷ []) w.from.ensures
-        ∙ sym (filter-kept test numbers i 0 c.loop-n-test.true (sym w.if-is_match.ensures))
-    | else-is_match w ↦ w.kept-is ∙ c.loop-n.invariant ∙ sym (filter-passed test numbers i 0 c.loop-n-test.true (sym w.if-is_match.ensures))
+      | then-is_match+in_ok-push w ↦
+          w.kept-is ∙ w.in_ok-push.ensures ∙ ap (λ (l : List ℕ). l ++ w.from.result ∷ []) c.loop-n.invariant ∙ ap (λ (n : ℕ). so_far ++ n ∷ []) w.from.ensures
+          ∙ sym (filter-kept test numbers i 0 c.loop-n-test.true (sym w.if-is_match.ensures))
+      | else-is_match w ↦ w.kept-is ∙ c.loop-n.invariant ∙ sym (filter-passed test numbers i 0 c.loop-n-test.true (sym w.if-is_match.ensures))
     ]
