@@ -55,19 +55,29 @@ pub length-lines_after : (before es : List Entry) → length (lines_after before
 length-lines_after before [] = refl
 length-lines_after before (e ∷ es) = let rest = length-lines_after (before ++ e ∷ []) es in omega (arith, rest)
 
+-- Numbers rise from one entry to the next, from this one on.
+abbrev pub RisesFrom : ℕ → List Entry → Type 0
+RisesFrom number [] = Unit {0}
+RisesFrom number (e ∷ es) = (number ≤ e.number) × RisesFrom (e.number + 1) es
+
+-- They do in a valid archive.
+pub rises-from : (number epoch : ℕ) (es : List Entry) → Rise number epoch es → RisesFrom number es
+rises-from number epoch [] rise = tt
+rises-from number epoch (e ∷ es) rise = (rise.0, rises-from (e.number + 1) e.epoch es rise.2)
+
 -- The number of the first entry with a blob id has that entry's text, where numbers rise.
-abbrev FoundAt : List Entry → List ℕ → ℕ → ℕ → Type 0
+abbrev pub FoundAt : List Entry → List ℕ → ℕ → ℕ → Type 0
 FoundAt es blob number n = (number ≤ n) × ((text : List ℕ) × (text_of es n ≡ Some text) × (blob_text es blob ≡ Some text))
 
-blob-step : (t : Bool) (number epoch : ℕ) (e : Entry) (es : List Entry) (blob : List ℕ) (n : ℕ) → bytes_eq blob (blob_id_of e.text).0 ≡ t → Rise number epoch (e ∷ es) → blob_number (e ∷ es) blob ≡ Some n
+blob-step : (t : Bool) (number : ℕ) (e : Entry) (es : List Entry) (blob : List ℕ) (n : ℕ) → bytes_eq blob (blob_id_of e.text).0 ≡ t → RisesFrom number (e ∷ es) → blob_number (e ∷ es) blob ≡ Some n
     → (blob_number es blob ≡ Some n → FoundAt es blob (e.number + 1) n) → FoundAt (e ∷ es) blob number n
-blob-step true number epoch e es blob n test rise is rest =
+blob-step true number e es blob n test rise is rest =
     let some : Some e.number ≡ Some n = rw test at is in
     let same : e.number ≡ n = cc in
     let hit : (e.number == n) ≡ true = grind (arith, nat_tests, same) in
     let first : number ≤ e.number = rise.0 in
     (omega (arith, same, first), (e.text, rw hit refl, rw test refl))
-blob-step false number epoch e es blob n test rise is rest =
+blob-step false number e es blob n test rise is rest =
     let more : blob_number es blob ≡ Some n = rw test at is in
     let found = rest more in
     let above : e.number + 1 ≤ n = found.0 in
@@ -75,9 +85,13 @@ blob-step false number epoch e es blob n test rise is rest =
     let other : (e.number == n) ≡ false = grind (arith, nat_tests, above) in
     (omega (arith, above, first), (found.1.0, rw other found.1.1, rw test found.1.2))
 
-pub blob-found : (number epoch : ℕ) (es : List Entry) (blob : List ℕ) (n : ℕ) → Rise number epoch es → blob_number es blob ≡ Some n → FoundAt es blob number n
-blob-found number epoch [] blob n rise is = absurd (cc)
-blob-found number epoch (e ∷ es) blob n rise is = blob-step (bytes_eq blob (blob_id_of e.text).0) number epoch e es blob n refl rise is (λ more. blob-found (e.number + 1) e.epoch es blob n rise.2 more)
+pub blob-found : (number : ℕ) (es : List Entry) (blob : List ℕ) (n : ℕ) → RisesFrom number es → blob_number es blob ≡ Some n → FoundAt es blob number n
+blob-found number [] blob n rise is = absurd (cc)
+blob-found number (e ∷ es) blob n rise is = blob-step (bytes_eq blob (blob_id_of e.text).0) number e es blob n refl rise is (λ more. blob-found (e.number + 1) es blob n rise.1 more)
+
+-- So the text of that number is the text of the blob id.
+pub blob_found-text : (number : ℕ) (es : List Entry) (blob : List ℕ) (n : ℕ) → RisesFrom number es → blob_number es blob ≡ Some n → text_of es n ≡ blob_text es blob
+blob_found-text number es blob n rise is = let found = blob-found number es blob n rise is in found.1.1 ∙ sym found.1.2
 
 -- Where no entry has the blob id there is no such text.
 blob-miss : (t : Bool) (e : Entry) (es : List Entry) (blob : List ℕ) → bytes_eq blob (blob_id_of e.text).0 ≡ t → blob_number (e ∷ es) blob ≡ None → (blob_number es blob ≡ None → blob_text es blob ≡ None) → blob_text (e ∷ es) blob ≡ None

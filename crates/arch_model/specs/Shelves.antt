@@ -1,5 +1,6 @@
 -- What a shelf gives of its archive, and what a call that only reads leaves.
-use Rattle.std.specs.Prelude.{◌≡◌, ◌≢◌, ◌+◌, ◌<◌, ◌≤◌, ℕ, Bool, true, false, ◌&&◌, nat_le, List, [], ◌∷◌, ◌++◌, length, count_by, slice_get, Option, Some, None, is_some, Result, Ok, Err, if◌then◌else◌}
+use Rattle.std.specs.Prelude.{◌≡◌, ◌≢◌, ◌+◌, ◌<◌, ◌≤◌, ℕ, Bool, true, false, ◌&&◌, nat_le, List, [], ◌∷◌, ◌++◌, length, slice_get, Option, Some, None, is_some, Result, Ok, Err, if◌then◌else◌}
+use Rattle.std.specs.List.{filter}
 use Rattle.std.specs.Str.{bytes_eq}
 use Rattle.arch_base.specs.Counts.{Rose}
 use Rattle.git_objects.specs.Objects.{blob_id_of}
@@ -22,7 +23,7 @@ is_between low high e = nat_le low e.number && nat_le e.number high
 
 -- How many messages have a number from `low` to `high`.
 abbrev pub live_between : List Entry → ℕ → ℕ → ℕ
-live_between entries low high = count_by (is_between low high) entries
+live_between entries low high = length (filter (is_between low high) entries)
 
 -- An entry after others, without its text. The parent of its commit is the last commit of its epoch.
 abbrev pub line_after : List Entry → Entry → EntryLine
