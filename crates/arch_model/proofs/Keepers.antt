@@ -1,12 +1,15 @@
 -- What follows for whoever calls a keeper.
-use Rattle.std.proofs.Common.{◌≡◌, ◌⊎◌, Bool, true, false, List, [], ◌∷◌, ◌++◌, Option, Some, None, is_some, Result, Ok, Err, inl, inr, refl, sym, ap, subst, ◌∙◌, arith}
+use Rattle.std.proofs.Common.{◌≡◌, ◌≤◌, ◌⊎◌, ℕ, Bool, true, false, List, [], ◌∷◌, ◌++◌, Option, Some, None, is_some, Result, Ok, Err, inl, inr, refl, sym, ap, subst, ◌∙◌, arith}
 use Rattle.std.specs.List.{Contains}
 use Rattle.std.proofs.lemmas.Bool.{false≢true}
 use Rattle.arch_model.specs.Archives.{Archive}
 use Rattle.arch_model.specs.Delivery.{Done}
 use Rattle.arch_model.specs.Standing.{Standing, standing, with_doubt, one_of, IsFound}
-use Rattle.arch_model.specs.Keeping.{HasDoubt, Has, HasAll, Passes, Fits, Moves, OnlyRead, Settles, Ending, Accepts, Refuses, Starves, Fails, Breaks, Obeys, Doubts, StaysStale, ComesBy}
+use Rattle.arch_model.specs.Keeping.{HasDoubt, Has, HasAll, Passes, Fits, Moves, OnlyRead, Settles, Ending, Accepts, Refuses, Starves, Fails, Breaks, StaysShut, Obeys, Doubts, StaysStale, ComesBy, Comes, StaysReady, CauseBy, AnswerCause, OpeningWhy, opening_answer}
+use Rattle.arch_model.specs.Untold.{HoldsNone, LeavesUntold}
 use Rattle.arch_model.specs.declared.answer.Answer.{Answer}
+use Rattle.arch_model.specs.declared.opening.OpenRefusal.{OpenRefusal}
+use Rattle.arch_model.specs.declared.opening.OpenRefusal.TheVariants as opening
 
 -- The archives of standings among some.
 
@@ -113,3 +116,34 @@ comes-by was_ready s t wanted reply u Starves settles (inr still) = inr (record 
 comes-by was_ready s t wanted reply u Fails settles (inl unopened) = absurd (false≢true (sym unopened.stale))
 comes-by was_ready s t wanted reply u Fails settles (inr doubts) = inr (record { found = doubts.found; is_found = found-through s t doubts.found settles doubts.is_found; stands = doubts.stands })
 comes-by was_ready s t wanted reply u Breaks settles never = never
+
+-- The answer to a command whose archive wasn't reopened.
+pub unopened-comes : (s t : Standing) (wanted : Archive → Done) (why : OpenRefusal) → StaysShut s why t → Comes false s wanted (opening_answer why) t
+unopened-comes s t wanted opening.DiskFault same = inl (record { stale = refl; same = same })
+unopened-comes s t wanted opening.NoMemory same = inl (record { stale = refl; same = same })
+unopened-comes s t wanted opening.NoArchive never = absurd never
+unopened-comes s t wanted (opening.Damaged file at) never = absurd never
+
+pub unopened-ready : (why : OpenRefusal) → StaysReady false (opening_answer why) false
+unopened-ready opening.DiskFault = refl
+unopened-ready opening.NoMemory = λ ready. ready
+unopened-ready opening.NoArchive = refl
+unopened-ready (opening.Damaged file at) = refl
+
+pub unopened-cause : (before now : ℕ) (why : OpenRefusal) → OpeningWhy before now why → AnswerCause before now (opening_answer why)
+unopened-cause before now opening.DiskFault cause = cause
+unopened-cause before now opening.NoMemory cause = tt
+unopened-cause before now opening.NoArchive cause = tt
+unopened-cause before now (opening.Damaged file at) cause = tt
+
+-- A cause in one of several calls is one in all of them.
+pub cause-earlier : (before mid now : ℕ) (e : Ending) → before ≤ mid → CauseBy mid now e → CauseBy before now e
+cause-earlier before mid now Accepts later cause = tt
+cause-earlier before mid now Refuses later cause = tt
+cause-earlier before mid now Starves later cause = tt
+cause-earlier before mid now Fails later rose = omega (arith, later, rose)
+cause-earlier before mid now Breaks later cause = tt
+
+-- A keeper that tells nothing fits no standing.
+pub untold-fits : {K : Type 0} (ready : K → Bool) (k : K) (s : Standing) → Fits HoldsNone ready LeavesUntold k s → ⊥
+untold-fits ready k s fits = fits.left (one_of s) (has-own s)

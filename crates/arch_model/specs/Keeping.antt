@@ -5,6 +5,8 @@ use Rattle.arch_base.specs.Counts.{Rose}
 use Rattle.mail_reader.specs.Stored.{stored}
 use Rattle.mail_reader.specs.declared.storing.StoredRefusal.{StoredRefusal}
 use Rattle.git_objects.specs.Objects.{blob_id_of}
+use Rattle.disk_model.specs.declared.name.FileKind.TheVariants.{Root}
+use Rattle.disk_model.specs.declared.name.FileName.{FileName}
 use Rattle.arch_model.specs.Archives.{Entry, Archive, blob_number}
 use Rattle.arch_model.specs.Candidates.{choice_of}
 use Rattle.arch_model.specs.Delivery.{Done}
@@ -174,6 +176,17 @@ OpeningWhy before now (opening.Damaged file at) = Unit {0}
 abbrev pub OpeningCause : {T : Type 0} → ℕ → ℕ → Result T OpenRefusal → Type 0
 OpeningCause before now (Ok x) = Unit {0}
 OpeningCause before now (Err why) = OpeningWhy before now why
+
+-- The name of the root's file.
+abbrev pub root_file : FileName
+root_file = record { kind = Root; number = 0; gen_ = 0 }
+
+-- The answer to a command whose archive could not be reopened. If there is none, its root is damaged.
+abbrev pub opening_answer : OpenRefusal → Answer
+opening_answer opening.NoArchive = answer.Damaged root_file 0
+opening_answer (opening.Damaged file at) = answer.Damaged file at
+opening_answer opening.DiskFault = answer.DiskFault
+opening_answer opening.NoMemory = answer.NoMemory
 
 -- An entry has the blob id of a text that a choice keeps.
 abbrev pub keeps_known : List Entry → Choice → Bool

@@ -8,4 +8,5 @@ pub mod Laws
 pub mod Next
 pub mod Shelves
 pub mod Standing
+pub mod Untold
 pub mod Validity
