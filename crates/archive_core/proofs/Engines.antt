@@ -1,28 +1,25 @@
--- The results of an archive that owns its disk, by the calls below it.
-use Rattle.std.specs.Prelude.{◌≡◌, ◌⊎◌, ◌≤◌, ◌<◌, ℕ, zero, suc, Bool, true, false, List, length, get_or, Option, Some, None, Result, Ok, Err, refl}
+-- What the calls of an archive that owns its disk do, by the calls below it.
+use Rattle.std.specs.Prelude.{◌≡◌, ◌⊎◌, ◌≤◌, ◌<◌, ℕ, zero, suc, Bool, true, false, not, List, [], ◌∷◌, length, get_or, Option, Some, None, is_ok, Result, Ok, Err, refl}
+use Rattle.std.specs.List.{Contains}
 use Rattle.std.proofs.Common.{◌∙◌, sym, ap, subst, inl, inr, arith}
-use Rattle.disk_model.specs.declared.name.FileName.{FileName}
+use Rattle.std.proofs.lemmas.Bool.{false≢true}
 use Rattle.disk_model.specs.Disk.{Files, Content, Image, Told, Unchanged, ReadsFit, LeavesOnly}
 use Rattle.arch_model.specs.Archives.{Archive}
 use Rattle.arch_model.specs.Delivery.{Done}
-use Rattle.arch_model.specs.Standing.{Standing, standing, with_doubt, one_of, IsFound, Fits, DoesBy, Reopens}
+use Rattle.arch_model.specs.Keeping.{Has, Passes, Fits, Moves, Settles, StaysShut, Comes, StaysReady, ending}
+use Rattle.arch_model.specs.Shelves.{Stays}
+use Rattle.arch_model.specs.Standing.{Standing, standing, with_doubt, one_of, IsFound}
 use Rattle.arch_model.specs.declared.answer.Answer.{Answer}
 use Rattle.arch_model.specs.declared.answer.Answer.TheVariants as answer
 use Rattle.arch_model.specs.declared.opening.OpenRefusal.{OpenRefusal}
 use Rattle.arch_model.specs.declared.opening.OpenRefusal.TheVariants as refusal
+use Rattle.arch_model.proofs.Keepers.{has-own, moves-stale, moves-on, comes-by}
 use Rattle.epoch_store.specs.Files.{as_read}
 use Rattle.epoch_store.specs.Opens.{RecoversOf, AllRecoverOf, ReadsAs, IsWant}
 use Rattle.epoch_store.specs.Recovery.{RecoversSome}
 use Rattle.epoch_store.specs.Stores.{View, IsStoreOf, RecoversEither}
-use Rattle.archive_core.specs.Commands.{DoneBy}
-use Rattle.archive_core.specs.Engines.{Owning, needs_opening, store_left}
-
--- A disk that changed no file holds the same.
-pub unchanged_is : (old new : Option Content) → Told Unchanged old new → new ≡ old
-unchanged_is None None told = refl
-unchanged_is None (Some m) told = absurd told
-unchanged_is (Some k) None told = absurd told
-unchanged_is (Some k) (Some m) told = λ i. Some (λ (name : FileName). told name i)
+use Rattle.archive_core.specs.Commands.{DoneBy, OnRefusal, UnlessFault}
+use Rattle.archive_core.specs.Engines.{Owning, needs_opening, Holds, is_ready, Leaves, ReadsOn, unchanged-is, store-left, now-left, reading-kept}
 
 -- One of the archives that may be there is the archive, or the one in doubt.
 is_either : (x : Archive) (d : Option Archive) (may : Option Archive) (i : ℕ) → i < length (with_doubt x d) → get_or (with_doubt x d) i may ≡ may → (b : Archive) × (may ≡ Some b) × ((b ≡ x) ⊎ (d ≡ Some b))
@@ -44,146 +41,232 @@ all_recover : (s : Standing) (k : Option Content) → ((image : Files) → Image
 all_recover s None each = let none : Files = λ name. None in absurd ((recovers_either s none (each none tt)).2.1.stands.current)
 all_recover s (Some k) each = each
 
+-- A disk that tells its content is covered by whatever list covers its images.
+told_covers : (others may : List (Option Archive)) (k : Option Content) → AllRecoverOf others k → ((image : Files) → Image k image → RecoversOf may image) → AllRecoverOf may k
+told_covers others may None all each = absurd all
+told_covers others may (Some k) all each = each
+
 -- So the disk reads as the archive or as the one in doubt.
 reads_one : (s : Standing) (k : Option Content) → ReadsFit k → AllRecoverOf (one_of s) k → (b : Archive) × IsFound s b × ReadsAs b k
 reads_one s None fit all = absurd all
 reads_one s (Some k) fit all = recovers_either s (as_read k) (all (as_read k) (λ name. fit k refl name))
 
--- Files that stand for either archive stand for one of the two.
-pub either_one : (a b : Archive) (image : Files) → RecoversEither a b image → RecoversOf (one_of (standing a (Some b))) image
-either_one a b image (inl before) = (Some a, (0, omega arith, refl), before)
-either_one a b image (inr after) = (Some b, (1, omega arith, refl), after)
+-- A flag.
+pub not_true : (b : Bool) → not b ≡ true → b ≡ false
+not_true true e = absurd (false≢true e)
+not_true false e = refl
 
--- A store's own disk leaves the first of the two.
-stands_for : (v : View) (a b : Archive) (k : Option Content) (image : Files) → IsStoreOf v a k → Image k image → RecoversEither a b image
-stands_for v a b None image store left = absurd store
-stands_for v a b (Some k) image store left = inl (v.root, record { valid = store.keeps.valid; names = store.keeps.names; stands = store.on.images image left })
+pub never_ready : (b : Bool) → (b ≡ true → false ≡ true) → b ≡ false
+never_ready true e = absurd (false≢true (e refl))
+never_ready false e = refl
 
--- The archive that it holds.
-abbrev pub Holds : {D : Type 0} → (D → Option Content) → Owning D → Archive → Type 0
-Holds content e a = IsStoreOf e.view a (content e.disk)
-
--- Whether it has to be reopened.
-abbrev pub stale_of : {D : Type 0} → Owning D → Bool
-stale_of e = e.stale
-
--- The moment of its disk.
-abbrev pub clock_of : {D : Type 0} → (D → ℕ) → Owning D → ℕ
-clock_of moment e = moment e.disk
-
--- Each crash since a moment has left one of these archives.
-abbrev pub Leaves : {D : Type 0} → (D → ℕ → Files → Type 0) → Owning D → ℕ → List (Option Archive) → Type 0
-Leaves left_since e t may = (image : Files) → left_since e.disk t image → RecoversOf may image
+-- The archive `b` is among the archives of two standings.
+either_of : (may : List (Option Archive)) (a b : Archive) (image : Files) → Contains may (Some a) → Contains may (Some b) → RecoversEither a b image → RecoversOf may image
+either_of may a b image has_a has_b (inl before) = (Some a, has_a, before)
+either_of may a b image has_a has_b (inr after) = (Some b, has_b, after)
 
 module _ {D : Type 0} (content : D → Option Content) (moment : D → ℕ) (left_since : D → ℕ → Files → Type 0)
     (counts_now : (disk : D) (t : ℕ) (image : Files) → t ≤ moment disk → Image (content disk) image → left_since disk t image)
     (only_now : (disk : D) (image : Files) → left_since disk (moment disk) image → Image (content disk) image)
     (reads_fit : (disk : D) → ReadsFit (content disk)) where
-  -- It stands so.
+  -- It stands so, and it moves so.
   abbrev pub Stands : Owning D → Standing → Type 0
-  Stands = Fits (Holds content) stale_of (clock_of moment) (Leaves left_since)
+  Stands = Fits (Holds content) is_ready (Leaves moment left_since)
 
-  -- The results of reopening.
-  abbrev pub Opening : Standing → Result Unit OpenRefusal → Owning D → Type 0
-  Opening = Reopens (Holds content) stale_of (clock_of moment) (Leaves left_since)
+  abbrev pub Going : Owning D → Standing → Owning D → Standing → Type 0
+  Going = Moves (Holds content) is_ready (Leaves moment left_since)
 
   -- What a crash leaves after a run it leaves now.
-  now_left : (old new : D) (P : Files → Type 0) → LeavesOnly moment left_since old new P → (image : Files) → left_since new (moment new) image → P image
-  now_left old new P run image left = run.each image (counts_now new (moment old) image run.later (only_now new image left))
+  left_after : (old new : D) (P : Files → Type 0) → LeavesOnly moment left_since old new P → (image : Files) → left_since new (moment new) image → P image
+  left_after old new P run image left = run.each image (counts_now new (moment old) image run.later (only_now new image left))
 
   -- Each crash of an archive that stands so leaves one of the archives that are there.
   fits_all : (e : Owning D) (s : Standing) → Stands e s → AllRecoverOf (one_of s) (content e.disk)
-  fits_all e s fits = all_recover s (content e.disk) (λ image left. fits.left image (counts_now e.disk (moment e.disk) image (omega arith) left))
+  fits_all e s fits = all_recover s (content e.disk) (λ image left. (fits.left (one_of s) (has-own s)).1 image (counts_now e.disk (moment e.disk) image (omega arith) left))
 
-  -- What reopening leaves at each moment.
-  reopening : (old : Owning D) (new : D) (s : Standing) → ((may : List (Option Archive)) → AllRecoverOf may (content old.disk) → LeavesOnly moment left_since old.disk new (RecoversOf may)) → Stands old s
-      → LeavesOnly moment left_since old.disk new (RecoversOf (one_of s))
-  reopening old new s run fits = run (one_of s) (fits_all old s fits)
+  -- A reopening leaves nothing that could not have been left before.
+  pub reopening-passes : (e new : Owning D) → ((may : List (Option Archive)) → AllRecoverOf may (content e.disk) → LeavesOnly moment left_since e.disk new.disk (RecoversOf may)) → (s : Standing) → Stands e s → Passes (Leaves moment left_since) e new []
+  reopening-passes e new run s fits = λ start may has left.
+      let all = told_covers (one_of s) may (content e.disk) (fits_all e s fits) (λ image now. left.1 image (counts_now e.disk (moment start.disk) image left.0 now)) in
+      let ran = run may all in (
+        omega (arith, left.0, ran.later),
+        λ image since. elim (ran.before (moment start.disk) image left.0 since) [
+          | inl past
+              ↦ left.1 image past
+          | inr stands ↦ stands
+        ],
+      )
 
-  -- While nothing is done a crash leaves the archive.
-  pub still_left : (e : Owning D) (a b : Archive) → Holds content e a → (image : Files) → left_since e.disk (clock_of moment e) image → RecoversOf (one_of (standing a (Some b))) image
-  still_left e a b store image left = either_one a b image (stands_for e.view a b (content e.disk) image store (only_now e.disk image left))
+  -- A reopening found the archive or the one in doubt.
+  pub opened-at : (e new : Owning D) → ((may : List (Option Archive)) → AllRecoverOf may (content e.disk) → LeavesOnly moment left_since e.disk new.disk (RecoversOf may)) → ((a : Archive) → ReadsAs a (content e.disk) → IsStoreOf new.view a (content new.disk))
+      → (s : Standing) → Stands e s → (t : Standing) × Going e s new t × Settles s t
+  opened-at e new run opened s fits =
+      let found = reads_one s (content e.disk) (reads_fit e.disk) (fits_all e s fits) in
+      let store = opened found.0 found.2 in (
+        standing found.0 None,
+        record {
+          fits = record { settled = λ ready. (store, refl); left = λ may has. store-left content moment left_since counts_now only_now new found.0 may store has.archive };
+          passes = λ start may has left. reopening-passes e new run s fits start may tt left;
+        },
+        record { found = found.1; sure = refl },
+      )
+
+  -- A reopening was refused, and all stands as before.
+  pub unopened-at : (e new : Owning D) (why : OpenRefusal) → ((may : List (Option Archive)) → AllRecoverOf may (content e.disk) → LeavesOnly moment left_since e.disk new.disk (RecoversOf may)) → ((a : Archive) → ReadsAs a (content e.disk) → IsWant why)
+      → is_ready new ≡ false → (s : Standing) → Stands e s → (t : Standing) × Going e s new t × StaysShut s why t
+  unopened-at e new why run well unready s fits =
+      let found = reads_one s (content e.disk) (reads_fit e.disk) (fits_all e s fits) in (
+        s,
+        moves-stale (Holds content) is_ready (Leaves moment left_since) (now-left content moment left_since counts_now only_now) e s new s fits unready (λ may has. has) (λ start may has left. reopening-passes e new run s fits start may tt left),
+        of_why why (well found.0 found.2),
+      )
+    where
+      of_why : (w : OpenRefusal) → IsWant w → StaysShut s w s
+      of_why refusal.NoArchive want = absurd want
+      of_why (refusal.Damaged file at) want = absurd want
+      of_why refusal.DiskFault want = refl
+      of_why refusal.NoMemory want = refl
+
+  -- Nothing was reopened, since it was ready.
+  pub ready-at : (e : Owning D) (s : Standing) → is_ready e ≡ true → Stands e s → (t : Standing) × Going e s e t × Settles s t
+  ready-at e s ready fits =
+      let both = fits.settled ready in (
+        standing s.archive None,
+        record {
+          fits = record { settled = λ at_hand. (both.0, refl); left = λ may has. store-left content moment left_since counts_now only_now e s.archive may both.0 has.archive };
+          passes = λ start may has left. left;
+        },
+        record { found = inl refl; sure = refl },
+      )
+
+  -- A command on the archive that is held.
+  module _ (e new : Owning D) (a : Archive) (wanted : Archive → Done) (run : LeavesOnly moment left_since e.disk new.disk (RecoversEither a (wanted a).archive)) where
+    -- What a crash in it leaves.
+    taken-passes : (start : Owning D) (may : List (Option Archive)) → Contains may (Some a) → Contains may (Some (wanted a).archive) → Leaves moment left_since start e may → Leaves moment left_since start new may
+    taken-passes start may has_a has_b left = (
+      omega (arith, left.0, run.later),
+      λ image since. elim (run.before (moment start.disk) image left.0 since) [
+        | inl past
+            ↦ left.1 image past
+        | inr either ↦ either_of may a (wanted a).archive image has_a has_b either
+      ],
+    )
+
+    -- It was carried out, or refused.
+    taken-done : (reply : Answer) → (wanted a).answer ≡ reply → IsStoreOf new.view (wanted a).archive (content new.disk) → Going e (standing a None) new (standing (wanted a).archive None)
+    taken-done reply answer_is store = record {
+      fits = record { settled = λ ready. (store, refl); left = λ may has. store-left content moment left_since counts_now only_now new (wanted a).archive may store has.archive };
+      passes = λ start may has left. taken-passes start may has.0.archive has.1.0.archive left;
+    }
+
+    -- Memory ran out before anything was done.
+    taken-none : new.disk ≡ e.disk → IsStoreOf new.view a (content new.disk) → Going e (standing a None) new (standing a None)
+    taken-none same store = record {
+      fits = record { settled = λ ready. (store, refl); left = λ may has. store-left content moment left_since counts_now only_now new a may store has.archive };
+      passes = λ start may has left.
+          subst (λ (d : D). (moment start.disk ≤ moment d) × ((image : Files) → left_since d (moment start.disk) image → RecoversOf may image)) (sym same) left;
+    }
+
+    -- The disk failed.
+    taken-failed : is_ready new ≡ false → Going e (standing a None) new (standing a (Some (wanted a).archive))
+    taken-failed unready = record {
+      fits = record {
+        settled = λ ready. absurd (false≢true (sym unready ∙ ready));
+        left = λ may has. (omega arith, λ image left. either_of may a (wanted a).archive image has.archive has.doubt (left_after e.disk new.disk (RecoversEither a (wanted a).archive) run image left));
+      };
+      passes = λ start may has left. taken-passes start may has.1.0.archive has.1.0.doubt left;
+    }
+
+    pub taken-at : (reply : Answer) → new.stale ≡ needs_opening reply → DoneBy new.view a (wanted a) reply (content new.disk) → OnRefusal reply (UnlessFault reply (new.disk ≡ e.disk)) → (t : Standing) × Going e (standing a None) new t × Comes true (standing a None) wanted reply t
+    taken-at answer.NoMemory stale done untouched = (standing a None, taken-none untouched done, inr (record { found = inl refl; sure = refl }))
+    taken-at answer.DiskFault stale done untouched = (standing a (Some (wanted a).archive), taken-failed (ap not stale), inr (record { found = a; is_found = inl refl; stands = refl }))
+    taken-at (answer.Ok number id) stale done untouched =
+        (standing (wanted a).archive None, taken-done (answer.Ok number id) done.answer_is done.store, record { found = a; is_found = inl refl; answer_is = done.answer_is; stands = refl })
+    taken-at (answer.Duplicate number) stale done untouched =
+        (standing (wanted a).archive None, taken-done (answer.Duplicate number) done.answer_is done.store, record { found = a; is_found = inl refl; answer_is = done.answer_is; stands = refl })
+    taken-at answer.NoFields stale done untouched = (standing (wanted a).archive None, taken-done answer.NoFields done.answer_is done.store, record { found = a; is_found = inl refl; answer_is = done.answer_is; stands = refl })
+    taken-at (answer.TooLarge len) stale done untouched =
+        (standing (wanted a).archive None, taken-done (answer.TooLarge len) done.answer_is done.store, record { found = a; is_found = inl refl; answer_is = done.answer_is; stands = refl })
+    taken-at (answer.Full max) stale done untouched =
+        (standing (wanted a).archive None, taken-done (answer.Full max) done.answer_is done.store, record { found = a; is_found = inl refl; answer_is = done.answer_is; stands = refl })
+    taken-at (answer.Collision number) stale done untouched =
+        (standing (wanted a).archive None, taken-done (answer.Collision number) done.answer_is done.store, record { found = a; is_found = inl refl; answer_is = done.answer_is; stands = refl })
+    taken-at answer.IsMirror stale done untouched = (standing (wanted a).archive None, taken-done answer.IsMirror done.answer_is done.store, record { found = a; is_found = inl refl; answer_is = done.answer_is; stands = refl })
+    taken-at (answer.NotLive number) stale never untouched = absurd never
+    taken-at (answer.NoText number) stale never untouched = absurd never
+    taken-at (answer.Damaged file at) stale never untouched = absurd never
+
+  -- Nothing was done on the archive that is held, for want of memory.
+  pub starved-at : (e : Owning D) (a : Archive) (wanted : Archive → Done) → Holds content e a → (t : Standing) × Going e (standing a None) e t × Comes true (standing a None) wanted answer.NoMemory t
+  starved-at e a wanted store = (
+    standing a None,
+    record {
+      fits = record { settled = λ ready. (store, refl); left = λ may has. store-left content moment left_since counts_now only_now e a may store has.archive };
+      passes = λ start may has left. left;
+    },
+    inr (record { found = inl refl; sure = refl }),
+  )
+
+  -- A command on what a reopening found.
+  pub commanded-after : (was_ready : Bool) (old mid new : Owning D) (s t : Standing) (wanted : Archive → Done) (reply : Answer) → Going old s mid t → Settles s t → is_ready mid ≡ true
+      → ((a : Archive) → Holds content mid a → (u : Standing) × Going mid (standing a None) new u × Comes true (standing a None) wanted reply u) → (u : Standing) × Going old s new u × Comes was_ready s wanted reply u
+  commanded-after was_ready old mid new s t wanted reply opened settles ready taken =
+      let both = opened.fits.settled ready in
+      let same : t ≡ standing t.archive None = ap (λ (d : Option Archive). standing t.archive d) both.1 in
+      let done = taken t.archive both.0 in (
+        done.0,
+        moves-on (Holds content) is_ready (Leaves moment left_since) old mid new s t done.0 opened settles (subst (λ (x : Standing). Going mid x new done.0) (sym same) done.1),
+        comes-by was_ready s t wanted reply done.0 (ending reply) settles done.2,
+      )
+
+  -- A call that only reads.
+  pub stays-at : (faults : D → ℕ) (e : Owning D) (disk : D) → is_ready e ≡ true → Told Unchanged (content e.disk) (content disk) → LeavesOnly moment left_since e.disk disk (Image (content e.disk)) → faults e.disk ≤ faults disk
+      → Stays (Holds content) is_ready (ReadsOn content moment left_since) (λ (o : Owning D). faults o.disk) e (record { disk = disk; view = e.view; stale = e.stale })
+  stays-at faults e disk ready files run later =
+      let read : ReadsOn content moment left_since e (record { disk = disk; view = e.view; stale = e.stale }) = record { view_is = refl; stale_is = refl; files = files; run = run } in
+      record {
+        same = read;
+        kept = (reading-kept content moment left_since counts_now only_now e (record { disk = disk; view = e.view; stale = e.stale }) read).held;
+        at_hand = ready;
+        later = later;
+      }
 
   -- Here `inside` is the value by its parts.
   module _ (inside old : Owning D) (is : inside ≡ old) where
-    held_inside : (a : Archive) → Holds content old a → Holds content inside a
-    held_inside a = subst (λ (o : Owning D). Holds content o a) (sym is)
+    pub opened-from : (new : Owning D) → ((may : List (Option Archive)) → AllRecoverOf may (content inside.disk) → LeavesOnly moment left_since inside.disk new.disk (RecoversOf may)) → ((a : Archive) → ReadsAs a (content inside.disk) → IsStoreOf new.view a (content new.disk))
+        → (s : Standing) → Stands old s → (t : Standing) × Going old s new t × Settles s t
+    opened-from new run opened = subst (λ (o : Owning D). (s : Standing) → Stands o s → (t : Standing) × Going o s new t × Settles s t) is (opened-at inside new run opened)
 
-    stands_inside : (s : Standing) → Stands old s → Stands inside s
-    stands_inside s = subst (λ (o : Owning D). Stands o s) (sym is)
+    pub unopened-from : (new : Owning D) (why : OpenRefusal) → ((may : List (Option Archive)) → AllRecoverOf may (content inside.disk) → LeavesOnly moment left_since inside.disk new.disk (RecoversOf may)) → ((a : Archive) → ReadsAs a (content inside.disk) → IsWant why)
+        → is_ready new ≡ false → (s : Standing) → Stands old s → (t : Standing) × Going old s new t × StaysShut s why t
+    unopened-from new why run well unready = subst (λ (o : Owning D). (s : Standing) → Stands o s → (t : Standing) × Going o s new t × StaysShut s why t) is (unopened-at inside new why run well unready)
 
-    left_inside : (new : D) (may : List (Option Archive)) → ((image : Files) → left_since new (clock_of moment inside) image → RecoversOf may image) → (image : Files) → left_since new (clock_of moment old) image → RecoversOf may image
-    left_inside new may = subst (λ (o : Owning D). (image : Files) → left_since new (clock_of moment o) image → RecoversOf may image) is
+    pub passes-from : (new : Owning D) → ((may : List (Option Archive)) → AllRecoverOf may (content inside.disk) → LeavesOnly moment left_since inside.disk new.disk (RecoversOf may)) → (s : Standing) → Stands old s → Passes (Leaves moment left_since) old new []
+    passes-from new run = subst (λ (o : Owning D). (s : Standing) → Stands o s → Passes (Leaves moment left_since) o new []) is (reopening-passes inside new run)
 
-    -- After a call that only reads it still holds the archive.
-    pub read_holds : (new : D) → Told Unchanged (content inside.disk) (content new) → (a : Archive) → Holds content old a → IsStoreOf inside.view a (content new)
-    read_holds new told a store = subst (λ (k : Option Content). IsStoreOf inside.view a k) (sym (unchanged_is (content inside.disk) (content new) told)) (held_inside a store)
+    pub taken-from : (new : Owning D) (wanted : Archive → Done) (reply : Answer) → new.stale ≡ needs_opening reply → ((a : Archive) → Holds content inside a → LeavesOnly moment left_since inside.disk new.disk (RecoversEither a (wanted a).archive))
+        → ((a : Archive) → Holds content inside a → DoneBy new.view a (wanted a) reply (content new.disk)) → OnRefusal reply (UnlessFault reply (new.disk ≡ inside.disk)) → (a : Archive) → Holds content old a → (t : Standing) × Going old (standing a None) new t × Comes true (standing a None) wanted reply t
+    taken-from new wanted reply stale run done untouched =
+        subst (λ (o : Owning D). (a : Archive) → Holds content o a → (t : Standing) × Going o (standing a None) new t × Comes true (standing a None) wanted reply t) is
+        (λ a store. taken-at inside new a wanted (run a store) reply stale (done a store) untouched)
 
-    -- After a call that only reads a crash leaves the archive.
-    pub read_left : (new : D) → LeavesOnly moment left_since inside.disk new (Image (content inside.disk)) → (a : Archive) → Holds content old a → (image : Files) → left_since new (clock_of moment old) image → RecoversOf (one_of (standing a None)) image
-    read_left new run a store = left_inside new (one_of (standing a None)) (λ image left. store_left inside.view a (content inside.disk) image (held_inside a store) (run.each image left))
+    pub stays-from : (faults : D → ℕ) (disk : D) → is_ready old ≡ true → Told Unchanged (content inside.disk) (content disk) → LeavesOnly moment left_since inside.disk disk (Image (content inside.disk)) → faults inside.disk ≤ faults disk
+        → Stays (Holds content) is_ready (ReadsOn content moment left_since) (λ (o : Owning D). faults o.disk) old (record { disk = disk; view = inside.view; stale = inside.stale })
+    stays-from faults disk ready files run later =
+        subst (λ (o : Owning D). is_ready o ≡ true → Stays (Holds content) is_ready (ReadsOn content moment left_since) (λ (p : Owning D). faults p.disk) o (record { disk = disk; view = inside.view; stale = inside.stale })) is
+        (λ at_hand. stays-at faults inside disk at_hand files run later) ready
 
-    -- While it needn't be reopened it is as it was.
-    pub still_ready : inside.stale ≡ false → (s : Standing) → Stands old s → Opening s (Ok tt) old
-    still_ready ready s fits =
-        let now : old.stale ≡ false = sym (ap (λ (o : Owning D). o.stale) is) ∙ ready in
-        (s.archive, inl refl, record { holding = (fits.ready now).0; ready = now })
-
-    -- What is reopened is the archive or the one in doubt.
-    pub reopened : (new : Owning D) → ((a : Archive) → ReadsAs a (content inside.disk) → IsStoreOf new.view a (content new.disk)) → new.stale ≡ false → (s : Standing) → Stands old s → Opening s (Ok tt) new
-    reopened new opened ready s fits =
-        let found = reads_one s (content inside.disk) (reads_fit inside.disk) (fits_all inside s (stands_inside s fits)) in
-        (found.0, found.1, record { holding = opened found.0 found.2; ready = ready })
-
-    -- A crash while it is reopened leaves no other.
-    pub reopening_left : (new : D) → ((may : List (Option Archive)) → AllRecoverOf may (content inside.disk) → LeavesOnly moment left_since inside.disk new (RecoversOf may)) → (s : Standing) → Stands old s
-        → (image : Files) → left_since new (clock_of moment old) image → RecoversOf (one_of s) image
-    reopening_left new run s fits = left_inside new (one_of s) (reopening inside new s run (stands_inside s fits)).each
-
-    -- What isn't reopened stands as before.
-    pub unopened : (new : Owning D) (why : OpenRefusal) → ((may : List (Option Archive)) → AllRecoverOf may (content inside.disk) → LeavesOnly moment left_since inside.disk new.disk (RecoversOf may))
-        → ((a : Archive) → ReadsAs a (content inside.disk) → IsWant why) → new.stale ≡ true → (s : Standing) → Stands old s → Opening s (Err why) new
-    unopened new why run well unready s fits = of_why why (well found.0 found.2) where
-      within : Stands inside s
-      within = stands_inside s fits
-
-      found : (b : Archive) × IsFound s b × ReadsAs b (content inside.disk)
-      found = reads_one s (content inside.disk) (reads_fit inside.disk) (fits_all inside s within)
-
-      still : Stands new s
-      still = record {
-        ready = λ ready. absurd (let wrong : true ≡ false = sym unready ∙ ready in cc);
-        left = now_left inside.disk new.disk (RecoversOf (one_of s)) (reopening inside new.disk s run within);
-      }
-
-      of_why : (w : OpenRefusal) → IsWant w → Opening s (Err w) new
-      of_why refusal.NoArchive want = absurd want
-      of_why (refusal.Damaged file at) want = absurd want
-      of_why refusal.DiskFault want = still
-      of_why refusal.NoMemory want = still
-
-    -- A crash in a command leaves the archive before it, or the one after it.
-    pub command_left : (new : D) (wanted : Archive → Archive) → ((a : Archive) → Holds content inside a → LeavesOnly moment left_since inside.disk new (RecoversEither a (wanted a))) → (a : Archive) → Holds content old a
-        → (image : Files) → left_since new (clock_of moment old) image → RecoversOf (one_of (standing a (Some (wanted a)))) image
-    command_left new wanted run a store = left_inside new (one_of (standing a (Some (wanted a)))) (λ image left. either_one a (wanted a) image ((run a (held_inside a store)).each image left))
-
-    -- The answer to a command on the archive is the answer of its keeper.
-    pub command_done : (new : Owning D) (wanted : Archive → Done) (reply : Answer) → new.stale ≡ needs_opening reply → ((a : Archive) → Holds content inside a → LeavesOnly moment left_since inside.disk new.disk (RecoversEither a (wanted a).archive))
-        → ((a : Archive) → Holds content inside a → DoneBy new.view a (wanted a) reply (content new.disk)) → (a : Archive) → Holds content old a → DoesBy (Holds content) stale_of (clock_of moment) (Leaves left_since) a (wanted a) reply new
-    command_done new wanted reply stale run done a store = of_reply reply stale (done a (held_inside a store)) where
-      left : (image : Files) → left_since new.disk (moment new.disk) image → RecoversEither a (wanted a).archive image
-      left = now_left inside.disk new.disk (RecoversEither a (wanted a).archive) (run a (held_inside a store))
-
-      of_reply : (r : Answer) → new.stale ≡ needs_opening r → DoneBy new.view a (wanted a) r (content new.disk) → DoesBy (Holds content) stale_of (clock_of moment) (Leaves left_since) a (wanted a) r new
-      of_reply answer.NoMemory is by_store = record { holding = by_store; ready = is }
-      of_reply answer.DiskFault is by_store = record { unready = is; left = λ image since. either_one a (wanted a).archive image (left image since) }
-      of_reply (answer.Ok number id) is by_store = record { answer_is = by_store.answer_is; held = record { holding = by_store.store; ready = is } }
-      of_reply (answer.Duplicate number) is by_store = record { answer_is = by_store.answer_is; held = record { holding = by_store.store; ready = is } }
-      of_reply answer.NoFields is by_store = record { answer_is = by_store.answer_is; held = record { holding = by_store.store; ready = is } }
-      of_reply (answer.TooLarge len) is by_store = record { answer_is = by_store.answer_is; held = record { holding = by_store.store; ready = is } }
-      of_reply (answer.Full max) is by_store = record { answer_is = by_store.answer_is; held = record { holding = by_store.store; ready = is } }
-      of_reply (answer.Collision number) is by_store = record { answer_is = by_store.answer_is; held = record { holding = by_store.store; ready = is } }
-      of_reply answer.IsMirror is by_store = record { answer_is = by_store.answer_is; held = record { holding = by_store.store; ready = is } }
-      of_reply (answer.NotLive number) is by_store = absurd by_store
-      of_reply (answer.NoText number) is by_store = absurd by_store
-      of_reply (answer.Damaged file at) is by_store = absurd by_store
+-- The keeper is ready after the answer unless the disk failed or a file is damaged.
+pub stays-ready : (stale : Bool) (reply : Answer) → stale ≡ needs_opening reply → StaysReady true reply (not stale)
+stays-ready stale answer.NoMemory is = λ was. ap not is
+stays-ready stale answer.DiskFault is = ap not is
+stays-ready stale (answer.Ok number id) is = tt
+stays-ready stale (answer.Duplicate number) is = ap not is
+stays-ready stale answer.NoFields is = ap not is
+stays-ready stale (answer.TooLarge len) is = ap not is
+stays-ready stale (answer.Full max) is = ap not is
+stays-ready stale (answer.Collision number) is = ap not is
+stays-ready stale (answer.NotLive number) is = ap not is
+stays-ready stale (answer.NoText number) is = ap not is
+stays-ready stale answer.IsMirror is = ap not is
+stays-ready stale (answer.Damaged file at) is = ap not is
