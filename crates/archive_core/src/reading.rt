@@ -42,7 +42,11 @@ impl DiskArchive {
         ensures { (a : Archive) → Keeps self.now a → IsGreatestLive a.entries n result }
     {
         let entries = self.store.stored();
-        match entries.split_at(count_up_to(entries, n)).0.last() {
+        let count = count_up_to(entries, n);
+        if count == 0 {
+            return None;
+        }
+        match entries.get(count - 1) {
             None => None,
             Some(entry) => Some(entry.number),
         }

@@ -1,0 +1,18 @@
+use Rattle.archive_core.proofs.ByIndex.{blob_given, blob_refused, blob_missing}
+use Rattle.archive_core.proofs.ByNumber.{tells_other}
+use Rattle.archive_core.proofs.Standing.{store_keeps}
+use Rattle.archive_core.proofs.archive.DiskArchive.blob.Goals as goal
+
+pub returns-in-None-clause-blob : goal.returns-in-None-clause-blob
+returns-in-None-clause-blob g c = λ a own. blob_missing a c.args.id.now.0 c.args.into.now c.args.into.now (c.in-None.ensures.number a (store_keeps c.args.self.now a (g.D.Disk.content c.args.disk.now) own))
+
+pub returns-in-Ok-clause-blob : goal.returns-in-Ok-clause-blob
+returns-in-Ok-clause-blob g c = λ a own.
+    let k = g.D.Disk.content c.args.disk.now in
+    blob_given c.args.self.now a k c.args.id.now.0 c.in-Some.number c.args.into.now c.text.new.into own (c.in-Some.ensures.number a (store_keeps c.args.self.now a k own)) (c.in-Ok.ensures.text a own)
+
+pub returns-in-Err-clause-blob : goal.returns-in-Err-clause-blob
+returns-in-Err-clause-blob g c = λ a own. blob_refused a c.args.id.now.0 c.in-Some.number c.args.into.now c.text.new.into c.in-Err.refusal (c.in-Err.ensures.text a own)
+
+pub returns-in-Err-clause-other : goal.returns-in-Err-clause-other
+returns-in-Err-clause-other g c = tells_other c.args.self.now.entries c.in-Some.number c.args.into.now c.text.new.into c.text.result c.text.ensures.kept
