@@ -1,25 +1,31 @@
 -- What the calls of an archive that owns its disk do, by the calls below it.
-use Rattle.std.specs.Prelude.{◌≡◌, ◌⊎◌, ◌≤◌, ◌<◌, ℕ, zero, suc, Bool, true, false, not, List, [], ◌∷◌, length, get_or, Option, Some, None, is_ok, Result, Ok, Err, refl}
+use Rattle.std.specs.Prelude.{◌≡◌, ◌⊎◌, ◌+◌, ◌≤◌, ◌<◌, ℕ, zero, suc, Bool, true, false, not, List, [], ◌∷◌, length, get_or, Option, Some, None, is_ok, Result, Ok, Err, refl}
 use Rattle.std.specs.List.{Contains}
 use Rattle.std.proofs.Common.{◌∙◌, sym, ap, subst, inl, inr, arith}
 use Rattle.std.proofs.lemmas.Bool.{false≢true}
+use Rattle.arch_base.specs.Counts.{RoseIf}
 use Rattle.disk_model.specs.Disk.{Files, Content, Image, Told, Unchanged, ReadsFit, LeavesOnly}
 use Rattle.arch_model.specs.Archives.{Archive}
 use Rattle.arch_model.specs.Delivery.{Done}
-use Rattle.arch_model.specs.Keeping.{Has, Passes, Fits, Moves, Settles, StaysShut, Comes, StaysReady, ending}
-use Rattle.arch_model.specs.Shelves.{Stays}
+use Rattle.arch_model.specs.Keeping.{Has, Passes, Fits, Moves, Settles, StaysShut, Comes, Ending, Accepts, Refuses, Starves, Fails, Breaks, ReadyBy, StaysReady, AnswerCause, OpeningWhy, ending, opening_answer}
+use Rattle.arch_model.specs.Shelves.{Stays, ReadCause, ReadsOnce}
 use Rattle.arch_model.specs.Standing.{Standing, standing, with_doubt, one_of, IsFound}
 use Rattle.arch_model.specs.declared.answer.Answer.{Answer}
 use Rattle.arch_model.specs.declared.answer.Answer.TheVariants as answer
 use Rattle.arch_model.specs.declared.opening.OpenRefusal.{OpenRefusal}
 use Rattle.arch_model.specs.declared.opening.OpenRefusal.TheVariants as refusal
-use Rattle.arch_model.proofs.Keepers.{has-own, moves-stale, moves-on, comes-by}
+use Rattle.arch_model.specs.declared.text_refusal.TextRefusal.{TextRefusal}
+use Rattle.arch_model.specs.declared.text_refusal.TextRefusal.TheVariants as reading
+use Rattle.arch_model.proofs.Keepers.{has-own, moves-stale, moves-on, comes-by, unopened-comes, unopened-ready, unopened-cause}
 use Rattle.epoch_store.specs.Files.{as_read}
 use Rattle.epoch_store.specs.Opens.{RecoversOf, AllRecoverOf, ReadsAs, IsWant}
+use Rattle.epoch_store.specs.Reads.{AnswersQuietly}
 use Rattle.epoch_store.specs.Recovery.{RecoversSome}
-use Rattle.epoch_store.specs.Stores.{View, IsStoreOf, RecoversEither}
+use Rattle.epoch_store.specs.Stores.{View, Keeps, IsStoreOf, RecoversEither}
 use Rattle.archive_core.specs.Commands.{DoneBy, OnRefusal, UnlessFault}
-use Rattle.archive_core.specs.Engines.{Owning, needs_opening, Holds, is_ready, Leaves, ReadsOn, unchanged-is, store-left, now-left, reading-kept}
+use Rattle.archive_core.specs.Engines.{Owning, needs_opening, Holds, is_ready, Leaves, ReadsOn, reading-same, store-left, now-left, reading-kept}
+use Rattle.archive_core.specs.Numbers.{TellsOther}
+use Rattle.archive_core.proofs.Standing.{store_keeps}
 
 -- One of the archives that may be there is the archive, or the one in doubt.
 is_either : (x : Archive) (d : Option Archive) (may : Option Archive) (i : ℕ) → i < length (with_doubt x d) → get_or (with_doubt x d) i may ≡ may → (b : Archive) × (may ≡ Some b) × ((b ≡ x) ⊎ (d ≡ Some b))
@@ -64,6 +70,51 @@ never_ready false e = refl
 either_of : (may : List (Option Archive)) (a b : Archive) (image : Files) → Contains may (Some a) → Contains may (Some b) → RecoversEither a b image → RecoversOf may image
 either_of may a b image has_a has_b (inl before) = (Some a, has_a, before)
 either_of may a b image has_a has_b (inr after) = (Some b, has_b, after)
+
+-- The causes of refusals.
+pub opening-why : {T : Type 0} (before now : ℕ) (why : OpenRefusal) (r : Result T OpenRefusal) → r ≡ Err why → RoseIf (r ≡ Err refusal.DiskFault) before now → OpeningWhy before now why
+opening-why before now refusal.DiskFault r is rose = rose.failed is
+opening-why before now refusal.NoMemory r is rose = tt
+opening-why before now refusal.NoArchive r is rose = tt
+opening-why before now (refusal.Damaged file at) r is rose = tt
+
+pub read-cause : {T : Type 0} (before now : ℕ) (r : Result T TextRefusal) → RoseIf (r ≡ Err reading.DiskFault) before now → TellsOther r → ReadCause before now r
+read-cause before now (Ok x) rose other = tt
+read-cause before now (Err reading.DiskFault) rose other = rose.failed refl
+read-cause before now (Err (reading.Damaged named found)) rose other = other
+read-cause before now (Err reading.NoMemory) rose other = tt
+
+pub quiet-other : {T : Type 0} (r : Result T TextRefusal) → AnswersQuietly r → TellsOther r
+quiet-other (Ok x) quiet = tt
+quiet-other (Err reading.DiskFault) quiet = tt
+quiet-other (Err (reading.Damaged named found)) quiet = absurd quiet
+quiet-other (Err reading.NoMemory) quiet = tt
+
+pub answer-cause : (before now : ℕ) (reply : Answer) → RoseIf (reply ≡ answer.DiskFault) before now → AnswerCause before now reply
+answer-cause before now answer.DiskFault rose = rose.failed refl
+answer-cause before now answer.NoMemory rose = tt
+answer-cause before now (answer.Ok number id) rose = tt
+answer-cause before now (answer.Duplicate number) rose = tt
+answer-cause before now answer.NoFields rose = tt
+answer-cause before now (answer.TooLarge len) rose = tt
+answer-cause before now (answer.Full max) rose = tt
+answer-cause before now (answer.Collision number) rose = tt
+answer-cause before now (answer.NotLive number) rose = tt
+answer-cause before now (answer.NoText number) rose = tt
+answer-cause before now answer.IsMirror rose = tt
+answer-cause before now (answer.Damaged file at) rose = tt
+
+-- What a command leaves of a ready keeper is what one leaves of any that was reopened first.
+pub ready-after : (was : Bool) (now : Bool) (e : Ending) → ReadyBy true now e → ReadyBy was now e
+ready-after was now Accepts ready = tt
+ready-after was now Refuses ready = ready
+ready-after was now Starves ready = λ at_hand. ready refl
+ready-after was now Fails ready = ready
+ready-after was now Breaks ready = ready
+
+-- A call that doesn't read reads at most once.
+pub reads-none : (before now : ℕ) → now ≡ before → ReadsOnce before now
+reads-none before now same = record { later = omega (arith, same); most = omega (arith, same) }
 
 module _ {D : Type 0} (content : D → Option Content) (moment : D → ℕ) (left_since : D → ℕ → Files → Type 0)
     (counts_now : (disk : D) (t : ℕ) (image : Files) → t ≤ moment disk → Image (content disk) image → left_since disk t image)
@@ -231,8 +282,36 @@ module _ {D : Type 0} (content : D → Option Content) (moment : D → ℕ) (lef
         later = later;
       }
 
+  -- A call that does nothing.
+  pub stays-still : (faults : D → ℕ) (e : Owning D) → is_ready e ≡ true → Stays (Holds content) is_ready (ReadsOn content moment left_since) (λ (o : Owning D). faults o.disk) e e
+  stays-still faults e ready = record { same = reading-same content moment left_since counts_now only_now e; kept = λ a store. store; at_hand = ready; later = omega arith }
+
   -- Here `inside` is the value by its parts.
   module _ (inside old : Owning D) (is : inside ≡ old) where
+    pub still-ready : inside.stale ≡ false → is_ready old ≡ true
+    still-ready fresh = subst (λ (o : Owning D). is_ready o ≡ true) is (ap not fresh)
+
+    pub still-stale : inside.stale ≡ true → is_ready old ≡ true → ⊥
+    still-stale stale ready = let now : not true ≡ true = sym (ap not stale) ∙ ap (λ (o : Owning D). is_ready o) is ∙ ready in false≢true now
+
+    pub held-inside : (a : Archive) → Holds content old a → IsStoreOf inside.view a (content inside.disk)
+    held-inside a = subst (λ (o : Owning D). Holds content o a) (sym is)
+
+    pub kept-inside : (a : Archive) → Holds content old a → Keeps inside.view a
+    kept-inside a store = store_keeps inside.view a (content inside.disk) (held-inside a store)
+
+    pub cause-from : {T : Type 0} (faults : D → ℕ) (disk : D) (r : Result T TextRefusal) → RoseIf (r ≡ Err reading.DiskFault) (faults inside.disk) (faults disk) → TellsOther r → ReadCause (faults old.disk) (faults disk) r
+    cause-from faults disk r rose other = subst (λ (o : Owning D). ReadCause (faults o.disk) (faults disk) r) is (read-cause (faults inside.disk) (faults disk) r rose other)
+
+    pub once-from : (reads : D → ℕ) (disk : D) → reads inside.disk ≤ reads disk → reads disk ≤ reads inside.disk + 1 → ReadsOnce (reads old.disk) (reads disk)
+    once-from reads disk later most = subst (λ (o : Owning D). ReadsOnce (reads o.disk) (reads disk)) is (record { later = later; most = most })
+
+    pub opening-why-from : {T : Type 0} (faults : D → ℕ) (disk : D) (why : OpenRefusal) (r : Result T OpenRefusal) → r ≡ Err why → RoseIf (r ≡ Err refusal.DiskFault) (faults inside.disk) (faults disk) → OpeningWhy (faults old.disk) (faults disk) why
+    opening-why-from faults disk why r err rose = subst (λ (o : Owning D). OpeningWhy (faults o.disk) (faults disk) why) is (opening-why (faults inside.disk) (faults disk) why r err rose)
+
+    pub answer-cause-from : (faults : D → ℕ) (disk : D) (reply : Answer) → RoseIf (reply ≡ answer.DiskFault) (faults inside.disk) (faults disk) → AnswerCause (faults old.disk) (faults disk) reply
+    answer-cause-from faults disk reply rose = subst (λ (o : Owning D). AnswerCause (faults o.disk) (faults disk) reply) is (answer-cause (faults inside.disk) (faults disk) reply rose)
+
     pub opened-from : (new : Owning D) → ((may : List (Option Archive)) → AllRecoverOf may (content inside.disk) → LeavesOnly moment left_since inside.disk new.disk (RecoversOf may)) → ((a : Archive) → ReadsAs a (content inside.disk) → IsStoreOf new.view a (content new.disk))
         → (s : Standing) → Stands old s → (t : Standing) × Going old s new t × Settles s t
     opened-from new run opened = subst (λ (o : Owning D). (s : Standing) → Stands o s → (t : Standing) × Going o s new t × Settles s t) is (opened-at inside new run opened)
@@ -270,3 +349,18 @@ stays-ready stale (answer.NotLive number) is = ap not is
 stays-ready stale (answer.NoText number) is = ap not is
 stays-ready stale answer.IsMirror is = ap not is
 stays-ready stale (answer.Damaged file at) is = ap not is
+
+-- The answer to a command whose archive wasn't reopened, which was stale then.
+pub refused-comes : (was : Bool) (s t : Standing) (wanted : Archive → Done) (why : OpenRefusal) (reply : Answer) → reply ≡ opening_answer why → (was ≡ true → false ≡ true) → StaysShut s why t → Comes was s wanted reply t
+refused-comes was s t wanted why reply is stale shut =
+    let from : Comes was s wanted (opening_answer why) t = subst (λ (b : Bool). Comes b s wanted (opening_answer why) t) (sym (never_ready was stale)) (unopened-comes s t wanted why shut) in
+    subst (λ (r : Answer). Comes was s wanted r t) (sym is) from
+
+pub refused-ready : (was now : Bool) (why : OpenRefusal) (reply : Answer) → reply ≡ opening_answer why → (was ≡ true → false ≡ true) → now ≡ false → StaysReady was reply now
+refused-ready was now why reply is stale unready =
+    let at_false : StaysReady false (opening_answer why) now = subst (λ (b : Bool). StaysReady false (opening_answer why) b) (sym unready) (unopened-ready why) in
+    let from : StaysReady was (opening_answer why) now = subst (λ (b : Bool). StaysReady b (opening_answer why) now) (sym (never_ready was stale)) at_false in
+    subst (λ (r : Answer). StaysReady was r now) (sym is) from
+
+pub refused-cause : (before now : ℕ) (why : OpenRefusal) (reply : Answer) → reply ≡ opening_answer why → OpeningWhy before now why → AnswerCause before now reply
+refused-cause before now why reply is cause = subst (λ (r : Answer). AnswerCause before now r) (sym is) (unopened-cause before now why cause)
