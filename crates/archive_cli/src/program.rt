@@ -241,7 +241,7 @@ pub fn play_script<K: CountedKeep + Drop, O: Sink>(
     out: &mut O,
 ) -> Status
     requires script { All IsArrival events.now }
-    ensures printed { (config : Config) → K.holds keep (empty_archive config) → K.stale keep ≡ false
+    ensures printed { (config : Config) → K.holds keep (empty_archive config)
         → (text : List ℕ) → IsScript events.now text → length text ≤ input_limit
         → Printed (IsReplayDue config text) result (O.taken out.old) (O.faults out.old)
         (O.taken out.new) (O.faults out.new) }
