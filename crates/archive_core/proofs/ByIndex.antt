@@ -77,7 +77,7 @@ number_kept v a index blob r indexed keeps is = is ∙ (index_of_kept v a index 
 pub blob_given : (v : View) (a : Archive) (k : Option Content) (blob : List ℕ) (n : ℕ) (old new : List ℕ) → IsStoreOf v a k → Some n ≡ blob_number a.entries blob → GivesTextIn a.entries n old new (Ok tt) → GivesBlobIn a.entries blob old new (Ok true)
 blob_given v a k blob n old new own is given =
     let keeps = store_keeps v a k own in
-    (given.0, sym (blob_found-text 1 a.entries blob n (rises-from 1 0 a.entries keeps.valid.order) (sym is)) ∙ given.1.0, given.1.1)
+    (given.0, sym (blob_found-text 1 a.entries blob n (rises-from 1 0 a.entries keeps.valid.order) (sym is)) ∙ given.1, given.2)
 
 -- No refusal tells of damage.
 pub blob_refused : (a : Archive) (blob : List ℕ) (n : ℕ) (old new : List ℕ) (why : TextRefusal) → GivesTextIn a.entries n old new (Err why) → GivesBlobIn a.entries blob old new (Err why)

@@ -232,11 +232,11 @@ text_of-least a n found least = by (found == n) refl
     none_for none = rw none refl
 
     by : (t : Bool) → (found == n) ≡ t → is_some (text_of a.entries n) ≡ t
-    by true is = let same : found ≡ n = grind (arith, nat_tests) in subst (λ (m : ℕ). is_some (text_of a.entries m) ≡ true) same least.1.0
+    by true is = let same : found ≡ n = grind (arith, nat_tests) in subst (λ (m : ℕ). is_some (text_of a.entries m) ≡ true) same least.1
     by false is =
         let apart : found ≢ n = grind (arith, nat_tests) in
         let at_least = least.0 in
-        none_for (least.1.1 n (omega arith) (omega (arith, apart, at_least)))
+        none_for (least.2 n (omega arith) (omega (arith, apart, at_least)))
 
 pub text_of-no_least : (a : Archive) (n : ℕ) → IsLeastLive a.entries n None → is_some (text_of a.entries n) ≡ false
 text_of-no_least a n none = rw (none n (omega arith)) refl
@@ -259,6 +259,6 @@ wanting_kept xs n old has = let r = has_place xs n has in (r.0, r.1.0, r.1.1, r.
 -- If a text with another id was found, the two ids differ.
 pub tells_other : (xs : List StoredEntry) (n : ℕ) (old new : List ℕ) (r : Result Unit TextRefusal) → GivesTextKept xs n old new r → TellsOther r
 tells_other xs n old new (Ok done) kept = tt
-tells_other xs n old new (Err (Damaged named found)) kept = kept.1.1.1.1.1.1
+tells_other xs n old new (Err (Damaged named found)) kept = kept.4.2
 tells_other xs n old new (Err DiskFault) kept = tt
 tells_other xs n old new (Err NoMemory) kept = tt

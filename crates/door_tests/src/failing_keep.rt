@@ -19,6 +19,8 @@ pub enum Failing {
     OpeningWithoutMemory,
     /// A read of a text.
     Text,
+    /// A read of a text but the first message's.
+    LaterText,
     /// A read of an epoch.
     Epoch,
 }
@@ -63,7 +65,7 @@ impl FailingKeep {
         ensures cause { AnswerCause self.old.faults self.new.faults result }
     {
         match self.failing {
-            Failing::Text | Failing::Epoch => Keep::command(&mut self.archive, command, moment),
+            Failing::Text | Failing::LaterText | Failing::Epoch => Keep::command(&mut self.archive, command, moment),
             Failing::Command(true) => {
                 let _ = Keep::command(&mut self.archive, command, moment);
                 self.stale = true;
@@ -115,7 +117,7 @@ impl Shelf for FailingKeep {
     }
 
     fn text(&mut self, n: u32, into: &mut Bytes) -> Result<(), TextRefusal> {
-        if self.failing == Failing::Text {
+        if self.failing == Failing::Text || self.failing == Failing::LaterText && n > 1 {
             self.fail();
             return Err(TextRefusal::DiskFault);
         }
