@@ -247,7 +247,7 @@ module _ {D : Type 0} (content : D → Option Content) (moment : D → ℕ) (lef
     taken-at (answer.NoText number) stale never untouched = absurd never
     taken-at (answer.Damaged file at) stale never untouched = absurd never
 
-  -- Nothing was done on the archive that is held, for want of memory.
+  -- Memory ran out, and nothing was done on the archive that is held.
   pub starved-at : (e : Owning D) (a : Archive) (wanted : Archive → Done) → Holds content e a → (t : Standing) × Going e (standing a None) e t × Comes true (standing a None) wanted answer.NoMemory t
   starved-at e a wanted store = (
     standing a None,

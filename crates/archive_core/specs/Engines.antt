@@ -94,9 +94,9 @@ store-recovers v a (Some k) may image store has left = (
 module _ {D : Type 0} (content : D → Option Content) (moment : D → ℕ)
     (left_since : D → ℕ → Files → Type 0)
     (counts_now : (disk : D) (t : ℕ) (image : Files) → t ≤ moment disk → Image (content disk) image
-        → left_since disk t image)
+    → left_since disk t image)
     (only_now : (disk : D) (image : Files) → left_since disk (moment disk) image
-        → Image (content disk) image) where
+    → Image (content disk) image) where
   pub reading-same : (e : Owning D) → ReadsOn content moment left_since e e
   reading-same e = record {
     view_is = refl;

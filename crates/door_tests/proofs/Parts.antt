@@ -107,8 +107,7 @@ module _ (entries : List Entry) (low : ℕ) where
   pub words-from : (at count : ℕ) (found : List ℕ) → at < count → text_of entries (low + at) ≡ Some found → (more : List ℕ) × (texts_from entries low count ++ whole_line (codes "end") ≡ (texts_from entries low at ++ whole_line found) ++ more)
   words-from at count found less is =
       let rest = grows at count less in
-      let front : texts_from entries low (suc at) ≡ texts_from entries low at ++ whole_line found = ap (λ (t : Option (List ℕ)). texts_from entries low at ++ text_line t) is in
-      (
+      let front : texts_from entries low (suc at) ≡ texts_from entries low at ++ whole_line found = ap (λ (t : Option (List ℕ)). texts_from entries low at ++ text_line t) is in (
         rest.0 ++ whole_line (codes "end"),
         ap (λ (w : List ℕ). w ++ whole_line (codes "end")) (rest.1 ∙ ap (λ (w : List ℕ). w ++ rest.0) front) ∙ append_assoc (texts_from entries low at ++ whole_line found) rest.0 (whole_line (codes "end")),
       )

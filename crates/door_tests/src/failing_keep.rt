@@ -65,7 +65,11 @@ impl FailingKeep {
         ensures cause { AnswerCause self.old.faults self.new.faults result }
     {
         match self.failing {
-            Failing::Text | Failing::LaterText | Failing::Epoch => Keep::command(&mut self.archive, command, moment),
+            Failing::Text | Failing::LaterText | Failing::Epoch => Keep::command(
+                &mut self.archive,
+                command,
+                moment,
+            ),
             Failing::Command(true) => {
                 let _ = Keep::command(&mut self.archive, command, moment);
                 self.stale = true;

@@ -46,7 +46,7 @@ fn each_delivery_goes_on_from_the_one_before(rt: HostRuntime) {
 }
 
 #[test]
-fn a_delivery_behind_a_fault_reopens_first(rt: HostRuntime) {
+fn a_delivery_after_a_fault_reopens_first(rt: HostRuntime) {
     let Some(archive) = archive(rt.alloc()) else {
         return assert!(rt; false);
     };

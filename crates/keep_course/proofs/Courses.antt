@@ -87,8 +87,8 @@ module _ {K H : Type 0} (leaves : K → K → List (Option Archive) → Type 0) 
   requests-both w (x ∷ xs) m ns v first second = (first.0, requests-both x xs m ns v first.1 second)
 
   -- Requests, and then a course.
-  pub course-behind : (old mid new : K) (w m v : Talk H Standing) → Coming leaves said is_request old mid w m → Course leaves said is_request mid new m v → Course leaves said is_request old new w v
-  course-behind old mid new w m v coming course = record {
+  pub course-after : (old mid new : K) (w m v : Talk H Standing) → Coming leaves said is_request old mid w m → Course leaves said is_request mid new m v → Course leaves said is_request old new w v
+  course-after old mid new w m v coming course = record {
     acts = coming.acts ++ course.acts;
     before = course.before;
     each = requests-both w coming.acts m course.acts course.before coming.each course.each;

@@ -92,11 +92,7 @@ impl MemArchive {
         ensures { IsGreatestLive self.now.entries number result }
     {
         let greatest = number.min(self.kept.len() as u32);
-        if greatest > 0 {
-            Some(greatest)
-        } else {
-            None
-        }
+        if greatest > 0 { Some(greatest) } else { None }
     }
 
     /// Returns how many messages have a number from `low` to `high`.

@@ -8,8 +8,8 @@ use Rattle.archive_core.proofs.Engines.{not_true, commanded-after, refused-comes
 use Rattle.archive_core.specs.Engines.{Owning, is_ready}
 use Rattle.archive_core.proofs.engine.EngineKeep.command.Goals as goal
 
-pub take-requires-ready : goal.take-requires-ready
-take-requires-ready g c = not_true c.fresh.new.self.stale c.in-Ok.ensures.ready
+pub take-requires-clause-ready : goal.take-requires-clause-ready
+take-requires-clause-ready g c = not_true c.fresh.new.self.stale c.in-Ok.ensures.ready
 
 pub returns-in-Ok-clause-done : goal.returns-in-Ok-clause-done
 returns-in-Ok-clause-done g c = λ s fits.
