@@ -5,6 +5,7 @@ use Rattle.std.proofs.Common.{◌∙◌, sym, ap, subst, inl, inr, arith}
 use Rattle.std.proofs.lemmas.Bool.{false≢true}
 use Rattle.arch_base.specs.Counts.{RoseIf}
 use Rattle.disk_model.specs.Disk.{Files, Content, Image, Told, Unchanged, ReadsFit, LeavesOnly}
+use Rattle.disk_model.specs.Moments.{started}
 use Rattle.arch_model.specs.Archives.{Archive}
 use Rattle.arch_model.specs.Delivery.{Done}
 use Rattle.arch_model.specs.Keeping.{Has, Passes, Fits, Moves, Settles, StaysShut, Comes, Ending, Accepts, Refuses, Starves, Fails, Breaks, ReadyBy, StaysReady, AnswerCause, OpeningWhy, ending, opening_answer}
@@ -20,7 +21,7 @@ use Rattle.arch_model.proofs.Keepers.{has-own, moves-stale, moves-on, comes-by, 
 use Rattle.epoch_store.specs.Files.{as_read}
 use Rattle.epoch_store.specs.Opens.{RecoversOf, AllRecoverOf, ReadsAs, IsWant}
 use Rattle.epoch_store.specs.Reads.{AnswersQuietly}
-use Rattle.epoch_store.specs.Recovery.{RecoversSome}
+use Rattle.epoch_store.specs.Recovery.{Recovers, RecoversSome}
 use Rattle.epoch_store.specs.Stores.{View, Keeps, IsStoreOf, RecoversEither}
 use Rattle.archive_core.specs.Commands.{DoneBy, OnRefusal, UnlessFault}
 use Rattle.archive_core.specs.Engines.{Owning, needs_opening, Holds, is_ready, Leaves, ReadsOn, reading-same, store-left, now-left, reading-kept}
@@ -43,7 +44,7 @@ recovers_either s image recovers =
 
 -- If each image stands for one of these archives, the disk tells its content; otherwise any files
 -- could be there, none included.
-all_recover : (s : Standing) (k : Option Content) → ((image : Files) → Image k image → RecoversOf (one_of s) image) → AllRecoverOf (one_of s) k
+pub all_recover : (s : Standing) (k : Option Content) → ((image : Files) → Image k image → RecoversOf (one_of s) image) → AllRecoverOf (one_of s) k
 all_recover s None each = let none : Files = λ name. None in absurd ((recovers_either s none (each none tt)).2.1.stands.current)
 all_recover s (Some k) each = each
 
@@ -53,7 +54,7 @@ told_covers others may None all each = absurd all
 told_covers others may (Some k) all each = each
 
 -- So the disk reads as the archive or as the one in doubt.
-reads_one : (s : Standing) (k : Option Content) → ReadsFit k → AllRecoverOf (one_of s) k → (b : Archive) × IsFound s b × ReadsAs b k
+pub reads_one : (s : Standing) (k : Option Content) → ReadsFit k → AllRecoverOf (one_of s) k → (b : Archive) × IsFound s b × ReadsAs b k
 reads_one s None fit all = absurd all
 reads_one s (Some k) fit all = recovers_either s (as_read k) (all (as_read k) (λ name. fit k refl name))
 
@@ -65,6 +66,11 @@ not_true false e = refl
 pub never_ready : (b : Bool) → (b ≡ true → false ≡ true) → b ≡ false
 never_ready true e = absurd (false≢true (e refl))
 never_ready false e = refl
+
+-- A store's own disk leaves its archive.
+stands_for : (v : View) (a : Archive) (k : Option Content) (image : Files) → IsStoreOf v a k → Image k image → Recovers image a
+stands_for v a None image store left = absurd store
+stands_for v a (Some k) image store left = (v.root, record { valid = store.keeps.valid; names = store.keeps.names; stands = store.on.images image left })
 
 -- The archive `b` is among the archives of two standings.
 either_of : (may : List (Option Archive)) (a b : Archive) (image : Files) → Contains may (Some a) → Contains may (Some b) → RecoversEither a b image → RecoversOf may image
@@ -286,6 +292,10 @@ module _ {D : Type 0} (content : D → Option Content) (moment : D → ℕ) (lef
   pub stays-still : (faults : D → ℕ) (e : Owning D) → is_ready e ≡ true → Stays (Holds content) is_ready (ReadsOn content moment left_since) (λ (o : Owning D). faults o.disk) e e
   stays-still faults e ready = record { same = reading-same content moment left_since counts_now only_now e; kept = λ a store. store; at_hand = ready; later = omega arith }
 
+  -- Nothing is done, and a crash leaves the archive that is held.
+  pub still-left : (e : Owning D) (a b : Archive) → Holds content e a → LeavesOnly moment left_since e.disk e.disk (RecoversEither a b)
+  still-left e a b store = started moment left_since e.disk (RecoversEither a b) (λ image left. inl (stands_for e.view a (content e.disk) image store (only_now e.disk image left)))
+
   -- Here `inside` is the value by its parts.
   module _ (inside old : Owning D) (is : inside ≡ old) where
     pub still-ready : inside.stale ≡ false → is_ready old ≡ true
@@ -299,6 +309,9 @@ module _ {D : Type 0} (content : D → Option Content) (moment : D → ℕ) (lef
 
     pub kept-inside : (a : Archive) → Holds content old a → Keeps inside.view a
     kept-inside a store = store_keeps inside.view a (content inside.disk) (held-inside a store)
+
+    pub left-from : (disk : D) (wanted : Archive → Archive) → ((a : Archive) → Holds content inside a → LeavesOnly moment left_since inside.disk disk (RecoversEither a (wanted a))) → (a : Archive) → Holds content old a → LeavesOnly moment left_since old.disk disk (RecoversEither a (wanted a))
+    left-from disk wanted run = subst (λ (o : Owning D). (a : Archive) → Holds content o a → LeavesOnly moment left_since o.disk disk (RecoversEither a (wanted a))) is run
 
     pub cause-from : {T : Type 0} (faults : D → ℕ) (disk : D) (r : Result T TextRefusal) → RoseIf (r ≡ Err reading.DiskFault) (faults inside.disk) (faults disk) → TellsOther r → ReadCause (faults old.disk) (faults disk) r
     cause-from faults disk r rose other = subst (λ (o : Owning D). ReadCause (faults o.disk) (faults disk) r) is (read-cause (faults inside.disk) (faults disk) r rose other)

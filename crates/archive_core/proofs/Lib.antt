@@ -5,4 +5,4 @@ mod Verdicts
 mod Openings
 mod ByNumber
 mod ByIndex
-mod Engines
+pub mod Engines

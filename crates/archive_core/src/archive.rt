@@ -12,7 +12,7 @@ ghost use Rattle.arch_model.specs.declared.answer.Answer.{Answer};
 ghost use Rattle.arch_base.specs.Moments.{last_moment};
 ghost use Rattle.arch_model.specs.declared.opening.OpenRefusal.{OpenRefusal};
 ghost use Rattle.epoch_store.specs.Files.{as_read};
-ghost use Rattle.epoch_store.specs.Opens.{RecoversOf, AllRecoverOf, ReadsAs, Opens, OpensWell};
+ghost use Rattle.epoch_store.specs.Opens.{RecoversOf, AllRecoverOf, ReadsAs, Opens, OpensWell, SyncsFirst, OnSynced};
 ghost use Rattle.archive_core.specs.Openings.{RefusesKindly};
 ghost use Rattle.epoch_store.specs.First.{MakingLeaves, MakingAnswers, RefusesToMake};
 ghost use Rattle.epoch_store.specs.Stores.{IsDiskOf, IsStoreOf, Keeps, HasSizes, RecoversEither, SeesNoDamage, next_sequence};
@@ -108,6 +108,9 @@ impl DiskArchive {
             → IfOk result (λ opened. IsStoreOf opened a (D.content disk.new)) }
         ensures well { (a : Archive) → ReadsAs a (D.content disk.old) → OpensWell result }
         ensures refused { RefusesKindly result (D.content disk.old) (D.content disk.new) }
+        // Once it is synced, only the archive as which the files read is left.
+        ensures first { OnSynced result
+            (SyncsFirst D.content D.moment D.left_since disk.old disk.new) }
         ensures sizes { IfOk result (λ opened. WhereTold (HasSizes opened) (D.content disk.new)) }
         ensures cause { RoseIf (result ≡ Err OpenRefusal.DiskFault) (D.faults disk.old)
             (D.faults disk.new) }

@@ -6,14 +6,15 @@ ghost use Rattle.arch_base.specs.Moments.{last_moment};
 ghost use Rattle.disk_model.specs.Disk.{WhereTold, LeavesOnly};
 ghost use Rattle.arch_model.specs.Archives.{Archive, empty_archive};
 ghost use Rattle.arch_model.specs.Delivery.{applied};
-ghost use Rattle.arch_model.specs.Keeping.{Moves, Comes, StaysReady, AnswerCause};
+ghost use Rattle.arch_model.specs.Keeping.{Moves, Comes, AnswerCause};
 ghost use Rattle.arch_model.specs.Standing.{Standing, standing};
 ghost use Rattle.arch_model.specs.declared.opening.OpenRefusal.{OpenRefusal};
 ghost use Rattle.epoch_store.specs.Files.{as_read};
 ghost use Rattle.epoch_store.specs.First.{MakingLeaves, MakingAnswers, RefusesToMake};
-ghost use Rattle.epoch_store.specs.Opens.{RecoversOf, AllRecoverOf, ReadsAs, Opens, OpensWell};
-ghost use Rattle.epoch_store.specs.Stores.{IsDiskOf, IsStoreOf, HasSizes};
+ghost use Rattle.epoch_store.specs.Opens.{RecoversOf, AllRecoverOf, ReadsAs, Opens, OpensWell, SyncsFirst, OnSynced};
+ghost use Rattle.epoch_store.specs.Stores.{IsDiskOf, IsStoreOf, HasSizes, RecoversEither};
 ghost use Rattle.epoch_store.specs.declared.refusal.InitRefusal.{InitRefusal};
+ghost use Rattle.archive_core.specs.Commands.{IsForCommand};
 ghost use Rattle.archive_core.specs.Engines.{Holds, Leaves, ReadsOn, is_ready, needs_opening as needs_opening_after, reading-same, reading-joined, store-left, now-left, reading-kept};
 ghost use Rattle.archive_core.specs.HandedBack.{disk_made, made_or_why, disk_opened, opened_or_why};
 ghost use Rattle.archive_core.specs.Openings.{RefusesKindly};
@@ -112,6 +113,9 @@ impl<D: Disk> Engine<D> {
             → OpensWell (opened_or_why result) }
         ensures refused { RefusesKindly (opened_or_why result) (D.content disk)
             (D.content (disk_opened result)) }
+        // Once it is synced, only the archive as which the files read is left.
+        ensures first { OnSynced (opened_or_why result)
+            (SyncsFirst D.content D.moment D.left_since disk (disk_opened result)) }
         ensures sizes { IfOk result (λ opened.
             WhereTold (HasSizes opened.view) (D.content opened.disk)) }
         ensures ready { IfOk result (λ opened. opened.stale ≡ false) }
@@ -159,15 +163,29 @@ impl<D: Disk> Engine<D> {
         self.archive.entry_count()
     }
 
+    /// Returns the number of messages.
+    pub fn message_count(&self) -> u32
+        ensures { (a : Archive) → Holds D.content self.now a → result ≡ length a.entries }
+    {
+        self.archive.live_count()
+    }
+
     /// Carries out a command on an archive that needn't be reopened.
-    fn take(&mut self, command: &Command<'_>, moment: u64) -> Answer
+    ///
+    /// The archive has to be reopened after the answer `DiskFault`, and after no other one.
+    pub fn take(&mut self, command: &Command<'_>, moment: u64) -> Answer
         requires ready { self.old.stale ≡ false }
         requires moment { moment ≤ last_moment }
         ensures done { (a : Archive) → Holds D.content self.old a → (t : Standing)
             × Moves (Holds D.content) is_ready (Leaves D.moment D.left_since) self.old
             (standing a None) self.new t
             × Comes true (standing a None) (λ (b : Archive). applied b command.now moment) result t }
-        ensures ready { StaysReady true result (is_ready self.new) }
+        // A crash in it leaves the archive before the command, or the one after it.
+        ensures any_moment { (a : Archive) → Holds D.content self.old a
+            → LeavesOnly D.moment D.left_since self.old.disk self.new.disk
+            (RecoversEither a (applied a command.now moment).archive) }
+        ensures ready { self.new.stale ≡ needs_opening_after result }
+        ensures never_damaged { IsForCommand result }
         ensures later { D.faults self.old.disk ≤ D.faults self.new.disk }
         ensures cause { AnswerCause (D.faults self.old.disk) (D.faults self.new.disk) result }
         ensures reads { D.reads self.new.disk ≡ D.reads self.old.disk }

@@ -28,7 +28,7 @@ use Rattle.epoch_store.specs.Finding.{Finds, IsFoundIn, IsCurrentRoot, IsDamaged
 use Rattle.epoch_store.specs.Joined.{AreBefore}
 use Rattle.epoch_store.specs.Laws.{RecoversOne}
 use Rattle.epoch_store.specs.Openings.{archive_of, HasMap, OpenedRecovers, RecoversUndamaged}
-use Rattle.epoch_store.specs.Opens.{RecoversOf, AllRecoverOf, ReadsAs, Opens, IsWant, IsOnlySynced, SyncsBy, RefusesBefore}
+use Rattle.epoch_store.specs.Opens.{RecoversOf, AllRecoverOf, ReadsAs, Opens, IsWant, IsOnlySynced, SyncsBy, RefusesBefore, OnSynced}
 use Rattle.epoch_store.specs.Recovery.{map_bytes, bytes_in, Recovers, RecoversBy}
 use Rattle.epoch_store.specs.Settling.{IsFound, FoundOn, OnDisk, TellsAs, AreOthers, ToSweep}
 use Rattle.epoch_store.specs.Stores.{View, IsStoreOf, HasSizes, InEpochs, stored_after}
@@ -234,6 +234,15 @@ module _ (spellings : SpellingsDiffer) where
         let r = by_root found (as_read k) is spellings a recovers in
         (a, found_archive found a k m is r synced, λ image stands. (Some a, in_may, (found.root, record { valid = r.valid; names = r.names; stands = stands })))
 
+  -- While the disk is settled, files stand for the archive as which they read.
+  pub reading_stands : (found : Found) (a : Archive) (k m : Option Content) → WhereTold (λ c. IsFoundIn (as_read c) found) k → ReadsAs a k → Told IsOnlySynced k m
+      → FoundOn found.root (slot_number found.slot) (map_bytes a) (bytes_in a) m × ((image : Files) → StandsFor found.root (map_bytes a) (bytes_in a) image → Recovers image a)
+  reading_stands found a None m is reads synced = absurd reads
+  reading_stands found a (Some k) None is reads synced = absurd synced
+  reading_stands found a (Some k) (Some m) is reads synced =
+      let r = by_root found (as_read k) is spellings a reads in
+      (found_archive found a k m is r synced, λ image stands. (found.root, record { valid = r.valid; names = r.names; stands = stands }))
+
   -- Files that stand for an archive are opened.
   module _ (undamaged : RecoversUndamaged) (files : Files) (a : Archive) (recovers : Recovers files a) where
     -- Their current root is a root.
@@ -291,6 +300,28 @@ refuses_before T U DiskFault k n synced = tt
 refuses_before T U NoMemory k n synced = synced
 
 -- Settling fails only because the disk failed or memory ran out.
+-- What a crash leaves of a disk that was only synced stands for the archive as which its files read.
+pub synced_recovers : (a : Archive) (k m : Option Content) (image : Files) → ReadsAs a k → Told IsOnlySynced k m → Image m image → Recovers image a
+synced_recovers a None m image reads synced left = absurd reads
+synced_recovers a (Some k) None image reads synced left = absurd synced
+synced_recovers a (Some k) (Some m) image reads synced left =
+    let one : image ≡ as_read m = (λ i. λ (name : FileName). settled_image m image synced.settled left name i) in
+    let two : as_read m ≡ as_read k = (λ i. λ (name : FileName). synced.seen name i) in
+    subst (λ (files : Files). Recovers files a) (sym (one ∙ two)) reads
+
+-- A refusal of a call after the sync comes after it.
+pub refused_first : {T U : Type 0} (P : Type 0) (why : OpenRefusal) (k m : Option Content) → SyncsBy {T = T} (Err why) k m → (Told IsOnlySynced k m → P) → OnSynced {T = U} (Err why) P
+refused_first P NoArchive k m synced so = so synced
+refused_first P (Damaged file at) k m synced so = so synced
+refused_first P DiskFault k m synced so = tt
+refused_first P NoMemory k m synced so = so synced
+
+pub on_synced : {U : Type 0} (P : Type 0) (why : OpenRefusal) → P → OnSynced {T = U} (Err why) P
+on_synced P NoArchive so = so
+on_synced P (Damaged file at) so = so
+on_synced P DiskFault so = tt
+on_synced P NoMemory so = so
+
 pub rest_opens : (refusal : OpenRefusal) (files : Files) → IsWant refusal → Opens files (Err refusal)
 rest_opens NoArchive files well = absurd well
 rest_opens (Damaged file at) files well = absurd well

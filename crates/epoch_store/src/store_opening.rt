@@ -13,7 +13,7 @@ ghost use Rattle.epoch_store.specs.Finding.{Finds};
 ghost use Rattle.epoch_store.specs.Joined.{AreBefore};
 ghost use Rattle.epoch_store.specs.Settling.{FoundOn, OnDisk, AreOthers, TellsAs};
 ghost use Rattle.epoch_store.specs.Stores.{IsStoreOf, HasSizes};
-ghost use Rattle.epoch_store.specs.Opens.{RecoversOf, AllRecoverOf, ReadsAs, Opens, OpensWell, SyncsBy, RefusesBefore};
+ghost use Rattle.epoch_store.specs.Opens.{RecoversOf, AllRecoverOf, ReadsAs, Opens, OpensWell, SyncsBy, RefusesBefore, SyncsFirst, OnSynced};
 
 use crate::finding::{Found, find};
 use crate::laws::law_of_recovery;
@@ -112,6 +112,9 @@ impl Store {
             → IfOk result (λ store. IsStoreOf store a (D.content disk.new)) }
         ensures well { (a : Archive) → ReadsAs a (D.content disk.old) → OpensWell result }
         ensures refused { RefusesBefore result (D.content disk.old) (D.content disk.new) }
+        // Once it is synced, only the archive as which the files read is left.
+        ensures first { OnSynced result
+            (SyncsFirst D.content D.moment D.left_since disk.old disk.new) }
         ensures sizes { IfOk result (λ store. WhereTold (HasSizes store) (D.content disk.new)) }
         ensures cause { RoseIf (result ≡ Err OpenRefusal.DiskFault) (D.faults disk.old)
             (D.faults disk.new) }
