@@ -109,8 +109,7 @@ module _ {D : Type 0} (content : D → Option Content) (moment : D → ℕ) (lef
   unopened-stands s old new (refusal.Damaged file at) all run want first = absurd (let found = found-at s old all in want found.0 found.2)
   unopened-stands s old new refusal.DiskFault all run want first = (s, run-stands s old new (run (one_of s) all), refl)
   unopened-stands s old new refusal.NoMemory all run want first =
-      let found = found-at s old all in
-      (
+      let found = found-at s old all in (
         standing found.0 None,
         one-stands found.0 new (λ image left. now-left first.synced new (λ (i : Files). Recovers i found.0) (first.after found.0 found.2) image left),
         (record { found = found.1; sure = refl }, found.2),
@@ -121,8 +120,7 @@ module _ {D : Type 0} (content : D → Option Content) (moment : D → ℕ) (lef
     -- It is the one that was found.
     pub opened-stands : (s : Standing) → StandsAs s (content old) → (t : Standing) × StandsAs t (content e.disk) × (Settles s t × ReadsAs t.archive (content old))
     opened-stands s all =
-        let found = found-at s old all in
-        (
+        let found = found-at s old all in (
           standing found.0 None,
           one-stands found.0 e.disk (λ image left. now-left first.synced e.disk (λ (i : Files). Recovers i found.0) (first.after found.0 found.2) image left),
           (record { found = found.1; sure = refl }, found.2),
@@ -136,8 +134,7 @@ module _ {D : Type 0} (content : D → Option Content) (moment : D → ℕ) (lef
       pub delivered-stands : (s : Standing) → StandsAs s (content old) → (t : Standing) × StandsAs t (content new.disk) × DeliversOn s (content old) wanted (Answered reply) t
       delivered-stands s all =
           let found = found-at s old all in
-          let t = taken found.0 (done found.0 found.2) in
-          (
+          let t = taken found.0 (done found.0 found.2) in (
             t.0,
             all_recover t.0 (content new.disk) (λ image now. (t.1.fits.left (one_of t.0) (has-own t.0)).1 image (counts_now new.disk (moment new.disk) image (omega arith) now)),
             record { found = found.0; is_found = found.1; reads = found.2; comes = t.2 },

@@ -48,12 +48,7 @@ fn outcome_of(why: &InitRefusal) -> Outcome
 }
 
 /// Delivers a message to the archive on a disk, at a moment in seconds since 1970 UTC.
-pub(crate) fn deliver<D: Disk>(
-    alloc: Global,
-    disk: D,
-    bytes: &[u8],
-    moment: u64,
-) -> (Outcome, D)
+pub(crate) fn deliver<D: Disk>(alloc: Global, disk: D, bytes: &[u8], moment: u64) -> (Outcome, D)
     requires moment { moment ≤ last_moment }
     ensures any_moment { (s : Standing) → StandsAs s (D.content disk)
         → DeliveryLeaves D.content D.moment D.left_since disk result.1 s
