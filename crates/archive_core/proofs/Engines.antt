@@ -37,7 +37,7 @@ is_either x (Some y) may (suc zero) below is = (y, sym is, inr refl)
 is_either x (Some y) may (suc (suc i)) below is = absurd (omega (arith, below))
 
 -- Files that stand for one of them stand for the archive or for the one in doubt.
-recovers_either : (s : Standing) (image : Files) → RecoversOf (one_of s) image → (b : Archive) × IsFound s b × RecoversSome image (Some b)
+pub recovers_either : (s : Standing) (image : Files) → RecoversOf (one_of s) image → (b : Archive) × IsFound s b × RecoversSome image (Some b)
 recovers_either s image recovers =
     let found = is_either s.archive s.doubt recovers.0 recovers.1.0 recovers.1.1 recovers.1.2 in
     (found.0, found.2, subst (λ (o : Option Archive). RecoversSome image o) found.1 recovers.2)
