@@ -14,6 +14,3 @@ pub use answers::say_answer;
 pub use damage::say_damage;
 pub use numbers::say_number;
 pub use refusals::{say_memory, say_unopened, say_unread};
-
-#[cfg(test)]
-mod tests;

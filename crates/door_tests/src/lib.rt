@@ -1,7 +1,9 @@
-//! Tests of inputs, outputs, clocks and scripts, of the doors of lines and of the control door, by
-//! public calls alone.
+//! Tests of inputs, outputs, clocks and scripts, of the doors of lines, of the lines of answers and
+//! of the control door, by public calls alone.
 #![tactic(auto)]
 
+#[cfg(test)]
+mod answer_tests;
 #[cfg(test)]
 mod connection;
 #[cfg(test)]

@@ -1,5 +1,5 @@
 //! The line of each kind of answer, by examples.
-use crate::{say_answer, say_damage, say_memory, say_number, say_unopened, say_unread};
+use answer_lines::{say_answer, say_damage, say_memory, say_number, say_unopened, say_unread};
 use arch_base::{Numbers, ObjectId, id_of_hex};
 use arch_model::{Answer, OpenRefusal, TextRefusal};
 use disk_model::{FileKind, FileName};
