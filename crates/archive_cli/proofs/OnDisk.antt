@@ -1,36 +1,34 @@
 -- What `init`, `deliver` and `check` do, by the calls below them.
-use Rattle.std.specs.Prelude.{◌≡◌, ◌≤◌, ℕ, Bool, true, false, not, List, [], ◌∷◌, length, Option, Some, None, Result, Ok, Err, refl}
+use Rattle.std.specs.Prelude.{◌≡◌, ◌≤◌, ℕ, true, List, [], ◌∷◌, length, Option, Some, None, Result, Ok, Err, refl}
 use Rattle.std.specs.List.{Contains}
 use Rattle.std.proofs.Common.{◌∙◌, sym, ap, subst, inl, inr, arith}
-use Rattle.std.proofs.lemmas.Bool.{false≢true}
 use Rattle.arch_base.specs.Counts.{RoseIf}
 use Rattle.arch_base.specs.declared.config.Config.{Config}
-use Rattle.disk_model.specs.Disk.{Files, Content, Image, Told, WhereTold, ReadsFit, LeavesOnly}
+use Rattle.disk_model.specs.Disk.{Files, Content, Image, WhereTold, ReadsFit, LeavesOnly}
 use Rattle.disk_model.specs.Moments.{joined, weaker}
 use Rattle.root_slots.specs.RootName.{root_name}
 use Rattle.root_slots.specs.Slots.{IsShutFile}
 use Rattle.arch_model.specs.Archives.{Archive, empty_archive}
 use Rattle.arch_model.specs.Delivery.{Done}
-use Rattle.arch_model.specs.Keeping.{Fits, Moves, Settles, Comes}
+use Rattle.arch_model.specs.Keeping.{Settles, Comes, Obeys, Doubts}
 use Rattle.arch_model.specs.Standing.{Standing, standing, one_of, IsFound}
 use Rattle.arch_model.specs.declared.answer.Answer.{Answer}
 use Rattle.arch_model.specs.declared.answer.Answer.TheVariants as answer
 use Rattle.arch_model.specs.declared.opening.OpenRefusal.{OpenRefusal}
 use Rattle.arch_model.specs.declared.opening.OpenRefusal.TheVariants as refusal
-use Rattle.arch_model.proofs.Keepers.{found-one, has-own}
 use Rattle.epoch_store.specs.declared.entries.StoredEntry.{StoredEntry}
 use Rattle.epoch_store.specs.declared.refusal.InitRefusal.{InitRefusal}
 use Rattle.epoch_store.specs.declared.refusal.InitRefusal.TheVariants as making
 use Rattle.epoch_store.specs.First.{MakingAnswers, RefusesToMake}
-use Rattle.epoch_store.specs.Opens.{ReadsAs, RecoversOf, AllRecoverOf, IsWant, SyncsFirst, OnSynced}
+use Rattle.epoch_store.specs.Opens.{ReadsAs, ReadsWith, RecoversOf, RecoversOfWith, AllRecoverOf, AllRecoverWith, IsWant, SyncsFirst, OnSynced}
 use Rattle.epoch_store.specs.Recovery.{Recovers}
-use Rattle.epoch_store.specs.Stores.{View, IsStoreOf, IsDiskOf, RecoversEither}
-use Rattle.archive_core.specs.Commands.{IsForCommand}
-use Rattle.archive_core.specs.Engines.{Owning, Holds, is_ready, Leaves, needs_opening}
+use Rattle.epoch_store.specs.Stores.{View, IsStoreOf, IsStoreWith, IsDiskOf, RecoversEither, RecoversEitherWith}
+use Rattle.archive_core.specs.Commands.{DoneBy}
+use Rattle.archive_core.specs.Engines.{Owning}
 use Rattle.archive_core.specs.Openings.{LeavesKindly}
 use Rattle.archive_core.proofs.Counting.{stored_length}
-use Rattle.archive_core.proofs.Engines.{all_recover, reads_one}
-use Rattle.archive_cli.specs.DiskCommands.{Makes, unmade, IsFault, IsDone, Answers, DeliversTo, ChecksTo, StandsAs, StaysUnopened, DeliversOn, ChecksOn, DeliveryRuns, DeliveryLeaves}
+use Rattle.archive_core.proofs.Engines.{all_recover, reads_one, stands_for}
+use Rattle.archive_cli.specs.DiskCommands.{Makes, unmade, IsFault, Answers, DeliversTo, ChecksTo, StandsAs, StaysUnopened, DeliversOn, DeliveryLeaves}
 use Rattle.archive_cli.specs.declared.outcome.Outcome.{Outcome}
 use Rattle.archive_cli.specs.declared.outcome.Outcome.TheVariants.{Made, Checked, Answered, Unopened}
 
@@ -63,20 +61,35 @@ pub unopened-delivers : (a : Archive) (bytes : List ℕ) (moment : ℕ) (why : O
 unopened-delivers a bytes moment refusal.NoArchive old new reads want kind = absurd want
 unopened-delivers a bytes moment (refusal.Damaged file at) old new reads want kind = absurd want
 unopened-delivers a bytes moment refusal.DiskFault old new reads want kind = tt
-unopened-delivers a bytes moment refusal.NoMemory old new reads want kind = kind a reads
+unopened-delivers a bytes moment refusal.NoMemory old new reads want kind = kind a [] reads
 
 -- What a refusal to open leaves of an archive that was to be checked.
 pub unopened-checks : (a : Archive) (why : OpenRefusal) (old new : Option Content) → ReadsAs a old → IsWant why → LeavesKindly why old new → ChecksTo a (Unopened why) new
 unopened-checks a refusal.NoArchive old new reads want kind = absurd want
 unopened-checks a (refusal.Damaged file at) old new reads want kind = absurd want
 unopened-checks a refusal.DiskFault old new reads want kind = tt
-unopened-checks a refusal.NoMemory old new reads want kind = kind a reads
+unopened-checks a refusal.NoMemory old new reads want kind = kind a [] reads
 
 -- The counts of a store are those of its archive.
 pub opened-checks : (v : View) (a : Archive) (content : Option Content) (entries live next : ℕ) → IsStoreOf v a content → entries ≡ length v.entries → live ≡ length a.entries → next ≡ a.next → ChecksTo a (Checked entries live next) content
 opened-checks v a None entries live next store count lives following = absurd store
 opened-checks v a (Some k) entries live next store count lives following =
     (count ∙ (ap (λ (es : List StoredEntry). length es) store.keeps.kept ∙ stored_length [] a.entries), lives, following, (v, store))
+
+-- The answer of an open archive is the answer on the disk.
+pub done-answers : (v : View) (a : Archive) (wanted : Done) (reply : Answer) (content : Option Content) → DoneBy v [] a wanted reply content → Answers a wanted reply content
+done-answers v a wanted answer.NoMemory content done = (v, done)
+done-answers v a wanted answer.DiskFault content done = tt
+done-answers v a wanted (answer.Ok number id) content done = record { answer_is = done.answer_is; own = (v, done.store) }
+done-answers v a wanted (answer.Duplicate number) content done = record { answer_is = done.answer_is; own = (v, done.store) }
+done-answers v a wanted answer.NoFields content done = record { answer_is = done.answer_is; own = (v, done.store) }
+done-answers v a wanted (answer.TooLarge len) content done = record { answer_is = done.answer_is; own = (v, done.store) }
+done-answers v a wanted (answer.Full max) content done = record { answer_is = done.answer_is; own = (v, done.store) }
+done-answers v a wanted (answer.Collision number) content done = record { answer_is = done.answer_is; own = (v, done.store) }
+done-answers v a wanted answer.IsMirror content done = record { answer_is = done.answer_is; own = (v, done.store) }
+done-answers v a wanted (answer.NotLive number) content done = absurd done
+done-answers v a wanted (answer.NoText number) content done = absurd done
+done-answers v a wanted (answer.Damaged file at) content done = absurd done
 
 -- A disk that stands so leaves nothing else at first.
 pub image-all : (may : List (Option Archive)) (k : Option Content) (image : Files) → AllRecoverOf may k → Image k image → RecoversOf may image
@@ -92,53 +105,46 @@ module _ {D : Type 0} (content : D → Option Content) (moment : D → ℕ) (lef
 
   -- After a run that leaves one of its archives the disk stands as before.
   pub run-stands : (s : Standing) (old new : D) → LeavesOnly moment left_since old new (RecoversOf (one_of s)) → StandsAs s (content new)
-  run-stands s old new run = all_recover s (content new) (λ image left. now-left old new (RecoversOf (one_of s)) run image left)
+  run-stands s old new run = all_recover s [] (content new) (λ image left. now-left old new (RecoversOf (one_of s)) run image left)
 
   -- The disk of one archive.
   pub one-stands : (a : Archive) (disk : D) → ((image : Files) → Image (content disk) image → Recovers image a) → StandsAs (standing a None) (content disk)
-  one-stands a disk each = all_recover (standing a None) (content disk) (λ image left. (Some a, (0, omega arith, refl), each image left))
+  one-stands a disk each = all_recover (standing a None) [] (content disk) (λ image left. (Some a, (0, omega arith, refl), each image left))
 
   -- What was found before anything was done.
   pub found-at : (s : Standing) (disk : D) → StandsAs s (content disk) → (b : Archive) × IsFound s b × ReadsAs b (content disk)
-  found-at s disk all = reads_one s (content disk) (reads_fit disk) all
+  found-at s disk all = reads_one s [] (content disk) (reads_fit disk) all
 
   -- An archive wasn't opened.
-  pub unopened-stands : (s : Standing) (old new : D) (why : OpenRefusal) → StandsAs s (content old) → ((may : List (Option Archive)) → AllRecoverOf may (content old) → LeavesOnly moment left_since old new (RecoversOf may))
-      → ((a : Archive) → ReadsAs a (content old) → IsWant why) → OnSynced {T = View} (Err why) (SyncsFirst content moment left_since old new) → (t : Standing) × StandsAs t (content new) × StaysUnopened s (content old) why t
-  unopened-stands s old new refusal.NoArchive all run want first = absurd (let found = found-at s old all in want found.0 found.2)
-  unopened-stands s old new (refusal.Damaged file at) all run want first = absurd (let found = found-at s old all in want found.0 found.2)
-  unopened-stands s old new refusal.DiskFault all run want first = (s, run-stands s old new (run (one_of s) all), refl)
+  pub unopened-stands : (s : Standing) (old new : D) (why : OpenRefusal) → StandsAs s (content old) → ((may : List (Option Archive)) (cache : List ℕ) → AllRecoverWith cache may (content old) → LeavesOnly moment left_since old new (RecoversOfWith cache may))
+      → ((a : Archive) (cache : List ℕ) → ReadsWith cache a (content old) → IsWant why) → OnSynced {T = View} (Err why) (SyncsFirst content moment left_since old new) → (t : Standing) × StandsAs t (content new) × StaysUnopened s (content old) why t
+  unopened-stands s old new refusal.NoArchive all run want first = absurd (let found = found-at s old all in want found.0 [] found.2)
+  unopened-stands s old new (refusal.Damaged file at) all run want first = absurd (let found = found-at s old all in want found.0 [] found.2)
+  unopened-stands s old new refusal.DiskFault all run want first = (s, run-stands s old new (run (one_of s) [] all), refl)
   unopened-stands s old new refusal.NoMemory all run want first =
       let found = found-at s old all in (
         standing found.0 None,
-        one-stands found.0 new (λ image left. now-left first.synced new (λ (i : Files). Recovers i found.0) (first.after found.0 found.2) image left),
+        one-stands found.0 new (λ image left. now-left first.synced new (λ (i : Files). Recovers i found.0) (first.after found.0 [] found.2) image left),
         (record { found = found.1; sure = refl }, found.2),
       )
 
   -- An archive was opened.
-  module _ (old : D) (e : Owning D) (done : (a : Archive) → ReadsAs a (content old) → IsStoreOf e.view a (content e.disk)) (first : SyncsFirst content moment left_since old e.disk) where
+  module _ (old : D) (e : Owning D) (done : (a : Archive) (cache : List ℕ) → ReadsWith cache a (content old) → IsStoreWith e.view cache a (content e.disk)) (first : SyncsFirst content moment left_since old e.disk) where
     -- It is the one that was found.
     pub opened-stands : (s : Standing) → StandsAs s (content old) → (t : Standing) × StandsAs t (content e.disk) × (Settles s t × ReadsAs t.archive (content old))
     opened-stands s all =
         let found = found-at s old all in (
           standing found.0 None,
-          one-stands found.0 e.disk (λ image left. now-left first.synced e.disk (λ (i : Files). Recovers i found.0) (first.after found.0 found.2) image left),
+          one-stands found.0 e.disk (λ image left. now-left first.synced e.disk (λ (i : Files). Recovers i found.0) (first.after found.0 [] found.2) image left),
           (record { found = found.1; sure = refl }, found.2),
         )
 
     -- A command was taken.
     module _ (new : Owning D) (wanted : Archive → Done) (reply : Answer)
-        (taken : (a : Archive) → Holds content e a → (t : Standing) × Moves (Holds content) is_ready (Leaves moment left_since) e (standing a None) new t × Comes true (standing a None) wanted reply t)
-        (left : (a : Archive) → Holds content e a → LeavesOnly moment left_since e.disk new.disk (RecoversEither a (wanted a).archive))
-        (stale : new.stale ≡ needs_opening reply) (well : IsForCommand reply) where
-      pub delivered-stands : (s : Standing) → StandsAs s (content old) → (t : Standing) × StandsAs t (content new.disk) × DeliversOn s (content old) wanted (Answered reply) t
-      delivered-stands s all =
-          let found = found-at s old all in
-          let t = taken found.0 (done found.0 found.2) in (
-            t.0,
-            all_recover t.0 (content new.disk) (λ image now. (t.1.fits.left (one_of t.0) (has-own t.0)).1 image (counts_now new.disk (moment new.disk) image (omega arith) now)),
-            record { found = found.0; is_found = found.1; reads = found.2; comes = t.2 },
-          )
+        (taken : (a : Archive) (cache : List ℕ) → IsStoreWith e.view cache a (content e.disk) → DoneBy new.view cache a (wanted a) reply (content new.disk))
+        (left : (a : Archive) (cache : List ℕ) → IsStoreWith e.view cache a (content e.disk) → LeavesOnly moment left_since e.disk new.disk (RecoversEitherWith cache a (wanted a).archive)) where
+      pub delivered-answers : (a : Archive) → ReadsAs a (content old) → Answers a (wanted a) reply (content new.disk)
+      delivered-answers a reads = done-answers new.view a (wanted a) reply (content new.disk) (taken a [] (done a [] reads))
 
       pub delivered-leaves : (s : Standing) → StandsAs s (content old) → DeliveryLeaves content moment left_since old new.disk s wanted
       delivered-leaves s all =
@@ -150,40 +156,46 @@ module _ {D : Type 0} (content : D → Option Content) (moment : D → ℕ) (lef
             synced = first.synced;
             only = first.only;
             before = weaker moment left_since old first.synced (Image (content old)) (RecoversOf (one_of s)) first.before (λ image now. image-all (one_of s) (content old) image all now);
-            after = joined moment left_since first.synced e.disk new.disk (λ (i : Files). Recovers i found.0) (RecoversEither found.0 (wanted found.0).archive) (RecoversEither found.0 (wanted found.0).archive) (first.after found.0 found.2) (left found.0 (done found.0 found.2))
+            after = joined moment left_since first.synced e.disk new.disk (λ (i : Files). Recovers i found.0) (RecoversEither found.0 (wanted found.0).archive) (RecoversEither found.0 (wanted found.0).archive) (first.after found.0 [] found.2) (left found.0 [] (done found.0 [] found.2))
                 (λ image one. inl one) (λ image either. either);
           })
 
-      -- The answer by the rules, and the disk then.
-      module _ (a : Archive) (reads : ReadsAs a (content old)) where
-        after : (t : Standing) × Moves (Holds content) is_ready (Leaves moment left_since) e (standing a None) new t × Comes true (standing a None) wanted reply t
-        after = taken a (done a reads)
+      module _ (s : Standing) (b : Archive) (found : IsFound s b) (reads : ReadsAs b (content old)) where
+        -- The disk of a store's archive.
+        own-stands : (a : Archive) → IsStoreOf new.view a (content new.disk) → StandsAs (standing a None) (content new.disk)
+        own-stands a store = one-stands a new.disk (λ image now. stands_for new.view [] a (content new.disk) image store now)
 
-        own-after : is_ready new ≡ true → (b : Archive) → after.0.archive ≡ b → (v : View) × IsStoreOf v b (content new.disk)
-        own-after ready b same = (new.view, subst (λ (x : Archive). IsStoreOf new.view x (content new.disk)) same (after.1.fits.settled ready).0)
+        stands-done : (r : Answer) → reply ≡ r → (wanted b).answer ≡ r → IsStoreOf new.view (wanted b).archive (content new.disk) → ((t : Standing) → Obeys (standing b None) wanted r t → Comes true (standing b None) wanted r t) → (t : Standing) × StandsAs t (content new.disk) × DeliversOn s (content old) wanted (Answered r) t
+        stands-done r is answer_is store comes =
+            let obeys : Obeys (standing b None) wanted r (standing (wanted b).archive None) = record { found = b; is_found = inl refl; answer_is = answer_is; stands = refl } in
+            (standing (wanted b).archive None, own-stands (wanted b).archive store, record { found = b; is_found = found; reads = reads; comes = comes (standing (wanted b).archive None) obeys })
 
-        obeyed : is_ready new ≡ true → (x : Archive) → IsFound (standing a None) x → (wanted x).answer ≡ reply → after.0 ≡ standing (wanted x).archive None → IsDone (wanted a) reply (content new.disk)
-        obeyed ready x found answer_is stands =
-            let same : x ≡ a = found-one a x found in
-            record {
-              answer_is = ap (λ (b : Archive). (wanted b).answer) (sym same) ∙ answer_is;
-              own = own-after ready (wanted a).archive (ap (λ (t : Standing). t.archive) stands ∙ ap (λ (b : Archive). (wanted b).archive) same);
-            }
+        stands-by : (r : Answer) → reply ≡ r → DoneBy new.view [] b (wanted b) r (content new.disk) → (t : Standing) × StandsAs t (content new.disk) × DeliversOn s (content old) wanted (Answered r) t
+        stands-by answer.NoMemory is store = (standing b None, own-stands b store, record { found = b; is_found = found; reads = reads; comes = inr (record { found = inl refl; sure = refl }) })
+        stands-by answer.DiskFault is nothing =
+            let run = left b [] (done b [] reads) in
+            let doubts : Doubts (standing b None) wanted (standing b (Some (wanted b).archive)) = record { found = b; is_found = inl refl; stands = refl } in
+            (
+              standing b (Some (wanted b).archive),
+              all_recover (standing b (Some (wanted b).archive)) [] (content new.disk) (λ image now. of_either image (now-left e.disk new.disk (RecoversEither b (wanted b).archive) run image now)),
+              record { found = b; is_found = found; reads = reads; comes = inr doubts },
+            )
+          where
+            of_either : (image : Files) → RecoversEither b (wanted b).archive image → RecoversOf (one_of (standing b (Some (wanted b).archive))) image
+            of_either image (inl before) = (Some b, (0, omega arith, refl), before)
+            of_either image (inr after) = (Some (wanted b).archive, (1, omega arith, refl), after)
+        stands-by (answer.Ok number id) is d = stands-done (answer.Ok number id) is d.answer_is d.store (λ t obeys. obeys)
+        stands-by (answer.Duplicate number) is d = stands-done (answer.Duplicate number) is d.answer_is d.store (λ t obeys. obeys)
+        stands-by answer.NoFields is d = stands-done answer.NoFields is d.answer_is d.store (λ t obeys. obeys)
+        stands-by (answer.TooLarge len) is d = stands-done (answer.TooLarge len) is d.answer_is d.store (λ t obeys. obeys)
+        stands-by (answer.Full max) is d = stands-done (answer.Full max) is d.answer_is d.store (λ t obeys. obeys)
+        stands-by (answer.Collision number) is d = stands-done (answer.Collision number) is d.answer_is d.store (λ t obeys. obeys)
+        stands-by answer.IsMirror is d = stands-done answer.IsMirror is d.answer_is d.store (λ t obeys. obeys)
+        stands-by (answer.NotLive number) is never = absurd never
+        stands-by (answer.NoText number) is never = absurd never
+        stands-by (answer.Damaged file at) is never = absurd never
 
-      answers-by : (a : Archive) (reads : ReadsAs a (content old)) (r : Answer) → r ≡ reply → new.stale ≡ needs_opening r → IsForCommand r → Comes true (standing a None) wanted r (after a reads).0 → Answers a (wanted a) r (content new.disk)
-      answers-by a reads answer.NoMemory is stale_is well_is (inl unopened) = absurd (false≢true (sym unopened.stale))
-      answers-by a reads answer.NoMemory is stale_is well_is (inr settles) = own-after a reads (ap not stale_is) a (found-one a (after a reads).0.archive settles.found)
-      answers-by a reads answer.DiskFault is stale_is well_is comes = tt
-      answers-by a reads (answer.Ok number id) is stale_is well_is obeys = subst (λ (r : Answer). IsDone (wanted a) r (content new.disk)) (sym is) (obeyed a reads (ap not stale_is) obeys.found obeys.is_found (obeys.answer_is ∙ is) obeys.stands)
-      answers-by a reads (answer.Duplicate number) is stale_is well_is obeys = subst (λ (r : Answer). IsDone (wanted a) r (content new.disk)) (sym is) (obeyed a reads (ap not stale_is) obeys.found obeys.is_found (obeys.answer_is ∙ is) obeys.stands)
-      answers-by a reads answer.NoFields is stale_is well_is obeys = subst (λ (r : Answer). IsDone (wanted a) r (content new.disk)) (sym is) (obeyed a reads (ap not stale_is) obeys.found obeys.is_found (obeys.answer_is ∙ is) obeys.stands)
-      answers-by a reads (answer.TooLarge len) is stale_is well_is obeys = subst (λ (r : Answer). IsDone (wanted a) r (content new.disk)) (sym is) (obeyed a reads (ap not stale_is) obeys.found obeys.is_found (obeys.answer_is ∙ is) obeys.stands)
-      answers-by a reads (answer.Full max) is stale_is well_is obeys = subst (λ (r : Answer). IsDone (wanted a) r (content new.disk)) (sym is) (obeyed a reads (ap not stale_is) obeys.found obeys.is_found (obeys.answer_is ∙ is) obeys.stands)
-      answers-by a reads (answer.Collision number) is stale_is well_is obeys = subst (λ (r : Answer). IsDone (wanted a) r (content new.disk)) (sym is) (obeyed a reads (ap not stale_is) obeys.found obeys.is_found (obeys.answer_is ∙ is) obeys.stands)
-      answers-by a reads answer.IsMirror is stale_is well_is obeys = subst (λ (r : Answer). IsDone (wanted a) r (content new.disk)) (sym is) (obeyed a reads (ap not stale_is) obeys.found obeys.is_found (obeys.answer_is ∙ is) obeys.stands)
-      answers-by a reads (answer.NotLive number) is stale_is well_is obeys = absurd well_is
-      answers-by a reads (answer.NoText number) is stale_is well_is obeys = absurd well_is
-      answers-by a reads (answer.Damaged file at) is stale_is well_is obeys = absurd well_is
-
-      pub delivered-answers : (a : Archive) → ReadsAs a (content old) → Answers a (wanted a) reply (content new.disk)
-      delivered-answers a reads = answers-by a reads reply refl stale well (after a reads).2
+      pub delivered-stands : (s : Standing) → StandsAs s (content old) → (t : Standing) × StandsAs t (content new.disk) × DeliversOn s (content old) wanted (Answered reply) t
+      delivered-stands s all =
+          let found = found-at s old all in
+          stands-by s found.0 found.1 found.2 reply refl (taken found.0 [] (done found.0 [] found.2))

@@ -232,10 +232,10 @@ in-a-row keeps first second third a b i j k l m n made asks_first one told kept 
     let e = made-ran first asks_first i j made told one.0 one.2 (done-code one.0 one.1) in
     let empty : Archive = empty_archive (made_at e.config e.born) in
     let start : StandsAs (standing empty None) k.content =
-    subst (λ (c : Option Content). StandsAs (standing empty None) c) (sym kept) (λ image there. store-recovers e.view empty (Some made) (one_of (standing empty None)) image e.disk (0, omega arith, refl) there) in
+    subst (λ (c : Option Content). StandsAs (standing empty None) c) (sym kept) (λ image there. store-recovers e.view [] empty (Some made) (one_of (standing empty None)) image e.disk (0, omega arith, refl) there) in
     let t = leads k second asks_second l (standing empty None) start two.0 two.2 in
     let u = leads m third asks_third n t.0 (subst (λ (c : Option Content). StandsAs t.0 c) (sym on) t.1) three.0 three.2 in
-    let last = recovers_either u.0 image (at_last u.0 n.content u.1 image left) in
+    let last = recovers_either u.0 [] image (at_last u.0 n.content u.1 image left) in
     let back = u.2 last.0 last.1 in
     let before = t.2 back.0 back.1 in
     record {

@@ -16,7 +16,7 @@ use Rattle.arch_judge.specs.Indexes.{number_in}
 use Rattle.arch_judge.specs.declared.index.Index.{Index}
 use Rattle.epoch_store.specs.declared.entries.StoredEntry.{StoredEntry}
 use Rattle.epoch_store.specs.Reads.{line_if}
-use Rattle.epoch_store.specs.Stores.{View, Keeps, IsStoreOf, stored_at, stored_after}
+use Rattle.epoch_store.specs.Stores.{View, Keeps, IsStoreWith, stored_at, stored_after}
 use Rattle.archive_core.specs.Kept.{IndexesStored, stored_number}
 use Rattle.archive_core.specs.Numbers.{has_number, IsKnownLive}
 use Rattle.archive_core.proofs.Indexes.{index_of_kept}
@@ -74,9 +74,9 @@ pub number_kept : (v : View) (a : Archive) (index : Index) (blob : List ℕ) (r 
 number_kept v a index blob r indexed keeps is = is ∙ (index_of_kept v a index keeps indexed).blobs blob
 
 -- The text of the number of a blob id is the text of the blob id.
-pub blob_given : (v : View) (a : Archive) (k : Option Content) (blob : List ℕ) (n : ℕ) (old new : List ℕ) → IsStoreOf v a k → Some n ≡ blob_number a.entries blob → GivesTextIn a.entries n old new (Ok tt) → GivesBlobIn a.entries blob old new (Ok true)
-blob_given v a k blob n old new own is given =
-    let keeps = store_keeps v a k own in
+pub blob_given : (v : View) (cache : List ℕ) (a : Archive) (k : Option Content) (blob : List ℕ) (n : ℕ) (old new : List ℕ) → IsStoreWith v cache a k → Some n ≡ blob_number a.entries blob → GivesTextIn a.entries n old new (Ok tt) → GivesBlobIn a.entries blob old new (Ok true)
+blob_given v cache a k blob n old new own is given =
+    let keeps = store_keeps v cache a k own in
     (given.0, sym (blob_found-text 1 a.entries blob n (rises-from 1 0 a.entries keeps.valid.order) (sym is)) ∙ given.1, given.2)
 
 -- No refusal tells of damage.

@@ -15,7 +15,7 @@ use Rattle.arch_model.specs.declared.text_refusal.TextRefusal.{TextRefusal}
 use Rattle.arch_model.specs.declared.text_refusal.TextRefusal.TheVariants.{DiskFault, Damaged, NoMemory}
 use Rattle.epoch_store.specs.declared.entries.StoredEntry.{StoredEntry}
 use Rattle.epoch_store.specs.Reads.{GivesText, GivesTextOf, text_if}
-use Rattle.epoch_store.specs.Stores.{View, Keeps, IsStoreOf, stored_at, stored_after}
+use Rattle.epoch_store.specs.Stores.{View, Keeps, IsStoreWith, stored_at, stored_after}
 use Rattle.archive_core.specs.Numbers.{has_number, NumbersRise, IsNumberAt, IsCountBelow, IsCountUpTo, GivesTextKept, TellsOther}
 use Rattle.archive_core.proofs.Standing.{store_keeps}
 
@@ -242,11 +242,11 @@ pub text_of-no_least : (a : Archive) (n : ℕ) → IsLeastLive a.entries n None 
 text_of-no_least a n none = rw (none n (omega arith)) refl
 
 -- The text of the entry with a number is the text of that number.
-pub text_gives : (v : View) (a : Archive) (k : Option Content) (n i : ℕ) (old new : List ℕ) (r : Result Unit TextRefusal) → IsStoreOf v a k → IsNumberAt v.entries n i → GivesTextOf a i old new r → GivesTextIn a.entries n old new r
-text_gives v a k n i old new (Ok done) own at given = (given.0, (text_in v a i n at.0 (store_keeps v a k own) at.1 at.2).0 ∙ given.1, given.2)
-text_gives v a k n i old new (Err (Damaged named found)) own at given = given
-text_gives v a k n i old new (Err DiskFault) own at given = tt
-text_gives v a k n i old new (Err NoMemory) own at given = tt
+pub text_gives : (v : View) (cache : List ℕ) (a : Archive) (k : Option Content) (n i : ℕ) (old new : List ℕ) (r : Result Unit TextRefusal) → IsStoreWith v cache a k → IsNumberAt v.entries n i → GivesTextOf a i old new r → GivesTextIn a.entries n old new r
+text_gives v cache a k n i old new (Ok done) own at given = (given.0, (text_in v a i n at.0 (store_keeps v cache a k own) at.1 at.2).0 ∙ given.1, given.2)
+text_gives v cache a k n i old new (Err (Damaged named found)) own at given = given
+text_gives v cache a k n i old new (Err DiskFault) own at given = tt
+text_gives v cache a k n i old new (Err NoMemory) own at given = tt
 
 -- The result by what is kept of the number's entry.
 pub text_kept : (xs : List StoredEntry) (n i : ℕ) (old new : List ℕ) (r : Result Unit TextRefusal) → IsNumberAt xs n i → ((s : StoredEntry) → slice_get xs i ≡ Some s → GivesText s old new r) → GivesTextKept xs n old new r

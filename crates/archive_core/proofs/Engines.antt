@@ -19,10 +19,12 @@ use Rattle.arch_model.specs.declared.text_refusal.TextRefusal.{TextRefusal}
 use Rattle.arch_model.specs.declared.text_refusal.TextRefusal.TheVariants as reading
 use Rattle.arch_model.proofs.Keepers.{has-own, moves-stale, moves-on, comes-by, unopened-comes, unopened-ready, unopened-cause}
 use Rattle.epoch_store.specs.Files.{as_read}
-use Rattle.epoch_store.specs.Opens.{RecoversOf, AllRecoverOf, ReadsAs, IsWant}
+use Rattle.epoch_store.specs.Laws.{CachesOne}
+use Rattle.epoch_store.specs.Leaving.{disk_recovers}
+use Rattle.epoch_store.specs.Opens.{RecoversOfWith, AllRecoverWith, ReadsWith, IsWant}
 use Rattle.epoch_store.specs.Reads.{AnswersQuietly}
-use Rattle.epoch_store.specs.Recovery.{Recovers, RecoversSome}
-use Rattle.epoch_store.specs.Stores.{View, Keeps, IsStoreOf, RecoversEither}
+use Rattle.epoch_store.specs.Recovery.{RecoversWith, RecoversSomeWith}
+use Rattle.epoch_store.specs.Stores.{View, Keeps, IsStoreWith, RecoversEitherWith}
 use Rattle.archive_core.specs.Commands.{DoneBy, OnRefusal, UnlessFault}
 use Rattle.archive_core.specs.Engines.{Owning, needs_opening, Holds, is_ready, Leaves, ReadsOn, reading-same, store-left, now-left, reading-kept}
 use Rattle.archive_core.specs.Numbers.{TellsOther}
@@ -37,26 +39,26 @@ is_either x (Some y) may (suc zero) below is = (y, sym is, inr refl)
 is_either x (Some y) may (suc (suc i)) below is = absurd (omega (arith, below))
 
 -- Files that stand for one of them stand for the archive or for the one in doubt.
-pub recovers_either : (s : Standing) (image : Files) → RecoversOf (one_of s) image → (b : Archive) × IsFound s b × RecoversSome image (Some b)
-recovers_either s image recovers =
+pub recovers_either : (s : Standing) (cache : List ℕ) (image : Files) → RecoversOfWith cache (one_of s) image → (b : Archive) × IsFound s b × RecoversSomeWith cache image (Some b)
+recovers_either s cache image recovers =
     let found = is_either s.archive s.doubt recovers.0 recovers.1.0 recovers.1.1 recovers.1.2 in
-    (found.0, found.2, subst (λ (o : Option Archive). RecoversSome image o) found.1 recovers.2)
+    (found.0, found.2, subst (λ (o : Option Archive). RecoversSomeWith cache image o) found.1 recovers.2)
 
 -- If each image stands for one of these archives, the disk tells its content; otherwise any files
 -- could be there, none included.
-pub all_recover : (s : Standing) (k : Option Content) → ((image : Files) → Image k image → RecoversOf (one_of s) image) → AllRecoverOf (one_of s) k
-all_recover s None each = let none : Files = λ name. None in absurd ((recovers_either s none (each none tt)).2.1.stands.current)
-all_recover s (Some k) each = each
+pub all_recover : (s : Standing) (cache : List ℕ) (k : Option Content) → ((image : Files) → Image k image → RecoversOfWith cache (one_of s) image) → AllRecoverWith cache (one_of s) k
+all_recover s cache None each = let none : Files = λ name. None in absurd ((recovers_either s cache none (each none tt)).2.1.stands.current)
+all_recover s cache (Some k) each = each
 
 -- A disk that tells its content is covered by whatever list covers its images.
-told_covers : (others may : List (Option Archive)) (k : Option Content) → AllRecoverOf others k → ((image : Files) → Image k image → RecoversOf may image) → AllRecoverOf may k
-told_covers others may None all each = absurd all
-told_covers others may (Some k) all each = each
+told_covers : (c d : List ℕ) (others may : List (Option Archive)) (k : Option Content) → AllRecoverWith c others k → ((image : Files) → Image k image → RecoversOfWith d may image) → AllRecoverWith d may k
+told_covers c d others may None all each = absurd all
+told_covers c d others may (Some k) all each = each
 
 -- So the disk reads as the archive or as the one in doubt.
-pub reads_one : (s : Standing) (k : Option Content) → ReadsFit k → AllRecoverOf (one_of s) k → (b : Archive) × IsFound s b × ReadsAs b k
-reads_one s None fit all = absurd all
-reads_one s (Some k) fit all = recovers_either s (as_read k) (all (as_read k) (λ name. fit k refl name))
+pub reads_one : (s : Standing) (cache : List ℕ) (k : Option Content) → ReadsFit k → AllRecoverWith cache (one_of s) k → (b : Archive) × IsFound s b × ReadsWith cache b k
+reads_one s cache None fit all = absurd all
+reads_one s cache (Some k) fit all = recovers_either s cache (as_read k) (all (as_read k) (λ name. fit k refl name))
 
 -- A flag.
 pub not_true : (b : Bool) → not b ≡ true → b ≡ false
@@ -68,14 +70,22 @@ never_ready true e = absurd (false≢true (e refl))
 never_ready false e = refl
 
 -- A store's own disk leaves its archive.
-stands_for : (v : View) (a : Archive) (k : Option Content) (image : Files) → IsStoreOf v a k → Image k image → Recovers image a
-stands_for v a None image store left = absurd store
-stands_for v a (Some k) image store left = (v.root, record { valid = store.keeps.valid; names = store.keeps.names; stands = store.on.images image left })
+pub stands_for : (v : View) (cache : List ℕ) (a : Archive) (k : Option Content) (image : Files) → IsStoreWith v cache a k → Image k image → RecoversWith cache image a
+stands_for v cache a None image store left = absurd store
+stands_for v cache a (Some k) image store left = disk_recovers v cache a k image store left
 
 -- The archive `b` is among the archives of two standings.
-either_of : (may : List (Option Archive)) (a b : Archive) (image : Files) → Contains may (Some a) → Contains may (Some b) → RecoversEither a b image → RecoversOf may image
-either_of may a b image has_a has_b (inl before) = (Some a, has_a, before)
-either_of may a b image has_a has_b (inr after) = (Some b, has_b, after)
+either_of : (cache : List ℕ) (may : List (Option Archive)) (a b : Archive) (image : Files) → Contains may (Some a) → Contains may (Some b) → RecoversEitherWith cache a b image → RecoversOfWith cache may image
+either_of cache may a b image has_a has_b (inl before) = (Some a, has_a, before)
+either_of cache may a b image has_a has_b (inr after) = (Some b, has_b, after)
+
+-- Files of a store's own disk stand for archives with its cache alone.
+cache_is : CachesOne → (v : View) (cache : List ℕ) (a : Archive) (k : Option Content) → ReadsFit k → IsStoreWith v cache a k → (d : List ℕ) (may : List (Option Archive)) → ((image : Files) → Image k image → RecoversOfWith d may image) → cache ≡ d
+cache_is caches v cache a None fit store d may each = absurd store
+cache_is caches v cache a (Some k) fit store d may each =
+    let there : Image (Some k) (as_read k) = λ name. fit k refl name in
+    let one = each (as_read k) there in
+    caches (as_read k) a one.0 cache d (disk_recovers v cache a k (as_read k) store there) one.2
 
 -- The causes of refusals.
 pub opening-why : {T : Type 0} (before now : ℕ) (why : OpenRefusal) (r : Result T OpenRefusal) → r ≡ Err why → RoseIf (r ≡ Err refusal.DiskFault) before now → OpeningWhy before now why
@@ -138,28 +148,36 @@ module _ {D : Type 0} (content : D → Option Content) (moment : D → ℕ) (lef
   left_after old new P run image left = run.each image (counts_now new (moment old) image run.later (only_now new image left))
 
   -- Each crash of an archive that stands so leaves one of the archives that are there.
-  fits_all : (e : Owning D) (s : Standing) → Stands e s → AllRecoverOf (one_of s) (content e.disk)
-  fits_all e s fits = all_recover s (content e.disk) (λ image left. (fits.left (one_of s) (has-own s)).1 image (counts_now e.disk (moment e.disk) image (omega arith) left))
+  fits_all : (e : Owning D) (s : Standing) → Stands e s → (cache : List ℕ) × AllRecoverWith cache (one_of s) (content e.disk)
+  fits_all e s fits =
+      let left = fits.left (one_of s) (has-own s) in
+      (left.1, all_recover s left.1 (content e.disk) (λ image now. left.2 image (counts_now e.disk (moment e.disk) image (omega arith) now)))
 
-  -- A reopening leaves nothing that could not have been left before.
-  pub reopening-passes : (e new : Owning D) → ((may : List (Option Archive)) → AllRecoverOf may (content e.disk) → LeavesOnly moment left_since e.disk new.disk (RecoversOf may)) → (s : Standing) → Stands e s → Passes (Leaves moment left_since) e new []
+  -- What reopening leaves at each moment.
+  abbrev pub Reopening : Owning D → D → Type 0
+  Reopening e disk = (may : List (Option Archive)) (cache : List ℕ) → AllRecoverWith cache may (content e.disk) → LeavesOnly moment left_since e.disk disk (RecoversOfWith cache may)
+
+  -- It leaves nothing that could not have been left before.
+  pub reopening-passes : (e new : Owning D) → Reopening e new.disk → (s : Standing) → Stands e s → Passes (Leaves moment left_since) e new []
   reopening-passes e new run s fits = λ start may has left.
-      let all = told_covers (one_of s) may (content e.disk) (fits_all e s fits) (λ image now. left.1 image (counts_now e.disk (moment start.disk) image left.0 now)) in
-      let ran = run may all in (
+      let own = fits_all e s fits in
+      let all = told_covers own.0 left.1 (one_of s) may (content e.disk) own.1 (λ image now. left.2 image (counts_now e.disk (moment start.disk) image left.0 now)) in
+      let ran = run may left.1 all in (
         omega (arith, left.0, ran.later),
+        left.1,
         λ image since. elim (ran.before (moment start.disk) image left.0 since) [
           | inl past
-              ↦ left.1 image past
+              ↦ left.2 image past
           | inr stands ↦ stands
         ],
       )
 
   -- A reopening found the archive or the one in doubt.
-  pub opened-at : (e new : Owning D) → ((may : List (Option Archive)) → AllRecoverOf may (content e.disk) → LeavesOnly moment left_since e.disk new.disk (RecoversOf may)) → ((a : Archive) → ReadsAs a (content e.disk) → IsStoreOf new.view a (content new.disk))
-      → (s : Standing) → Stands e s → (t : Standing) × Going e s new t × Settles s t
+  pub opened-at : (e new : Owning D) → Reopening e new.disk → ((a : Archive) (cache : List ℕ) → ReadsWith cache a (content e.disk) → IsStoreWith new.view cache a (content new.disk)) → (s : Standing) → Stands e s → (t : Standing) × Going e s new t × Settles s t
   opened-at e new run opened s fits =
-      let found = reads_one s (content e.disk) (reads_fit e.disk) (fits_all e s fits) in
-      let store = opened found.0 found.2 in (
+      let own = fits_all e s fits in
+      let found = reads_one s own.0 (content e.disk) (reads_fit e.disk) own.1 in
+      let store : Holds content new found.0 = (own.0, opened found.0 own.0 found.2) in (
         standing found.0 None,
         record {
           fits = record { settled = λ ready. (store, refl); left = λ may has. store-left content moment left_since counts_now only_now new found.0 may store has.archive };
@@ -169,13 +187,13 @@ module _ {D : Type 0} (content : D → Option Content) (moment : D → ℕ) (lef
       )
 
   -- A reopening was refused, and all stands as before.
-  pub unopened-at : (e new : Owning D) (why : OpenRefusal) → ((may : List (Option Archive)) → AllRecoverOf may (content e.disk) → LeavesOnly moment left_since e.disk new.disk (RecoversOf may)) → ((a : Archive) → ReadsAs a (content e.disk) → IsWant why)
-      → is_ready new ≡ false → (s : Standing) → Stands e s → (t : Standing) × Going e s new t × StaysShut s why t
+  pub unopened-at : (e new : Owning D) (why : OpenRefusal) → Reopening e new.disk → ((a : Archive) (cache : List ℕ) → ReadsWith cache a (content e.disk) → IsWant why) → is_ready new ≡ false → (s : Standing) → Stands e s → (t : Standing) × Going e s new t × StaysShut s why t
   unopened-at e new why run well unready s fits =
-      let found = reads_one s (content e.disk) (reads_fit e.disk) (fits_all e s fits) in (
+      let own = fits_all e s fits in
+      let found = reads_one s own.0 (content e.disk) (reads_fit e.disk) own.1 in (
         s,
         moves-stale (Holds content) is_ready (Leaves moment left_since) (now-left content moment left_since counts_now only_now) e s new s fits unready (λ may has. has) (λ start may has left. reopening-passes e new run s fits start may tt left),
-        of_why why (well found.0 found.2),
+        of_why why (well found.0 own.0 found.2),
       )
     where
       of_why : (w : OpenRefusal) → IsWant w → StaysShut s w s
@@ -197,31 +215,37 @@ module _ {D : Type 0} (content : D → Option Content) (moment : D → ℕ) (lef
       )
 
   -- A command on the archive that is held.
-  module _ (e new : Owning D) (a : Archive) (wanted : Archive → Done) (run : LeavesOnly moment left_since e.disk new.disk (RecoversEither a (wanted a).archive)) where
+  module _ (caches : CachesOne) (e new : Owning D) (a : Archive) (cache : List ℕ) (store : IsStoreWith e.view cache a (content e.disk)) (wanted : Archive → Done) (run : LeavesOnly moment left_since e.disk new.disk (RecoversEitherWith cache a (wanted a).archive)) where
+    -- The cache of what a crash before may have left is the same.
+    one-cache : (start : Owning D) (may : List (Option Archive)) (left : Leaves moment left_since start e may) → cache ≡ left.1
+    one-cache start may left = cache_is caches e.view cache a (content e.disk) (reads_fit e.disk) store left.1 may (λ image now. left.2 image (counts_now e.disk (moment start.disk) image left.0 now))
+
     -- What a crash in it leaves.
     taken-passes : (start : Owning D) (may : List (Option Archive)) → Contains may (Some a) → Contains may (Some (wanted a).archive) → Leaves moment left_since start e may → Leaves moment left_since start new may
     taken-passes start may has_a has_b left = (
       omega (arith, left.0, run.later),
+      left.1,
       λ image since. elim (run.before (moment start.disk) image left.0 since) [
         | inl past
-            ↦ left.1 image past
-        | inr either ↦ either_of may a (wanted a).archive image has_a has_b either
+            ↦ left.2 image past
+        | inr either ↦
+            either_of left.1 may a (wanted a).archive image has_a has_b (subst (λ (c : List ℕ). RecoversEitherWith c a (wanted a).archive image) (one-cache start may left) either)
       ],
     )
 
     -- It was carried out, or refused.
-    taken-done : (reply : Answer) → (wanted a).answer ≡ reply → IsStoreOf new.view (wanted a).archive (content new.disk) → Going e (standing a None) new (standing (wanted a).archive None)
-    taken-done reply answer_is store = record {
-      fits = record { settled = λ ready. (store, refl); left = λ may has. store-left content moment left_since counts_now only_now new (wanted a).archive may store has.archive };
+    taken-done : (reply : Answer) → (wanted a).answer ≡ reply → IsStoreWith new.view cache (wanted a).archive (content new.disk) → Going e (standing a None) new (standing (wanted a).archive None)
+    taken-done reply answer_is own = record {
+      fits = record { settled = λ ready. ((cache, own), refl); left = λ may has. store-left content moment left_since counts_now only_now new (wanted a).archive may (cache, own) has.archive };
       passes = λ start may has left. taken-passes start may has.0.archive has.1.0.archive left;
     }
 
     -- Memory ran out before anything was done.
-    taken-none : new.disk ≡ e.disk → IsStoreOf new.view a (content new.disk) → Going e (standing a None) new (standing a None)
-    taken-none same store = record {
-      fits = record { settled = λ ready. (store, refl); left = λ may has. store-left content moment left_since counts_now only_now new a may store has.archive };
+    taken-none : new.disk ≡ e.disk → IsStoreWith new.view cache a (content new.disk) → Going e (standing a None) new (standing a None)
+    taken-none same own = record {
+      fits = record { settled = λ ready. ((cache, own), refl); left = λ may has. store-left content moment left_since counts_now only_now new a may (cache, own) has.archive };
       passes = λ start may has left.
-          subst (λ (d : D). (moment start.disk ≤ moment d) × ((image : Files) → left_since d (moment start.disk) image → RecoversOf may image)) (sym same) left;
+          subst (λ (d : D). (moment start.disk ≤ moment d) × (c : List ℕ) × ((image : Files) → left_since d (moment start.disk) image → RecoversOfWith c may image)) (sym same) left;
     }
 
     -- The disk failed.
@@ -229,12 +253,12 @@ module _ {D : Type 0} (content : D → Option Content) (moment : D → ℕ) (lef
     taken-failed unready = record {
       fits = record {
         settled = λ ready. absurd (false≢true (sym unready ∙ ready));
-        left = λ may has. (omega arith, λ image left. either_of may a (wanted a).archive image has.archive has.doubt (left_after e.disk new.disk (RecoversEither a (wanted a).archive) run image left));
+        left = λ may has. (omega arith, cache, λ image left. either_of cache may a (wanted a).archive image has.archive has.doubt (left_after e.disk new.disk (RecoversEitherWith cache a (wanted a).archive) run image left));
       };
       passes = λ start may has left. taken-passes start may has.1.0.archive has.1.0.doubt left;
     }
 
-    pub taken-at : (reply : Answer) → new.stale ≡ needs_opening reply → DoneBy new.view a (wanted a) reply (content new.disk) → OnRefusal reply (UnlessFault reply (new.disk ≡ e.disk)) → (t : Standing) × Going e (standing a None) new t × Comes true (standing a None) wanted reply t
+    pub taken-at : (reply : Answer) → new.stale ≡ needs_opening reply → DoneBy new.view cache a (wanted a) reply (content new.disk) → OnRefusal reply (UnlessFault reply (new.disk ≡ e.disk)) → (t : Standing) × Going e (standing a None) new t × Comes true (standing a None) wanted reply t
     taken-at answer.NoMemory stale done untouched = (standing a None, taken-none untouched done, inr (record { found = inl refl; sure = refl }))
     taken-at answer.DiskFault stale done untouched = (standing a (Some (wanted a).archive), taken-failed (ap not stale), inr (record { found = a; is_found = inl refl; stands = refl }))
     taken-at (answer.Ok number id) stale done untouched =
@@ -293,8 +317,8 @@ module _ {D : Type 0} (content : D → Option Content) (moment : D → ℕ) (lef
   stays-still faults e ready = record { same = reading-same content moment left_since counts_now only_now e; kept = λ a store. store; at_hand = ready; later = omega arith }
 
   -- Nothing is done, and a crash leaves the archive that is held.
-  pub still-left : (e : Owning D) (a b : Archive) → Holds content e a → LeavesOnly moment left_since e.disk e.disk (RecoversEither a b)
-  still-left e a b store = started moment left_since e.disk (RecoversEither a b) (λ image left. inl (stands_for e.view a (content e.disk) image store (only_now e.disk image left)))
+  pub still-left : (e : Owning D) (a b : Archive) (cache : List ℕ) → IsStoreWith e.view cache a (content e.disk) → LeavesOnly moment left_since e.disk e.disk (RecoversEitherWith cache a b)
+  still-left e a b cache store = started moment left_since e.disk (RecoversEitherWith cache a b) (λ image left. inl (stands_for e.view cache a (content e.disk) image store (only_now e.disk image left)))
 
   -- Here `inside` is the value by its parts.
   module _ (inside old : Owning D) (is : inside ≡ old) where
@@ -304,14 +328,19 @@ module _ {D : Type 0} (content : D → Option Content) (moment : D → ℕ) (lef
     pub still-stale : inside.stale ≡ true → is_ready old ≡ true → ⊥
     still-stale stale ready = let now : not true ≡ true = sym (ap not stale) ∙ ap (λ (o : Owning D). is_ready o) is ∙ ready in false≢true now
 
-    pub held-inside : (a : Archive) → Holds content old a → IsStoreOf inside.view a (content inside.disk)
+    pub held-inside : (a : Archive) → Holds content old a → (cache : List ℕ) × IsStoreWith inside.view cache a (content inside.disk)
     held-inside a = subst (λ (o : Owning D). Holds content o a) (sym is)
 
     pub kept-inside : (a : Archive) → Holds content old a → Keeps inside.view a
-    kept-inside a store = store_keeps inside.view a (content inside.disk) (held-inside a store)
+    kept-inside a held = let own = held-inside a held in store_keeps inside.view own.0 a (content inside.disk) own.1
 
-    pub left-from : (disk : D) (wanted : Archive → Archive) → ((a : Archive) → Holds content inside a → LeavesOnly moment left_since inside.disk disk (RecoversEither a (wanted a))) → (a : Archive) → Holds content old a → LeavesOnly moment left_since old.disk disk (RecoversEither a (wanted a))
-    left-from disk wanted run = subst (λ (o : Owning D). (a : Archive) → Holds content o a → LeavesOnly moment left_since o.disk disk (RecoversEither a (wanted a))) is run
+    pub left-from : (disk : D) (wanted : Archive → Archive) → ((a : Archive) (cache : List ℕ) → IsStoreWith inside.view cache a (content inside.disk) → LeavesOnly moment left_since inside.disk disk (RecoversEitherWith cache a (wanted a)))
+        → (a : Archive) (cache : List ℕ) → IsStoreWith old.view cache a (content old.disk) → LeavesOnly moment left_since old.disk disk (RecoversEitherWith cache a (wanted a))
+    left-from disk wanted run = subst (λ (o : Owning D). (a : Archive) (cache : List ℕ) → IsStoreWith o.view cache a (content o.disk) → LeavesOnly moment left_since o.disk disk (RecoversEitherWith cache a (wanted a))) is run
+
+    pub done-from : (view : View) (disk : D) (wanted : Archive → Done) (reply : Answer) → ((a : Archive) (cache : List ℕ) → IsStoreWith inside.view cache a (content inside.disk) → DoneBy view cache a (wanted a) reply (content disk))
+        → (a : Archive) (cache : List ℕ) → IsStoreWith old.view cache a (content old.disk) → DoneBy view cache a (wanted a) reply (content disk)
+    done-from view disk wanted reply done = subst (λ (o : Owning D). (a : Archive) (cache : List ℕ) → IsStoreWith o.view cache a (content o.disk) → DoneBy view cache a (wanted a) reply (content disk)) is done
 
     pub cause-from : {T : Type 0} (faults : D → ℕ) (disk : D) (r : Result T TextRefusal) → RoseIf (r ≡ Err reading.DiskFault) (faults inside.disk) (faults disk) → TellsOther r → ReadCause (faults old.disk) (faults disk) r
     cause-from faults disk r rose other = subst (λ (o : Owning D). ReadCause (faults o.disk) (faults disk) r) is (read-cause (faults inside.disk) (faults disk) r rose other)
@@ -325,22 +354,20 @@ module _ {D : Type 0} (content : D → Option Content) (moment : D → ℕ) (lef
     pub answer-cause-from : (faults : D → ℕ) (disk : D) (reply : Answer) → RoseIf (reply ≡ answer.DiskFault) (faults inside.disk) (faults disk) → AnswerCause (faults old.disk) (faults disk) reply
     answer-cause-from faults disk reply rose = subst (λ (o : Owning D). AnswerCause (faults o.disk) (faults disk) reply) is (answer-cause (faults inside.disk) (faults disk) reply rose)
 
-    pub opened-from : (new : Owning D) → ((may : List (Option Archive)) → AllRecoverOf may (content inside.disk) → LeavesOnly moment left_since inside.disk new.disk (RecoversOf may)) → ((a : Archive) → ReadsAs a (content inside.disk) → IsStoreOf new.view a (content new.disk))
-        → (s : Standing) → Stands old s → (t : Standing) × Going old s new t × Settles s t
+    pub opened-from : (new : Owning D) → Reopening inside new.disk → ((a : Archive) (cache : List ℕ) → ReadsWith cache a (content inside.disk) → IsStoreWith new.view cache a (content new.disk)) → (s : Standing) → Stands old s → (t : Standing) × Going old s new t × Settles s t
     opened-from new run opened = subst (λ (o : Owning D). (s : Standing) → Stands o s → (t : Standing) × Going o s new t × Settles s t) is (opened-at inside new run opened)
 
-    pub unopened-from : (new : Owning D) (why : OpenRefusal) → ((may : List (Option Archive)) → AllRecoverOf may (content inside.disk) → LeavesOnly moment left_since inside.disk new.disk (RecoversOf may)) → ((a : Archive) → ReadsAs a (content inside.disk) → IsWant why)
-        → is_ready new ≡ false → (s : Standing) → Stands old s → (t : Standing) × Going old s new t × StaysShut s why t
+    pub unopened-from : (new : Owning D) (why : OpenRefusal) → Reopening inside new.disk → ((a : Archive) (cache : List ℕ) → ReadsWith cache a (content inside.disk) → IsWant why) → is_ready new ≡ false → (s : Standing) → Stands old s → (t : Standing) × Going old s new t × StaysShut s why t
     unopened-from new why run well unready = subst (λ (o : Owning D). (s : Standing) → Stands o s → (t : Standing) × Going o s new t × StaysShut s why t) is (unopened-at inside new why run well unready)
 
-    pub passes-from : (new : Owning D) → ((may : List (Option Archive)) → AllRecoverOf may (content inside.disk) → LeavesOnly moment left_since inside.disk new.disk (RecoversOf may)) → (s : Standing) → Stands old s → Passes (Leaves moment left_since) old new []
+    pub passes-from : (new : Owning D) → Reopening inside new.disk → (s : Standing) → Stands old s → Passes (Leaves moment left_since) old new []
     passes-from new run = subst (λ (o : Owning D). (s : Standing) → Stands o s → Passes (Leaves moment left_since) o new []) is (reopening-passes inside new run)
 
-    pub taken-from : (new : Owning D) (wanted : Archive → Done) (reply : Answer) → new.stale ≡ needs_opening reply → ((a : Archive) → Holds content inside a → LeavesOnly moment left_since inside.disk new.disk (RecoversEither a (wanted a).archive))
-        → ((a : Archive) → Holds content inside a → DoneBy new.view a (wanted a) reply (content new.disk)) → OnRefusal reply (UnlessFault reply (new.disk ≡ inside.disk)) → (a : Archive) → Holds content old a → (t : Standing) × Going old (standing a None) new t × Comes true (standing a None) wanted reply t
-    taken-from new wanted reply stale run done untouched =
+    pub taken-from : CachesOne → (new : Owning D) (wanted : Archive → Done) (reply : Answer) → new.stale ≡ needs_opening reply → ((a : Archive) (cache : List ℕ) → IsStoreWith inside.view cache a (content inside.disk) → LeavesOnly moment left_since inside.disk new.disk (RecoversEitherWith cache a (wanted a).archive))
+        → ((a : Archive) (cache : List ℕ) → IsStoreWith inside.view cache a (content inside.disk) → DoneBy new.view cache a (wanted a) reply (content new.disk)) → OnRefusal reply (UnlessFault reply (new.disk ≡ inside.disk)) → (a : Archive) → Holds content old a → (t : Standing) × Going old (standing a None) new t × Comes true (standing a None) wanted reply t
+    taken-from caches new wanted reply stale run done untouched =
         subst (λ (o : Owning D). (a : Archive) → Holds content o a → (t : Standing) × Going o (standing a None) new t × Comes true (standing a None) wanted reply t) is
-        (λ a store. taken-at inside new a wanted (run a store) reply stale (done a store) untouched)
+        (λ a held. taken-at caches inside new a held.0 held.1 wanted (run a held.0 held.1) reply stale (done a held.0 held.1) untouched)
 
     pub stays-from : (faults : D → ℕ) (disk : D) → is_ready old ≡ true → Told Unchanged (content inside.disk) (content disk) → LeavesOnly moment left_since inside.disk disk (Image (content inside.disk)) → faults inside.disk ≤ faults disk
         → Stays (Holds content) is_ready (ReadsOn content moment left_since) (λ (o : Owning D). faults o.disk) old (record { disk = disk; view = inside.view; stale = inside.stale })

@@ -6,17 +6,17 @@ use Rattle.arch_model.specs.Archives.{Archive, with_entry}
 use Rattle.arch_model.specs.Delivery.{Done, new_epoch}
 use Rattle.arch_model.specs.declared.answer.Answer.{Answer}
 use Rattle.epoch_store.specs.Laws.{StoreRecovers}
-use Rattle.epoch_store.specs.Stores.{View, Keeps, IsStoreOf, RecoversEither}
+use Rattle.epoch_store.specs.Stores.{View, Keeps, IsStoreWith, RecoversEitherWith}
 
 -- A store keeps the archive of its own disk.
-pub store_keeps : (v : View) (a : Archive) (k : Option Content) → IsStoreOf v a k → Keeps v a
-store_keeps v a None store = absurd store
-store_keeps v a (Some k) store = store.keeps
+pub store_keeps : (v : View) (cache : List ℕ) (a : Archive) (k : Option Content) → IsStoreWith v cache a k → Keeps v a
+store_keeps v cache a None store = absurd store
+store_keeps v cache a (Some k) store = store.keeps
 
 -- What a crash leaves of a store's own disk stands for the archive.
-pub stands : StoreRecovers → (v : View) (a b : Archive) (k : Option Content) (image : Files) → IsStoreOf v a k → Image k image → RecoversEither a b image
-stands law v a b None image store now = absurd store
-stands law v a b (Some k) image store now = inl ((law v a k store).0 image now)
+pub stands : StoreRecovers → (v : View) (cache : List ℕ) (a b : Archive) (k : Option Content) (image : Files) → IsStoreWith v cache a k → Image k image → RecoversEitherWith cache a b image
+stands law v cache a b None image store now = absurd store
+stands law v cache a b (Some k) image store now = inl ((law v cache a k store).0 image now)
 
 -- If a delivery is judged to take a text, the archive after it is the one with that text.
 pub archive_taken : (a : Archive) (text slice : List ℕ) (moment : ℕ) (wanted : Done) (reply : Answer) → slice ≡ text

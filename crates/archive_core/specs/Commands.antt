@@ -1,39 +1,43 @@
 -- The answers to a command on an archive on a disk, and what the disk then holds.
-use Rattle.std.specs.Prelude.{◌≡◌, Option}
-use Rattle.disk_model.specs.Disk.{Content}
+use Rattle.std.specs.Prelude.{◌≡◌, ◌+◌, ◌-◌, ◌<◌, ◌^◌, ℕ, List, Option}
+use Rattle.arch_base.specs.Counts.{RoseIf}
+use Rattle.disk_model.specs.Disk.{Files, Content, WhereTold, LeavesOnly}
+use Rattle.disk_model.specs.Synced.{IsSettled}
 use Rattle.arch_model.specs.Archives.{Archive}
 use Rattle.arch_model.specs.Delivery.{Done}
 use Rattle.arch_model.specs.declared.answer.Answer.{Answer}
 use Rattle.arch_model.specs.declared.answer.Answer.TheVariants as answer
 use Rattle.epoch_file.specs.declared.refusal.StoreRefusal.{StoreRefusal}
 use Rattle.epoch_file.specs.declared.refusal.StoreRefusal.TheVariants as refusal
-use Rattle.epoch_store.specs.Stores.{View, IsStoreOf}
+use Rattle.epoch_store.specs.Stores.{View, IsStoreWith, HasSizes, RecoversEitherWith, GoesOn}
 
 -- The definition's answer was given, and the disk is the own one of a store that keeps the
--- definition's archive.
-pub record IsDone (v : View) (wanted : Done) (reply : Answer) (content : Option Content)
-    : Type 0 where
+-- definition's archive, with a cache of these bytes.
+pub record IsDone (v : View) (cache : List ℕ) (wanted : Done) (reply : Answer)
+    (content : Option Content) : Type 0 where
   pub answer_is : wanted.answer ≡ reply
-  pub store : IsStoreOf v wanted.archive content
+  pub store : IsStoreWith v cache wanted.archive content
 
 -- The answer of a call and the archive after it are the wanted ones of this archive. After
 -- `NoMemory` all is as before. After `DiskFault` the archive has to be reopened. No file is ever
 -- damaged.
-abbrev pub DoneBy : View → Archive → Done → Answer → Option Content → Type 0
-DoneBy v a wanted answer.NoMemory content = IsStoreOf v a content
-DoneBy v a wanted answer.DiskFault content = Unit {0}
-DoneBy v a wanted (answer.Ok number id) content = IsDone v wanted (answer.Ok number id) content
-DoneBy v a wanted (answer.Duplicate number) content =
-    IsDone v wanted (answer.Duplicate number) content
-DoneBy v a wanted answer.NoFields content = IsDone v wanted answer.NoFields content
-DoneBy v a wanted (answer.TooLarge len) content = IsDone v wanted (answer.TooLarge len) content
-DoneBy v a wanted (answer.Full max) content = IsDone v wanted (answer.Full max) content
-DoneBy v a wanted (answer.Collision number) content =
-    IsDone v wanted (answer.Collision number) content
-DoneBy v a wanted answer.IsMirror content = IsDone v wanted answer.IsMirror content
-DoneBy v a wanted (answer.NotLive number) content = ⊥
-DoneBy v a wanted (answer.NoText number) content = ⊥
-DoneBy v a wanted (answer.Damaged file offset) content = ⊥
+abbrev pub DoneBy : View → List ℕ → Archive → Done → Answer → Option Content → Type 0
+DoneBy v cache a wanted answer.NoMemory content = IsStoreWith v cache a content
+DoneBy v cache a wanted answer.DiskFault content = Unit {0}
+DoneBy v cache a wanted (answer.Ok number id) content =
+    IsDone v cache wanted (answer.Ok number id) content
+DoneBy v cache a wanted (answer.Duplicate number) content =
+    IsDone v cache wanted (answer.Duplicate number) content
+DoneBy v cache a wanted answer.NoFields content = IsDone v cache wanted answer.NoFields content
+DoneBy v cache a wanted (answer.TooLarge len) content =
+    IsDone v cache wanted (answer.TooLarge len) content
+DoneBy v cache a wanted (answer.Full max) content = IsDone v cache wanted (answer.Full max) content
+DoneBy v cache a wanted (answer.Collision number) content =
+    IsDone v cache wanted (answer.Collision number) content
+DoneBy v cache a wanted answer.IsMirror content = IsDone v cache wanted answer.IsMirror content
+DoneBy v cache a wanted (answer.NotLive number) content = ⊥
+DoneBy v cache a wanted (answer.NoText number) content = ⊥
+DoneBy v cache a wanted (answer.Damaged file offset) content = ⊥
 
 -- What holds after the answer `Ok`.
 abbrev pub OnDone : Answer → Type 0 → Type 0
@@ -101,3 +105,28 @@ abbrev pub refusal_answer : StoreRefusal → Answer
 refusal_answer refusal.DiskFault = answer.DiskFault
 refusal_answer refusal.NoMemory = answer.NoMemory
 refusal_answer (refusal.Damaged file offset) = answer.Damaged file offset
+
+-- What a command promises, by its answer and the archive after it, of each archive before it. While
+-- the root's sequence can be raised, at each moment a crash leaves the archive before the command or
+-- the one after it, and the answer and the disk then are the wanted ones. After `Ok` all that reads
+-- give is on the disk, and the root, in the other slot, goes on from the one before. Any other
+-- answer leaves what is kept in memory, and, but for a fault, the disk. The command fails only if
+-- the count of faults rose, and reads nothing.
+pub record TakesCommand {D : Type 0} (content : D → Option Content) (moment : D → ℕ)
+    (left_since : D → ℕ → Files → Type 0) (faults reads : D → ℕ) (old new : D)
+    (before after : View) (wanted : Archive → Done) (reply : Answer) : Type 0 where
+  pub any_moment : (a : Archive) (cache : List ℕ) → IsStoreWith before cache a (content old)
+      → before.root.sequence + 1 < 2 ^ 64
+      → LeavesOnly moment left_since old new (RecoversEitherWith cache a (wanted a).archive)
+  pub done : (a : Archive) (cache : List ℕ) → IsStoreWith before cache a (content old)
+      → before.root.sequence + 1 < 2 ^ 64
+      → DoneBy after cache a (wanted a) reply (content new)
+  pub settled : OnDone reply (WhereTold IsSettled (content new))
+  pub goes_on : OnDone reply (GoesOn before.root after.root)
+  pub slot : OnDone reply (after.slot ≡ 1 - before.slot)
+  pub same : OnRefusal reply (after ≡ before)
+  pub untouched : OnRefusal reply (UnlessFault reply (new ≡ old))
+  pub sizes : UnlessFault reply (WhereTold (HasSizes after) (content new))
+  pub cause : RoseIf (reply ≡ answer.DiskFault) (faults old) (faults new)
+  pub never_damaged : IsForCommand reply
+  pub count : reads new ≡ reads old

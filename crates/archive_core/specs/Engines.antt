@@ -10,8 +10,9 @@ use Rattle.arch_model.specs.Archives.{Archive}
 use Rattle.arch_model.specs.Keeping.{OnlyRead}
 use Rattle.arch_model.specs.declared.answer.Answer.{Answer}
 use Rattle.arch_model.specs.declared.answer.Answer.TheVariants as answer
-use Rattle.epoch_store.specs.Opens.{RecoversOf}
-use Rattle.epoch_store.specs.Stores.{View, HasSizes, IsStoreOf}
+use Rattle.epoch_store.specs.Opens.{RecoversOfWith}
+use Rattle.epoch_store.specs.Stores.{View, HasSizes, IsStoreWith}
+use Rattle.epoch_store.specs.Leaving.{disk_recovers}
 
 -- A disk, what is kept in memory of its archive, and whether it has to be reopened.
 pub record Owning (D : Type 0) : Type 0 where
@@ -38,20 +39,21 @@ needs_opening answer.IsMirror = false
 needs_opening (answer.Damaged file at) = true
 needs_opening answer.NoMemory = false
 
--- The archive that it holds: the disk is the archive's own.
+-- The archive that it holds: the disk is the archive's own, with whatever cache.
 abbrev pub Holds : {D : Type 0} → (D → Option Content) → Owning D → Archive → Type 0
-Holds content e a = IsStoreOf e.view a (content e.disk)
+Holds content e a = (cache : List ℕ) × IsStoreWith e.view cache a (content e.disk)
 
 -- It is ready if it needn't be reopened.
 abbrev pub is_ready : {D : Type 0} → Owning D → Bool
 is_ready e = not e.stale
 
 -- The second state comes no earlier, and each crash since the first has left files that stand for one
--- of these archives.
+-- of these archives, with one cache.
 abbrev pub Leaves : {D : Type 0} → (D → ℕ) → (D → ℕ → Files → Type 0) → Owning D → Owning D
     → List (Option Archive) → Type 0
-Leaves moment left_since start e may = (moment start.disk ≤ moment e.disk)
-    × ((image : Files) → left_since e.disk (moment start.disk) image → RecoversOf may image)
+Leaves moment left_since start e may = (moment start.disk ≤ moment e.disk) × (cache : List ℕ)
+    × ((image : Files) → left_since e.disk (moment start.disk) image
+    → RecoversOfWith cache may image)
 
 -- Only reads of the disk lead from one state to the other.
 pub record ReadsOn {D : Type 0} (content : D → Option Content) (moment : D → ℕ)
@@ -75,21 +77,12 @@ told-same None = tt
 told-same (Some k) = λ name. refl
 
 -- Files of a store's own disk stand for the archive.
-pub store-recovers : (v : View) (a : Archive) (k : Option Content) (may : List (Option Archive))
-    (image : Files) → IsStoreOf v a k → Contains may (Some a) → Image k image → RecoversOf may image
-store-recovers v a None may image store has left = absurd store
-store-recovers v a (Some k) may image store has left = (
-  Some a,
-  has,
-  (
-    v.root,
-    record {
-      valid = store.keeps.valid;
-      names = store.keeps.names;
-      stands = store.on.images image left;
-    },
-  ),
-)
+pub store-recovers : (v : View) (cache : List ℕ) (a : Archive) (k : Option Content)
+    (may : List (Option Archive)) (image : Files) → IsStoreWith v cache a k → Contains may (Some a)
+    → Image k image → RecoversOfWith cache may image
+store-recovers v cache a None may image store has left = absurd store
+store-recovers v cache a (Some k) may image store has left =
+    (Some a, has, disk_recovers v cache a k image store left)
 
 module _ {D : Type 0} (content : D → Option Content) (moment : D → ℕ)
     (left_since : D → ℕ → Files → Type 0)
@@ -126,7 +119,8 @@ module _ {D : Type 0} (content : D → Option Content) (moment : D → ℕ)
       → Contains may (Some a) → Leaves moment left_since e e may
   store-left e a may store has = (
     omega arith,
-    λ image left. store-recovers e.view a (content e.disk) may image store has
+    store.0,
+    λ image left. store-recovers e.view store.0 a (content e.disk) may image store.1 has
         (only_now e.disk image left),
   )
 
@@ -134,7 +128,8 @@ module _ {D : Type 0} (content : D → Option Content) (moment : D → ℕ)
       → Leaves moment left_since start e may → Leaves moment left_since e e may
   now-left start e may left = (
     omega arith,
-    λ image now. left.1 image
+    left.1,
+    λ image now. left.2 image
         (counts_now e.disk (moment start.disk) image left.0 (only_now e.disk image now)),
   )
 
@@ -143,15 +138,19 @@ module _ {D : Type 0} (content : D → Option Content) (moment : D → ℕ)
   reading-kept d e read =
       let same = unchanged-is (content d.disk) (content e.disk) read.files in
       record {
-        held = λ a store. subst (λ (v : View). IsStoreOf v a (content e.disk)) (sym read.view_is)
-            (subst (λ (k : Option Content). IsStoreOf d.view a k) (sym same) store);
+        held = λ a store. (
+          store.0,
+          subst (λ (v : View). IsStoreWith v store.0 a (content e.disk)) (sym read.view_is)
+              (subst (λ (k : Option Content). IsStoreWith d.view store.0 a k) (sym same) store.1),
+        );
         same = ap not read.stale_is;
         passes = λ start may has left. (
           omega (arith, left.0, read.run.later),
+          left.1,
           λ image since. elim (read.run.before (moment start.disk) image left.0 since) [
             | inl past
-                ↦ left.1 image past
-            | inr now ↦ left.1 image (counts_now d.disk (moment start.disk) image left.0 now)
+                ↦ left.2 image past
+            | inr now ↦ left.2 image (counts_now d.disk (moment start.disk) image left.0 now)
           ],
         );
       }

@@ -12,9 +12,9 @@ abbrev pub disk_made : {D : Type 0} → Result (Owning D) (NotMade D) → D
 disk_made (Ok made) = made.disk
 disk_made (Err refused) = refused.disk
 
--- The archive that was created, or why none was.
-abbrev pub made_or_why : {D : Type 0} → Result (Owning D) (NotMade D) → Result (Owning D) InitRefusal
-made_or_why (Ok made) = Ok made
+-- What is kept of the archive that was created, or why none was.
+abbrev pub made_or_why : {D : Type 0} → Result (Owning D) (NotMade D) → Result View InitRefusal
+made_or_why (Ok made) = Ok made.view
 made_or_why (Err refused) = Err refused.why
 
 -- The disk after an archive was to be opened.

@@ -1,14 +1,15 @@
 -- What an archive that wasn't opened leaves.
-use Rattle.std.specs.Prelude.{Option, Result, Ok, Err}
+use Rattle.std.specs.Prelude.{ℕ, List, Option, Result, Ok, Err}
 use Rattle.disk_model.specs.Disk.{Content, Told}
 use Rattle.arch_model.specs.Archives.{Archive}
 use Rattle.arch_model.specs.declared.opening.OpenRefusal.{OpenRefusal}
 use Rattle.arch_model.specs.declared.opening.OpenRefusal.TheVariants.{NoArchive, Damaged, DiskFault, NoMemory}
-use Rattle.epoch_store.specs.Opens.{ReadsAs, IsOnlySynced}
+use Rattle.epoch_store.specs.Opens.{ReadsWith, IsOnlySynced}
 
--- Files that read as those of an archive still do.
+-- Files that read as those of an archive with a cache still do.
 abbrev pub StillReads : Option Content → Option Content → Type 0
-StillReads old new = (a : Archive) → ReadsAs a old → ReadsAs a new
+StillReads old new = (a : Archive) (cache : List ℕ) → ReadsWith cache a old
+    → ReadsWith cache a new
 
 -- If there is no archive, or a file is damaged, nothing is changed. Before `NoMemory` the disk may
 -- be settled, and reads as the archive that it did.

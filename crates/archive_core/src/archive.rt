@@ -1,23 +1,20 @@
 //! An archive on a disk that is handed in. Each of its commands has the result of the definition.
-ghost use Rattle.std.specs.Prelude.{◌≡◌, ◌≤◌, ◌<◌, ◌+◌, ◌^◌, [], length, Err, IfOk, OnOk, OnErr, List, Option};
+ghost use Rattle.std.specs.Prelude.{◌≡◌, ◌≤◌, ◌<◌, ◌+◌, ◌-◌, ◌^◌, ℕ, length, Err, OnOk, OnErr, List};
 ghost use Rattle.arch_base.specs.Configs.{IsConfig};
 ghost use Rattle.arch_base.specs.Counts.{RoseIf};
 ghost use Rattle.disk_model.specs.Disk.{WhereTold, LeavesOnly};
-ghost use Rattle.arch_model.specs.Archives.{Archive, empty_archive, with_entry};
+ghost use Rattle.disk_model.specs.Synced.{IsSettled};
+ghost use Rattle.arch_model.specs.Archives.{Archive, with_entry};
 ghost use Rattle.arch_model.specs.Delivery.{applied, delivered, new_epoch};
 ghost use Rattle.arch_judge.specs.Judging.{Judges};
 ghost use Rattle.epoch_file.specs.declared.refusal.StoreRefusal.{StoreRefusal};
 ghost use Rattle.archive_core.specs.Kept.{MayGoIn, TakesWhatMay};
 ghost use Rattle.arch_model.specs.declared.answer.Answer.{Answer};
 ghost use Rattle.arch_base.specs.Moments.{last_moment};
-ghost use Rattle.arch_model.specs.declared.opening.OpenRefusal.{OpenRefusal};
-ghost use Rattle.epoch_store.specs.Files.{as_read};
-ghost use Rattle.epoch_store.specs.Opens.{RecoversOf, AllRecoverOf, ReadsAs, Opens, OpensWell, SyncsFirst, OnSynced};
 ghost use Rattle.archive_core.specs.Openings.{RefusesKindly};
-ghost use Rattle.epoch_store.specs.First.{MakingLeaves, MakingAnswers, RefusesToMake};
-ghost use Rattle.epoch_store.specs.Stores.{IsDiskOf, IsStoreOf, Keeps, HasSizes, RecoversEither, SeesNoDamage, next_sequence};
-ghost use Rattle.epoch_store.specs.declared.refusal.InitRefusal.{InitRefusal};
-ghost use Rattle.archive_core.specs.Commands.{DoneBy, OnDone, OnRefusal, UnlessFault, IsForCommand, refusal_answer};
+ghost use Rattle.epoch_store.specs.Promises.{MakesArchive, OpensArchive};
+ghost use Rattle.epoch_store.specs.Stores.{IsStoreWith, Keeps, HasSizes, RecoversEitherWith, SeesNoDamage, GoesOn};
+ghost use Rattle.archive_core.specs.Commands.{DoneBy, OnDone, OnRefusal, UnlessFault, IsForCommand, TakesCommand, refusal_answer};
 
 use crate::entries::index_of;
 use crate::texts::{put_text, take_text};
@@ -67,18 +64,8 @@ impl DiskArchive {
         config: &Config,
     ) -> Result<DiskArchive, InitRefusal>
         requires config { IsConfig config.now }
-        ensures any_moment { LeavesOnly D.moment D.left_since disk.old disk.new
-            (MakingLeaves (empty_archive config.now) (D.content disk.old)) }
-        ensures answer { WhereTold (MakingAnswers result) (D.content disk.old) }
-        // After `Exists` and `NoMemory` the disk is synced, and otherwise unchanged.
-        ensures refused { RefusesToMake result (D.content disk.old) (D.content disk.new) }
-        ensures done { IfOk result (λ made.
-            WhereTold (IsDiskOf made (empty_archive config.now)) (D.content disk.new)) }
-        ensures sizes { IfOk result (λ made. WhereTold (HasSizes made) (D.content disk.new)) }
-        ensures first { IfOk result (λ made. made.root.sequence ≡ 1) }
-        ensures none { IfOk result (λ made. made.entries ≡ []) }
-        ensures cause { RoseIf (result ≡ Err InitRefusal.DiskFault) (D.faults disk.old)
-            (D.faults disk.new) }
+        ensures made { MakesArchive D.content D.moment D.left_since D.faults disk.old disk.new
+            config.now result }
     {
         let store = Store::init(alloc, disk, config)?;
         Ok(DiskArchive {
@@ -101,19 +88,9 @@ impl DiskArchive {
     /// read as before. `DiskFault` comes only if the disk's count of faults rose. `NoMemory` comes
     /// only if memory runs out, and the files still stand for the archive that they stood for.
     pub fn open<D: Disk>(alloc: Global, disk: &mut D) -> Result<DiskArchive, OpenRefusal>
-        ensures any_moment { (may : List (Option Archive)) → AllRecoverOf may (D.content disk.old)
-            → LeavesOnly D.moment D.left_since disk.old disk.new (RecoversOf may) }
-        ensures answer { WhereTold (λ k. Opens (as_read k) result) (D.content disk.old) }
-        ensures done { (a : Archive) → ReadsAs a (D.content disk.old)
-            → IfOk result (λ opened. IsStoreOf opened a (D.content disk.new)) }
-        ensures well { (a : Archive) → ReadsAs a (D.content disk.old) → OpensWell result }
+        ensures opened { OpensArchive D.content D.moment D.left_since D.faults disk.old disk.new
+            result }
         ensures refused { RefusesKindly result (D.content disk.old) (D.content disk.new) }
-        // Once it is synced, only the archive as which the files read is left.
-        ensures first { OnSynced result
-            (SyncsFirst D.content D.moment D.left_since disk.old disk.new) }
-        ensures sizes { IfOk result (λ opened. WhereTold (HasSizes opened) (D.content disk.new)) }
-        ensures cause { RoseIf (result ≡ Err OpenRefusal.DiskFault) (D.faults disk.old)
-            (D.faults disk.new) }
     {
         law_of_stores();
         let store = match Store::open(alloc, disk) {
@@ -143,24 +120,8 @@ impl DiskArchive {
     pub fn command<D: Disk>(&mut self, disk: &mut D, command: &Command<'_>, moment: u64) -> Answer
         requires moment { moment ≤ last_moment }
         requires sizes { WhereTold (HasSizes self.old) (D.content disk.old) }
-        // At each moment a crash leaves the archive before the command, or the one after it.
-        ensures any_moment { (a : Archive) → IsStoreOf self.old a (D.content disk.old)
-            → self.old.root.sequence + 1 < 2 ^ 64
-            → LeavesOnly D.moment D.left_since disk.old disk.new
-            (RecoversEither a (applied a command.now moment).archive) }
-        // The answer is the definition's, and the disk is then the own one of the definition's
-        // archive.
-        ensures done { (a : Archive) → IsStoreOf self.old a (D.content disk.old)
-            → self.old.root.sequence + 1 < 2 ^ 64
-            → DoneBy self.new a (applied a command.now moment) result (D.content disk.new) }
-        ensures sequence { OnDone result (self.new.root.sequence
-            ≡ next_sequence self.old.root.sequence) }
-        ensures same { OnRefusal result (self.new ≡ self.old) }
-        ensures untouched { OnRefusal result (UnlessFault result (disk.new ≡ disk.old)) }
-        ensures sizes { UnlessFault result (WhereTold (HasSizes self.new) (D.content disk.new)) }
-        ensures cause { RoseIf (result ≡ Answer.DiskFault) (D.faults disk.old) (D.faults disk.new) }
-        ensures never_damaged { IsForCommand result }
-        ensures count { D.reads disk.new ≡ D.reads disk.old }
+        ensures taken { TakesCommand D.content D.moment D.left_since D.faults D.reads disk.old
+            disk.new self.old self.new (λ a. applied a command.now moment) result }
     {
         match command {
             Command::Deliver(bytes) => self.deliver(disk, bytes, moment),
@@ -171,15 +132,18 @@ impl DiskArchive {
     fn deliver<D: Disk>(&mut self, disk: &mut D, bytes: &[u8], moment: u64) -> Answer
         requires moment { moment ≤ last_moment }
         requires sizes { WhereTold (HasSizes self.old) (D.content disk.old) }
-        ensures any_moment { (a : Archive) → IsStoreOf self.old a (D.content disk.old)
+        ensures any_moment { (a : Archive) (cache : List ℕ)
+            → IsStoreWith self.old cache a (D.content disk.old)
             → self.old.root.sequence + 1 < 2 ^ 64
             → LeavesOnly D.moment D.left_since disk.old disk.new
-            (RecoversEither a (delivered a bytes.now moment).archive) }
-        ensures done { (a : Archive) → IsStoreOf self.old a (D.content disk.old)
+            (RecoversEitherWith cache a (delivered a bytes.now moment).archive) }
+        ensures done { (a : Archive) (cache : List ℕ)
+            → IsStoreWith self.old cache a (D.content disk.old)
             → self.old.root.sequence + 1 < 2 ^ 64
-            → DoneBy self.new a (delivered a bytes.now moment) result (D.content disk.new) }
-        ensures sequence { OnDone result (self.new.root.sequence
-            ≡ next_sequence self.old.root.sequence) }
+            → DoneBy self.new cache a (delivered a bytes.now moment) result (D.content disk.new) }
+        ensures settled { OnDone result (WhereTold IsSettled (D.content disk.new)) }
+        ensures goes_on { OnDone result (GoesOn self.old.root self.new.root) }
+        ensures slot { OnDone result (self.new.slot ≡ 1 - self.old.slot) }
         ensures same { OnRefusal result (self.new ≡ self.old) }
         ensures untouched { OnRefusal result (UnlessFault result (disk.new ≡ disk.old)) }
         ensures sizes { UnlessFault result (WhereTold (HasSizes self.new) (D.content disk.new)) }
@@ -227,17 +191,20 @@ impl DiskArchive {
         requires may { MayGoIn self.old text.now blob }
         requires moment { moment ≤ last_moment }
         requires sizes { WhereTold (HasSizes self.old) (D.content disk.old) }
-        ensures any_moment { (a : Archive) → IsStoreOf self.old a (D.content disk.old)
+        ensures any_moment { (a : Archive) (cache : List ℕ)
+            → IsStoreWith self.old cache a (D.content disk.old)
             → self.old.root.sequence + 1 < 2 ^ 64
             → LeavesOnly D.moment D.left_since disk.old disk.new
-            (RecoversEither a (with_entry a (new_epoch a) text.now moment)) }
-        ensures done { (a : Archive) → IsStoreOf self.old a (D.content disk.old)
+            (RecoversEitherWith cache a (with_entry a (new_epoch a) text.now moment)) }
+        ensures done { (a : Archive) (cache : List ℕ)
+            → IsStoreWith self.old cache a (D.content disk.old)
             → self.old.root.sequence + 1 < 2 ^ 64
-            → OnOk result (IsStoreOf self.new (with_entry a (new_epoch a) text.now moment)
+            → OnOk result (IsStoreWith self.new cache (with_entry a (new_epoch a) text.now moment)
             (D.content disk.new)) }
+        ensures settled { OnOk result (WhereTold IsSettled (D.content disk.new)) }
         ensures sizes { OnOk result (WhereTold (HasSizes self.new) (D.content disk.new)) }
-        ensures sequence { OnOk result (self.new.root.sequence
-            ≡ next_sequence self.old.root.sequence) }
+        ensures goes_on { OnOk result (GoesOn self.old.root self.new.root) }
+        ensures slot { OnOk result (self.new.slot ≡ 1 - self.old.slot) }
         ensures same { OnErr result (self.new ≡ self.old) }
         ensures refused { result ≡ Err StoreRefusal.NoMemory → disk.new ≡ disk.old }
         ensures undamaged { SeesNoDamage result }

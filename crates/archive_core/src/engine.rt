@@ -1,20 +1,15 @@
 //! An archive that owns its disk.
-ghost use Rattle.std.specs.Prelude.{◌≡◌, ◌≤◌, [], true, false, Err, IfOk, Option, None, List, length};
+ghost use Rattle.std.specs.Prelude.{◌≡◌, ◌≤◌, false, IfOk, List, None, length, ℕ};
 ghost use Rattle.arch_base.specs.Configs.{IsConfig};
-ghost use Rattle.arch_base.specs.Counts.{RoseIf};
 ghost use Rattle.arch_base.specs.Moments.{last_moment};
-ghost use Rattle.disk_model.specs.Disk.{WhereTold, LeavesOnly};
-ghost use Rattle.arch_model.specs.Archives.{Archive, empty_archive};
+ghost use Rattle.disk_model.specs.Disk.{LeavesOnly};
+ghost use Rattle.arch_model.specs.Archives.{Archive};
 ghost use Rattle.arch_model.specs.Delivery.{applied};
 ghost use Rattle.arch_model.specs.Keeping.{Moves, Comes, AnswerCause};
 ghost use Rattle.arch_model.specs.Standing.{Standing, standing};
-ghost use Rattle.arch_model.specs.declared.opening.OpenRefusal.{OpenRefusal};
-ghost use Rattle.epoch_store.specs.Files.{as_read};
-ghost use Rattle.epoch_store.specs.First.{MakingLeaves, MakingAnswers, RefusesToMake};
-ghost use Rattle.epoch_store.specs.Opens.{RecoversOf, AllRecoverOf, ReadsAs, Opens, OpensWell, SyncsFirst, OnSynced};
-ghost use Rattle.epoch_store.specs.Stores.{IsDiskOf, IsStoreOf, HasSizes, RecoversEither};
-ghost use Rattle.epoch_store.specs.declared.refusal.InitRefusal.{InitRefusal};
-ghost use Rattle.archive_core.specs.Commands.{IsForCommand};
+ghost use Rattle.epoch_store.specs.Promises.{MakesArchive, OpensArchive};
+ghost use Rattle.epoch_store.specs.Stores.{IsStoreWith, RecoversEitherWith};
+ghost use Rattle.archive_core.specs.Commands.{DoneBy, IsForCommand};
 ghost use Rattle.archive_core.specs.Engines.{Holds, Leaves, ReadsOn, is_ready, needs_opening as needs_opening_after, reading-same, reading-joined, store-left, now-left, reading-kept};
 ghost use Rattle.archive_core.specs.HandedBack.{disk_made, made_or_why, disk_opened, opened_or_why};
 ghost use Rattle.archive_core.specs.Openings.{RefusesKindly};
@@ -24,6 +19,7 @@ use crate::not_made::{NotMade, NotOpened};
 use arch_base::{Bytes, Config, ObjectId};
 use arch_model::{Answer, Command, EntryLine, Keep, OpenRefusal, Shelf, TextRefusal};
 use disk_model::Disk;
+use epoch_store::law_of_recovery;
 use std::alloc::Global;
 use std::marker::Model;
 
@@ -64,20 +60,9 @@ impl<D: Disk> Engine<D> {
     /// anything is written.
     pub fn make(alloc: Global, disk: D, config: &Config) -> Result<Engine<D>, NotMade<D>>
         requires config { IsConfig config.now }
-        ensures any_moment { LeavesOnly D.moment D.left_since disk (disk_made result)
-            (MakingLeaves (empty_archive config.now) (D.content disk)) }
-        ensures answer { WhereTold (MakingAnswers (made_or_why result)) (D.content disk) }
-        // After `Exists` and `NoMemory` the disk is synced, and otherwise unchanged.
-        ensures refused { RefusesToMake (made_or_why result) (D.content disk)
-            (D.content (disk_made result)) }
-        ensures done { IfOk result (λ made.
-            WhereTold (IsDiskOf made.view (empty_archive config.now)) (D.content made.disk)) }
-        ensures sizes { IfOk result (λ made. WhereTold (HasSizes made.view) (D.content made.disk)) }
+        ensures made { MakesArchive D.content D.moment D.left_since D.faults disk
+            (disk_made result) config.now (made_or_why result) }
         ensures ready { IfOk result (λ made. made.stale ≡ false) }
-        ensures first { IfOk result (λ made. made.view.root.sequence ≡ 1) }
-        ensures none { IfOk result (λ made. made.view.entries ≡ []) }
-        ensures cause { RoseIf (made_or_why result ≡ Err InitRefusal.DiskFault) (D.faults disk)
-            (D.faults (disk_made result)) }
     {
         let mut disk = disk;
         match DiskArchive::init(alloc, &mut disk, config) {
@@ -104,23 +89,11 @@ impl<D: Disk> Engine<D> {
     /// read as before. `DiskFault` comes only if the disk's count of faults rose. `NoMemory` comes
     /// only if memory runs out, and the files still stand for the archive that they stood for.
     pub fn open(alloc: Global, disk: D) -> Result<Engine<D>, NotOpened<D>>
-        ensures any_moment { (may : List (Option Archive)) → AllRecoverOf may (D.content disk)
-            → LeavesOnly D.moment D.left_since disk (disk_opened result) (RecoversOf may) }
-        ensures answer { WhereTold (λ k. Opens (as_read k) (opened_or_why result)) (D.content disk) }
-        ensures done { (a : Archive) → ReadsAs a (D.content disk)
-            → IfOk result (λ opened. IsStoreOf opened.view a (D.content opened.disk)) }
-        ensures well { (a : Archive) → ReadsAs a (D.content disk)
-            → OpensWell (opened_or_why result) }
+        ensures opened { OpensArchive D.content D.moment D.left_since D.faults disk
+            (disk_opened result) (opened_or_why result) }
         ensures refused { RefusesKindly (opened_or_why result) (D.content disk)
             (D.content (disk_opened result)) }
-        // Once it is synced, only the archive as which the files read is left.
-        ensures first { OnSynced (opened_or_why result)
-            (SyncsFirst D.content D.moment D.left_since disk (disk_opened result)) }
-        ensures sizes { IfOk result (λ opened.
-            WhereTold (HasSizes opened.view) (D.content opened.disk)) }
         ensures ready { IfOk result (λ opened. opened.stale ≡ false) }
-        ensures cause { RoseIf (opened_or_why result ≡ Err OpenRefusal.DiskFault) (D.faults disk)
-            (D.faults (disk_opened result)) }
     {
         let mut disk = disk;
         match DiskArchive::open(alloc, &mut disk) {
@@ -176,20 +149,27 @@ impl<D: Disk> Engine<D> {
     pub fn take(&mut self, command: &Command<'_>, moment: u64) -> Answer
         requires ready { self.old.stale ≡ false }
         requires moment { moment ≤ last_moment }
-        ensures done { (a : Archive) → Holds D.content self.old a → (t : Standing)
+        // A crash in it leaves the archive before the command, or the one after it.
+        ensures any_moment { (a : Archive) (cache : List ℕ)
+            → IsStoreWith self.old.view cache a (D.content self.old.disk)
+            → LeavesOnly D.moment D.left_since self.old.disk self.new.disk
+            (RecoversEitherWith cache a (applied a command.now moment).archive) }
+        ensures done { (a : Archive) (cache : List ℕ)
+            → IsStoreWith self.old.view cache a (D.content self.old.disk)
+            → DoneBy self.new.view cache a (applied a command.now moment) result
+            (D.content self.new.disk) }
+        // As a keeper's.
+        ensures stands { (a : Archive) → Holds D.content self.old a → (t : Standing)
             × Moves (Holds D.content) is_ready (Leaves D.moment D.left_since) self.old
             (standing a None) self.new t
             × Comes true (standing a None) (λ (b : Archive). applied b command.now moment) result t }
-        // A crash in it leaves the archive before the command, or the one after it.
-        ensures any_moment { (a : Archive) → Holds D.content self.old a
-            → LeavesOnly D.moment D.left_since self.old.disk self.new.disk
-            (RecoversEither a (applied a command.now moment).archive) }
         ensures ready { self.new.stale ≡ needs_opening_after result }
         ensures never_damaged { IsForCommand result }
         ensures later { D.faults self.old.disk ≤ D.faults self.new.disk }
         ensures cause { AnswerCause (D.faults self.old.disk) (D.faults self.new.disk) result }
         ensures reads { D.reads self.new.disk ≡ D.reads self.old.disk }
     {
+        law_of_recovery();
         // After the last sequence of 64 bits nothing is done. No archive takes so many commands.
         if !self.archive.has_next_root() {
             return Answer::NoMemory;

@@ -1,5 +1,5 @@
 //! Reads an archive on a disk: its messages by their numbers, and its epochs.
-ghost use Rattle.std.specs.Prelude.{◌≡◌, ◌≤◌, ◌<◌, ◌+◌, ◌^◌, ◌↔◌, ◌&&◌, nat_le, true, length, count_by, Err, IsTrue, IsSome, IfSome, OnErr, is_some};
+ghost use Rattle.std.specs.Prelude.{◌≡◌, ◌≤◌, ◌<◌, ◌+◌, ◌^◌, ◌↔◌, ◌&&◌, ℕ, List, nat_le, true, length, count_by, Err, IsTrue, IsSome, IfSome, OnErr, is_some};
 ghost use Rattle.arch_base.specs.Counts.{RoseIf};
 ghost use Rattle.disk_model.specs.Disk.{Image, Told, Unchanged, LeavesOnly};
 ghost use Rattle.arch_model.specs.Archives.{Archive, in_epoch, text_of, blob_number};
@@ -7,7 +7,7 @@ ghost use Rattle.arch_model.specs.Shelves.{IsGreatestLive, live_between, line_at
 ghost use Rattle.arch_model.specs.Standing.{IsLeastLive, GivesTextIn, GivesEpochIn, KeepsUnlessFound};
 ghost use Rattle.arch_model.specs.declared.text_refusal.TextRefusal.{TextRefusal};
 ghost use Rattle.epoch_store.specs.Reads.{AnswersQuietly};
-ghost use Rattle.epoch_store.specs.Stores.{IsStoreOf, Keeps};
+ghost use Rattle.epoch_store.specs.Stores.{IsStoreWith, Keeps};
 ghost use Rattle.archive_core.specs.Numbers.{has_number, IsKnownLive, NumbersRise, IsNumberAt, IsCountBelow, IsCountUpTo, GivesTextKept, TellsOther};
 ghost use Rattle.epoch_store.specs.declared.entries.StoredEntry.{StoredEntry};
 
@@ -86,7 +86,8 @@ impl DiskArchive {
     /// runs out. An error leaves the bytes unchanged.
     pub fn text<D: Disk>(&self, disk: &mut D, n: u32, into: &mut Bytes) -> Result<(), TextRefusal>
         requires live { has_number self.now.entries n ≡ true }
-        ensures text { (a : Archive) → IsStoreOf self.now a (D.content disk.old)
+        ensures text { (a : Archive) (cache : List ℕ)
+            → IsStoreWith self.now cache a (D.content disk.old)
             → GivesTextIn a.entries n into.old into.new result }
         ensures kept { GivesTextKept self.now.entries n into.old into.new result }
         ensures refused { OnErr result (into.new ≡ into.old) }
@@ -115,7 +116,8 @@ impl DiskArchive {
         id: &ObjectId,
         into: &mut Bytes,
     ) -> Result<bool, TextRefusal>
-        ensures blob { (a : Archive) → IsStoreOf self.now a (D.content disk.old)
+        ensures blob { (a : Archive) (cache : List ℕ)
+            → IsStoreWith self.now cache a (D.content disk.old)
             → GivesBlobIn a.entries id.now.0 into.old into.new result }
         ensures kept { KeepsUnlessFound into.old into.new result }
         ensures other { TellsOther result }
@@ -156,7 +158,8 @@ impl DiskArchive {
         epoch: u32,
         into: &mut Bytes,
     ) -> Result<bool, TextRefusal>
-        ensures bytes { (a : Archive) → IsStoreOf self.now a (D.content disk.old)
+        ensures bytes { (a : Archive) (cache : List ℕ)
+            → IsStoreWith self.now cache a (D.content disk.old)
             → GivesEpochIn (in_epoch a.entries epoch) into.old into.new result }
         ensures kept { KeepsUnlessFound into.old into.new result }
         ensures undamaged { AnswersQuietly result }

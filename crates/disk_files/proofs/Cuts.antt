@@ -1,15 +1,17 @@
 -- What several cuts leave, one after the other.
-use Rattle.std.specs.Prelude.{◌≡◌, ◌≢◌, ℕ, ◌+◌, ◌<◌, ◌≤◌, min, Option, Some, None, List, ◌++◌, length, get_or, take, drop, slice_get, Result, Ok, Err, OnOk, OnErr, refl}
+use Rattle.std.specs.Prelude.{◌≡◌, ◌≢◌, ℕ, ◌+◌, ◌<◌, ◌≤◌, min, Option, Some, None, List, length, get_or, slice_get, Result, Ok, Err, OnOk, OnErr, refl}
 use Rattle.std.specs.List.{Contains}
-use Rattle.std.proofs.Common.{◌∙◌, ap, sym, subst, inl, inr, arith, length-take, length-drop, length-append}
+use Rattle.std.proofs.Common.{◌∙◌, ap, sym, subst, inl, inr, arith, length-take}
 use Rattle.std.proofs.lemmas.Bool.{cases_lt}
 use Rattle.std.proofs.lemmas.Grind.{common_steps}
 use Rattle.std.proofs.lemmas.List.{take_all}
 use Rattle.std.proofs.lemmas.Option.{same_Some, slice_get-get_or, slice_get_within, get_or_from_slice_get}
 use Rattle.disk_model.specs.declared.name.FileName.{FileName}
-use Rattle.disk_model.specs.Disk.{Content, CutTo, File, Files, Fits, Holds, Image, IsLength, Kept, OneFile, ReadsFit, Sure, Told, TornCut, Unchanged, WhereTold, Within, bytes_of, cut_file, cut_sure}
+use Rattle.disk_model.specs.Disk.{Content, CutTo, File, Files, Fits, Image, IsAtMostLength, IsLength, Kept, OneFile, ReadsFit, Sure, Told, TornCut, Unchanged, WhereTold, Within, bytes_of, cut_file, cut_sure}
+use Rattle.disk_model.specs.Cuts.{cut_front}
 use Rattle.disk_model.specs.Laws.{Fits-Within, FrontOrigin, Within-trans, cut_within, cut_wider}
 use Rattle.disk_model.specs.Images.{same_or_other}
+use Rattle.disk_model.specs.Tells.{told_where}
 use Rattle.disk_files.specs.declared.cutting.FilePart.{FilePart}
 use Rattle.disk_files.specs.Cutting.{AreCut, Cutting, HasFronts, IsCutting, KeepsFronts, TrimmedTo}
 
@@ -118,68 +120,12 @@ module _ (parts : List FilePart) (i : ℕ) (part : FilePart) (is : slice_get par
     short = all_short;
   }
 
--- The bytes of a file that a crash left after a cut, followed by the old ones.
-abbrev pub spliced : ℕ → List ℕ → List ℕ → List ℕ
-spliced n bytes seen = take n bytes ++ drop n seen
-
--- The first bytes are those of the image.
-spliced_front : (n : ℕ) (bytes seen : List ℕ) (i : ℕ) → n ≤ length bytes → i < n → get_or (spliced n bytes seen) i 0 ≡ get_or bytes i 0
-spliced_front n bytes seen i long below = grind (arith, common_steps)
-
--- The rest are the old bytes.
-spliced_after : (n : ℕ) (bytes seen : List ℕ) (i : ℕ) → n ≤ length bytes → n ≤ i → get_or (spliced n bytes seen) i 0 ≡ get_or seen i 0
-spliced_after n bytes seen i long above = grind (arith, common_steps)
-
--- Their number.
-spliced_length : (n : ℕ) (bytes seen : List ℕ) → n ≤ length bytes → n ≤ length seen → length (spliced n bytes seen) ≡ length seen
-spliced_length n bytes seen long inside = omega (arith, length-append {A = ℕ} (take n bytes) (drop n seen), length-take {A = ℕ} n bytes, length-drop {A = ℕ} n seen)
-
--- Their prefix is that of the image.
-spliced_take : (n : ℕ) (bytes seen : List ℕ) → n ≤ length bytes → take n (spliced n bytes seen) ≡ take n bytes
-spliced_take n bytes seen long = grind (arith, common_steps)
-
--- A file that a crash leaves after a cut below the least length has the prefix of one from before.
-front_below : (n : ℕ) (s : Sure) (seen bytes : List ℕ) → n ≤ s.least → Holds s seen → Holds (cut_sure n s) bytes → FrontOrigin n s (Some bytes)
-front_below n s seen bytes below h left =
-    let least = left.no_shorter in
-    let low = h.no_shorter in
-    let high = h.no_longer in
-    let long : n ≤ length bytes = omega (arith, below, least) in
-    let inside : n ≤ length seen = omega (arith, below, low) in
-    let size = spliced_length n bytes seen long inside in
-    record {
-      file = Some (spliced n bytes seen);
-      fits = record {
-        there = left.there;
-        no_shorter = omega (arith, size, low);
-        no_longer = omega (arith, size, high);
-        outside = λ i under out.
-            elim (cases_lt i n) [
-              | inl front ↦ spliced_front n bytes seen i long front ∙ left.outside i (omega (arith, under, front)) out
-              | inr after ↦ spliced_after n bytes seen i long after ∙ h.outside i under out
-            ];
-      };
-      same = sym (spliced_take n bytes seen long);
-      long = λ l. long;
-    }
-
 -- Each file that a crash leaves after a cut has the prefix of one from before; a missing file is
 -- not cut.
-cut_front : (n : ℕ) (s : Sure) (seen image : File) → Fits s seen → (length (bytes_of seen) ≤ n → Fits s image) → Fits (cut_sure n s) image → FrontOrigin n s image
-cut_front n s seen None h alone left = record { file = None; fits = left; same = refl; long = λ l. l }
-cut_front n s None (Some bytes) h alone left = record { file = Some bytes; fits = alone (omega arith); same = refl; long = λ l. l }
-cut_front n s (Some seen) (Some bytes) h alone left =
-    elim (cases_lt s.least n) [
-      | inl above ↦
-          let least = left.no_shorter in
-          record {
-            file = Some bytes;
-            fits = record { there = left.there; no_shorter = omega (arith, least, above); no_longer = left.no_longer; outside = λ i under out. left.outside i (omega (arith, under, above)) out };
-            same = refl;
-            long = λ l. l;
-          }
-      | inr below ↦ front_below n s seen bytes below h left
-    ]
+cut_or_alone : (n : ℕ) (s : Sure) (seen image : File) → Fits s seen → (length (bytes_of seen) ≤ n → Fits s image) → Fits (cut_sure n s) image → FrontOrigin n s image
+cut_or_alone n s seen None h alone left = record { file = None; fits = left; same = refl; long = λ l. l }
+cut_or_alone n s None (Some bytes) h alone left = record { file = Some bytes; fits = alone (omega arith); same = refl; long = λ l. l }
+cut_or_alone n s (Some seen) (Some bytes) h alone left = cut_front n s seen bytes h left
 
 -- What a crash leaves while one more file is cut.
 module _ (parts : List FilePart) (i : ℕ) (part : FilePart) (is : slice_get parts i ≡ Some part) (k m : Content) (image : Files) (before : TrimmedUpTo parts i k m) (cutting : IsCutting part m image) where
@@ -215,7 +161,7 @@ module _ (parts : List FilePart) (i : ℕ) (part : FilePart) (is : slice_get par
         let name = p.file in
         let up : IsUpTo parts (i + 1) name p.length = λ j other below found same. shortest.least other (part_in parts j other found) same in
         let alone : length (bytes_of (k name).seen) ≤ p.length → Fits (k name).sure (image name) = λ short. left_alone name (λ j other below found same. omega (arith, short, up j other below found same)) in
-        cut_front p.length (k name).sure (k name).seen (image name) (fit name) alone (left_cut name p.length up);
+        cut_or_alone p.length (k name).sure (k name).seen (image name) (fit name) alone (left_cut name p.length up);
     there = λ name gone.
         let left = left_cut name 0 (λ j other below found same. omega arith) in
         subst (λ (file : File). Fits (cut_sure 0 (k name).sure) file) gone left;
@@ -304,3 +250,11 @@ cutting_after (Ok v) part n (Some k) (Some m) None image longer is same ok err l
 cutting_after (Err e) part n (Some k) (Some m) None image longer is same ok err left = absurd err
 cutting_after (Ok v) part n (Some k) (Some m) (Some o) image longer is same ok err left = cutting_crash part k m o image same (omega (arith, longer, is)) ok.here.crash ok.elsewhere left
 cutting_after (Err e) part n (Some k) (Some m) (Some o) image longer is same ok err left = cutting_crash part k m o image same (omega (arith, longer, is)) err.here.crash err.elsewhere left
+
+-- A file that is longer than a part may be cut to it.
+pub longer_told : (name : FileName) (size n : ℕ) (k m : Option Content) → n ≤ size → WhereTold (IsLength name size) k → Told Unchanged k m → WhereTold (IsAtMostLength name n) m
+longer_told name size n k m less is same = told_where Unchanged (IsLength name size) (IsAtMostLength name n) k m (λ a b old_is new_is kept long. subst (λ (it : Kept). n ≤ length (bytes_of it.seen)) (sym (kept name)) (omega (arith, less, long))) same is
+
+-- The part of the list at an index is listed.
+pub part_listed : (parts : List FilePart) (i : ℕ) (d : FilePart) → i < length parts → Contains parts (get_or parts i d)
+part_listed parts i d below = part_in parts i (get_or parts i d) (slice_get-get_or parts i d below)

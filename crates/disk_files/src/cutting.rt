@@ -1,7 +1,10 @@
 //! Cuts files to their first bytes.
 ghost use Rattle.std.specs.Prelude.{◌≡◌, OnOk};
+ghost use Rattle.std.specs.List.{Contains};
 ghost use Rattle.arch_base.specs.Counts.{IsCaused};
+ghost use Rattle.disk_model.specs.Beside.{Bounds, Respects, RunsBeside};
 ghost use Rattle.disk_model.specs.Disk.{LeavesOnly, OneFile, Told};
+ghost use Rattle.disk_files.specs.declared.cutting.FilePart.{FilePart};
 ghost use Rattle.disk_files.specs.Cutting.{AreCut, Cutting, HasFronts, TrimmedTo};
 
 use disk_model::{Disk, DiskFault, FileName};
@@ -19,6 +22,8 @@ pub struct FilePart {
 fn trim<D: Disk>(disk: &mut D, part: FilePart) -> Result<(), DiskFault>
     ensures any_moment { LeavesOnly D.moment D.left_since disk.old disk.new
         (Cutting part (D.content disk.old)) }
+    ensures beside { (bounds : Bounds) → Respects (bounds part.file) part.length
+        → RunsBeside D.content D.moment D.left_since bounds disk.old disk.new }
     ensures done { OnOk result (Told (OneFile part.file (TrimmedTo part.length))
         (D.content disk.old) (D.content disk.new)) }
     ensures cause { IsCaused (D.faults disk.old) (D.faults disk.new) result }
@@ -39,6 +44,10 @@ pub fn cut_files<D: Disk>(disk: &mut D, parts: &[FilePart]) -> Result<(), DiskFa
     // other files as before.
     ensures any_moment { LeavesOnly D.moment D.left_since disk.old disk.new
         (HasFronts parts.now (D.content disk.old)) }
+    // Files may be cut beside all bounds that their parts respect.
+    ensures beside { (bounds : Bounds)
+        → ((part : FilePart) → Contains parts.now part → Respects (bounds part.file) part.length)
+        → RunsBeside D.content D.moment D.left_since bounds disk.old disk.new }
     // After `Ok` each file reads as its part, and the others are as they were.
     ensures done { OnOk result (Told (AreCut parts.now) (D.content disk.old) (D.content disk.new)) }
     ensures cause { IsCaused (D.faults disk.old) (D.faults disk.new) result }

@@ -1,6 +1,9 @@
 //! Removes files.
 ghost use Rattle.std.specs.Prelude.{◌≡◌, OnOk};
+ghost use Rattle.std.specs.List.{Contains};
 ghost use Rattle.arch_base.specs.Counts.{IsCaused};
+ghost use Rattle.disk_model.specs.declared.name.FileName.{FileName};
+ghost use Rattle.disk_model.specs.Beside.{Bounds, Respects, RunsBeside};
 ghost use Rattle.disk_model.specs.Disk.{LeavesOnly, Told};
 ghost use Rattle.disk_files.specs.Removing.{AreRemoved, Fewer};
 
@@ -11,6 +14,10 @@ pub fn remove_files<D: Disk>(disk: &mut D, names: &[FileName]) -> Result<(), Dis
     // At each moment a crash leaves each of them as before or not at all, and all others as before.
     ensures any_moment { LeavesOnly D.moment D.left_since disk.old disk.new
         (Fewer names.now (D.content disk.old)) }
+    // Files may be removed beside all bounds that are 0 for them.
+    ensures beside { (bounds : Bounds)
+        → ((name : FileName) → Contains names.now name → Respects (bounds name) 0)
+        → RunsBeside D.content D.moment D.left_since bounds disk.old disk.new }
     // After `Ok` none of them is there, and the others are as they were.
     ensures done { OnOk result
         (Told (AreRemoved names.now) (D.content disk.old) (D.content disk.new)) }

@@ -11,3 +11,7 @@ pub mod Plan
 pub mod Record
 pub mod Applied
 pub mod Memory
+pub mod Cuts
+pub mod Tells
+pub mod Beside
+pub mod BesideLaws

@@ -12,7 +12,7 @@ use Rattle.root_slots.specs.RootName.{root_name}
 use Rattle.root_slots.specs.Each.{IfThere, EachRoot, part_stays, each_writing, each_written, elsewhere_before}
 use Rattle.root_slots.specs.Slots.{HasRootSize, gate, body_offset, body_at, sequence_of, Current, HasRoot, Ready, IsShut, IsShutFile, IsCommitted}
 use Rattle.epoch_store.specs.First.{AreZeros, ShutOrFirst}
-use Rattle.epoch_store.proofs.Appends.{nat_eq_or_not}
+use Rattle.root_change.proofs.Roots.{equal_or_not}
 
 -- A root file that is shut and has a body in slot 0, and in slot 1 one of sequence 0.
 pub record HasFirst (body file : List ℕ) : Type 0 where
@@ -97,7 +97,7 @@ first_raised body a b first same opened =
 first_torn : (body a b : List ℕ) → HasFirst body a → SameOutside 0 1 a b → IsShut b ⊎ HasRoot body b
 first_torn body a b first same =
     let shut : gate b 1 ≡ 0 = same.bytes 1 (inr (omega arith)) ∙ first.other in
-    elim (nat_eq_or_not (gate b 0) 1) [ inl opened ↦ inr (0, first_raised body a b first same opened) | inr closed ↦ inl (inr (closed, λ one. absurd (omega (arith, shut, one)))) ]
+    elim (equal_or_not (gate b 0) 1) [ inl opened ↦ inr (0, first_raised body a b first same opened) | inr closed ↦ inl (inr (closed, λ one. absurd (omega (arith, shut, one)))) ]
 
 -- The other slot is then ready for the next root.
 first_ready : (body file : List ℕ) → HasFirst body file → 0 < sequence_of body → Ready 1 body (overlay 0 (1 ∷ []) file)

@@ -1,17 +1,19 @@
 -- An archive without entries, and the files that stand for it.
-use Rattle.std.specs.Prelude.{◌≡◌, ◌<◌, ℕ, List, [], length, get_or, Option, Some, None, Ok, IsSome, ◌↔◌, refl}
-use Rattle.std.proofs.Common.{sym, ap, subst, inl, inr, arith}
+use Rattle.std.specs.Prelude.{◌≡◌, ◌<◌, ◌==◌, ℕ, Bool, true, false, if◌then◌else◌, List, [], length, get_or, Option, Some, None, Ok, IsSome, ◌↔◌, refl}
+use Rattle.std.proofs.Common.{◌∙◌, sym, ap, subst, inl, inr, arith}
 use Rattle.std.proofs.lemmas.List.{get_or-replicate, length-replicate}
 use Rattle.std.specs.List.{Contains}
 use Rattle.disk_files.specs.Listing.{AreAllNames}
 use Rattle.arch_base.specs.declared.config.Config.{Config}
 use Rattle.arch_base.specs.Configs.{IsConfig}
 use Rattle.arch_base.specs.Names.{IsName}
+use Rattle.disk_model.specs.declared.name.FileKind.{FileKind}
+use Rattle.disk_model.specs.declared.name.FileKind.TheVariants as kind
 use Rattle.disk_model.specs.declared.name.FileName.{FileName}
 use Rattle.disk_model.specs.Disk.{File, Files, Kept, Content, Image, Told, WhereTold, Unchanged, Synced, Fits, exact, bytes_of, ReadsFit, Elapses, LeavesOnly}
+use Rattle.disk_model.specs.Synced.{IsSettled}
 use Rattle.disk_model.specs.Moments.{started, goes_on, joined}
 use Rattle.disk_model.specs.Laws.{Fits-Within, Fits-exact, sync_image}
-use Rattle.disk_model.specs.Images.{same_or_other}
 use Rattle.arch_model.specs.Archives.{empty_archive}
 use Rattle.root_slots.specs.declared.root.Place.{Place}
 use Rattle.root_slots.specs.declared.root.Root.{Root}
@@ -20,12 +22,14 @@ use Rattle.root_slots.specs.Each.{IfThere}
 use Rattle.root_slots.specs.Slots.{HasRoot, Ready, IsShutFile, EachShut}
 use Rattle.root_slots.specs.Spelling.{spelling}
 use Rattle.root_slots.specs.Valid.{PlaceFits, no_place}
-use Rattle.epoch_store.specs.Files.{map_file_of, epoch_file_of, Fronts, StandsFor, as_read}
+use Rattle.root_change.specs.Names.{names_file}
+use Rattle.root_change.specs.Texts.{Fronts, StandsFor}
+use Rattle.root_change.specs.Parts.{texts_of}
 use Rattle.arch_model.specs.Validity.{IsArchive}
-use Rattle.epoch_store.specs.Recovery.{map_bytes, bytes_in, Names}
+use Rattle.epoch_store.specs.Recovery.{map_bytes, parts_of, Names}
 use Rattle.epoch_store.specs.Stores.{IsDiskOf, HasSizes}
 use Rattle.epoch_store.specs.First.{MakesRoot, MakingLeaves, HasOnly, first_root_of}
-use Rattle.epoch_store.proofs.Appends.{map_isnt_root, epoch_isnt_root}
+use Rattle.root_change.proofs.Drops.{unnamed_apart}
 use Rattle.epoch_store.proofs.Making.{first_is_root}
 
 -- An archive without entries is valid.
@@ -51,26 +55,38 @@ empty_names config name valid = record {
   config = refl;
   next = refl;
   epochs = λ e below. ap (λ (p : Place). p.length) (first_place config e below);
-  cache = refl;
 }
 
 -- Each file starts with no bytes.
 no_front : (file : File) → Fronts [] file
 no_front file = record { long = omega arith; front = refl }
 
+-- Each part of an archive without entries is empty, and so is each text of the first root.
+empty_either : (b : Bool) (bytes : List ℕ) → bytes ≡ [] → (if b then bytes else []) ≡ []
+empty_either true bytes none = none
+empty_either false bytes none = refl
+
+no_part : (config : Config) (k : FileKind) (n : ℕ) → parts_of (empty_archive config) [] k n ≡ []
+no_part config kind.Root n = refl
+no_part config kind.Map n = empty_either (n == 0) (map_bytes (empty_archive config)) refl
+no_part config kind.Epoch n = refl
+no_part config kind.Cache n = empty_either (n == 0) [] refl
+
+no_text : (config : Config) (name : FileName) → texts_of (first_root_of config) (parts_of (empty_archive config) []) name ≡ []
+no_text config name = empty_either (names_file (first_root_of config) name) (parts_of (empty_archive config) [] name.kind name.number) (no_part config name.kind name.number)
+
 -- Files with the first root stand for the archive without entries.
-pub empty_stands : (config : Config) (image : Files) → IfThere (HasRoot (spelling (first_root_of config))) (image root_name) → StandsFor (first_root_of config) (map_bytes (empty_archive config)) (bytes_in (empty_archive config)) image
+pub empty_stands : (config : Config) (image : Files) → IfThere (HasRoot (spelling (first_root_of config))) (image root_name) → StandsFor (first_root_of config) (texts_of (first_root_of config) (parts_of (empty_archive config) [])) image
 empty_stands config image there = record {
   current = there;
-  map_front = no_front (image (map_file_of (first_root_of config)));
-  epochs_front = λ e below. no_front (image (epoch_file_of (first_root_of config) e));
+  fronts = λ name apart. subst (λ (text : List ℕ). Fronts text (image name)) (sym (no_text config name)) (no_front (image name));
 }
 
 -- What a crash leaves while the root is created.
 pub makes_empty : (config : Config) (old k : Option Content) (image : Files) → IsName config.name → IsConfig config → (k ≡ None → old ≡ None) → WhereTold (λ c. IsShutFile (c root_name).seen) old → MakesRoot (spelling (first_root_of config)) k image → MakingLeaves (empty_archive config) old image
 makes_empty config old None image name valid same was makes = inl (subst (λ (o : Option Content). Image o image) (sym (same refl)) tt)
 makes_empty config old (Some k) image name valid same was (inl shut) = inr (was, inl shut)
-makes_empty config old (Some k) image name valid same was (inr there) = inr (was, inr (first_root_of config, record { valid = empty_valid config name valid; names = empty_names config name valid; stands = empty_stands config image there }))
+makes_empty config old (Some k) image name valid same was (inr there) = inr (was, inr (first_root_of config, record { valid = empty_valid config name valid; names = empty_names config name valid; cache_long = refl; stands = empty_stands config image there }))
 
 -- A root that is ready is there.
 root_there : (body : List ℕ) (file : File) → IfThere (Ready 1 body) file → IfThere (HasRoot body) file
@@ -82,17 +98,22 @@ pub owns_empty : (config : Config) (k : Option Content) → IsName config.name �
 owns_empty config None name valid fit only = tt
 owns_empty config (Some k) name valid fit only = record {
   keeps = record { valid = empty_valid config name valid; names = empty_names config name valid; kept = refl };
+  cache_long = refl;
   on = record {
-    images = λ image left. empty_stands config image (root_there (spelling (first_root_of config)) (image root_name) (only.roots (image root_name) (left root_name)));
     roots = only.roots;
+    fronts = λ other apart file fits. subst (λ (text : List ℕ). Fronts text file) (sym (no_text config other)) (no_front file);
     exact = record {
-      stands = empty_stands config (as_read k) (root_there (spelling (first_root_of config)) (k root_name).seen (only.roots (k root_name).seen (fit k refl root_name)));
-      map_ends = ap bytes_of (only.others (map_file_of (first_root_of config)) (map_isnt_root 1));
-      epochs_end = λ e below. only.others (epoch_file_of (first_root_of config) e) (epoch_isnt_root e (get_or (first_root_of config).epochs e no_place).gen_);
-      others = λ other. elim (same_or_other root_name other) [ inl is ↦ inl (inl is) | inr apart ↦ inr (only.others other apart) ];
+      current = root_there (spelling (first_root_of config)) (k root_name).seen (only.roots (k root_name).seen (fit k refl root_name));
+      ends = λ other apart. ap bytes_of (only.others other apart) ∙ sym (no_text config other);
+      no_other = λ other isnt. only.others other (unnamed_apart (first_root_of config) other isnt);
     };
   };
 }
+
+-- All that reads give is on the disk.
+pub only_settled : (config : Config) (k : Option Content) → WhereTold (HasOnly (spelling (first_root_of config))) k → WhereTold IsSettled k
+only_settled config None only = tt
+only_settled config (Some k) only = only.settled
 
 -- Its files have their sizes.
 pub sized_empty : (config : Config) (k : Option Content) → ReadsFit k → WhereTold (HasOnly (spelling (first_root_of config))) k → WhereTold (HasSizes (record { root = first_root_of config; slot = 0; entries = [] })) k

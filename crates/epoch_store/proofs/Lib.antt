@@ -1,5 +1,4 @@
-mod Appends
-mod TwoWrites
+mod Parted
 mod Growing
 mod Ends
 mod Delivering
@@ -16,8 +15,6 @@ mod FirstRoots
 mod Making
 mod Initial
 mod Readying
-mod Sweeping
-mod SweepSteps
 mod Opening
 mod Opened
 mod Undamaged
@@ -26,6 +23,6 @@ mod FindingTold
 mod FindingTurns
 mod Texts
 mod Recovered
-mod Unnamed
 mod Reopening
 mod WholeEpochs
+mod Settles

@@ -14,7 +14,8 @@ use Rattle.number_map.specs.Records.{record_bytes, IsRecord, AreRecordsFrom}
 use Rattle.number_map.specs.Sizes.{records_length}
 use Rattle.epoch_store.specs.Files.{map_file_of}
 use Rattle.arch_model.specs.Validity.{IsEntry, Rise}
-use Rattle.epoch_store.specs.Recovery.{entry_of, record_for, records_from, records_of, map_bytes}
+use Rattle.epoch_store.specs.Recovery.{entry_of, record_for, records_from, records_of, map_bytes, Names}
+use Rattle.epoch_store.proofs.Parted.{from_parts, parts_front}
 use Rattle.epoch_store.specs.Damage.{has_message, messages, record_of}
 use Rattle.epoch_store.specs.Openings.{archive_of, OpenedRecovers, RecoversOpened}
 use Rattle.arch_model.proofs.ValidArchives.{all_weaker}
@@ -135,13 +136,14 @@ numbers_most n (line ∷ lines) es valid is = by (λ fs. numbers_most (n + 1) li
 
 -- Files that are opened stand for the archive of what was found.
 pub opened_recovers : OpenedRecovers
-opened_recovers root files rs entries has opened =
+opened_recovers root files rs entries cache has has_cache opened =
     let a = archive_of root entries in
     let least = has.is_root.next_least in
     let count = has.count in
     let all : messages rs ≡ map record_of entries = opened.first.records ∙ append-nil (map record_of entries) in
     let back : rs ≡ records_of a = records_back 1 0 rs entries has.begins.valid opened.first.order all ∙ ap (records_from entries 1) count in
     let size : 28 * length rs ≡ length (map_bytes a) = sym (records_length 1 rs has.begins.valid) ∙ ap (λ (l : List Record). length (flat_map record_bytes l)) back in
+    let names : Names root a = record { is_root = has.is_root; fits = has.fits; config = refl; next = refl; epochs = opened.whole.lengths } in
     record {
       valid = record {
         name = has.fits.name;
@@ -154,17 +156,20 @@ opened_recovers root files rs entries has opened =
         ids = opened.first.ids;
         blobs = opened.first.blobs;
       };
-      names = record { is_root = has.is_root; fits = has.fits; config = refl; next = refl; epochs = opened.whole.lengths; cache = has.cache };
-      stands = record {
+      names = names;
+      cache_long = has_cache.long;
+      stands = from_parts root a cache names has_cache.long files (record {
         current = has.current;
         map_front = fronts_by (28 * length rs) (map_bytes a) (files (map_file_of root)) (has.begins.spelled ∙ ap (flat_map record_bytes) back) size;
         epochs_front = opened.whole.fronts;
-      };
+        cache_front = has_cache.front;
+      });
     }
 
 -- Files that stand for an archive are opened with its entries.
 pub recovers_opened : RecordsDiffer → RecoversOpened
-recovers_opened differ root files rs a has recovers =
+recovers_opened differ root files rs a cache has recovers =
+    let parts = parts_front root cache files a recovers in
     let valid = recovers.valid in
     let least = valid.next_least in
     let next : root.next ≡ a.next = recovers.names.next in
@@ -172,7 +177,7 @@ recovers_opened differ root files rs a has recovers =
     let count : length rs ≡ a.next - 1 = has.count ∙ ap (λ (n : ℕ). n - 1) next in
     let size : 28 * length rs ≡ length (map_bytes a) = ap (λ (n : ℕ). 28 * n) count ∙ sym (map_length a valid) in
     let bytes : flat_map record_bytes rs ≡ map_bytes a =
-    sym has.begins.spelled ∙ (ap (λ (n : ℕ). take n (bytes_of (files (map_file_of root)))) size ∙ recovers.stands.map_front.front) in
+    sym has.begins.spelled ∙ (ap (λ (n : ℕ). take n (bytes_of (files (map_file_of root)))) size ∙ parts.map_front.front) in
     let same : rs ≡ records_of a = differ rs (records_of a) has.begins.valid lines bytes in
     record {
       first = record {
@@ -187,6 +192,6 @@ recovers_opened differ root files rs a has recovers =
       whole = record {
         below = all_weaker IsEntry (λ (e : Entry). e.epoch < 64) a.entries (λ e entry. (let small = entry.epoch in omega (arith, small))) valid.entries;
         lengths = recovers.names.epochs;
-        fronts = recovers.stands.epochs_front;
+        fronts = parts.epochs_front;
       };
     }

@@ -16,7 +16,8 @@ use Rattle.epoch_file.specs.declared.entry.Seen.{Seen}
 use Rattle.epoch_file.specs.Entries.{EntriesDiffer, EpochEntry, IsEpochEntry, AreEpochEntries, bytes_after, commit_after, chain, last_of, epoch_of}
 use Rattle.epoch_file.specs.Walking.{IsEpoch, EndsEarly}
 use Rattle.root_slots.specs.declared.root.Root.{Root}
-use Rattle.epoch_store.specs.Files.{Fronts, epoch_file_of}
+use Rattle.root_change.specs.Texts.{Fronts}
+use Rattle.epoch_store.specs.Files.{epoch_file_of}
 use Rattle.arch_model.specs.Validity.{IsEntry}
 use Rattle.epoch_store.specs.Stores.{in_file}
 use Rattle.epoch_store.specs.Damage.{AreFirst, named_length, named_bytes, AreWhole, LacksNext}

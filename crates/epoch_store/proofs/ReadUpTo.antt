@@ -153,7 +153,3 @@ pub read_missing : (root : Root) (files : Files) (rs : List Record) (v : Joined)
 read_missing root files rs v refusal up ends =
     let one = ends rs up.after up.entries up.holds in
     inr (inr (record { before = up.entries; next = one.0; after = one.1; first = one.2; whole = up.whole; stands = sym one.3; offset_is = refl }))
-
--- What was read is the archive that the files stand for, and this is kept of its entries.
-pub read_recovers : (root : Root) (files : Files) (rs : List Record) (kept : List StoredEntry) → HasMap root files rs → (read : AreRead root files rs kept) → RecoversBy root files (archive_of root read.entries)
-read_recovers root files rs kept has read = opened_recovers root files rs read.entries has read.opened

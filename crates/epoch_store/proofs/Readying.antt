@@ -7,7 +7,7 @@ use Rattle.disk_model.specs.Synced.{Writing, IsWritten, IsSettled}
 use Rattle.root_slots.specs.RootName.{root_name}
 use Rattle.root_slots.specs.Each.{IfThere, EachRoot, part_stays, each_writing, each_written}
 use Rattle.root_slots.specs.Slots.{HasRootSize, IsGateOpen, gate, body_offset, body_at, Current, Ready}
-use Rattle.epoch_store.specs.Settling.{Rests, StaysCurrent, IsReadied, TellsAs}
+use Rattle.epoch_store.specs.Settling.{Rests, StaysCurrent, IsReadied, KeepsSlots, ReadiesSlot}
 
 -- The other slot of the other slot.
 back : (slot : ℕ) → slot < 2 → slot ≡ 1 - (1 - slot)
@@ -118,18 +118,43 @@ module _ (slot : ℕ) (body : List ℕ) where
         settled = written.settled;
       }
 
--- What is told before and after each of two calls is told before and after both.
-pub tells_both : (P Q : Content → Content → Type 0) (a b c : Option Content) → Told P a b → Told Q b c → TellsAs a c
-tells_both P Q None None None p q = tt
-tells_both P Q None None (Some z) p q = absurd q
-tells_both P Q None (Some y) c p q = absurd p
-tells_both P Q (Some x) None c p q = absurd p
-tells_both P Q (Some x) (Some y) None p q = absurd q
-tells_both P Q (Some x) (Some y) (Some z) p q = tt
+-- The slots of a root file that isn't changed, if the other gate is open.
+slots_same : (slot : ℕ) (body a : List ℕ) → gate a (1 - slot) ≡ 1 → KeepsSlots slot body a a
+slots_same slot body a opened = record { size = refl; gates = λ s below. refl; current = refl; other = λ is. refl; filled = λ shut. absurd (shut opened) }
 
--- The same for one call.
-pub tells_one : (P : Content → Content → Type 0) (a b : Option Content) → Told P a b → TellsAs a b
-tells_one P None None p = tt
-tells_one P None (Some y) p = absurd p
-tells_one P (Some x) None p = absurd p
-tells_one P (Some x) (Some y) p = tt
+-- The slots of a root file whose other body was written.
+slots_filled : (slot : ℕ) (body a : List ℕ) → slot < 2 → length body ≡ 1536 → length a ≡ 4096 → gate a (1 - slot) ≢ 1 → KeepsSlots slot body a (overlay (body_offset (1 - slot)) body a)
+unfolding body_at
+slots_filled slot body a low whole size shut =
+    let b = overlay (body_offset (1 - slot)) body a in
+    let same : SameOutside (body_offset (1 - slot)) 1536 a b = subst (λ (n : ℕ). SameOutside (body_offset (1 - slot)) n a b) whole (overlay-torn (body_offset (1 - slot)) body a (omega (arith, size, whole, low))) in
+    record {
+      size = same.size;
+      gates = λ s below. same.bytes s (inl (omega (arith, below)));
+      current = body_kept (body_offset (1 - slot)) 1536 slot a b same (bodies_apart slot low);
+      other = λ opened. absurd (shut opened);
+      filled = λ still. ap (λ (n : ℕ). take n (drop (body_offset (1 - slot)) b)) (sym whole) ∙ overlay-inside (body_offset (1 - slot)) body a (omega (arith, size, low));
+    }
+
+-- The same of disks that may tell their content.
+pub slots_open : (slot : ℕ) (body : List ℕ) (k m : Option Content) → Told Unchanged k m → WhereTold (IsGateOpen (1 - slot) true) k → Told (ReadiesSlot slot body) k m
+slots_open slot body None None same opened = tt
+slots_open slot body None (Some m) same opened = absurd same
+slots_open slot body (Some k) None same opened = absurd same
+slots_open slot body (Some k) (Some m) same opened = record {
+  slots = subst (λ (kept : Kept). KeepsSlots slot body (bytes_of (k root_name).seen) (bytes_of kept.seen)) (sym (same root_name)) (slots_same slot body (bytes_of (k root_name).seen) opened);
+  elsewhere = λ other apart. ap (λ (kept : Kept). kept.seen) (same other);
+}
+
+pub slots_written : (slot : ℕ) (body : List ℕ) (k m n : Option Content) → slot < 2 → length body ≡ 1536 → WhereTold HasRootSize k → Told Unchanged k m → WhereTold (IsGateOpen (1 - slot) false) k → Told (IsWritten root_name (body_offset (1 - slot)) body) m n → Told (ReadiesSlot slot body) k n
+slots_written slot body None None None low whole size same shut written = tt
+slots_written slot body None None (Some n) low whole size same shut written = absurd written
+slots_written slot body None (Some m) n low whole size same shut written = absurd same
+slots_written slot body (Some k) None n low whole size same shut written = absurd same
+slots_written slot body (Some k) (Some m) None low whole size same shut written = absurd written
+slots_written slot body (Some k) (Some m) (Some n) low whole size same shut written =
+    let is : bytes_of (n root_name).seen ≡ overlay (body_offset (1 - slot)) body (bytes_of (k root_name).seen) = ap bytes_of written.here ∙ ap (λ (kept : Kept). overlay (body_offset (1 - slot)) body (bytes_of kept.seen)) (same root_name) in
+    record {
+      slots = subst (λ (bytes : List ℕ). KeepsSlots slot body (bytes_of (k root_name).seen) bytes) (sym is) (slots_filled slot body (bytes_of (k root_name).seen) low whole size shut);
+      elsewhere = λ other apart. written.elsewhere other apart ∙ ap (λ (kept : Kept). kept.seen) (same other);
+    }

@@ -18,14 +18,16 @@ use Rattle.mail_commits.specs.Entries.{entry_bytes, tree_of, commit_text, magic,
 use Rattle.epoch_file.specs.Entries.{bytes_after}
 use Rattle.epoch_file.specs.Walking.{blob_front}
 use Rattle.epoch_store.specs.declared.entries.StoredEntry.{StoredEntry}
-use Rattle.epoch_store.specs.Files.{Fronts, epoch_file_of}
+use Rattle.root_change.specs.Texts.{Fronts}
+use Rattle.epoch_store.specs.Files.{epoch_file_of}
 use Rattle.arch_model.specs.Validity.{IsEntry}
 use Rattle.epoch_store.specs.Recovery.{bytes_in}
-use Rattle.epoch_store.specs.Stores.{View, IsDiskOf, in_file, stored_at, stored_after}
+use Rattle.epoch_store.specs.Stores.{View, IsDiskWith, in_file, stored_at, stored_after}
 use Rattle.arch_model.specs.declared.text_refusal.TextRefusal.{TextRefusal}
 use Rattle.arch_model.specs.declared.text_refusal.TextRefusal.TheVariants.{DiskFault, Damaged, NoMemory}
 use Rattle.root_slots.specs.declared.root.Root.{Root}
-use Rattle.epoch_store.specs.Stores.{IsStoreOf}
+use Rattle.epoch_store.specs.Stores.{IsStoreWith}
+use Rattle.epoch_store.proofs.Parted.{disk_fronts}
 use Rattle.disk_model.specs.declared.name.FileName.{FileName}
 use Rattle.disk_model.specs.Disk.{HasRead, WhereTold, Files, Kept, Image, Fits, Told, Unchanged}
 use Rattle.epoch_store.specs.Reads.{StandsAt, IsQuiet, GivesText, FindsText, GivesTextOf, text_if}
@@ -164,14 +166,14 @@ pub record IsTextAt (v : View) (a : Archive) (k : Content) (i : ℕ) (s : Stored
   pub long : s.seen.text_at + s.seen.size ≤ length (bytes_of (k (epoch_file_of v.root s.epoch)).seen)
   pub stands : take s.seen.size (drop s.seen.text_at (bytes_of (k (epoch_file_of v.root s.epoch)).seen)) ≡ entry.text
 
-pub text_stands : (v : View) (a : Archive) (k : Content) → IsDiskOf v a k → (i : ℕ) (s : StoredEntry) → slice_get v.entries i ≡ Some s → IsTextAt v a k i s
-text_stands v a k own i s is =
+pub text_stands : (v : View) (cache : List ℕ) (a : Archive) (k : Content) → IsDiskWith v cache a k → (i : ℕ) (s : StoredEntry) → slice_get v.entries i ≡ Some s → IsTextAt v a k i s
+text_stands v cache a k own i s is =
     let r = kept_found [] a.entries i s (subst (λ (l : List StoredEntry). slice_get l i ≡ Some s) own.keeps.kept is) in
     let e = r.entry in
     let P : StoredEntry → Type 0 = IsTextAt v a k i in
     let valid : IsEntry e = one_of_all IsEntry r.front e r.rest (subst (AllByRecursion IsEntry) r.is own.keeps.valid.entries) in
     let low = valid.epoch in
-    let fronts = own.on.exact.stands.epochs_front e.epoch (omega (arith, low)) in
+    let fronts = (disk_fronts v cache a k own).epochs_front e.epoch (omega (arith, low)) in
     let xs = in_epoch r.front e.epoch in
     let ys = in_epoch r.rest e.epoch in
     let offset = 8 + length (entries_bytes None xs) + blob_front e.text in
@@ -207,10 +209,10 @@ stands_is_text v a k i s text at stands =
     (ap text_if at.here ∙ ap (λ (t : List ℕ). Some t) (sym same), ap blob_id_of same ∙ sym at.blob)
 
 -- So the text is read, and no damage is found.
-pub right_text : (v : View) (a : Archive) (k : Option Content) (i : ℕ) (s : StoredEntry) (text : List ℕ) → IsStoreOf v a k → slice_get v.entries i ≡ Some s
+pub right_text : (v : View) (cache : List ℕ) (a : Archive) (k : Option Content) (i : ℕ) (s : StoredEntry) (text : List ℕ) → IsStoreWith v cache a k → slice_get v.entries i ≡ Some s
     → WhereTold (λ (c : Content). StandsAt (bytes_of (c (epoch_file_of v.root s.epoch)).seen) s.seen.text_at s.seen.size text) k → (text_if (slice_get a.entries i) ≡ Some text) × (blob_id_of text ≡ s.seen.blob)
-right_text v a None i s text own is stands = absurd own
-right_text v a (Some k) i s text own is stands = stands_is_text v a k i s text (text_stands v a k own i s is) stands
+right_text v cache a None i s text own is stands = absurd own
+right_text v cache a (Some k) i s text own is stands = stands_is_text v a k i s text (text_stands v cache a k own i s is) stands
 
 -- A read into room of a size gives the bytes at the offset.
 stands_read : (file before after : List ℕ) (offset size n : ℕ) → length before ≡ size → n ≡ min (length before) (length file - offset) → after ≡ take n (drop offset file) ++ drop n before → StandsAt file offset size after
@@ -275,7 +277,7 @@ finds_text root s e old new text file (Some k) is file_is added stands =
     (text, subst (λ (f : StoredEntry). StandsAt (bytes_of (k (epoch_file_of root f.epoch)).seen) f.seen.text_at f.seen.size text) is there, added)
 
 -- The same for a file by its name.
-pub right_text_in : (v : View) (a : Archive) (k : Option Content) (i : ℕ) (e : StoredEntry) (text : List ℕ) (file : FileName) → IsStoreOf v a k → slice_get v.entries i ≡ Some e → file ≡ epoch_file_of v.root e.epoch
+pub right_text_in : (v : View) (cache : List ℕ) (a : Archive) (k : Option Content) (i : ℕ) (e : StoredEntry) (text : List ℕ) (file : FileName) → IsStoreWith v cache a k → slice_get v.entries i ≡ Some e → file ≡ epoch_file_of v.root e.epoch
     → WhereTold (λ (c : Content). StandsAt (bytes_of (c file).seen) e.seen.text_at e.seen.size text) k → (text_if (slice_get a.entries i) ≡ Some text) × (blob_id_of text ≡ e.seen.blob)
-right_text_in v a k i e text file own here file_is stands =
-    right_text v a k i e text own here (subst (λ (f : FileName). WhereTold (λ (c : Content). StandsAt (bytes_of (c f).seen) e.seen.text_at e.seen.size text) k) file_is stands)
+right_text_in v cache a k i e text file own here file_is stands =
+    right_text v cache a k i e text own here (subst (λ (f : FileName). WhereTold (λ (c : Content). StandsAt (bytes_of (c f).seen) e.seen.text_at e.seen.size text) k) file_is stands)

@@ -22,7 +22,7 @@ use Rattle.epoch_store.specs.Stores.{in_file}
 use Rattle.epoch_store.specs.Damage.{record_of, AreFirst, AreOpened, named_length, named_bytes, AreWhole, LacksFront, LacksNext, LacksLast}
 use Rattle.epoch_store.specs.Openings.{OpenedUndamaged}
 use Rattle.arch_model.proofs.ValidArchives.{all_weaker}
-use Rattle.epoch_store.proofs.Appends.{nat_eq_or_not}
+use Rattle.root_change.proofs.Roots.{equal_or_not}
 use Rattle.epoch_store.proofs.Ends.{none_in}
 use Rattle.epoch_store.proofs.UniqueRoots.{front_is_one}
 use Rattle.epoch_store.proofs.UniqueEntries.{filed, filed_is_one}
@@ -251,7 +251,7 @@ first_front rs xs ys first = record {
 -- If epochs never fall, the first is at most each epoch that has an entry.
 first_epoch : (number epoch d : ℕ) (cs : List Entry) (x : EpochEntry) (xs : List EpochEntry) → Rise number epoch cs → filed cs d ≡ x ∷ xs → epoch ≤ d
 first_epoch number epoch d [] x xs rise is = absurd (let wrong : [] ≡ x ∷ xs = is in cc)
-first_epoch number epoch d (c ∷ cs) x xs rise is = elim (nat_eq_or_not c.epoch d) [
+first_epoch number epoch d (c ∷ cs) x xs rise is = elim (equal_or_not c.epoch d) [
   | inl same ↦ (let low = rise.1 in omega (arith, low, same))
   | inr apart ↦
       (let low = rise.1 in
@@ -265,7 +265,7 @@ rise_back number epoch [] ys rise = (number, epoch, rise)
 rise_back number epoch (x ∷ xs) ys rise = rise_back (x.number + 1) x.epoch xs ys rise.2
 
 head_epoch : (number epoch d : ℕ) (c : Entry) (cs : List Entry) (x : EpochEntry) (xs : List EpochEntry) → Rise number epoch (c ∷ cs) → filed (c ∷ cs) d ≡ x ∷ xs → c.epoch ≤ d
-head_epoch number epoch d c cs x xs rise is = elim (nat_eq_or_not c.epoch d) [
+head_epoch number epoch d c cs x xs rise is = elim (equal_or_not c.epoch d) [
   | inl same ↦ omega (arith, same)
   | inr apart ↦
       (let test : (c.epoch == d) ≡ false = grind (arith, nat_tests) in
@@ -329,7 +329,7 @@ meets entry epochs root files rs entries epoch offset fits opened less lost =
       by : (d : ℕ) → d < 64 → (mine theirs here there more : List EpochEntry) → (d < epoch → theirs ≡ mine) → (epoch < d → mine ≡ []) → there ≡ here ++ more → (d ≡ epoch → mine ≡ here) → (d ≡ epoch → theirs ≡ there) → IsFront mine theirs
       by d few mine theirs here there more before after is same also = elim (cases_lt d epoch) [
         | inl under ↦ record { rest = []; is = before under ∙ sym (append-nil mine) }
-        | inr over ↦ elim (nat_eq_or_not d epoch) [
+        | inr over ↦ elim (equal_or_not d epoch) [
           | inl equal ↦ record { rest = more; is = also equal ∙ (is ∙ ap (λ (l : List EpochEntry). l ++ more) (sym (same equal))) }
           | inr apart ↦ record { rest = theirs; is = ap (λ (l : List EpochEntry). l ++ theirs) (sym (after (omega (arith, over, apart)))) }
         ]

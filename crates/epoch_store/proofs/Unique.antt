@@ -1,5 +1,5 @@
 -- Files stand for at most one archive, and a store's own disk stands for its archive.
-use Rattle.std.specs.Prelude.{◌≡◌, ◌^◌, ◌-◌, ◌*◌, ◌<◌, ℕ, length, Some, None, refl}
+use Rattle.std.specs.Prelude.{◌≡◌, ◌^◌, ◌-◌, ◌*◌, ◌<◌, ℕ, List, length, Some, None, refl}
 use Rattle.std.proofs.Common.{◌∙◌, sym, ap, subst, arith}
 use Rattle.disk_model.specs.Disk.{Files}
 use Rattle.arch_model.specs.Archives.{Archive}
@@ -9,9 +9,12 @@ use Rattle.root_slots.specs.declared.root.Root.{Root}
 use Rattle.root_slots.specs.Laws.{SpellingsDiffer}
 use Rattle.root_slots.specs.RootName.{root_name}
 use Rattle.root_slots.specs.Spelling.{spelling}
-use Rattle.epoch_store.specs.Files.{map_file_of, epoch_file_of}
-use Rattle.epoch_store.specs.Laws.{RecoversOne, RecoversSomeOne, ExactRecovers, StoreRecovers}
-use Rattle.epoch_store.specs.Recovery.{records_from, records_of, map_bytes, bytes_in, RecoversBy}
+use Rattle.root_change.specs.Parts.{texts_of}
+use Rattle.epoch_store.specs.Files.{map_file_of, epoch_file_of, cache_file_of}
+use Rattle.epoch_store.specs.Laws.{RecoversOne, RecoversSomeOne, CachesOne, ExactRecovers, StoreRecovers}
+use Rattle.epoch_store.specs.Recovery.{records_from, records_of, map_bytes, bytes_in, parts_of, RecoversBy}
+use Rattle.epoch_store.specs.Leaving.{disk_recovers}
+use Rattle.epoch_store.proofs.Parted.{parts_front, exact_stands}
 use Rattle.epoch_store.proofs.Mapped.{map_length, records_are_valid}
 use Rattle.epoch_store.proofs.UniqueRoots.{root_is_one, not_shut, front_is_one}
 use Rattle.epoch_store.proofs.UniqueEntries.{AreBelow, entries_are_one, records_at, filed_is_one}
@@ -21,12 +24,14 @@ archive_is : (a b : Archive) → a.config ≡ b.config → a.entries ≡ b.entri
 archive_is a b p q r = λ i. record { config = p i; entries = q i; next = r i }
 
 -- Files stand for at most one archive by one root.
-one_by_root : RecordsDiffer → EpochsDiffer → (root : Root) (image : Files) (a b : Archive) → RecoversBy root image a → RecoversBy root image b → a ≡ b
-one_by_root records epochs root image a b p q =
+one_by_root : RecordsDiffer → EpochsDiffer → (root : Root) (image : Files) (a b : Archive) (c d : List ℕ) → RecoversBy root c image a → RecoversBy root d image b → a ≡ b
+one_by_root records epochs root image a b c d p q =
+    let first = parts_front root c image a p in
+    let second = parts_front root d image b q in
     let next : a.next ≡ b.next = sym p.names.next ∙ q.names.next in
     let least = p.valid.next_least in
     let size : length (map_bytes a) ≡ length (map_bytes b) = map_length a p.valid ∙ (ap (λ (n : ℕ). 28 * (n - 1)) next ∙ sym (map_length b q.valid)) in
-    let maps : map_bytes a ≡ map_bytes b = front_is_one (image (map_file_of root)) (map_bytes a) (map_bytes b) size p.stands.map_front q.stands.map_front in
+    let maps : map_bytes a ≡ map_bytes b = front_is_one (image (map_file_of root)) (map_bytes a) (map_bytes b) size first.map_front second.map_front in
     let lines : records_of a ≡ records_of b =
     records (records_of a) (records_of b) (records_are_valid a.entries 1 (a.next - 1) p.valid.entries) (records_are_valid b.entries 1 (b.next - 1) q.valid.entries) maps in
     let same : records_from a.entries 1 (a.next - 1) ≡ records_from b.entries 1 (a.next - 1) = lines ∙ ap (λ (n : ℕ). records_from b.entries 1 (n - 1)) (sym next) in
@@ -37,29 +42,39 @@ one_by_root records epochs root image a b p q =
     let long : length (bytes_in a e) ≡ length (bytes_in b e) = sym (p.names.epochs e few) ∙ q.names.epochs e few in
     let short : length (bytes_in a e) < 2 ^ 64 = subst (λ (n : ℕ). n < 2 ^ 64) (p.names.epochs e few) (p.names.fits.epochs e few).length in
     filed_is_one epochs a.entries b.entries e p.valid.entries q.valid.entries short
-    (front_is_one (image (epoch_file_of root e)) (bytes_in a e) (bytes_in b e) long (p.stands.epochs_front e few) (q.stands.epochs_front e few))) in
+    (front_is_one (image (epoch_file_of root e)) (bytes_in a e) (bytes_in b e) long (first.epochs_front e few) (second.epochs_front e few))) in
     archive_is a b (sym p.names.config ∙ q.names.config) entries next
 
 -- Files stand for at most one archive by any root, since they have one current root.
 pub recovers_one : SpellingsDiffer → RecordsDiffer → EpochsDiffer → RecoversOne
-recovers_one spellings records epochs image a b p q =
+recovers_one spellings records epochs image a b c d p q =
     let root : p.0 ≡ q.0 =
     spellings p.0 q.0 p.1.names.fits q.1.names.fits p.1.names.is_root q.1.names.is_root
     (root_is_one (image root_name) (spelling p.0) (spelling q.0) p.1.stands.current q.1.stands.current) in
-    one_by_root records epochs q.0 image a b (subst (λ (r : Root). RecoversBy r image a) root p.1) q.1
+    one_by_root records epochs q.0 image a b c d (subst (λ (r : Root). RecoversBy r c image a) root p.1) q.1
 
 -- Files never stand both for an archive and for none.
 pub recovers_some_one : SpellingsDiffer → RecordsDiffer → EpochsDiffer → RecoversSomeOne
-recovers_some_one spellings records epochs image None None p q = refl
-recovers_some_one spellings records epochs image None (Some b) p q = absurd (not_shut (image root_name) (spelling q.0) q.1.stands.current p)
-recovers_some_one spellings records epochs image (Some a) None p q = absurd (not_shut (image root_name) (spelling p.0) p.1.stands.current q)
-recovers_some_one spellings records epochs image (Some a) (Some b) p q = ap (λ (c : Archive). Some c) (recovers_one spellings records epochs image a b p q)
+recovers_some_one spellings records epochs image None None c d p q = refl
+recovers_some_one spellings records epochs image None (Some b) c d p q = absurd (not_shut (image root_name) (spelling q.0) q.1.stands.current p)
+recovers_some_one spellings records epochs image (Some a) None c d p q = absurd (not_shut (image root_name) (spelling p.0) p.1.stands.current q)
+recovers_some_one spellings records epochs image (Some a) (Some b) c d p q = ap (λ (e : Archive). Some e) (recovers_one spellings records epochs image a b c d p q)
+
+-- They have one cache, since they have one current root, which names it.
+pub caches_one : SpellingsDiffer → CachesOne
+caches_one spellings image a None c d p q = absurd (not_shut (image root_name) (spelling p.0) p.1.stands.current q)
+caches_one spellings image a (Some b) c d p q =
+    let root : p.0 ≡ q.0 =
+    spellings p.0 q.0 p.1.names.fits q.1.names.fits p.1.names.is_root q.1.names.is_root
+    (root_is_one (image root_name) (spelling p.0) (spelling q.0) p.1.stands.current q.1.stands.current) in
+    let first : RecoversBy q.0 c image a = subst (λ (r : Root). RecoversBy r c image a) root p.1 in
+    front_is_one (image (cache_file_of q.0)) c d (sym first.cache_long ∙ q.1.cache_long) (parts_front q.0 c image a first).cache_front (parts_front q.0 d image b q.1).cache_front
 
 -- Files that are exactly those of an archive stand for it.
 pub exact_recovers : ExactRecovers
-exact_recovers files a p = (p.0, record { valid = p.1.valid; names = p.1.names; stands = p.1.exact.stands })
+exact_recovers cache files a p = (p.0, record { valid = p.1.valid; names = p.1.names; cache_long = p.1.cache_long; stands = exact_stands p.0 (texts_of p.0 (parts_of a cache)) files p.1.exact })
 
 -- A store's own disk stands for its archive.
 pub store_recovers : StoreRecovers
-store_recovers v a k own =
-    (λ image left. (v.root, record { valid = own.keeps.valid; names = own.keeps.names; stands = own.on.images image left }), (v.root, record { valid = own.keeps.valid; names = own.keeps.names; exact = own.on.exact }))
+store_recovers v cache a k own =
+    (λ image left. disk_recovers v cache a k image own left, (v.root, record { valid = own.keeps.valid; names = own.keeps.names; cache_long = own.cache_long; exact = own.on.exact }))

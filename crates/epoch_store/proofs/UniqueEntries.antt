@@ -13,7 +13,7 @@ use Rattle.epoch_file.specs.Entries.{EpochEntry, AreEpochEntries, bytes_after, c
 use Rattle.arch_model.specs.Validity.{IsEntry, Rise}
 use Rattle.epoch_store.specs.Recovery.{entry_of, record_for, records_from}
 use Rattle.epoch_store.specs.Stores.{in_file}
-use Rattle.epoch_store.proofs.Appends.{nat_eq_or_not}
+use Rattle.root_change.proofs.Roots.{equal_or_not}
 
 -- A test on numbers that are equal, and on those that aren't.
 same_test : (m n : ℕ) → m ≡ n → (m == n) ≡ true
@@ -78,7 +78,7 @@ same_first e f es fs epoch is =
     ap (first_of_list (in_file e)) (sym (ap (map in_file) (in_here e es e.epoch refl)) ∙ (is ∙ ap (map in_file) (in_here f fs e.epoch (sym epoch))))
 
 same_others : (e f : Entry) (es fs : List Entry) (n : ℕ) → e.epoch ≡ f.epoch → filed (e ∷ es) n ≡ filed (f ∷ fs) n → filed es n ≡ filed fs n
-same_others e f es fs n epoch is = elim (nat_eq_or_not e.epoch n) [
+same_others e f es fs n epoch is = elim (equal_or_not e.epoch n) [
   | inl here ↦ ap others (sym (ap (map in_file) (in_here e es n here)) ∙ (is ∙ ap (map in_file) (in_here f fs n (sym epoch ∙ here))))
   | inr apart ↦ sym (ap (map in_file) (in_there e es n apart)) ∙ (is ∙ ap (map in_file) (in_there f fs n (λ there. apart (epoch ∙ there))))
 ]
@@ -122,7 +122,7 @@ entries_are_one (e ∷ es) (f ∷ fs) low high older newer valid also below unde
 -- Equal records of the same numbers are equal one by one.
 pub records_at : (es fs : List Entry) (n count : ℕ) → records_from es n count ≡ records_from fs n count → (m : ℕ) → n ≤ m → m < n + count → SameRecord es fs m
 records_at es fs n zero is m low high = absurd (omega (arith, low, high))
-records_at es fs n (suc count) is m low high = elim (nat_eq_or_not n m) [
+records_at es fs n (suc count) is m low high = elim (equal_or_not n m) [
   | inl here ↦ subst (SameRecord es fs) here (ap (front (record_for n None)) is)
   | inr apart ↦ records_at es fs (n + 1) count (ap after is) m (omega (arith, low, apart)) (omega (arith, high))
 ] where
@@ -147,7 +147,7 @@ are_entries (e ∷ es) all = (record { text = all.0.text; moment = all.0.moment 
 -- So may those of an epoch.
 valid_in : (es : List Entry) (epoch : ℕ) → AllByRecursion IsEntry es → AllByRecursion IsEntry (in_epoch es epoch)
 valid_in [] epoch all = tt
-valid_in (e ∷ es) epoch all = elim (nat_eq_or_not e.epoch epoch) [
+valid_in (e ∷ es) epoch all = elim (equal_or_not e.epoch epoch) [
   | inl here ↦ subst (AllByRecursion IsEntry) (sym (in_here e es epoch here)) (all.0, valid_in es epoch all.1)
   | inr apart ↦ subst (AllByRecursion IsEntry) (sym (in_there e es epoch apart)) (valid_in es epoch all.1)
 ]

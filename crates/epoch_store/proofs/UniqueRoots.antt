@@ -4,8 +4,8 @@ use Rattle.std.proofs.Common.{◌∙◌, sym, ap, subst, inl, inr, arith}
 use Rattle.disk_model.specs.Disk.{File, bytes_of}
 use Rattle.root_slots.specs.Each.{IfThere}
 use Rattle.root_slots.specs.Slots.{gate, body_at, Precedes, Current, HasRoot, IsShut, IsShutFile}
-use Rattle.epoch_store.specs.Files.{Fronts}
-use Rattle.epoch_store.proofs.Appends.{nat_eq_or_not}
+use Rattle.root_change.specs.Texts.{Fronts}
+use Rattle.root_change.proofs.Roots.{equal_or_not}
 
 -- Of two open slots one is older.
 one_is_older : (s t : ℕ) (x y : List ℕ) → s ≢ t → Precedes y x s → Precedes x y t → ⊥
@@ -16,7 +16,7 @@ one_is_older s t x y apart (inr same) (inr also) = apart (same.1 ∙ sym also.1)
 
 -- A file has one current root.
 current_is_one : (file : List ℕ) (s t : ℕ) (x y : List ℕ) → Current s x file → Current t y file → x ≡ y
-current_is_one file s t x y p q = elim (nat_eq_or_not s t) [
+current_is_one file s t x y p q = elim (equal_or_not s t) [
   | inl same ↦ sym p.holds ∙ (ap (body_at file) same ∙ q.holds)
   | inr apart ↦ absurd (both apart)
 ] where
@@ -42,7 +42,7 @@ open_slot : (file : List ℕ) (slot : ℕ) (x : List ℕ) → Current slot x fil
 open_slot file slot x p (inl size) = size p.size
 open_slot file slot x p (inr shut) =
     let below = p.in_range in
-    elim (nat_eq_or_not slot 0) [
+    elim (equal_or_not slot 0) [
       | inl is ↦ shut.0 (sym (ap (gate file) is) ∙ p.opened)
       | inr apart ↦ (let one : slot ≡ 1 = omega (arith, below, apart) in shut.1 (sym (ap (gate file) one) ∙ p.opened))
     ]

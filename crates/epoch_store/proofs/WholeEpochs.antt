@@ -1,29 +1,19 @@
 -- The bytes of a whole epoch on the disk of an archive, and an epoch without bytes.
-use Rattle.std.specs.Prelude.{◌≡◌, ◌⊎◌, ◌-◌, ◌<◌, ◌≤◌, ◌==◌, ℕ, zero, suc, true, false, List, [], ◌∷◌, ◌++◌, length, take, get_or, Option, Some, None, Ok, refl}
-use Rattle.std.specs.List.{AllByRecursion}
+use Rattle.std.specs.Prelude.{◌≡◌, ◌⊎◌, ◌-◌, ◌<◌, ◌≤◌, ℕ, zero, suc, true, false, List, [], ◌∷◌, ◌++◌, length, take, get_or, Option, Some, None, Ok, refl}
 use Rattle.std.proofs.Common.{◌∙◌, sym, ap, subst, inl, inr, arith, length-append}
 use Rattle.std.proofs.lemmas.List.{append-nil}
-use Rattle.std.proofs.lemmas.Bool.Decides.{nat_tests}
 use Rattle.disk_model.specs.declared.name.FileName.{FileName}
 use Rattle.disk_model.specs.Disk.{Content, WhereTold, bytes_of}
 use Rattle.arch_model.specs.Archives.{Entry, Archive, in_epoch, has_entry}
 use Rattle.arch_model.specs.Epochs.{epoch_bytes, entries_bytes}
 use Rattle.mail_commits.specs.Entries.{magic}
 use Rattle.arch_model.specs.Standing.{GivesEpochIn}
-use Rattle.arch_model.specs.Validity.{IsEntry}
 use Rattle.root_slots.specs.Valid.{no_place}
 use Rattle.epoch_store.specs.Files.{epoch_file_of}
 use Rattle.epoch_store.specs.Recovery.{bytes_in}
 use Rattle.epoch_store.specs.Reads.{StandsAt}
-use Rattle.epoch_store.specs.Stores.{View, IsStoreOf}
-
--- No entry is in an epoch above 63.
-none_above : (es : List Entry) (n : ℕ) → AllByRecursion IsEntry es → 63 < n → in_epoch es n ≡ []
-none_above [] n all above = refl
-none_above (e ∷ es) n all above =
-    let low = all.0.epoch in
-    let other : (e.epoch == n) ≡ false = grind (arith, nat_tests) in
-    rw other (none_above es n all.1 above)
+use Rattle.epoch_store.specs.Stores.{View, IsStoreWith}
+use Rattle.epoch_store.proofs.Parted.{none_above, disk_fronts}
 
 -- An epoch without bytes has no entry.
 empty : (es : List Entry) → length (epoch_bytes es) ≡ 0 → es ≡ []
@@ -44,9 +34,9 @@ zero_or_not zero = inl refl
 zero_or_not (suc n) = inr (omega arith)
 
 -- The result for an epoch of which the root names no bytes, or that there is not.
-pub unnamed_gives : (v : View) (a : Archive) (k : Option Content) (n : ℕ) (old : List ℕ) → IsStoreOf v a k → (get_or v.root.epochs n no_place).length ≡ 0 → GivesEpochIn (in_epoch a.entries n) old old (Ok false)
-unnamed_gives v a None n old own unnamed = absurd own
-unnamed_gives v a (Some k) n old own unnamed =
+pub unnamed_gives : (v : View) (cache : List ℕ) (a : Archive) (k : Option Content) (n : ℕ) (old : List ℕ) → IsStoreWith v cache a k → (get_or v.root.epochs n no_place).length ≡ 0 → GivesEpochIn (in_epoch a.entries n) old old (Ok false)
+unnamed_gives v cache a None n old own unnamed = absurd own
+unnamed_gives v cache a (Some k) n old own unnamed =
     nothing (in_epoch a.entries n) old
     (elim (zero_or_not (n - 63)) [
       | inl low ↦ empty (in_epoch a.entries n) (sym (own.keeps.names.epochs n (omega (arith, low))) ∙ unnamed)
@@ -58,11 +48,11 @@ front_is : (bytes file text : List ℕ) (size : ℕ) → size ≡ length bytes �
 front_is bytes file text size is long front stands = stands (omega (arith, is, long)) ∙ (ap (λ (n : ℕ). take n file) is ∙ front)
 
 -- The result for an epoch of which the root names bytes.
-pub read_gives : (v : View) (a : Archive) (k : Option Content) (n : ℕ) (old new text : List ℕ) (file : FileName) → IsStoreOf v a k → n ≤ 63 → file ≡ epoch_file_of v.root n → 0 < (get_or v.root.epochs n no_place).length
+pub read_gives : (v : View) (cache : List ℕ) (a : Archive) (k : Option Content) (n : ℕ) (old new text : List ℕ) (file : FileName) → IsStoreWith v cache a k → n ≤ 63 → file ≡ epoch_file_of v.root n → 0 < (get_or v.root.epochs n no_place).length
     → WhereTold (λ (c : Content). StandsAt (bytes_of (c file).seen) 0 (get_or v.root.epochs n no_place).length text) k → new ≡ old ++ text → GivesEpochIn (in_epoch a.entries n) old new (Ok true)
-read_gives v a None n old new text file own low file_is there stands added = absurd own
-read_gives v a (Some k) n old new text file own low file_is there stands added =
-    let fronts = own.on.exact.stands.epochs_front n (omega (arith, low)) in
+read_gives v cache a None n old new text file own low file_is there stands added = absurd own
+read_gives v cache a (Some k) n old new text file own low file_is there stands added =
+    let fronts = (disk_fronts v cache a k own).epochs_front n (omega (arith, low)) in
     let named = own.keeps.names.epochs n (omega (arith, low)) in
     let here = bytes_of (k (epoch_file_of v.root n)).seen in
     let stands_here : StandsAt here 0 (get_or v.root.epochs n no_place).length text =

@@ -13,7 +13,8 @@ use Rattle.epoch_file.specs.Entries.{bytes_after}
 use Rattle.epoch_file.specs.Walking.{LacksMagic}
 use Rattle.root_slots.specs.declared.root.Root.{Root}
 use Rattle.root_slots.specs.Valid.{no_place}
-use Rattle.epoch_store.specs.Files.{Fronts, epoch_file_of}
+use Rattle.root_change.specs.Texts.{Fronts}
+use Rattle.epoch_store.specs.Files.{epoch_file_of}
 use Rattle.arch_model.specs.Validity.{IsEntry, Rise, IdsDiffer, BlobsAgree}
 use Rattle.epoch_store.specs.Stores.{in_file}
 

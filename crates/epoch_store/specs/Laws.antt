@@ -1,26 +1,34 @@
 -- Laws of files that stand for archives.
-use Rattle.std.specs.Prelude.{◌≡◌, Option, Some}
+use Rattle.std.specs.Prelude.{◌≡◌, ℕ, List, Option, Some}
 use Rattle.disk_model.specs.Disk.{Files, Content, Image}
 use Rattle.arch_model.specs.Archives.{Archive}
 use Rattle.epoch_store.specs.Files.{as_read}
-use Rattle.epoch_store.specs.Recovery.{Recovers, RecoversSome, Exact}
-use Rattle.epoch_store.specs.Stores.{View, IsDiskOf}
+use Rattle.epoch_store.specs.Recovery.{RecoversWith, RecoversSomeWith, ExactWith}
+use Rattle.epoch_store.specs.Stores.{View, IsDiskWith}
 
--- Files stand for at most one archive.
+-- Files stand for at most one archive, with whatever caches.
 abbrev pub RecoversOne : Type 0
-RecoversOne = (image : Files) (a b : Archive) → Recovers image a → Recovers image b → a ≡ b
+RecoversOne = (image : Files) (a b : Archive) (c d : List ℕ) → RecoversWith c image a
+    → RecoversWith d image b → a ≡ b
 
 -- Files never stand both for an archive and for none.
 abbrev pub RecoversSomeOne : Type 0
-RecoversSomeOne = (image : Files) (a b : Option Archive) → RecoversSome image a
-    → RecoversSome image b → a ≡ b
+RecoversSomeOne = (image : Files) (a b : Option Archive) (c d : List ℕ)
+    → RecoversSomeWith c image a → RecoversSomeWith d image b → a ≡ b
+
+-- Files that stand for an archive stand for it, and for none other, with at most one cache.
+abbrev pub CachesOne : Type 0
+CachesOne = (image : Files) (a : Archive) (b : Option Archive) (c d : List ℕ)
+    → RecoversWith c image a → RecoversSomeWith d image b → c ≡ d
 
 -- Files that are exactly those of an archive stand for it.
 abbrev pub ExactRecovers : Type 0
-ExactRecovers = (files : Files) (a : Archive) → Exact files a → Recovers files a
+ExactRecovers = (cache : List ℕ) (files : Files) (a : Archive) → ExactWith cache files a
+    → RecoversWith cache files a
 
 -- Each crash of a store's own disk leaves files that stand for its archive, and its files as they
 -- read are exactly the archive's.
 abbrev pub StoreRecovers : Type 0
-StoreRecovers = (v : View) (a : Archive) (k : Content) → IsDiskOf v a k
-    → ((image : Files) → Image (Some k) image → Recovers image a) × Exact (as_read k) a
+StoreRecovers = (v : View) (cache : List ℕ) (a : Archive) (k : Content) → IsDiskWith v cache a k
+    → ((image : Files) → Image (Some k) image → RecoversWith cache image a)
+    × ExactWith cache (as_read k) a

@@ -1,7 +1,7 @@
 pub mod Files
-pub mod TwoFiles
 pub mod Recovery
 pub mod Stores
+pub mod Leaving
 pub mod Damage
 pub mod Joined
 pub mod Laws
@@ -11,3 +11,4 @@ pub mod Openings
 pub mod Finding
 pub mod Reads
 pub mod Opens
+pub mod Promises

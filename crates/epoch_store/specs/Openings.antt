@@ -10,7 +10,8 @@ use Rattle.root_slots.specs.Slots.{HasRoot}
 use Rattle.root_slots.specs.Each.{IfThere}
 use Rattle.root_slots.specs.Spelling.{spelling}
 use Rattle.root_slots.specs.Valid.{IsRoot, RootFits}
-use Rattle.epoch_store.specs.Files.{map_file_of}
+use Rattle.root_change.specs.Texts.{Fronts}
+use Rattle.epoch_store.specs.Files.{map_file_of, cache_file_of}
 use Rattle.epoch_store.specs.Recovery.{records_of, RecoversBy}
 use Rattle.epoch_store.specs.declared.entries.StoredEntry.{StoredEntry}
 use Rattle.epoch_store.specs.Stores.{stored_after}
@@ -21,11 +22,10 @@ use Rattle.epoch_store.specs.Joined.{Joined, Holds}
 abbrev pub archive_of : Root → List Entry → Archive
 archive_of root entries = record { config = root.config; entries = entries; next = root.next }
 
--- A root is the current one of files, names no cache, and names the records of their map.
+-- A root is the current one of files, and names the records of their map.
 pub record HasMap (root : Root) (files : Files) (rs : List Record) : Type 0 where
   pub is_root : IsRoot root
   pub fits : RootFits root
-  pub cache : root.cache.length ≡ 0
   pub current : IfThere (HasRoot (spelling root)) (files root_name)
   pub count : length rs ≡ root.next - 1
   pub begins : BeginsWith rs (bytes_of (files (map_file_of root)))
@@ -46,16 +46,21 @@ pub record AreRead (root : Root) (files : Files) (rs : List Record) (kept : List
   pub opened : AreOpened root files rs entries
   pub kept_are : kept ≡ stored_after [] entries
 
+-- The cache that a root names starts with these bytes.
+pub record HasCache (root : Root) (files : Files) (cache : List ℕ) : Type 0 where
+  pub long : root.cache.length ≡ length cache
+  pub front : Fronts cache (files (cache_file_of root))
+
 -- Files that are opened stand for the archive of what was found.
 abbrev pub OpenedRecovers : Type 0
 OpenedRecovers = (root : Root) (files : Files) (rs : List Record) (entries : List Entry)
-    → HasMap root files rs → AreOpened root files rs entries
-    → RecoversBy root files (archive_of root entries)
+    (cache : List ℕ) → HasMap root files rs → HasCache root files cache
+    → AreOpened root files rs entries → RecoversBy root cache files (archive_of root entries)
 
 -- Files that stand for an archive are opened with its entries.
 abbrev pub RecoversOpened : Type 0
-RecoversOpened = (root : Root) (files : Files) (rs : List Record) (a : Archive)
-    → HasMap root files rs → RecoversBy root files a → AreOpened root files rs a.entries
+RecoversOpened = (root : Root) (files : Files) (rs : List Record) (a : Archive) (cache : List ℕ)
+    → HasMap root files rs → RecoversBy root cache files a → AreOpened root files rs a.entries
 
 -- Files that are opened have no damage.
 abbrev pub OpenedUndamaged : Type 0
@@ -65,13 +70,13 @@ OpenedUndamaged = (root : Root) (files : Files) (rs : List Record) (entries : Li
 
 -- Files that stand for an archive have its map.
 abbrev pub RecoversMap : Type 0
-RecoversMap = (root : Root) (files : Files) (a : Archive) → RecoversBy root files a
-    → HasMap root files (records_of a)
+RecoversMap = (root : Root) (files : Files) (a : Archive) (cache : List ℕ)
+    → RecoversBy root cache files a → HasMap root files (records_of a)
 
 -- Files that stand for an archive have no damage, neither in their map nor in an epoch.
 abbrev pub RecoversUndamaged : Type 0
 RecoversUndamaged =
-    (root : Root) (files : Files) (a : Archive) → RecoversBy root files a
+    (root : Root) (files : Files) (a : Archive) (cache : List ℕ) → RecoversBy root cache files a
     → ((offset : ℕ) → IsDamaged (root.next - 1) offset (bytes_of (files (map_file_of root))) → ⊥)
     × ((rs : List Record) (epoch offset : ℕ) → HasMap root files rs
     → IsFirstDamage root files rs epoch offset → ⊥)

@@ -1,5 +1,5 @@
 -- The results of opening an archive, and what they leave.
-use Rattle.std.specs.Prelude.{◌≡◌, ℕ, List, Option, Some, None, Result, Ok, Err}
+use Rattle.std.specs.Prelude.{◌≡◌, ℕ, List, [], Option, Some, None, Result, Ok, Err}
 use Rattle.std.specs.List.{Contains}
 use Rattle.disk_model.specs.declared.name.FileName.{FileName}
 use Rattle.disk_model.specs.Disk.{Files, Content, Image, Told, LeavesOnly}
@@ -13,22 +13,36 @@ use Rattle.root_slots.specs.Slots.{IsShutFile}
 use Rattle.epoch_store.specs.Files.{as_read}
 use Rattle.epoch_store.specs.Openings.{AreRead}
 use Rattle.epoch_store.specs.Finding.{IsCurrentRoot, HasRecords, IsDamagedFile}
-use Rattle.epoch_store.specs.Recovery.{Recovers, RecoversSome}
+use Rattle.epoch_store.specs.Recovery.{RecoversWith, RecoversSomeWith}
 use Rattle.epoch_store.specs.Stores.{View}
 
--- Files stand for one of these archives, or for none if that is one of these.
-abbrev pub RecoversOf : List (Option Archive) → Files → Type 0
-RecoversOf may image = (a : Option Archive) × Contains may a × RecoversSome image a
+-- Files stand for one of these archives with a cache of these bytes, or for none if that is one of
+-- these.
+abbrev pub RecoversOfWith : List ℕ → List (Option Archive) → Files → Type 0
+RecoversOfWith cache may image =
+    (a : Option Archive) × Contains may a × RecoversSomeWith cache image a
 
 -- Each crash of a disk that tells its content leaves such files.
-abbrev pub AllRecoverOf : List (Option Archive) → Option Content → Type 0
-AllRecoverOf may None = ⊥
-AllRecoverOf may (Some k) = (image : Files) → Image (Some k) image → RecoversOf may image
+abbrev pub AllRecoverWith : List ℕ → List (Option Archive) → Option Content → Type 0
+AllRecoverWith cache may None = ⊥
+AllRecoverWith cache may (Some k) = (image : Files) → Image (Some k) image
+    → RecoversOfWith cache may image
 
--- A disk that tells its content reads as files that stand for an archive.
+-- A disk that tells its content reads as files that stand for an archive with a cache of these
+-- bytes.
+abbrev pub ReadsWith : List ℕ → Archive → Option Content → Type 0
+ReadsWith cache a None = ⊥
+ReadsWith cache a (Some k) = RecoversWith cache (as_read k) a
+
+-- The same without a cache.
+abbrev pub RecoversOf : List (Option Archive) → Files → Type 0
+RecoversOf may image = RecoversOfWith [] may image
+
+abbrev pub AllRecoverOf : List (Option Archive) → Option Content → Type 0
+AllRecoverOf may content = AllRecoverWith [] may content
+
 abbrev pub ReadsAs : Archive → Option Content → Type 0
-ReadsAs a None = ⊥
-ReadsAs a (Some k) = Recovers (as_read k) a
+ReadsAs a content = ReadsWith [] a content
 
 -- A store keeps what the files stand for: their current root and its slot, and the entries of all
 -- epochs.
@@ -88,8 +102,8 @@ pub record SyncsFirst {D : Type 0} (content : D → Option Content) (moment : D 
   pub synced : D
   pub only : Told IsOnlySynced (content old) (content synced)
   pub before : LeavesOnly moment left_since old synced (Image (content old))
-  pub after : (a : Archive) → ReadsAs a (content old)
-      → LeavesOnly moment left_since synced new (λ (image : Files). Recovers image a)
+  pub after : (a : Archive) (cache : List ℕ) → ReadsWith cache a (content old)
+      → LeavesOnly moment left_since synced new (λ (image : Files). RecoversWith cache image a)
 
 -- What holds after any result but a fault of the disk, which may come before the sync.
 abbrev pub OnSynced : {T : Type 0} → Result T OpenRefusal → Type 0 → Type 0

@@ -1,6 +1,7 @@
 -- Which files stand for an archive.
 use Rattle.std.specs.Prelude.{◌≡◌, ◌+◌, ◌-◌, ◌<◌, ◌==◌, ℕ, zero, suc, List, [], ◌∷◌, length, get_or, replicate, Option, Some, None, if◌then◌else◌}
 use Rattle.std.specs.List.{flat_map}
+use Rattle.disk_model.specs.declared.name.FileKind.TheVariants as kind
 use Rattle.disk_model.specs.Disk.{Files}
 use Rattle.disk_model.specs.Sizes.{epoch_count}
 use Rattle.git_objects.specs.Objects.{blob_id_of}
@@ -12,7 +13,8 @@ use Rattle.root_slots.specs.declared.root.Root.{Root}
 use Rattle.root_slots.specs.RootName.{root_name}
 use Rattle.root_slots.specs.Slots.{IsShutFile}
 use Rattle.root_slots.specs.Valid.{IsRoot, RootFits, no_place}
-use Rattle.epoch_store.specs.Files.{StandsFor, IsExact}
+use Rattle.root_change.specs.Texts.{StandsFor, IsExact}
+use Rattle.root_change.specs.Parts.{Parts, texts_of}
 use Rattle.arch_model.specs.Validity.{IsArchive}
 
 -- The entry of a number, if it has one.
@@ -43,8 +45,15 @@ map_bytes a = flat_map record_bytes (records_of a)
 abbrev pub bytes_in : Archive → ℕ → List ℕ
 bytes_in a e = epoch_bytes (in_epoch a.entries e)
 
+-- The parts of an archive, with these bytes of a cache.
+abbrev pub parts_of : Archive → List ℕ → Parts
+parts_of a cache kind.Root n = []
+parts_of a cache kind.Map n = if n == 0 then map_bytes a else []
+parts_of a cache kind.Epoch n = bytes_in a n
+parts_of a cache kind.Cache n = if n == 0 then cache else []
+
 -- A root names an archive: it has its settings and next number, and the lengths of its epochs; the
--- length of its map follows from the next number. It names no cache.
+-- length of its map follows from the next number.
 pub record Names (root : Root) (a : Archive) : Type 0 where
   pub is_root : IsRoot root
   pub fits : RootFits root
@@ -52,29 +61,42 @@ pub record Names (root : Root) (a : Archive) : Type 0 where
   pub next : root.next ≡ a.next
   pub epochs : (e : ℕ) → e < epoch_count
       → (get_or root.epochs e no_place).length ≡ length (bytes_in a e)
-  pub cache : root.cache.length ≡ 0
 
--- Files stand for an archive by a root that names it.
-pub record RecoversBy (root : Root) (image : Files) (a : Archive) : Type 0 where
+-- Files stand for an archive, with a cache of these bytes, by a root that names them.
+pub record RecoversBy (root : Root) (cache : List ℕ) (image : Files) (a : Archive) : Type 0 where
   pub valid : IsArchive a
   pub names : Names root a
-  pub stands : StandsFor root (map_bytes a) (bytes_in a) image
+  pub cache_long : root.cache.length ≡ length cache
+  pub stands : StandsFor root (texts_of root (parts_of a cache)) image
 
--- Files stand for an archive.
+-- Files stand for an archive, with a cache of these bytes.
+abbrev pub RecoversWith : List ℕ → Files → Archive → Type 0
+RecoversWith cache image a = (root : Root) × RecoversBy root cache image a
+
+-- Files stand for an archive, without a cache.
 abbrev pub Recovers : Files → Archive → Type 0
-Recovers image a = (root : Root) × RecoversBy root image a
+Recovers image a = RecoversWith [] image a
 
--- Files stand for an archive, or for none: no slot is open.
+-- Files stand for an archive, with a cache of these bytes, or for none: no slot is open.
+abbrev pub RecoversSomeWith : List ℕ → Files → Option Archive → Type 0
+RecoversSomeWith cache image None = IsShutFile (image root_name)
+RecoversSomeWith cache image (Some a) = RecoversWith cache image a
+
+-- The same without a cache.
 abbrev pub RecoversSome : Files → Option Archive → Type 0
-RecoversSome image None = IsShutFile (image root_name)
-RecoversSome image (Some a) = Recovers image a
+RecoversSome image a = RecoversSomeWith [] image a
 
--- Files are exactly those of an archive by a root that names it.
-pub record ExactBy (root : Root) (files : Files) (a : Archive) : Type 0 where
+-- Files are exactly those of an archive, with a cache of these bytes, by a root that names them.
+pub record ExactBy (root : Root) (cache : List ℕ) (files : Files) (a : Archive) : Type 0 where
   pub valid : IsArchive a
   pub names : Names root a
-  pub exact : IsExact root (map_bytes a) (bytes_in a) files
+  pub cache_long : root.cache.length ≡ length cache
+  pub exact : IsExact root (texts_of root (parts_of a cache)) files
 
--- Files are exactly those of an archive.
+-- Files are exactly those of an archive, with a cache of these bytes.
+abbrev pub ExactWith : List ℕ → Files → Archive → Type 0
+ExactWith cache files a = (root : Root) × ExactBy root cache files a
+
+-- Files are exactly those of an archive, without a cache.
 abbrev pub Exact : Files → Archive → Type 0
-Exact files a = (root : Root) × ExactBy root files a
+Exact files a = ExactWith [] files a

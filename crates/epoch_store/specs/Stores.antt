@@ -23,9 +23,11 @@ use Rattle.root_slots.specs.Valid.{no_place}
 use Rattle.epoch_store.specs.declared.entries.StoredEntry.{StoredEntry}
 use Rattle.epoch_store.specs.declared.next.End.{End}
 use Rattle.epoch_store.specs.declared.next.NextPlace.{NextPlace}
-use Rattle.epoch_store.specs.Files.{map_file_of, epoch_file_of, IsOn}
+use Rattle.root_change.specs.Texts.{IsOn}
+use Rattle.root_change.specs.Parts.{texts_of}
+use Rattle.epoch_store.specs.Files.{map_file_of, epoch_file_of}
 use Rattle.arch_model.specs.Validity.{IsArchive}
-use Rattle.epoch_store.specs.Recovery.{Names, map_bytes, bytes_in, Recovers}
+use Rattle.epoch_store.specs.Recovery.{Names, bytes_in, parts_of, RecoversWith}
 
 -- What is kept in memory: the current root and its slot, and each entry without its text.
 pub record View : Type 0 where
@@ -58,20 +60,32 @@ pub record Keeps (v : View) (a : Archive) : Type 0 where
   pub names : Names v.root a
   pub kept : v.entries ≡ stored_after [] a.entries
 
--- A disk is a store's own, and holds this archive: the store keeps it, and the disk is exactly the
--- archive's by the store's root.
-pub record IsDiskOf (v : View) (a : Archive) (k : Content) : Type 0 where
+-- A disk is a store's own, and holds this archive with a cache of these bytes: the store keeps it,
+-- and the disk is exactly the archive's by the store's root.
+pub record IsDiskWith (v : View) (cache : List ℕ) (a : Archive) (k : Content) : Type 0 where
   pub keeps : Keeps v a
-  pub on : IsOn v.root v.slot (map_bytes a) (bytes_in a) k
+  pub cache_long : v.root.cache.length ≡ length cache
+  pub on : IsOn v.root (1 - v.slot) (texts_of v.root (parts_of a cache)) k
 
 -- The same for a disk that tells its content.
-abbrev pub IsStoreOf : View → Archive → Option Content → Type 0
-IsStoreOf v a None = ⊥
-IsStoreOf v a (Some k) = IsDiskOf v a k
+abbrev pub IsStoreWith : View → List ℕ → Archive → Option Content → Type 0
+IsStoreWith v cache a None = ⊥
+IsStoreWith v cache a (Some k) = IsDiskWith v cache a k
 
--- Files stand for one archive or the other.
+-- The same without a cache.
+abbrev pub IsDiskOf : View → Archive → Content → Type 0
+IsDiskOf v a k = IsDiskWith v [] a k
+
+abbrev pub IsStoreOf : View → Archive → Option Content → Type 0
+IsStoreOf v a content = IsStoreWith v [] a content
+
+-- Files stand for one archive or the other, with a cache of these bytes.
+abbrev pub RecoversEitherWith : List ℕ → Archive → Archive → Files → Type 0
+RecoversEitherWith cache a b image = RecoversWith cache image a ⊎ RecoversWith cache image b
+
+-- The same without a cache.
 abbrev pub RecoversEither : Archive → Archive → Files → Type 0
-RecoversEither a b image = Recovers image a ⊎ Recovers image b
+RecoversEither a b image = RecoversEitherWith [] a b image
 
 -- The files that a store names have at least their sizes: the root file its own, and map and epochs
 -- those that the root names.
@@ -181,3 +195,17 @@ SeesNoDamage (Ok given) = Unit {0}
 SeesNoDamage (Err DiskFault) = Unit {0}
 SeesNoDamage (Err NoMemory) = Unit {0}
 SeesNoDamage (Err (Damaged file offset)) = ⊥
+
+-- A root goes on from another one. Its sequence is one more. The map and the cache stay in their
+-- files. Each epoch stays in its file, or has its first bytes in a file whose generation is the new
+-- sequence.
+pub record GoesOn (old new : Root) : Type 0 where
+  pub sequence : new.sequence ≡ next_sequence old.sequence
+  pub map : new.map.gen_ ≡ old.map.gen_
+  pub cache : new.cache ≡ old.cache
+  pub epochs : (e : ℕ) → e < epoch_count
+      → (get_or new.epochs e no_place ≡ get_or old.epochs e no_place)
+      ⊎ (((0 < (get_or old.epochs e no_place).length)
+      × ((get_or new.epochs e no_place).gen_ ≡ (get_or old.epochs e no_place).gen_))
+      ⊎ (((get_or old.epochs e no_place).length ≡ 0)
+      × ((get_or new.epochs e no_place).gen_ ≡ new.sequence)))

@@ -1,5 +1,5 @@
 //! Reads the epochs of an archive on a disk.
-ghost use Rattle.std.specs.Prelude.{◌≡◌, ◌<◌, ◌≤◌, ◌+◌, get_or, Err};
+ghost use Rattle.std.specs.Prelude.{◌≡◌, ◌<◌, ◌≤◌, ◌+◌, ℕ, List, get_or, Err};
 ghost use Rattle.arch_base.specs.Counts.{RoseIf};
 ghost use Rattle.arch_model.specs.Archives.{Archive, in_epoch};
 ghost use Rattle.arch_model.specs.Standing.{GivesEpochIn, KeepsUnlessFound};
@@ -7,7 +7,7 @@ ghost use Rattle.disk_model.specs.Disk.{Image, Told, WhereTold, Unchanged, Leave
 ghost use Rattle.disk_model.specs.Sizes.{greatest_epoch};
 ghost use Rattle.arch_model.specs.declared.text_refusal.TextRefusal.{TextRefusal};
 ghost use Rattle.root_slots.specs.Valid.{no_place};
-ghost use Rattle.epoch_store.specs.Stores.{IsStoreOf};
+ghost use Rattle.epoch_store.specs.Stores.{IsStoreWith};
 ghost use Rattle.epoch_store.specs.Reads.{AnswersQuietly, IsEpochFound, FindsEpoch};
 
 use crate::reads::read_text;
@@ -48,7 +48,8 @@ impl Store {
         epoch: u32,
         into: &mut Bytes,
     ) -> Result<bool, TextRefusal>
-        ensures bytes { (a : Archive) → IsStoreOf self.now a (D.content disk.old)
+        ensures bytes { (a : Archive) (cache : List ℕ)
+            → IsStoreWith self.now cache a (D.content disk.old)
             → GivesEpochIn (in_epoch a.entries epoch) into.old into.new result }
         ensures named { IsEpochFound self.now.root epoch into.old into.new result }
         ensures found { WhereTold (FindsEpoch self.now.root epoch into.old into.new result)

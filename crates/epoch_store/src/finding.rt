@@ -14,11 +14,11 @@ ghost use Rattle.epoch_store.specs.Finding.{Finds, FindsRoot, FindsRecords, Find
 use crate::entries::StoredEntry;
 use crate::joining::Joining;
 use crate::known::JoinRefusal;
-use crate::putting::{epoch_file, map_file};
 use arch_model::OpenRefusal;
 use disk_model::{Disk, EPOCHS, FileKind, FileName, WalkRefusal};
 use epoch_file::{SeenList, law_of_entries, law_of_epochs};
 use number_map::Records;
+use root_change::{epoch_file, map_file};
 use root_slots::{Place, Root, RootRefusal, Slot, root_fits};
 use std::alloc::Global;
 

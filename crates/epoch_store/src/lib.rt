@@ -12,7 +12,6 @@ mod known;
 mod laws;
 mod next;
 mod opening_laws;
-mod putting;
 mod reads;
 mod refusal;
 mod settling;

@@ -1,5 +1,5 @@
 //! Reads the entries of an archive on a disk.
-ghost use Rattle.std.specs.Prelude.{◌≡◌, ◌≤◌, ◌<◌, ◌+◌, Err, Some, IfOk, length, slice_get};
+ghost use Rattle.std.specs.Prelude.{◌≡◌, ◌≤◌, ◌<◌, ◌+◌, ℕ, List, Err, Some, IfOk, length, slice_get};
 ghost use Rattle.arch_base.specs.Counts.{RoseIf};
 ghost use Rattle.arch_model.specs.Archives.{Archive};
 ghost use Rattle.disk_model.specs.Disk.{Image, Told, WhereTold, Unchanged, LeavesOnly, bytes_of};
@@ -7,16 +7,16 @@ ghost use Rattle.arch_model.specs.declared.text_refusal.TextRefusal.{TextRefusal
 ghost use Rattle.disk_model.specs.Sizes.{greatest_epoch};
 ghost use Rattle.epoch_store.specs.declared.entries.StoredEntry.{StoredEntry};
 ghost use Rattle.epoch_store.specs.Files.{epoch_file_of};
-ghost use Rattle.epoch_store.specs.Stores.{IsStoreOf};
+ghost use Rattle.epoch_store.specs.Stores.{IsStoreWith};
 ghost use Rattle.epoch_store.specs.Reads.{line_of, line_if, place_if, GivesText, FindsText, GivesTextOf, StandsAt, AnswersQuietly};
 
 use crate::entries::StoredEntry;
-use crate::putting::epoch_file;
 use crate::store::Store;
 use arch_base::{Bytes, Config, NoMemory};
 use arch_model::{EntryLine, TextRefusal};
 use disk_model::{Disk, FileName};
 use git_objects::blob_id;
+use root_change::epoch_file;
 use std::alloc::Global;
 
 impl Store {
@@ -91,7 +91,8 @@ impl Store {
             → GivesText s into.old into.new result }
         ensures found { (s : StoredEntry) → slice_get self.now.entries index ≡ Some s
             → WhereTold (FindsText self.now.root s into.old into.new result) (D.content disk.old) }
-        ensures archive { (a : Archive) → IsStoreOf self.now a (D.content disk.old)
+        ensures archive { (a : Archive) (cache : List ℕ)
+            → IsStoreWith self.now cache a (D.content disk.old)
             → GivesTextOf a index into.old into.new result }
         ensures same { Told Unchanged (D.content disk.old) (D.content disk.new) }
         ensures any_moment { LeavesOnly D.moment D.left_since disk.old disk.new

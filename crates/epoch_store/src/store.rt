@@ -1,8 +1,9 @@
 //! The archive on a disk, as it is kept in memory.
-ghost use Rattle.std.specs.Prelude.{◌≡◌, ◌≤◌, ◌<◌, ◌+◌, ◌-◌, ◌^◌, [], Err, Some, IsSome, IfOk, OnOk, OnErr, ◌==◌, if◌then◌else◌, decimal, length};
+ghost use Rattle.std.specs.Prelude.{◌≡◌, ◌≤◌, ◌<◌, ◌+◌, ◌-◌, ◌^◌, ℕ, List, [], Err, Some, IsSome, IfOk, OnOk, OnErr, ◌==◌, if◌then◌else◌, decimal, length};
 ghost use Rattle.arch_base.specs.Counts.{RoseIf};
 ghost use Rattle.disk_model.specs.Disk.{WhereTold, LeavesOnly};
 ghost use Rattle.disk_model.specs.Sizes.{greatest_epoch, epoch_count};
+ghost use Rattle.disk_model.specs.Synced.{IsSettled};
 ghost use Rattle.mail_reader.specs.Ids.{own_id as own_id_in};
 ghost use Rattle.mail_reader.specs.Content.{content_id_of};
 ghost use Rattle.git_objects.specs.Objects.{blob_id_of};
@@ -14,21 +15,21 @@ ghost use Rattle.root_slots.specs.Valid.{IsRoot};
 ghost use Rattle.arch_base.specs.Configs.{IsConfig};
 ghost use Rattle.epoch_store.specs.First.{MakingLeaves, MakingAnswers, RefusesToMake};
 ghost use Rattle.epoch_store.specs.declared.refusal.InitRefusal.{InitRefusal};
-ghost use Rattle.epoch_store.specs.Stores.{IsDiskOf, IsStoreOf, Keeps, IsEnd, IsNextPlace, next_sequence, place_of, root_after, RecoversEither, HasSizes, Accepts, IsMessage, GoesNext, with_message, view_after, stored_at, AddsEntry, SeesNoDamage};
+ghost use Rattle.epoch_store.specs.Stores.{IsDiskOf, IsStoreWith, Keeps, IsEnd, IsNextPlace, next_sequence, place_of, root_after, RecoversEitherWith, HasSizes, GoesOn, Accepts, IsMessage, GoesNext, with_message, view_after, stored_at, AddsEntry, SeesNoDamage};
 
 use crate::entries::StoredEntry;
 use crate::first::{all_names, first_root, make, no_archive};
 use crate::next::{End, NextPlace};
-use crate::putting::{Part, epoch_file, map_file, put_both};
 use crate::refusal::InitRefusal;
 use arch_base::{Bytes, Config, NoMemory, ObjectId};
-use disk_model::{Disk, FileKind, FileName, LAST_EPOCH, RECORD_SIZE};
-use epoch_file::{NewEntry, Seen, StoreRefusal, Written};
+use disk_model::{Disk, LAST_EPOCH, RECORD_SIZE};
+use epoch_file::{NewEntry, Seen, StoreRefusal, Written, append_entry};
 use git_objects::EntryKind;
 use itoa::Buffer;
 use mail_reader::{content_id, own_id};
-use number_map::Record;
-use root_slots::{Place, Root, Slot, commit};
+use number_map::{Record, append};
+use root_change::{epoch_file, map_file, replace_root};
+use root_slots::{Place, Root, Slot};
 use std::alloc::Global;
 use std::marker::Model;
 
@@ -78,7 +79,9 @@ impl Store {
         ensures done { IfOk result (λ store.
             WhereTold (IsDiskOf store (empty_archive config.now)) (D.content disk.new)) }
         ensures sizes { IfOk result (λ store. WhereTold (HasSizes store) (D.content disk.new)) }
+        ensures settled { OnOk result (WhereTold IsSettled (D.content disk.new)) }
         ensures first { IfOk result (λ store. store.root.sequence ≡ 1) }
+        ensures slot { IfOk result (λ store. store.slot ≡ 0) }
         ensures none { IfOk result (λ store. store.entries ≡ []) }
         ensures cause { RoseIf (result ≡ Err InitRefusal.DiskFault) (D.faults disk.old)
             (D.faults disk.new) }
@@ -153,6 +156,7 @@ impl Store {
         requires some { 0 < end }
         ensures root { result ≡ root_after self.now.root place.now end }
         ensures valid { IsRoot result }
+        ensures goes_on { GoesOn self.now.root result }
         ensures count { length self.now.root.epochs ≡ epoch_count }
     {
         let mut root = self.root.copy();
@@ -166,7 +170,7 @@ impl Store {
         root
     }
 
-    /// Appends an entry and its record, and commits the root that names them.
+    /// Appends an entry and its record, and replaces the root by the one that names them.
     fn write_entry<D: Disk>(
         &self,
         alloc: Global,
@@ -181,14 +185,17 @@ impl Store {
         requires sizes { WhereTold (HasSizes self.now) (D.content disk.old) }
         requires entry { IsMessage place.now entry.now }
         requires moment { entry.now.moment ≤ last_moment }
-        ensures any_moment { (a : Archive) → IsStoreOf self.now a (D.content disk.old)
+        ensures any_moment { (a : Archive) (cache : List ℕ)
+            → IsStoreWith self.now cache a (D.content disk.old)
             → GoesNext self.now a place.now entry.now
             → LeavesOnly D.moment D.left_since disk.old disk.new
-            (RecoversEither a (with_message a place.now entry.now)) }
-        ensures done { (a : Archive) → IsStoreOf self.now a (D.content disk.old)
+            (RecoversEitherWith cache a (with_message a place.now entry.now)) }
+        ensures done { (a : Archive) (cache : List ℕ)
+            → IsStoreWith self.now cache a (D.content disk.old)
             → GoesNext self.now a place.now entry.now
-            → IfOk result (λ made. IsStoreOf (view_after self.now a made.0 place.now entry.now)
-            (with_message a place.now entry.now) (D.content disk.new)) }
+            → IfOk result (λ made. IsStoreWith (view_after self.now a made.0 place.now entry.now)
+            cache (with_message a place.now entry.now) (D.content disk.new)) }
+        ensures settled { OnOk result (WhereTold IsSettled (D.content disk.new)) }
         ensures sizes { IfOk result (λ made. WhereTold (HasSizes (record {
           root = made.0;
           slot = 1 - self.now.slot;
@@ -197,24 +204,25 @@ impl Store {
         ensures root { IfOk result (λ made. made.0 ≡ root_after self.now.root place.now made.1.end) }
         ensures written { IfOk result (λ made. made.1 ≡ written_of place.now.length entry.now) }
         ensures valid { IfOk result (λ made. IsRoot made.0) }
+        ensures goes_on { IfOk result (λ made. GoesOn self.now.root made.0) }
         ensures refused { result ≡ Err StoreRefusal.NoMemory → disk.new ≡ disk.old }
         ensures undamaged { SeesNoDamage result }
         ensures cause { RoseIf (result ≡ Err StoreRefusal.DiskFault) (D.faults disk.old)
             (D.faults disk.new) }
         ensures count { D.reads disk.new ≡ D.reads disk.old }
     {
-        let epoch = Part {
-            file: epoch_file(place.epoch, place.gen_),
-            offset: place.length,
+        let epoch = epoch_file(place.epoch, place.gen_);
+        let written = append_entry(alloc, disk, epoch, place.length, entry)?;
+        let line = Record {
+            number: self.root.next,
+            epoch: place.epoch,
+            blob: written.blob,
         };
-        let map = Part {
-            file: map_file(self.root.map.gen_),
-            offset: self.root.map.length,
-        };
-        let written = put_both(alloc, disk, epoch, entry, map, self.root.next)?;
+        let map = map_file(self.root.map.gen_);
+        append(disk, map, self.root.map.length, &line)?;
         let root = self.next_root(place, written.end);
         let slot = self.slot.other();
-        commit(disk, slot, &root)?;
+        replace_root(disk, slot, &self.root, &root)?;
         Ok((root, written))
     }
 
@@ -278,17 +286,23 @@ impl Store {
         requires accepts { Accepts self.old text.now }
         requires moment { moment ≤ last_moment }
         requires sizes { WhereTold (HasSizes self.old) (D.content disk.old) }
-        ensures any_moment { (a : Archive) → IsStoreOf self.old a (D.content disk.old)
+        ensures any_moment { (a : Archive) (cache : List ℕ)
+            → IsStoreWith self.old cache a (D.content disk.old)
             → self.old.root.sequence + 1 < 2 ^ 64
             → LeavesOnly D.moment D.left_since disk.old disk.new
-            (RecoversEither a (with_entry a (new_epoch a) text.now moment)) }
-        ensures done { (a : Archive) → IsStoreOf self.old a (D.content disk.old)
+            (RecoversEitherWith cache a (with_entry a (new_epoch a) text.now moment)) }
+        ensures done { (a : Archive) (cache : List ℕ)
+            → IsStoreWith self.old cache a (D.content disk.old)
             → self.old.root.sequence + 1 < 2 ^ 64
-            → OnOk result (IsStoreOf self.new (with_entry a (new_epoch a) text.now moment)
+            → OnOk result (IsStoreWith self.new cache (with_entry a (new_epoch a) text.now moment)
             (D.content disk.new)) }
+        ensures settled { OnOk result (WhereTold IsSettled (D.content disk.new)) }
         ensures sizes { OnOk result (WhereTold (HasSizes self.new) (D.content disk.new)) }
         ensures sequence { OnOk result (self.new.root.sequence
             ≡ next_sequence self.old.root.sequence) }
+        // The root is committed to the other slot, and each file is where the formats have it.
+        ensures goes_on { OnOk result (GoesOn self.old.root self.new.root) }
+        ensures slot { OnOk result (self.new.slot ≡ 1 - self.old.slot) }
         ensures added { OnOk result (AddsEntry self.old self.new text.now) }
         ensures same { OnErr result (self.new ≡ self.old) }
         ensures refused { result ≡ Err StoreRefusal.NoMemory → disk.new ≡ disk.old }

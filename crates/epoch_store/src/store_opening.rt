@@ -1,28 +1,31 @@
 //! Opens an archive: syncs, reads its files, and settles the disk.
-ghost use Rattle.std.specs.Prelude.{◌≡◌, ◌<◌, ℕ, List, Option, Err, IfOk, OnOk};
+ghost use Rattle.std.specs.Prelude.{◌≡◌, ◌-◌, ℕ, List, Option, Err, IfOk, OnOk};
 ghost use Rattle.arch_base.specs.Counts.{Rose, RoseIf};
 ghost use Rattle.disk_model.specs.Disk.{Image, Told, WhereTold, Unchanged, LeavesOnly};
 ghost use Rattle.disk_model.specs.Sizes.{epoch_count};
+ghost use Rattle.disk_model.specs.Synced.{IsSettled};
 ghost use Rattle.arch_model.specs.Archives.{Archive};
 ghost use Rattle.arch_model.specs.declared.opening.OpenRefusal.{OpenRefusal};
 ghost use Rattle.epoch_file.specs.Runs.{OnlyReads};
 ghost use Rattle.root_slots.specs.Slots.{slot_number, HasRootSize};
 ghost use Rattle.root_slots.specs.Valid.{IsRoot};
-ghost use Rattle.epoch_store.specs.Files.{as_read, StandsFor};
+ghost use Rattle.disk_files.specs.Listing.{AreAllNames};
+ghost use Rattle.root_change.specs.Texts.{Texts, StandsFor, OnDisk};
+ghost use Rattle.epoch_store.specs.Files.{as_read};
 ghost use Rattle.epoch_store.specs.Finding.{Finds};
 ghost use Rattle.epoch_store.specs.Joined.{AreBefore};
-ghost use Rattle.epoch_store.specs.Settling.{FoundOn, OnDisk, AreOthers, TellsAs};
-ghost use Rattle.epoch_store.specs.Stores.{IsStoreOf, HasSizes};
-ghost use Rattle.epoch_store.specs.Opens.{RecoversOf, AllRecoverOf, ReadsAs, Opens, OpensWell, SyncsBy, RefusesBefore, SyncsFirst, OnSynced};
+ghost use Rattle.epoch_store.specs.Settling.{FoundOn, IsSettledBy};
+ghost use Rattle.epoch_store.specs.Stores.{IsStoreWith, HasSizes};
+ghost use Rattle.epoch_store.specs.Opens.{RecoversOfWith, AllRecoverWith, ReadsWith, Opens, OpensWell, SyncsBy, RefusesBefore, SyncsFirst, OnSynced};
 
 use crate::finding::{Found, find};
 use crate::laws::law_of_recovery;
 use crate::opening_laws::{law_of_opening, law_of_undamaged_files};
-use crate::settling::{named_parts, sweep, unnamed};
+use crate::settling::sweep;
 use crate::store::Store;
 use arch_model::OpenRefusal;
-use disk_files::file_names;
-use disk_model::{Disk, FileName, WalkRefusal};
+use disk_files::{FileNames, file_names};
+use disk_model::{Disk, WalkRefusal};
 use root_slots::{Root, Slot, law_of_spellings};
 use std::alloc::Global;
 
@@ -40,24 +43,16 @@ fn find_synced<D: Disk>(alloc: Global, disk: &mut D) -> Result<Found, OpenRefusa
     find(alloc, disk)
 }
 
-/// Returns the files of a disk that a root doesn't name.
-fn other_files<D: Disk>(
-    alloc: Global,
-    disk: &mut D,
-    root: &Root,
-) -> Result<Vec<FileName>, OpenRefusal>
-    ensures others { IfOk result (λ others.
-        WhereTold (AreOthers root.now others.items) (D.content disk.old)) }
+/// Returns the names of all files, in order. Nothing changes.
+fn present_files<D: Disk>(alloc: Global, disk: &mut D) -> Result<FileNames, OpenRefusal>
+    ensures names { IfOk result (λ names. WhereTold (AreAllNames names) (D.content disk.old)) }
     ensures reads { OnlyReads D.content D.moment D.left_since D.faults disk.old disk.new }
     ensures well { OpensWell result }
     ensures fault { result ≡ Err OpenRefusal.DiskFault
         → Rose (D.faults disk.old) (D.faults disk.new) }
 {
     match file_names(alloc, disk) {
-        Ok(names) => match unnamed(alloc, names.as_slice(), root) {
-            Ok(others) => Ok(others),
-            Err(_refused) => Err(OpenRefusal::NoMemory),
-        },
+        Ok(names) => Ok(names),
         Err(WalkRefusal::DiskFault) => Err(OpenRefusal::DiskFault),
         Err(_refused) => Err(OpenRefusal::NoMemory),
     }
@@ -67,23 +62,21 @@ fn other_files<D: Disk>(
 fn settle<D: Disk>(alloc: Global, disk: &mut D, slot: Slot, root: &Root) -> Result<(), OpenRefusal>
     requires size { WhereTold HasRootSize (D.content disk.old) }
     requires root { IsRoot root.now }
-    ensures any_moment { (map : List ℕ) (epochs : ℕ → List ℕ)
-        → FoundOn root.now (slot_number slot) map epochs (D.content disk.old)
-        → LeavesOnly D.moment D.left_since disk.old disk.new (StandsFor root.now map epochs) }
-    ensures done { (map : List ℕ) (epochs : ℕ → List ℕ)
-        → FoundOn root.now (slot_number slot) map epochs (D.content disk.old)
-        → OnOk result (OnDisk root.now (slot_number slot) map epochs (D.content disk.new)) }
-    ensures told { OnOk result (TellsAs (D.content disk.old) (D.content disk.new)) }
+    ensures any_moment { (texts : Texts)
+        → FoundOn root.now (slot_number slot) texts (D.content disk.old)
+        → LeavesOnly D.moment D.left_since disk.old disk.new (StandsFor root.now texts) }
+    ensures done { (texts : Texts) → FoundOn root.now (slot_number slot) texts (D.content disk.old)
+        → OnOk result (OnDisk root.now (1 - slot_number slot) texts (D.content disk.new)) }
+    ensures settled { OnOk result (WhereTold IsSettled (D.content disk.new)) }
+    ensures kept { OnOk result (Told (IsSettledBy root.now (slot_number slot)) (D.content disk.old)
+        (D.content disk.new)) }
     ensures well { OpensWell result }
     ensures unchanged { result ≡ Err OpenRefusal.NoMemory
         → Told Unchanged (D.content disk.old) (D.content disk.new) }
     ensures cause { RoseIf (result ≡ Err OpenRefusal.DiskFault) (D.faults disk.old) (D.faults disk.new) }
 {
-    let Ok(parts) = named_parts(alloc, root) else {
-        return Err(OpenRefusal::NoMemory);
-    };
-    match other_files(alloc, disk, root) {
-        Ok(others) => match sweep(disk, slot, root, parts.as_slice(), others.as_slice()) {
+    match present_files(alloc, disk) {
+        Ok(names) => match sweep(disk, slot, root, names.as_slice()) {
             Ok(()) => Ok(()),
             Err(_fault) => Err(OpenRefusal::DiskFault),
         },
@@ -105,16 +98,23 @@ impl Store {
     /// the disk's count of faults rose, and `NoMemory` only if memory runs out. Every error but
     /// `DiskFault` leaves all files as they read.
     pub fn open<D: Disk>(alloc: Global, disk: &mut D) -> Result<Store, OpenRefusal>
-        ensures any_moment { (may : List (Option Archive)) → AllRecoverOf may (D.content disk.old)
-            → LeavesOnly D.moment D.left_since disk.old disk.new (RecoversOf may) }
+        ensures any_moment { (may : List (Option Archive)) (cache : List ℕ)
+            → AllRecoverWith cache may (D.content disk.old)
+            → LeavesOnly D.moment D.left_since disk.old disk.new (RecoversOfWith cache may) }
         ensures answer { WhereTold (λ k. Opens (as_read k) result) (D.content disk.old) }
-        ensures done { (a : Archive) → ReadsAs a (D.content disk.old)
-            → IfOk result (λ store. IsStoreOf store a (D.content disk.new)) }
-        ensures well { (a : Archive) → ReadsAs a (D.content disk.old) → OpensWell result }
+        ensures done { (a : Archive) (cache : List ℕ) → ReadsWith cache a (D.content disk.old)
+            → IfOk result (λ store. IsStoreWith store cache a (D.content disk.new)) }
+        ensures well { (a : Archive) (cache : List ℕ) → ReadsWith cache a (D.content disk.old)
+            → OpensWell result }
         ensures refused { RefusesBefore result (D.content disk.old) (D.content disk.new) }
         // Once it is synced, only the archive as which the files read is left.
         ensures first { OnSynced result
             (SyncsFirst D.content D.moment D.left_since disk.old disk.new) }
+        ensures settled { OnOk result (WhereTold IsSettled (D.content disk.new)) }
+        // Whatever the files are: all bytes that count stay, those of a cache too, no other file is
+        // left, and no root is committed.
+        ensures kept { IfOk result (λ store. Told (IsSettledBy store.root store.slot)
+            (D.content disk.old) (D.content disk.new)) }
         ensures sizes { IfOk result (λ store. WhereTold (HasSizes store) (D.content disk.new)) }
         ensures cause { RoseIf (result ≡ Err OpenRefusal.DiskFault) (D.faults disk.old)
             (D.faults disk.new) }

@@ -1,6 +1,7 @@
 //! Appends a record to a map.
 ghost use Rattle.std.specs.Prelude.{◌≡◌, ◌+◌, ◌<◌, ◌^◌, length, OnOk, OnErr};
 ghost use Rattle.arch_base.specs.Counts.{IsCaused};
+ghost use Rattle.disk_model.specs.Beside.{Bounds, Respects, RunsBeside};
 ghost use Rattle.disk_model.specs.Disk.{Told, WhereTold, OneFile, Wrote, Tore, IsAtMostLength, Elapses};
 ghost use Rattle.disk_model.specs.Sizes.{record_size};
 ghost use Rattle.number_map.specs.Records.{record_bytes};
@@ -36,6 +37,9 @@ pub fn append<D: Disk>(
     ensures torn { OnErr result
         (Told (OneFile file (Tore at record_size)) (D.content disk.old) (D.content disk.new)) }
     ensures size { length (record_bytes line.now) ≡ record_size }
+    // All that is before the offset stays at each moment.
+    ensures beside { (bounds : Bounds) → Respects (bounds file) at
+        → RunsBeside D.content D.moment D.left_since bounds disk.old disk.new }
     ensures time { Elapses (D.moment disk.old) (D.moment disk.new) (D.left_since disk.old)
         (D.left_since disk.new) (D.content disk.new) }
     ensures cause { IsCaused (D.faults disk.old) (D.faults disk.new) result }

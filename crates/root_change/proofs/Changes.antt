@@ -10,15 +10,16 @@ use Rattle.root_slots.specs.declared.root.Root.{Root}
 use Rattle.root_slots.specs.RootName.{root_name}
 use Rattle.root_slots.specs.Spelling.{spelling}
 use Rattle.root_slots.specs.Valid.{RootFits, IsRoot}
-use Rattle.root_change.specs.Tells.{told_where}
-use Rattle.root_change.specs.Beside.{StaysUpTo, Beside, WentBeside, RunsBeside}
+use Rattle.disk_model.specs.Tells.{told_where}
+use Rattle.disk_model.specs.Beside.{StaysUpTo, Beside, WentBeside, RunsBeside}
 use Rattle.root_change.specs.Names.{place_of, names_file, named_end, bounds_of, other_bound}
 use Rattle.root_change.specs.Texts.{Texts, StandsFor, IsOn, OnDisk, Measures}
+use Rattle.root_change.specs.Leaving.{ready_has}
 use Rattle.root_change.specs.Replacing.{ToReplace, IsToReplace, StandsForEither}
 use Rattle.root_change.specs.Parts.{Parts, texts_of, PartsFit, RecoversEither, IsOwn}
 use Rattle.root_change.specs.Changing.{ReadsAs, with_more, Becomes}
 use Rattle.root_change.proofs.Drops.{true_or_false}
-use Rattle.root_change.proofs.Phases.{ready_has, front_kept, stands_beside}
+use Rattle.root_change.proofs.Phases.{front_kept, stands_beside}
 
 -- The text of a file that a root names, and of one that it doesn't.
 pub text_named : (root : Root) (parts : Parts) (name : FileName) → names_file root name ≡ true → texts_of root parts name ≡ parts name.kind name.number
@@ -42,7 +43,7 @@ pub more_elsewhere : (texts : Texts) (name : FileName) (bytes : List ℕ) (other
 more_elsewhere texts name bytes other apart = ap (λ (b : Bool). cond b (texts other ++ bytes) (texts other)) (at_other name other apart)
 
 -- A write at the end of a file appends to it.
-overlay_end : (text bytes : List ℕ) → overlay (length text) bytes text ≡ text ++ bytes
+pub overlay_end : (text bytes : List ℕ) → overlay (length text) bytes text ≡ text ++ bytes
 overlay_end text bytes = grind (arith, common_steps)
 
 -- An appended text isn't empty.
@@ -93,13 +94,13 @@ replaceable_now free old texts so_far new next k m on measures went reads become
       ];
 }
 
-replaceable : (free : ℕ) (old : Root) (texts so_far : Texts) (new : Root) (next : Texts) (k m : Option Content) → OnDisk old free texts k → Measures old texts → Told (WentBeside (bounds_of old)) k m → WhereTold (ReadsAs old so_far) m → Becomes old so_far new next → ToReplace free old texts new next m
+pub replaceable : (free : ℕ) (old : Root) (texts so_far : Texts) (new : Root) (next : Texts) (k m : Option Content) → OnDisk old free texts k → Measures old texts → Told (WentBeside (bounds_of old)) k m → WhereTold (ReadsAs old so_far) m → Becomes old so_far new next → ToReplace free old texts new next m
 replaceable free old texts so_far new next None m on measures went reads becomes = absurd on
 replaceable free old texts so_far new next (Some k) None on measures went reads becomes = absurd went
 replaceable free old texts so_far new next (Some k) (Some m) on measures went reads becomes = replaceable_now free old texts so_far new next k m on measures went reads becomes
 
 -- While files are written beside the texts of a root, they stand for these.
-writing : (free : ℕ) (root : Root) (texts : Texts) (k : Option Content) (image : Files) → OnDisk root free texts k → Measures root texts → Beside (bounds_of root) k image → StandsFor root texts image
+pub writing : (free : ℕ) (root : Root) (texts : Texts) (k : Option Content) (image : Files) → OnDisk root free texts k → Measures root texts → Beside (bounds_of root) k image → StandsFor root texts image
 writing free root texts None image on measures beside = absurd on
 writing free root texts (Some k) image on measures beside = stands_beside root texts k image measures (λ file fits. ready_has free (spelling root) file (on.roots file fits)) on.fronts beside
 

@@ -11,8 +11,8 @@ use Rattle.disk_model.specs.Images.{same_or_other}
 use Rattle.root_slots.specs.declared.root.Root.{Root}
 use Rattle.root_slots.specs.RootName.{root_name}
 use Rattle.root_slots.specs.Valid.{no_place}
-use Rattle.root_change.specs.Tells.{told_weaker, told_then}
-use Rattle.root_change.specs.Beside.{Respects}
+use Rattle.disk_model.specs.Tells.{told_weaker, told_then}
+use Rattle.disk_model.specs.Beside.{Respects}
 use Rattle.root_change.specs.Names.{map_name, epoch_name, cache_name, has_place, named_by, names_file, bounds_of, other_bound, named_none}
 use Rattle.root_change.specs.Replacing.{drops, Dropped, IsOne, IsEpochBelow, IsAny}
 

@@ -1,8 +1,11 @@
-mod Drops
-mod Phases
-mod Sizes
+pub mod Drops
+pub mod Phases
+pub mod Sizes
 mod Lookups
-mod Roots
-mod Changes
-mod Grown
+pub mod Roots
+pub mod Changes
+pub mod Grown
 mod Remakes
+mod Tidies
+mod Copies
+mod Gathers

@@ -8,7 +8,7 @@ use Rattle.disk_model.specs.declared.name.FileName.{FileName}
 use Rattle.disk_model.specs.Disk.{Kept, Content, Told, WhereTold, Unchanged, IsLength, IsAtMostLength, bytes_of}
 use Rattle.root_slots.specs.declared.root.Root.{Root}
 use Rattle.root_slots.specs.RootName.{root_name}
-use Rattle.root_change.specs.Tells.{told_where}
+use Rattle.disk_model.specs.Tells.{told_where}
 use Rattle.root_change.specs.Names.{map_name, epoch_name, cache_name, place_of, named_by, names_file, named_none}
 use Rattle.root_change.specs.Texts.{EpochsAreLong, HasSizes}
 use Rattle.root_change.proofs.Drops.{true_or_false, named, named_root, named_map, named_cache, named_number, named_epoch}

@@ -12,19 +12,16 @@ use Rattle.root_slots.specs.RootName.{root_name}
 use Rattle.root_slots.specs.Each.{IfThere, EachRoot}
 use Rattle.root_slots.specs.Slots.{HasRootSize, Current, HasRoot, Ready, OldOrNew, IsOldOrNew, HasNewRoot, IsCommitted, with_root, body_offset, sequence_of}
 use Rattle.root_slots.specs.Spelling.{spelling}
-use Rattle.root_change.specs.Beside.{StaysUpTo, AreBeside, Beside, RunsBeside}
+use Rattle.disk_model.specs.Tells.{told_where}
+use Rattle.disk_model.specs.Beside.{StaysUpTo, AreBeside, Beside, RunsBeside}
 use Rattle.root_change.specs.Names.{names_file, named_end, bounds_of, other_bound, named_none}
-use Rattle.root_change.specs.Texts.{Texts, Fronts, StandsFor, IsOn, OnDisk, Measures, EachFronts, HasLengths, HasSizes}
+use Rattle.root_change.specs.Texts.{Texts, Fronts, StandsFor, IsOn, OnDisk, Measures, EachFronts, HasLengths, HasSizes, KeepsNamed}
+use Rattle.root_change.specs.Leaving.{ready_has}
 use Rattle.root_change.specs.Replacing.{IsToReplace, ToReplace, StandsForEither, Dropped, IsAny}
 use Rattle.root_change.proofs.Drops.{true_or_false, alone_from, unnamed_apart}
 
--- The current root of a file that is ready for the next one.
-pub ready_has : (free : ℕ) (body : List ℕ) (file : File) → IfThere (Ready free body) file → IfThere (HasRoot body) file
-ready_has free body None there = absurd there
-ready_has free body (Some bytes) there = (1 - free, there.current)
-
 -- The current root in a slot is current.
-current_has : (slot : ℕ) (body : List ℕ) (file : File) → IfThere (Current slot body) file → IfThere (HasRoot body) file
+pub current_has : (slot : ℕ) (body : List ℕ) (file : File) → IfThere (Current slot body) file → IfThere (HasRoot body) file
 current_has slot body None there = absurd there
 current_has slot body (Some bytes) there = (slot, there)
 
@@ -60,11 +57,11 @@ stands_beside root texts k image measures roots fronts beside = record {
 }
 
 -- What a crash leaves after a sync.
-synced_file : (k m : Content) (name : FileName) (file : File) → Synced k m → Fits (m name).sure file → file ≡ (k name).seen
+pub synced_file : (k m : Content) (name : FileName) (file : File) → Synced k m → Fits (m name).sure file → file ≡ (k name).seen
 synced_file k m name file synced fits = Fits-exact (k name).seen file (Fits-Within (m name).sure (exact (k name).seen) file (synced.crash name) fits)
 
 -- What a crash leaves of a settled disk.
-settled_file : (k : Content) (name : FileName) (file : File) → IsSettled k → Fits (k name).sure file → file ≡ (k name).seen
+pub settled_file : (k : Content) (name : FileName) (file : File) → IsSettled k → Fits (k name).sure file → file ≡ (k name).seen
 settled_file k name file settled fits = Fits-exact (k name).seen file (Fits-Within (k name).sure (exact (k name).seen) file (settled name) fits)
 
 module _ (free : ℕ) (old : Root) (texts : Texts) (new : Root) (next : Texts) where
@@ -202,30 +199,39 @@ root_size_stays slot body file in_range whole size =
     let filled = overlay-size (body_offset slot) body file (omega (arith, size, whole, in_range)) in
     overlay-size slot (1 ∷ []) (overlay (body_offset slot) body file) (omega (arith, filled, size, in_range)) ∙ (filled ∙ size)
 
--- The files are as long in the end as the new root says.
+-- The files that the new root names read as before in the end.
 module _ (slot : ℕ) (body : List ℕ) (old new : Root) (in_range : slot < 2) (whole : length body ≡ 1536) where
-  sizes : (k m n o p : Content) → HasRootSize k → HasLengths new k → Synced k m → HasNewRoot slot body m n → IsCommitted m n → Dropped IsAny old new n o → Synced o p → HasSizes new p
-  sizes k m n o p size long synced root committed dropped last = record {
+  kept : (k m n o p : Content) → HasRootSize k → Synced k m → HasNewRoot slot body m n → IsCommitted m n → Dropped IsAny old new n o → Synced o p → KeepsNamed new k p
+  kept k m n o p size synced root committed dropped last = record {
     root_file =
         let was : length (bytes_of (m root_name).seen) ≡ 4096 = ap (λ (f : File). length (bytes_of f)) (synced.seen root_name) ∙ size in
-        ap (λ (f : File). length (bytes_of f)) (last.seen root_name ∙ (ap (λ (kept : Kept). kept.seen) (dropped.kept root_name refl) ∙ root)) ∙ root_size_stays slot body (bytes_of (m root_name).seen) in_range whole was;
+        ap (λ (f : File). length (bytes_of f)) (last.seen root_name ∙ (ap (λ (kept_ : Kept). kept_.seen) (dropped.kept root_name refl) ∙ root)) ∙ root_size_stays slot body (bytes_of (m root_name).seen) in_range whole was;
+    named = λ name apart is. last.seen name ∙ (ap (λ (kept_ : Kept). kept_.seen) (dropped.kept name is) ∙ (committed.elsewhere name apart ∙ synced.seen name));
+  }
+
+  pub kept_told : (k m n o p : Option Content) → WhereTold HasRootSize k → Told Synced k m → Told (HasNewRoot slot body) m n → Told IsCommitted m n → Told (Dropped IsAny old new) n o → Told Synced o p → Told (KeepsNamed new) k p
+  kept_told None None None None None size synced root committed dropped last = tt
+  kept_told None None None None (Some p) size synced root committed dropped last = absurd last
+  kept_told None None None (Some o) p size synced root committed dropped last = absurd dropped
+  kept_told None None (Some n) o p size synced root committed dropped last = absurd committed
+  kept_told None (Some m) n o p size synced root committed dropped last = absurd synced
+  kept_told (Some k) None n o p size synced root committed dropped last = absurd synced
+  kept_told (Some k) (Some m) None o p size synced root committed dropped last = absurd committed
+  kept_told (Some k) (Some m) (Some n) None p size synced root committed dropped last = absurd dropped
+  kept_told (Some k) (Some m) (Some n) (Some o) None size synced root committed dropped last = absurd last
+  kept_told (Some k) (Some m) (Some n) (Some o) (Some p) size synced root committed dropped last = kept k m n o p size synced root committed dropped last
+
+-- Files that are as long as a root says are so still.
+module _ (root : Root) (k m : Content) (same : KeepsNamed root k m) (long : HasLengths root k) where
+  kept_long : HasSizes root m
+  kept_long = record {
+    root_file = same.root_file;
     lengths = λ name apart.
-        elim (true_or_false (names_file new name)) [
-          | inl is ↦
-              let same : (p name).seen ≡ (k name).seen = last.seen name ∙ (ap (λ (kept : Kept). kept.seen) (dropped.kept name is) ∙ (committed.elsewhere name apart ∙ synced.seen name)) in
-              subst (λ (f : File). named_end new name ≤ length (bytes_of f)) (sym same) (long name apart)
-          | inr isnt ↦ let none = named_none new name isnt in omega (arith, none)
+        elim (true_or_false (names_file root name)) [
+          | inl is ↦ subst (λ (f : File). named_end root name ≤ length (bytes_of f)) (sym (same.named name apart is)) (long name apart)
+          | inr isnt ↦ let none = named_none root name isnt in omega (arith, none)
         ];
   }
 
-  pub sizes_told : (k m n o p : Option Content) → WhereTold HasRootSize k → WhereTold (HasLengths new) k → Told Synced k m → Told (HasNewRoot slot body) m n → Told IsCommitted m n → Told (Dropped IsAny old new) n o → Told Synced o p → WhereTold (HasSizes new) p
-  sizes_told None None None None None size long synced root committed dropped last = tt
-  sizes_told None None None None (Some p) size long synced root committed dropped last = absurd last
-  sizes_told None None None (Some o) p size long synced root committed dropped last = absurd dropped
-  sizes_told None None (Some n) o p size long synced root committed dropped last = absurd committed
-  sizes_told None (Some m) n o p size long synced root committed dropped last = absurd synced
-  sizes_told (Some k) None n o p size long synced root committed dropped last = absurd synced
-  sizes_told (Some k) (Some m) None o p size long synced root committed dropped last = absurd committed
-  sizes_told (Some k) (Some m) (Some n) None p size long synced root committed dropped last = absurd dropped
-  sizes_told (Some k) (Some m) (Some n) (Some o) None size long synced root committed dropped last = absurd last
-  sizes_told (Some k) (Some m) (Some n) (Some o) (Some p) size long synced root committed dropped last = sizes k m n o p size long synced root committed dropped last
+pub kept_sizes : (root : Root) (k m : Option Content) → WhereTold (HasLengths root) k → Told (KeepsNamed root) k m → WhereTold (HasSizes root) m
+kept_sizes root k m long same = told_where (KeepsNamed root) (HasLengths root) (HasSizes root) k m (λ a b is new_is kept_ was. kept_long root a b kept_ was) same long

@@ -1,22 +1,23 @@
 -- An epoch written anew and another one dropped: what is written becomes the texts of the next root.
-use Rattle.std.specs.Prelude.{◌≡◌, ◌≢◌, ◌+◌, ◌<◌, ◌==◌, ◌&&◌, nat_lt, ℕ, Bool, true, false, if◌then◌else◌, List, [], ◌++◌, length, set, Option, refl}
+use Rattle.std.specs.Prelude.{◌≡◌, ◌≢◌, ◌+◌, ◌<◌, ◌≤◌, ◌==◌, ◌&&◌, nat_lt, ℕ, Bool, true, false, if◌then◌else◌, List, [], ◌++◌, length, set, Option, Some, None, refl}
 use Rattle.std.proofs.Common.{◌∙◌, sym, ap, subst, inl, inr, arith}
 use Rattle.std.proofs.lemmas.List.{length-set}
 use Rattle.disk_model.specs.declared.name.FileKind.{FileKind}
 use Rattle.disk_model.specs.declared.name.FileKind.TheVariants as kind
 use Rattle.disk_model.specs.declared.name.FileName.{FileName}
-use Rattle.disk_model.specs.Disk.{Content, Told, WhereTold, OneFile, Wrote}
+use Rattle.disk_model.specs.Disk.{File, Content, Told, WhereTold, OneFile, Wrote, bytes_of, overlay}
 use Rattle.disk_model.specs.Images.{same_or_other}
 use Rattle.root_slots.specs.declared.root.Place.{Place}
 use Rattle.root_slots.specs.declared.root.Root.{Root}
 use Rattle.root_slots.specs.Sizes.{sequence-spelling}
 use Rattle.root_slots.specs.Valid.{IsRoot, RootFits, no_place}
-use Rattle.root_change.specs.Names.{epoch_name, place_of, has_place, named_by, names_file, named_end}
-use Rattle.root_change.specs.Texts.{Texts, OnDisk}
+use Rattle.root_change.specs.Names.{epoch_name, place_of, has_place, named_by, names_file, named_end, named_none}
+use Rattle.root_change.specs.Texts.{Texts, OnDisk, HasLengths, HasSizes}
 use Rattle.root_change.specs.Parts.{Parts, texts_of, PartsFit}
 use Rattle.root_change.specs.Changing.{ReadsAs, with_more, Becomes, remade, root_remade}
 use Rattle.root_change.proofs.Drops.{both, not_both, true_or_false, is_less, named, named_epoch}
-use Rattle.root_change.proofs.Roots.{equal_or_not, same_test, other_test, set_here, set_elsewhere}
+use Rattle.root_change.proofs.Sizes.{end_at_most, overlay_least}
+use Rattle.root_change.proofs.Roots.{none_at_most, same_at_most, at_most_then, equal_or_not, same_test, other_test, set_here, set_elsewhere}
 use Rattle.root_change.proofs.Changes.{text_named, text_unnamed, parts_measure, more_here, more_elsewhere, put_told, own_reads}
 use Rattle.root_change.proofs.Grown.{epoch_isnt_root, epoch_is_named}
 
@@ -64,6 +65,52 @@ module _ (old : Root) (e : ℕ) (bytes : List ℕ) (dropped : ℕ) (valid : IsRo
         absurd (omega (arith, old_gen, gen_is))
     | inr isnt ↦ isnt
   ]
+
+  -- No more bytes of any other file count by the new root than by the old one.
+  ends_kept : dropped < 64 → (k : FileKind) (n g : ℕ) → named k n g ≢ epoch → named_end new (named k n g) ≤ named_end old (named k n g)
+  ends_kept low kind.Root n g not_epoch = same_at_most (named_end new (named kind.Root n g)) (named_end old (named kind.Root n g)) refl
+  ends_kept low kind.Map n g not_epoch = same_at_most (named_end new (named kind.Map n g)) (named_end old (named kind.Map n g)) refl
+  ends_kept low kind.Cache n g not_epoch = same_at_most (named_end new (named kind.Cache n g)) (named_end old (named kind.Cache n g)) refl
+  ends_kept low kind.Epoch n g not_epoch = elim (true_or_false (named_by new kind.Epoch n g)) [
+    | inl is ↦ elim (equal_or_not n dropped) [
+      | inl gone ↦
+          let there = named_bytes new n g is in
+          let none : (place_of new kind.Epoch n).length ≡ 0 = ap (λ (m : ℕ). (place_of new kind.Epoch m).length) gone ∙ ap (λ (p : Place). p.length) (place_none low) in
+          absurd (omega (arith, there, none))
+      | inr not_dropped ↦ elim (equal_or_not n e) [
+        | inl here ↦
+            let gen_is : g ≡ old.sequence + 1 = named_epoch new n g is ∙ (ap (λ (m : ℕ). (place_of new kind.Epoch m).gen_) here ∙ ap (λ (p : Place). p.gen_) place_is) in
+            absurd (not_epoch (ap (λ (m : ℕ). named kind.Epoch m g) here ∙ ap (named kind.Epoch e) gen_is))
+        | inr not_e ↦ same_at_most (named_end new (named kind.Epoch n g)) (named_end old (named kind.Epoch n g)) (ap (λ (p : Place). if nat_lt n 64 && has_place p g then p.length else 0) (place_kept n not_e not_dropped))
+      ]
+    ]
+    | inr isnt ↦ none_at_most (named_end new (named kind.Epoch n g)) (named_end old (named kind.Epoch n g)) (named_none new (named kind.Epoch n g) isnt)
+  ]
+
+  -- The files are as long as the new root says after the write.
+  remade_long : dropped < 64 → (k l : Content) → HasLengths old k → HasLengths old l → OneFile epoch (Wrote (named_end old epoch) bytes) k l → HasLengths new l
+  remade_long low k l first second one name apart_ = elim (same_or_other epoch name) [
+    | inl same ↦ subst (λ (f : FileName). named_end new f ≤ length (bytes_of (l f).seen)) (sym same) at_epoch
+    | inr not_epoch ↦ at_most_then (named_end new name) (named_end old name) (length (bytes_of (l name).seen)) (ends_kept low name.kind name.number name.gen_ not_epoch) (second name apart_)
+  ] where
+    at_epoch : named_end new epoch ≤ length (bytes_of (l epoch).seen)
+    at_epoch =
+        let seen : length (bytes_of (l epoch).seen) ≡ length (overlay (named_end old epoch) bytes (bytes_of (k epoch).seen)) = ap (λ (f : File). length (bytes_of f)) one.here.seen in
+        let most : named_end new epoch ≤ (place_of new kind.Epoch e).length = end_at_most new epoch in
+        let size : (place_of new kind.Epoch e).length ≡ length bytes = ap (λ (p : Place). p.length) place_is in
+        let least = overlay_least (named_end old epoch) bytes (bytes_of (k epoch).seen) (first epoch (epoch_isnt_root e (old.sequence + 1))) in
+        omega (arith, seen, most, size, least)
+
+  remade_told : dropped < 64 → (k l : Option Content) → WhereTold (HasSizes old) k → WhereTold (HasSizes old) l → Told (OneFile epoch (Wrote (named_end old epoch) bytes)) k l → WhereTold (HasLengths new) l
+  remade_told low None None first second one = tt
+  remade_told low None (Some l) first second one = absurd one
+  remade_told low (Some k) None first second one = absurd one
+  remade_told low (Some k) (Some l) first second one = remade_long low k l first.lengths second.lengths one
+
+  -- The same, of a root and of a name that are equal to these.
+  pub long_so : dropped < 64 → (k l : Option Content) (root : Root) (f : FileName) → root ≡ new → f ≡ epoch → WhereTold (HasSizes old) k → WhereTold (HasSizes old) l → Told (OneFile f (Wrote (named_end old f) bytes)) k l → WhereTold (HasLengths root) l
+  long_so low k l root f made is first second one =
+      subst (λ (r : Root). WhereTold (HasLengths r) l) (sym made) (remade_told low k l first second (subst (λ (n : FileName). Told (OneFile n (Wrote (named_end old n) bytes)) k l) is one))
 
   module _ (parts : Parts) (long : PartsFit old parts) where
     abbrev next : Parts

@@ -33,6 +33,16 @@ less_test m n less = grind (arith, nat_tests)
 pub least_test : (m n : ℕ) → n ≤ m → nat_lt m n ≡ false
 least_test m n least = grind (arith, nat_tests)
 
+-- Numbers that are 0, that are equal, and that are one after the other.
+pub none_at_most : (m n : ℕ) → m ≡ 0 → m ≤ n
+none_at_most m n none = omega (arith, none)
+
+pub same_at_most : (m n : ℕ) → m ≡ n → m ≤ n
+same_at_most m n same = omega (arith, same)
+
+pub at_most_then : (l m n : ℕ) → l ≤ m → m ≤ n → l ≤ n
+at_most_then l m n less more = omega (arith, less, more)
+
 -- The places after one of them was set.
 pub set_here : (places : List Place) (e : ℕ) (place : Place) → e < length places → get_or (set places e place) e no_place ≡ place
 set_here places e place below = get_or-set_same places e place no_place below
@@ -91,6 +101,10 @@ grown_is_root root e count valid size number below some =
       cache = later_place root.sequence (root.sequence + 1) root.cache (omega arith) valid.cache;
     }
 
+-- The same, of a root that is equal to it.
+pub grown_so : (old : Root) (e count : ℕ) (root : Root) → root ≡ root_grown old e count → IsRoot old → length old.epochs ≡ 64 → old.next < 2147483648 → e < 64 → 0 < count → IsRoot root
+grown_so old e count root made valid size number below some = subst IsRoot (sym made) (grown_is_root old e count valid size number below some)
+
 -- The root after an epoch was written anew and another one dropped is valid.
 pub remade_is_root : (root : Root) (e count dropped : ℕ) → IsRoot root → length root.epochs ≡ 64 → e < 64 → dropped < 64 → 0 < count → IsRoot (root_remade root e count dropped)
 remade_is_root root e count dropped valid size below low some =
@@ -108,3 +122,7 @@ remade_is_root root e count dropped valid size below low some =
       epochs = set_places (root.sequence + 1) (set root.epochs e place) dropped no_place (let long = length-set root.epochs e place in omega (arith, size, low, long)) (record { gen_ = omega arith; empty = λ none. refl }) made;
       cache = later_place root.sequence (root.sequence + 1) root.cache (omega arith) valid.cache;
     }
+
+-- The same, of a root that is equal to it.
+pub remade_so : (old : Root) (e count dropped : ℕ) (root : Root) → root ≡ root_remade old e count dropped → IsRoot old → length old.epochs ≡ 64 → e < 64 → dropped < 64 → 0 < count → IsRoot root
+remade_so old e count dropped root made valid size below low some = subst IsRoot (sym made) (remade_is_root old e count dropped valid size below low some)

@@ -1,15 +1,15 @@
 -- The lengths of files while bytes are appended beside what a root names.
-use Rattle.std.specs.Prelude.{◌≢◌, ℕ, ◌≤◌, Bool, true, false, if◌then◌else◌, List, length, Option, Some, None}
+use Rattle.std.specs.Prelude.{◌≢◌, ℕ, ◌+◌, ◌≤◌, Bool, true, false, if◌then◌else◌, List, length, Option, Some, None}
 use Rattle.std.proofs.Common.{◌∙◌, sym, ap, subst, inl, inr, arith}
 use Rattle.disk_model.specs.declared.name.FileName.{FileName}
-use Rattle.disk_model.specs.Disk.{File, Kept, Content, Told, WhereTold, OneFile, Wrote, IsAtMostLength, bytes_of}
+use Rattle.disk_model.specs.Disk.{File, Kept, Content, Told, WhereTold, OneFile, Wrote, IsAtMostLength, bytes_of, overlay}
 use Rattle.disk_model.specs.Images.{same_or_other}
 use Rattle.disk_model.specs.Laws.{overlay_length}
 use Rattle.root_slots.specs.declared.root.Root.{Root}
 use Rattle.root_slots.specs.RootName.{root_name}
 use Rattle.root_slots.specs.Slots.{HasRootSize}
-use Rattle.root_change.specs.Tells.{told_where}
-use Rattle.root_change.specs.Beside.{Respects}
+use Rattle.disk_model.specs.Tells.{told_where}
+use Rattle.disk_model.specs.Beside.{Respects}
 use Rattle.root_change.specs.Names.{place_of, names_file, named_end, bounds_of, other_bound}
 use Rattle.root_change.specs.Texts.{HasSizes}
 
@@ -28,6 +28,10 @@ end_at_most root name = by (names_file root name) where
   by : (b : Bool) → (if b then (place_of root name.kind name.number).length else 0) ≤ (place_of root name.kind name.number).length
   by true = omega arith
   by false = omega arith
+
+-- A write from an offset within a file leaves it at least as long as the write's end.
+pub overlay_least : (at : ℕ) (bytes old : List ℕ) → at ≤ length old → at + length bytes ≤ length (overlay at bytes old)
+overlay_least at bytes old inside = omega (arith, inside, overlay_length at bytes old)
 
 -- The files are as long as the root says after bytes were appended to one.
 still_long : (root : Root) (name : FileName) (bytes : List ℕ) (k m : Content) → name ≢ root_name → OneFile name (Wrote (named_end root name) bytes) k m → HasSizes root k → HasSizes root m

@@ -1,8 +1,9 @@
-pub mod Tells
-pub mod Beside
-pub mod BesideLaws
 pub mod Names
 pub mod Texts
+pub mod Leaving
 pub mod Replacing
 pub mod Parts
 pub mod Changing
+pub mod Tidying
+pub mod Copying
+pub mod Gathering

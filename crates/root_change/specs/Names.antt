@@ -12,7 +12,7 @@ use Rattle.root_slots.specs.declared.root.Place.{Place}
 use Rattle.root_slots.specs.declared.root.Root.{Root}
 use Rattle.root_slots.specs.RootName.{root_name}
 use Rattle.root_slots.specs.Valid.{no_place}
-use Rattle.root_change.specs.Beside.{Bounds}
+use Rattle.disk_model.specs.Beside.{Bounds}
 
 -- The file of a map of a generation.
 abbrev pub map_name : ℕ → FileName
@@ -50,6 +50,17 @@ named_by root kind.Cache number gen_ = number == 0 && has_place root.cache gen_
 -- Whether a root names a file.
 abbrev pub names_file : Root → FileName → Bool
 names_file root name = named_by root name.kind name.number name.gen_
+
+-- Whether a name is that of the root file, by the parts of the name.
+abbrev pub root_by : FileKind → ℕ → ℕ → Bool
+root_by kind.Root number gen_ = number == 0 && gen_ == 0
+root_by kind.Map number gen_ = false
+root_by kind.Epoch number gen_ = false
+root_by kind.Cache number gen_ = false
+
+-- Whether a name is that of the root file.
+abbrev pub is_root_name : FileName → Bool
+is_root_name name = root_by name.kind name.number name.gen_
 
 -- The number of bytes of a file that count by a root, 0 for a file that it doesn't name.
 abbrev pub named_end : Root → FileName → ℕ

@@ -7,7 +7,7 @@ use Rattle.disk_model.specs.Synced.{IsSettled}
 use Rattle.root_slots.specs.declared.root.Root.{Root}
 use Rattle.root_slots.specs.Valid.{RootFits, IsRoot}
 use Rattle.root_change.specs.Names.{place_of, names_file}
-use Rattle.root_change.specs.Texts.{Texts, StandsFor, OnDisk}
+use Rattle.root_change.specs.Texts.{Texts, StandsFor, OnDisk, HasSizes}
 
 -- The bytes of each part of an archive, by its kind and its number: of the map and the cache, whose
 -- number is 0, and of each epoch. All other parts are empty.
@@ -48,8 +48,9 @@ pub record IsOwn (root : Root) (free : ℕ) (parts : Parts) (content : Option Co
 
 -- What a command promises that makes next parts of the parts of a disk. At each moment a crash
 -- leaves files that stand for the old parts or for the next ones. After `Ok` the disk is exactly
--- that of the next ones by the root that is returned, and all that reads give is on it. The command
--- fails only if the count of faults rose.
+-- that of the next ones by the root that is returned, and all that reads give is on it. Whatever the
+-- disk held, that root is in its ranges, and the files are as long as it says. The command fails
+-- only if the count of faults rose.
 pub record Commands {D E : Type 0} (content : D → Option Content)
     (moment : D → ℕ) (left_since : D → ℕ → Files → Type 0) (faults : D → ℕ) (old new : D)
     (root : Root) (free : ℕ) (next : Parts → Parts) (result : Result Root E) : Type 0 where
@@ -58,4 +59,6 @@ pub record Commands {D E : Type 0} (content : D → Option Content)
   pub done : (parts : Parts) → IsOwn root free parts (content old)
       → IfOk result (λ made. IsOwn made (1 - free) (next parts) (content new))
   pub settled : OnOk result (WhereTold IsSettled (content new))
+  pub valid : IfOk result (λ made. IsRoot made)
+  pub sizes : IfOk result (λ made. WhereTold (HasSizes made) (content new))
   pub cause : IsCaused (faults old) (faults new) result

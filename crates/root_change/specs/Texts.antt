@@ -1,5 +1,5 @@
 -- Which files stand for the bytes that a root names, and which are exactly these.
-use Rattle.std.specs.Prelude.{◌≡◌, ◌≢◌, ℕ, ◌<◌, ◌≤◌, false, List, length, take, Option, Some, None}
+use Rattle.std.specs.Prelude.{◌≡◌, ◌≢◌, ℕ, ◌<◌, ◌≤◌, true, false, List, length, take, Option, Some, None}
 use Rattle.disk_model.specs.declared.name.FileKind.TheVariants as kind
 use Rattle.disk_model.specs.declared.name.FileName.{FileName}
 use Rattle.disk_model.specs.Disk.{File, Files, Content, Fits, bytes_of}
@@ -68,6 +68,12 @@ HasLengths root k = (name : FileName) → name ≢ root_name
 pub record HasSizes (root : Root) (k : Content) : Type 0 where
   pub root_file : HasRootSize k
   pub lengths : HasLengths root k
+
+-- The files that a root names read as before, and the root file has its size.
+pub record KeepsNamed (root : Root) (old new : Content) : Type 0 where
+  pub root_file : HasRootSize new
+  pub named : (name : FileName) → name ≢ root_name → names_file root name ≡ true
+      → (new name).seen ≡ (old name).seen
 
 -- The files of the epochs below this number are at least as long as a root says.
 abbrev pub EpochsAreLong : Root → ℕ → Content → Type 0

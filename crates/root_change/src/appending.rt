@@ -3,7 +3,7 @@ ghost use Rattle.std.specs.Prelude.{◌≡◌, ◌≢◌, ◌+◌, ◌^◌, ◌<
 ghost use Rattle.arch_base.specs.Counts.{IsCaused};
 ghost use Rattle.disk_model.specs.Disk.{Told, WhereTold, OneFile, Wrote};
 ghost use Rattle.root_slots.specs.RootName.{root_name};
-ghost use Rattle.root_change.specs.Beside.{RunsBeside};
+ghost use Rattle.disk_model.specs.Beside.{RunsBeside};
 ghost use Rattle.root_change.specs.Names.{named_end, bounds_of};
 ghost use Rattle.root_change.specs.Texts.{HasSizes};
 
@@ -12,7 +12,7 @@ use disk_model::{Disk, DiskFault, FileName};
 use root_slots::Root;
 
 /// Returns the number of bytes of a file that count by a root.
-fn end_of(root: &Root, name: FileName) -> u64
+pub(crate) fn end_of(root: &Root, name: FileName) -> u64
     ensures { result ≡ named_end root.now name }
 {
     if is_named(root, name) {

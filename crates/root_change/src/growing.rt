@@ -46,8 +46,10 @@ fn grown_root(old: &Root, epoch: u32, count: u64) -> Root
     requires epoch { epoch < epoch_count }
     requires later { old.now.sequence + 1 < 2 ^ 64 }
     requires number { old.now.next < 2147483648 }
+    requires some { 0 < count }
     requires end { (place_of old.now kind.Epoch epoch).length + count < 2 ^ 63 }
-    ensures { result ≡ root_grown old.now epoch count }
+    ensures root { result ≡ root_grown old.now epoch count }
+    ensures valid { IsRoot result }
 {
     root_fits(old);
     let mut new = old.copy();
@@ -77,6 +79,7 @@ fn put_grown<D: Disk>(
     requires line { length line.now ≡ record_size }
     requires end { (place_of old.now kind.Epoch epoch).length + length entry.now < 2 ^ 63 }
     requires made { new.now ≡ root_grown old.now epoch (length entry.now) }
+    requires valid { IsRoot new.now }
     ensures any_moment { (parts : Parts) → IsOwn old.now (slot_number slot) parts
         (D.content disk.old) → LeavesOnly D.moment D.left_since disk.old disk.new
         (RecoversEither parts (grown epoch entry.now line.now parts)) }
@@ -84,6 +87,7 @@ fn put_grown<D: Disk>(
         → OnOk result (IsOwn new.now (1 - slot_number slot) (grown epoch entry.now line.now parts)
         (D.content disk.new)) }
     ensures settled { OnOk result (WhereTold IsSettled (D.content disk.new)) }
+    ensures sizes { OnOk result (WhereTold (HasSizes new.now) (D.content disk.new)) }
     ensures cause { IsCaused (D.faults disk.old) (D.faults disk.new) result }
     ensures count { D.reads disk.new ≡ D.reads disk.old }
 {

@@ -18,11 +18,15 @@ use root_slots::{Place, Root, Slot, root_fits};
 
 /// Returns the root after an epoch was written anew and another one dropped.
 fn remade_root(old: &Root, epoch: u32, count: u64, dropped: u32) -> Root
+    requires root { IsRoot old.now }
     requires epoch { epoch < epoch_count }
     requires dropped { dropped < epoch_count }
+    requires some { 0 < count }
     requires later { old.now.sequence + 1 < 2 ^ 64 }
-    ensures { result ≡ root_remade old.now epoch count dropped }
+    ensures root { result ≡ root_remade old.now epoch count dropped }
+    ensures valid { IsRoot result }
 {
+    root_fits(old);
     let mut new = old.copy();
     new.sequence = old.sequence + 1;
     new.epochs[epoch as usize] = Place {
@@ -52,6 +56,7 @@ fn put_remade<D: Disk>(
     requires some { 0 < length bytes.now }
     requires end { length bytes.now < 2 ^ 63 }
     requires made { new.now ≡ root_remade old.now epoch (length bytes.now) dropped }
+    requires valid { IsRoot new.now }
     ensures any_moment { (parts : Parts) → IsOwn old.now (slot_number slot) parts
         (D.content disk.old) → LeavesOnly D.moment D.left_since disk.old disk.new
         (RecoversEither parts (remade epoch bytes.now dropped parts)) }
@@ -59,6 +64,7 @@ fn put_remade<D: Disk>(
         → OnOk result (IsOwn new.now (1 - slot_number slot) (remade epoch bytes.now dropped parts)
         (D.content disk.new)) }
     ensures settled { OnOk result (WhereTold IsSettled (D.content disk.new)) }
+    ensures sizes { OnOk result (WhereTold (HasSizes new.now) (D.content disk.new)) }
     ensures cause { IsCaused (D.faults disk.old) (D.faults disk.new) result }
     ensures count { D.reads disk.new ≡ D.reads disk.old }
 {

@@ -6,9 +6,9 @@ ghost use Rattle.disk_model.specs.Sizes.{epoch_count};
 ghost use Rattle.disk_model.specs.Synced.{IsSettled};
 ghost use Rattle.root_slots.specs.Slots.{slot_number, HasRootSize};
 ghost use Rattle.root_slots.specs.Valid.{IsRoot};
-ghost use Rattle.root_change.specs.Beside.{RunsBeside};
+ghost use Rattle.disk_model.specs.Beside.{RunsBeside};
 ghost use Rattle.root_change.specs.Names.{bounds_of};
-ghost use Rattle.root_change.specs.Texts.{Texts, OnDisk, HasLengths, HasSizes};
+ghost use Rattle.root_change.specs.Texts.{Texts, OnDisk, KeepsNamed};
 ghost use Rattle.root_change.specs.Replacing.{ToReplace, StandsForEither, drops, Dropped, IsOne, IsEpochBelow, IsAny};
 
 use crate::names::{cache_file, epoch_file, epoch_place, is_named, map_file};
@@ -90,8 +90,9 @@ pub fn replace_root<D: Disk>(
         → OnOk result (OnDisk new.now (1 - slot_number slot) next (D.content disk.new)) }
     // Then all that reads give is on the disk, whatever it held before.
     ensures settled { OnOk result (WhereTold IsSettled (D.content disk.new)) }
-    ensures sizes { WhereTold (HasLengths new.now) (D.content disk.old)
-        → OnOk result (WhereTold (HasSizes new.now) (D.content disk.new)) }
+    // The files that the new root names read as before, whatever the disk held.
+    ensures kept { OnOk result
+        (Told (KeepsNamed new.now) (D.content disk.old) (D.content disk.new)) }
     ensures cause { IsCaused (D.faults disk.old) (D.faults disk.new) result }
     ensures count { D.reads disk.new ≡ D.reads disk.old }
 {

@@ -14,7 +14,7 @@ use std::process::Abort;
 use std::test::Fail;
 
 /// The root file.
-const ROOT: FileName = FileName {
+pub(crate) const ROOT: FileName = FileName {
     kind: FileKind::Root,
     number: 0,
     gen_: 0,
@@ -54,7 +54,7 @@ enum Command {
 }
 
 /// Writes the archive that each command finds.
-fn fill(disk: &mut MemDisk) -> Result<(), DiskFault> {
+pub(crate) fn fill(disk: &mut MemDisk) -> Result<(), DiskFault> {
     let mut root = [0; 4096];
     for (at, byte) in &ROOT_BYTES {
         if *at < 4096 {
@@ -69,7 +69,7 @@ fn fill(disk: &mut MemDisk) -> Result<(), DiskFault> {
 }
 
 /// Returns the current root and its slot.
-fn current<D: Disk>(disk: &mut D) -> Result<(Slot, Root), DiskFault>
+pub(crate) fn current<D: Disk>(disk: &mut D) -> Result<(Slot, Root), DiskFault>
     ensures { IfOk result (λ found. IsRoot found.1) }
 {
     match read(disk) {
@@ -147,14 +147,19 @@ fn run<D: Disk>(disk: &mut D, command: Command) -> Result<Root, DiskFault> {
 }
 
 /// Returns whether a file starts with these bytes, and ends after them if that is asked.
-fn starts(disk: &mut MemDisk, name: FileName, bytes: &[u8], ends: bool) -> Result<bool, DiskFault> {
+pub(crate) fn starts(
+    disk: &mut MemDisk,
+    name: FileName,
+    bytes: &[u8],
+    ends: bool,
+) -> Result<bool, DiskFault> {
     let mut buffer = [0; 64];
     let count = disk.read(name, 0, &mut buffer)?;
     Ok(buffer[..count].starts_with(bytes) && (!ends || count == bytes.len()))
 }
 
 /// Returns whether a map starts with the first record, and the second one if that is asked.
-fn has_map(disk: &mut MemDisk, second: bool, ends: bool) -> Result<bool, DiskFault> {
+pub(crate) fn has_map(disk: &mut MemDisk, second: bool, ends: bool) -> Result<bool, DiskFault> {
     let mut records = [1; 56];
     records[28..].copy_from_slice(&[7; 28]);
     let count = if second { 56 } else { 28 };
@@ -162,7 +167,7 @@ fn has_map(disk: &mut MemDisk, second: bool, ends: bool) -> Result<bool, DiskFau
 }
 
 /// Returns whether files stand for the archive before a command.
-fn is_old(disk: &mut MemDisk) -> Result<bool, DiskFault> {
+pub(crate) fn is_old(disk: &mut MemDisk) -> Result<bool, DiskFault> {
     let map = has_map(disk, false, false)?;
     let first = starts(disk, epoch_file(0, 1), b"abc", false)?;
     let second = starts(disk, epoch_file(1, 2), b"de", false)?;
@@ -195,7 +200,7 @@ fn is_either(disk: &mut MemDisk, command: Command, done: bool) -> Result<bool, D
 }
 
 /// Returns the number of files.
-fn count_files<D: Disk>(disk: &mut D) -> Result<u64, DiskFault> {
+pub(crate) fn count_files<D: Disk>(disk: &mut D) -> Result<u64, DiskFault> {
     for index in 0..9 {
         if disk.name_at(index)?.is_none() {
             return Ok(index);
@@ -217,10 +222,10 @@ fn is_exact(disk: &mut MemDisk, command: Command) -> Result<bool, DiskFault> {
 /// A disk on which a command was stopped, its number of moments before the command, and whether the
 /// command finished.
 #[derive(Drop)]
-struct Stopped {
-    disk: MemDisk,
-    start: u64,
-    done: bool,
+pub(crate) struct Stopped {
+    pub(crate) disk: MemDisk,
+    pub(crate) start: u64,
+    pub(crate) done: bool,
 }
 
 /// Runs a command that is stopped after so many calls.

@@ -1,5 +1,5 @@
-//! Tests of the disk of an archive of one message, damaged or with more than its root names: what
-//! is found when it is opened.
+//! Tests of the disk of an archive of one message, damaged, with more than its root names, or with a
+//! cache: what is found when it is opened.
 use crate::making_tests::{FIRST_EPOCH, MAP, ROOT, SECOND_EPOCH, append, put};
 use crate::opening_tests::{begin, listed_after, opened};
 use arch_model::OpenRefusal;
@@ -317,4 +317,43 @@ fn open_shut(rt: &impl Abort, alloc: Global, disk: &mut MemDisk) -> Result<(), F
 fn a_slot_that_was_shut_gets_the_current_root(rt: HostRuntime) -> Result<(), Fail> {
     let mut disk = one_message(rt.alloc())?;
     open_shut(&rt, rt.alloc(), &mut disk)
+}
+
+/// The file of a cache that the second root of an archive may name.
+const CACHE: FileName = FileName {
+    kind: FileKind::Cache,
+    number: 0,
+    gen_: 2,
+};
+
+/// Lets the current root of an archive of one message name the first five bytes of a cache, which
+/// has two more.
+fn name_cache(disk: &mut MemDisk) -> Result<(), DiskFault> {
+    write(disk, CACHE, 0, b"cache..")?;
+    // The generation and the length of the cache, in the second slot.
+    write(disk, ROOT, 3699, b"\0\0\0\0\0\0\0\x02\0\0\0\0\0\0\0\x05")
+}
+
+/// Returns whether the cache has just the bytes that count.
+fn has_cache(disk: &mut MemDisk) -> Result<bool, DiskFault> {
+    let mut bytes = [0; 7];
+    let count = disk.read(CACHE, 0, &mut bytes)?;
+    Ok(count == 5 && &bytes[..5] == b"cache".as_slice())
+}
+
+/// Opens an archive of one message whose root names a cache, and appends the second message.
+fn go_on_with_cache(rt: &impl Abort, alloc: Global, disk: &mut MemDisk) -> Result<(), Fail> {
+    name_cache(disk)?;
+    assert!(rt; is_opened(alloc, disk, 2)?);
+    assert!(rt; has_cache(disk)?);
+    assert!(rt; goes_on(alloc, disk)?);
+    assert!(rt; has_cache(disk)?);
+    assert!(rt; disk.length(SECOND_EPOCH)? == 316);
+    Ok(())
+}
+
+#[test]
+fn a_cache_that_the_root_names_stays(rt: HostRuntime) -> Result<(), Fail> {
+    let mut disk = one_message(rt.alloc())?;
+    go_on_with_cache(&rt, rt.alloc(), &mut disk)
 }

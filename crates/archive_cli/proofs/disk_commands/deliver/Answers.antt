@@ -1,4 +1,4 @@
-use Rattle.std.proofs.Common.{inl}
+use Rattle.std.proofs.Common.{[], inl}
 use Rattle.arch_model.specs.Archives.{Archive}
 use Rattle.arch_model.specs.Delivery.{delivered}
 use Rattle.arch_model.specs.Standing.{one_of}
@@ -7,25 +7,25 @@ use Rattle.archive_cli.proofs.disk_commands.deliver.Goals as goal
 
 pub returns-in-Ok-clause-any_moment : goal.returns-in-Ok-clause-any_moment
 returns-in-Ok-clause-any_moment g c = rw c.into_disk.ensures
-    (delivered-leaves g.D.Disk.content g.D.Disk.moment g.D.Disk.left_since g.met.D.Disk.counts_now g.met.D.Disk.reads_fit c.args.disk c.in-Ok.engine c.in-Ok.ensures.done c.in-Ok.ensures.first c.take.new.self (λ (a : Archive). delivered a c.args.bytes.now c.args.moment) c.take.result
-    c.take.ensures.done c.take.ensures.any_moment c.take.ensures.ready c.take.ensures.never_damaged)
+    (delivered-leaves g.D.Disk.content g.D.Disk.moment g.D.Disk.left_since g.met.D.Disk.counts_now g.met.D.Disk.reads_fit c.args.disk c.in-Ok.engine c.in-Ok.ensures.opened.done c.in-Ok.ensures.opened.first c.take.new.self (λ (a : Archive). delivered a c.args.bytes.now c.args.moment) c.take.result
+    c.take.ensures.done c.take.ensures.any_moment)
 
 pub returns-in-Ok-clause-stands : goal.returns-in-Ok-clause-stands
 returns-in-Ok-clause-stands g c = rw c.into_disk.ensures
-    (delivered-stands g.D.Disk.content g.D.Disk.moment g.D.Disk.left_since g.met.D.Disk.counts_now g.met.D.Disk.reads_fit c.args.disk c.in-Ok.engine c.in-Ok.ensures.done c.in-Ok.ensures.first c.take.new.self (λ (a : Archive). delivered a c.args.bytes.now c.args.moment) c.take.result
-    c.take.ensures.done c.take.ensures.any_moment c.take.ensures.ready c.take.ensures.never_damaged)
+    (delivered-stands g.D.Disk.content g.D.Disk.moment g.D.Disk.left_since g.met.D.Disk.counts_now g.met.D.Disk.reads_fit c.args.disk c.in-Ok.engine c.in-Ok.ensures.opened.done c.in-Ok.ensures.opened.first c.take.new.self (λ (a : Archive). delivered a c.args.bytes.now c.args.moment) c.take.result
+    c.take.ensures.done c.take.ensures.any_moment)
 
 pub returns-in-Ok-clause-done : goal.returns-in-Ok-clause-done
 returns-in-Ok-clause-done g c = rw c.into_disk.ensures
-    (delivered-answers g.D.Disk.content g.D.Disk.moment g.D.Disk.left_since g.met.D.Disk.counts_now g.met.D.Disk.reads_fit c.args.disk c.in-Ok.engine c.in-Ok.ensures.done c.in-Ok.ensures.first c.take.new.self (λ (a : Archive). delivered a c.args.bytes.now c.args.moment) c.take.result
-    c.take.ensures.done c.take.ensures.any_moment c.take.ensures.ready c.take.ensures.never_damaged)
+    (delivered-answers g.D.Disk.content g.D.Disk.moment g.D.Disk.left_since g.met.D.Disk.counts_now g.met.D.Disk.reads_fit c.args.disk c.in-Ok.engine c.in-Ok.ensures.opened.done c.in-Ok.ensures.opened.first c.take.new.self (λ (a : Archive). delivered a c.args.bytes.now c.args.moment) c.take.result
+    c.take.ensures.done c.take.ensures.any_moment)
 
 pub returns-in-Err-clause-any_moment : goal.returns-in-Err-clause-any_moment
-returns-in-Err-clause-any_moment g c = λ s all. inl (c.in-Err.ensures.any_moment (one_of s) all)
+returns-in-Err-clause-any_moment g c = λ s all. inl (c.in-Err.ensures.opened.any_moment (one_of s) [] all)
 
 pub returns-in-Err-clause-stands : goal.returns-in-Err-clause-stands
-returns-in-Err-clause-stands g c = λ s all. unopened-stands g.D.Disk.content g.D.Disk.moment g.D.Disk.left_since g.met.D.Disk.counts_now g.met.D.Disk.reads_fit s c.args.disk c.in-Err.disk c.in-Err.why all c.in-Err.ensures.any_moment c.in-Err.ensures.well c.in-Err.ensures.first
+returns-in-Err-clause-stands g c = λ s all. unopened-stands g.D.Disk.content g.D.Disk.moment g.D.Disk.left_since g.met.D.Disk.counts_now g.met.D.Disk.reads_fit s c.args.disk c.in-Err.disk c.in-Err.why all c.in-Err.ensures.opened.any_moment c.in-Err.ensures.opened.well c.in-Err.ensures.opened.first
 
 pub returns-in-Err-clause-done : goal.returns-in-Err-clause-done
 returns-in-Err-clause-done g c = λ a reads.
-    unopened-delivers a c.args.bytes.now c.args.moment c.in-Err.why (g.D.Disk.content c.args.disk) (g.D.Disk.content c.in-Err.disk) reads (c.in-Err.ensures.well a reads) c.in-Err.ensures.refused
+    unopened-delivers a c.args.bytes.now c.args.moment c.in-Err.why (g.D.Disk.content c.args.disk) (g.D.Disk.content c.in-Err.disk) reads (c.in-Err.ensures.opened.well a [] reads) c.in-Err.ensures.refused

@@ -1,13 +1,12 @@
 -- The gate is read, and the slot is filled if it is shut.
-use Rattle.std.proofs.Common.{◌-◌, ℕ, Bool, false, subst}
+use Rattle.std.proofs.Common.{◌-◌, ℕ, Bool, true, false, subst}
 use Rattle.std.proofs.lemmas.Result.{on_ok_weaker}
-use Rattle.disk_model.specs.Disk.{WhereTold, Told}
-use Rattle.disk_model.specs.Synced.{IsWritten}
+use Rattle.disk_model.specs.Disk.{WhereTold}
 use Rattle.disk_model.specs.Moments.{joined}
-use Rattle.root_slots.specs.Slots.{slot_number, IsGateOpen}
+use Rattle.root_slots.specs.Slots.{slot_number, slot_below, IsGateOpen}
 use Rattle.root_slots.specs.Spelling.{spelling}
 use Rattle.epoch_store.specs.Settling.{StaysCurrent}
-use Rattle.epoch_store.proofs.Readying.{current_now, filling, readied_filled, tells_both}
+use Rattle.epoch_store.proofs.Readying.{current_now, filling, readied_filled, slots_open, slots_written}
 use Rattle.epoch_store.proofs.settling.ready_other.Goals as goal
 
 pub returns-clause-any_moment : goal.returns-clause-any_moment
@@ -39,9 +38,21 @@ returns-clause-done g c = λ rests.
     let shut : WhereTold (IsGateOpen (1 - slot) false) k0 = subst (λ (s : ℕ). WhereTold (IsGateOpen s false) k0) c.other-other.ensures here in
     on_ok_weaker c.fill.result (readied_filled slot body k0 k1 k2 c.fill.ensures.whole (g.met.D.Disk.reads_fit mid) (g.met.D.Disk.reads_fit c.fill.new.disk) rests c.is_open.ensures.same shut) (rw c.other-other.ensures at c.fill.ensures.written)
 
-pub returns-clause-told : goal.returns-clause-told
-returns-clause-told g c =
+pub returns-then-branch-clause-readies : goal.returns-then-branch-clause-readies
+returns-then-branch-clause-readies g c =
+    let k0 = g.D.Disk.content c.args.disk.now in
+    let other = slot_number c.other-other.result in
+    let here : WhereTold (IsGateOpen other true) k0 = subst (λ (b : Bool). WhereTold (IsGateOpen other b) k0) c.if-branch.true c.in_ok-is_open.ensures.gate in
+    let opened = subst (λ (s : ℕ). WhereTold (IsGateOpen s true) k0) c.other-other.ensures here in
+    slots_open (slot_number c.args.slot) (spelling c.args.root.now) k0 (g.D.Disk.content c.is_open.new.disk) c.is_open.ensures.same opened
+
+pub returns-clause-readies : goal.returns-clause-readies
+returns-clause-readies g c =
     let k0 = g.D.Disk.content c.args.disk.now in
     let k1 = g.D.Disk.content c.is_open.new.disk in
     let k2 = g.D.Disk.content c.fill.new.disk in
-    on_ok_weaker c.fill.result (λ (written : Told (IsWritten _ _ _) k1 k2). tells_both _ _ k0 k1 k2 c.is_open.ensures.same written) c.fill.ensures.written
+    let slot = slot_number c.args.slot in
+    let other = slot_number c.other-other.result in
+    let here : WhereTold (IsGateOpen other false) k0 = subst (λ (b : Bool). WhereTold (IsGateOpen other b) k0) c.if-branch.false c.in_ok-is_open.ensures.gate in
+    let shut = subst (λ (s : ℕ). WhereTold (IsGateOpen s false) k0) c.other-other.ensures here in
+    on_ok_weaker c.fill.result (slots_written slot (spelling c.args.root.now) k0 k1 k2 (slot_below c.args.slot) c.fill.ensures.whole c.requires.size c.is_open.ensures.same shut) (rw c.other-other.ensures at c.fill.ensures.written)

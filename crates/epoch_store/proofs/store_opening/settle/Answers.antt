@@ -1,48 +1,59 @@
 -- What is left while the disk is settled, and what is there then.
-use Rattle.disk_model.specs.Disk.{Image}
-use Rattle.disk_model.specs.Moments.{started, weaker}
+use Rattle.std.specs.Prelude.{List}
+use Rattle.std.proofs.Common.{subst, sym}
+use Rattle.disk_files.specs.Listing.{AreAllNames}
+use Rattle.disk_model.specs.declared.name.FileName.{FileName}
+use Rattle.disk_model.specs.Disk.{Image, WhereTold}
+use Rattle.disk_model.specs.Moments.{weaker}
 use Rattle.root_slots.specs.Slots.{slot_number}
-use Rattle.epoch_store.specs.Files.{StandsFor}
-use Rattle.epoch_store.proofs.Reopening.{found_image, listed_to_sweep, settling_leaves}
+use Rattle.root_change.specs.Texts.{StandsFor}
+use Rattle.epoch_store.proofs.Settles.{found_image, listed_to_settle, settling_leaves, settled_told}
 use Rattle.epoch_store.proofs.store_opening.settle.Goals as goal
 
-pub returns-in_default-clause-any_moment : goal.returns-in_default-clause-any_moment
-returns-in_default-clause-any_moment g c = λ map epochs found.
-    let disk = c.args.disk.now in
-    started g.D.Disk.moment g.D.Disk.left_since disk (StandsFor c.args.root.now map epochs) (λ image left. found_image c.args.root.now (slot_number c.args.slot) map epochs (g.D.Disk.content disk) image found (g.met.D.Disk.only_now disk image left))
-
 pub returns-clause-any_moment : goal.returns-clause-any_moment
-returns-clause-any_moment g c = λ map epochs found.
+returns-clause-any_moment g c = λ texts found.
     let disk = c.args.disk.now in
-    weaker g.D.Disk.moment g.D.Disk.left_since disk c.other_files.new.disk (Image (g.D.Disk.content disk)) (StandsFor c.args.root.now map epochs) c.other_files.ensures.reads.any_moment
-    (λ image. found_image c.args.root.now (slot_number c.args.slot) map epochs (g.D.Disk.content disk) image found)
+    weaker g.D.Disk.moment g.D.Disk.left_since disk c.present_files.new.disk (Image (g.D.Disk.content disk)) (StandsFor c.args.root.now texts) c.present_files.ensures.reads.any_moment
+    (λ image. found_image c.args.root.now (slot_number c.args.slot) texts (g.D.Disk.content disk) image found)
 
 pub returns-in-Ok-sweep-clause-any_moment : goal.returns-in-Ok-sweep-clause-any_moment
-returns-in-Ok-sweep-clause-any_moment g c = λ map epochs found.
+returns-in-Ok-sweep-clause-any_moment g c = λ texts found.
     let disk = c.args.disk.now in
-    let mid = c.other_files.new.disk in
+    let mid = c.present_files.new.disk in
     let k0 = g.D.Disk.content disk in
     let k1 = g.D.Disk.content mid in
     let root = c.args.root.now in
     let slot = slot_number c.args.slot in
-    settling_leaves root slot map epochs k0 k1 found c.other_files.ensures.reads.same c.as_slice-in-Ok-other_files.result.now _ c.as_slice-in-Ok-other_files.ensures.value c.in-Ok-other_files.ensures.others g.D.Disk.moment g.D.Disk.left_since disk mid c.sweep.new.disk c.other_files.ensures.reads.any_moment
-    (c.sweep.ensures.any_moment map epochs (listed_to_sweep root slot map epochs k0 k1 found c.other_files.ensures.reads.same c.as_slice-in-Ok-other_files.result.now _ c.as_slice-in-Ok-other_files.ensures.value c.in-Ok-other_files.ensures.others))
+    let names = c.as_slice.result.now in
+    let all = subst (λ (l : List FileName). WhereTold (AreAllNames l) k0) (sym c.as_slice.ensures) c.in-Ok.ensures.names in
+    settling_leaves root slot texts k0 found g.D.Disk.moment g.D.Disk.left_since disk mid c.sweep.new.disk c.present_files.ensures.reads.any_moment
+    (c.sweep.ensures.any_moment texts (listed_to_settle root slot texts names k0 k1 found c.present_files.ensures.reads.same all))
 
-pub returns-in-Ok-other_files-clause-any_moment : goal.returns-in-Ok-other_files-clause-any_moment
-returns-in-Ok-other_files-clause-any_moment g c = λ map epochs found.
+pub returns-in-Ok-clause-any_moment : goal.returns-in-Ok-clause-any_moment
+returns-in-Ok-clause-any_moment g c = λ texts found.
     let disk = c.args.disk.now in
-    let mid = c.other_files.new.disk in
+    let mid = c.present_files.new.disk in
     let k0 = g.D.Disk.content disk in
     let k1 = g.D.Disk.content mid in
     let root = c.args.root.now in
     let slot = slot_number c.args.slot in
-    settling_leaves root slot map epochs k0 k1 found c.other_files.ensures.reads.same c.as_slice-in-Ok-other_files.result.now _ c.as_slice-in-Ok-other_files.ensures.value c.in-Ok-other_files.ensures.others g.D.Disk.moment g.D.Disk.left_since disk mid c.sweep.new.disk c.other_files.ensures.reads.any_moment
-    (c.sweep.ensures.any_moment map epochs (listed_to_sweep root slot map epochs k0 k1 found c.other_files.ensures.reads.same c.as_slice-in-Ok-other_files.result.now _ c.as_slice-in-Ok-other_files.ensures.value c.in-Ok-other_files.ensures.others))
+    let names = c.as_slice.result.now in
+    let all = subst (λ (l : List FileName). WhereTold (AreAllNames l) k0) (sym c.as_slice.ensures) c.in-Ok.ensures.names in
+    settling_leaves root slot texts k0 found g.D.Disk.moment g.D.Disk.left_since disk mid c.sweep.new.disk c.present_files.ensures.reads.any_moment
+    (c.sweep.ensures.any_moment texts (listed_to_settle root slot texts names k0 k1 found c.present_files.ensures.reads.same all))
 
 pub returns-in-Ok-sweep-clause-done : goal.returns-in-Ok-sweep-clause-done
-returns-in-Ok-sweep-clause-done g c = λ map epochs found.
+returns-in-Ok-sweep-clause-done g c = λ texts found.
     let k0 = g.D.Disk.content c.args.disk.now in
-    let k1 = g.D.Disk.content c.other_files.new.disk in
-    let root = c.args.root.now in
-    let slot = slot_number c.args.slot in
-    c.in-Ok-sweep.ensures.done map epochs (listed_to_sweep root slot map epochs k0 k1 found c.other_files.ensures.reads.same c.as_slice-in-Ok-other_files.result.now _ c.as_slice-in-Ok-other_files.ensures.value c.in-Ok-other_files.ensures.others)
+    let k1 = g.D.Disk.content c.present_files.new.disk in
+    let names = c.as_slice.result.now in
+    let all = subst (λ (l : List FileName). WhereTold (AreAllNames l) k0) (sym c.as_slice.ensures) c.in-Ok.ensures.names in
+    c.in-Ok-sweep.ensures.done texts (listed_to_settle c.args.root.now (slot_number c.args.slot) texts names k0 k1 found c.present_files.ensures.reads.same all)
+
+pub returns-in-Ok-sweep-clause-kept : goal.returns-in-Ok-sweep-clause-kept
+returns-in-Ok-sweep-clause-kept g c =
+    let content = g.D.Disk.content in
+    let k0 = content c.args.disk.now in
+    let names = c.as_slice.result.now in
+    let all = subst (λ (l : List FileName). WhereTold (AreAllNames l) k0) (sym c.as_slice.ensures) c.in-Ok.ensures.names in
+    settled_told c.args.root.now (slot_number c.args.slot) names k0 (content c.present_files.new.disk) (content c.sweep.new.disk) all c.present_files.ensures.reads.same c.in-Ok-sweep.ensures.swept

@@ -2,8 +2,8 @@
 use Rattle.std.proofs.Common.{sym, subst, ℕ}
 use Rattle.std.proofs.lemmas.Result.{on_ok_weaker}
 use Rattle.disk_model.specs.Disk.{Told, WhereTold, OneFile, Wrote, IsAtMostLength}
-use Rattle.root_change.specs.BesideLaws.{write_told, run_started, run_on}
-use Rattle.root_change.specs.Beside.{Respects}
+use Rattle.disk_model.specs.BesideLaws.{write_told, run_call}
+use Rattle.disk_model.specs.Beside.{Respects}
 use Rattle.root_change.specs.Names.{bounds_of}
 use Rattle.root_change.proofs.Sizes.{end_inside, end_respects, sizes_stay}
 use Rattle.root_change.proofs.appending.append.Goals as goal
@@ -22,7 +22,7 @@ returns-clause-beside g c =
     let bounds = bounds_of root in
     let far : Respects (bounds name) c.end_of-end.result = subst (λ (n : ℕ). Respects (bounds name) n) (sym c.end_of-end.ensures) (end_respects root name c.requires.other) in
     let inside = subst (λ (n : ℕ). WhereTold (IsAtMostLength name n) (content disk)) (sym c.end_of-end.ensures) (end_inside root name (content disk) c.requires.other c.requires.sizes) in
-    run_on content g.D.Disk.moment g.D.Disk.left_since bounds disk disk c.write_at.new.self (run_started content g.D.Disk.moment g.D.Disk.left_since bounds disk (g.met.D.Disk.only_now disk)) c.write_at.ensures.time
+    run_call content g.D.Disk.moment g.D.Disk.left_since bounds disk c.write_at.new.self (g.met.D.Disk.only_now disk) c.write_at.ensures.time
     (write_told c.write_at.result bounds name c.end_of-end.result c.args.bytes.now (content disk) (content c.write_at.new.self) (g.met.D.Disk.reads_fit disk) far inside c.write_at.ensures.written c.write_at.ensures.torn)
 
 pub returns-clause-wrote : goal.returns-clause-wrote

@@ -4,19 +4,15 @@ use Rattle.std.proofs.lemmas.Result.{on_ok_weaker}
 use Rattle.disk_model.specs.declared.name.FileKind.TheVariants as kind
 use Rattle.disk_model.specs.declared.name.FileName.{FileName}
 use Rattle.root_slots.specs.Slots.{slot_number}
-use Rattle.root_slots.specs.Valid.{IsRoot}
-use Rattle.root_change.specs.BesideLaws.{run_joined}
+use Rattle.disk_model.specs.BesideLaws.{run_joined}
 use Rattle.root_change.specs.Names.{epoch_name, map_name, place_of, named_end, bounds_of}
 use Rattle.root_change.specs.Parts.{texts_of}
 use Rattle.root_change.specs.Changing.{grown}
+use Rattle.root_change.proofs.Phases.{kept_sizes}
 use Rattle.root_change.proofs.Sizes.{end_at_most, root_sized}
-use Rattle.root_change.proofs.Roots.{grown_is_root}
-use Rattle.root_change.proofs.Grown.{epoch_isnt_root, map_isnt_root, becomes_so, fit_so, reads_so}
+use Rattle.root_change.proofs.Grown.{epoch_isnt_root, map_isnt_root, long_so, becomes_so, fit_so, reads_so}
 use Rattle.root_change.proofs.Changes.{writing_leaves, to_replace, changing_leaves, changed}
 use Rattle.root_change.proofs.growing.put_grown.Goals as goal
-
-pub root_fits-requires-2 : goal.root_fits-requires-2
-root_fits-requires-2 g c = subst IsRoot (sym c.requires.made) (grown_is_root c.args.old.now c.args.epoch (length c.args.entry.now) c.requires.root c.root_fits.ensures.count c.requires.number c.requires.epoch c.requires.entry)
 
 pub append-requires-clause-other : goal.append-requires-clause-other
 append-requires-clause-other g c = λ is. epoch_isnt_root c.args.epoch c.epoch_place-place.result.gen_ (sym c.epoch_file.ensures ∙ is)
@@ -42,9 +38,6 @@ append-requires-2-clause-end g c =
 
 pub replace_root-requires-clause-size : goal.replace_root-requires-clause-size
 replace_root-requires-clause-size g c = root_sized c.args.old.now (g.D.Disk.content c.append-2.new.disk) c.in_ok-append-2.ensures.sizes
-
-pub replace_root-requires-clause-root : goal.replace_root-requires-clause-root
-replace_root-requires-clause-root g c = subst IsRoot (sym c.requires.made) (grown_is_root c.args.old.now c.args.epoch (length c.args.entry.now) c.requires.root c.root_fits.ensures.count c.requires.number c.requires.epoch c.requires.entry)
 
 pub returns-in_err-append-clause-any_moment : goal.returns-in_err-append-clause-any_moment
 returns-in_err-append-clause-any_moment g c = λ parts own.
@@ -72,12 +65,11 @@ returns-clause-any_moment g c = λ parts own.
     let entry = c.args.entry.now in
     let line = c.args.line.now in
     let next = grown e entry line parts in
-    let valid = subst IsRoot (sym c.requires.made) (grown_is_root old e (length entry) c.requires.root c.root_fits.ensures.count c.requires.number c.requires.epoch c.requires.entry) in
     let run = run_joined content g.D.Disk.moment g.D.Disk.left_since (bounds_of old) disk d1 d2 c.append.ensures.beside c.append-2.ensures.beside in
     let reads = reads_so old e entry line own.fits c.requires.epoch c.requires.entry c.requires.line parts own.long free (content disk) (content d1) (content d2) new c.epoch_place-place.result c.epoch_file.result c.map_file.result c.requires.made c.epoch_place-place.ensures c.epoch_file.ensures c.map_file.ensures own.on c.in_ok-append.ensures.wrote c.in_ok-append-2.ensures.wrote in
     let becomes = becomes_so old e entry line own.fits c.requires.epoch c.requires.entry c.requires.line parts own.long new c.requires.made in
     let long = fit_so old e entry line own.fits c.requires.epoch c.requires.entry c.requires.line parts own.long new c.requires.made in
-    changing_leaves free old new parts next content g.D.Disk.moment g.D.Disk.left_since disk d2 own run _ reads becomes valid c.root_fits-2.ensures long d3 c.replace_root.ensures.any_moment
+    changing_leaves free old new parts next content g.D.Disk.moment g.D.Disk.left_since disk d2 own run _ reads becomes c.requires.valid c.root_fits-2.ensures long d3 c.replace_root.ensures.any_moment
 
 pub returns-clause-done : goal.returns-clause-done
 returns-clause-done g c = λ parts own.
@@ -93,10 +85,15 @@ returns-clause-done g c = λ parts own.
     let entry = c.args.entry.now in
     let line = c.args.line.now in
     let next = grown e entry line parts in
-    let valid = subst IsRoot (sym c.requires.made) (grown_is_root old e (length entry) c.requires.root c.root_fits.ensures.count c.requires.number c.requires.epoch c.requires.entry) in
     let run = run_joined content g.D.Disk.moment g.D.Disk.left_since (bounds_of old) disk d1 d2 c.append.ensures.beside c.append-2.ensures.beside in
     let reads = reads_so old e entry line own.fits c.requires.epoch c.requires.entry c.requires.line parts own.long free (content disk) (content d1) (content d2) new c.epoch_place-place.result c.epoch_file.result c.map_file.result c.requires.made c.epoch_place-place.ensures c.epoch_file.ensures c.map_file.ensures own.on c.in_ok-append.ensures.wrote c.in_ok-append-2.ensures.wrote in
     let becomes = becomes_so old e entry line own.fits c.requires.epoch c.requires.entry c.requires.line parts own.long new c.requires.made in
     let long = fit_so old e entry line own.fits c.requires.epoch c.requires.entry c.requires.line parts own.long new c.requires.made in
-    on_ok_weaker c.replace_root.result (changed free old new parts next content g.D.Disk.moment g.D.Disk.left_since disk d2 own run _ reads becomes valid c.root_fits-2.ensures long d3)
-    (c.replace_root.ensures.done (texts_of old parts) (texts_of new next) (to_replace free old new parts next content g.D.Disk.moment g.D.Disk.left_since disk d2 own run _ reads becomes valid c.root_fits-2.ensures long))
+    on_ok_weaker c.replace_root.result (changed free old new parts next content g.D.Disk.moment g.D.Disk.left_since disk d2 own run _ reads becomes c.requires.valid c.root_fits-2.ensures long d3)
+    (c.replace_root.ensures.done (texts_of old parts) (texts_of new next) (to_replace free old new parts next content g.D.Disk.moment g.D.Disk.left_since disk d2 own run _ reads becomes c.requires.valid c.root_fits-2.ensures long))
+
+pub returns-clause-sizes : goal.returns-clause-sizes
+returns-clause-sizes g c =
+    let content = g.D.Disk.content in
+    let lengths = long_so c.args.old.now c.args.epoch c.args.entry.now c.args.line.now c.root_fits.ensures c.requires.epoch c.requires.entry c.requires.line (content c.args.disk.now) (content c.append.new.disk) (content c.append-2.new.disk) c.args.new.now c.epoch_place-place.result c.epoch_file.result c.map_file.result c.requires.made c.epoch_place-place.ensures c.epoch_file.ensures c.map_file.ensures c.requires.sizes c.in_ok-append.ensures.sizes c.in_ok-append-2.ensures.sizes c.in_ok-append.ensures.wrote c.in_ok-append-2.ensures.wrote in
+    on_ok_weaker c.replace_root.result (kept_sizes c.args.new.now (content c.append-2.new.disk) (content c.replace_root.new.disk) lengths) c.replace_root.ensures.kept

@@ -1,21 +1,17 @@
 -- One append beside the old root's texts, and the replacement of the root.
-use Rattle.std.proofs.Common.{◌≡◌, ◌+◌, ◌∙◌, sym, ap, subst, arith, length}
+use Rattle.std.proofs.Common.{◌≡◌, ◌+◌, ◌∙◌, sym, ap, arith}
 use Rattle.std.proofs.lemmas.Result.{on_ok_weaker}
 use Rattle.root_slots.specs.declared.root.Root.{Root}
 use Rattle.root_slots.specs.Slots.{slot_number}
-use Rattle.root_slots.specs.Valid.{IsRoot}
 use Rattle.root_change.specs.Names.{epoch_name, named_end, named_none}
 use Rattle.root_change.specs.Parts.{texts_of}
 use Rattle.root_change.specs.Changing.{remade}
+use Rattle.root_change.proofs.Phases.{kept_sizes}
 use Rattle.root_change.proofs.Sizes.{root_sized}
-use Rattle.root_change.proofs.Roots.{remade_is_root}
 use Rattle.root_change.proofs.Grown.{epoch_isnt_root}
-use Rattle.root_change.proofs.Remakes.{epoch_fresh, becomes_so, fit_so, reads_so}
+use Rattle.root_change.proofs.Remakes.{epoch_fresh, long_so, becomes_so, fit_so, reads_so}
 use Rattle.root_change.proofs.Changes.{writing_leaves, to_replace, changing_leaves, changed}
 use Rattle.root_change.proofs.remaking.put_remade.Goals as goal
-
-pub root_fits-requires-2 : goal.root_fits-requires-2
-root_fits-requires-2 g c = subst IsRoot (sym c.requires.made) (remade_is_root c.args.old.now c.args.epoch (length c.args.bytes.now) c.args.dropped c.requires.root c.root_fits.ensures.count c.requires.epoch c.requires.dropped c.requires.some)
 
 pub append-requires-clause-other : goal.append-requires-clause-other
 append-requires-clause-other g c = λ is. epoch_isnt_root c.args.epoch c.args.new.now.sequence (sym c.epoch_file.ensures ∙ is)
@@ -31,9 +27,6 @@ append-requires-clause-end g c =
 
 pub replace_root-requires-clause-size : goal.replace_root-requires-clause-size
 replace_root-requires-clause-size g c = root_sized c.args.old.now (g.D.Disk.content c.append.new.disk) c.in_ok-append.ensures.sizes
-
-pub replace_root-requires-clause-root : goal.replace_root-requires-clause-root
-replace_root-requires-clause-root g c = subst IsRoot (sym c.requires.made) (remade_is_root c.args.old.now c.args.epoch (length c.args.bytes.now) c.args.dropped c.requires.root c.root_fits.ensures.count c.requires.epoch c.requires.dropped c.requires.some)
 
 pub returns-in_err-append-clause-any_moment : goal.returns-in_err-append-clause-any_moment
 returns-in_err-append-clause-any_moment g c = λ parts own.
@@ -52,12 +45,11 @@ returns-clause-any_moment g c = λ parts own.
     let bytes = c.args.bytes.now in
     let gone = c.args.dropped in
     let next = remade e bytes gone parts in
-    let valid = subst IsRoot (sym c.requires.made) (remade_is_root old e (length bytes) gone c.requires.root c.root_fits.ensures.count c.requires.epoch c.requires.dropped c.requires.some) in
     let name_is = c.epoch_file.ensures ∙ ap (λ (r : Root). epoch_name e r.sequence) c.requires.made in
     let reads = reads_so old e bytes gone c.requires.root own.fits c.requires.epoch c.requires.apart c.requires.some parts own.long free (content disk) (content d1) c.epoch_file.result name_is own.on c.in_ok-append.ensures.wrote in
     let becomes = becomes_so old e bytes gone c.requires.root own.fits c.requires.epoch c.requires.apart c.requires.some parts own.long c.requires.dropped new c.requires.made in
     let long = fit_so old e bytes gone c.requires.root own.fits c.requires.epoch c.requires.apart c.requires.some parts own.long c.requires.dropped new c.requires.made in
-    changing_leaves free old new parts next content g.D.Disk.moment g.D.Disk.left_since disk d1 own c.append.ensures.beside _ reads becomes valid c.root_fits-2.ensures long d2 c.replace_root.ensures.any_moment
+    changing_leaves free old new parts next content g.D.Disk.moment g.D.Disk.left_since disk d1 own c.append.ensures.beside _ reads becomes c.requires.valid c.root_fits-2.ensures long d2 c.replace_root.ensures.any_moment
 
 pub returns-clause-done : goal.returns-clause-done
 returns-clause-done g c = λ parts own.
@@ -72,10 +64,17 @@ returns-clause-done g c = λ parts own.
     let bytes = c.args.bytes.now in
     let gone = c.args.dropped in
     let next = remade e bytes gone parts in
-    let valid = subst IsRoot (sym c.requires.made) (remade_is_root old e (length bytes) gone c.requires.root c.root_fits.ensures.count c.requires.epoch c.requires.dropped c.requires.some) in
     let name_is = c.epoch_file.ensures ∙ ap (λ (r : Root). epoch_name e r.sequence) c.requires.made in
     let reads = reads_so old e bytes gone c.requires.root own.fits c.requires.epoch c.requires.apart c.requires.some parts own.long free (content disk) (content d1) c.epoch_file.result name_is own.on c.in_ok-append.ensures.wrote in
     let becomes = becomes_so old e bytes gone c.requires.root own.fits c.requires.epoch c.requires.apart c.requires.some parts own.long c.requires.dropped new c.requires.made in
     let long = fit_so old e bytes gone c.requires.root own.fits c.requires.epoch c.requires.apart c.requires.some parts own.long c.requires.dropped new c.requires.made in
-    on_ok_weaker c.replace_root.result (changed free old new parts next content g.D.Disk.moment g.D.Disk.left_since disk d1 own c.append.ensures.beside _ reads becomes valid c.root_fits-2.ensures long d2)
-    (c.replace_root.ensures.done (texts_of old parts) (texts_of new next) (to_replace free old new parts next content g.D.Disk.moment g.D.Disk.left_since disk d1 own c.append.ensures.beside _ reads becomes valid c.root_fits-2.ensures long))
+    on_ok_weaker c.replace_root.result (changed free old new parts next content g.D.Disk.moment g.D.Disk.left_since disk d1 own c.append.ensures.beside _ reads becomes c.requires.valid c.root_fits-2.ensures long d2)
+    (c.replace_root.ensures.done (texts_of old parts) (texts_of new next) (to_replace free old new parts next content g.D.Disk.moment g.D.Disk.left_since disk d1 own c.append.ensures.beside _ reads becomes c.requires.valid c.root_fits-2.ensures long))
+
+pub returns-clause-sizes : goal.returns-clause-sizes
+returns-clause-sizes g c =
+    let content = g.D.Disk.content in
+    let old = c.args.old.now in
+    let name_is = c.epoch_file.ensures ∙ ap (λ (r : Root). epoch_name c.args.epoch r.sequence) c.requires.made in
+    let lengths = long_so old c.args.epoch c.args.bytes.now c.args.dropped c.requires.root c.root_fits.ensures c.requires.epoch c.requires.apart c.requires.some c.requires.dropped (content c.args.disk.now) (content c.append.new.disk) c.args.new.now c.epoch_file.result c.requires.made name_is c.requires.sizes c.in_ok-append.ensures.sizes c.in_ok-append.ensures.wrote in
+    on_ok_weaker c.replace_root.result (kept_sizes c.args.new.now (content c.append.new.disk) (content c.replace_root.new.disk) lengths) c.replace_root.ensures.kept

@@ -4,7 +4,7 @@ use Rattle.std.proofs.Common.{◌∙◌, ap, subst, arith}
 use Rattle.disk_model.specs.declared.name.FileName.{FileName}
 use Rattle.disk_model.specs.Disk.{Told}
 use Rattle.root_slots.specs.declared.root.Place.{Place}
-use Rattle.root_change.specs.BesideLaws.{run_started, run_joined}
+use Rattle.disk_model.specs.BesideLaws.{run_started, run_joined}
 use Rattle.root_change.specs.Names.{epoch_name, bounds_of}
 use Rattle.root_change.specs.Replacing.{Dropped, IsOne}
 use Rattle.root_change.proofs.Drops.{none_dropped, epoch_dropped}

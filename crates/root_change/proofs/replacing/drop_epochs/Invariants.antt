@@ -1,7 +1,7 @@
 -- The files of the epochs so far are dropped.
 use Rattle.std.specs.Prelude.{◌≡◌, ◌≤◌}
 use Rattle.disk_model.specs.Disk.{Told}
-use Rattle.root_change.specs.Beside.{RunsBeside}
+use Rattle.disk_model.specs.Beside.{RunsBeside}
 use Rattle.root_change.specs.Names.{bounds_of}
 use Rattle.root_change.specs.Replacing.{Dropped, IsEpochBelow}
 use Rattle.root_change.proofs.replacing.drop_epochs.Given as goal

@@ -1,7 +1,7 @@
 -- A removal respects the bounds of the new root, and so does no call at all.
 use Rattle.std.proofs.Common.{◌∙◌, sym}
 use Rattle.std.proofs.lemmas.Result.{on_ok_weaker}
-use Rattle.root_change.specs.BesideLaws.{remove_told, run_started, run_on}
+use Rattle.disk_model.specs.BesideLaws.{remove_told, run_started, run_call}
 use Rattle.root_change.specs.Names.{bounds_of}
 use Rattle.root_change.proofs.Drops.{dropped_bound, stays_there, removed_there}
 use Rattle.root_change.proofs.replacing.drop_file.Goals as goal
@@ -12,7 +12,7 @@ returns-then-is_dropped-clause-beside g c =
     let new = c.args.new.now in
     let bounds = bounds_of new in
     let is = sym c.is_dropped.ensures ∙ c.if-is_dropped.true in
-    run_on g.D.Disk.content g.D.Disk.moment g.D.Disk.left_since bounds disk disk c.remove.new.self (run_started g.D.Disk.content g.D.Disk.moment g.D.Disk.left_since bounds disk (g.met.D.Disk.only_now disk)) c.remove.ensures.time
+    run_call g.D.Disk.content g.D.Disk.moment g.D.Disk.left_since bounds disk c.remove.new.self (g.met.D.Disk.only_now disk) c.remove.ensures.time
     (remove_told c.remove.result bounds c.args.name (g.D.Disk.content disk) (g.D.Disk.content c.remove.new.self) (g.met.D.Disk.reads_fit disk) (dropped_bound c.args.old.now new c.args.name is) c.remove.ensures.removed c.remove.ensures.torn)
 
 pub returns-then-is_dropped-clause-dropped : goal.returns-then-is_dropped-clause-dropped

@@ -3,7 +3,7 @@ use Rattle.std.proofs.Common.{subst}
 use Rattle.std.proofs.lemmas.Result.{on_ok_weaker}
 use Rattle.disk_model.specs.declared.name.FileName.{FileName}
 use Rattle.disk_model.specs.Disk.{Told}
-use Rattle.root_change.specs.BesideLaws.{run_joined}
+use Rattle.disk_model.specs.BesideLaws.{run_joined}
 use Rattle.root_change.specs.Names.{bounds_of}
 use Rattle.root_change.specs.Replacing.{Dropped, IsOne}
 use Rattle.root_change.proofs.Drops.{all_dropped}

@@ -3,9 +3,9 @@ use Rattle.std.proofs.lemmas.Result.{on_ok_weaker}
 use Rattle.disk_model.specs.Laws.{sync_image}
 use Rattle.root_slots.specs.Slots.{slot_number, slot_below}
 use Rattle.root_slots.specs.Spelling.{spelling}
-use Rattle.root_change.specs.BesideLaws.{sync_told, run_on}
+use Rattle.disk_model.specs.BesideLaws.{sync_told, run_on}
 use Rattle.root_change.specs.Names.{bounds_of}
-use Rattle.root_change.proofs.Phases.{later_told, ready_told, done_told, sizes_told, first_leaves, commit_leaves, drops_leave}
+use Rattle.root_change.proofs.Phases.{later_told, ready_told, done_told, kept_told, first_leaves, commit_leaves, drops_leave}
 use Rattle.root_change.proofs.replacing.replace_root.Goals as goal
 
 pub returns-in_err-sync-clause-any_moment : goal.returns-in_err-sync-clause-any_moment
@@ -89,10 +89,10 @@ returns-clause-done g c = λ texts next todo.
     (done_told free old texts new next k0 k1 k2 k3 k4 (g.met.D.Disk.reads_fit c.commit.new.disk) (g.met.D.Disk.reads_fit c.sync-2.new.self) todo synced c.in_ok-commit.ensures.committed again c.in_ok-drop_files.ensures.dropped)
     c.sync-2.ensures.durable
 
-pub returns-clause-sizes : goal.returns-clause-sizes
-returns-clause-sizes g c = λ lengths.
+pub returns-clause-kept : goal.returns-clause-kept
+returns-clause-kept g c =
     let new = c.args.new.now in
     let content = g.D.Disk.content in
     on_ok_weaker c.sync-2.result
-    (sizes_told (slot_number c.args.slot) (spelling new) c.args.old.now new (slot_below c.args.slot) c.in_ok-commit.ensures.whole (content c.args.disk.now) (content c.sync.new.self) (content c.commit.new.disk) (content c.drop_files.new.disk) (content c.sync-2.new.self) c.requires.size lengths c.in_ok-sync.ensures.durable c.in_ok-commit.ensures.written c.in_ok-commit.ensures.committed c.in_ok-drop_files.ensures.dropped)
+    (kept_told (slot_number c.args.slot) (spelling new) c.args.old.now new (slot_below c.args.slot) c.in_ok-commit.ensures.whole (content c.args.disk.now) (content c.sync.new.self) (content c.commit.new.disk) (content c.drop_files.new.disk) (content c.sync-2.new.self) c.requires.size c.in_ok-sync.ensures.durable c.in_ok-commit.ensures.written c.in_ok-commit.ensures.committed c.in_ok-drop_files.ensures.dropped)
     c.sync-2.ensures.durable

@@ -4,15 +4,15 @@ use Rattle.archive_core.proofs.Standing.{store_keeps}
 use Rattle.archive_core.proofs.archive.DiskArchive.blob.Goals as goal
 
 pub returns-in-None-clause-blob : goal.returns-in-None-clause-blob
-returns-in-None-clause-blob g c = λ a own. blob_missing a c.args.id.now.0 c.args.into.now c.args.into.now (c.in-None.ensures.number a (store_keeps c.args.self.now a (g.D.Disk.content c.args.disk.now) own))
+returns-in-None-clause-blob g c = λ a cache own. blob_missing a c.args.id.now.0 c.args.into.now c.args.into.now (c.in-None.ensures.number a (store_keeps c.args.self.now cache a (g.D.Disk.content c.args.disk.now) own))
 
 pub returns-in-Ok-clause-blob : goal.returns-in-Ok-clause-blob
-returns-in-Ok-clause-blob g c = λ a own.
+returns-in-Ok-clause-blob g c = λ a cache own.
     let k = g.D.Disk.content c.args.disk.now in
-    blob_given c.args.self.now a k c.args.id.now.0 c.in-Some.number c.args.into.now c.text.new.into own (c.in-Some.ensures.number a (store_keeps c.args.self.now a k own)) (c.in-Ok.ensures.text a own)
+    blob_given c.args.self.now cache a k c.args.id.now.0 c.in-Some.number c.args.into.now c.text.new.into own (c.in-Some.ensures.number a (store_keeps c.args.self.now cache a k own)) (c.in-Ok.ensures.text a cache own)
 
 pub returns-in-Err-clause-blob : goal.returns-in-Err-clause-blob
-returns-in-Err-clause-blob g c = λ a own. blob_refused a c.args.id.now.0 c.in-Some.number c.args.into.now c.text.new.into c.in-Err.refusal (c.in-Err.ensures.text a own)
+returns-in-Err-clause-blob g c = λ a cache own. blob_refused a c.args.id.now.0 c.in-Some.number c.args.into.now c.text.new.into c.in-Err.refusal (c.in-Err.ensures.text a cache own)
 
 pub returns-in-Err-clause-other : goal.returns-in-Err-clause-other
 returns-in-Err-clause-other g c = tells_other c.args.self.now.entries c.in-Some.number c.args.into.now c.text.new.into c.text.result c.text.ensures.kept

@@ -1,6 +1,6 @@
 use Rattle.std.proofs.Common.{sym, subst}
-use Rattle.epoch_store.specs.Stores.{View, IsStoreOf}
+use Rattle.epoch_store.specs.Stores.{View, IsStoreWith}
 use Rattle.archive_core.proofs.archive.DiskArchive.epoch_bytes.Goals as goal
 
 pub returns-clause-bytes : goal.returns-clause-bytes
-returns-clause-bytes g c = λ a own. c.epoch.ensures.bytes a (subst (λ (v : View). IsStoreOf v a (g.D.Disk.content c.args.disk.now)) (sym c.self.view_is) own)
+returns-clause-bytes g c = λ a cache own. c.epoch.ensures.bytes a cache (subst (λ (v : View). IsStoreWith v cache a (g.D.Disk.content c.args.disk.now)) (sym c.self.view_is) own)

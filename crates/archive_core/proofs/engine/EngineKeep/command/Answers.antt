@@ -15,7 +15,7 @@ pub returns-in-Ok-clause-done : goal.returns-in-Ok-clause-done
 returns-in-Ok-clause-done g c = λ s fits.
     let found = c.in-Ok.ensures.found s fits in
     commanded-after g.D.Disk.content g.D.Disk.moment g.D.Disk.left_since g.met.D.Disk.counts_now g.met.D.Disk.only_now g.met.D.Disk.reads_fit (is_ready c.args.self.now) c.args.self.now c.fresh.new.self c.take.new.self s found.0
-    (λ (a : Archive). applied a c.args.command.now c.args.moment) c.take.result found.1 found.2 c.in-Ok.ensures.ready c.take.ensures.done
+    (λ (a : Archive). applied a c.args.command.now c.args.moment) c.take.result found.1 found.2 c.in-Ok.ensures.ready c.take.ensures.stands
 
 pub returns-in-Ok-clause-ready : goal.returns-in-Ok-clause-ready
 returns-in-Ok-clause-ready g c = ready-after (is_ready c.args.self.now) (is_ready c.take.new.self) (ending c.take.result) (stays-ready c.take.new.self.stale c.take.result c.take.ensures.ready)

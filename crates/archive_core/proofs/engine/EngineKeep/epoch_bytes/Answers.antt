@@ -2,8 +2,10 @@ use Rattle.archive_core.proofs.Engines.{held-inside, stays-from, cause-from, qui
 use Rattle.archive_core.proofs.engine.EngineKeep.epoch_bytes.Goals as goal
 
 pub returns-clause-bytes : goal.returns-clause-bytes
-returns-clause-bytes g c = λ a store. c.epoch_bytes.ensures.bytes a (held-inside g.D.Disk.content g.D.Disk.moment g.D.Disk.left_since g.met.D.Disk.counts_now g.met.D.Disk.only_now g.met.D.Disk.reads_fit
-    (record { disk = c.self.inside.disk; view = c.self.inside.archive; stale = c.self.inside.stale }) c.args.self.now c.self.view_is a store)
+returns-clause-bytes g c = λ a store.
+    let own = held-inside g.D.Disk.content g.D.Disk.moment g.D.Disk.left_since g.met.D.Disk.counts_now g.met.D.Disk.only_now g.met.D.Disk.reads_fit
+    (record { disk = c.self.inside.disk; view = c.self.inside.archive; stale = c.self.inside.stale }) c.args.self.now c.self.view_is a store in
+    c.epoch_bytes.ensures.bytes a own.0 own.1
 
 pub returns-clause-shelf : goal.returns-clause-shelf
 returns-clause-shelf g c = stays-from g.D.Disk.content g.D.Disk.moment g.D.Disk.left_since g.met.D.Disk.counts_now g.met.D.Disk.only_now g.met.D.Disk.reads_fit

@@ -21,12 +21,12 @@ returns-in-Ok-clause-nothing g c = λ ready. absurd (still-stale g.D.Disk.conten
 pub returns-in-Ok-clause-found : goal.returns-in-Ok-clause-found
 returns-in-Ok-clause-found g c = opened-from g.D.Disk.content g.D.Disk.moment g.D.Disk.left_since g.met.D.Disk.counts_now g.met.D.Disk.only_now g.met.D.Disk.reads_fit
     (record { disk = c.self.inside.disk; view = c.self.inside.archive; stale = c.self.inside.stale }) c.args.self.now c.self.view_is
-    (record { disk = c.open.new.disk; view = c.in-Ok.archive; stale = false }) c.open.ensures.any_moment c.in-Ok.ensures.done
+    (record { disk = c.open.new.disk; view = c.in-Ok.archive; stale = false }) c.open.ensures.opened.any_moment c.in-Ok.ensures.opened.done
 
 pub returns-in-Ok-clause-any_moment : goal.returns-in-Ok-clause-any_moment
 returns-in-Ok-clause-any_moment g c = passes-from g.D.Disk.content g.D.Disk.moment g.D.Disk.left_since g.met.D.Disk.counts_now g.met.D.Disk.only_now g.met.D.Disk.reads_fit
     (record { disk = c.self.inside.disk; view = c.self.inside.archive; stale = c.self.inside.stale }) c.args.self.now c.self.view_is
-    (record { disk = c.open.new.disk; view = c.in-Ok.archive; stale = false }) c.open.ensures.any_moment
+    (record { disk = c.open.new.disk; view = c.in-Ok.archive; stale = false }) c.open.ensures.opened.any_moment
 
 pub returns-in-Err-clause-nothing : goal.returns-in-Err-clause-nothing
 returns-in-Err-clause-nothing g c = λ ready. absurd (still-stale g.D.Disk.content g.D.Disk.moment g.D.Disk.left_since g.met.D.Disk.counts_now g.met.D.Disk.only_now g.met.D.Disk.reads_fit
@@ -35,12 +35,12 @@ returns-in-Err-clause-nothing g c = λ ready. absurd (still-stale g.D.Disk.conte
 pub returns-in-Err-clause-found : goal.returns-in-Err-clause-found
 returns-in-Err-clause-found g c = unopened-from g.D.Disk.content g.D.Disk.moment g.D.Disk.left_since g.met.D.Disk.counts_now g.met.D.Disk.only_now g.met.D.Disk.reads_fit
     (record { disk = c.self.inside.disk; view = c.self.inside.archive; stale = c.self.inside.stale }) c.args.self.now c.self.view_is
-    (record { disk = c.open.new.disk; view = c.self.inside.archive; stale = c.self.inside.stale }) c.in-Err.refusal c.open.ensures.any_moment c.in-Err.ensures.well (ap not c.if-not-self.false)
+    (record { disk = c.open.new.disk; view = c.self.inside.archive; stale = c.self.inside.stale }) c.in-Err.refusal c.open.ensures.opened.any_moment c.in-Err.ensures.opened.well (ap not c.if-not-self.false)
 
 pub returns-in-Err-clause-any_moment : goal.returns-in-Err-clause-any_moment
 returns-in-Err-clause-any_moment g c = passes-from g.D.Disk.content g.D.Disk.moment g.D.Disk.left_since g.met.D.Disk.counts_now g.met.D.Disk.only_now g.met.D.Disk.reads_fit
     (record { disk = c.self.inside.disk; view = c.self.inside.archive; stale = c.self.inside.stale }) c.args.self.now c.self.view_is
-    (record { disk = c.open.new.disk; view = c.self.inside.archive; stale = c.self.inside.stale }) c.open.ensures.any_moment
+    (record { disk = c.open.new.disk; view = c.self.inside.archive; stale = c.self.inside.stale }) c.open.ensures.opened.any_moment
 
 pub returns-in-Err-clause-ready : goal.returns-in-Err-clause-ready
 returns-in-Err-clause-ready g c = ap not c.if-not-self.false
@@ -48,4 +48,4 @@ returns-in-Err-clause-ready g c = ap not c.if-not-self.false
 pub returns-in-Err-clause-cause : goal.returns-in-Err-clause-cause
 returns-in-Err-clause-cause g c = opening-why-from g.D.Disk.content g.D.Disk.moment g.D.Disk.left_since g.met.D.Disk.counts_now g.met.D.Disk.only_now g.met.D.Disk.reads_fit
     (record { disk = c.self.inside.disk; view = c.self.inside.archive; stale = c.self.inside.stale }) c.args.self.now c.self.view_is
-    g.D.Disk.faults c.open.new.disk c.in-Err.refusal c.open.result c.in-Err.is c.open.ensures.cause
+    g.D.Disk.faults c.open.new.disk c.in-Err.refusal c.open.result c.in-Err.is c.open.ensures.opened.cause

@@ -14,8 +14,10 @@ pub returns-then-not-has_text-clause-shelf : goal.returns-then-not-has_text-clau
 returns-then-not-has_text-clause-shelf g c = stays-still g.D.Disk.content g.D.Disk.moment g.D.Disk.left_since g.met.D.Disk.counts_now g.met.D.Disk.only_now g.met.D.Disk.reads_fit g.D.Disk.faults c.args.self.now c.requires.ready
 
 pub returns-clause-text : goal.returns-clause-text
-returns-clause-text g c = λ a store. c.text.ensures.text a (held-inside g.D.Disk.content g.D.Disk.moment g.D.Disk.left_since g.met.D.Disk.counts_now g.met.D.Disk.only_now g.met.D.Disk.reads_fit
-    (record { disk = c.self.inside.disk; view = c.self.inside.archive; stale = c.self.inside.stale }) c.args.self.now c.self.view_is a store)
+returns-clause-text g c = λ a store.
+    let own = held-inside g.D.Disk.content g.D.Disk.moment g.D.Disk.left_since g.met.D.Disk.counts_now g.met.D.Disk.only_now g.met.D.Disk.reads_fit
+    (record { disk = c.self.inside.disk; view = c.self.inside.archive; stale = c.self.inside.stale }) c.args.self.now c.self.view_is a store in
+    c.text.ensures.text a own.0 own.1
 
 pub returns-clause-shelf : goal.returns-clause-shelf
 returns-clause-shelf g c = stays-from g.D.Disk.content g.D.Disk.moment g.D.Disk.left_since g.met.D.Disk.counts_now g.met.D.Disk.only_now g.met.D.Disk.reads_fit

@@ -5,7 +5,7 @@ use Rattle.arch_model.specs.Archives.{empty_archive}
 use Rattle.epoch_store.specs.declared.entries.StoredEntry.{StoredEntry}
 use Rattle.root_slots.specs.declared.root.Root.{Root}
 use Rattle.epoch_store.specs.Stores.{IsDiskOf, HasSizes}
-use Rattle.epoch_store.proofs.Initial.{making_leaves, makes_only, owns_empty, sized_empty}
+use Rattle.epoch_store.proofs.Initial.{making_leaves, makes_only, owns_empty, only_settled, sized_empty}
 use Rattle.epoch_store.proofs.store.Store.init.Goals as goal
 
 pub returns-in_err-make-clause-any_moment : goal.returns-in_err-make-clause-any_moment
@@ -51,3 +51,11 @@ returns-clause-sizes g c =
     let only = makes_only config c.first_root-root.result root_is c.as_slice.result.now _ c.as_slice.ensures k1 k2 k3 c.all_names.ensures.same c.in_ok-names.ensures.names c.in_ok-make.ensures.done in
     subst (λ (es : List StoredEntry). WhereTold (HasSizes (record { root = c.first_root-root.result; slot = 0; entries = es })) k3) (sym c.new.ensures.items)
     (subst (λ (r : Root). WhereTold (HasSizes (record { root = r; slot = 0; entries = [] })) k3) (sym root_is) (sized_empty config k3 (g.met.D.Disk.reads_fit c.make.new.disk) only))
+
+pub returns-clause-settled : goal.returns-clause-settled
+returns-clause-settled g c =
+    let k1 = g.D.Disk.content c.no_archive.new.disk in
+    let k2 = g.D.Disk.content c.all_names.new.disk in
+    let k3 = g.D.Disk.content c.make.new.disk in
+    let config = c.args.config.now in
+    only_settled config k3 (makes_only config c.first_root-root.result c.first_root-root.ensures.root c.as_slice.result.now _ c.as_slice.ensures k1 k2 k3 c.all_names.ensures.same c.in_ok-names.ensures.names c.in_ok-make.ensures.done)

@@ -1,50 +1,54 @@
 -- What is left while the archive is opened, and what is there then.
 use Rattle.disk_model.specs.Disk.{Files, Image}
 use Rattle.disk_model.specs.Moments.{started, joined, weaker}
-use Rattle.epoch_store.specs.Files.{StandsFor}
-use Rattle.epoch_store.specs.Recovery.{map_bytes, bytes_in, Recovers}
-use Rattle.epoch_store.specs.Opens.{RecoversOf, SyncsFirst}
-use Rattle.epoch_store.proofs.Reopening.{opening_stands, reading_stands, synced_recovers, refused_first, on_synced, opened_store, opened_sizes, opens_well, in_epochs, at_first}
+use Rattle.root_change.specs.Texts.{StandsFor}
+use Rattle.root_slots.specs.Slots.{slot_number}
+use Rattle.epoch_store.specs.Opens.{RecoversOfWith, SyncsFirst}
+use Rattle.epoch_store.specs.Recovery.{RecoversWith}
+use Rattle.epoch_store.proofs.Reopening.{texts_found, opening_stands, reading_stands, synced_recovers, refused_first, on_synced, opened_store, opened_kept, opened_sizes, opens_well, in_epochs, at_first}
 use Rattle.epoch_store.proofs.store.Store.open.Goals as goal
 
 pub returns-in-Err-clause-well : goal.returns-in-Err-clause-well
-returns-in-Err-clause-well g c = λ a reads.
-    opens_well c.law_of_spellings.ensures.differ c.law_of_undamaged_files.ensures.undamaged a (g.D.Disk.content c.args.disk.now) c.in-Err.refusal reads c.in-Err.ensures.found
+returns-in-Err-clause-well g c = λ a cache reads.
+    opens_well c.law_of_spellings.ensures.differ c.law_of_undamaged_files.ensures.undamaged cache a (g.D.Disk.content c.args.disk.now) c.in-Err.refusal reads c.in-Err.ensures.found
 
 pub invariant_of-result : goal.invariant_of-result
 invariant_of-result g c = (c.in-Ok.ensures.root, in_epochs c.in-Ok.found.entries.items c.in-Ok.ensures.epochs)
 
 pub returns-in-Ok-settle-clause-any_moment : goal.returns-in-Ok-settle-clause-any_moment
-returns-in-Ok-settle-clause-any_moment g c = λ may all.
+returns-in-Ok-settle-clause-any_moment g c = λ may cache all.
     let disk = c.args.disk.now in
     let d1 = c.find_synced.new.disk in
     let k0 = g.D.Disk.content disk in
     let k1 = g.D.Disk.content d1 in
     let found = c.in-Ok.found in
-    let so = opening_stands c.law_of_spellings.ensures.differ may found k0 k1 (g.met.D.Disk.reads_fit disk) c.in-Ok.ensures.found all c.in-Ok.ensures.synced in
-    joined g.D.Disk.moment g.D.Disk.left_since disk d1 c.settle.new.disk (Image k0) (StandsFor found.root (map_bytes so.0) (bytes_in so.0)) (RecoversOf may) c.find_synced.ensures.any_moment
-    (c.settle.ensures.any_moment (map_bytes so.0) (bytes_in so.0) so.1) (λ image. at_first may k0 image all) so.2
+    let so = opening_stands c.law_of_spellings.ensures.differ cache may found k0 k1 (g.met.D.Disk.reads_fit disk) c.in-Ok.ensures.found all c.in-Ok.ensures.synced in
+    joined g.D.Disk.moment g.D.Disk.left_since disk d1 c.settle.new.disk (Image k0) (StandsFor found.root (texts_found found cache so.0)) (RecoversOfWith cache may) c.find_synced.ensures.any_moment
+    (c.settle.ensures.any_moment (texts_found found cache so.0) so.1) (λ image. at_first cache may k0 image all) so.2
 
 pub returns-in-Err-settle-clause-any_moment : goal.returns-in-Err-settle-clause-any_moment
-returns-in-Err-settle-clause-any_moment g c = λ may all.
+returns-in-Err-settle-clause-any_moment g c = λ may cache all.
     let disk = c.args.disk.now in
     let d1 = c.find_synced.new.disk in
     let k0 = g.D.Disk.content disk in
     let k1 = g.D.Disk.content d1 in
     let found = c.in-Ok.found in
-    let so = opening_stands c.law_of_spellings.ensures.differ may found k0 k1 (g.met.D.Disk.reads_fit disk) c.in-Ok.ensures.found all c.in-Ok.ensures.synced in
-    joined g.D.Disk.moment g.D.Disk.left_since disk d1 c.settle.new.disk (Image k0) (StandsFor found.root (map_bytes so.0) (bytes_in so.0)) (RecoversOf may) c.find_synced.ensures.any_moment
-    (c.settle.ensures.any_moment (map_bytes so.0) (bytes_in so.0) so.1) (λ image. at_first may k0 image all) so.2
+    let so = opening_stands c.law_of_spellings.ensures.differ cache may found k0 k1 (g.met.D.Disk.reads_fit disk) c.in-Ok.ensures.found all c.in-Ok.ensures.synced in
+    joined g.D.Disk.moment g.D.Disk.left_since disk d1 c.settle.new.disk (Image k0) (StandsFor found.root (texts_found found cache so.0)) (RecoversOfWith cache may) c.find_synced.ensures.any_moment
+    (c.settle.ensures.any_moment (texts_found found cache so.0) so.1) (λ image. at_first cache may k0 image all) so.2
 
 pub returns-in-Ok-settle-clause-done : goal.returns-in-Ok-settle-clause-done
-returns-in-Ok-settle-clause-done g c = λ a reads.
-    opened_store c.law_of_spellings.ensures.differ c.law_of_recovery.ensures.one c.law_of_opening.ensures.recovers c.in-Ok.found a (g.D.Disk.content c.args.disk.now) (g.D.Disk.content c.find_synced.new.disk)
+returns-in-Ok-settle-clause-done g c = λ a cache reads.
+    opened_store c.law_of_spellings.ensures.differ c.law_of_recovery.ensures.one c.law_of_opening.ensures.recovers c.in-Ok.found cache a (g.D.Disk.content c.args.disk.now) (g.D.Disk.content c.find_synced.new.disk)
     (g.D.Disk.content c.settle.new.disk) c.in-Ok.ensures.found reads c.in-Ok.ensures.synced c.in-Ok-settle.ensures.done
 
 pub returns-in-Ok-settle-clause-sizes : goal.returns-in-Ok-settle-clause-sizes
 returns-in-Ok-settle-clause-sizes g c =
-    opened_sizes c.in-Ok.found (g.D.Disk.content c.args.disk.now) (g.D.Disk.content c.find_synced.new.disk) (g.D.Disk.content c.settle.new.disk) c.in-Ok.ensures.found c.in-Ok.ensures.synced
-    c.in-Ok-settle.ensures.done c.in-Ok-settle.ensures.told
+    opened_sizes c.in-Ok.found (g.D.Disk.content c.args.disk.now) (g.D.Disk.content c.find_synced.new.disk) (g.D.Disk.content c.settle.new.disk) c.in-Ok.ensures.found c.in-Ok.ensures.synced c.in-Ok-settle.ensures.kept
+
+pub returns-in-Ok-settle-clause-kept : goal.returns-in-Ok-settle-clause-kept
+returns-in-Ok-settle-clause-kept g c =
+    opened_kept c.in-Ok.found.root (slot_number c.in-Ok.found.slot) (g.D.Disk.content c.args.disk.now) (g.D.Disk.content c.find_synced.new.disk) (g.D.Disk.content c.settle.new.disk) c.in-Ok.ensures.synced c.in-Ok-settle.ensures.kept
 
 pub returns-in-Err-clause-first : goal.returns-in-Err-clause-first
 returns-in-Err-clause-first g c =
@@ -55,8 +59,8 @@ returns-in-Err-clause-first g c =
       synced = d1;
       only = only;
       before = c.find_synced.ensures.any_moment;
-      after = λ a reads. started g.D.Disk.moment g.D.Disk.left_since d1 (λ (image : Files). Recovers image a)
-          (λ image left. synced_recovers a (g.D.Disk.content disk) (g.D.Disk.content d1) image reads only (g.met.D.Disk.only_now d1 image left));
+      after = λ a cache reads. started g.D.Disk.moment g.D.Disk.left_since d1 (λ (image : Files). RecoversWith cache image a)
+          (λ image left. synced_recovers cache a (g.D.Disk.content disk) (g.D.Disk.content d1) image reads only (g.met.D.Disk.only_now d1 image left));
     })
 
 pub returns-in-Ok-settle-clause-first : goal.returns-in-Ok-settle-clause-first
@@ -68,9 +72,9 @@ returns-in-Ok-settle-clause-first g c =
       synced = d1;
       only = c.in-Ok.ensures.synced;
       before = c.find_synced.ensures.any_moment;
-      after = λ a reads.
-          let so = reading_stands c.law_of_spellings.ensures.differ found a (g.D.Disk.content disk) (g.D.Disk.content d1) c.in-Ok.ensures.found reads c.in-Ok.ensures.synced in
-          weaker g.D.Disk.moment g.D.Disk.left_since d1 c.settle.new.disk (StandsFor found.root (map_bytes a) (bytes_in a)) (λ (image : Files). Recovers image a) (c.settle.ensures.any_moment (map_bytes a) (bytes_in a) so.0) so.1;
+      after = λ a cache reads.
+          let so = reading_stands c.law_of_spellings.ensures.differ found cache a (g.D.Disk.content disk) (g.D.Disk.content d1) c.in-Ok.ensures.found reads c.in-Ok.ensures.synced in
+          weaker g.D.Disk.moment g.D.Disk.left_since d1 c.settle.new.disk (StandsFor found.root (texts_found found cache a)) (λ (image : Files). RecoversWith cache image a) (c.settle.ensures.any_moment (texts_found found cache a) so.0) so.1;
     }
 
 pub returns-in-Err-settle-clause-first : goal.returns-in-Err-settle-clause-first
@@ -83,7 +87,7 @@ returns-in-Err-settle-clause-first g c =
       synced = d1;
       only = c.in-Ok.ensures.synced;
       before = c.find_synced.ensures.any_moment;
-      after = λ a reads.
-          let so = reading_stands c.law_of_spellings.ensures.differ found a (g.D.Disk.content disk) (g.D.Disk.content d1) c.in-Ok.ensures.found reads c.in-Ok.ensures.synced in
-          weaker g.D.Disk.moment g.D.Disk.left_since d1 c.settle.new.disk (StandsFor found.root (map_bytes a) (bytes_in a)) (λ (image : Files). Recovers image a) (c.settle.ensures.any_moment (map_bytes a) (bytes_in a) so.0) so.1;
+      after = λ a cache reads.
+          let so = reading_stands c.law_of_spellings.ensures.differ found cache a (g.D.Disk.content disk) (g.D.Disk.content d1) c.in-Ok.ensures.found reads c.in-Ok.ensures.synced in
+          weaker g.D.Disk.moment g.D.Disk.left_since d1 c.settle.new.disk (StandsFor found.root (texts_found found cache a)) (λ (image : Files). RecoversWith cache image a) (c.settle.ensures.any_moment (texts_found found cache a) so.0) so.1;
     })

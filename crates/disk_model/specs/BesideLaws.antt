@@ -3,12 +3,13 @@ use Rattle.std.specs.Prelude.{◌≡◌, ◌≢◌, ℕ, ◌≤◌, Option, Some
 use Rattle.std.proofs.Common.{◌∙◌, sym, ap, subst, inl, inr, arith, length-take}
 use Rattle.std.proofs.lemmas.Grind.{common_steps}
 use Rattle.disk_model.specs.declared.name.FileName.{FileName}
-use Rattle.disk_model.specs.Disk.{File, Files, Sure, Kept, Content, Image, Told, WhereTold, OneFile, Unchanged, Wrote, Tore, Removed, TornRemoval, Synced, NotSynced, Fits, Within, ReadsFit, IsAtMostLength, Elapses, bytes_of, exact, write_sure}
+use Rattle.disk_model.specs.Disk.{File, Files, Sure, Kept, Content, Image, Told, WhereTold, OneFile, Unchanged, Wrote, Tore, CutTo, TornCut, Removed, TornRemoval, Synced, NotSynced, Fits, Within, ReadsFit, IsAtMostLength, Elapses, bytes_of, exact, write_sure, cut_sure}
 use Rattle.disk_model.specs.Laws.{FrontOrigin, Fits-Within, Fits-exact, write_front}
+use Rattle.disk_model.specs.Cuts.{cut_front}
 use Rattle.disk_model.specs.Images.{same_or_other}
 use Rattle.disk_model.specs.Moments.{started, goes_on, joined}
-use Rattle.root_change.specs.Tells.{told_weaker, told_then}
-use Rattle.root_change.specs.Beside.{Bounds, Respects, StaysUpTo, Beside, WentBeside, RunsBeside}
+use Rattle.disk_model.specs.Tells.{told_weaker, told_then}
+use Rattle.disk_model.specs.Beside.{Bounds, Respects, StaysUpTo, Beside, WentBeside, RunsBeside}
 
 -- A shorter prefix of a shared prefix.
 take_shorter : (m n : ℕ) (a b : List ℕ) → m ≤ n → take n a ≡ take n b → take m a ≡ take m b
@@ -71,6 +72,16 @@ stays_write (Some m) at n k s file fit far inside within fits =
     front_shorter m at k.sure file far (write_front at n k.sure k.seen file fit inside
     (Fits-Within s (write_sure at n k.seen k.sure) file within fits))
 
+-- A file that a crash leaves after a cut starts as one from before.
+front_cut : (n : ℕ) (s : Sure) (seen file : File) → Fits s seen → n ≤ length (bytes_of seen)
+    → Fits (cut_sure n s) file → FrontOrigin n s file
+front_cut n s seen None fit inside left =
+    record { file = None; fits = left; same = refl; long = λ there. there }
+front_cut n s None (Some bytes) fit inside left =
+    let none : n ≡ 0 = omega arith in
+    record { file = None; fits = fit; same = rw none refl; long = λ there. omega (arith, inside) }
+front_cut n s (Some seen) (Some bytes) fit inside left = cut_front n s seen bytes fit left
+
 -- A file whose bound is 0 may be removed.
 stays_removed : (bound : Option ℕ) (k : Kept) (file : File) → Fits k.sure k.seen → Respects bound 0
     → StaysUpTo bound k.sure file
@@ -83,6 +94,15 @@ stays_removed (Some n) k file fit far =
       same = rw zero_is refl;
       long = λ there. omega (arith, zero_is);
     }
+
+-- A cut to a length that respects the bound.
+stays_cut : (bound : Option ℕ) (n : ℕ) (k : Kept) (s : Sure) (file : File) → Fits k.sure k.seen
+    → Respects bound n → n ≤ length (bytes_of k.seen) → Within s (cut_sure n k.sure) → Fits s file
+    → StaysUpTo bound k.sure file
+stays_cut None n k s file fit far inside within fits = absurd far
+stays_cut (Some m) n k s file fit far inside within fits =
+    front_shorter m n k.sure file far (front_cut n k.sure k.seen file fit inside
+    (Fits-Within s (cut_sure n k.sure) file within fits))
 
 -- A call that changes one file, which stays up to its bound.
 one_beside : (bounds : Bounds) (name : FileName) (k m : Content)
@@ -105,6 +125,15 @@ pub write_beside : (bounds : Bounds) (name : FileName) (at n : ℕ) (k m : Conte
     → ((other : FileName) → other ≢ name → m other ≡ k other) → WentBeside bounds k m
 write_beside bounds name at n k m fit far inside within elsewhere =
     one_beside bounds name k m (λ file. stays_write (bounds name) at n (k name) (m name).sure file
+    (fit k refl name) far inside within) elsewhere
+
+-- A cut, whatever it returns.
+pub cut_beside : (bounds : Bounds) (name : FileName) (n : ℕ) (k m : Content) → ReadsFit (Some k)
+    → Respects (bounds name) n → n ≤ length (bytes_of (k name).seen)
+    → Within (m name).sure (cut_sure n (k name).sure)
+    → ((other : FileName) → other ≢ name → m other ≡ k other) → WentBeside bounds k m
+cut_beside bounds name n k m fit far inside within elsewhere =
+    one_beside bounds name k m (λ file. stays_cut (bounds name) n (k name) (m name).sure file
     (fit k refl name) far inside within) elsewhere
 
 -- A removal, whatever it returns.
@@ -170,6 +199,19 @@ write_told result bounds name at bytes old new fit far inside ok err =
     (subst (WhereTold (IsAtMostLength name at)) is inside) one.here.crash one.elsewhere)
     (λ k m is told one. write_beside bounds name at (length bytes) k m (subst ReadsFit is fit) far
     (subst (WhereTold (IsAtMostLength name at)) is inside) one.here.crash one.elsewhere)
+    ok err
+
+-- A cut, if the disk tells its content.
+pub cut_told : {T E : Type 0} (result : Result T E) (bounds : Bounds) (name : FileName) (n : ℕ)
+    (old new : Option Content) → ReadsFit old → Respects (bounds name) n
+    → WhereTold (IsAtMostLength name n) old → OnOk result (Told (OneFile name (CutTo n)) old new)
+    → OnErr result (Told (OneFile name (TornCut n)) old new) → Told (WentBeside bounds) old new
+cut_told result bounds name n old new fit far inside ok err =
+    either_told result (OneFile name (CutTo n)) (OneFile name (TornCut n)) (WentBeside bounds) old new
+    (λ k m is told one. cut_beside bounds name n k m (subst ReadsFit is fit) far
+    (subst (WhereTold (IsAtMostLength name n)) is inside) one.here.crash one.elsewhere)
+    (λ k m is told one. cut_beside bounds name n k m (subst ReadsFit is fit) far
+    (subst (WhereTold (IsAtMostLength name n)) is inside) one.here.crash one.elsewhere)
     ok err
 
 -- A removal, if the disk tells its content.
@@ -257,6 +299,23 @@ module _ {D : Type 0} (content : D → Option Content)
             beside_now bounds (content old) (content new) image all left);
         told = all;
       }
+
+  -- A run of one call.
+  pub run_call : (bounds : Bounds) (old new : D) → ((image : Files) → left_since old (moment old)
+      image → Image (content old) image) → Elapses (moment old) (moment new) (left_since old)
+      (left_since new) (content new) → Told (WentBeside bounds) (content old) (content new)
+      → RunsBeside content moment left_since bounds old new
+  run_call bounds old new now time call =
+      run_on bounds old old new (run_started bounds old now) time call
+
+  -- A run of one call that changes nothing.
+  pub run_unchanged : (bounds : Bounds) (old new : D)
+      → ((image : Files) → left_since old (moment old)
+      image → Image (content old) image) → Elapses (moment old) (moment new) (left_since old)
+      (left_since new) (content new) → Told Unchanged (content old) (content new)
+      → RunsBeside content moment left_since bounds old new
+  run_unchanged bounds old new now time same =
+      run_call bounds old new now time (unchanged_told bounds (content old) (content new) same)
 
   -- Two runs, one after the other.
   pub run_joined : (bounds : Bounds) (old mid new : D) → RunsBeside content moment left_since bounds

@@ -1,0 +1,48 @@
+-- A read that fills the window, and a write of it.
+use Rattle.std.proofs.Common.{◌≤◌, arith}
+use Rattle.disk_model.specs.BesideLaws.{write_told, run_on, run_unchanged}
+use Rattle.root_change.proofs.Copies.{inside_still, window_told, window_full}
+use Rattle.root_change.proofs.copying.copy_window.Goals as goal
+
+pub returns-in_err-count-clause-beside : goal.returns-in_err-count-clause-beside
+returns-in_err-count-clause-beside g c = λ bounds far.
+    let disk = c.args.disk.now in
+    let content = g.D.Disk.content in
+    run_unchanged content g.D.Disk.moment g.D.Disk.left_since bounds disk c.read.new.self (g.met.D.Disk.only_now disk) c.read.ensures.time c.read.ensures.same
+
+pub returns-then-count-window-clause-beside : goal.returns-then-count-window-clause-beside
+returns-then-count-window-clause-beside g c = λ bounds far.
+    let disk = c.args.disk.now in
+    let content = g.D.Disk.content in
+    run_unchanged content g.D.Disk.moment g.D.Disk.left_since bounds disk c.read.new.self (g.met.D.Disk.only_now disk) c.read.ensures.time c.read.ensures.same
+
+pub returns-then-count-window-clause-whole : goal.returns-then-count-window-clause-whole
+returns-then-count-window-clause-whole g c = λ has.
+    let full : c.args.range.count ≤ c.in_ok-count.count = window_full c.args.range.file c.args.range.offset c.args.range.count c.in_ok-count.count c.args.window.now c.read.new.into (g.D.Disk.content c.args.disk.now) c.requires.window c.in_ok-count.ensures.bytes has in
+    absurd (omega (arith, full, c.requires.window))
+
+pub returns-in_err-write_at-clause-beside : goal.returns-in_err-write_at-clause-beside
+returns-in_err-write_at-clause-beside g c = λ bounds far.
+    let disk = c.args.disk.now in
+    let d1 = c.read.new.self in
+    let content = g.D.Disk.content in
+    let read = run_unchanged content g.D.Disk.moment g.D.Disk.left_since bounds disk d1 (g.met.D.Disk.only_now disk) c.read.ensures.time c.read.ensures.same in
+    let inside = inside_still c.args.to c.args.end (content disk) (content d1) c.requires.inside c.read.ensures.same in
+    run_on content g.D.Disk.moment g.D.Disk.left_since bounds disk d1 c.write_at.new.self read c.write_at.ensures.time
+    (write_told c.write_at.result bounds c.args.to c.args.end c.read.new.into (content d1) (content c.write_at.new.self) (g.met.D.Disk.reads_fit d1) far inside c.write_at.ensures.written c.write_at.ensures.torn)
+
+pub returns-clause-beside : goal.returns-clause-beside
+returns-clause-beside g c = λ bounds far.
+    let disk = c.args.disk.now in
+    let d1 = c.read.new.self in
+    let content = g.D.Disk.content in
+    let read = run_unchanged content g.D.Disk.moment g.D.Disk.left_since bounds disk d1 (g.met.D.Disk.only_now disk) c.read.ensures.time c.read.ensures.same in
+    let inside = inside_still c.args.to c.args.end (content disk) (content d1) c.requires.inside c.read.ensures.same in
+    run_on content g.D.Disk.moment g.D.Disk.left_since bounds disk d1 c.write_at.new.self read c.write_at.ensures.time
+    (write_told c.write_at.result bounds c.args.to c.args.end c.read.new.into (content d1) (content c.write_at.new.self) (g.met.D.Disk.reads_fit d1) far inside c.write_at.ensures.written c.write_at.ensures.torn)
+
+pub returns-clause-copied : goal.returns-clause-copied
+returns-clause-copied g c = λ is.
+    let content = g.D.Disk.content in
+    let range = c.args.range in
+    window_told range.file range.offset range.count c.args.to c.args.end c.in_ok-count.count c.args.window.now c.read.new.into (content c.args.disk.now) (content c.read.new.self) (content c.write_at.new.self) c.requires.some c.requires.window (omega (arith, c.requires.window)) c.in_ok-count.ensures.bytes c.read.ensures.same c.requires.inside c.in_ok-write_at.ensures.written
