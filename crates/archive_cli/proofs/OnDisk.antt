@@ -174,8 +174,7 @@ module _ {D : Type 0} (content : D → Option Content) (moment : D → ℕ) (lef
         stands-by answer.NoMemory is store = (standing b None, own-stands b store, record { found = b; is_found = found; reads = reads; comes = inr (record { found = inl refl; sure = refl }) })
         stands-by answer.DiskFault is nothing =
             let run = left b [] (done b [] reads) in
-            let doubts : Doubts (standing b None) wanted (standing b (Some (wanted b).archive)) = record { found = b; is_found = inl refl; stands = refl } in
-            (
+            let doubts : Doubts (standing b None) wanted (standing b (Some (wanted b).archive)) = record { found = b; is_found = inl refl; stands = refl } in (
               standing b (Some (wanted b).archive),
               all_recover (standing b (Some (wanted b).archive)) [] (content new.disk) (λ image now. of_either image (now-left e.disk new.disk (RecoversEither b (wanted b).archive) run image now)),
               record { found = b; is_found = found; reads = reads; comes = inr doubts },
