@@ -6,19 +6,21 @@ use Rattle.epoch_store.specs.Stores.{RecoversEitherWith}
 use Rattle.archive_core.specs.Commands.{DoneBy}
 use Rattle.archive_core.proofs.archive.DiskArchive.command.Goals as goal
 
-pub returns-clause-taken : goal.returns-clause-taken
-returns-clause-taken g c = record {
-  any_moment = λ a cache store room.
-      subst (λ (b : Archive). LeavesOnly g.D.Disk.moment g.D.Disk.left_since c.args.disk.now c.deliver.new.disk (RecoversEitherWith cache a b)) (search rules) (c.deliver.ensures.any_moment a cache store room);
-  done = λ a cache store room.
-      subst (λ (d : Done). DoneBy c.deliver.new.self cache a d c.deliver.result (g.D.Disk.content c.deliver.new.disk)) (search rules) (c.deliver.ensures.done a cache store room);
-  settled = c.deliver.ensures.settled;
-  goes_on = c.deliver.ensures.goes_on;
-  slot = c.deliver.ensures.slot;
-  same = c.deliver.ensures.same;
-  untouched = c.deliver.ensures.untouched;
-  sizes = c.deliver.ensures.sizes;
-  cause = c.deliver.ensures.cause;
-  never_damaged = c.deliver.ensures.never_damaged;
-  count = c.deliver.ensures.count;
+pub returns : goal.returns
+returns g c = record {
+  taken = record {
+    any_moment = λ a cache store room.
+        subst (λ (b : Archive). LeavesOnly g.D.Disk.moment g.D.Disk.left_since c.args.disk.now c.deliver.new.disk (RecoversEitherWith cache a b)) (search rules) (c.deliver.ensures.any_moment a cache store room);
+    done = λ a cache store room.
+        subst (λ (d : Done). DoneBy c.deliver.new.self cache a d c.deliver.result (g.D.Disk.content c.deliver.new.disk)) (search rules) (c.deliver.ensures.done a cache store room);
+    settled = c.deliver.ensures.settled;
+    goes_on = c.deliver.ensures.goes_on;
+    slot = c.deliver.ensures.slot;
+    same = c.deliver.ensures.same;
+    untouched = c.deliver.ensures.untouched;
+    sizes = c.deliver.ensures.sizes;
+    cause = c.deliver.ensures.cause;
+    never_damaged = c.deliver.ensures.never_damaged;
+    count = c.deliver.ensures.count;
+  };
 }
