@@ -57,11 +57,11 @@ only-makes words (Replay config) asked also = absurd (other-words 105 114 (codes
 only-makes words Deliver asked also = absurd (other-words 105 100 (codes "nit") (codes "eliver") asked.1.after [] (omega arith) (sym asked.1.is ∙ also))
 
 -- The archive is the same, or has the message.
-FromBy : Edges → Archive → Archive → Type 0
+abbrev FromBy : Edges → Archive → Archive → Type 0
 FromBy i old new = (new ≡ old) ⊎ WithMessage i old new
 
 -- Each archive of one standing goes on from one of another.
-Steps : Edges → Standing → Standing → Type 0
+abbrev Steps : Edges → Standing → Standing → Type 0
 Steps i s t = (b : Archive) → IsFound t b → (a : Archive) × IsFound s a × FromBy i a b
 
 module _ (i : Edges) where
@@ -130,7 +130,7 @@ module _ (i : Edges) where
     steps-done s t old (Checked entries live next) never = absurd never
 
   -- A delivery leads from what the disk stood for to what it stands for then.
-  Leads : Standing → Edges → Type 0
+  abbrev Leads : Standing → Edges → Type 0
   Leads s j = (t : Standing) × StandsAs t j.content × Steps i s t
 
   module _ (words : List (List ℕ)) (asked : AsksFor words Deliver) (j : Edges) (s : Standing) (all : StandsAs s i.content) where
