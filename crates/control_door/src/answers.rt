@@ -1,5 +1,5 @@
 //! Answers the requests of a control connection from a keeper.
-ghost use Rattle.std.specs.Prelude.{◌≡◌, ◌≤◌, ◌++◌, ℕ, List, length, drop, true, is_ok};
+ghost use Rattle.std.specs.Prelude.{◌≡◌, ◌≤◌, ◌++◌, ℕ, List, length, drop, true, false, is_ok};
 ghost use Rattle.line_door.specs.Acts.{outside, Acts, held_if};
 ghost use Rattle.arch_model.specs.Archives.{Archive};
 ghost use Rattle.arch_base.specs.Moments.{last_moment};
