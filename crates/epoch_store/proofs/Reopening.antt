@@ -6,6 +6,7 @@ use Rattle.std.proofs.Common.{◌∙◌, sym, ap, subst, inl, inr, arith, length
 use Rattle.std.proofs.lemmas.Bool.{cases_lt}
 use Rattle.disk_model.specs.declared.name.FileName.{FileName}
 use Rattle.disk_model.specs.Disk.{File, Files, Content, Image, Told, WhereTold, Unchanged, Synced, Within, exact, bytes_of, ReadsFit}
+use Rattle.disk_model.specs.Synced.{settled_image}
 use Rattle.disk_model.specs.Tells.{told_then}
 use Rattle.arch_model.specs.Archives.{Archive}
 use Rattle.arch_model.specs.declared.opening.OpenRefusal.{OpenRefusal}
@@ -303,7 +304,6 @@ refuses_before T U (Damaged file at) k n synced = synced
 refuses_before T U DiskFault k n synced = tt
 refuses_before T U NoMemory k n synced = synced
 
--- Settling fails only because the disk failed or memory ran out.
 -- What a crash leaves of a disk that was only synced stands for the archive as which its files read.
 pub synced_recovers : (cache : List ℕ) (a : Archive) (k m : Option Content) (image : Files) → ReadsWith cache a k → Told IsOnlySynced k m → Image m image → RecoversWith cache image a
 synced_recovers cache a None m image reads synced left = absurd reads
@@ -314,18 +314,20 @@ synced_recovers cache a (Some k) (Some m) image reads synced left =
     subst (λ (files : Files). RecoversWith cache files a) (sym (one ∙ two)) reads
 
 -- A refusal of a call after the sync comes after it.
-pub refused_first : {T U : Type 0} (P : Type 0) (why : OpenRefusal) (k m : Option Content) → SyncsBy {T = T} (Err why) k m → (Told IsOnlySynced k m → P) → OnSynced {T = U} (Err why) P
-refused_first P NoArchive k m synced so = so synced
-refused_first P (Damaged file at) k m synced so = so synced
-refused_first P DiskFault k m synced so = tt
-refused_first P NoMemory k m synced so = so synced
+pub refused_first : (T U P : Type 0) (why : OpenRefusal) (k m : Option Content) → SyncsBy {T = T} (Err why) k m → (Told IsOnlySynced k m → P) → OnSynced {T = U} (Err why) P
+refused_first T U P NoArchive k m synced so = so synced
+refused_first T U P (Damaged file at) k m synced so = so synced
+refused_first T U P DiskFault k m synced so = tt
+refused_first T U P NoMemory k m synced so = so synced
 
-pub on_synced : {U : Type 0} (P : Type 0) (why : OpenRefusal) → P → OnSynced {T = U} (Err why) P
-on_synced P NoArchive so = so
-on_synced P (Damaged file at) so = so
-on_synced P DiskFault so = tt
-on_synced P NoMemory so = so
+-- So does one of a later call.
+pub on_synced : (U P : Type 0) (why : OpenRefusal) → P → OnSynced {T = U} (Err why) P
+on_synced U P NoArchive so = so
+on_synced U P (Damaged file at) so = so
+on_synced U P DiskFault so = tt
+on_synced U P NoMemory so = so
 
+-- Settling fails only because the disk failed or memory ran out.
 pub rest_opens : (refusal : OpenRefusal) (files : Files) → IsWant refusal → Opens files (Err refusal)
 rest_opens NoArchive files well = absurd well
 rest_opens (Damaged file at) files well = absurd well

@@ -1,4 +1,4 @@
-use Rattle.std.proofs.Common.{None, arith}
+use Rattle.std.proofs.Common.{false, None, arith}
 use Rattle.arch_model.specs.Standing.{standing}
 use Rattle.control_door.specs.Requests.{Shows, Lists, Quits, Mistakes, Exceeds}
 use Rattle.control_door.proofs.Answering.{answers-read, answers-held, acts-quitting, acts-mistaken, acts-exceeding}
@@ -20,7 +20,7 @@ returns-in-Epochs-clause-acts g c = rw (c.in-Epochs.is, c.after-in-Epochs.ensure
 
 pub returns-in-Quit-clause-acts : goal.returns-in-Quit-clause-acts
 returns-in-Quit-clause-acts g c = rw c.in-Quit.is
-    (answers-held g.K.Shelf.holds g.K.Shelf.ready g.K.Keep.leaves g.met.K.Keep.holds_left c.args.moment Quits c.args.keep.now _ _ _ (λ a rest. acts-quitting c.args.moment (standing a None) rest _))
+    (answers-held g.K.Shelf.holds g.K.Shelf.ready g.K.Keep.leaves g.met.K.Keep.holds_left c.args.moment Quits c.args.keep.now _ _ false (λ a rest. acts-quitting c.args.moment (standing a None) rest _))
 
 pub returns-in-Mistake-clause-acts : goal.returns-in-Mistake-clause-acts
 returns-in-Mistake-clause-acts g c = rw (c.in-Mistake.is, c.after-in-Mistake.ensures)
@@ -28,4 +28,4 @@ returns-in-Mistake-clause-acts g c = rw (c.in-Mistake.is, c.after-in-Mistake.ens
 
 pub returns-in-Excess-clause-acts : goal.returns-in-Excess-clause-acts
 returns-in-Excess-clause-acts g c = rw c.in-Excess.is
-    (answers-held g.K.Shelf.holds g.K.Shelf.ready g.K.Keep.leaves g.met.K.Keep.holds_left c.args.moment Exceeds c.args.keep.now _ _ _ (λ a rest. acts-exceeding c.args.moment (standing a None) rest _ _ _ (omega arith) c.say_bad-in-Excess.ensures.said))
+    (answers-held g.K.Shelf.holds g.K.Shelf.ready g.K.Keep.leaves g.met.K.Keep.holds_left c.args.moment Exceeds c.args.keep.now _ _ false (λ a rest. acts-exceeding c.args.moment (standing a None) rest _ _ _ (omega arith) c.say_bad-in-Excess.ensures.said))

@@ -54,7 +54,7 @@ pub returns-in-Err-clause-first : goal.returns-in-Err-clause-first
 returns-in-Err-clause-first g c =
     let disk = c.args.disk.now in
     let d1 = c.find_synced.new.disk in
-    refused_first (SyncsFirst g.D.Disk.content g.D.Disk.moment g.D.Disk.left_since disk d1) c.in-Err.refusal (g.D.Disk.content disk) (g.D.Disk.content d1) c.in-Err.ensures.synced
+    refused_first _ _ (SyncsFirst g.D.Disk.content g.D.Disk.moment g.D.Disk.left_since disk d1) c.in-Err.refusal (g.D.Disk.content disk) (g.D.Disk.content d1) c.in-Err.ensures.synced
     (λ only. record {
       synced = d1;
       only = only;
@@ -82,7 +82,7 @@ returns-in-Err-settle-clause-first g c =
     let disk = c.args.disk.now in
     let d1 = c.find_synced.new.disk in
     let found = c.in-Ok.found in
-    on_synced (SyncsFirst g.D.Disk.content g.D.Disk.moment g.D.Disk.left_since disk c.settle.new.disk) c.in-Err-settle.refusal
+    on_synced _ (SyncsFirst g.D.Disk.content g.D.Disk.moment g.D.Disk.left_since disk c.settle.new.disk) c.in-Err-settle.refusal
     (record {
       synced = d1;
       only = c.in-Ok.ensures.synced;
