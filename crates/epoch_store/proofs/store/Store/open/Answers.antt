@@ -5,6 +5,8 @@ use Rattle.root_change.specs.Texts.{StandsFor}
 use Rattle.root_slots.specs.Slots.{slot_number}
 use Rattle.epoch_store.specs.Opens.{RecoversOfWith, SyncsFirst}
 use Rattle.epoch_store.specs.Recovery.{RecoversWith}
+use Rattle.epoch_store.specs.Stores.{View}
+use Rattle.epoch_store.specs.declared.finding.Found.{Found}
 use Rattle.epoch_store.proofs.Reopening.{texts_found, opening_stands, reading_stands, synced_recovers, refused_first, on_synced, opened_store, opened_kept, opened_sizes, opens_well, in_epochs, at_first}
 use Rattle.epoch_store.proofs.store.Store.open.Goals as goal
 
@@ -54,7 +56,7 @@ pub returns-in-Err-clause-first : goal.returns-in-Err-clause-first
 returns-in-Err-clause-first g c =
     let disk = c.args.disk.now in
     let d1 = c.find_synced.new.disk in
-    refused_first _ _ (SyncsFirst g.D.Disk.content g.D.Disk.moment g.D.Disk.left_since disk d1) c.in-Err.refusal (g.D.Disk.content disk) (g.D.Disk.content d1) c.in-Err.ensures.synced
+    refused_first Found View (SyncsFirst g.D.Disk.content g.D.Disk.moment g.D.Disk.left_since disk d1) c.in-Err.refusal (g.D.Disk.content disk) (g.D.Disk.content d1) c.in-Err.ensures.synced
     (λ only. record {
       synced = d1;
       only = only;
@@ -82,7 +84,7 @@ returns-in-Err-settle-clause-first g c =
     let disk = c.args.disk.now in
     let d1 = c.find_synced.new.disk in
     let found = c.in-Ok.found in
-    on_synced _ (SyncsFirst g.D.Disk.content g.D.Disk.moment g.D.Disk.left_since disk c.settle.new.disk) c.in-Err-settle.refusal
+    on_synced View (SyncsFirst g.D.Disk.content g.D.Disk.moment g.D.Disk.left_since disk c.settle.new.disk) c.in-Err-settle.refusal
     (record {
       synced = d1;
       only = c.in-Ok.ensures.synced;
