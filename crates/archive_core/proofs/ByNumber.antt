@@ -262,3 +262,8 @@ tells_other xs n old new (Ok done) kept = tt
 tells_other xs n old new (Err (Damaged named found)) kept = kept.4.2
 tells_other xs n old new (Err DiskFault) kept = tt
 tells_other xs n old new (Err NoMemory) kept = tt
+
+pub other_refused : (T U : Type 0) (why : TextRefusal) → TellsOther {T = T} (Err why) → TellsOther {T = U} (Err why)
+other_refused T U (Damaged named found) other = other
+other_refused T U DiskFault other = tt
+other_refused T U NoMemory other = tt
