@@ -5,6 +5,8 @@ pub mod FirstChoice
 pub mod Owners
 pub mod EpochLemmas
 pub mod ValidArchives
+pub mod Keepers
+pub mod Shelving
 mod Following
 mod TakenTexts
 mod Commands

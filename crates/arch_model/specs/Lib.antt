@@ -3,7 +3,10 @@ pub mod Candidates
 pub mod Delivery
 pub mod Epochs
 pub mod Following
+pub mod Keeping
 pub mod Laws
 pub mod Next
+pub mod Shelves
 pub mod Standing
+pub mod Untold
 pub mod Validity

@@ -1,107 +1,37 @@
-//! The trait of keepers: values that keep one archive, and carry out commands on it.
-ghost use Rattle.std.specs.Prelude.{◌≡◌, ◌≤◌, ℕ, Bool, true, false, List, Option, None, Some, Err, OnOk, OnErr, is_ok};
-ghost use Rattle.arch_base.specs.Counts.{RoseIf};
+//! The trait of keepers: shelves that also carry out commands, and can be reopened.
+ghost use Rattle.std.specs.Prelude.{◌≡◌, ◌≤◌, Bool, true, false, not, List, [], ◌∷◌, Option, Some, is_ok};
+ghost use Rattle.std.specs.List.{Contains};
+ghost use Rattle.arch_base.specs.Moments.{last_moment};
 ghost use Rattle.arch_model.specs.Archives.{Archive, in_epoch};
 ghost use Rattle.arch_model.specs.Delivery.{applied};
-ghost use Rattle.arch_base.specs.Moments.{last_moment};
-ghost use Rattle.arch_model.specs.Standing.{Standing, standing, one_of, IsLeastLive, IsKnownLive, GivesTextIn, GivesEpochIn, KeepsUnlessFound, StaysReady, IsUntouched, Fits, DoesBy, Reopens};
-ghost use Rattle.arch_model.specs.declared.answer.Answer.{Answer};
-ghost use Rattle.arch_model.specs.declared.text_refusal.TextRefusal.{TextRefusal};
-ghost use Rattle.arch_model.specs.declared.opening.OpenRefusal.{OpenRefusal};
+ghost use Rattle.arch_model.specs.Keeping.{Passes, Fits, Moves, OnlyRead, Reopens, Comes, StaysReady, AnswerCause, OpeningCause, text_known};
+ghost use Rattle.arch_model.specs.Shelves.{Stays, ReadCause, ReadsOnce};
+ghost use Rattle.arch_model.specs.Standing.{Standing, GivesEpochIn, KeepsUnlessFound};
 
 use crate::answer::Answer;
 use crate::command::Command;
 use crate::opening::OpenRefusal;
+use crate::shelf::Shelf;
 use crate::text_refusal::TextRefusal;
 use arch_base::Bytes;
 
-/// A keeper: a value that keeps one archive, and carries out commands on it.
+/// A keeper: a shelf that carries out commands on its archive.
 ///
 /// A keeper is ready or stale. It is stale after a command at which the disk failed, or that found
-/// a file damaged. After a fault of the disk it is not known whether the command was carried out. A
-/// stale keeper answers nothing until it is reopened, which finds the archive before the command or
-/// the one after it.
-pub trait Keep {
-    /// The keeper holds this archive, if that is told. A stale one may hold any.
-    ghost holds: { Self → Archive → Type 0 };
-
-    /// A number has a message.
-    ghost live: { Self → ℕ → Bool };
-
-    /// The keeper has to be reopened.
-    ghost stale: { Self → Bool };
-
-    /// The moment, as a number that never falls.
-    ghost clock: { Self → ℕ };
-
-    /// Each crash at that moment or later has left one of these archives. None stands for no
-    /// archive.
-    ghost leaves: { Self → ℕ → List (Option Archive) → Type 0 };
-
-    /// The count of faults of the disk.
-    ghost faults: { Self → ℕ };
+/// a file damaged, and may be after one that was carried out. After a fault of the disk it is not
+/// known whether the command was carried out. A stale keeper answers nothing until it is reopened,
+/// which finds the archive before the command or the one after it.
+///
+/// What a keeper stands for is a `Standing`: its archive, and the one that a command in doubt would
+/// have left. Its clauses hold for each standing that it fits. A crash is spoken of by two states:
+/// on the way from the first one to the second, it may leave what a clause says.
+pub trait Keep: Shelf {
+    /// Each crash since the first state has left one of these archives. None stands for no archive.
+    ghost leaves: { Self → Self → List (Option Archive) → Type 0 };
 
     /// Returns whether the keeper has to be reopened.
     fn is_stale(&self) -> bool
-        ensures { result ≡ stale self.now };
-
-    /// Returns the least number of a message that is at least this one, or `None` if there is none.
-    fn live_from(&self, n: u32) -> Option<u32>
-        requires ready { stale self.now ≡ false }
-        ensures known { IsKnownLive (live self.now) result }
-        ensures number { (a : Archive) → holds self.now a → IsLeastLive a.entries n result };
-
-    /// Appends the text of a message.
-    ///
-    /// `DiskFault` if the disk failed, and the count of faults rose. `NoMemory` if an allocation
-    /// fails. `Damaged` if the bytes that were read don't have the message's blob id, which never
-    /// happens while an archive is held. Each of them leaves `into` unchanged.
-    fn text(&mut self, n: u32, into: &mut Bytes) -> Result<(), TextRefusal>
-        requires ready { stale self.old ≡ false }
-        requires live { live self.old n ≡ true }
-        ensures text { (a : Archive) → holds self.old a
-            → GivesTextIn a.entries n into.old into.new result }
-        ensures same { (a : Archive) → holds self.old a → holds self.new a }
-        ensures refused { OnErr result (into.new ≡ into.old) }
-        ensures ready { stale self.new ≡ false }
-        ensures any_moment { (a : Archive) → holds self.old a
-            → leaves self.new (clock self.old) (one_of (standing a None)) }
-        ensures cause { RoseIf (result ≡ Err TextRefusal.DiskFault) (faults self.old)
-            (faults self.new) };
-
-    /// Appends the bytes of an epoch, and returns whether the epoch has an entry.
-    ///
-    /// `DiskFault` if the disk failed, and the count of faults rose. `NoMemory` if an allocation
-    /// fails. `Damaged` never comes while an archive is held. Each of them, and an epoch without an
-    /// entry, leave `into` unchanged.
-    fn epoch_bytes(&mut self, epoch: u32, into: &mut Bytes) -> Result<bool, TextRefusal>
-        requires ready { stale self.old ≡ false }
-        ensures bytes { (a : Archive) → holds self.old a
-            → GivesEpochIn (in_epoch a.entries epoch) into.old into.new result }
-        ensures same { (a : Archive) → holds self.old a → holds self.new a }
-        ensures kept { KeepsUnlessFound into.old into.new result }
-        ensures ready { stale self.new ≡ false }
-        ensures any_moment { (a : Archive) → holds self.old a
-            → leaves self.new (clock self.old) (one_of (standing a None)) }
-        ensures cause { RoseIf (result ≡ Err TextRefusal.DiskFault) (faults self.old)
-            (faults self.new) };
-
-    /// Carries out a command at a moment, in seconds since 1970 UTC.
-    ///
-    /// The answer is that of the definition, or `NoMemory` if an allocation fails, or `DiskFault`
-    /// if the disk failed and the count of faults rose. A refusal, and `NoMemory`, leave the keeper
-    /// unchanged. After `DiskFault` the keeper has to be reopened, and the command was carried out
-    /// or not. A crash leaves the archive before the command or the one after it.
-    fn command(&mut self, command: &Command<'_>, moment: u64) -> Answer
-        requires ready { stale self.old ≡ false }
-        requires moment { moment ≤ last_moment }
-        ensures done { (a : Archive) → holds self.old a
-            → DoesBy holds stale clock leaves a (applied a command.now moment) result self.new }
-        ensures ready { StaysReady result (stale self.new) }
-        ensures untouched { IsUntouched result self.old self.new }
-        ensures any_moment { (a : Archive) → holds self.old a → leaves self.new (clock self.old)
-            (one_of (standing a (Some (applied a command.now moment).archive))) }
-        ensures cause { RoseIf (result ≡ Answer.DiskFault) (faults self.old) (faults self.new) };
+        ensures { Self.ready self.now ≡ not result };
 
     /// Reopens the archive if the keeper is stale, and otherwise does nothing.
     ///
@@ -109,16 +39,61 @@ pub trait Keep {
     /// that a crash before could not have left. `DiskFault` if the disk failed, and the count of
     /// faults rose. `NoMemory` if an allocation fails.
     fn fresh(&mut self) -> Result<(), OpenRefusal>
-        ensures nothing { stale self.old ≡ false → (is_ok result ≡ true) × (self.new ≡ self.old) }
-        ensures found { (s : Standing) → Fits holds stale clock leaves self.old s
-            → Reopens holds stale clock leaves s result self.new }
-        ensures ready { OnOk result (stale self.new ≡ false) }
-        ensures any_moment { (s : Standing) → Fits holds stale clock leaves self.old s
-            → leaves self.new (clock self.old) (one_of s) }
-        ensures cause { RoseIf (result ≡ Err OpenRefusal.DiskFault) (faults self.old)
-            (faults self.new) };
+        ensures nothing { Self.ready self.old ≡ true
+            → (is_ok result ≡ true) × (self.new ≡ self.old) }
+        ensures found { (s : Standing) → Fits Self.holds Self.ready leaves self.old s
+            → (t : Standing) × Moves Self.holds Self.ready leaves self.old s self.new t
+            × Reopens s result t }
+        ensures any_moment { (s : Standing) → Fits Self.holds Self.ready leaves self.old s
+            → Passes leaves self.old self.new [] }
+        ensures ready { Self.ready self.new ≡ is_ok result }
+        ensures later { Self.faults self.old ≤ Self.faults self.new }
+        ensures cause { OpeningCause (Self.faults self.old) (Self.faults self.new) result };
+
+    /// Carries out a command at a moment, in seconds since 1970 UTC. A stale keeper is reopened
+    /// first.
+    ///
+    /// The answer is that of the definition, on the archive that is held or found, or `NoMemory` if
+    /// an allocation fails, or `DiskFault` if the disk failed and the count of faults rose. A refusal
+    /// to reopen leaves all as it was. After any other `DiskFault` the command is in doubt. A crash
+    /// leaves an archive of the standing before the call or of the one after it. A ready keeper reads
+    /// the disk at most once, and not at all if the command brings no text or one with a blob id that
+    /// no entry has.
+    fn command(&mut self, command: &Command<'_>, moment: u64) -> Answer
+        requires moment { moment ≤ last_moment }
+        ensures done { (s : Standing) → Fits Self.holds Self.ready leaves self.old s
+            → (t : Standing) × Moves Self.holds Self.ready leaves self.old s self.new t
+            × Comes (Self.ready self.old) s (λ (a : Archive). applied a command.now moment) result t }
+        ensures ready { StaysReady (Self.ready self.old) result (Self.ready self.new) }
+        ensures later { Self.faults self.old ≤ Self.faults self.new }
+        ensures cause { AnswerCause (Self.faults self.old) (Self.faults self.new) result }
+        ensures reads { Self.ready self.old ≡ true
+            → ReadsOnce (Self.reads self.old) (Self.reads self.new) }
+        ensures unread { (a : Archive) → Self.holds self.old a → Self.ready self.old ≡ true
+            → text_known a command.now ≡ false → Self.reads self.new ≡ Self.reads self.old };
+
+    /// Appends the bytes of an epoch, and returns whether the epoch has an entry.
+    ///
+    /// `DiskFault` if the disk failed, and the count of faults rose. `NoMemory` if an allocation
+    /// fails. `Damaged` never comes while an archive is held. Each of them, and an epoch without an
+    /// entry, leave `into` unchanged.
+    fn epoch_bytes(&mut self, epoch: u32, into: &mut Bytes) -> Result<bool, TextRefusal>
+        requires ready { Self.ready self.old ≡ true }
+        ensures bytes { (a : Archive) → Self.holds self.old a
+            → GivesEpochIn (in_epoch a.entries epoch) into.old into.new result }
+        ensures kept { KeepsUnlessFound into.old into.new result }
+        ensures shelf { Stays Self.holds Self.ready Self.alike Self.faults self.old self.new }
+        ensures cause { ReadCause (Self.faults self.old) (Self.faults self.new) result };
 
     /// A crash leaves the archive that a keeper holds.
-    ghost holds_left: { (k : Self) (a : Archive) → holds k a
-        → leaves k (clock k) (one_of (standing a None)) };
+    ghost holds_left: { (k : Self) (a : Archive) (may : List (Option Archive)) → Self.holds k a
+        → Contains may (Some a) → leaves k k may };
+
+    /// A crash since a state is one since each state on the way from it.
+    ghost leaves_now: { (start k : Self) (may : List (Option Archive)) → leaves start k may
+        → leaves k k may };
+
+    /// What only reads leaves the archive, the readiness and what a crash may leave.
+    ghost alike_kept: { (k m : Self) → Self.alike k m
+        → OnlyRead Self.holds Self.ready leaves k m };
 }

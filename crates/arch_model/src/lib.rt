@@ -1,4 +1,5 @@
-//! The archive as definitions state it, its commands and their answers, and what a keeper of one does.
+//! The archive as definitions state it, its commands and their answers, and what a shelf and a
+//! keeper of one do.
 #![tactic(auto)]
 
 mod answer;
@@ -9,6 +10,7 @@ mod laws;
 mod line;
 mod next;
 mod opening;
+mod shelf;
 mod text_refusal;
 
 pub use answer::Answer;
@@ -23,4 +25,5 @@ pub use line::EntryLine;
 pub use mail_commits::{EntryIds, entry_commit, push_entry};
 pub use next::Next;
 pub use opening::OpenRefusal;
+pub use shelf::{Shelf, is_live};
 pub use text_refusal::TextRefusal;

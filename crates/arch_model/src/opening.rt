@@ -1,6 +1,7 @@
 //! Why an archive on a disk could not be opened.
+use crate::answer::Answer;
 use arch_base::NoMemory;
-use disk_model::{DiskFault, FileName};
+use disk_model::{DiskFault, FileKind, FileName};
 use thiserror::Error;
 
 /// The reason why an archive on a disk could not be opened.
@@ -23,6 +24,34 @@ pub enum OpenRefusal {
     /// An allocation failed.
     #[error("out of memory")]
     NoMemory,
+}
+
+impl OpenRefusal {
+    ghost use Rattle.std.specs.Prelude.{◌≡◌};
+    ghost use Rattle.arch_model.specs.Keeping.{opening_answer};
+
+    /// Returns the answer to a command whose archive could not be reopened. Without an archive the
+    /// root is damaged, at its start.
+    pub fn answer(&self) -> Answer
+        ensures { result ≡ opening_answer self.now }
+    {
+        match self {
+            OpenRefusal::NoArchive => Answer::Damaged {
+                file: FileName {
+                    kind: FileKind::Root,
+                    number: 0,
+                    gen_: 0,
+                },
+                at: 0,
+            },
+            OpenRefusal::Damaged { file, at } => Answer::Damaged {
+                file: *file,
+                at: *at,
+            },
+            OpenRefusal::DiskFault => Answer::DiskFault,
+            OpenRefusal::NoMemory => Answer::NoMemory,
+        }
+    }
 }
 
 impl From<DiskFault> for OpenRefusal {

@@ -5,3 +5,4 @@ pub mod Transcripts
 pub mod PlainTranscripts
 pub mod Leaving
 pub mod OnDisk
+pub mod Rows

@@ -1,26 +1,60 @@
--- What `deliver` and `check` do, by the calls below them.
-use Rattle.std.specs.Prelude.{◌≡◌, ◌+◌, ◌<◌, ◌^◌, ℕ, List, [], length, Option, Some, None, Ok, refl}
+-- What `init`, `deliver` and `check` do, by the calls below them.
+use Rattle.std.specs.Prelude.{◌≡◌, ◌≤◌, ℕ, true, List, [], ◌∷◌, length, Option, Some, None, Result, Ok, Err, refl}
 use Rattle.std.specs.List.{Contains}
-use Rattle.std.proofs.Common.{◌∙◌, ap, inl, inr}
-use Rattle.disk_model.specs.Disk.{Files, Content, WhereTold, ReadsFit}
+use Rattle.std.proofs.Common.{◌∙◌, sym, ap, subst, inl, inr, arith}
+use Rattle.arch_base.specs.Counts.{RoseIf}
+use Rattle.arch_base.specs.declared.config.Config.{Config}
+use Rattle.disk_model.specs.Disk.{Files, Content, Image, WhereTold, ReadsFit, LeavesOnly}
+use Rattle.disk_model.specs.Moments.{joined, weaker}
 use Rattle.root_slots.specs.RootName.{root_name}
-use Rattle.root_slots.specs.Spelling.{spelling}
-use Rattle.arch_model.specs.Archives.{Archive}
-use Rattle.arch_model.specs.Delivery.{Done, delivered}
+use Rattle.root_slots.specs.Slots.{IsShutFile}
+use Rattle.arch_model.specs.Archives.{Archive, empty_archive}
+use Rattle.arch_model.specs.Delivery.{Done}
+use Rattle.arch_model.specs.Keeping.{Settles, Comes, Obeys, Doubts}
+use Rattle.arch_model.specs.Standing.{Standing, standing, one_of, IsFound}
 use Rattle.arch_model.specs.declared.answer.Answer.{Answer}
 use Rattle.arch_model.specs.declared.answer.Answer.TheVariants as answer
 use Rattle.arch_model.specs.declared.opening.OpenRefusal.{OpenRefusal}
 use Rattle.arch_model.specs.declared.opening.OpenRefusal.TheVariants as refusal
 use Rattle.epoch_store.specs.declared.entries.StoredEntry.{StoredEntry}
-use Rattle.epoch_store.specs.Files.{as_read}
-use Rattle.epoch_store.specs.Opens.{Opens, ReadsAs, RecoversOf, AllRecoverOf, IsWant}
-use Rattle.epoch_store.specs.Stores.{View, IsStoreOf, Keeps, RecoversEither}
-use Rattle.epoch_store.proofs.UniqueRoots.{slot_not_shut}
+use Rattle.epoch_store.specs.declared.refusal.InitRefusal.{InitRefusal}
+use Rattle.epoch_store.specs.declared.refusal.InitRefusal.TheVariants as making
+use Rattle.epoch_store.specs.First.{MakingAnswers, RefusesToMake}
+use Rattle.epoch_store.specs.Opens.{ReadsAs, ReadsWith, RecoversOf, RecoversOfWith, AllRecoverOf, AllRecoverWith, IsWant, SyncsFirst, OnSynced}
+use Rattle.epoch_store.specs.Recovery.{Recovers}
+use Rattle.epoch_store.specs.Stores.{View, IsStoreOf, IsStoreWith, IsDiskOf, RecoversEither, RecoversEitherWith}
 use Rattle.archive_core.specs.Commands.{DoneBy}
+use Rattle.archive_core.specs.Engines.{Owning}
 use Rattle.archive_core.specs.Openings.{LeavesKindly}
 use Rattle.archive_core.proofs.Counting.{stored_length}
-use Rattle.archive_cli.specs.DiskCommands.{HasRoom, Answers, DeliversTo, ChecksTo, RecoversAfter}
-use Rattle.archive_cli.specs.declared.outcome.Outcome.TheVariants.{Checked, Unopened}
+use Rattle.archive_core.proofs.Engines.{all_recover, reads_one, stands_for}
+use Rattle.archive_cli.specs.DiskCommands.{Makes, unmade, IsFault, Answers, DeliversTo, ChecksTo, StandsAs, StaysUnopened, DeliversOn, DeliveryLeaves}
+use Rattle.archive_cli.specs.declared.outcome.Outcome.{Outcome}
+use Rattle.archive_cli.specs.declared.outcome.Outcome.TheVariants.{Made, Checked, Answered, Unopened}
+
+-- An archive was made.
+pub made-makes : (config : Config) (name : List ℕ) (v : View) (old new : Option Content) → name ≡ config.name → WhereTold (λ (k : Content). IsShutFile (k root_name).seen) old → WhereTold (IsDiskOf v (empty_archive config)) new → Makes config (Made name) old new
+made-makes config name v old None is shut done = (is, shut, tt)
+made-makes config name v old (Some k) is shut done = (is, shut, (v, done))
+
+-- None was.
+pub unmade-makes : (config : Config) (why : InitRefusal) (o : Outcome) (old new : Option Content) → o ≡ unmade why → WhereTold (MakingAnswers {T = View} (Err why)) old → RefusesToMake {T = View} (Err why) old new → Makes config o old new
+unmade-makes config why o old new is answer refused = subst (λ (p : Outcome). Makes config p old new) (sym is) (of_why why answer refused)
+  where
+    of_why : (w : InitRefusal) → WhereTold (MakingAnswers {T = View} (Err w)) old → RefusesToMake {T = View} (Err w) old new → Makes config (unmade w) old new
+    of_why making.Exists exists kept = (exists, kept)
+    of_why making.DiskFault exists kept = tt
+    of_why making.NoMemory exists kept = kept
+
+pub unmade-cause : (before now : ℕ) (why : InitRefusal) (o : Outcome) → o ≡ unmade why → RoseIf (Err {T = View} why ≡ Err making.DiskFault) before now → RoseIf (IsFault o) before now
+unmade-cause before now why o is rose = record { later = rose.later; failed = λ fault. rose.failed (of_why why (subst IsFault is fault)) }
+  where
+    of_why : (w : InitRefusal) → IsFault (unmade w) → Err {T = View} w ≡ Err making.DiskFault
+    of_why making.Exists (inl no) = absurd (cc no)
+    of_why making.Exists (inr no) = absurd (cc no)
+    of_why making.DiskFault fault = refl
+    of_why making.NoMemory (inl no) = absurd (cc no)
+    of_why making.NoMemory (inr no) = absurd (cc no)
 
 -- What a refusal to open leaves of an archive that a message was for.
 pub unopened-delivers : (a : Archive) (bytes : List ℕ) (moment : ℕ) (why : OpenRefusal) (old new : Option Content) → ReadsAs a old → IsWant why → LeavesKindly why old new → DeliversTo a bytes moment (Unopened why) new
@@ -37,11 +71,10 @@ unopened-checks a refusal.DiskFault old new reads want kind = tt
 unopened-checks a refusal.NoMemory old new reads want kind = kind a [] reads
 
 -- The counts of a store are those of its archive.
-pub opened-checks : (v : View) (a : Archive) (content : Option Content) (entries live next : ℕ) → IsStoreOf v a content → entries ≡ length v.entries → ((b : Archive) → Keeps v b → live ≡ length b.entries) → next ≡ v.root.next
-    → ChecksTo a (Checked entries live next) content
+pub opened-checks : (v : View) (a : Archive) (content : Option Content) (entries live next : ℕ) → IsStoreOf v a content → entries ≡ length v.entries → live ≡ length a.entries → next ≡ a.next → ChecksTo a (Checked entries live next) content
 opened-checks v a None entries live next store count lives following = absurd store
 opened-checks v a (Some k) entries live next store count lives following =
-    (count ∙ (ap (λ (es : List StoredEntry). length es) store.keeps.kept ∙ stored_length [] a.entries), lives a store.keeps, following ∙ store.keeps.names.next, (v, store))
+    (count ∙ (ap (λ (es : List StoredEntry). length es) store.keeps.kept ∙ stored_length [] a.entries), lives, following, (v, store))
 
 -- The answer of an open archive is the answer on the disk.
 pub done-answers : (v : View) (a : Archive) (wanted : Done) (reply : Answer) (content : Option Content) → DoneBy v [] a wanted reply content → Answers a wanted reply content
@@ -58,20 +91,110 @@ done-answers v a wanted (answer.NotLive number) content done = absurd done
 done-answers v a wanted (answer.NoText number) content done = absurd done
 done-answers v a wanted (answer.Damaged file at) content done = absurd done
 
--- What is opened reads as one of the archives that a crash may leave.
-pub opened-reads : (may : List (Option Archive)) (v : View) (k : Option Content) → ReadsFit k → AllRecoverOf may k → WhereTold (λ c. Opens (as_read c) (Ok v)) k → (a : Archive) × Contains may (Some a) × ReadsAs a k
-opened-reads may v None fit all opens = absurd all
-opened-reads may v (Some k) fit all opens = of_one (all (as_read k) (λ name. fit k refl name)) where
-  of_one : RecoversOf may (as_read k) → (a : Archive) × Contains may (Some a) × ReadsAs a (Some k)
-  of_one (None, in_may, shut) = absurd (slot_not_shut (as_read k root_name) v.slot (spelling v.root) opens.root.current shut)
-  of_one (Some a, in_may, recovers) = (a, in_may, recovers)
+-- A disk that stands so leaves nothing else at first.
+pub image-all : (may : List (Option Archive)) (k : Option Content) (image : Files) → AllRecoverOf may k → Image k image → RecoversOf may image
+image-all may None image all left = absurd all
+image-all may (Some k) image all left = all image left
 
--- What is opened has room for a next root.
-pub opened-room : (v : View) (a : Archive) (k : Option Content) → ReadsAs a k → HasRoom k → WhereTold (λ c. Opens (as_read c) (Ok v)) k → v.root.sequence + 1 < 2 ^ 64
-opened-room v a None reads room opens = absurd reads
-opened-room v a (Some k) reads room opens = room v.root v.slot opens.root
+module _ {D : Type 0} (content : D → Option Content) (moment : D → ℕ) (left_since : D → ℕ → Files → Type 0)
+    (counts_now : (disk : D) (t : ℕ) (image : Files) → t ≤ moment disk → Image (content disk) image → left_since disk t image)
+    (reads_fit : (disk : D) → ReadsFit (content disk)) where
+  -- What a crash leaves after a run it leaves now.
+  now-left : (old new : D) (P : Files → Type 0) → LeavesOnly moment left_since old new P → (image : Files) → Image (content new) image → P image
+  now-left old new P run image left = run.each image (counts_now new (moment old) image run.later left)
 
--- The archive before a command, or the one after it.
-pub either-after : (may : List (Option Archive)) (a : Archive) (bytes : List ℕ) (moment : ℕ) (image : Files) → Contains may (Some a) → RecoversEither a (delivered a bytes moment).archive image → RecoversAfter may bytes moment image
-either-after may a bytes moment image in_may (inl before) = inl (Some a, in_may, before)
-either-after may a bytes moment image in_may (inr after) = inr (a, in_may, after)
+  -- After a run that leaves one of its archives the disk stands as before.
+  pub run-stands : (s : Standing) (old new : D) → LeavesOnly moment left_since old new (RecoversOf (one_of s)) → StandsAs s (content new)
+  run-stands s old new run = all_recover s [] (content new) (λ image left. now-left old new (RecoversOf (one_of s)) run image left)
+
+  -- The disk of one archive.
+  pub one-stands : (a : Archive) (disk : D) → ((image : Files) → Image (content disk) image → Recovers image a) → StandsAs (standing a None) (content disk)
+  one-stands a disk each = all_recover (standing a None) [] (content disk) (λ image left. (Some a, (0, omega arith, refl), each image left))
+
+  -- What was found before anything was done.
+  pub found-at : (s : Standing) (disk : D) → StandsAs s (content disk) → (b : Archive) × IsFound s b × ReadsAs b (content disk)
+  found-at s disk all = reads_one s [] (content disk) (reads_fit disk) all
+
+  -- An archive wasn't opened.
+  pub unopened-stands : (s : Standing) (old new : D) (why : OpenRefusal) → StandsAs s (content old) → ((may : List (Option Archive)) (cache : List ℕ) → AllRecoverWith cache may (content old) → LeavesOnly moment left_since old new (RecoversOfWith cache may))
+      → ((a : Archive) (cache : List ℕ) → ReadsWith cache a (content old) → IsWant why) → OnSynced {T = View} (Err why) (SyncsFirst content moment left_since old new) → (t : Standing) × StandsAs t (content new) × StaysUnopened s (content old) why t
+  unopened-stands s old new refusal.NoArchive all run want first = absurd (let found = found-at s old all in want found.0 [] found.2)
+  unopened-stands s old new (refusal.Damaged file at) all run want first = absurd (let found = found-at s old all in want found.0 [] found.2)
+  unopened-stands s old new refusal.DiskFault all run want first = (s, run-stands s old new (run (one_of s) [] all), refl)
+  unopened-stands s old new refusal.NoMemory all run want first =
+      let found = found-at s old all in (
+        standing found.0 None,
+        one-stands found.0 new (λ image left. now-left first.synced new (λ (i : Files). Recovers i found.0) (first.after found.0 [] found.2) image left),
+        (record { found = found.1; sure = refl }, found.2),
+      )
+
+  -- An archive was opened.
+  module _ (old : D) (e : Owning D) (done : (a : Archive) (cache : List ℕ) → ReadsWith cache a (content old) → IsStoreWith e.view cache a (content e.disk)) (first : SyncsFirst content moment left_since old e.disk) where
+    -- It is the one that was found.
+    pub opened-stands : (s : Standing) → StandsAs s (content old) → (t : Standing) × StandsAs t (content e.disk) × (Settles s t × ReadsAs t.archive (content old))
+    opened-stands s all =
+        let found = found-at s old all in (
+          standing found.0 None,
+          one-stands found.0 e.disk (λ image left. now-left first.synced e.disk (λ (i : Files). Recovers i found.0) (first.after found.0 [] found.2) image left),
+          (record { found = found.1; sure = refl }, found.2),
+        )
+
+    -- A command was taken.
+    module _ (new : Owning D) (wanted : Archive → Done) (reply : Answer)
+        (taken : (a : Archive) (cache : List ℕ) → IsStoreWith e.view cache a (content e.disk) → DoneBy new.view cache a (wanted a) reply (content new.disk))
+        (left : (a : Archive) (cache : List ℕ) → IsStoreWith e.view cache a (content e.disk) → LeavesOnly moment left_since e.disk new.disk (RecoversEitherWith cache a (wanted a).archive)) where
+      pub delivered-answers : (a : Archive) → ReadsAs a (content old) → Answers a (wanted a) reply (content new.disk)
+      delivered-answers a reads = done-answers new.view a (wanted a) reply (content new.disk) (taken a [] (done a [] reads))
+
+      pub delivered-leaves : (s : Standing) → StandsAs s (content old) → DeliveryLeaves content moment left_since old new.disk s wanted
+      delivered-leaves s all =
+          let found = found-at s old all in
+          inr (record {
+            found = found.0;
+            is_found = found.1;
+            reads = found.2;
+            synced = first.synced;
+            only = first.only;
+            before = weaker moment left_since old first.synced (Image (content old)) (RecoversOf (one_of s)) first.before (λ image now. image-all (one_of s) (content old) image all now);
+            after = joined moment left_since first.synced e.disk new.disk (λ (i : Files). Recovers i found.0) (RecoversEither found.0 (wanted found.0).archive) (RecoversEither found.0 (wanted found.0).archive) (first.after found.0 [] found.2) (left found.0 [] (done found.0 [] found.2))
+                (λ image one. inl one) (λ image either. either);
+          })
+
+      module _ (s : Standing) (b : Archive) (found : IsFound s b) (reads : ReadsAs b (content old)) where
+        -- The disk of a store's archive.
+        own-stands : (a : Archive) → IsStoreOf new.view a (content new.disk) → StandsAs (standing a None) (content new.disk)
+        own-stands a store = one-stands a new.disk (λ image now. stands_for new.view [] a (content new.disk) image store now)
+
+        stands-done : (r : Answer) → reply ≡ r → (wanted b).answer ≡ r → IsStoreOf new.view (wanted b).archive (content new.disk) → ((t : Standing) → Obeys (standing b None) wanted r t → Comes true (standing b None) wanted r t) → (t : Standing) × StandsAs t (content new.disk) × DeliversOn s (content old) wanted (Answered r) t
+        stands-done r is answer_is store comes =
+            let obeys : Obeys (standing b None) wanted r (standing (wanted b).archive None) = record { found = b; is_found = inl refl; answer_is = answer_is; stands = refl } in
+            (standing (wanted b).archive None, own-stands (wanted b).archive store, record { found = b; is_found = found; reads = reads; comes = comes (standing (wanted b).archive None) obeys })
+
+        stands-by : (r : Answer) → reply ≡ r → DoneBy new.view [] b (wanted b) r (content new.disk) → (t : Standing) × StandsAs t (content new.disk) × DeliversOn s (content old) wanted (Answered r) t
+        stands-by answer.NoMemory is store = (standing b None, own-stands b store, record { found = b; is_found = found; reads = reads; comes = inr (record { found = inl refl; sure = refl }) })
+        stands-by answer.DiskFault is nothing =
+            let run = left b [] (done b [] reads) in
+            let doubts : Doubts (standing b None) wanted (standing b (Some (wanted b).archive)) = record { found = b; is_found = inl refl; stands = refl } in (
+              standing b (Some (wanted b).archive),
+              all_recover (standing b (Some (wanted b).archive)) [] (content new.disk) (λ image now. of_either image (now-left e.disk new.disk (RecoversEither b (wanted b).archive) run image now)),
+              record { found = b; is_found = found; reads = reads; comes = inr doubts },
+            )
+          where
+            of_either : (image : Files) → RecoversEither b (wanted b).archive image → RecoversOf (one_of (standing b (Some (wanted b).archive))) image
+            of_either image (inl before) = (Some b, (0, omega arith, refl), before)
+            of_either image (inr after) = (Some (wanted b).archive, (1, omega arith, refl), after)
+        stands-by (answer.Ok number id) is d = stands-done (answer.Ok number id) is d.answer_is d.store (λ t obeys. obeys)
+        stands-by (answer.Duplicate number) is d = stands-done (answer.Duplicate number) is d.answer_is d.store (λ t obeys. obeys)
+        stands-by answer.NoFields is d = stands-done answer.NoFields is d.answer_is d.store (λ t obeys. obeys)
+        stands-by (answer.TooLarge len) is d = stands-done (answer.TooLarge len) is d.answer_is d.store (λ t obeys. obeys)
+        stands-by (answer.Full max) is d = stands-done (answer.Full max) is d.answer_is d.store (λ t obeys. obeys)
+        stands-by (answer.Collision number) is d = stands-done (answer.Collision number) is d.answer_is d.store (λ t obeys. obeys)
+        stands-by answer.IsMirror is d = stands-done answer.IsMirror is d.answer_is d.store (λ t obeys. obeys)
+        stands-by (answer.NotLive number) is never = absurd never
+        stands-by (answer.NoText number) is never = absurd never
+        stands-by (answer.Damaged file at) is never = absurd never
+
+      pub delivered-stands : (s : Standing) → StandsAs s (content old) → (t : Standing) × StandsAs t (content new.disk) × DeliversOn s (content old) wanted (Answered reply) t
+      delivered-stands s all =
+          let found = found-at s old all in
+          stands-by s found.0 found.1 found.2 reply refl (taken found.0 [] (done found.0 [] found.2))

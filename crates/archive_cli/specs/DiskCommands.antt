@@ -1,21 +1,22 @@
 -- What `init`, `deliver` and `check` do to a disk, and how they end.
-use Rattle.std.specs.Prelude.{◌≡◌, ◌⊎◌, ◌+◌, ◌<◌, ◌^◌, ℕ, List, length, Option, Some, Ok, Err}
-use Rattle.std.specs.List.{Contains}
+use Rattle.std.specs.Prelude.{◌≡◌, ◌⊎◌, ℕ, true, List, length, Option, None, Ok, Err}
 use Rattle.arch_base.specs.declared.config.Config.{Config}
-use Rattle.disk_model.specs.Disk.{Files, Content, Told, WhereTold}
-use Rattle.root_slots.specs.declared.root.Root.{Root}
+use Rattle.disk_model.specs.Disk.{Files, Content, Told, WhereTold, LeavesOnly}
 use Rattle.root_slots.specs.RootName.{root_name}
 use Rattle.root_slots.specs.Slots.{IsShutFile}
 use Rattle.arch_model.specs.Archives.{Archive, empty_archive}
 use Rattle.arch_model.specs.Delivery.{Done, delivered}
+use Rattle.arch_model.specs.Keeping.{Settles, Comes}
+use Rattle.arch_model.specs.Standing.{Standing, standing, one_of, IsFound}
 use Rattle.arch_model.specs.declared.answer.Answer.{Answer}
 use Rattle.arch_model.specs.declared.answer.Answer.TheVariants as answer
+use Rattle.arch_model.specs.declared.opening.OpenRefusal.{OpenRefusal}
 use Rattle.arch_model.specs.declared.opening.OpenRefusal.TheVariants as refusal
+use Rattle.epoch_store.specs.declared.refusal.InitRefusal.{InitRefusal}
+use Rattle.epoch_store.specs.declared.refusal.InitRefusal.TheVariants as making
 use Rattle.epoch_store.specs.Files.{as_read}
-use Rattle.epoch_store.specs.Finding.{IsCurrentRoot}
-use Rattle.epoch_store.specs.Opens.{IsOnlySynced, Opens, ReadsAs, RecoversOf}
-use Rattle.epoch_store.specs.Recovery.{Recovers}
-use Rattle.epoch_store.specs.Stores.{View, IsStoreOf, IsDiskOf}
+use Rattle.epoch_store.specs.Opens.{IsOnlySynced, Opens, ReadsAs, RecoversOf, AllRecoverOf}
+use Rattle.epoch_store.specs.Stores.{View, IsStoreOf, IsDiskOf, RecoversEither}
 use Rattle.archive_core.specs.Openings.{LeavesKindly}
 use Rattle.archive_cli.specs.declared.outcome.Outcome.{Outcome}
 use Rattle.archive_cli.specs.declared.outcome.Outcome.TheVariants.{Made, Exists, Checked, Answered, Unopened}
@@ -24,11 +25,6 @@ use Rattle.archive_cli.specs.declared.outcome.Outcome.TheVariants.{Made, Exists,
 -- the files are exactly those of the archive.
 abbrev pub IsOwn : Archive → Option Content → Type 0
 IsOwn a content = (v : View) × IsStoreOf v a content
-
--- The sequence of the disk's current root can still be raised.
-abbrev pub HasRoom : Option Content → Type 0
-HasRoom content = WhereTold (λ k. (root : Root) (slot : ℕ) → IsCurrentRoot root slot (as_read k)
-    → root.sequence + 1 < 2 ^ 64) content
 
 -- How `init` ends. An archive is made if no slot is open, and the disk is its own. Otherwise there
 -- is one already, or memory ran out, and the disk is synced and nothing more; or the disk failed.
@@ -52,6 +48,12 @@ Makes config (Answered answer.IsMirror) old new = ⊥
 Makes config (Answered (answer.Damaged file at)) old new = ⊥
 Makes config (Checked entries live next) old new = ⊥
 Makes config (Unopened why) old new = ⊥
+
+-- How `init` ends if no archive is made.
+abbrev pub unmade : InitRefusal → Outcome
+unmade making.Exists = Exists
+unmade making.DiskFault = Answered answer.DiskFault
+unmade making.NoMemory = Answered answer.NoMemory
 
 -- The answer is that of the definition, and the disk is the own disk of the definition's archive.
 pub record IsDone (wanted : Done) (reply : Answer) (new : Option Content) : Type 0 where
@@ -118,10 +120,77 @@ LeavesUnopened (Answered reply) old new = Unit {0}
 LeavesUnopened (Made name) old new = Unit {0}
 LeavesUnopened Exists old new = Unit {0}
 
--- The files stand for one of these archives, or for what a delivery to one of them leaves.
-abbrev pub RecoversAfter : List (Option Archive) → List ℕ → ℕ → Files → Type 0
-RecoversAfter may bytes moment image = RecoversOf may image
-    ⊎ ((a : Archive) × Contains may (Some a) × Recovers image (delivered a bytes moment).archive)
+-- A delivery is answered, or the archive wasn't opened.
+abbrev pub IsDelivery : Outcome → Type 0
+IsDelivery (Made name) = ⊥
+IsDelivery Exists = ⊥
+IsDelivery (Checked entries live next) = ⊥
+IsDelivery (Answered reply) = Unit {0}
+IsDelivery (Unopened why) = Unit {0}
+
+-- A check counts, or the archive wasn't opened.
+abbrev pub IsCheck : Outcome → Type 0
+IsCheck (Made name) = ⊥
+IsCheck Exists = ⊥
+IsCheck (Checked entries live next) = Unit {0}
+IsCheck (Answered reply) = ⊥
+IsCheck (Unopened why) = Unit {0}
+
+-- Each crash of the disk leaves files that stand for the archive of a standing, or for the one in
+-- doubt there.
+abbrev pub StandsAs : Standing → Option Content → Type 0
+StandsAs s content = AllRecoverOf (one_of s) content
+
+-- How a refused opening leaves a disk that stood so. After the disk failed it stands as before; after
+-- memory ran out it is the archive as which it read.
+abbrev pub StaysUnopened : Standing → Option Content → OpenRefusal → Standing → Type 0
+StaysUnopened s old refusal.DiskFault t = t ≡ s
+StaysUnopened s old refusal.NoMemory t = Settles s t × ReadsAs t.archive old
+StaysUnopened s old refusal.NoArchive t = ⊥
+StaysUnopened s old (refusal.Damaged file at) t = ⊥
+
+-- A delivery was answered on the archive that was found, which is the one as which the disk read.
+pub record DeliveredOn (s : Standing) (old : Option Content) (wanted : Archive → Done)
+    (reply : Answer) (t : Standing) : Type 0 where
+  pub found : Archive
+  pub is_found : IsFound s found
+  pub reads : ReadsAs found old
+  pub comes : Comes true (standing found None) wanted reply t
+
+-- How `deliver` leaves a disk that stood so.
+abbrev pub DeliversOn : Standing → Option Content → (Archive → Done) → Outcome → Standing → Type 0
+DeliversOn s old wanted (Answered reply) t = DeliveredOn s old wanted reply t
+DeliversOn s old wanted (Unopened why) t = StaysUnopened s old why t
+DeliversOn s old wanted (Made name) t = ⊥
+DeliversOn s old wanted Exists t = ⊥
+DeliversOn s old wanted (Checked entries live next) t = ⊥
+
+-- How `check` leaves a disk that stood so.
+abbrev pub ChecksOn : Standing → Option Content → Outcome → Standing → Type 0
+ChecksOn s old (Checked entries live next) t = Settles s t × ReadsAs t.archive old
+ChecksOn s old (Unopened why) t = StaysUnopened s old why t
+ChecksOn s old (Made name) t = ⊥
+ChecksOn s old Exists t = ⊥
+ChecksOn s old (Answered reply) t = ⊥
+
+-- A disk, by its content and by what each crash since a moment may have left.
+module _ {D : Type 0} (content : D → Option Content) (moment : D → ℕ)
+    (left_since : D → ℕ → Files → Type 0) where
+  -- The disk was synced first. Until then a crash leaves the archive of a standing, or the one in
+  -- doubt there; from then on, the one that was found, or what the delivery makes of it.
+  pub record DeliveryRuns (old new : D) (s : Standing) (wanted : Archive → Done) : Type 0 where
+    pub found : Archive
+    pub is_found : IsFound s found
+    pub reads : ReadsAs found (content old)
+    pub synced : D
+    pub only : Told IsOnlySynced (content old) (content synced)
+    pub before : LeavesOnly moment left_since old synced (RecoversOf (one_of s))
+    pub after : LeavesOnly moment left_since synced new (RecoversEither found (wanted found).archive)
+
+  -- The same; or nothing was delivered, and a crash leaves one of the two archives.
+  abbrev pub DeliveryLeaves : D → D → Standing → (Archive → Done) → Type 0
+  DeliveryLeaves old new s wanted = LeavesOnly moment left_since old new (RecoversOf (one_of s))
+      ⊎ DeliveryRuns old new s wanted
 
 -- The outcome tells that the disk failed.
 abbrev pub IsFault : Outcome → Type 0

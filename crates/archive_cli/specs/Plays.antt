@@ -2,7 +2,7 @@
 use Rattle.std.specs.Prelude.{◌≡◌, ◌++◌, ℕ, Bool, List, Option}
 use Rattle.edge_io.specs.Scripts.{Arrival}
 use Rattle.arch_model.specs.Archives.{Archive}
-use Rattle.arch_model.specs.Standing.{Fits}
+use Rattle.arch_model.specs.Keeping.{Fits}
 use Rattle.archive_cli.specs.Frames.{frame}
 use Rattle.archive_cli.specs.Turns.{World, CameTo, Turned, Transcript}
 
@@ -12,12 +12,12 @@ pub record Played (K : Type 0) : Type 0 where
   pub keep : K
 
 -- A keeper: see the trait.
-module _ {K : Type 0} (holds : K → Archive → Type 0) (stale : K → Bool) (clock : K → ℕ)
-    (leaves : K → ℕ → List (Option Archive) → Type 0) (faults : K → ℕ) where
+module _ {K : Type 0} (holds : K → Archive → Type 0) (ready : K → Bool)
+    (leaves : K → K → List (Option Archive) → Type 0) (faults : K → ℕ) where
   -- The keeper fits the world's standing, the session is the world's, and the disk hasn't failed.
   pub record Shows (p : Played K) (w : World) : Type 0 where
     pub session_is : w.session ≡ p.session
-    pub fits : Fits holds stale clock leaves p.keep w.standing
+    pub fits : Fits holds ready leaves p.keep w.standing
     pub unfailed : faults p.keep ≡ 0
 
   -- An event was played in this world, and the frame of what it wrote is appended.

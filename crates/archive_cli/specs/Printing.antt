@@ -4,11 +4,14 @@ use Rattle.arch_base.specs.Counts.{Rose}
 use Rattle.arch_base.specs.declared.config.Config.{Config}
 use Rattle.edge_io.specs.Phrases.{Says}
 use Rattle.edge_io.specs.declared.sink.SinkFault.{SinkFault}
-use Rattle.disk_model.specs.Disk.{Files}
+use Rattle.disk_model.specs.Disk.{Files, Content, LeavesOnly}
 use Rattle.edge_io.specs.Coming.{Moments, IsFirst}
 use Rattle.arch_model.specs.Archives.{Archive}
+use Rattle.arch_model.specs.Delivery.{delivered}
+use Rattle.arch_model.specs.Standing.{Standing, one_of}
+use Rattle.epoch_store.specs.Opens.{RecoversOf}
 use Rattle.answer_lines.specs.Lines.{whole_line}
-use Rattle.archive_cli.specs.DiskCommands.{RecoversAfter}
+use Rattle.archive_cli.specs.DiskCommands.{DeliveryRuns}
 use Rattle.archive_cli.specs.declared.words.Job.{Job}
 use Rattle.archive_cli.specs.declared.words.Job.TheVariants.{Deliver}
 use Rattle.archive_cli.specs.Program.{Edges, EndsBy, IsSilent, IsInput, input_limit, Replays, StopsShort}
@@ -96,9 +99,12 @@ JobDone job input status i j = Printed (IsOutcomeDue job input i j)
     status i.taken i.lost j.taken j.lost ⊎ MissesMoment status i j
 
 -- What a crash leaves while a message is delivered at the first moment to come.
-abbrev pub BytesLeave : List (Option Archive) → List ℕ → Option Moments → Files → Type 0
-BytesLeave may bytes coming image = (moment : ℕ) × IsFirst moment coming
-    × RecoversAfter may bytes moment image
+abbrev pub BytesLeave : {D : Type 0} → (D → Option Content) → (D → ℕ) → (D → ℕ → Files → Type 0) → D → D
+    → Standing → List ℕ → Option Moments → Type 0
+BytesLeave content moment left_since old new s bytes coming =
+    LeavesOnly moment left_since old new (RecoversOf (one_of s))
+    ⊎ ((at : ℕ) × IsFirst at coming
+    × DeliveryRuns content moment left_since old new s (λ (a : Archive). delivered a bytes at))
 
 -- The message was not read, because memory ran out.
 pub record IsUnread (i j : Edges) (status : Status) (printed : List ℕ) : Type 0 where

@@ -2,18 +2,19 @@
 use Rattle.std.specs.Prelude.{◌≡◌, ◌<◌, ◌≤◌, ◌⊎◌, ◌+◌, ℕ, min, max, List, [], ◌++◌, length, take, codes, decimal, Option, Some, None, MatchOption}
 use Rattle.arch_base.specs.Counts.{Rose}
 use Rattle.arch_base.specs.declared.config.Config.{Config}
-use Rattle.disk_model.specs.Disk.{Files, Content, WhereTold}
+use Rattle.disk_model.specs.Disk.{Files, Content, WhereTold, LeavesOnly}
 use Rattle.edge_io.specs.Coming.{Moments, IsFirst}
 use Rattle.edge_io.specs.Taken.{plus}
 use Rattle.edge_io.specs.Left.{before}
 use Rattle.edge_io.specs.Scripts.{Arrival, IsScript, IsBad}
-use Rattle.arch_model.specs.Standing.{standing}
 use Rattle.arch_model.specs.Archives.{Archive, empty_archive}
+use Rattle.arch_model.specs.Delivery.{delivered}
+use Rattle.arch_model.specs.Standing.{Standing, standing, one_of}
 use Rattle.epoch_store.specs.Files.{as_read}
 use Rattle.epoch_store.specs.First.{MakingLeaves}
-use Rattle.epoch_store.specs.Opens.{ReadsAs}
+use Rattle.epoch_store.specs.Opens.{ReadsAs, RecoversOf}
 use Rattle.answer_lines.specs.Lines.{whole_line}
-use Rattle.archive_cli.specs.DiskCommands.{HasRoom, Makes, DeliversTo, ChecksTo, IsOpenedAs, IsFault, RecoversAfter, LeavesUnopened}
+use Rattle.archive_cli.specs.DiskCommands.{Makes, DeliversTo, ChecksTo, IsOpenedAs, IsFault, IsDelivery, IsCheck, StandsAs, DeliversOn, ChecksOn, DeliveryRuns, LeavesUnopened}
 use Rattle.archive_cli.specs.Outcomes.{outcome_line, status_of}
 use Rattle.archive_cli.specs.Statuses.{code_of}
 use Rattle.archive_cli.specs.Words.{IsJob, AsksFor}
@@ -123,14 +124,30 @@ made_at config moment = record {
 abbrev pub message_of : List ℕ → List ℕ
 message_of input = take message_limit input
 
+-- How `deliver` of a message at a moment ended. Whatever the disk stood for, it stands for what is
+-- answered.
+pub record DeliverActs (bytes : List ℕ) (moment : ℕ) (old new : Option Content) (o : Outcome)
+    : Type 0 where
+  pub kind : IsDelivery o
+  pub done : (a : Archive) → ReadsAs a old → DeliversTo a bytes moment o new
+  pub stands : (s : Standing) → StandsAs s old → (t : Standing) × StandsAs t new
+      × DeliversOn s old (λ (a : Archive). delivered a bytes moment) o t
+  pub answer : WhereTold (λ k. IsOpenedAs (as_read k) o) old
+  pub unopened : LeavesUnopened o old new
+
+-- How `check` ended. Whatever the disk stood for, it stands for what is counted.
+pub record CheckActs (old new : Option Content) (o : Outcome) : Type 0 where
+  pub kind : IsCheck o
+  pub done : (a : Archive) → ReadsAs a old → ChecksTo a o new
+  pub stands : (s : Standing) → StandsAs s old → (t : Standing) × StandsAs t new × ChecksOn s old o t
+  pub answer : WhereTold (λ k. IsOpenedAs (as_read k) o) old
+  pub unopened : LeavesUnopened o old new
+
 -- How a job over the archive on a disk ended, by the content of the disk before and after.
 abbrev pub ActsBy : Job → List ℕ → ℕ → Option Content → Option Content → Outcome → Type 0
 ActsBy (Init config) input moment old new o = Makes (made_at config moment) o old new
-ActsBy Deliver input moment old new o =
-    ((a : Archive) → ReadsAs a old → HasRoom old → DeliversTo a (message_of input) moment o new)
-    × WhereTold (λ k. IsOpenedAs (as_read k) o) old × LeavesUnopened o old new
-ActsBy Check input moment old new o = ((a : Archive) → ReadsAs a old → ChecksTo a o new)
-    × WhereTold (λ k. IsOpenedAs (as_read k) o) old × LeavesUnopened o old new
+ActsBy Deliver input moment old new o = DeliverActs (message_of input) moment old new o
+ActsBy Check input moment old new o = CheckActs old new o
 ActsBy Help input moment old new o = ⊥
 ActsBy Version input moment old new o = ⊥
 ActsBy (Replay config) input moment old new o = ⊥
@@ -299,11 +316,16 @@ abbrev pub WordsLeave : List (List ℕ) → Option Moments → Option Content �
 WordsLeave words coming old image = (config : Config) × AsksFor words (Init config)
     × InitLeaves config coming old image
 
--- What a crash leaves while the message on the input is delivered at the first moment to come: one
--- of the archives that the disk may have stood for, or the one that the delivery leaves.
-abbrev pub DeliverLeaves : List (Option Archive) → Option (List ℕ) → Option Moments → Files → Type 0
-DeliverLeaves may left coming image = (input : List ℕ) × IsInput left input
-    × ((moment : ℕ) × IsFirst moment coming × RecoversAfter may (message_of input) moment image)
+-- What a crash leaves while the message on the input is delivered at the first moment to come. Until
+-- the disk was synced, that is the archive of a standing, or the one in doubt there; from then on, the
+-- one that was found, or what the delivery makes of it.
+abbrev pub RunLeaves : {D : Type 0} → (D → Option Content) → (D → ℕ) → (D → ℕ → Files → Type 0) → D → D
+    → Standing → Option (List ℕ) → Option Moments → Type 0
+RunLeaves content moment left_since old new s left coming =
+    LeavesOnly moment left_since old new (RecoversOf (one_of s))
+    ⊎ ((input : List ℕ) × IsInput left input × (at : ℕ) × IsFirst at coming
+    × DeliveryRuns content moment left_since old new s
+    (λ (a : Archive). delivered a (message_of input) at))
 
 -- The words ask for a job without a disk.
 abbrev pub LeavesDisk : List (List ℕ) → Type 0

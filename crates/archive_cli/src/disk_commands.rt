@@ -1,76 +1,100 @@
 //! The work of `init`, `deliver` and `check` on the archive on a disk.
+//!
+//! Each takes the disk, and hands it back.
 ghost use Rattle.std.specs.Prelude.{◌≤◌, List, Option};
 ghost use Rattle.arch_base.specs.Configs.{IsConfig};
 ghost use Rattle.arch_base.specs.Counts.{RoseIf};
+ghost use Rattle.arch_base.specs.Moments.{last_moment};
 ghost use Rattle.disk_model.specs.Disk.{WhereTold, LeavesOnly};
 ghost use Rattle.arch_model.specs.Archives.{Archive, empty_archive};
-ghost use Rattle.arch_base.specs.Moments.{last_moment};
+ghost use Rattle.arch_model.specs.Delivery.{delivered};
+ghost use Rattle.arch_model.specs.Standing.{Standing};
 ghost use Rattle.epoch_store.specs.Files.{as_read};
 ghost use Rattle.epoch_store.specs.First.{MakingLeaves};
 ghost use Rattle.epoch_store.specs.Opens.{AllRecoverOf, ReadsAs, RecoversOf};
-ghost use Rattle.archive_cli.specs.DiskCommands.{Makes, DeliversTo, ChecksTo, IsOpenedAs, LeavesUnopened, RecoversAfter, HasRoom, IsFault};
+ghost use Rattle.archive_cli.specs.DiskCommands.{Makes, unmade, DeliversTo, ChecksTo, IsOpenedAs, LeavesUnopened, IsDelivery, IsCheck, StandsAs, DeliversOn, ChecksOn, DeliveryLeaves, IsFault};
 
 use crate::outcome::Outcome;
 use arch_base::Config;
-use arch_model::{Answer, Command};
-use archive_core::DiskArchive;
+use arch_model::{Answer, Command, Shelf};
+use archive_core::{Engine, NotMade, NotOpened};
 use disk_model::Disk;
 use epoch_store::InitRefusal;
 use std::alloc::Global;
 
 /// Makes an archive with these settings on a disk that has none.
-pub(crate) fn make<D: Disk>(alloc: Global, disk: &mut D, config: &Config) -> Outcome
+pub(crate) fn make<D: Disk>(alloc: Global, disk: D, config: &Config) -> (Outcome, D)
     requires config { IsConfig config.now }
-    ensures any_moment { LeavesOnly D.moment D.left_since disk.old disk.new
-        (MakingLeaves (empty_archive config.now) (D.content disk.old)) }
-    ensures made { Makes config.now result (D.content disk.old) (D.content disk.new) }
-    ensures cause { RoseIf (IsFault result) (D.faults disk.old) (D.faults disk.new) }
+    ensures any_moment { LeavesOnly D.moment D.left_since disk result.1
+        (MakingLeaves (empty_archive config.now) (D.content disk)) }
+    ensures made { Makes config.now result.0 (D.content disk) (D.content result.1) }
+    ensures cause { RoseIf (IsFault result.0) (D.faults disk) (D.faults result.1) }
 {
-    match DiskArchive::init(alloc, disk, config) {
-        Ok(_archive) => Outcome::Made(config.name.copy()),
-        Err(InitRefusal::Exists) => Outcome::Exists,
-        Err(InitRefusal::DiskFault) => Outcome::Answered(Answer::DiskFault),
-        Err(InitRefusal::NoMemory) => Outcome::Answered(Answer::NoMemory),
+    match Engine::make(alloc, disk, config) {
+        Ok(engine) => (Outcome::Made(config.name.copy()), engine.into_disk()),
+        Err(NotMade { disk, why }) => (outcome_of(&why), disk),
+    }
+}
+
+/// Returns how `init` ends if no archive is made.
+fn outcome_of(why: &InitRefusal) -> Outcome
+    ensures { result ≡ unmade why.now }
+{
+    match why {
+        InitRefusal::Exists => Outcome::Exists,
+        InitRefusal::DiskFault => Outcome::Answered(Answer::DiskFault),
+        InitRefusal::NoMemory => Outcome::Answered(Answer::NoMemory),
     }
 }
 
 /// Delivers a message to the archive on a disk, at a moment in seconds since 1970 UTC.
-pub(crate) fn deliver<D: Disk>(alloc: Global, disk: &mut D, bytes: &[u8], moment: u64) -> Outcome
+pub(crate) fn deliver<D: Disk>(alloc: Global, disk: D, bytes: &[u8], moment: u64) -> (Outcome, D)
     requires moment { moment ≤ last_moment }
-    ensures any_moment { (may : List (Option Archive)) → AllRecoverOf may (D.content disk.old)
-        → HasRoom (D.content disk.old)
-        → LeavesOnly D.moment D.left_since disk.old disk.new (RecoversAfter may bytes.now moment) }
-    ensures done { (a : Archive) → ReadsAs a (D.content disk.old) → HasRoom (D.content disk.old)
-        → DeliversTo a bytes.now moment result (D.content disk.new) }
-    ensures answer { WhereTold (λ k. IsOpenedAs (as_read k) result) (D.content disk.old) }
-    ensures unopened { LeavesUnopened result (D.content disk.old) (D.content disk.new) }
-    ensures cause { RoseIf (IsFault result) (D.faults disk.old) (D.faults disk.new) }
+    ensures any_moment { (s : Standing) → StandsAs s (D.content disk)
+        → DeliveryLeaves D.content D.moment D.left_since disk result.1 s
+        (λ (a : Archive). delivered a bytes.now moment) }
+    ensures stands { (s : Standing) → StandsAs s (D.content disk) → (t : Standing)
+        × StandsAs t (D.content result.1)
+        × DeliversOn s (D.content disk) (λ (a : Archive). delivered a bytes.now moment) result.0 t }
+    ensures done { (a : Archive) → ReadsAs a (D.content disk)
+        → DeliversTo a bytes.now moment result.0 (D.content result.1) }
+    ensures answer { WhereTold (λ k. IsOpenedAs (as_read k) result.0) (D.content disk) }
+    ensures unopened { LeavesUnopened result.0 (D.content disk) (D.content result.1) }
+    ensures kind { IsDelivery result.0 }
+    ensures cause { RoseIf (IsFault result.0) (D.faults disk) (D.faults result.1) }
 {
-    match DiskArchive::open(alloc, disk) {
-        Ok(archive) => {
-            let mut archive = archive;
-            Outcome::Answered(archive.command(disk, &Command::Deliver(bytes), moment))
+    match Engine::open(alloc, disk) {
+        Ok(engine) => {
+            let mut engine = engine;
+            let answer = engine.take(&Command::Deliver(bytes), moment);
+            (Outcome::Answered(answer), engine.into_disk())
         }
-        Err(refusal) => Outcome::Unopened(refusal),
+        Err(NotOpened { disk, why }) => (Outcome::Unopened(why), disk),
     }
 }
 
 /// Reads the whole archive on a disk, and counts its entries and messages.
-pub(crate) fn check<D: Disk>(alloc: Global, disk: &mut D) -> Outcome
-    ensures any_moment { (may : List (Option Archive)) → AllRecoverOf may (D.content disk.old)
-        → LeavesOnly D.moment D.left_since disk.old disk.new (RecoversOf may) }
-    ensures done { (a : Archive) → ReadsAs a (D.content disk.old)
-        → ChecksTo a result (D.content disk.new) }
-    ensures answer { WhereTold (λ k. IsOpenedAs (as_read k) result) (D.content disk.old) }
-    ensures unopened { LeavesUnopened result (D.content disk.old) (D.content disk.new) }
-    ensures cause { RoseIf (IsFault result) (D.faults disk.old) (D.faults disk.new) }
+pub(crate) fn check<D: Disk>(alloc: Global, disk: D) -> (Outcome, D)
+    ensures any_moment { (may : List (Option Archive)) → AllRecoverOf may (D.content disk)
+        → LeavesOnly D.moment D.left_since disk result.1 (RecoversOf may) }
+    ensures stands { (s : Standing) → StandsAs s (D.content disk) → (t : Standing)
+        × StandsAs t (D.content result.1) × ChecksOn s (D.content disk) result.0 t }
+    ensures done { (a : Archive) → ReadsAs a (D.content disk)
+        → ChecksTo a result.0 (D.content result.1) }
+    ensures answer { WhereTold (λ k. IsOpenedAs (as_read k) result.0) (D.content disk) }
+    ensures unopened { LeavesUnopened result.0 (D.content disk) (D.content result.1) }
+    ensures kind { IsCheck result.0 }
+    ensures cause { RoseIf (IsFault result.0) (D.faults disk) (D.faults result.1) }
 {
-    match DiskArchive::open(alloc, disk) {
-        Ok(archive) => Outcome::Checked {
-            entries: archive.entry_count(),
-            live: archive.live_count(),
-            next: archive.next_number(),
-        },
-        Err(refusal) => Outcome::Unopened(refusal),
+    match Engine::open(alloc, disk) {
+        Ok(engine) => {
+            let counts = Outcome::Checked {
+                entries: engine.entry_count(),
+                live: engine.message_count(),
+                next: engine.next_number(),
+            };
+            (counts, engine.into_disk())
+        }
+        Err(NotOpened { disk, why }) => (Outcome::Unopened(why), disk),
     }
 }

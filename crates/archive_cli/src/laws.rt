@@ -1,8 +1,20 @@
-//! The laws of scripts, for all events.
-ghost use Rattle.archive_cli.specs.Laws.{PlainIsTranscript};
+//! The laws of scripts, for all events, and of runs in order, for all words, inputs and faults.
+ghost use Rattle.archive_cli.specs.Laws.{PlainIsTranscript, RunsInARow};
+
+use arch_model::numbers_keep_their_texts;
 
 /// Shows that what the plain function prints of events is a transcript of them: the one in which no
 /// allocation fails.
 pub fn plain_is_transcript()
     ensures { PlainIsTranscript }
 {}
+
+/// Shows what a crash leaves after `init` and two deliveries on one disk, by the clause `ends` of
+/// `run` alone.
+///
+/// The first delivery may be stopped by a fault. No number ever has two texts.
+pub fn runs_in_a_row()
+    ensures { RunsInARow }
+{
+    numbers_keep_their_texts();
+}

@@ -13,7 +13,7 @@ mod status;
 mod texts;
 mod words;
 
-pub use laws::plain_is_transcript;
+pub use laws::{plain_is_transcript, runs_in_a_row};
 pub use player::CountedKeep;
 pub use program::{play_script, print_no_memory, run};
 pub use status::Status;

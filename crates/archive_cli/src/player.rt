@@ -72,9 +72,9 @@ impl<K: CountedKeep> Player<K> {
     pub(crate) fn play(&mut self, script: &Script, frames: &mut Bytes) -> Result<(), NoMemory>
         requires none { frames.old ≡ [] }
         requires script { All IsArrival script.now }
-        ensures ok { (w : World) → Shows K.holds K.stale K.clock K.leaves K.faults self.old w
+        ensures ok { (w : World) → Shows K.holds K.ready K.leaves K.faults self.old w
             → OnOk result (PlaysAll (before_stop script.now) w frames.new) }
-        ensures err { (w : World) → Shows K.holds K.stale K.clock K.leaves K.faults self.old w
+        ensures err { (w : World) → Shows K.holds K.ready K.leaves K.faults self.old w
             → OnErr result (PlaysSome (before_stop script.now) w frames.new) }
     {
         let mut index: u64 = 0;
@@ -93,8 +93,8 @@ impl<K: CountedKeep> Player<K> {
     /// `NoMemory` if an allocation or the disk fails, and the frames are unchanged.
     fn turn(&mut self, event: &Event, piece: &[u8], frames: &mut Bytes) -> Result<(), NoMemory>
         requires moment { event.now.moment ≤ last_moment }
-        ensures ok { (w : World) → Shows K.holds K.stale K.clock K.leaves K.faults self.old w
-            → OnOk result (Prints K.holds K.stale K.clock K.leaves K.faults (event.now, piece.now)
+        ensures ok { (w : World) → Shows K.holds K.ready K.leaves K.faults self.old w
+            → OnOk result (Prints K.holds K.ready K.leaves K.faults (event.now, piece.now)
             w frames.old self.new frames.new) }
         ensures err { OnErr result (frames.new ≡ frames.old) }
     {
@@ -124,8 +124,8 @@ impl<K: CountedKeep> Player<K> {
         frames: &mut Bytes,
     ) -> Result<(), NoMemory>
         requires moment { moment ≤ last_moment }
-        ensures ok { (w : World) → Shows K.holds K.stale K.clock K.leaves K.faults self.old w
-            → OnOk result (PrintsPiece K.holds K.stale K.clock K.leaves K.faults conn moment
+        ensures ok { (w : World) → Shows K.holds K.ready K.leaves K.faults self.old w
+            → OnOk result (PrintsPiece K.holds K.ready K.leaves K.faults conn moment
             piece.now w frames.old self.new frames.new) }
         ensures err { OnErr result (frames.new ≡ frames.old) }
     {

@@ -7,9 +7,10 @@ ghost use Rattle.answer_lines.specs.Lines.{whole_line};
 ghost use Rattle.archive_cli.specs.Words.{spelled, AsksFor};
 ghost use Rattle.archive_cli.specs.declared.words.Job.TheVariants.{Init, Deliver, Check};
 ghost use Rattle.arch_base.specs.declared.config.Config.{Config};
-ghost use Rattle.archive_cli.specs.DiskCommands.{HasRoom};
+ghost use Rattle.arch_model.specs.Standing.{Standing};
+ghost use Rattle.archive_cli.specs.DiskCommands.{StandsAs};
 ghost use Rattle.archive_cli.specs.Outcomes.{outcome_line, status_of};
-ghost use Rattle.archive_cli.specs.Program.{RanTo, TakesInput, TookAtMost, LeavesDisk, AsksForInit, WordsLeave, InitLeaves, DeliverLeaves, all_edges, edges, input_limit, message_limit, message_of, made_at};
+ghost use Rattle.archive_cli.specs.Program.{RanTo, TakesInput, TookAtMost, LeavesDisk, AsksForInit, WordsLeave, InitLeaves, RunLeaves, all_edges, edges, input_limit, message_limit, message_of, made_at};
 ghost use Rattle.archive_cli.specs.Printing.{Printed, Exactly, IsReplayDue, Replayed, JobDone, InputDone, BytesLeave};
 ghost use Rattle.arch_base.specs.Configs.{IsConfig};
 ghost use Rattle.edge_io.specs.Phrases.{Says};
@@ -54,18 +55,17 @@ pub fn run<D: Disk, S: Source, O: Sink, C: Clock>(
     // one.
     ensures init { AsksForInit (spelled words.now) → LeavesOnly D.moment D.left_since disk result.1
         (WordsLeave (spelled words.now) (C.coming clock.old) (D.content disk)) }
-    // A crash while a message is delivered leaves an archive that the disk may have stood for, or
-    // the one with the message.
-    ensures deliver { (may : List (Option Archive)) → AsksFor (spelled words.now) Deliver
-        → AllRecoverOf may (D.content disk) → HasRoom (D.content disk)
-        → LeavesOnly D.moment D.left_since disk result.1
-        (DeliverLeaves may (S.left input.old) (C.coming clock.old)) }
+    // A crash while a message is delivered leaves, until the disk was synced, the archive that was
+    // there or the one in doubt; from then on the one that was found, or that one with the message.
+    ensures deliver { (s : Standing) → AsksFor (spelled words.now) Deliver
+        → StandsAs s (D.content disk) → RunLeaves D.content D.moment D.left_since disk result.1 s
+        (S.left input.old) (C.coming clock.old) }
     // A crash while an archive is checked leaves one that the disk may have stood for.
     ensures check { (may : List (Option Archive)) → AsksFor (spelled words.now) Check
         → AllRecoverOf may (D.content disk)
         → LeavesOnly D.moment D.left_since disk result.1 (RecoversOf may) }
+    ensures later { (D.faults disk ≤ D.faults result.1) × (C.faults clock.old ≤ C.faults clock.new) }
 {
-    let mut disk = disk;
     match read_words(words) {
         None => (
             print(b"words not read\n", Status::NotRead, out).code(),
@@ -74,12 +74,18 @@ pub fn run<D: Disk, S: Source, O: Sink, C: Clock>(
         Some(Job::Help) => (print(HELP.as_bytes(), Status::Done, out).code(), disk),
         Some(Job::Version) => (print(VERSION.as_bytes(), Status::Done, out).code(), disk),
         Some(Job::Replay { config }) => (replay(alloc, config, input, out).code(), disk),
-        Some(Job::Init { config }) => (init(alloc, config, &mut disk, out, clock).code(), disk),
-        Some(Job::Deliver) => (
-            deliver_input(alloc, &mut disk, input, out, clock).code(),
-            disk,
-        ),
-        Some(Job::Check) => (print_outcome(&check(alloc, &mut disk), out).code(), disk),
+        Some(Job::Init { config }) => {
+            let (status, disk) = init(alloc, config, disk, out, clock);
+            (status.code(), disk)
+        }
+        Some(Job::Deliver) => {
+            let (status, disk) = deliver_input(alloc, disk, input, out, clock);
+            (status.code(), disk)
+        }
+        Some(Job::Check) => {
+            let (outcome, disk) = check(alloc, disk);
+            (print_outcome(&outcome, out).code(), disk)
+        }
     }
 }
 
@@ -87,26 +93,29 @@ pub fn run<D: Disk, S: Source, O: Sink, C: Clock>(
 fn init<D: Disk, O: Sink, C: Clock>(
     alloc: Global,
     config: Config,
-    disk: &mut D,
+    disk: D,
     out: &mut O,
     clock: &mut C,
-) -> Status
+) -> (Status, D)
     requires { IsConfig config }
-    ensures ends { JobDone (Init config) [] result
+    ensures ends { JobDone (Init config) [] result.0
         (all_edges None 0 (O.taken out.old) (O.faults out.old) (C.coming clock.old)
-        (C.faults clock.old) (D.content disk.old) (D.faults disk.old))
+        (C.faults clock.old) (D.content disk) (D.faults disk))
         (all_edges None 0 (O.taken out.new) (O.faults out.new) (C.coming clock.new)
-        (C.faults clock.new) (D.content disk.new) (D.faults disk.new)) }
-    ensures any_moment { LeavesOnly D.moment D.left_since disk.old disk.new
-        (InitLeaves config (C.coming clock.old) (D.content disk.old)) }
+        (C.faults clock.new) (D.content result.1) (D.faults result.1)) }
+    ensures any_moment { LeavesOnly D.moment D.left_since disk result.1
+        (InitLeaves config (C.coming clock.old) (D.content disk)) }
+    ensures disk_later { D.faults disk ≤ D.faults result.1 }
+    ensures clock_later { C.faults clock.old ≤ C.faults clock.new }
     ensures sink { O.alike out.old out.new }
 {
     let moment = match clock.now() {
         Ok(moment) => moment,
-        Err(ClockFault) => return Status::Edges,
+        Err(ClockFault) => return (Status::Edges, disk),
     };
     let config = config_at(config, moment);
-    print_outcome(&make(alloc, disk, &config), out)
+    let (outcome, disk) = make(alloc, disk, &config);
+    (print_outcome(&outcome, out), disk)
 }
 
 /// Returns the settings of an archive that is made at a moment.
@@ -122,27 +131,28 @@ fn config_at(config: Config, moment: u64) -> Config
 /// Delivers the message on the input to the archive on the disk, at the clock's moment.
 fn deliver_input<D: Disk, S: Source, O: Sink, C: Clock>(
     alloc: Global,
-    disk: &mut D,
+    disk: D,
     input: &mut S,
     out: &mut O,
     clock: &mut C,
-) -> Status
-    ensures ends { InputDone result
+) -> (Status, D)
+    ensures ends { InputDone result.0
         (all_edges (S.left input.old) (S.faults input.old) (O.taken out.old) (O.faults out.old)
-        (C.coming clock.old) (C.faults clock.old) (D.content disk.old) (D.faults disk.old))
+        (C.coming clock.old) (C.faults clock.old) (D.content disk) (D.faults disk))
         (all_edges (S.left input.new) (S.faults input.new) (O.taken out.new) (O.faults out.new)
-        (C.coming clock.new) (C.faults clock.new) (D.content disk.new) (D.faults disk.new)) }
+        (C.coming clock.new) (C.faults clock.new) (D.content result.1) (D.faults result.1)) }
     ensures later { S.faults input.old ≤ S.faults input.new }
     ensures few { TookAtMost message_limit (S.left input.old) (S.left input.new) }
-    ensures any_moment { (may : List (Option Archive)) → AllRecoverOf may (D.content disk.old)
-        → HasRoom (D.content disk.old)
-        → LeavesOnly D.moment D.left_since disk.old disk.new
-        (DeliverLeaves may (S.left input.old) (C.coming clock.old)) }
+    ensures any_moment { (s : Standing) → StandsAs s (D.content disk)
+        → RunLeaves D.content D.moment D.left_since disk result.1 s (S.left input.old)
+        (C.coming clock.old) }
+    ensures disk_later { D.faults disk ≤ D.faults result.1 }
+    ensures clock_later { C.faults clock.old ≤ C.faults clock.new }
     ensures sink { O.alike out.old out.new }
 {
     match read_message(alloc, input) {
-        Err(InputRefusal::Fault) => Status::Edges,
-        Err(_refused) => print_no_memory(out),
+        Err(InputRefusal::Fault) => (Status::Edges, disk),
+        Err(_refused) => (print_no_memory(out), disk),
         Ok(bytes) => deliver_bytes(alloc, disk, bytes.as_slice(), out, clock),
     }
 }
@@ -150,27 +160,30 @@ fn deliver_input<D: Disk, S: Source, O: Sink, C: Clock>(
 /// Delivers a message to the archive on the disk, at the clock's moment.
 fn deliver_bytes<D: Disk, O: Sink, C: Clock>(
     alloc: Global,
-    disk: &mut D,
+    disk: D,
     bytes: &[u8],
     out: &mut O,
     clock: &mut C,
-) -> Status
-    ensures ends { (input : List ℕ) → bytes.now ≡ message_of input → JobDone Deliver input result
+) -> (Status, D)
+    ensures ends { (input : List ℕ) → bytes.now ≡ message_of input
+        → JobDone Deliver input result.0
         (all_edges None 0 (O.taken out.old) (O.faults out.old) (C.coming clock.old)
-        (C.faults clock.old) (D.content disk.old) (D.faults disk.old))
+        (C.faults clock.old) (D.content disk) (D.faults disk))
         (all_edges None 0 (O.taken out.new) (O.faults out.new) (C.coming clock.new)
-        (C.faults clock.new) (D.content disk.new) (D.faults disk.new)) }
-    ensures any_moment { (may : List (Option Archive)) → AllRecoverOf may (D.content disk.old)
-        → HasRoom (D.content disk.old)
-        → LeavesOnly D.moment D.left_since disk.old disk.new
-        (BytesLeave may bytes.now (C.coming clock.old)) }
+        (C.faults clock.new) (D.content result.1) (D.faults result.1)) }
+    ensures any_moment { (s : Standing) → StandsAs s (D.content disk)
+        → BytesLeave D.content D.moment D.left_since disk result.1 s bytes.now
+        (C.coming clock.old) }
+    ensures disk_later { D.faults disk ≤ D.faults result.1 }
+    ensures clock_later { C.faults clock.old ≤ C.faults clock.new }
     ensures sink { O.alike out.old out.new }
 {
     let moment = match clock.now() {
         Ok(moment) => moment,
-        Err(ClockFault) => return Status::Edges,
+        Err(ClockFault) => return (Status::Edges, disk),
     };
-    print_outcome(&deliver(alloc, disk, bytes, moment), out)
+    let (outcome, disk) = deliver(alloc, disk, bytes, moment);
+    (print_outcome(&outcome, out), disk)
 }
 
 /// Prints how a command over the disk ended, and returns its status.
@@ -241,7 +254,7 @@ pub fn play_script<K: CountedKeep + Drop, O: Sink>(
     out: &mut O,
 ) -> Status
     requires script { All IsArrival events.now }
-    ensures printed { (config : Config) → K.holds keep (empty_archive config) → K.stale keep ≡ false
+    ensures printed { (config : Config) → K.holds keep (empty_archive config)
         → (text : List ℕ) → IsScript events.now text → length text ≤ input_limit
         → Printed (IsReplayDue config text) result (O.taken out.old) (O.faults out.old)
         (O.taken out.new) (O.faults out.new) }

@@ -2,12 +2,13 @@
 use Rattle.std.specs.Prelude.{◌≡◌, ◌≢◌, ◌⊎◌, ◌+◌, ◌<◌, ◌≤◌, ◌==◌, ◌||◌, ℕ, zero, suc, Bool, true, false, List, [], ◌∷◌, ◌++◌, length, get_or, slice_get, Option, Some, None, Result, Ok, Err, is_some, unwrap_or, refl}
 use Rattle.std.specs.List.{AllAdjacentBelow}
 use Rattle.std.specs.List.Sorted.{IsPartitionPoint}
-use Rattle.std.proofs.Common.{◌∙◌, sym, ap, subst, inl, inr, arith, ltb, ltb-true, ltb-false}
+use Rattle.std.proofs.Common.{◌-◌, ◌∙◌, sym, ap, subst, inl, inr, arith, ltb, ltb-true, ltb-false, leb, leb-true, leb-false}
 use Rattle.std.proofs.lemmas.Bool.Decides.{nat_tests}
 use Rattle.std.proofs.lemmas.List.Sorted.{IsNonDecreasingBy-from_all_adjacent}
 use Rattle.std.proofs.lemmas.Option.{slice_get_within, slice_get-get_or}
 use Rattle.disk_model.specs.Disk.{Content}
 use Rattle.arch_model.specs.Archives.{Entry, Archive, text_of}
+use Rattle.arch_model.specs.Shelves.{IsGreatestLive}
 use Rattle.arch_model.specs.Standing.{IsLeastLive, GivesTextIn}
 use Rattle.arch_model.specs.Validity.{Rise}
 use Rattle.arch_model.specs.declared.text_refusal.TextRefusal.{TextRefusal}
@@ -15,7 +16,7 @@ use Rattle.arch_model.specs.declared.text_refusal.TextRefusal.TheVariants.{DiskF
 use Rattle.epoch_store.specs.declared.entries.StoredEntry.{StoredEntry}
 use Rattle.epoch_store.specs.Reads.{GivesText, GivesTextOf, text_if}
 use Rattle.epoch_store.specs.Stores.{View, Keeps, IsStoreWith, stored_at, stored_after}
-use Rattle.archive_core.specs.Numbers.{has_number, NumbersRise, IsNumberAt, IsCountBelow, GivesTextKept}
+use Rattle.archive_core.specs.Numbers.{has_number, NumbersRise, IsNumberAt, IsCountBelow, IsCountUpTo, GivesTextKept, TellsOther}
 use Rattle.archive_core.proofs.Standing.{store_keeps}
 
 -- An option has one value.
@@ -65,6 +66,15 @@ count_is xs n i point place e is =
     let inside = slice_get_within xs place e is in (
       λ less. (let low = ltb-true (get_or xs place e).number n (point.0 place e (omega arith) less) in omega (arith, low, at)),
       λ most. (let high = ltb-false (get_or xs place e).number n (point.1 place e most inside) in omega (arith, high, at)),
+    )
+
+-- The index where the numbers up to n end.
+pub count_to : (xs : List StoredEntry) (n i : ℕ) → IsPartitionPoint (λ (e : StoredEntry). leb e.number n ≡ true) (λ (e : StoredEntry). leb e.number n ≡ false) xs i → IsCountUpTo xs n i
+count_to xs n i point place e is =
+    let at = ap (λ (f : StoredEntry). f.number) (got xs place e e is) in
+    let inside = slice_get_within xs place e is in (
+      λ less. (let low = leb-true (get_or xs place e).number n (point.0 place e (omega arith) less) in omega (arith, low, at)),
+      λ most. (let high = leb-false (get_or xs place e).number n (point.1 place e most inside) in omega (arith, high, at)),
     )
 
 -- A number has an index.
@@ -159,6 +169,26 @@ least_none v a n i keeps count none = λ m at_least. none_in v a m keeps (λ j t
           there_is (slice_get v.entries i) (get_or v.entries i t) (slice_get-get_or v.entries i t (omega (arith, most, inside))) none)
     ]
 
+-- The number before the index where those up to n end is the greatest that is at most n.
+greatest_some : (v : View) (a : Archive) (n i : ℕ) (s : StoredEntry) → Keeps v a → IsCountUpTo v.entries n i → 0 < i → slice_get v.entries (i - 1) ≡ Some s → IsGreatestLive a.entries n (Some s.number)
+greatest_some v a n i s keeps count some here = ((count (i - 1) s here).0 (omega (arith, some)), (text_in v a (i - 1) s.number s keeps here refl).1, λ m above at_most. none_in v a m keeps (λ j t there. apart m above at_most j t there))
+  where
+    apart : (m : ℕ) → s.number < m → m ≤ n → (j : ℕ) (t : StoredEntry) → slice_get v.entries j ≡ Some t → t.number ≢ m
+    apart m above at_most j t there same = elim (before_or_not j i) [
+      | inl less ↦ (let up = rise_at v.entries j (i - 1) t s (keeps_rise v a keeps) (omega (arith, less)) there here in absurd (omega (arith, up, above, same)))
+      | inr most ↦ (let high = (count j t there).1 most in absurd (omega (arith, high, at_most, same)))
+    ]
+
+-- If all numbers are above n, there is none.
+greatest_none : (v : View) (a : Archive) (n i : ℕ) → Keeps v a → IsCountUpTo v.entries n i → i ≤ length v.entries → (0 < i → slice_get v.entries (i - 1) ≡ None) → IsGreatestLive a.entries n None
+greatest_none v a n i keeps count bound none = λ m at_most. none_in v a m keeps (λ j t there. apart m at_most j t there)
+  where
+    apart : (m : ℕ) → m ≤ n → (j : ℕ) (t : StoredEntry) → slice_get v.entries j ≡ Some t → t.number ≢ m
+    apart m at_most j t there same = elim (before_or_not j i) [
+      | inl less ↦ there_is (slice_get v.entries (i - 1)) (get_or v.entries (i - 1) t) (slice_get-get_or v.entries (i - 1) t (omega (arith, less, bound))) (none (omega (arith, less)))
+      | inr most ↦ (let high = (count j t there).1 most in absurd (omega (arith, high, at_most, same)))
+    ]
+
 -- The same by the result of a search in the entries of a store.
 pub search_some : (v : View) (a : Archive) (xs : List StoredEntry) (n i : ℕ) (s : StoredEntry) → xs ≡ v.entries → Keeps v a → (NumbersRise xs → IsCountBelow xs n i) → slice_get xs i ≡ Some s → IsLeastLive a.entries n (Some s.number)
 search_some v a xs n i s same keeps count here =
@@ -169,6 +199,47 @@ pub search_none : (v : View) (a : Archive) (xs : List StoredEntry) (n i : ℕ) �
 search_none v a xs n i same keeps count none =
     let counted : NumbersRise v.entries → IsCountBelow v.entries n i = subst (λ (l : List StoredEntry). NumbersRise l → IsCountBelow l n i) same count in
     least_none v a n i keeps (counted (keeps_rise v a keeps)) (subst (λ (l : List StoredEntry). slice_get l i ≡ None) same none)
+
+pub search_last : (v : View) (a : Archive) (xs : List StoredEntry) (n i : ℕ) (s : StoredEntry) → xs ≡ v.entries → Keeps v a → (NumbersRise xs → IsCountUpTo xs n i) → 0 < i → slice_get xs (i - 1) ≡ Some s → IsGreatestLive a.entries n (Some s.number)
+search_last v a xs n i s same keeps count some here =
+    let counted : NumbersRise v.entries → IsCountUpTo v.entries n i = subst (λ (l : List StoredEntry). NumbersRise l → IsCountUpTo l n i) same count in
+    greatest_some v a n i s keeps (counted (keeps_rise v a keeps)) some (subst (λ (l : List StoredEntry). slice_get l (i - 1) ≡ Some s) same here)
+
+pub search_before : (v : View) (a : Archive) (xs : List StoredEntry) (n i : ℕ) → xs ≡ v.entries → Keeps v a → (NumbersRise xs → IsCountUpTo xs n i) → i ≤ length xs → (0 < i → slice_get xs (i - 1) ≡ None) → IsGreatestLive a.entries n None
+search_before v a xs n i same keeps count bound none =
+    let counted : NumbersRise v.entries → IsCountUpTo v.entries n i = subst (λ (l : List StoredEntry). NumbersRise l → IsCountUpTo l n i) same count in
+    let within : i ≤ length v.entries = subst (λ (l : List StoredEntry). i ≤ length l) same bound in
+    greatest_none v a n i keeps (counted (keeps_rise v a keeps)) within (subst (λ (l : List StoredEntry). 0 < i → slice_get l (i - 1) ≡ None) same none)
+
+-- A number that is kept is there.
+pub known_at : (xs : List StoredEntry) (i : ℕ) (s : StoredEntry) → slice_get xs i ≡ Some s → has_number xs s.number ≡ true
+known_at [] i s here = absurd (there_is (slice_get {X = StoredEntry} [] i) s here refl)
+known_at (e ∷ es) zero s here =
+    let at : e.number ≡ s.number = ap (λ (f : StoredEntry). f.number) (only e s here) in
+    let hit : (e.number == s.number) ≡ true = grind (arith, nat_tests) in
+    rw hit refl
+known_at (e ∷ es) (suc i) s here = either (e.number == s.number) (has_number es s.number) (known_at es i s here)
+  where
+    either : (t u : Bool) → u ≡ true → (t || u) ≡ true
+    either true u is = refl
+    either false u is = is
+
+-- Whether a number has a text, by the least number that is at least it.
+pub text_of-least : (a : Archive) (n found : ℕ) → IsLeastLive a.entries n (Some found) → is_some (text_of a.entries n) ≡ (found == n)
+text_of-least a n found least = by (found == n) refl
+  where
+    none_for : text_of a.entries n ≡ None → is_some (text_of a.entries n) ≡ false
+    none_for none = rw none refl
+
+    by : (t : Bool) → (found == n) ≡ t → is_some (text_of a.entries n) ≡ t
+    by true is = let same : found ≡ n = grind (arith, nat_tests) in subst (λ (m : ℕ). is_some (text_of a.entries m) ≡ true) same least.1
+    by false is =
+        let apart : found ≢ n = grind (arith, nat_tests) in
+        let at_least = least.0 in
+        none_for (least.2 n (omega arith) (omega (arith, apart, at_least)))
+
+pub text_of-no_least : (a : Archive) (n : ℕ) → IsLeastLive a.entries n None → is_some (text_of a.entries n) ≡ false
+text_of-no_least a n none = rw (none n (omega arith)) refl
 
 -- The text of the entry with a number is the text of that number.
 pub text_gives : (v : View) (cache : List ℕ) (a : Archive) (k : Option Content) (n i : ℕ) (old new : List ℕ) (r : Result Unit TextRefusal) → IsStoreWith v cache a k → IsNumberAt v.entries n i → GivesTextOf a i old new r → GivesTextIn a.entries n old new r
@@ -184,3 +255,15 @@ text_kept xs n i old new r at given = (i, at.0, at.1, at.2, given at.0 at.1)
 -- Running out of memory leaves the bytes.
 pub wanting_kept : (xs : List StoredEntry) (n : ℕ) (old : List ℕ) → has_number xs n ≡ true → GivesTextKept xs n old old (Err NoMemory)
 wanting_kept xs n old has = let r = has_place xs n has in (r.0, r.1.0, r.1.1, r.1.2, refl)
+
+-- If a text with another id was found, the two ids differ.
+pub tells_other : (xs : List StoredEntry) (n : ℕ) (old new : List ℕ) (r : Result Unit TextRefusal) → GivesTextKept xs n old new r → TellsOther r
+tells_other xs n old new (Ok done) kept = tt
+tells_other xs n old new (Err (Damaged named found)) kept = kept.4.2
+tells_other xs n old new (Err DiskFault) kept = tt
+tells_other xs n old new (Err NoMemory) kept = tt
+
+pub other_refused : (T U : Type 0) (why : TextRefusal) → TellsOther {T = T} (Err why) → TellsOther {T = U} (Err why)
+other_refused T U (Damaged named found) other = other
+other_refused T U DiskFault other = tt
+other_refused T U NoMemory other = tt

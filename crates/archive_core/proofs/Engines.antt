@@ -1,29 +1,34 @@
--- The results of an archive that owns its disk, by the calls below it.
-use Rattle.std.specs.Prelude.{◌≡◌, ◌⊎◌, ◌≤◌, ◌<◌, ℕ, zero, suc, Bool, true, false, List, length, get_or, Option, Some, None, Result, Ok, Err, refl}
+-- What the calls of an archive that owns its disk do, by the calls below it.
+use Rattle.std.specs.Prelude.{◌≡◌, ◌⊎◌, ◌+◌, ◌≤◌, ◌<◌, ℕ, zero, suc, Bool, true, false, not, List, [], ◌∷◌, length, get_or, Option, Some, None, is_ok, Result, Ok, Err, refl}
+use Rattle.std.specs.List.{Contains}
 use Rattle.std.proofs.Common.{◌∙◌, sym, ap, subst, inl, inr, arith}
-use Rattle.disk_model.specs.declared.name.FileName.{FileName}
+use Rattle.std.proofs.lemmas.Bool.{false≢true}
+use Rattle.arch_base.specs.Counts.{RoseIf}
 use Rattle.disk_model.specs.Disk.{Files, Content, Image, Told, Unchanged, ReadsFit, LeavesOnly}
+use Rattle.disk_model.specs.Moments.{started}
 use Rattle.arch_model.specs.Archives.{Archive}
 use Rattle.arch_model.specs.Delivery.{Done}
-use Rattle.arch_model.specs.Standing.{Standing, standing, with_doubt, one_of, IsFound, Fits, DoesBy, Reopens}
+use Rattle.arch_model.specs.Keeping.{Has, Passes, Fits, Moves, Settles, StaysShut, Comes, Ending, Accepts, Refuses, Starves, Fails, Breaks, ReadyBy, StaysReady, AnswerCause, OpeningWhy, ending, opening_answer}
+use Rattle.arch_model.specs.Shelves.{Stays, ReadCause, ReadsOnce}
+use Rattle.arch_model.specs.Standing.{Standing, standing, with_doubt, one_of, IsFound}
 use Rattle.arch_model.specs.declared.answer.Answer.{Answer}
 use Rattle.arch_model.specs.declared.answer.Answer.TheVariants as answer
 use Rattle.arch_model.specs.declared.opening.OpenRefusal.{OpenRefusal}
 use Rattle.arch_model.specs.declared.opening.OpenRefusal.TheVariants as refusal
+use Rattle.arch_model.specs.declared.text_refusal.TextRefusal.{TextRefusal}
+use Rattle.arch_model.specs.declared.text_refusal.TextRefusal.TheVariants as reading
+use Rattle.arch_model.proofs.Keepers.{has-own, moves-stale, moves-on, comes-by, unopened-comes, unopened-ready, unopened-cause}
 use Rattle.epoch_store.specs.Files.{as_read}
-use Rattle.epoch_store.specs.Opens.{RecoversOfWith, AllRecoverWith, ReadsWith, IsWant}
-use Rattle.epoch_store.specs.Recovery.{RecoversSomeWith}
+use Rattle.epoch_store.specs.Laws.{CachesOne}
 use Rattle.epoch_store.specs.Leaving.{disk_recovers}
-use Rattle.epoch_store.specs.Stores.{View, IsStoreWith, RecoversEitherWith}
-use Rattle.archive_core.specs.Commands.{DoneBy}
-use Rattle.archive_core.specs.Engines.{Owning, needs_opening, store_left}
-
--- A disk that changed no file holds the same.
-pub unchanged_is : (old new : Option Content) → Told Unchanged old new → new ≡ old
-unchanged_is None None told = refl
-unchanged_is None (Some m) told = absurd told
-unchanged_is (Some k) None told = absurd told
-unchanged_is (Some k) (Some m) told = λ i. Some (λ (name : FileName). told name i)
+use Rattle.epoch_store.specs.Opens.{RecoversOfWith, AllRecoverWith, ReadsWith, IsWant}
+use Rattle.epoch_store.specs.Reads.{AnswersQuietly}
+use Rattle.epoch_store.specs.Recovery.{RecoversWith, RecoversSomeWith}
+use Rattle.epoch_store.specs.Stores.{View, Keeps, IsStoreWith, RecoversEitherWith}
+use Rattle.archive_core.specs.Commands.{DoneBy, OnRefusal, UnlessFault}
+use Rattle.archive_core.specs.Engines.{Owning, needs_opening, Holds, is_ready, Leaves, ReadsOn, reading-same, store-left, now-left, reading-kept}
+use Rattle.archive_core.specs.Numbers.{TellsOther}
+use Rattle.archive_core.proofs.Standing.{store_keeps}
 
 -- One of the archives that may be there is the archive, or the one in doubt.
 is_either : (x : Archive) (d : Option Archive) (may : Option Archive) (i : ℕ) → i < length (with_doubt x d) → get_or (with_doubt x d) i may ≡ may → (b : Archive) × (may ≡ Some b) × ((b ≡ x) ⊎ (d ≡ Some b))
@@ -34,171 +39,368 @@ is_either x (Some y) may (suc zero) below is = (y, sym is, inr refl)
 is_either x (Some y) may (suc (suc i)) below is = absurd (omega (arith, below))
 
 -- Files that stand for one of them stand for the archive or for the one in doubt.
-recovers_either : (s : Standing) (cache : List ℕ) (image : Files) → RecoversOfWith cache (one_of s) image → (b : Archive) × IsFound s b × RecoversSomeWith cache image (Some b)
+pub recovers_either : (s : Standing) (cache : List ℕ) (image : Files) → RecoversOfWith cache (one_of s) image → (b : Archive) × IsFound s b × RecoversSomeWith cache image (Some b)
 recovers_either s cache image recovers =
     let found = is_either s.archive s.doubt recovers.0 recovers.1.0 recovers.1.1 recovers.1.2 in
     (found.0, found.2, subst (λ (o : Option Archive). RecoversSomeWith cache image o) found.1 recovers.2)
 
 -- If each image stands for one of these archives, the disk tells its content; otherwise any files
 -- could be there, none included.
-all_recover : (s : Standing) (cache : List ℕ) (k : Option Content) → ((image : Files) → Image k image → RecoversOfWith cache (one_of s) image) → AllRecoverWith cache (one_of s) k
+pub all_recover : (s : Standing) (cache : List ℕ) (k : Option Content) → ((image : Files) → Image k image → RecoversOfWith cache (one_of s) image) → AllRecoverWith cache (one_of s) k
 all_recover s cache None each = let none : Files = λ name. None in absurd ((recovers_either s cache none (each none tt)).2.1.stands.current)
 all_recover s cache (Some k) each = each
 
+-- A disk that tells its content is covered by whatever list covers its images.
+told_covers : (c d : List ℕ) (others may : List (Option Archive)) (k : Option Content) → AllRecoverWith c others k → ((image : Files) → Image k image → RecoversOfWith d may image) → AllRecoverWith d may k
+told_covers c d others may None all each = absurd all
+told_covers c d others may (Some k) all each = each
+
 -- So the disk reads as the archive or as the one in doubt.
-reads_one : (s : Standing) (cache : List ℕ) (k : Option Content) → ReadsFit k → AllRecoverWith cache (one_of s) k → (b : Archive) × IsFound s b × ReadsWith cache b k
+pub reads_one : (s : Standing) (cache : List ℕ) (k : Option Content) → ReadsFit k → AllRecoverWith cache (one_of s) k → (b : Archive) × IsFound s b × ReadsWith cache b k
 reads_one s cache None fit all = absurd all
 reads_one s cache (Some k) fit all = recovers_either s cache (as_read k) (all (as_read k) (λ name. fit k refl name))
 
--- Files that stand for either archive stand for one of the two.
-either_one : (a b : Archive) (cache : List ℕ) (image : Files) → RecoversEitherWith cache a b image → RecoversOfWith cache (one_of (standing a (Some b))) image
-either_one a b cache image (inl before) = (Some a, (0, omega arith, refl), before)
-either_one a b cache image (inr after) = (Some b, (1, omega arith, refl), after)
+-- A flag.
+pub not_true : (b : Bool) → not b ≡ true → b ≡ false
+not_true true e = absurd (false≢true e)
+not_true false e = refl
 
--- A store's own disk leaves the first of the two.
-stands_for : (v : View) (cache : List ℕ) (a b : Archive) (k : Option Content) (image : Files) → IsStoreWith v cache a k → Image k image → RecoversEitherWith cache a b image
-stands_for v cache a b None image store left = absurd store
-stands_for v cache a b (Some k) image store left = inl (disk_recovers v cache a k image store left)
+pub never_ready : (b : Bool) → (b ≡ true → false ≡ true) → b ≡ false
+never_ready true e = absurd (false≢true (e refl))
+never_ready false e = refl
 
--- The archive that it holds, with whatever cache.
-abbrev pub Holds : {D : Type 0} → (D → Option Content) → Owning D → Archive → Type 0
-Holds content e a = (cache : List ℕ) × IsStoreWith e.view cache a (content e.disk)
+-- A store's own disk leaves its archive.
+pub stands_for : (v : View) (cache : List ℕ) (a : Archive) (k : Option Content) (image : Files) → IsStoreWith v cache a k → Image k image → RecoversWith cache image a
+stands_for v cache a None image store left = absurd store
+stands_for v cache a (Some k) image store left = disk_recovers v cache a k image store left
 
--- Whether it has to be reopened.
-abbrev pub stale_of : {D : Type 0} → Owning D → Bool
-stale_of e = e.stale
+-- The archive `b` is among the archives of two standings.
+either_of : (cache : List ℕ) (may : List (Option Archive)) (a b : Archive) (image : Files) → Contains may (Some a) → Contains may (Some b) → RecoversEitherWith cache a b image → RecoversOfWith cache may image
+either_of cache may a b image has_a has_b (inl before) = (Some a, has_a, before)
+either_of cache may a b image has_a has_b (inr after) = (Some b, has_b, after)
 
--- The moment of its disk.
-abbrev pub clock_of : {D : Type 0} → (D → ℕ) → Owning D → ℕ
-clock_of moment e = moment e.disk
+-- Files of a store's own disk stand for archives with its cache alone.
+cache_is : CachesOne → (v : View) (cache : List ℕ) (a : Archive) (k : Option Content) → ReadsFit k → IsStoreWith v cache a k → (d : List ℕ) (may : List (Option Archive)) → ((image : Files) → Image k image → RecoversOfWith d may image) → cache ≡ d
+cache_is caches v cache a None fit store d may each = absurd store
+cache_is caches v cache a (Some k) fit store d may each =
+    let there : Image (Some k) (as_read k) = λ name. fit k refl name in
+    let one = each (as_read k) there in
+    caches (as_read k) a one.0 cache d (disk_recovers v cache a k (as_read k) store there) one.2
 
--- Each crash since a moment has left one of these archives, with the same cache.
-abbrev pub Leaves : {D : Type 0} → (D → ℕ → Files → Type 0) → Owning D → ℕ → List (Option Archive) → Type 0
-Leaves left_since e t may = (cache : List ℕ) × ((image : Files) → left_since e.disk t image → RecoversOfWith cache may image)
+-- The causes of refusals.
+pub opening-why : {T : Type 0} (before now : ℕ) (why : OpenRefusal) (r : Result T OpenRefusal) → r ≡ Err why → RoseIf (r ≡ Err refusal.DiskFault) before now → OpeningWhy before now why
+opening-why before now refusal.DiskFault r is rose = rose.failed is
+opening-why before now refusal.NoMemory r is rose = tt
+opening-why before now refusal.NoArchive r is rose = tt
+opening-why before now (refusal.Damaged file at) r is rose = tt
+
+pub read-cause : {T : Type 0} (before now : ℕ) (r : Result T TextRefusal) → RoseIf (r ≡ Err reading.DiskFault) before now → TellsOther r → ReadCause before now r
+read-cause before now (Ok x) rose other = tt
+read-cause before now (Err reading.DiskFault) rose other = rose.failed refl
+read-cause before now (Err (reading.Damaged named found)) rose other = other
+read-cause before now (Err reading.NoMemory) rose other = tt
+
+pub quiet-other : {T : Type 0} (r : Result T TextRefusal) → AnswersQuietly r → TellsOther r
+quiet-other (Ok x) quiet = tt
+quiet-other (Err reading.DiskFault) quiet = tt
+quiet-other (Err (reading.Damaged named found)) quiet = absurd quiet
+quiet-other (Err reading.NoMemory) quiet = tt
+
+pub answer-cause : (before now : ℕ) (reply : Answer) → RoseIf (reply ≡ answer.DiskFault) before now → AnswerCause before now reply
+answer-cause before now answer.DiskFault rose = rose.failed refl
+answer-cause before now answer.NoMemory rose = tt
+answer-cause before now (answer.Ok number id) rose = tt
+answer-cause before now (answer.Duplicate number) rose = tt
+answer-cause before now answer.NoFields rose = tt
+answer-cause before now (answer.TooLarge len) rose = tt
+answer-cause before now (answer.Full max) rose = tt
+answer-cause before now (answer.Collision number) rose = tt
+answer-cause before now (answer.NotLive number) rose = tt
+answer-cause before now (answer.NoText number) rose = tt
+answer-cause before now answer.IsMirror rose = tt
+answer-cause before now (answer.Damaged file at) rose = tt
+
+-- What a command leaves of a ready keeper is what one leaves of any that was reopened first.
+pub ready-after : (was : Bool) (now : Bool) (e : Ending) → ReadyBy true now e → ReadyBy was now e
+ready-after was now Accepts ready = tt
+ready-after was now Refuses ready = ready
+ready-after was now Starves ready = λ at_hand. ready refl
+ready-after was now Fails ready = ready
+ready-after was now Breaks ready = ready
+
+-- A call that doesn't read reads at most once.
+pub reads-none : (before now : ℕ) → now ≡ before → ReadsOnce before now
+reads-none before now same = record { later = omega (arith, same); most = omega (arith, same) }
 
 module _ {D : Type 0} (content : D → Option Content) (moment : D → ℕ) (left_since : D → ℕ → Files → Type 0)
     (counts_now : (disk : D) (t : ℕ) (image : Files) → t ≤ moment disk → Image (content disk) image → left_since disk t image)
     (only_now : (disk : D) (image : Files) → left_since disk (moment disk) image → Image (content disk) image)
     (reads_fit : (disk : D) → ReadsFit (content disk)) where
-  -- It stands so.
+  -- It stands so, and it moves so.
   abbrev pub Stands : Owning D → Standing → Type 0
-  Stands = Fits (Holds content) stale_of (clock_of moment) (Leaves left_since)
+  Stands = Fits (Holds content) is_ready (Leaves moment left_since)
 
-  -- The results of reopening.
-  abbrev pub Opening : Standing → Result Unit OpenRefusal → Owning D → Type 0
-  Opening = Reopens (Holds content) stale_of (clock_of moment) (Leaves left_since)
+  abbrev pub Going : Owning D → Standing → Owning D → Standing → Type 0
+  Going = Moves (Holds content) is_ready (Leaves moment left_since)
 
   -- What a crash leaves after a run it leaves now.
-  now_left : (old new : D) (P : Files → Type 0) → LeavesOnly moment left_since old new P → (image : Files) → left_since new (moment new) image → P image
-  now_left old new P run image left = run.each image (counts_now new (moment old) image run.later (only_now new image left))
+  left_after : (old new : D) (P : Files → Type 0) → LeavesOnly moment left_since old new P → (image : Files) → left_since new (moment new) image → P image
+  left_after old new P run image left = run.each image (counts_now new (moment old) image run.later (only_now new image left))
 
   -- Each crash of an archive that stands so leaves one of the archives that are there.
-  fits_all : (e : Owning D) (s : Standing) (fits : Stands e s) → AllRecoverWith fits.left.0 (one_of s) (content e.disk)
-  fits_all e s fits = all_recover s fits.left.0 (content e.disk) (λ image left. fits.left.1 image (counts_now e.disk (moment e.disk) image (omega arith) left))
+  fits_all : (e : Owning D) (s : Standing) → Stands e s → (cache : List ℕ) × AllRecoverWith cache (one_of s) (content e.disk)
+  fits_all e s fits =
+      let left = fits.left (one_of s) (has-own s) in
+      (left.1, all_recover s left.1 (content e.disk) (λ image now. left.2 image (counts_now e.disk (moment e.disk) image (omega arith) now)))
 
   -- What reopening leaves at each moment.
-  reopening : (old : Owning D) (new : D) (s : Standing) → ((may : List (Option Archive)) (cache : List ℕ) → AllRecoverWith cache may (content old.disk) → LeavesOnly moment left_since old.disk new (RecoversOfWith cache may)) → (fits : Stands old s)
-      → LeavesOnly moment left_since old.disk new (RecoversOfWith fits.left.0 (one_of s))
-  reopening old new s run fits = run (one_of s) fits.left.0 (fits_all old s fits)
+  abbrev pub Reopening : Owning D → D → Type 0
+  Reopening e disk = (may : List (Option Archive)) (cache : List ℕ) → AllRecoverWith cache may (content e.disk) → LeavesOnly moment left_since e.disk disk (RecoversOfWith cache may)
 
-  -- While nothing is done a crash leaves the archive.
-  pub still_left : (e : Owning D) (a b : Archive) → Holds content e a → Leaves left_since e (clock_of moment e) (one_of (standing a (Some b)))
-  still_left e a b store = (store.0, λ image left. either_one a b store.0 image (stands_for e.view store.0 a b (content e.disk) image store.1 (only_now e.disk image left)))
+  -- It leaves nothing that could not have been left before.
+  pub reopening-passes : (e new : Owning D) → Reopening e new.disk → (s : Standing) → Stands e s → Passes (Leaves moment left_since) e new []
+  reopening-passes e new run s fits = λ start may has left.
+      let own = fits_all e s fits in
+      let all = told_covers own.0 left.1 (one_of s) may (content e.disk) own.1 (λ image now. left.2 image (counts_now e.disk (moment start.disk) image left.0 now)) in
+      let ran = run may left.1 all in (
+        omega (arith, left.0, ran.later),
+        left.1,
+        λ image since. elim (ran.before (moment start.disk) image left.0 since) [
+          | inl past
+              ↦ left.2 image past
+          | inr stands ↦ stands
+        ],
+      )
+
+  -- A reopening found the archive or the one in doubt.
+  pub opened-at : (e new : Owning D) → Reopening e new.disk → ((a : Archive) (cache : List ℕ) → ReadsWith cache a (content e.disk) → IsStoreWith new.view cache a (content new.disk)) → (s : Standing) → Stands e s → (t : Standing) × Going e s new t × Settles s t
+  opened-at e new run opened s fits =
+      let own = fits_all e s fits in
+      let found = reads_one s own.0 (content e.disk) (reads_fit e.disk) own.1 in
+      let store : Holds content new found.0 = (own.0, opened found.0 own.0 found.2) in (
+        standing found.0 None,
+        record {
+          fits = record { settled = λ ready. (store, refl); left = λ may has. store-left content moment left_since counts_now only_now new found.0 may store has.archive };
+          passes = λ start may has left. reopening-passes e new run s fits start may tt left;
+        },
+        record { found = found.1; sure = refl },
+      )
+
+  -- A reopening was refused, and all stands as before.
+  pub unopened-at : (e new : Owning D) (why : OpenRefusal) → Reopening e new.disk → ((a : Archive) (cache : List ℕ) → ReadsWith cache a (content e.disk) → IsWant why) → is_ready new ≡ false → (s : Standing) → Stands e s → (t : Standing) × Going e s new t × StaysShut s why t
+  unopened-at e new why run well unready s fits =
+      let own = fits_all e s fits in
+      let found = reads_one s own.0 (content e.disk) (reads_fit e.disk) own.1 in (
+        s,
+        moves-stale (Holds content) is_ready (Leaves moment left_since) (now-left content moment left_since counts_now only_now) e s new s fits unready (λ may has. has) (λ start may has left. reopening-passes e new run s fits start may tt left),
+        of_why why (well found.0 own.0 found.2),
+      )
+    where
+      of_why : (w : OpenRefusal) → IsWant w → StaysShut s w s
+      of_why refusal.NoArchive want = absurd want
+      of_why (refusal.Damaged file at) want = absurd want
+      of_why refusal.DiskFault want = refl
+      of_why refusal.NoMemory want = refl
+
+  -- Nothing was reopened, since it was ready.
+  pub ready-at : (e : Owning D) (s : Standing) → is_ready e ≡ true → Stands e s → (t : Standing) × Going e s e t × Settles s t
+  ready-at e s ready fits =
+      let both = fits.settled ready in (
+        standing s.archive None,
+        record {
+          fits = record { settled = λ at_hand. (both.0, refl); left = λ may has. store-left content moment left_since counts_now only_now e s.archive may both.0 has.archive };
+          passes = λ start may has left. left;
+        },
+        record { found = inl refl; sure = refl },
+      )
+
+  -- A command on the archive that is held.
+  module _ (caches : CachesOne) (e new : Owning D) (a : Archive) (cache : List ℕ) (store : IsStoreWith e.view cache a (content e.disk)) (wanted : Archive → Done) (run : LeavesOnly moment left_since e.disk new.disk (RecoversEitherWith cache a (wanted a).archive)) where
+    -- The cache of what a crash before may have left is the same.
+    one-cache : (start : Owning D) (may : List (Option Archive)) (left : Leaves moment left_since start e may) → cache ≡ left.1
+    one-cache start may left = cache_is caches e.view cache a (content e.disk) (reads_fit e.disk) store left.1 may (λ image now. left.2 image (counts_now e.disk (moment start.disk) image left.0 now))
+
+    -- What a crash in it leaves.
+    taken-passes : (start : Owning D) (may : List (Option Archive)) → Contains may (Some a) → Contains may (Some (wanted a).archive) → Leaves moment left_since start e may → Leaves moment left_since start new may
+    taken-passes start may has_a has_b left = (
+      omega (arith, left.0, run.later),
+      left.1,
+      λ image since. elim (run.before (moment start.disk) image left.0 since) [
+        | inl past
+            ↦ left.2 image past
+        | inr either ↦
+            either_of left.1 may a (wanted a).archive image has_a has_b (subst (λ (c : List ℕ). RecoversEitherWith c a (wanted a).archive image) (one-cache start may left) either)
+      ],
+    )
+
+    -- It was carried out, or refused.
+    taken-done : (reply : Answer) → (wanted a).answer ≡ reply → IsStoreWith new.view cache (wanted a).archive (content new.disk) → Going e (standing a None) new (standing (wanted a).archive None)
+    taken-done reply answer_is own = record {
+      fits = record { settled = λ ready. ((cache, own), refl); left = λ may has. store-left content moment left_since counts_now only_now new (wanted a).archive may (cache, own) has.archive };
+      passes = λ start may has left. taken-passes start may has.0.archive has.1.0.archive left;
+    }
+
+    -- Memory ran out before anything was done.
+    taken-none : new.disk ≡ e.disk → IsStoreWith new.view cache a (content new.disk) → Going e (standing a None) new (standing a None)
+    taken-none same own = record {
+      fits = record { settled = λ ready. ((cache, own), refl); left = λ may has. store-left content moment left_since counts_now only_now new a may (cache, own) has.archive };
+      passes = λ start may has left.
+          subst (λ (d : D). (moment start.disk ≤ moment d) × (c : List ℕ) × ((image : Files) → left_since d (moment start.disk) image → RecoversOfWith c may image)) (sym same) left;
+    }
+
+    -- The disk failed.
+    taken-failed : is_ready new ≡ false → Going e (standing a None) new (standing a (Some (wanted a).archive))
+    taken-failed unready = record {
+      fits = record {
+        settled = λ ready. absurd (false≢true (sym unready ∙ ready));
+        left = λ may has. (omega arith, cache, λ image left. either_of cache may a (wanted a).archive image has.archive has.doubt (left_after e.disk new.disk (RecoversEitherWith cache a (wanted a).archive) run image left));
+      };
+      passes = λ start may has left. taken-passes start may has.1.0.archive has.1.0.doubt left;
+    }
+
+    pub taken-at : (reply : Answer) → new.stale ≡ needs_opening reply → DoneBy new.view cache a (wanted a) reply (content new.disk) → OnRefusal reply (UnlessFault reply (new.disk ≡ e.disk)) → (t : Standing) × Going e (standing a None) new t × Comes true (standing a None) wanted reply t
+    taken-at answer.NoMemory stale done untouched = (standing a None, taken-none untouched done, inr (record { found = inl refl; sure = refl }))
+    taken-at answer.DiskFault stale done untouched = (standing a (Some (wanted a).archive), taken-failed (ap not stale), inr (record { found = a; is_found = inl refl; stands = refl }))
+    taken-at (answer.Ok number id) stale done untouched =
+        (standing (wanted a).archive None, taken-done (answer.Ok number id) done.answer_is done.store, record { found = a; is_found = inl refl; answer_is = done.answer_is; stands = refl })
+    taken-at (answer.Duplicate number) stale done untouched =
+        (standing (wanted a).archive None, taken-done (answer.Duplicate number) done.answer_is done.store, record { found = a; is_found = inl refl; answer_is = done.answer_is; stands = refl })
+    taken-at answer.NoFields stale done untouched = (standing (wanted a).archive None, taken-done answer.NoFields done.answer_is done.store, record { found = a; is_found = inl refl; answer_is = done.answer_is; stands = refl })
+    taken-at (answer.TooLarge len) stale done untouched =
+        (standing (wanted a).archive None, taken-done (answer.TooLarge len) done.answer_is done.store, record { found = a; is_found = inl refl; answer_is = done.answer_is; stands = refl })
+    taken-at (answer.Full max) stale done untouched =
+        (standing (wanted a).archive None, taken-done (answer.Full max) done.answer_is done.store, record { found = a; is_found = inl refl; answer_is = done.answer_is; stands = refl })
+    taken-at (answer.Collision number) stale done untouched =
+        (standing (wanted a).archive None, taken-done (answer.Collision number) done.answer_is done.store, record { found = a; is_found = inl refl; answer_is = done.answer_is; stands = refl })
+    taken-at answer.IsMirror stale done untouched = (standing (wanted a).archive None, taken-done answer.IsMirror done.answer_is done.store, record { found = a; is_found = inl refl; answer_is = done.answer_is; stands = refl })
+    taken-at (answer.NotLive number) stale never untouched = absurd never
+    taken-at (answer.NoText number) stale never untouched = absurd never
+    taken-at (answer.Damaged file at) stale never untouched = absurd never
+
+  -- Memory ran out, and nothing was done on the archive that is held.
+  pub starved-at : (e : Owning D) (a : Archive) (wanted : Archive → Done) → Holds content e a → (t : Standing) × Going e (standing a None) e t × Comes true (standing a None) wanted answer.NoMemory t
+  starved-at e a wanted store = (
+    standing a None,
+    record {
+      fits = record { settled = λ ready. (store, refl); left = λ may has. store-left content moment left_since counts_now only_now e a may store has.archive };
+      passes = λ start may has left. left;
+    },
+    inr (record { found = inl refl; sure = refl }),
+  )
+
+  -- A command on what a reopening found.
+  pub commanded-after : (was_ready : Bool) (old mid new : Owning D) (s t : Standing) (wanted : Archive → Done) (reply : Answer) → Going old s mid t → Settles s t → is_ready mid ≡ true
+      → ((a : Archive) → Holds content mid a → (u : Standing) × Going mid (standing a None) new u × Comes true (standing a None) wanted reply u) → (u : Standing) × Going old s new u × Comes was_ready s wanted reply u
+  commanded-after was_ready old mid new s t wanted reply opened settles ready taken =
+      let both = opened.fits.settled ready in
+      let same : t ≡ standing t.archive None = ap (λ (d : Option Archive). standing t.archive d) both.1 in
+      let done = taken t.archive both.0 in (
+        done.0,
+        moves-on (Holds content) is_ready (Leaves moment left_since) old mid new s t done.0 opened settles (subst (λ (x : Standing). Going mid x new done.0) (sym same) done.1),
+        comes-by was_ready s t wanted reply done.0 (ending reply) settles done.2,
+      )
+
+  -- A call that only reads.
+  pub stays-at : (faults : D → ℕ) (e : Owning D) (disk : D) → is_ready e ≡ true → Told Unchanged (content e.disk) (content disk) → LeavesOnly moment left_since e.disk disk (Image (content e.disk)) → faults e.disk ≤ faults disk
+      → Stays (Holds content) is_ready (ReadsOn content moment left_since) (λ (o : Owning D). faults o.disk) e (record { disk = disk; view = e.view; stale = e.stale })
+  stays-at faults e disk ready files run later =
+      let read : ReadsOn content moment left_since e (record { disk = disk; view = e.view; stale = e.stale }) = record { view_is = refl; stale_is = refl; files = files; run = run } in
+      record {
+        same = read;
+        kept = (reading-kept content moment left_since counts_now only_now e (record { disk = disk; view = e.view; stale = e.stale }) read).held;
+        at_hand = ready;
+        later = later;
+      }
+
+  -- A call that does nothing.
+  pub stays-still : (faults : D → ℕ) (e : Owning D) → is_ready e ≡ true → Stays (Holds content) is_ready (ReadsOn content moment left_since) (λ (o : Owning D). faults o.disk) e e
+  stays-still faults e ready = record { same = reading-same content moment left_since counts_now only_now e; kept = λ a store. store; at_hand = ready; later = omega arith }
+
+  -- Nothing is done, and a crash leaves the archive that is held.
+  pub still-left : (e : Owning D) (a b : Archive) (cache : List ℕ) → IsStoreWith e.view cache a (content e.disk) → LeavesOnly moment left_since e.disk e.disk (RecoversEitherWith cache a b)
+  still-left e a b cache store = started moment left_since e.disk (RecoversEitherWith cache a b) (λ image left. inl (stands_for e.view cache a (content e.disk) image store (only_now e.disk image left)))
 
   -- Here `inside` is the value by its parts.
   module _ (inside old : Owning D) (is : inside ≡ old) where
-    held_inside : (a : Archive) → Holds content old a → Holds content inside a
-    held_inside a = subst (λ (o : Owning D). Holds content o a) (sym is)
+    pub still-ready : inside.stale ≡ false → is_ready old ≡ true
+    still-ready fresh = subst (λ (o : Owning D). is_ready o ≡ true) is (ap not fresh)
 
-    stands_inside : (s : Standing) → Stands old s → Stands inside s
-    stands_inside s = subst (λ (o : Owning D). Stands o s) (sym is)
+    pub still-stale : inside.stale ≡ true → is_ready old ≡ true → ⊥
+    still-stale stale ready = let now : not true ≡ true = sym (ap not stale) ∙ ap (λ (o : Owning D). is_ready o) is ∙ ready in false≢true now
 
-    left_inside : (new : D) (cache : List ℕ) (may : List (Option Archive)) → ((image : Files) → left_since new (clock_of moment inside) image → RecoversOfWith cache may image) → (image : Files) → left_since new (clock_of moment old) image → RecoversOfWith cache may image
-    left_inside new cache may = subst (λ (o : Owning D). (image : Files) → left_since new (clock_of moment o) image → RecoversOfWith cache may image) is
+    pub held-inside : (a : Archive) → Holds content old a → (cache : List ℕ) × IsStoreWith inside.view cache a (content inside.disk)
+    held-inside a = subst (λ (o : Owning D). Holds content o a) (sym is)
 
-    -- After a call that only reads it still holds the archive.
-    pub read_holds : (new : D) → Told Unchanged (content inside.disk) (content new) → (a : Archive) → Holds content old a → (cache : List ℕ) × IsStoreWith inside.view cache a (content new)
-    read_holds new told a store =
-        let own : Holds content inside a = held_inside a store in
-        (own.0, subst (λ (k : Option Content). IsStoreWith inside.view own.0 a k) (sym (unchanged_is (content inside.disk) (content new) told)) own.1)
+    pub kept-inside : (a : Archive) → Holds content old a → Keeps inside.view a
+    kept-inside a held = let own = held-inside a held in store_keeps inside.view own.0 a (content inside.disk) own.1
 
-    -- After a call that only reads a crash leaves the archive.
-    pub read_left : (new : D) → LeavesOnly moment left_since inside.disk new (Image (content inside.disk)) → (a : Archive) → Holds content old a → (cache : List ℕ) × ((image : Files) → left_since new (clock_of moment old) image → RecoversOfWith cache (one_of (standing a None)) image)
-    read_left new run a store =
-        let own : Holds content inside a = held_inside a store in
-        (own.0, left_inside new own.0 (one_of (standing a None)) (λ image left. store_left inside.view own.0 a (content inside.disk) image own.1 (run.each image left)))
+    pub left-from : (disk : D) (wanted : Archive → Archive) → ((a : Archive) (cache : List ℕ) → IsStoreWith inside.view cache a (content inside.disk) → LeavesOnly moment left_since inside.disk disk (RecoversEitherWith cache a (wanted a)))
+        → (a : Archive) (cache : List ℕ) → IsStoreWith old.view cache a (content old.disk) → LeavesOnly moment left_since old.disk disk (RecoversEitherWith cache a (wanted a))
+    left-from disk wanted run = subst (λ (o : Owning D). (a : Archive) (cache : List ℕ) → IsStoreWith o.view cache a (content o.disk) → LeavesOnly moment left_since o.disk disk (RecoversEitherWith cache a (wanted a))) is run
 
-    -- While it needn't be reopened it is as it was.
-    pub still_ready : inside.stale ≡ false → (s : Standing) → Stands old s → Opening s (Ok tt) old
-    still_ready ready s fits =
-        let now : old.stale ≡ false = sym (ap (λ (o : Owning D). o.stale) is) ∙ ready in
-        (s.archive, inl refl, record { holding = (fits.ready now).0; ready = now })
+    pub done-from : (view : View) (disk : D) (wanted : Archive → Done) (reply : Answer) → ((a : Archive) (cache : List ℕ) → IsStoreWith inside.view cache a (content inside.disk) → DoneBy view cache a (wanted a) reply (content disk))
+        → (a : Archive) (cache : List ℕ) → IsStoreWith old.view cache a (content old.disk) → DoneBy view cache a (wanted a) reply (content disk)
+    done-from view disk wanted reply done = subst (λ (o : Owning D). (a : Archive) (cache : List ℕ) → IsStoreWith o.view cache a (content o.disk) → DoneBy view cache a (wanted a) reply (content disk)) is done
 
-    -- What is reopened is the archive or the one in doubt.
-    pub reopened : (new : Owning D) → ((a : Archive) (cache : List ℕ) → ReadsWith cache a (content inside.disk) → IsStoreWith new.view cache a (content new.disk)) → new.stale ≡ false → (s : Standing) → Stands old s → Opening s (Ok tt) new
-    reopened new opened ready s fits =
-        let within : Stands inside s = stands_inside s fits in
-        let cache = within.left.0 in
-        let found = reads_one s cache (content inside.disk) (reads_fit inside.disk) (fits_all inside s within) in
-        (found.0, found.1, record { holding = (cache, opened found.0 cache found.2); ready = ready })
+    pub cause-from : {T : Type 0} (faults : D → ℕ) (disk : D) (r : Result T TextRefusal) → RoseIf (r ≡ Err reading.DiskFault) (faults inside.disk) (faults disk) → TellsOther r → ReadCause (faults old.disk) (faults disk) r
+    cause-from faults disk r rose other = subst (λ (o : Owning D). ReadCause (faults o.disk) (faults disk) r) is (read-cause (faults inside.disk) (faults disk) r rose other)
 
-    -- A crash while it is reopened leaves no other.
-    pub reopening_left : (new : D) → ((may : List (Option Archive)) (cache : List ℕ) → AllRecoverWith cache may (content inside.disk) → LeavesOnly moment left_since inside.disk new (RecoversOfWith cache may)) → (s : Standing) → Stands old s
-        → (cache : List ℕ) × ((image : Files) → left_since new (clock_of moment old) image → RecoversOfWith cache (one_of s) image)
-    reopening_left new run s fits =
-        let within : Stands inside s = stands_inside s fits in
-        (within.left.0, left_inside new within.left.0 (one_of s) (reopening inside new s run within).each)
+    pub once-from : (reads : D → ℕ) (disk : D) → reads inside.disk ≤ reads disk → reads disk ≤ reads inside.disk + 1 → ReadsOnce (reads old.disk) (reads disk)
+    once-from reads disk later most = subst (λ (o : Owning D). ReadsOnce (reads o.disk) (reads disk)) is (record { later = later; most = most })
 
-    -- What isn't reopened stands as before.
-    pub unopened : (new : Owning D) (why : OpenRefusal) → ((may : List (Option Archive)) (cache : List ℕ) → AllRecoverWith cache may (content inside.disk) → LeavesOnly moment left_since inside.disk new.disk (RecoversOfWith cache may))
-        → ((a : Archive) (cache : List ℕ) → ReadsWith cache a (content inside.disk) → IsWant why) → new.stale ≡ true → (s : Standing) → Stands old s → Opening s (Err why) new
-    unopened new why run well unready s fits = of_why why (well found.0 within.left.0 found.2) where
-      within : Stands inside s
-      within = stands_inside s fits
+    pub opening-why-from : {T : Type 0} (faults : D → ℕ) (disk : D) (why : OpenRefusal) (r : Result T OpenRefusal) → r ≡ Err why → RoseIf (r ≡ Err refusal.DiskFault) (faults inside.disk) (faults disk) → OpeningWhy (faults old.disk) (faults disk) why
+    opening-why-from faults disk why r err rose = subst (λ (o : Owning D). OpeningWhy (faults o.disk) (faults disk) why) is (opening-why (faults inside.disk) (faults disk) why r err rose)
 
-      found : (b : Archive) × IsFound s b × ReadsWith within.left.0 b (content inside.disk)
-      found = reads_one s within.left.0 (content inside.disk) (reads_fit inside.disk) (fits_all inside s within)
+    pub answer-cause-from : (faults : D → ℕ) (disk : D) (reply : Answer) → RoseIf (reply ≡ answer.DiskFault) (faults inside.disk) (faults disk) → AnswerCause (faults old.disk) (faults disk) reply
+    answer-cause-from faults disk reply rose = subst (λ (o : Owning D). AnswerCause (faults o.disk) (faults disk) reply) is (answer-cause (faults inside.disk) (faults disk) reply rose)
 
-      still : Stands new s
-      still = record {
-        ready = λ ready. absurd (let wrong : true ≡ false = sym unready ∙ ready in cc);
-        left = (within.left.0, now_left inside.disk new.disk (RecoversOfWith within.left.0 (one_of s)) (reopening inside new.disk s run within));
-      }
+    pub opened-from : (new : Owning D) → Reopening inside new.disk → ((a : Archive) (cache : List ℕ) → ReadsWith cache a (content inside.disk) → IsStoreWith new.view cache a (content new.disk)) → (s : Standing) → Stands old s → (t : Standing) × Going old s new t × Settles s t
+    opened-from new run opened = subst (λ (o : Owning D). (s : Standing) → Stands o s → (t : Standing) × Going o s new t × Settles s t) is (opened-at inside new run opened)
 
-      of_why : (w : OpenRefusal) → IsWant w → Opening s (Err w) new
-      of_why refusal.NoArchive want = absurd want
-      of_why (refusal.Damaged file at) want = absurd want
-      of_why refusal.DiskFault want = still
-      of_why refusal.NoMemory want = still
+    pub unopened-from : (new : Owning D) (why : OpenRefusal) → Reopening inside new.disk → ((a : Archive) (cache : List ℕ) → ReadsWith cache a (content inside.disk) → IsWant why) → is_ready new ≡ false → (s : Standing) → Stands old s → (t : Standing) × Going old s new t × StaysShut s why t
+    unopened-from new why run well unready = subst (λ (o : Owning D). (s : Standing) → Stands o s → (t : Standing) × Going o s new t × StaysShut s why t) is (unopened-at inside new why run well unready)
 
-    -- A crash in a command leaves the archive before it, or the one after it.
-    pub command_left : (new : D) (wanted : Archive → Archive) → ((a : Archive) (cache : List ℕ) → IsStoreWith inside.view cache a (content inside.disk) → LeavesOnly moment left_since inside.disk new (RecoversEitherWith cache a (wanted a))) → (a : Archive) → Holds content old a
-        → (cache : List ℕ) × ((image : Files) → left_since new (clock_of moment old) image → RecoversOfWith cache (one_of (standing a (Some (wanted a)))) image)
-    command_left new wanted run a store =
-        let own : Holds content inside a = held_inside a store in
-        (own.0, left_inside new own.0 (one_of (standing a (Some (wanted a)))) (λ image left. either_one a (wanted a) own.0 image ((run a own.0 own.1).each image left)))
+    pub passes-from : (new : Owning D) → Reopening inside new.disk → (s : Standing) → Stands old s → Passes (Leaves moment left_since) old new []
+    passes-from new run = subst (λ (o : Owning D). (s : Standing) → Stands o s → Passes (Leaves moment left_since) o new []) is (reopening-passes inside new run)
 
-    -- The answer to a command on the archive is the answer of its keeper.
-    pub command_done : (new : Owning D) (wanted : Archive → Done) (reply : Answer) → new.stale ≡ needs_opening reply
-        → ((a : Archive) (cache : List ℕ) → IsStoreWith inside.view cache a (content inside.disk) → LeavesOnly moment left_since inside.disk new.disk (RecoversEitherWith cache a (wanted a).archive))
-        → ((a : Archive) (cache : List ℕ) → IsStoreWith inside.view cache a (content inside.disk) → DoneBy new.view cache a (wanted a) reply (content new.disk)) → (a : Archive) → Holds content old a → DoesBy (Holds content) stale_of (clock_of moment) (Leaves left_since) a (wanted a) reply new
-    command_done new wanted reply stale run done a store = of_reply reply stale (done a own.0 own.1) where
-      own : Holds content inside a
-      own = held_inside a store
+    pub taken-from : CachesOne → (new : Owning D) (wanted : Archive → Done) (reply : Answer) → new.stale ≡ needs_opening reply → ((a : Archive) (cache : List ℕ) → IsStoreWith inside.view cache a (content inside.disk) → LeavesOnly moment left_since inside.disk new.disk (RecoversEitherWith cache a (wanted a).archive))
+        → ((a : Archive) (cache : List ℕ) → IsStoreWith inside.view cache a (content inside.disk) → DoneBy new.view cache a (wanted a) reply (content new.disk)) → OnRefusal reply (UnlessFault reply (new.disk ≡ inside.disk)) → (a : Archive) → Holds content old a → (t : Standing) × Going old (standing a None) new t × Comes true (standing a None) wanted reply t
+    taken-from caches new wanted reply stale run done untouched =
+        subst (λ (o : Owning D). (a : Archive) → Holds content o a → (t : Standing) × Going o (standing a None) new t × Comes true (standing a None) wanted reply t) is
+        (λ a held. taken-at caches inside new a held.0 held.1 wanted (run a held.0 held.1) reply stale (done a held.0 held.1) untouched)
 
-      left : (image : Files) → left_since new.disk (moment new.disk) image → RecoversEitherWith own.0 a (wanted a).archive image
-      left = now_left inside.disk new.disk (RecoversEitherWith own.0 a (wanted a).archive) (run a own.0 own.1)
+    pub stays-from : (faults : D → ℕ) (disk : D) → is_ready old ≡ true → Told Unchanged (content inside.disk) (content disk) → LeavesOnly moment left_since inside.disk disk (Image (content inside.disk)) → faults inside.disk ≤ faults disk
+        → Stays (Holds content) is_ready (ReadsOn content moment left_since) (λ (o : Owning D). faults o.disk) old (record { disk = disk; view = inside.view; stale = inside.stale })
+    stays-from faults disk ready files run later =
+        subst (λ (o : Owning D). is_ready o ≡ true → Stays (Holds content) is_ready (ReadsOn content moment left_since) (λ (p : Owning D). faults p.disk) o (record { disk = disk; view = inside.view; stale = inside.stale })) is
+        (λ at_hand. stays-at faults inside disk at_hand files run later) ready
 
-      of_reply : (r : Answer) → new.stale ≡ needs_opening r → DoneBy new.view own.0 a (wanted a) r (content new.disk) → DoesBy (Holds content) stale_of (clock_of moment) (Leaves left_since) a (wanted a) r new
-      of_reply answer.NoMemory is by_store = record { holding = (own.0, by_store); ready = is }
-      of_reply answer.DiskFault is by_store = record { unready = is; left = (own.0, λ image since. either_one a (wanted a).archive own.0 image (left image since)) }
-      of_reply (answer.Ok number id) is by_store = record { answer_is = by_store.answer_is; held = record { holding = (own.0, by_store.store); ready = is } }
-      of_reply (answer.Duplicate number) is by_store = record { answer_is = by_store.answer_is; held = record { holding = (own.0, by_store.store); ready = is } }
-      of_reply answer.NoFields is by_store = record { answer_is = by_store.answer_is; held = record { holding = (own.0, by_store.store); ready = is } }
-      of_reply (answer.TooLarge len) is by_store = record { answer_is = by_store.answer_is; held = record { holding = (own.0, by_store.store); ready = is } }
-      of_reply (answer.Full max) is by_store = record { answer_is = by_store.answer_is; held = record { holding = (own.0, by_store.store); ready = is } }
-      of_reply (answer.Collision number) is by_store = record { answer_is = by_store.answer_is; held = record { holding = (own.0, by_store.store); ready = is } }
-      of_reply answer.IsMirror is by_store = record { answer_is = by_store.answer_is; held = record { holding = (own.0, by_store.store); ready = is } }
-      of_reply (answer.NotLive number) is by_store = absurd by_store
-      of_reply (answer.NoText number) is by_store = absurd by_store
-      of_reply (answer.Damaged file at) is by_store = absurd by_store
+-- The keeper is ready after the answer unless the disk failed or a file is damaged.
+pub stays-ready : (stale : Bool) (reply : Answer) → stale ≡ needs_opening reply → StaysReady true reply (not stale)
+stays-ready stale answer.NoMemory is = λ was. ap not is
+stays-ready stale answer.DiskFault is = ap not is
+stays-ready stale (answer.Ok number id) is = tt
+stays-ready stale (answer.Duplicate number) is = ap not is
+stays-ready stale answer.NoFields is = ap not is
+stays-ready stale (answer.TooLarge len) is = ap not is
+stays-ready stale (answer.Full max) is = ap not is
+stays-ready stale (answer.Collision number) is = ap not is
+stays-ready stale (answer.NotLive number) is = ap not is
+stays-ready stale (answer.NoText number) is = ap not is
+stays-ready stale answer.IsMirror is = ap not is
+stays-ready stale (answer.Damaged file at) is = ap not is
+
+-- The answer to a command whose archive wasn't reopened, which was stale then.
+pub refused-comes : (was : Bool) (s t : Standing) (wanted : Archive → Done) (why : OpenRefusal) (reply : Answer) → reply ≡ opening_answer why → (was ≡ true → false ≡ true) → StaysShut s why t → Comes was s wanted reply t
+refused-comes was s t wanted why reply is stale shut =
+    let from : Comes was s wanted (opening_answer why) t = subst (λ (b : Bool). Comes b s wanted (opening_answer why) t) (sym (never_ready was stale)) (unopened-comes s t wanted why shut) in
+    subst (λ (r : Answer). Comes was s wanted r t) (sym is) from
+
+pub refused-ready : (was now : Bool) (why : OpenRefusal) (reply : Answer) → reply ≡ opening_answer why → (was ≡ true → false ≡ true) → now ≡ false → StaysReady was reply now
+refused-ready was now why reply is stale unready =
+    let at_false : StaysReady false (opening_answer why) now = subst (λ (b : Bool). StaysReady false (opening_answer why) b) (sym unready) (unopened-ready why) in
+    let from : StaysReady was (opening_answer why) now = subst (λ (b : Bool). StaysReady b (opening_answer why) now) (sym (never_ready was stale)) at_false in
+    subst (λ (r : Answer). StaysReady was r now) (sym is) from
+
+pub refused-cause : (before now : ℕ) (why : OpenRefusal) (reply : Answer) → reply ≡ opening_answer why → OpeningWhy before now why → AnswerCause before now reply
+refused-cause before now why reply is cause = subst (λ (r : Answer). AnswerCause before now r) (sym is) (unopened-cause before now why cause)

@@ -4,4 +4,5 @@ mod Indexes
 mod Verdicts
 mod Openings
 mod ByNumber
-mod Engines
+mod ByIndex
+pub mod Engines

@@ -1,9 +1,13 @@
--- An archive that owns its disk.
-use Rattle.std.specs.Prelude.{◌≡◌, ℕ, Bool, true, false, List, Option, Some, None, refl}
+-- An archive that owns its disk, as a keeper.
+use Rattle.std.specs.Prelude.{◌≡◌, ◌≤◌, ℕ, Bool, true, false, not, List, Option, Some, None, refl}
+use Rattle.std.specs.List.{Contains}
+use Rattle.std.proofs.Common.{◌∙◌, sym, ap, subst, inl, inr}
 use native.Mathlib.Omega.{arith}
-use Rattle.disk_model.specs.Disk.{Files, Content, Image, WhereTold}
+use Rattle.disk_model.specs.declared.name.FileName.{FileName}
+use Rattle.disk_model.specs.Disk.{Files, Content, Image, Told, WhereTold, Unchanged, LeavesOnly}
+use Rattle.disk_model.specs.Moments.{started, joined}
 use Rattle.arch_model.specs.Archives.{Archive}
-use Rattle.arch_model.specs.Standing.{standing, one_of}
+use Rattle.arch_model.specs.Keeping.{OnlyRead}
 use Rattle.arch_model.specs.declared.answer.Answer.{Answer}
 use Rattle.arch_model.specs.declared.answer.Answer.TheVariants as answer
 use Rattle.epoch_store.specs.Opens.{RecoversOfWith}
@@ -35,10 +39,118 @@ needs_opening answer.IsMirror = false
 needs_opening (answer.Damaged file at) = true
 needs_opening answer.NoMemory = false
 
--- A crash of a store's own disk leaves the archive.
-pub store_left : (v : View) (cache : List ℕ) (a : Archive) (k : Option Content) (image : Files)
-    → IsStoreWith v cache a k → Image k image
-    → RecoversOfWith cache (one_of (standing a None)) image
-store_left v cache a None image store left = absurd store
-store_left v cache a (Some k) image store left =
-    (Some a, (0, omega arith, refl), disk_recovers v cache a k image store left)
+-- The archive that it holds: the disk is the archive's own, with whatever cache.
+abbrev pub Holds : {D : Type 0} → (D → Option Content) → Owning D → Archive → Type 0
+Holds content e a = (cache : List ℕ) × IsStoreWith e.view cache a (content e.disk)
+
+-- It is ready if it needn't be reopened.
+abbrev pub is_ready : {D : Type 0} → Owning D → Bool
+is_ready e = not e.stale
+
+-- The second state comes no earlier, and each crash since the first has left files that stand for one
+-- of these archives, with one cache.
+abbrev pub Leaves : {D : Type 0} → (D → ℕ) → (D → ℕ → Files → Type 0) → Owning D → Owning D
+    → List (Option Archive) → Type 0
+Leaves moment left_since start e may = (moment start.disk ≤ moment e.disk) × (cache : List ℕ)
+    × ((image : Files) → left_since e.disk (moment start.disk) image
+    → RecoversOfWith cache may image)
+
+-- Only reads of the disk lead from one state to the other.
+pub record ReadsOn {D : Type 0} (content : D → Option Content) (moment : D → ℕ)
+    (left_since : D → ℕ → Files → Type 0) (old new : Owning D) : Type 0 where
+  pub view_is : new.view ≡ old.view
+  pub stale_is : new.stale ≡ old.stale
+  pub files : Told Unchanged (content old.disk) (content new.disk)
+  pub run : LeavesOnly moment left_since old.disk new.disk (Image (content old.disk))
+
+-- Laws of such a keeper.
+
+-- A disk that changed no file holds the same.
+pub unchanged-is : (old new : Option Content) → Told Unchanged old new → new ≡ old
+unchanged-is None None told = refl
+unchanged-is None (Some m) told = absurd told
+unchanged-is (Some k) None told = absurd told
+unchanged-is (Some k) (Some m) told = λ i. Some (λ (name : FileName). told name i)
+
+told-same : (k : Option Content) → Told Unchanged k k
+told-same None = tt
+told-same (Some k) = λ name. refl
+
+-- Files of a store's own disk stand for the archive.
+pub store-recovers : (v : View) (cache : List ℕ) (a : Archive) (k : Option Content)
+    (may : List (Option Archive)) (image : Files) → IsStoreWith v cache a k → Contains may (Some a)
+    → Image k image → RecoversOfWith cache may image
+store-recovers v cache a None may image store has left = absurd store
+store-recovers v cache a (Some k) may image store has left =
+    (Some a, has, disk_recovers v cache a k image store left)
+
+module _ {D : Type 0} (content : D → Option Content) (moment : D → ℕ)
+    (left_since : D → ℕ → Files → Type 0)
+    (counts_now : (disk : D) (t : ℕ) (image : Files) → t ≤ moment disk → Image (content disk) image
+    → left_since disk t image)
+    (only_now : (disk : D) (image : Files) → left_since disk (moment disk) image
+    → Image (content disk) image) where
+  pub reading-same : (e : Owning D) → ReadsOn content moment left_since e e
+  reading-same e = record {
+    view_is = refl;
+    stale_is = refl;
+    files = told-same (content e.disk);
+    run = started moment left_since e.disk (Image (content e.disk))
+        (λ image left. only_now e.disk image left);
+  }
+
+  pub reading-joined : (d e f : Owning D) → ReadsOn content moment left_since d e
+      → ReadsOn content moment left_since e f → ReadsOn content moment left_since d f
+  reading-joined d e f first second =
+      let one = unchanged-is (content d.disk) (content e.disk) first.files in
+      let two = unchanged-is (content e.disk) (content f.disk) second.files in
+      record {
+        view_is = second.view_is ∙ first.view_is;
+        stale_is = second.stale_is ∙ first.stale_is;
+        files = subst (λ (k : Option Content). Told Unchanged (content d.disk) k) (sym (two ∙ one))
+            (told-same (content d.disk));
+        run = joined moment left_since d.disk e.disk f.disk (Image (content d.disk))
+            (Image (content e.disk)) (Image (content d.disk)) first.run second.run
+            (λ image left. left)
+            (λ image left. subst (λ (k : Option Content). Image k image) one left);
+      }
+
+  pub store-left : (e : Owning D) (a : Archive) (may : List (Option Archive)) → Holds content e a
+      → Contains may (Some a) → Leaves moment left_since e e may
+  store-left e a may store has = (
+    omega arith,
+    store.0,
+    λ image left. store-recovers e.view store.0 a (content e.disk) may image store.1 has
+        (only_now e.disk image left),
+  )
+
+  pub now-left : (start e : Owning D) (may : List (Option Archive))
+      → Leaves moment left_since start e may → Leaves moment left_since e e may
+  now-left start e may left = (
+    omega arith,
+    left.1,
+    λ image now. left.2 image
+        (counts_now e.disk (moment start.disk) image left.0 (only_now e.disk image now)),
+  )
+
+  pub reading-kept : (d e : Owning D) → ReadsOn content moment left_since d e
+      → OnlyRead (Holds content) is_ready (Leaves moment left_since) d e
+  reading-kept d e read =
+      let same = unchanged-is (content d.disk) (content e.disk) read.files in
+      record {
+        held = λ a store. (
+          store.0,
+          subst (λ (v : View). IsStoreWith v store.0 a (content e.disk)) (sym read.view_is)
+              (subst (λ (k : Option Content). IsStoreWith d.view store.0 a k) (sym same) store.1),
+        );
+        same = ap not read.stale_is;
+        passes = λ start may has left. (
+          omega (arith, left.0, read.run.later),
+          left.1,
+          λ image since. elim (read.run.before (moment start.disk) image left.0 since) [
+            | inl past
+                ↦ left.2 image past
+            | inr now ↦ left.2 image (counts_now d.disk (moment start.disk) image left.0 now)
+          ],
+        );
+      }

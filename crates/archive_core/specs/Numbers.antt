@@ -1,14 +1,20 @@
 -- The numbers of the entries that a store keeps.
-use Rattle.std.specs.Prelude.{◌≡◌, ◌<◌, ◌≤◌, ℕ, Bool, ◌==◌, List, slice_get, Some, Result}
+use Rattle.std.specs.Prelude.{◌≡◌, ◌≢◌, ◌<◌, ◌≤◌, ℕ, Bool, true, ◌==◌, List, slice_get, Option, Some, None, Result, Ok, Err}
 use Rattle.std.specs.List.{list_any}
 use Rattle.std.specs.List.Sorted.{IsNonDecreasingBy}
 use Rattle.arch_model.specs.declared.text_refusal.TextRefusal.{TextRefusal}
+use Rattle.arch_model.specs.declared.text_refusal.TextRefusal.TheVariants as reading
 use Rattle.epoch_store.specs.Reads.{GivesText}
 use Rattle.epoch_store.specs.declared.entries.StoredEntry.{StoredEntry}
 
 -- Whether an entry has this number.
 abbrev pub has_number : List StoredEntry → ℕ → Bool
 has_number entries n = list_any (λ (e : StoredEntry). e.number == n) entries
+
+-- A number that was found is that of an entry.
+abbrev pub IsKnownLive : (ℕ → Bool) → Option ℕ → Type 0
+IsKnownLive live None = Unit {0}
+IsKnownLive live (Some n) = live n ≡ true
 
 -- Numbers never fall from one entry to a later one.
 abbrev pub NumbersRise : List StoredEntry → Type 0
@@ -22,6 +28,18 @@ IsNumberAt entries n index = (e : StoredEntry) × (slice_get entries index ≡ S
 abbrev pub IsCountBelow : List StoredEntry → ℕ → ℕ → Type 0
 IsCountBelow entries n count = (index : ℕ) (e : StoredEntry) → slice_get entries index ≡ Some e
     → (index < count → e.number < n) × (count ≤ index → n ≤ e.number)
+
+-- Before this index the numbers are at most n, and from it on they are greater.
+abbrev pub IsCountUpTo : List StoredEntry → ℕ → ℕ → Type 0
+IsCountUpTo entries n count = (index : ℕ) (e : StoredEntry) → slice_get entries index ≡ Some e
+    → (index < count → e.number ≤ n) × (count ≤ index → n < e.number)
+
+-- If a text with another id was found, the two ids differ.
+abbrev pub TellsOther : {T : Type 0} → Result T TextRefusal → Type 0
+TellsOther (Ok given) = Unit {0}
+TellsOther (Err reading.DiskFault) = Unit {0}
+TellsOther (Err (reading.Damaged named found)) = found ≢ named
+TellsOther (Err reading.NoMemory) = Unit {0}
 
 -- The results of reading the text of a number by what is kept of its entry: a text of its size and
 -- blob id, or the other id that was found.

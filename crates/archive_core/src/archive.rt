@@ -34,7 +34,7 @@ use std::marker::Model;
 pub struct DiskArchive {
     alloc: Global,
     pub(crate) store: Store,
-    index: Index,
+    pub(crate) index: Index,
 }
 
 impl Model for DiskArchive {

@@ -1,24 +1,29 @@
 //! An archive that owns its disk.
-ghost use Rattle.std.specs.Prelude.{◌≡◌, ℕ, false, List, IfOk};
+ghost use Rattle.std.specs.Prelude.{◌≡◌, ◌≤◌, true, false, IfOk, List, None, length, ℕ};
 ghost use Rattle.arch_base.specs.Configs.{IsConfig};
-ghost use Rattle.disk_model.specs.Disk.{Files};
-ghost use Rattle.epoch_store.specs.Opens.{RecoversOfWith};
+ghost use Rattle.arch_base.specs.Moments.{last_moment};
+ghost use Rattle.disk_model.specs.Disk.{LeavesOnly};
+ghost use Rattle.arch_model.specs.Archives.{Archive};
+ghost use Rattle.arch_model.specs.Delivery.{applied};
+ghost use Rattle.arch_model.specs.Keeping.{Moves, Comes, AnswerCause};
+ghost use Rattle.arch_model.specs.Standing.{Standing, standing};
 ghost use Rattle.epoch_store.specs.Promises.{MakesArchive, OpensArchive};
-ghost use Rattle.epoch_store.specs.Stores.{IsStoreWith};
-ghost use Rattle.archive_core.specs.Engines.{needs_opening as needs_opening_after, store_left};
+ghost use Rattle.epoch_store.specs.Stores.{IsStoreWith, RecoversEitherWith};
+ghost use Rattle.archive_core.specs.Commands.{DoneBy, IsForCommand};
+ghost use Rattle.archive_core.specs.Engines.{Holds, Leaves, ReadsOn, is_ready, needs_opening as needs_opening_after, reading-same, reading-joined, store-left, now-left, reading-kept};
 ghost use Rattle.archive_core.specs.HandedBack.{disk_made, made_or_why, disk_opened, opened_or_why};
-ghost use Rattle.archive_core.specs.Numbers.{has_number};
 ghost use Rattle.archive_core.specs.Openings.{RefusesKindly};
 
 use crate::archive::DiskArchive;
 use crate::not_made::{NotMade, NotOpened};
-use arch_base::{Bytes, Config};
-use arch_model::{Answer, Command, Keep, OpenRefusal, TextRefusal};
+use arch_base::{Bytes, Config, ObjectId};
+use arch_model::{Answer, Command, EntryLine, Keep, OpenRefusal, Shelf, TextRefusal};
 use disk_model::Disk;
+use epoch_store::law_of_recovery;
 use std::alloc::Global;
 use std::marker::Model;
 
-/// An archive that owns its disk; implements `Keep`.
+/// An archive that owns its disk; implements `Shelf` and `Keep`.
 ///
 /// The archive is stale after a command whose answer is `DiskFault`: it isn't known whether the
 /// command was done, and nothing else is answered until the archive is reopened. It is stale after
@@ -123,38 +128,48 @@ impl<D: Disk> Engine<D> {
     }
 }
 
-impl<D: Disk> Keep for Engine<D> {
-    // The archive is held with whatever cache.
-    ghost holds = { λ e a. (cache : List ℕ) × IsStoreWith e.view cache a (D.content e.disk) };
-
-    ghost live = { λ e n. has_number e.view.entries n };
-
-    ghost stale = { λ e. e.stale };
-
-    ghost clock = { λ e. D.moment e.disk };
-
-    ghost leaves = { λ e t may. (cache : List ℕ) × ((image : Files) → D.left_since e.disk t image
-        → RecoversOfWith cache may image) };
-
-    ghost faults = { λ e. D.faults e.disk };
-
-    fn is_stale(&self) -> bool {
-        self.stale
+impl<D: Disk> Engine<D> {
+    /// Returns the number of entries.
+    pub fn entry_count(&self) -> u64
+        ensures { result ≡ length self.now.view.entries }
+    {
+        self.archive.entry_count()
     }
 
-    fn live_from(&self, n: u32) -> Option<u32> {
-        self.archive.live_from(n)
+    /// Returns the number of messages.
+    pub fn message_count(&self) -> u32
+        ensures { (a : Archive) → Holds D.content self.now a → result ≡ length a.entries }
+    {
+        self.archive.live_count()
     }
 
-    fn text(&mut self, n: u32, into: &mut Bytes) -> Result<(), TextRefusal> {
-        self.archive.text(&mut self.disk, n, into)
-    }
-
-    fn epoch_bytes(&mut self, epoch: u32, into: &mut Bytes) -> Result<bool, TextRefusal> {
-        self.archive.epoch_bytes(&mut self.disk, epoch, into)
-    }
-
-    fn command(&mut self, command: &Command<'_>, moment: u64) -> Answer {
+    /// Carries out a command on an archive that needn't be reopened.
+    ///
+    /// The archive has to be reopened after the answer `DiskFault`, and after no other one.
+    pub fn take(&mut self, command: &Command<'_>, moment: u64) -> Answer
+        requires ready { self.old.stale ≡ false }
+        requires moment { moment ≤ last_moment }
+        // A crash in it leaves the archive before the command, or the one after it.
+        ensures any_moment { (a : Archive) (cache : List ℕ)
+            → IsStoreWith self.old.view cache a (D.content self.old.disk)
+            → LeavesOnly D.moment D.left_since self.old.disk self.new.disk
+            (RecoversEitherWith cache a (applied a command.now moment).archive) }
+        ensures done { (a : Archive) (cache : List ℕ)
+            → IsStoreWith self.old.view cache a (D.content self.old.disk)
+            → DoneBy self.new.view cache a (applied a command.now moment) result
+            (D.content self.new.disk) }
+        // As a keeper's.
+        ensures stands { (a : Archive) → Holds D.content self.old a → (t : Standing)
+            × Moves (Holds D.content) is_ready (Leaves D.moment D.left_since) self.old
+            (standing a None) self.new t
+            × Comes true (standing a None) (λ (b : Archive). applied b command.now moment) result t }
+        ensures ready { self.new.stale ≡ needs_opening_after result }
+        ensures never_damaged { IsForCommand result }
+        ensures later { D.faults self.old.disk ≤ D.faults self.new.disk }
+        ensures cause { AnswerCause (D.faults self.old.disk) (D.faults self.new.disk) result }
+        ensures reads { D.reads self.new.disk ≡ D.reads self.old.disk }
+    {
+        law_of_recovery();
         // After the last sequence of 64 bits nothing is done. No archive takes so many commands.
         if !self.archive.has_next_root() {
             return Answer::NoMemory;
@@ -162,6 +177,67 @@ impl<D: Disk> Keep for Engine<D> {
         let answer = self.archive.command(&mut self.disk, command, moment);
         self.stale = needs_opening(&answer);
         answer
+    }
+}
+
+impl<D: Disk> Shelf for Engine<D> {
+    ghost holds = { Holds D.content };
+
+    ghost ready = { is_ready };
+
+    ghost reads = { λ e. D.reads e.disk };
+
+    ghost faults = { λ e. D.faults e.disk };
+
+    ghost alike = { ReadsOn D.content D.moment D.left_since };
+
+    fn config(&self) -> &Config {
+        self.archive.config()
+    }
+
+    fn next_number(&self) -> u32 {
+        self.archive.next_number()
+    }
+
+    fn live_from(&self, n: u32) -> Option<u32> {
+        self.archive.live_from(n)
+    }
+
+    fn live_to(&self, n: u32) -> Option<u32> {
+        self.archive.live_to(n)
+    }
+
+    fn live_count(&self, low: u32, high: u32) -> u64 {
+        self.archive.live_between(low, high)
+    }
+
+    fn entry(&self, index: u64) -> Option<EntryLine> {
+        self.archive.entry(index)
+    }
+
+    fn text(&mut self, n: u32, into: &mut Bytes) -> Result<(), TextRefusal> {
+        // A number without a text isn't asked for while an archive is held.
+        if !self.archive.has_text(n) {
+            return Ok(());
+        }
+        self.archive.text(&mut self.disk, n, into)
+    }
+
+    fn blob(&mut self, id: &ObjectId, into: &mut Bytes) -> Result<bool, TextRefusal> {
+        self.archive.blob(&mut self.disk, id, into)
+    }
+
+    ghost alike_same = { λ e. reading-same D.content D.moment D.left_since D.counts_now D.only_now e };
+
+    ghost alike_joined = { λ d e f first second.
+        reading-joined D.content D.moment D.left_since D.counts_now D.only_now d e f first second };
+}
+
+impl<D: Disk> Keep for Engine<D> {
+    ghost leaves = { Leaves D.moment D.left_since };
+
+    fn is_stale(&self) -> bool {
+        self.stale
     }
 
     fn fresh(&mut self) -> Result<(), OpenRefusal> {
@@ -178,11 +254,25 @@ impl<D: Disk> Keep for Engine<D> {
         }
     }
 
-    ghost holds_left = { λ e a store. (
-      store.0,
-      λ image left.
-          store_left e.view store.0 a (D.content e.disk) image store.1 (D.only_now e.disk image left),
-    ) };
+    fn command(&mut self, command: &Command<'_>, moment: u64) -> Answer {
+        match self.fresh() {
+            Ok(()) => self.take(command, moment),
+            Err(refusal) => refusal.answer(),
+        }
+    }
+
+    fn epoch_bytes(&mut self, epoch: u32, into: &mut Bytes) -> Result<bool, TextRefusal> {
+        self.archive.epoch_bytes(&mut self.disk, epoch, into)
+    }
+
+    ghost holds_left = { λ e a may store has.
+        store-left D.content D.moment D.left_since D.counts_now D.only_now e a may store has };
+
+    ghost leaves_now = { λ start e may left.
+        now-left D.content D.moment D.left_since D.counts_now D.only_now start e may left };
+
+    ghost alike_kept = { λ d e read.
+        reading-kept D.content D.moment D.left_since D.counts_now D.only_now d e read };
 }
 
 /// Returns whether an archive has to be reopened after this answer.

@@ -1,17 +1,17 @@
 //! An archive that owns its disk, by the trait of keepers: what it gives, and what it does after a
 //! fault.
 use crate::accepted::accepted;
-use arch_base::Bytes;
-use arch_model::{Answer, Command, Keep, OpenRefusal};
+use arch_base::{Bytes, id_of_hex};
+use arch_model::{Answer, Command, EntryLine, Keep, OpenRefusal};
 use archive_core::{Engine, NotMade, NotOpened};
 use disk_model::MemDisk;
 use epoch_store::InitRefusal;
-use epoch_tests::{FIRST, FIRST_ID, MOMENT, SECOND, SECOND_ID, empty_disk, failing};
+use epoch_tests::{FIRST, FIRST_ID, MOMENT, OTHER_ID, SECOND, SECOND_ID, empty_disk, failing};
 use mem_archive::MemArchive;
 use std::alloc::Global;
 use std::process::Abort;
 use std::test::Fail;
-use store_tests::{in_memory, settings};
+use store_tests::{in_memory, settings, two_in_memory};
 
 /// Makes an archive on a disk.
 fn made(alloc: Global, disk: MemDisk) -> Result<Engine<MemDisk>, InitRefusal> {
@@ -155,6 +155,88 @@ fn an_engine_gives_what_the_archive_in_memory_does(rt: HostRuntime) -> Result<()
     let given = takes_and_gives(alloc, &mut engine)?;
     let again = opened_gives_as_memory(alloc, engine.into_disk())?;
     assert!(rt; given && again);
+    Ok(())
+}
+
+/// Returns whether a keeper of two messages counts and names them by their numbers.
+fn counts_two<K: Keep>(keep: &mut K) -> Result<bool, OpenRefusal> {
+    keep.fresh()?;
+    let last = keep.live_to(9) == Some(2)
+        && keep.live_to(1) == Some(1)
+        && keep.live_to(0).is_none();
+    let between = keep.live_count(0, 9) == 2 && keep.live_count(2, 2) == 1;
+    let none = keep.live_count(3, 9) == 0 && keep.live_count(2, 1) == 0;
+    let settings = keep.config().limit == 316 && keep.next_number() == 3;
+    Ok(last && between && none && settings)
+}
+
+/// Returns the entry of a keeper at an index, without its text.
+fn line<K: Keep>(keep: &mut K, index: u64) -> Result<Option<EntryLine>, OpenRefusal> {
+    keep.fresh()?;
+    Ok(keep.entry(index))
+}
+
+/// Returns whether an entry is a message of this number, epoch and blob id, with a text of this size.
+fn is_line(entry: Option<EntryLine>, number: u32, epoch: u32, hex: &[u8], text: &[u8]) -> bool {
+    let Some(line) = entry else {
+        return false;
+    };
+    let placed = line.number == number && line.epoch == epoch && line.secs == MOMENT;
+    placed && Some(line.blob) == id_of_hex(hex) && line.size == text.len() as u64
+}
+
+/// Returns whether a keeper has two messages as its entries, the second one in a second epoch, and
+/// both with the ids that another keeper gives.
+fn lists_two<K: Keep>(keep: &mut K, memory: &mut MemArchive) -> Result<bool, OpenRefusal> {
+    let first = line(keep, 0)?;
+    let second = line(keep, 1)?;
+    let none = line(keep, 2)?.is_none();
+    let same = line(memory, 0)? == first && line(memory, 1)? == second;
+    let lines = is_line(first, 1, 0, FIRST_ID, FIRST) && is_line(second, 2, 1, SECOND_ID, SECOND);
+    Ok(same && lines && none)
+}
+
+/// Appends the text of a blob id, and returns whether an entry has it.
+fn put_blob<K: Keep>(keep: &mut K, hex: &[u8], into: &mut Bytes) -> Result<bool, Fail> {
+    let id = id_of_hex(hex).ok_or("no id")?;
+    keep.fresh()?;
+    Ok(keep.blob(&id, into)?)
+}
+
+/// Returns whether the text of a blob id is this one.
+fn blob_is<K: Keep>(alloc: Global, keep: &mut K, hex: &[u8], wanted: &[u8]) -> Result<bool, Fail> {
+    let mut text = Bytes::new(alloc);
+    let found = put_blob(keep, hex, &mut text)?;
+    Ok(found && text.as_slice() == wanted)
+}
+
+/// Returns whether a keeper gives two messages by their blob ids, and nothing for another one.
+fn gives_blobs<K: Keep>(alloc: Global, keep: &mut K) -> Result<bool, Fail> {
+    let first = blob_is(alloc, keep, FIRST_ID, FIRST)?;
+    let second = blob_is(alloc, keep, SECOND_ID, SECOND)?;
+    let mut none = Bytes::new(alloc);
+    let other = put_blob(keep, OTHER_ID, &mut none)?;
+    Ok(first && second && !other && none.as_slice().is_empty())
+}
+
+/// Delivers two messages to a keeper without any, and returns whether it counts, lists and gives
+/// them.
+fn is_shelf_of_two<K: Keep>(alloc: Global, keep: &mut K) -> Result<bool, Fail> {
+    let taken = takes_two(keep)?;
+    let counted = counts_two(keep)?;
+    let mut memory = two_in_memory(alloc, 316).ok_or("no settings")?;
+    let listed = lists_two(keep, &mut memory)?;
+    let given = gives_blobs(alloc, keep)?;
+    Ok(taken && counted && listed && given)
+}
+
+#[test]
+fn an_engine_is_a_shelf_as_the_archive_in_memory_is(rt: HostRuntime) -> Result<(), Fail> {
+    let alloc = rt.alloc();
+    let mut engine = made(alloc, empty_disk(alloc))?;
+    assert!(rt; is_shelf_of_two(alloc, &mut engine)?);
+    let mut memory = in_memory(alloc, 316, 10, false).ok_or("no settings")?;
+    assert!(rt; is_shelf_of_two(alloc, &mut memory)?);
     Ok(())
 }
 

@@ -4,12 +4,12 @@ use Rattle.line_door.specs.Acts.{Said, Way, Plain, Memory, Disk, Newer, Sent}
 use Rattle.line_door.specs.Course.{talk}
 use Rattle.line_door.specs.Plain.{silent, then_say, if_request, plain_from, plain}
 use Rattle.line_door.specs.Cuts.{CutDoor, said_with}
-use Rattle.line_door.proofs.Cutting.{door_laws}
+use Rattle.line_door.proofs.Cutting.{calls, door_laws}
 use Rattle.arch_model.specs.Archives.{Archive}
 use Rattle.arch_model.specs.Standing.{Standing, standing}
 use Rattle.control_door.specs.Requests.{Request, Delivers, Shows, Lists, Quits, Mistakes, Exceeds, Ahead, Asked, Unfinished, ahead, is_asked}
-use Rattle.control_door.specs.Door.{Waiting, waiting, said, said_at, said_to, said_opening, answered, unkept, has_request, with_piece, left}
-use Rattle.control_door.specs.Laws.{ControlLaws, OpeningIsSilent, OpeningJoins, SaysTheSame, bytes_of}
+use Rattle.control_door.specs.Door.{Waiting, waiting, said, said_at, said_to, said_opening, answered, refused_memory, refused_disk, unkept, has_request, with_piece, left}
+use Rattle.control_door.specs.Laws.{ControlLaws, OpeningIsSilent, OpeningJoins, TwoCalls, SaysTheSame, bytes_of}
 use Rattle.control_door.proofs.Aheads.{Goes, Same, Over, Open, ahead-goes, ahead-shorter, unfinished}
 
 goes_request : (q : List ℕ) (a b : Ahead) → Goes q a b → is_asked a ≡ true → is_asked b ≡ true
@@ -17,31 +17,35 @@ goes_request q a b (Same request rest) h = refl
 goes_request q a b Over h = refl
 goes_request q a b (Open next) h = absurd (cc h)
 
+answered_after : (moment : ℕ) (s : Standing) (q rest : List ℕ) (request : Request) → answered moment s request (rest ++ q) ≡ said_with (with_piece q) (answered moment s request rest)
+answered_after moment s q rest (Delivers message) = refl
+answered_after moment s q rest (Shows number) = refl
+answered_after moment s q rest Lists = refl
+answered_after moment s q rest Quits = refl
+answered_after moment s q rest Mistakes = refl
+answered_after moment s q rest Exceeds = refl
+
+memory_after : (moment : ℕ) (s : Standing) (q rest : List ℕ) (request : Request) → refused_memory moment s request (rest ++ q) ≡ said_with (with_piece q) (refused_memory moment s request rest)
+memory_after moment s q rest (Delivers message) = refl
+memory_after moment s q rest (Shows number) = refl
+memory_after moment s q rest Lists = refl
+memory_after moment s q rest Quits = refl
+memory_after moment s q rest Mistakes = refl
+memory_after moment s q rest Exceeds = refl
+
+disk_after : (moment : ℕ) (s : Standing) (q rest : List ℕ) (request : Request) → refused_disk moment s request (rest ++ q) ≡ said_with (with_piece q) (refused_disk moment s request rest)
+disk_after moment s q rest (Delivers message) = refl
+disk_after moment s q rest (Shows number) = refl
+disk_after moment s q rest Lists = refl
+disk_after moment s q rest Quits = refl
+disk_after moment s q rest Mistakes = refl
+disk_after moment s q rest Exceeds = refl
+
 request_after : (moment : ℕ) (s : Standing) (q rest : List ℕ) (request : Request) (way : Way) → said_to moment s request (rest ++ q) way ≡ said_with (with_piece q) (said_to moment s request rest way)
-request_after moment s q rest (Delivers message) Plain = refl
-request_after moment s q rest (Delivers message) Memory = refl
-request_after moment s q rest (Delivers message) Disk = refl
-request_after moment s q rest (Delivers message) Newer = refl
-request_after moment s q rest (Shows number) Plain = refl
-request_after moment s q rest (Shows number) Memory = refl
-request_after moment s q rest (Shows number) Disk = refl
-request_after moment s q rest (Shows number) Newer = refl
-request_after moment s q rest Lists Plain = refl
-request_after moment s q rest Lists Memory = refl
-request_after moment s q rest Lists Disk = refl
-request_after moment s q rest Lists Newer = refl
-request_after moment s q rest Quits Plain = refl
-request_after moment s q rest Quits Memory = refl
-request_after moment s q rest Quits Disk = refl
-request_after moment s q rest Quits Newer = refl
-request_after moment s q rest Mistakes Plain = refl
-request_after moment s q rest Mistakes Memory = refl
-request_after moment s q rest Mistakes Disk = refl
-request_after moment s q rest Mistakes Newer = refl
-request_after moment s q rest Exceeds Plain = refl
-request_after moment s q rest Exceeds Memory = refl
-request_after moment s q rest Exceeds Disk = refl
-request_after moment s q rest Exceeds Newer = refl
+request_after moment s q rest request Plain = answered_after moment s q rest request
+request_after moment s q rest request Memory = memory_after moment s q rest request
+request_after moment s q rest request Disk = disk_after moment s q rest request
+request_after moment s q rest request Newer = answered_after moment s q rest request
 
 -- A reopening leaves the bytes.
 opening_after : (s : Standing) (bytes q : List ℕ) (way : Way) → said_opening s (bytes ++ q) way ≡ said_with (with_piece q) (said_opening s bytes way)
@@ -169,6 +173,12 @@ opening_joins moment bytes s t i j v asked opens fed = (
   fed.3,
 )
 
+-- Two calls with pieces of one connection.
+two_calls : TwoCalls
+two_calls moment later bytes p q s o v k u t i j z first kept asked opens second =
+    let begins = calls (said moment) has_request with_piece left (control_cuts moment) (waiting bytes true) p q s o v k first kept in
+    record { acts = begins.0; rest = begins.1; first = begins.2; left = begins.3; second = opening_joins later (k.bytes ++ q) u t i j z asked opens second }
+
 -- The laws of the control door.
 pub control_laws : ControlLaws
-control_laws = record { door = λ moment. door_laws (said moment) has_request with_piece left (control_cuts moment); opening = opening_silent; joins = opening_joins }
+control_laws = record { door = λ moment. door_laws (said moment) has_request with_piece left (control_cuts moment); opening = opening_silent; joins = opening_joins; calls = two_calls }

@@ -5,6 +5,7 @@ use Rattle.std.proofs.lemmas.List.{append-nil}
 use Rattle.std.proofs.Math.Seq.{take-append-add, drop-append-add}
 use Rattle.line_door.specs.Lines as line
 use Rattle.line_door.specs.Acts.{Outside, Memory, Acts, held_if}
+use Rattle.line_door.specs.Making.{closes}
 use Rattle.line_door.specs.Plain.{silent}
 use Rattle.edge_io.specs.Phrases.{Says}
 use Rattle.edge_io.specs.declared.sink.SinkFault.{SinkFault}
@@ -19,7 +20,7 @@ use Rattle.control_door.specs.Orders.{order_of}
 use Rattle.answer_lines.specs.Lines.{memory_word}
 use Rattle.control_door.specs.Requests as requests
 use Rattle.control_door.specs.Requests.{Request, Ahead, Asked, Unfinished, asked_by, ahead, is_asked, is_request, line_limit}
-use Rattle.control_door.specs.Door.{Waiting, waiting, said, said_to, said_at, said_opening, closes, unkept}
+use Rattle.control_door.specs.Door.{Waiting, waiting, said, said_to, said_at, said_opening, unkept}
 use Rattle.control_door.specs.Sessions.{IsHeld, IsPayload, IsTurn}
 use Rattle.control_door.proofs.Aheads.{asked_by-whole, asked_by-part}
 
@@ -57,7 +58,7 @@ keeps-nothing moment opened s old piece payload i none h =
     subst (λ (kept : List ℕ). (is_request (old ++ piece) ≡ false) × Acts (said moment s (waiting (old ++ piece) opened)) i (Some (waiting kept opened)) s i) same (keeps moment opened s (old ++ piece) payload i h)
 
 -- Out of memory for a piece that isn't empty closes the session.
-unkept-closes : (s : Standing) (w : Waiting) (old piece : List ℕ) → 0 < length piece → unkept s w (old ++ piece) ≡ closes memory_word s
+unkept-closes : (s : Standing) (w : Waiting) (old piece : List ℕ) → 0 < length piece → unkept s w (old ++ piece) ≡ closes s memory_word
 unkept-closes s w (byte ∷ old) piece some = refl
 unkept-closes s w [] (byte ∷ piece) some = refl
 unkept-closes s w [] [] some = absurd (omega (arith, some))
@@ -68,7 +69,7 @@ pub closes-keeping : (moment : ℕ) (opened : Bool) (s : Standing) (old piece : 
 closes-keeping moment opened s old piece payload i j sent some h later words =
     let part = held-unfinished (old ++ piece) payload h in
     let w : Waiting = waiting (old ++ piece) opened in
-    acts-closing (said moment s w) Memory (closes memory_word s) i j s sent (rw part (unkept-closes s w old piece some)) refl (λ d. absurd (cc d)) later words refl
+    acts-closing (said moment s w) Memory (closes s memory_word) i j s sent (rw part (unkept-closes s w old piece some)) refl (λ d. absurd (cc d)) later words refl
 
 -- The answer to a request is the answer to the bytes that start with it.
 acts-asked : (moment : ℕ) (s : Standing) (bytes : List ℕ) (request : Request) (rest : List ℕ) (i : Outside) (held : Option Waiting) (t : Standing) (j : Outside) → ahead bytes ≡ Asked request rest → Acts (said_to moment s request rest) i held t j

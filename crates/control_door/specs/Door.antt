@@ -1,14 +1,16 @@
 -- What the control door answers. Its session is the bytes that are not answered yet, and its
 -- requests read and change an archive.
 use Rattle.std.specs.Prelude.{◌+◌, ◌*◌, ℕ, zero, suc, Bool, true, false, List, [], ◌∷◌, ◌++◌, length, codes, decimal, Option, Some, None, if◌then◌else◌}
-use Rattle.line_door.specs.Acts.{Said, Way, Plain, Memory, Disk, Newer}
+use Rattle.line_door.specs.Acts.{Said, Way}
+use Rattle.line_door.specs.Making.{says, closes, in_ways}
 use Rattle.line_door.specs.Plain.{silent}
 use Rattle.disk_model.specs.Sizes.{epoch_count}
 use Rattle.arch_model.specs.Archives.{Entry, Archive, text_of, in_epoch}
 use Rattle.arch_model.specs.Epochs.{epoch_bytes}
 use Rattle.arch_model.specs.Delivery.{Done, delivered, answer_line}
 use Rattle.arch_model.specs.Standing.{Standing, standing}
-use Rattle.answer_lines.specs.Lines.{whole_line, memory_word, disk_word}
+use Rattle.answer_lines.specs.Lines.{whole_line, memory_word, disk_word, unopened_words}
+use Rattle.keep_course.specs.Answering.{said_reopening}
 use Rattle.control_door.specs.Requests.{Request, Delivers, Shows, Lists, Quits, Mistakes, Exceeds, Ahead, Asked, Unfinished, ahead, is_request}
 
 -- The word for a line that is not an order, or that is too long.
@@ -56,12 +58,7 @@ Says = Said Waiting Standing
 
 -- The session continues with these bytes.
 abbrev pub goes_on : List ℕ → List ℕ → Standing → Says
-goes_on rest words s =
-    record { next = Some (waiting rest false); words = words; streamed = false; after = s }
-
--- The session is closed.
-abbrev pub closes : List ℕ → Standing → Says
-closes words s = record { next = None; words = words; streamed = false; after = s }
+goes_on rest words s = says s (waiting rest false) words
 
 -- The line of a delivery's answer, and its archive.
 abbrev pub delivers : Done → List ℕ → Says
@@ -73,9 +70,9 @@ answered moment s (Delivers message) rest = delivers (delivered s.archive messag
 answered moment s (Shows number) rest =
     goes_on rest (shown number (text_of s.archive.entries number)) s
 answered moment s Lists rest = goes_on rest (epochs_words s.archive.entries) s
-answered moment s Quits rest = closes [] s
+answered moment s Quits rest = closes s []
 answered moment s Mistakes rest = goes_on rest bad_word s
-answered moment s Exceeds rest = closes bad_word s
+answered moment s Exceeds rest = closes s bad_word
 
 -- The answer to a request that runs out of memory. A delivery leaves the archive unchanged, and a
 -- text or a list of epochs is said whole or not at all. Other requests need no memory.
@@ -101,49 +98,23 @@ refused_disk moment s Exceeds rest = answered moment s Exceeds rest
 
 -- The answer to a request in each way.
 abbrev pub said_to : ℕ → Standing → Request → List ℕ → Way → Says
-said_to moment s request rest Plain = answered moment s request rest
-said_to moment s request rest Memory = refused_memory moment s request rest
-said_to moment s request rest Disk = refused_disk moment s request rest
-said_to moment s request rest Newer = answered moment s request rest
-
--- The archive in doubt, or the other one if none is.
-abbrev pub newer_of : Archive → Option Archive → Archive
-newer_of a None = a
-newer_of a (Some b) = b
-
--- The archive in doubt, if there is one.
-abbrev pub newer : Standing → Archive
-newer s = newer_of s.archive s.doubt
-
--- Reopening found this archive, and nothing is in doubt.
-abbrev pub opens : Archive → List ℕ → Says
-opens a bytes = record {
-  next = Some (waiting bytes true);
-  words = [];
-  streamed = false;
-  after = standing a None;
-}
+said_to moment s request rest way = in_ways (answered moment s request rest)
+    (refused_memory moment s request rest) (refused_disk moment s request rest) way
 
 -- Reopening finds the older archive or the one in doubt, or it closes the session because memory
 -- ran out or the disk failed.
 abbrev pub said_opening : Standing → List ℕ → Way → Says
-said_opening s bytes Plain = opens s.archive bytes
-said_opening s bytes Newer = opens (newer s) bytes
-said_opening s bytes Memory = closes memory_word s
-said_opening s bytes Disk = closes disk_word s
+said_opening s bytes way = said_reopening unopened_words s (waiting bytes true) way
 
 -- Out of memory for the beginning of a request, the session is closed with a word. An empty rest
 -- needs no memory.
 abbrev pub unkept : Standing → Waiting → List ℕ → Says
 unkept s w [] = silent s w
-unkept s w (byte ∷ bytes) = closes memory_word s
+unkept s w (byte ∷ bytes) = closes s memory_word
 
 -- The beginning of a request is kept without a word, or memory runs out.
 abbrev pub said_keeping : Standing → Waiting → Way → Says
-said_keeping s w Plain = silent s w
-said_keeping s w Memory = unkept s w w.bytes
-said_keeping s w Disk = silent s w
-said_keeping s w Newer = silent s w
+said_keeping s w way = in_ways (silent s w) (unkept s w w.bytes) (silent s w) way
 
 -- At a whole request the archive is reopened, and then the request is answered.
 abbrev pub said_asked : Bool → ℕ → Standing → List ℕ → Request → List ℕ → Way → Says

@@ -1,13 +1,13 @@
 -- The answers to a control connection do not depend on how its bytes are cut.
-use Rattle.std.specs.Prelude.{◌≡◌, ℕ, true, false, List, Option, Some, None}
+use Rattle.std.specs.Prelude.{◌≡◌, ℕ, true, false, List, ◌++◌, Option, Some, None}
 use Rattle.line_door.specs.Acts.{Outside, Said, Acts}
-use Rattle.line_door.specs.Course.{Talk, talk, Fed}
+use Rattle.line_door.specs.Course.{Talk, talk, Requests, Fed}
 use Rattle.line_door.specs.Plain.{plain}
-use Rattle.line_door.specs.Cuts.{DoorLaws}
+use Rattle.line_door.specs.Cuts.{DoorLaws, LeftWith}
 use Rattle.arch_model.specs.Archives.{Archive}
 use Rattle.arch_model.specs.Standing.{Standing, standing}
 use Rattle.control_door.specs.Requests.{is_request}
-use Rattle.control_door.specs.Door.{Waiting, waiting, said, said_opening, has_request, with_piece, left}
+use Rattle.control_door.specs.Door.{Waiting, waiting, said, said_opening, has_request, with_piece, left as size_of}
 
 -- The bytes of a session, if it is open.
 abbrev pub bytes_of : Option Waiting → Option (List ℕ)
@@ -24,8 +24,8 @@ pub record SaysTheSame (s t : Said Waiting Standing) : Type 0 where
 abbrev pub OpeningIsSilent : Type 0
 OpeningIsSilent =
     (moment : ℕ) (a : Archive) (bytes : List ℕ) →
-    SaysTheSame (plain (said moment) has_request left (standing a None) (waiting bytes false))
-    (plain (said moment) has_request left (standing a None) (waiting bytes true))
+    SaysTheSame (plain (said moment) has_request size_of (standing a None) (waiting bytes false))
+    (plain (said moment) has_request size_of (standing a None) (waiting bytes true))
 
 -- A reopening before a piece that completes a request, and then the acts of the piece, make one
 -- course. The reopening is the one before that request in the joined piece.
@@ -37,10 +37,37 @@ OpeningJoins =
     Fed (said moment) has_request (talk (Some (waiting bytes true)) t j) v →
     Fed (said moment) has_request (talk (Some (waiting bytes false)) s i) v
 
+-- Two calls with pieces `p` and `q` of one connection, whatever stands between them. The requests of
+-- the first call are the first ones of both pieces joined. If `q` completes a request, the reopening
+-- before the second call is the one before that request, and with it the second call is a course that
+-- starts with what the joined pieces leave after the first call: in the archive, at the moment and at
+-- the outside of its own time.
+pub record CallsJoin (moment later : ℕ) (bytes p q : List ℕ) (s : Standing) (o : Outside)
+    (v : Talk Waiting Standing) (k : Waiting) (u : Standing) (i : Outside) (z : Talk Waiting Standing)
+    : Type 0 where
+  pub acts : List (Talk Waiting Standing)
+  pub rest : Talk Waiting Standing
+  pub first : Requests (said moment) has_request
+      (talk (Some (waiting (bytes ++ (p ++ q)) true)) s o) acts rest
+  pub left : LeftWith (said moment) has_request with_piece size_of q k rest v
+  pub second : Fed (said later) has_request (talk (Some (waiting (k.bytes ++ q) false)) u i) z
+
+abbrev pub TwoCalls : Type 0
+TwoCalls =
+    (moment later : ℕ) (bytes p q : List ℕ) (s : Standing) (o : Outside) (v : Talk Waiting Standing)
+    (k : Waiting) (u t : Standing) (i j : Outside) (z : Talk Waiting Standing) →
+    Fed (said moment) has_request (talk (Some (waiting (bytes ++ p) true)) s o) v →
+    v.held ≡ Some k →
+    is_request (k.bytes ++ q) ≡ true →
+    Acts (said_opening u (k.bytes ++ q)) i (Some (waiting (k.bytes ++ q) true)) t j →
+    Fed (said later) has_request (talk (Some (waiting (k.bytes ++ q) true)) t j) z →
+    CallsJoin moment later bytes p q s o v k u i z
+
 -- At every moment: feeding `p` and then `q` says and leaves what feeding both at once does. The
 -- acts of one piece and then of another are acts of both, even if allocations, the disk or sends
 -- fail. Acts without such failures are the plain function, in both directions.
 pub record ControlLaws : Type 0 where
-  pub door : (moment : ℕ) → DoorLaws (said moment) has_request with_piece left
+  pub door : (moment : ℕ) → DoorLaws (said moment) has_request with_piece size_of
   pub opening : OpeningIsSilent
   pub joins : OpeningJoins
+  pub calls : TwoCalls

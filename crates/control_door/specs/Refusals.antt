@@ -1,13 +1,7 @@
 -- Results of the code that makes a list of epochs.
 use Rattle.std.specs.Prelude.{◌≡◌, ℕ, List, ◌++◌, Result, Ok, Err}
 use Rattle.arch_model.specs.declared.text_refusal.TextRefusal.{TextRefusal}
-use Rattle.arch_model.specs.declared.text_refusal.TextRefusal.TheVariants as reading
-
--- The refusal is not that a text is damaged.
-abbrev pub IsUndamaged : TextRefusal → Type 0
-IsUndamaged reading.DiskFault = Unit {0}
-IsUndamaged (reading.Damaged named found) = ⊥
-IsUndamaged reading.NoMemory = Unit {0}
+use Rattle.arch_model.specs.Shelves.{IsUndamaged}
 
 -- These words were appended, or memory ran out, or the disk failed.
 abbrev pub AppendsWords : List ℕ → List ℕ → List ℕ → Result Unit TextRefusal → Type 0

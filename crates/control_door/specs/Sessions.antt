@@ -1,12 +1,16 @@
 -- What a session holds between pieces, the front of its bytes, and its acts.
 use Rattle.std.specs.Prelude.{◌≡◌, ◌+◌, ◌<◌, ◌≤◌, ℕ, Bool, true, false, List, ◌++◌, length, drop, Option, Some, None}
 use Rattle.line_door.specs.Lines as line
-use Rattle.line_door.specs.Acts.{Outside, Acts, held_if}
+use Rattle.line_door.specs.Acts.{Outside, Way, Acts, held_if}
+use Rattle.line_door.specs.Course.{talk}
+use Rattle.keep_course.specs.Answering as answering
+use Rattle.keep_course.specs.Courses.{CourseLeft}
 use Rattle.arch_model.specs.Archives.{Archive}
-use Rattle.arch_model.specs.Standing.{Standing, standing, Fits}
+use Rattle.arch_model.specs.Keeping.{Fits, Moves}
+use Rattle.arch_model.specs.Standing.{Standing, standing}
 use Rattle.control_door.specs.Orders.{order_of}
 use Rattle.control_door.specs.Requests.{Request, Delivers, Shows, Lists, Quits, Mistakes, Exceeds, Asked, ahead, line_limit, is_request}
-use Rattle.control_door.specs.Door.{waiting, said, said_to, said_opening}
+use Rattle.control_door.specs.Door.{waiting, said, said_to, said_opening, has_request}
 use Rattle.control_door.specs.declared.order.Order.TheVariants.{Deliver}
 use Rattle.control_door.specs.declared.front.Payload.{Payload}
 use Rattle.control_door.specs.declared.front.Requested.{Requested}
@@ -88,27 +92,35 @@ Takes opened piece (Went n) = (0 < n) × (n ≤ length piece)
 Takes opened piece Kept = Unit {0}
 Takes opened piece Closed = Unit {0}
 
--- A keeper: the archives that it holds, whether it has to be reopened, its moment, and what each
--- crash since a moment may have left.
-module _ {K : Type 0} (holds : K → Archive → Type 0)
-    (stale : K → Bool) (clock : K → ℕ) (leaves : K → ℕ → List (Option Archive) → Type 0) where
+-- A keeper: the archives that it holds, whether it is ready, and what each crash since a state may
+-- have left.
+module _ {K : Type 0} (holds : K → Archive → Type 0) (ready : K → Bool)
+    (leaves : K → K → List (Option Archive) → Type 0) where
   -- Whichever archive is held, a request to it is answered, and the keeper fits the archive after
   -- it.
   abbrev pub Answers : ℕ → Request → K → Outside → Bool → K → Outside → Type 0
-  Answers moment request old i goes_on new j =
-      (a : Archive) (rest : List ℕ) → holds old a → (t : Standing)
-      × Fits holds stale clock leaves new t × Acts (said_to moment (standing a None)
-      request rest) i (held_if goes_on (waiting rest false)) t j
+  Answers moment request old i goes_on new j = answering.Answers holds ready leaves
+      (λ (a : Archive) (rest : List ℕ) (way : Way). said_to moment (standing a None) request rest way)
+      (λ (rest : List ℕ). waiting rest false) old i goes_on new j
 
   -- Whatever the keeper fits, it is reopened, or reopening is refused.
   abbrev pub Opens : K → Outside → Bool → K → Outside → Type 0
-  Opens old i opened new j =
-      (s : Standing) (bytes : List ℕ) → Fits holds stale clock leaves old s → (t : Standing)
-      × Fits holds stale clock leaves new t
-      × Acts (said_opening s bytes) i (held_if opened (waiting bytes true)) t j
+  Opens old i opened new j = answering.Opens holds ready leaves
+      (λ (s : Standing) (bytes : List ℕ) (way : Way). said_opening s bytes way)
+      (λ (bytes : List ℕ). waiting bytes true) old i opened new j
 
   -- Whatever the keeper fits, one act is done, and the keeper fits what the act leaves.
   abbrev pub Turns : ℕ → Bool → List ℕ → List ℕ → K → Outside → Turn → List ℕ → K → Outside → Type 0
   Turns moment opened held piece old i turn left new j =
-      (s : Standing) → Fits holds stale clock leaves old s → (t : Standing)
-      × Fits holds stale clock leaves new t × IsTurn moment opened s held piece i turn t left j
+      (s : Standing) → Fits holds ready leaves old s → (t : Standing)
+      × Moves holds ready leaves old s new t × IsTurn moment opened s held piece i turn t left j
+
+  -- Whatever the keeper fits, these bytes of a session are answered by a course, and the keeper fits
+  -- what that leaves. A crash since the start leaves an archive of one of its talks, or one in doubt
+  -- there.
+  abbrev pub Feeds : ℕ → List ℕ → K → Outside → Bool → List ℕ → K → Outside → Type 0
+  Feeds moment bytes old i goes_on left new j =
+      (s : Standing) → Fits holds ready leaves old s → (t : Standing) × (opened : Bool)
+      × Fits holds ready leaves new t
+      × CourseLeft leaves (said moment) has_request old new (talk (Some (waiting bytes true)) s i)
+      (talk (held_if goes_on (waiting left opened)) t j)

@@ -1,9 +1,12 @@
 //! Answers the requests of a control connection from a keeper.
-ghost use Rattle.std.specs.Prelude.{◌≡◌, ◌≤◌, ◌++◌, ℕ, length, drop, true, false, Some, None, is_some, is_ok};
-ghost use Rattle.line_door.specs.Acts.{outside};
-ghost use Rattle.arch_model.specs.Archives.{Archive, text_of};
+ghost use Rattle.std.specs.Prelude.{◌≡◌, ◌≤◌, ◌++◌, ℕ, List, length, drop, true, false, is_ok};
+ghost use Rattle.line_door.specs.Acts.{outside, Acts, held_if};
+ghost use Rattle.arch_model.specs.Archives.{Archive};
 ghost use Rattle.arch_base.specs.Moments.{last_moment};
 ghost use Rattle.arch_model.specs.Next.{continues};
+ghost use Rattle.arch_model.specs.Shelves.{Stays};
+ghost use Rattle.arch_model.specs.Standing.{standing};
+ghost use Rattle.control_door.specs.Door.{waiting, said_to};
 ghost use Rattle.control_door.specs.Requests.{Delivers, Shows, Lists};
 ghost use Rattle.control_door.specs.Sessions.{request_of, StartsWithin, Answers, Opens};
 
@@ -12,7 +15,7 @@ use crate::front::Requested;
 use crate::replies::{say_bad, say_not_live, say_text};
 use answer_lines::{say_answer, say_memory, say_unopened, say_unread};
 use arch_base::Bytes;
-use arch_model::{Command, Keep, Next};
+use arch_model::{Command, Keep, Next, Shelf, is_live};
 use edge_io::{Sink, SinkFault, say};
 use std::alloc::Global;
 
@@ -20,11 +23,11 @@ use std::alloc::Global;
 ///
 /// Does nothing if no command is in doubt. Writes the reason if reopening fails.
 pub(crate) fn reopen<K: Keep, O: Sink>(keep: &mut K, out: &mut O) -> Next
-    ensures acts { Opens K.holds K.stale K.clock K.leaves keep.old
+    ensures acts { Opens K.holds K.ready K.leaves keep.old
         (outside (O.taken out.old) (K.faults keep.old) (O.faults out.old))
         (continues result) keep.new
         (outside (O.taken out.new) (K.faults keep.new) (O.faults out.new)) }
-    ensures ready { continues result ≡ true → K.stale keep.new ≡ false }
+    ensures ready { continues result ≡ true → K.ready keep.new ≡ true }
     ensures later { K.faults keep.old ≤ K.faults keep.new }
     ensures sink { O.alike out.old out.new }
 {
@@ -48,10 +51,10 @@ pub(crate) fn say_requested<K: Keep, O: Sink>(
     keep: &mut K,
     out: &mut O,
 ) -> Next
-    requires ready { K.stale keep.old ≡ false }
+    requires ready { K.ready keep.old ≡ true }
     requires moment { moment ≤ last_moment }
     requires starts { StartsWithin held.old request }
-    ensures acts { Answers K.holds K.stale K.clock K.leaves moment
+    ensures acts { Answers K.holds K.ready K.leaves moment
         (request_of held.old request.entry) keep.old
         (outside (O.taken out.old) (K.faults keep.old) (O.faults out.old))
         (continues result) keep.new
@@ -82,9 +85,9 @@ fn say_delivered<K: Keep, O: Sink>(
     keep: &mut K,
     out: &mut O,
 ) -> Result<(), SinkFault>
-    requires ready { K.stale keep.old ≡ false }
+    requires ready { K.ready keep.old ≡ true }
     requires moment { moment ≤ last_moment }
-    ensures acts { Answers K.holds K.stale K.clock K.leaves moment (Delivers message.now) keep.old
+    ensures acts { Answers K.holds K.ready K.leaves moment (Delivers message.now) keep.old
         (outside (O.taken out.old) (K.faults keep.old) (O.faults out.old))
         (is_ok result) keep.new
         (outside (O.taken out.new) (K.faults keep.new) (O.faults out.new)) }
@@ -107,10 +110,10 @@ fn say_joined<K: Keep, O: Sink>(
     keep: &mut K,
     out: &mut O,
 ) -> Result<(), SinkFault>
-    requires ready { K.stale keep.old ≡ false }
+    requires ready { K.ready keep.old ≡ true }
     requires moment { moment ≤ last_moment }
     requires starts { start ≤ length held.old }
-    ensures acts { Answers K.holds K.stale K.clock K.leaves moment
+    ensures acts { Answers K.holds K.ready K.leaves moment
         (Delivers (drop start (held.old ++ last.now))) keep.old
         (outside (O.taken out.old) (K.faults keep.old) (O.faults out.old))
         (is_ok result) keep.new
@@ -125,51 +128,40 @@ fn say_joined<K: Keep, O: Sink>(
 }
 
 /// Writes the text of a number, or why there is none to write.
-fn say_message<K: Keep, O: Sink>(
+fn say_message<S: Shelf, O: Sink>(
     alloc: Global,
     number: u32,
-    keep: &mut K,
+    shelf: &mut S,
     out: &mut O,
 ) -> Result<(), SinkFault>
-    requires { K.stale keep.old ≡ false }
-    ensures acts { (moment : ℕ)
-        → Answers K.holds K.stale K.clock K.leaves moment (Shows number) keep.old
-        (outside (O.taken out.old) (K.faults keep.old) (O.faults out.old))
-        (is_ok result) keep.new
-        (outside (O.taken out.new) (K.faults keep.new) (O.faults out.new)) }
-    ensures later { K.faults keep.old ≤ K.faults keep.new }
+    requires { S.ready shelf.old ≡ true }
+    ensures acts { (moment : ℕ) (a : Archive) (rest : List ℕ) → S.holds shelf.old a
+        → Acts (said_to moment (standing a None) (Shows number) rest)
+        (outside (O.taken out.old) (S.faults shelf.old) (O.faults out.old))
+        (held_if (is_ok result) (waiting rest false)) (standing a None)
+        (outside (O.taken out.new) (S.faults shelf.new) (O.faults out.new)) }
+    ensures shelf { Stays S.holds S.ready S.alike S.faults shelf.old shelf.new }
     ensures sink { O.alike out.old out.new }
 {
-    if !is_live(number, keep) {
+    if !is_live(number, shelf) {
         return say_not_live(number, out);
     }
     let mut text = Bytes::new(alloc);
-    match keep.text(number, &mut text) {
+    match shelf.text(number, &mut text) {
         Ok(()) => say_text(text.as_slice(), out),
         Err(refusal) => say_unread(refusal, out),
     }
 }
 
-/// Returns whether a number has a text.
-fn is_live<K: Keep>(number: u32, keep: &K) -> bool
-    requires { K.stale keep.now ≡ false }
-    ensures known { result ≡ true → K.live keep.now number ≡ true }
-    ensures text { (a : Archive) → K.holds keep.now a → is_some (text_of a.entries number) ≡ result }
-{
-    match keep.live_from(number) {
-        Some(found) => found == number,
-        None => false,
-    }
-}
-
 /// Writes the list of epochs, or why it can't be read.
 fn say_epochs<K: Keep, O: Sink>(alloc: Global, keep: &mut K, out: &mut O) -> Result<(), SinkFault>
-    requires { K.stale keep.old ≡ false }
-    ensures acts { (moment : ℕ) → Answers K.holds K.stale K.clock K.leaves moment Lists keep.old
+    requires { K.ready keep.old ≡ true }
+    ensures acts { (moment : ℕ) (a : Archive) (rest : List ℕ) → K.holds keep.old a
+        → Acts (said_to moment (standing a None) Lists rest)
         (outside (O.taken out.old) (K.faults keep.old) (O.faults out.old))
-        (is_ok result) keep.new
+        (held_if (is_ok result) (waiting rest false)) (standing a None)
         (outside (O.taken out.new) (K.faults keep.new) (O.faults out.new)) }
-    ensures later { K.faults keep.old ≤ K.faults keep.new }
+    ensures shelf { Stays K.holds K.ready K.alike K.faults keep.old keep.new }
     ensures sink { O.alike out.old out.new }
 {
     match epochs_of(alloc, keep) {

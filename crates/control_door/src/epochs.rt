@@ -1,9 +1,8 @@
 //! The list of the epochs of an archive.
-ghost use Rattle.std.specs.Prelude.{◌≡◌, ◌++◌, [], false, Err, OnOk};
-ghost use Rattle.arch_base.specs.Counts.{RoseIf};
+ghost use Rattle.std.specs.Prelude.{◌≡◌, ◌++◌, [], true, OnOk};
 ghost use Rattle.disk_model.specs.Sizes.{epoch_count};
 ghost use Rattle.arch_model.specs.Archives.{Archive, in_epoch};
-ghost use Rattle.arch_model.specs.declared.text_refusal.TextRefusal.{TextRefusal};
+ghost use Rattle.arch_model.specs.Shelves.{Stays, ReadCause};
 ghost use Rattle.control_door.specs.Door.{listed, listed_below, epoch_words, epochs_words};
 ghost use Rattle.control_door.specs.Refusals.{AppendsWords, Makes};
 
@@ -17,11 +16,10 @@ use std::alloc::Global;
 ///
 /// The list is made whole before any of it is written.
 pub(crate) fn epochs_of<K: Keep>(alloc: Global, keep: &mut K) -> Result<Bytes, TextRefusal>
-    requires { K.stale keep.old ≡ false }
+    requires { K.ready keep.old ≡ true }
     ensures words { (a : Archive) → K.holds keep.old a → Makes (epochs_words a.entries) result }
-    ensures same { (a : Archive) → K.holds keep.old a → K.holds keep.new a }
-    ensures ready { K.stale keep.new ≡ false }
-    ensures cause { RoseIf (result ≡ Err TextRefusal.DiskFault) (K.faults keep.old) (K.faults keep.new) }
+    ensures shelf { Stays K.holds K.ready K.alike K.faults keep.old keep.new }
+    ensures cause { ReadCause (K.faults keep.old) (K.faults keep.new) result }
 {
     let mut words = Bytes::new(alloc);
     match push_epochs(alloc, keep, &mut words) {
@@ -38,13 +36,12 @@ pub(crate) fn epochs_of<K: Keep>(alloc: Global, keep: &mut K) -> Result<Bytes, T
 ///
 /// A refusal may leave a part of them appended.
 fn push_epochs<K: Keep>(alloc: Global, keep: &mut K, into: &mut Bytes) -> Result<(), TextRefusal>
-    requires ready { K.stale keep.old ≡ false }
+    requires ready { K.ready keep.old ≡ true }
     requires empty { into.old ≡ [] }
     ensures words { (a : Archive) → K.holds keep.old a
         → AppendsWords (listed_below epoch_count a.entries) [] into.new result }
-    ensures same { (a : Archive) → K.holds keep.old a → K.holds keep.new a }
-    ensures ready { K.stale keep.new ≡ false }
-    ensures cause { RoseIf (result ≡ Err TextRefusal.DiskFault) (K.faults keep.old) (K.faults keep.new) }
+    ensures shelf { Stays K.holds K.ready K.alike K.faults keep.old keep.new }
+    ensures cause { ReadCause (K.faults keep.old) (K.faults keep.new) result }
 {
     for epoch in 0..EPOCHS {
         match push_listed(alloc, epoch, keep, into) {
@@ -64,12 +61,11 @@ fn push_listed<K: Keep>(
     keep: &mut K,
     into: &mut Bytes,
 ) -> Result<(), TextRefusal>
-    requires { K.stale keep.old ≡ false }
+    requires { K.ready keep.old ≡ true }
     ensures words { (a : Archive) → K.holds keep.old a
         → AppendsWords (listed epoch (in_epoch a.entries epoch)) into.old into.new result }
-    ensures same { (a : Archive) → K.holds keep.old a → K.holds keep.new a }
-    ensures ready { K.stale keep.new ≡ false }
-    ensures cause { RoseIf (result ≡ Err TextRefusal.DiskFault) (K.faults keep.old) (K.faults keep.new) }
+    ensures shelf { Stays K.holds K.ready K.alike K.faults keep.old keep.new }
+    ensures cause { ReadCause (K.faults keep.old) (K.faults keep.new) result }
 {
     let mut bytes = Bytes::new(alloc);
     match keep.epoch_bytes(epoch, &mut bytes) {

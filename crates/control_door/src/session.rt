@@ -1,14 +1,12 @@
 //! A control connection: the bytes that are not answered yet, and the answer to a piece.
-ghost use Rattle.std.specs.Prelude.{◌≡◌, ◌⊎◌, ◌+◌, ◌<◌, ◌≤◌, ℕ, List, [], ◌++◌, length, take, drop, Bool, true, false, Option, Some, None, if◌then◌else◌};
+ghost use Rattle.std.specs.Prelude.{◌≡◌, ◌⊎◌, ◌+◌, ◌<◌, ◌≤◌, ℕ, [], ◌++◌, length, take, drop, Bool, true, if◌then◌else◌};
 ghost use Rattle.line_door.specs.Lines.{front, Whole, content};
-ghost use Rattle.line_door.specs.Acts.{outside, held_if};
-ghost use Rattle.line_door.specs.Course.{talk, Fed};
+ghost use Rattle.line_door.specs.Acts.{outside};
 ghost use Rattle.arch_base.specs.Moments.{last_moment};
 ghost use Rattle.arch_model.specs.Next.{continues};
-ghost use Rattle.arch_model.specs.Standing.{Standing, Fits};
+ghost use Rattle.arch_model.specs.Standing.{Standing};
 ghost use Rattle.control_door.specs.Orders.{order_of};
 ghost use Rattle.control_door.specs.Requests.{line_limit};
-ghost use Rattle.control_door.specs.Door.{waiting, said as said_of, has_request};
 
 use crate::answers::{reopen, say_requested};
 use crate::front::{Front, Payload, Requested};
@@ -59,7 +57,7 @@ impl Model for Session {
 }
 
 impl Session {
-    ghost use Rattle.control_door.specs.Sessions.{IsTurn, IsHeld, IsPayload, IsFront, Turns, Takes};
+    ghost use Rattle.control_door.specs.Sessions.{IsTurn, IsHeld, IsPayload, IsFront, Turns, Takes, Feeds};
 
     /// Returns a session without bytes. The control door has no greeting.
     pub fn open(alloc: Global) -> Session
@@ -75,7 +73,7 @@ impl Session {
     /// Answers the whole requests of a piece in order, and keeps the rest. Returns whether the
     /// session continues.
     ///
-    /// `moment` is in seconds since 1970 UTC. The keeper is open at first. It is reopened before
+    /// `moment` is in seconds since 1970 UTC. The keeper is ready at first. It is reopened before
     /// each further request, which does nothing while no command is in doubt.
     ///
     /// The session ends, and the remaining bytes are dropped:
@@ -91,6 +89,9 @@ impl Session {
     ///
     /// The contract then says nothing of what the session holds.
     ///
+    /// A crash since the call began leaves an archive that stood between two of these acts, or one
+    /// that was in doubt there.
+    ///
     /// A delivery, a text or a list of epochs that runs out of memory writes `12 no memory`, and
     /// the archive is unchanged. If the disk fails at one, it writes `10 disk fault`, and the
     /// keeper's count of faults rose. The session continues in both cases. After a fault, only
@@ -102,15 +103,12 @@ impl Session {
         keep: &mut K,
         out: &mut O,
     ) -> Next
-        requires ready { K.stale keep.old ≡ false }
+        requires ready { K.ready keep.old ≡ true }
         requires moment { moment ≤ last_moment }
-        ensures fed { (s : Standing) → Fits K.holds K.stale K.clock K.leaves keep.old s →
-            (t : Standing) × (opened : Bool) × Fits K.holds K.stale K.clock K.leaves keep.new t
-            × Fed (said_of moment) has_request
-            (talk (Some (waiting (self.old ++ piece.now) true)) s
-            (outside (O.taken out.old) (K.faults keep.old) (O.faults out.old)))
-            (talk (held_if (continues result) (waiting self.new opened)) t
-            (outside (O.taken out.new) (K.faults keep.new) (O.faults out.new))) }
+        ensures fed { Feeds K.holds K.ready K.leaves moment (self.old ++ piece.now) keep.old
+            (outside (O.taken out.old) (K.faults keep.old) (O.faults out.old))
+            (continues result) self.new keep.new
+            (outside (O.taken out.new) (K.faults keep.new) (O.faults out.new)) }
         ensures later { K.faults keep.old ≤ K.faults keep.new }
         ensures sink { O.alike out.old out.new }
     {
@@ -140,14 +138,14 @@ impl Session {
         keep: &mut K,
         out: &mut O,
     ) -> Turn
-        requires ready { opened ≡ true → K.stale keep.old ≡ false }
+        requires ready { opened ≡ true → K.ready keep.old ≡ true }
         requires moment { moment ≤ last_moment }
-        ensures turn { Turns K.holds K.stale K.clock K.leaves moment opened self.old piece.now keep.old
+        ensures turn { Turns K.holds K.ready K.leaves moment opened self.old piece.now keep.old
             (outside (O.taken out.old) (K.faults keep.old) (O.faults out.old))
             result self.new keep.new
             (outside (O.taken out.new) (K.faults keep.new) (O.faults out.new)) }
         ensures takes { Takes opened piece.now result }
-        ensures ready { result ≡ Turn.Opened → K.stale keep.new ≡ false }
+        ensures ready { result ≡ Turn.Opened → K.ready keep.new ≡ true }
         ensures later { K.faults keep.old ≤ K.faults keep.new }
         ensures sink { O.alike out.old out.new }
     {

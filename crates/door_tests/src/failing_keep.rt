@@ -1,8 +1,11 @@
 //! A keeper of an archive of which one kind of call fails.
-ghost use Rattle.std.specs.Prelude.{◌≡◌, true, false};
+ghost use Rattle.std.specs.Prelude.{◌≡◌, ◌≤◌, true, false, not, refl};
+ghost use Rattle.arch_model.specs.Keeping.{StaysReady, AnswerCause};
+ghost use Rattle.arch_model.specs.Untold.{HoldsNone, LeavesUntold, untold-read};
+ghost use Rattle.arch_base.specs.Moments.{last_moment};
 
-use arch_base::{Bytes, NoMemory};
-use arch_model::{Answer, Command, Keep, OpenRefusal, TextRefusal};
+use arch_base::{Bytes, Config, NoMemory, ObjectId};
+use arch_model::{Answer, Command, EntryLine, Keep, OpenRefusal, Shelf, TextRefusal};
 use mem_archive::MemArchive;
 
 /// The call of a keeper that fails.
@@ -16,6 +19,8 @@ pub enum Failing {
     OpeningWithoutMemory,
     /// A read of a text.
     Text,
+    /// A read of a text but the first message's.
+    LaterText,
     /// A read of an epoch.
     Epoch,
 }
@@ -41,32 +46,83 @@ impl FailingKeep {
             faults: 0,
         }
     }
+
+    /// Counts a fault.
+    fn fail(&mut self)
+        ensures stale { self.new.stale ≡ self.old.stale }
+        ensures later { self.old.faults ≤ self.new.faults }
+        ensures cause { AnswerCause self.old.faults self.new.faults Answer.DiskFault }
+    {
+        self.faults = self.faults.saturating_add(1);
+    }
+
+    /// Carries out a command, or fails, as the keeper's kind says.
+    fn take(&mut self, command: &Command<'_>, moment: u64) -> Answer
+        requires ready { self.old.stale ≡ false }
+        requires moment { moment ≤ last_moment }
+        ensures ready { StaysReady true result (not self.new.stale) }
+        ensures later { self.old.faults ≤ self.new.faults }
+        ensures cause { AnswerCause self.old.faults self.new.faults result }
+    {
+        match self.failing {
+            Failing::Text | Failing::LaterText | Failing::Epoch => Keep::command(
+                &mut self.archive,
+                command,
+                moment,
+            ),
+            Failing::Command(true) => {
+                let _ = Keep::command(&mut self.archive, command, moment);
+                self.stale = true;
+                self.fail();
+                Answer::DiskFault
+            }
+            Failing::Command(false) | Failing::Opening | Failing::OpeningWithoutMemory => {
+                self.stale = true;
+                self.fail();
+                Answer::DiskFault
+            }
+        }
+    }
 }
 
-impl Keep for FailingKeep {
-    ghost holds = { λ k a. ⊥ };
+impl Shelf for FailingKeep {
+    ghost holds = { HoldsNone };
 
-    ghost live = { λ k n. true };
+    ghost ready = { λ k. not k.stale };
 
-    ghost stale = { λ k. k.stale };
-
-    ghost clock = { λ k. 0 };
-
-    ghost leaves = { λ k t may. ⊥ };
+    ghost reads = { λ k. 0 };
 
     ghost faults = { λ k. k.faults };
 
-    fn is_stale(&self) -> bool {
-        self.stale
+    ghost alike = { λ k m. m.stale ≡ k.stale };
+
+    fn config(&self) -> &Config {
+        self.archive.config()
+    }
+
+    fn next_number(&self) -> u32 {
+        self.archive.next_number()
     }
 
     fn live_from(&self, n: u32) -> Option<u32> {
-        self.archive.number_from(n)
+        self.archive.live_from(n)
+    }
+
+    fn live_to(&self, n: u32) -> Option<u32> {
+        self.archive.live_to(n)
+    }
+
+    fn live_count(&self, low: u32, high: u32) -> u64 {
+        self.archive.live_count(low, high)
+    }
+
+    fn entry(&self, index: u64) -> Option<EntryLine> {
+        self.archive.entry(index)
     }
 
     fn text(&mut self, n: u32, into: &mut Bytes) -> Result<(), TextRefusal> {
-        if self.failing == Failing::Text {
-            self.faults = self.faults.saturating_add(1);
+        if self.failing == Failing::Text || self.failing == Failing::LaterText && n > 1 {
+            self.fail();
             return Err(TextRefusal::DiskFault);
         }
         match self.archive.text(n) {
@@ -78,32 +134,26 @@ impl Keep for FailingKeep {
         }
     }
 
-    fn epoch_bytes(&mut self, epoch: u32, into: &mut Bytes) -> Result<bool, TextRefusal> {
-        if self.failing == Failing::Epoch {
-            self.faults = self.faults.saturating_add(1);
+    fn blob(&mut self, id: &ObjectId, into: &mut Bytes) -> Result<bool, TextRefusal> {
+        if self.failing == Failing::Text {
+            self.fail();
             return Err(TextRefusal::DiskFault);
         }
-        match self.archive.push_epoch(epoch, into) {
-            Ok(found) => Ok(found),
-            Err(NoMemory) => Err(TextRefusal::NoMemory),
-        }
+        self.archive.blob(id, into)
     }
 
-    fn command(&mut self, command: &Command<'_>, moment: u64) -> Answer {
-        match self.failing {
-            Failing::Text | Failing::Epoch => self.archive.command(command, moment),
-            Failing::Command(true) => {
-                let _ = self.archive.command(command, moment);
-                self.stale = true;
-                self.faults = self.faults.saturating_add(1);
-                Answer::DiskFault
-            }
-            Failing::Command(false) | Failing::Opening | Failing::OpeningWithoutMemory => {
-                self.stale = true;
-                self.faults = self.faults.saturating_add(1);
-                Answer::DiskFault
-            }
-        }
+    ghost alike_same = { λ k. refl };
+
+    ghost use Rattle.std.proofs.Common.{◌∙◌};
+
+    ghost alike_joined = { λ k m n p q. q ∙ p };
+}
+
+impl Keep for FailingKeep {
+    ghost leaves = { LeavesUntold };
+
+    fn is_stale(&self) -> bool {
+        self.stale
     }
 
     fn fresh(&mut self) -> Result<(), OpenRefusal> {
@@ -112,7 +162,7 @@ impl Keep for FailingKeep {
         }
         match self.failing {
             Failing::Opening => {
-                self.faults = self.faults.saturating_add(1);
+                self.fail();
                 Err(OpenRefusal::DiskFault)
             }
             Failing::OpeningWithoutMemory => Err(OpenRefusal::NoMemory),
@@ -123,5 +173,29 @@ impl Keep for FailingKeep {
         }
     }
 
-    ghost holds_left = { λ k a no. no };
+    fn command(&mut self, command: &Command<'_>, moment: u64) -> Answer {
+        match self.fresh() {
+            Ok(()) => self.take(command, moment),
+            Err(refusal) => refusal.answer(),
+        }
+    }
+
+    fn epoch_bytes(&mut self, epoch: u32, into: &mut Bytes) -> Result<bool, TextRefusal> {
+        if self.failing == Failing::Epoch {
+            self.fail();
+            return Err(TextRefusal::DiskFault);
+        }
+        match self.archive.push_epoch(epoch, into) {
+            Ok(found) => Ok(found),
+            Err(NoMemory) => Err(TextRefusal::NoMemory),
+        }
+    }
+
+    ghost holds_left = { λ k a may no has. no };
+
+    ghost leaves_now = { λ start k may no. no };
+
+    ghost use Rattle.std.proofs.Common.{ap};
+
+    ghost alike_kept = { λ k m same. untold-read _ k m (ap not same) };
 }

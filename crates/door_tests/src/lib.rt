@@ -15,4 +15,8 @@ mod failing_keep;
 #[cfg(test)]
 mod failure_tests;
 #[cfg(test)]
+mod keep_client;
+#[cfg(test)]
 mod line_tests;
+#[cfg(test)]
+mod shelf_client;

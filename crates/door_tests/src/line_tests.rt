@@ -1,5 +1,9 @@
 //! Tables worked out by hand: where lines end, and what is dropped of them.
-use line_door::{Ahead, cut_law, line_content, line_law, next_in, pieces_law, plain_law};
+use keep_course::{chain_law, course_law};
+use line_door::{
+    Ahead, Passage, calls_law, cut_law, lifting_law, line_content, line_law, next_in, next_passing,
+    pieces_law, plain_law, skipping_law,
+};
 
 /// Pieces, and what starts each where lines have at most 8 bytes.
 const FIRST: [(&[u8], Ahead); 9] = [
@@ -45,6 +49,27 @@ fn a_line_of_512_bytes_is_read(rt: HostRuntime) {
     assert!(rt; next_in(b"", &piece, 512) == Ahead::Line(511));
 }
 
+/// Pieces, and how each continues three bytes of a line, where lines have at most 8 bytes and longer
+/// ones are skipped.
+const PASSAGES: [(&[u8], Passage); 7] = [
+    (b"", Passage::More),
+    (b"\n", Passage::Line(0)),
+    (b"d\ne\n", Passage::Line(1)),
+    (b"defg", Passage::More),
+    (b"defg\n", Passage::Line(4)),
+    (b"defghijk", Passage::More),
+    (b"defgh\ne\n", Passage::Skipped(5)),
+];
+
+#[test]
+fn a_long_line_is_skipped_up_to_its_line_feed(rt: HostRuntime) {
+    for (piece, wanted) in &PASSAGES {
+        assert!(rt; next_passing(b"abc", piece, 8) == *wanted);
+    }
+    assert!(rt; next_passing(b"abcdefgh", b"\n", 8) == Passage::Skipped(0));
+    assert!(rt; next_passing(b"", b"abcdefg\n", 8) == Passage::Line(7));
+}
+
 /// Lines and their contents.
 const CONTENTS: [(&[u8], &[u8]); 6] = [
     (b"", b""),
@@ -66,6 +91,11 @@ fn one_carriage_return_is_dropped(rt: HostRuntime) {
 fn the_laws_are_called(_rt: HostRuntime) {
     cut_law();
     pieces_law();
+    calls_law();
     plain_law();
     line_law();
+    skipping_law();
+    lifting_law();
+    course_law();
+    chain_law();
 }

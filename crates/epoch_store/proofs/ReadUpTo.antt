@@ -16,12 +16,10 @@ use Rattle.epoch_store.specs.Files.{epoch_file_of}
 use Rattle.epoch_store.specs.declared.entries.StoredEntry.{StoredEntry}
 use Rattle.epoch_store.specs.declared.known.JoinRefusal.TheVariants.{Damaged}
 use Rattle.epoch_store.specs.declared.known.Unmatched.{Unmatched}
-use Rattle.epoch_store.specs.Recovery.{RecoversBy}
 use Rattle.epoch_store.specs.Damage.{messages, AreFirst, named_length, IsFirstDamage}
 use Rattle.epoch_store.specs.Joined.{Joined, AreJoined, TakesEpoch, Finishes}
-use Rattle.epoch_store.specs.Openings.{archive_of, HasMap, IsReadUpTo, AreRead}
+use Rattle.epoch_store.specs.Openings.{HasMap, IsReadUpTo, AreRead}
 use Rattle.epoch_store.proofs.Opening.{walked_whole, empty_whole, early_next, stops_next, entry_some, valid_after}
-use Rattle.epoch_store.proofs.Opened.{opened_recovers}
 use Rattle.epoch_store.proofs.Undamaged.{prefix_of}
 
 -- The bytes of an epoch's file.

@@ -6,6 +6,7 @@ use Rattle.std.proofs.Common.{◌∙◌, sym, ap, subst, inl, inr, arith, length
 use Rattle.std.proofs.lemmas.Bool.{cases_lt}
 use Rattle.disk_model.specs.declared.name.FileName.{FileName}
 use Rattle.disk_model.specs.Disk.{File, Files, Content, Image, Told, WhereTold, Unchanged, Synced, Within, exact, bytes_of, ReadsFit}
+use Rattle.disk_model.specs.Synced.{settled_image}
 use Rattle.disk_model.specs.Tells.{told_then}
 use Rattle.arch_model.specs.Archives.{Archive}
 use Rattle.arch_model.specs.declared.opening.OpenRefusal.{OpenRefusal}
@@ -33,7 +34,7 @@ use Rattle.epoch_store.specs.Finding.{Finds, IsFoundIn, IsCurrentRoot, IsDamaged
 use Rattle.epoch_store.specs.Joined.{AreBefore}
 use Rattle.epoch_store.specs.Laws.{RecoversOne}
 use Rattle.epoch_store.specs.Openings.{archive_of, HasMap, OpenedRecovers, RecoversUndamaged}
-use Rattle.epoch_store.specs.Opens.{RecoversOfWith, AllRecoverWith, ReadsWith, Opens, IsWant, IsOnlySynced, SyncsBy, RefusesBefore}
+use Rattle.epoch_store.specs.Opens.{RecoversOfWith, AllRecoverWith, ReadsWith, Opens, IsWant, IsOnlySynced, SyncsBy, RefusesBefore, OnSynced}
 use Rattle.epoch_store.specs.Recovery.{parts_of, RecoversWith, RecoversBy}
 use Rattle.epoch_store.specs.Settling.{IsFound, FoundOn, KeepsSlots, IsSettledBy}
 use Rattle.epoch_store.specs.Stores.{View, IsStoreWith, HasSizes, InEpochs, stored_after}
@@ -239,6 +240,15 @@ module _ (spellings : SpellingsDiffer) where
         let r = by_root found (as_read k) is spellings cache a recovers in
         (a, found_archive found cache a k m is r synced, λ image stands. (Some a, in_may, (found.root, record { valid = r.valid; names = r.names; cache_long = r.cache_long; stands = stands })))
 
+  -- While the disk is settled, files stand for the archive as which they read.
+  pub reading_stands : (found : Found) (cache : List ℕ) (a : Archive) (k m : Option Content) → WhereTold (λ c. IsFoundIn (as_read c) found) k → ReadsWith cache a k → Told IsOnlySynced k m
+      → FoundOn found.root (slot_number found.slot) (texts_found found cache a) m × ((image : Files) → StandsFor found.root (texts_found found cache a) image → RecoversWith cache image a)
+  reading_stands found cache a None m is reads synced = absurd reads
+  reading_stands found cache a (Some k) None is reads synced = absurd synced
+  reading_stands found cache a (Some k) (Some m) is reads synced =
+      let r = by_root found (as_read k) is spellings cache a reads in
+      (found_archive found cache a k m is r synced, λ image stands. (found.root, record { valid = r.valid; names = r.names; cache_long = r.cache_long; stands = stands }))
+
   -- Files that stand for an archive are opened.
   module _ (undamaged : RecoversUndamaged) (files : Files) (cache : List ℕ) (a : Archive) (recovers : RecoversWith cache files a) where
     -- Their current root is a root.
@@ -293,6 +303,29 @@ refuses_before T U NoArchive k n synced = synced
 refuses_before T U (Damaged file at) k n synced = synced
 refuses_before T U DiskFault k n synced = tt
 refuses_before T U NoMemory k n synced = synced
+
+-- What a crash leaves of a disk that was only synced stands for the archive as which its files read.
+pub synced_recovers : (cache : List ℕ) (a : Archive) (k m : Option Content) (image : Files) → ReadsWith cache a k → Told IsOnlySynced k m → Image m image → RecoversWith cache image a
+synced_recovers cache a None m image reads synced left = absurd reads
+synced_recovers cache a (Some k) None image reads synced left = absurd synced
+synced_recovers cache a (Some k) (Some m) image reads synced left =
+    let one : image ≡ as_read m = (λ i. λ (name : FileName). settled_image m image synced.settled left name i) in
+    let two : as_read m ≡ as_read k = (λ i. λ (name : FileName). synced.seen name i) in
+    subst (λ (files : Files). RecoversWith cache files a) (sym (one ∙ two)) reads
+
+-- A refusal of a call after the sync comes after it.
+pub refused_first : (T U P : Type 0) (why : OpenRefusal) (k m : Option Content) → SyncsBy {T = T} (Err why) k m → (Told IsOnlySynced k m → P) → OnSynced {T = U} (Err why) P
+refused_first T U P NoArchive k m synced so = so synced
+refused_first T U P (Damaged file at) k m synced so = so synced
+refused_first T U P DiskFault k m synced so = tt
+refused_first T U P NoMemory k m synced so = so synced
+
+-- So does one of a later call.
+pub on_synced : (U P : Type 0) (why : OpenRefusal) → P → OnSynced {T = U} (Err why) P
+on_synced U P NoArchive so = so
+on_synced U P (Damaged file at) so = so
+on_synced U P DiskFault so = tt
+on_synced U P NoMemory so = so
 
 -- Settling fails only because the disk failed or memory ran out.
 pub rest_opens : (refusal : OpenRefusal) (files : Files) → IsWant refusal → Opens files (Err refusal)

@@ -10,8 +10,8 @@ use Rattle.root_slots.specs.Laws.{SpellingsDiffer}
 use Rattle.root_slots.specs.RootName.{root_name}
 use Rattle.root_slots.specs.Spelling.{spelling}
 use Rattle.root_change.specs.Parts.{texts_of}
-use Rattle.epoch_store.specs.Files.{map_file_of, epoch_file_of}
-use Rattle.epoch_store.specs.Laws.{RecoversOne, RecoversSomeOne, ExactRecovers, StoreRecovers}
+use Rattle.epoch_store.specs.Files.{map_file_of, epoch_file_of, cache_file_of}
+use Rattle.epoch_store.specs.Laws.{RecoversOne, RecoversSomeOne, CachesOne, ExactRecovers, StoreRecovers}
 use Rattle.epoch_store.specs.Recovery.{records_from, records_of, map_bytes, bytes_in, parts_of, RecoversBy}
 use Rattle.epoch_store.specs.Leaving.{disk_recovers}
 use Rattle.epoch_store.proofs.Parted.{parts_front, exact_stands}
@@ -59,6 +59,16 @@ recovers_some_one spellings records epochs image None None c d p q = refl
 recovers_some_one spellings records epochs image None (Some b) c d p q = absurd (not_shut (image root_name) (spelling q.0) q.1.stands.current p)
 recovers_some_one spellings records epochs image (Some a) None c d p q = absurd (not_shut (image root_name) (spelling p.0) p.1.stands.current q)
 recovers_some_one spellings records epochs image (Some a) (Some b) c d p q = ap (λ (e : Archive). Some e) (recovers_one spellings records epochs image a b c d p q)
+
+-- They have one cache, since they have one current root, which names it.
+pub caches_one : SpellingsDiffer → CachesOne
+caches_one spellings image a None c d p q = absurd (not_shut (image root_name) (spelling p.0) p.1.stands.current q)
+caches_one spellings image a (Some b) c d p q =
+    let root : p.0 ≡ q.0 =
+    spellings p.0 q.0 p.1.names.fits q.1.names.fits p.1.names.is_root q.1.names.is_root
+    (root_is_one (image root_name) (spelling p.0) (spelling q.0) p.1.stands.current q.1.stands.current) in
+    let first : RecoversBy q.0 c image a = subst (λ (r : Root). RecoversBy r c image a) root p.1 in
+    front_is_one (image (cache_file_of q.0)) c d (sym first.cache_long ∙ q.1.cache_long) (parts_front q.0 c image a first).cache_front (parts_front q.0 d image b q.1).cache_front
 
 -- Files that are exactly those of an archive stand for it.
 pub exact_recovers : ExactRecovers

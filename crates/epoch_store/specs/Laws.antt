@@ -16,6 +16,11 @@ abbrev pub RecoversSomeOne : Type 0
 RecoversSomeOne = (image : Files) (a b : Option Archive) (c d : List ℕ)
     → RecoversSomeWith c image a → RecoversSomeWith d image b → a ≡ b
 
+-- Files that stand for an archive stand for it, and for none other, with at most one cache.
+abbrev pub CachesOne : Type 0
+CachesOne = (image : Files) (a : Archive) (b : Option Archive) (c d : List ℕ)
+    → RecoversWith c image a → RecoversSomeWith d image b → c ≡ d
+
 -- Files that are exactly those of an archive stand for it.
 abbrev pub ExactRecovers : Type 0
 ExactRecovers = (cache : List ℕ) (files : Files) (a : Archive) → ExactWith cache files a

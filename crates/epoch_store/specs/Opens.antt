@@ -2,7 +2,7 @@
 use Rattle.std.specs.Prelude.{◌≡◌, ℕ, List, [], Option, Some, None, Result, Ok, Err}
 use Rattle.std.specs.List.{Contains}
 use Rattle.disk_model.specs.declared.name.FileName.{FileName}
-use Rattle.disk_model.specs.Disk.{Files, Content, Image, Told}
+use Rattle.disk_model.specs.Disk.{Files, Content, Image, Told, LeavesOnly}
 use Rattle.disk_model.specs.Synced.{IsSettled}
 use Rattle.arch_model.specs.Archives.{Archive}
 use Rattle.arch_model.specs.declared.opening.OpenRefusal.{OpenRefusal}
@@ -94,3 +94,21 @@ RefusesBefore (Err NoArchive) old new = Told IsOnlySynced old new
 RefusesBefore (Err (Damaged file at)) old new = Told IsOnlySynced old new
 RefusesBefore (Err DiskFault) old new = Unit {0}
 RefusesBefore (Err NoMemory) old new = Told IsOnlySynced old new
+
+-- The disk was synced first: until then a crash leaves what it might have left before, and from then
+-- on what stands for the archive as which the files read.
+pub record SyncsFirst {D : Type 0} (content : D → Option Content) (moment : D → ℕ)
+    (left_since : D → ℕ → Files → Type 0) (old new : D) : Type 0 where
+  pub synced : D
+  pub only : Told IsOnlySynced (content old) (content synced)
+  pub before : LeavesOnly moment left_since old synced (Image (content old))
+  pub after : (a : Archive) (cache : List ℕ) → ReadsWith cache a (content old)
+      → LeavesOnly moment left_since synced new (λ (image : Files). RecoversWith cache image a)
+
+-- What holds after any result but a fault of the disk, which may come before the sync.
+abbrev pub OnSynced : {T : Type 0} → Result T OpenRefusal → Type 0 → Type 0
+OnSynced (Ok found) P = P
+OnSynced (Err NoArchive) P = P
+OnSynced (Err (Damaged file at)) P = P
+OnSynced (Err DiskFault) P = Unit {0}
+OnSynced (Err NoMemory) P = P

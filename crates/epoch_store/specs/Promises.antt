@@ -11,7 +11,7 @@ use Rattle.epoch_store.specs.declared.refusal.InitRefusal.{InitRefusal}
 use Rattle.epoch_store.specs.declared.refusal.InitRefusal.TheVariants as making
 use Rattle.epoch_store.specs.Files.{as_read}
 use Rattle.epoch_store.specs.First.{MakingLeaves, MakingAnswers, RefusesToMake}
-use Rattle.epoch_store.specs.Opens.{RecoversOfWith, AllRecoverWith, ReadsWith, Opens, OpensWell}
+use Rattle.epoch_store.specs.Opens.{RecoversOfWith, AllRecoverWith, ReadsWith, Opens, OpensWell, SyncsFirst, OnSynced}
 use Rattle.epoch_store.specs.Settling.{IsSettledBy}
 use Rattle.epoch_store.specs.Stores.{View, IsDiskOf, IsStoreWith, HasSizes}
 
@@ -37,7 +37,8 @@ pub record MakesArchive {D : Type 0} (content : D → Option Content) (moment : 
 
 -- The archive on a disk is opened, with whatever cache. At each moment a crash leaves an archive
 -- that might have been there before. The answer is by the files as they read, and no archive is
--- refused but for want of memory or a fault. After `Ok` the disk is the archive's own. Whatever it
+-- refused but for want of memory or a fault. Once the disk is synced, a crash leaves only the archive
+-- as which the files read. After `Ok` the disk is the archive's own. Whatever it
 -- held, all bytes that count stay, no other file is left, no root is committed, and all that reads
 -- give is on the disk. It fails only if the count of faults rose.
 pub record OpensArchive {D : Type 0} (content : D → Option Content) (moment : D → ℕ)
@@ -50,6 +51,7 @@ pub record OpensArchive {D : Type 0} (content : D → Option Content) (moment : 
   pub done : (a : Archive) (cache : List ℕ) → ReadsWith cache a (content old)
       → IfOk result (λ (v : View). IsStoreWith v cache a (content new))
   pub well : (a : Archive) (cache : List ℕ) → ReadsWith cache a (content old) → OpensWell result
+  pub first : OnSynced result (SyncsFirst content moment left_since old new)
   pub settled : OnOk result (WhereTold IsSettled (content new))
   pub kept : IfOk result (λ (v : View). Told (IsSettledBy v.root v.slot) (content old) (content new))
   pub sizes : IfOk result (λ (v : View). WhereTold (HasSizes v) (content new))

@@ -1,14 +1,17 @@
 //! Laws of files that stand for archives.
-ghost use Rattle.epoch_store.specs.Laws.{RecoversOne, RecoversSomeOne, StoreRecovers, ExactRecovers};
+ghost use Rattle.epoch_store.specs.Laws.{RecoversOne, RecoversSomeOne, CachesOne, StoreRecovers, ExactRecovers};
 
 use epoch_file::law_of_epochs;
 use number_map::law_of_records;
 use root_slots::law_of_spellings;
 
 /// Shows that files stand for at most one archive, and never both for an archive and for none.
+///
+/// They stand for an archive with at most one cache.
 pub fn law_of_recovery()
     ensures one { RecoversOne }
     ensures some_one { RecoversSomeOne }
+    ensures caches { CachesOne }
 {
     law_of_spellings();
     law_of_records();

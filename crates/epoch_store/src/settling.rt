@@ -1,5 +1,5 @@
 //! Settles the disk of an archive when it is opened.
-ghost use Rattle.std.specs.Prelude.{◌≡◌, ◌-◌, OnOk};
+ghost use Rattle.std.specs.Prelude.{◌-◌, OnOk};
 ghost use Rattle.arch_base.specs.Counts.{IsCaused};
 ghost use Rattle.disk_model.specs.Disk.{Told, WhereTold, LeavesOnly};
 ghost use Rattle.disk_model.specs.Synced.{IsSettled};

@@ -16,7 +16,7 @@ ghost use Rattle.epoch_store.specs.Finding.{Finds};
 ghost use Rattle.epoch_store.specs.Joined.{AreBefore};
 ghost use Rattle.epoch_store.specs.Settling.{FoundOn, IsSettledBy};
 ghost use Rattle.epoch_store.specs.Stores.{IsStoreWith, HasSizes};
-ghost use Rattle.epoch_store.specs.Opens.{RecoversOfWith, AllRecoverWith, ReadsWith, Opens, OpensWell, SyncsBy, RefusesBefore};
+ghost use Rattle.epoch_store.specs.Opens.{RecoversOfWith, AllRecoverWith, ReadsWith, Opens, OpensWell, SyncsBy, RefusesBefore, SyncsFirst, OnSynced};
 
 use crate::finding::{Found, find};
 use crate::laws::law_of_recovery;
@@ -107,6 +107,9 @@ impl Store {
         ensures well { (a : Archive) (cache : List ℕ) → ReadsWith cache a (D.content disk.old)
             → OpensWell result }
         ensures refused { RefusesBefore result (D.content disk.old) (D.content disk.new) }
+        // Once it is synced, only the archive as which the files read is left.
+        ensures first { OnSynced result
+            (SyncsFirst D.content D.moment D.left_since disk.old disk.new) }
         ensures settled { OnOk result (WhereTold IsSettled (D.content disk.new)) }
         // Whatever the files are: all bytes that count stay, those of a cache too, no other file is
         // left, and no root is committed.

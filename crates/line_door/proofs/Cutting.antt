@@ -5,7 +5,7 @@ use Rattle.edge_io.specs.Taken.{plus}
 use Rattle.line_door.specs.Acts.{Outside, outside, Said, Way, Plain, Disk, Sent, Acts, PlainActs}
 use Rattle.line_door.specs.Course.{Talk, talk, Step, Requests, Last, Fed, PlainStep, PlainRequests, PlainLast, PlainFed}
 use Rattle.line_door.specs.Plain.{silent, said_after, then_by, then_say, if_request, plain_from, plain}
-use Rattle.line_door.specs.Cuts.{more_of, said_with, CutDoor, CutLaw, PiecesLaw, PlainLaw, PlainIsFed, DoorLaws}
+use Rattle.line_door.specs.Cuts.{more_of, said_with, CutDoor, CutLaw, PiecesLaw, LeftWith, CallsLaw, PlainLaw, PlainIsFed, DoorLaws}
 use Rattle.edge_io.proofs.Wording.{plus-plus, plus-none}
 use Rattle.line_door.proofs.Acting.{acts-from}
 
@@ -191,6 +191,16 @@ module _ {H A : Type 0} (said : A → H → Way → Said H A) (is_request : H �
         (fed-after (talk (Some (more q (more p h))) a o) (all_with q first.0) (with q first.1) z (requests-with q (talk (Some (more p h)) a o) first.0 first.1 first.2)
         (fed-from (talk (Some (more q k)) v.after v.outside) (with q first.1) z (ap (more_of (more q)) rest.held) (sym rest.after) (sym rest.out) (sym rest.lost) rest.disk second.0 second.1 second.2 second.3))
 
+    -- The requests of a course whose rest was kept begin the course of both pieces joined.
+    pub calls : CallsLaw said is_request more size
+    calls h p q a o v k first kept =
+        let rest = kept-last k first.1 v first.3 kept in (
+          all_with q first.0,
+          with q first.1,
+          subst (λ (g : H). Requests said is_request (talk (Some g) a o) (all_with q first.0) (with q first.1)) (door.more_joined p q h) (requests-with q (talk (Some (more p h)) a o) first.0 first.1 first.2),
+          record { held = ap (more_of (more q)) rest.held; after = sym rest.after; out = sym rest.out; lost = sym rest.lost; disk = rest.disk },
+        )
+
     -- The plain function.
 
     -- Two plain acts in order are one with the joined words.
@@ -317,4 +327,4 @@ module _ {H A : Type 0} (said : A → H → Way → Said H A) (is_request : H �
 
     -- All laws of a door.
     pub door_laws : DoorLaws said is_request more size
-    door_laws = record { cut = cut; pieces = pieces; by_rules = by_rules; is_course = is_course }
+    door_laws = record { cut = cut; pieces = pieces; calls = calls; by_rules = by_rules; is_course = is_course }

@@ -4,7 +4,8 @@ use Rattle.line_door.specs.Acts.{Way, Plain, Memory, Disk, Newer}
 use Rattle.line_door.specs.Lines.{Front, Whole, Long, Partial, front, is_whole, content}
 use Rattle.line_door.specs.Plain.{silent}
 use Rattle.line_door.specs.Cuts.{said_with, CutDoor}
-use Rattle.line_door.specs.Echo.{is_quit, echo_plain, echo_line, echo_rest, echo_at, echo_said, echo_request, echo_more}
+use Rattle.line_door.specs.Echo.{is_quit, echo_plain, echo_line, echo_rest, echo_at, echo_said, echo_request, echo_more, shared_said, shared_request, EchoLifts}
+use Rattle.line_door.proofs.Lifting.{fed-over}
 use Rattle.line_door.proofs.Fronts.{front-goes_on, front-stays_long, front-shorter, is_whole-stays, not_whole}
 
 plain-after : (q : List ℕ) (t : Bool) (a : ℕ) (line rest : List ℕ) → echo_plain t a line (rest ++ q) ≡ said_with (echo_more q) (echo_plain t a line rest)
@@ -47,3 +48,8 @@ echo_door = record {
   more_joined = λ p q h. append_assoc h p q;
   shorter = λ a h k e next. shorter-at a h k (front 512 h) refl e next;
 }
+
+-- Each course of the small door is one of the door on one connection of many.
+pub echo_lifts : EchoLifts
+echo_lifts connection other w v fed =
+    fed-over (λ (count : ℕ). (count, other)) (λ (bytes : List ℕ). (connection, bytes)) echo_said echo_request shared_said shared_request (λ a h way. refl) (λ h. refl) w v fed

@@ -1,7 +1,7 @@
 -- The answers to a connection do not depend on how its bytes are cut into pieces.
-use Rattle.std.specs.Prelude.{◌≡◌, ◌<◌, ◌⊎◌, ◌↔◌, ℕ, List, ◌++◌, Option, Some, None, Bool, true, false}
+use Rattle.std.specs.Prelude.{◌≡◌, ◌<◌, ◌≤◌, ◌⊎◌, ◌↔◌, ℕ, List, ◌++◌, Option, Some, None, Bool, true, false}
 use Rattle.line_door.specs.Acts.{Outside, Said, Way, Plain, PlainActs}
-use Rattle.line_door.specs.Course.{Talk, talk, Fed, PlainFed}
+use Rattle.line_door.specs.Course.{Talk, talk, Requests, Fed, PlainFed}
 use Rattle.line_door.specs.Plain.{silent, then_say, plain}
 
 -- The session with more bytes, if it is open.
@@ -51,6 +51,26 @@ module _ {H A : Type 0} (said : A → H → Way → Said H A)
       Fed said is_request (talk (Some (more q k)) v.after v.outside) z →
       Fed said is_request (talk (Some (more (p ++ q) h)) a o) z
 
+  -- The session has `q` after the rest `k`, and all else is as after the course that kept the rest.
+  -- While it was kept, only the disk's count of faults may have risen.
+  pub record LeftWith (q : List ℕ) (k : H) (m v : Talk H A) : Type 0 where
+    pub held : m.held ≡ Some (more q k)
+    pub after : m.after ≡ v.after
+    pub out : m.outside.out ≡ v.outside.out
+    pub lost : m.outside.lost ≡ v.outside.lost
+    pub disk : m.outside.disk ≤ v.outside.disk
+
+  -- The requests of a course of `p` whose rest was kept are the first ones of both pieces joined, and
+  -- leave `q` after that rest. So a course of `q` goes on there, whatever stood between the two: it
+  -- begins with the same session, in the archive and at the outside of its own time.
+  abbrev pub CallsLaw : Type 0
+  CallsLaw =
+      (h : H) (p q : List ℕ) (a : A) (o : Outside) (v : Talk H A) (k : H) →
+      Fed said is_request (talk (Some (more p h)) a o) v →
+      v.held ≡ Some k →
+      (ms : List (Talk H A)) × (m : Talk H A)
+      × Requests said is_request (talk (Some (more (p ++ q) h)) a o) ms m × LeftWith q k m v
+
   -- A plain course says and leaves what the plain function says and leaves.
   abbrev pub PlainLaw : Type 0
   PlainLaw =
@@ -67,5 +87,6 @@ module _ {H A : Type 0} (said : A → H → Way → Said H A)
   pub record DoorLaws : Type 0 where
     pub cut : CutLaw
     pub pieces : PiecesLaw
+    pub calls : CallsLaw
     pub by_rules : PlainLaw
     pub is_course : PlainIsFed

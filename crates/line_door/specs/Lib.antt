@@ -1,8 +1,11 @@
 pub mod Acts
+pub mod Making
 pub mod Course
+pub mod Over
 pub mod Plain
 pub mod Cuts
 pub mod Lines
 pub mod LineLaws
 pub mod Ahead
+pub mod Skipping
 pub mod Echo

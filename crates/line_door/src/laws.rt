@@ -1,6 +1,7 @@
 //! Laws of doors, stated at a small door, and the law of the line at the front.
-ghost use Rattle.line_door.specs.Echo.{EchoCut, EchoPieces, EchoPlain};
+ghost use Rattle.line_door.specs.Echo.{EchoCut, EchoPieces, EchoCalls, EchoPlain, EchoLifts};
 ghost use Rattle.line_door.specs.LineLaws.{LineLaw};
+ghost use Rattle.line_door.specs.Skipping.{SkippingLaw};
 
 /// Shows that feeding one piece and then another has the same result as feeding both at once.
 ///
@@ -18,6 +19,14 @@ pub fn pieces_law()
     ensures { EchoPieces }
 {}
 
+/// Shows that the requests of a piece whose rest was kept are the first ones of that piece and the
+/// next joined, whatever stands between the two.
+///
+/// Stated at the same door.
+pub fn calls_law()
+    ensures { EchoCalls }
+{}
+
 /// Shows that acts without a failed allocation, a fault or a lost send do what the plain function
 /// of the piece does.
 ///
@@ -30,4 +39,20 @@ pub fn plain_law()
 /// alone, and how they change when more bytes follow.
 pub fn line_law()
     ensures { LineLaw }
+{}
+
+/// Shows what a line is that has ended, at a front that skips lines that are too long.
+///
+/// In terms of the bytes alone: how it changes when more bytes follow, and that the first `limit`
+/// bytes of a part of a line go on as all of them would.
+pub fn skipping_law()
+    ensures { SkippingLaw }
+{}
+
+/// Shows that the course of a session is one of a door that has the session among its own.
+///
+/// Stated at the same door, whose session is then that of one connection of many. The same proof
+/// holds for every door.
+pub fn lifting_law()
+    ensures { EchoLifts }
 {}

@@ -1,9 +1,11 @@
 //! What all doors of lines share: the acts and courses of a session, the laws of cutting its bytes
-//! into pieces, and the line at the front of its bytes.
+//! into pieces, the lifting of a session to one of many, and the line at the front of its bytes.
 #![tactic(auto)]
 
 mod laws;
 mod line;
+mod skipping;
 
-pub use laws::{cut_law, line_law, pieces_law, plain_law};
+pub use laws::{calls_law, cut_law, lifting_law, line_law, pieces_law, plain_law, skipping_law};
 pub use line::{Ahead, line_content, next_in};
+pub use skipping::{Passage, next_passing};

@@ -7,6 +7,9 @@ use Rattle.disk_model.specs.Sizes.{greatest_epoch}
 use Rattle.arch_model.specs.Archives.{Entry, Archive, in_epoch, has_entry}
 use Rattle.arch_model.specs.Delivery.{last_epoch}
 use Rattle.arch_model.specs.Epochs.{epoch_bytes, last_commit}
+use Rattle.arch_model.specs.Shelves.{lines_after}
+use Rattle.arch_model.specs.declared.line.EntryLine.{EntryLine}
+use Rattle.git_objects.specs.Objects.{blob_id_of}
 use Rattle.mail_commits.specs.Entries.{commit_id, entry_bytes, magic, message_kind}
 use Rattle.mem_archive.specs.declared.kept.Kept.{Kept}
 use Rattle.mem_archive.specs.declared.kept.End.{End}
@@ -20,6 +23,23 @@ entries_from n [] = []
 entries_from n (k ∷ ks) = record { number = n; epoch = k.epoch; text = k.text; moment = k.moment }
     ∷ entries_from (n + 1) ks
 
+-- A kept message with this number, without its text.
+abbrev pub line_of : ℕ → Kept → EntryLine
+line_of n k = record {
+  kind = message_kind;
+  number = n;
+  epoch = k.epoch;
+  secs = k.moment;
+  blob = blob_id_of k.text;
+  size = length k.text;
+  commit = k.commit;
+}
+
+-- Kept messages without their texts, the first of which has this number.
+abbrev pub lines_from : ℕ → List Kept → List EntryLine
+lines_from n [] = []
+lines_from n (k ∷ ks) = line_of n k ∷ lines_from (n + 1) ks
+
 -- The archive of kept messages.
 abbrev pub archive_of : Config → List Kept → Archive
 archive_of config kept =
@@ -32,11 +52,12 @@ pub record IsEnd (limit : ℕ) (entries : List Entry) (end_ : End) : Type 0 wher
   pub small : end_.epoch ≤ greatest_epoch
 
 -- What is kept is sound: the settings are valid, no number is above the greatest, the index has the
--- messages, and the end is that of the last epoch.
+-- messages, each has the id of its commit, and the end is that of the last epoch.
 pub record IsKept (config : Config) (kept : List Kept) (index : Index) (end_ : End) : Type 0 where
   pub settings : IsConfig config
   pub numbers : length kept ≤ config.max
   pub indexed : IsIndex (entries_from 1 kept) index
+  pub lines : lines_from 1 kept ≡ lines_after [] (entries_from 1 kept)
   pub last : end_.epoch ≡ last_epoch (entries_from 1 kept)
   pub ends : IsEnd config.limit (entries_from 1 kept) end_
 

@@ -2,11 +2,12 @@
 ghost use Rattle.std.specs.Prelude.{◌≡◌, ◌+◌, ◌-◌, ◌++◌, ◌≤◌, IfOk, OnOk, OnErr, is_ok, if◌then◌else◌};
 ghost use Rattle.disk_model.specs.Sizes.{greatest_epoch};
 ghost use Rattle.mail_commits.specs.Entries.{commit_id, entry_bytes, message_kind};
-ghost use Rattle.mem_archive.specs.Memory.{front_bytes, end_for_new, end_by_room, end_after, Grows};
+ghost use Rattle.mem_archive.specs.Memory.{line_of, front_bytes, end_for_new, end_by_room, end_after, Grows};
 
 use arch_base::{Bytes, NoMemory, ObjectId};
+use arch_model::EntryLine;
 use disk_model::LAST_EPOCH;
-use git_objects::EntryKind;
+use git_objects::{EntryKind, blob_id};
 use mail_commits::{MAGIC, push_entry};
 use std::alloc::Global;
 
@@ -19,6 +20,25 @@ pub(crate) struct Kept {
     pub(crate) text: Bytes,
     /// The moment of its delivery, in seconds since 1970 UTC.
     pub(crate) moment: u64,
+    /// The id of its commit.
+    pub(crate) commit: ObjectId,
+}
+
+impl Kept {
+    /// Returns the message without its text, if this is its number.
+    pub(crate) fn line(&self, number: u32) -> EntryLine
+        ensures { result ≡ line_of number self.now }
+    {
+        EntryLine {
+            kind: EntryKind::Message,
+            number,
+            epoch: self.epoch,
+            secs: self.moment,
+            blob: blob_id(self.text.as_slice()),
+            size: self.text.as_slice().len() as u64,
+            commit: self.commit,
+        }
+    }
 }
 
 /// The end of an archive, to which the next entry is appended.

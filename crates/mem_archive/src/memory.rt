@@ -8,13 +8,14 @@ ghost use Rattle.arch_model.specs.Archives.{empty_archive, with_entry, text_of, 
 ghost use Rattle.arch_model.specs.Delivery.{Delivers, applied, delivered, new_epoch};
 ghost use Rattle.arch_model.specs.Epochs.{epoch_bytes};
 ghost use Rattle.mem_archive.specs.Memory.{GivesEpoch, Grows};
+ghost use Rattle.arch_model.specs.Shelves.{IsGreatestLive, live_between, line_at, blob_text};
 ghost use Rattle.arch_model.specs.Standing.{IsLeastLive, IsUntouched};
 ghost use Rattle.arch_model.specs.declared.answer.Answer.{Answer};
 
 use crate::kept::{End, Kept, push_after};
 use arch_base::{Bytes, Config, NoMemory, ObjectId};
 use arch_judge::{Index, Owner, Verdict, judge};
-use arch_model::{Answer, Command};
+use arch_model::{Answer, Command, EntryLine};
 use mail_reader::{content_id, own_id};
 use std::alloc::Global;
 use std::marker::Model;
@@ -84,6 +85,50 @@ impl MemArchive {
         } else {
             None
         }
+    }
+
+    /// Returns the greatest number of a message that is at most this one, or `None` if there is none.
+    pub(crate) fn number_to(&self, number: u32) -> Option<u32>
+        ensures { IsGreatestLive self.now.entries number result }
+    {
+        let greatest = number.min(self.kept.len() as u32);
+        if greatest > 0 { Some(greatest) } else { None }
+    }
+
+    /// Returns how many messages have a number from `low` to `high`.
+    pub(crate) fn count_between(&self, low: u32, high: u32) -> u64
+        ensures { result ≡ live_between self.now.entries low high }
+    {
+        let first = u64::from(low.max(1));
+        let past = (u64::from(high) + 1).min(self.kept.len() as u64 + 1);
+        past.saturating_sub(first)
+    }
+
+    /// Returns the entry at an index, from 0, without its text, or `None` if there are not so many.
+    pub(crate) fn line(&self, index: u64) -> Option<EntryLine>
+        ensures { result ≡ line_at self.now.entries index }
+    {
+        match self.kept.as_slice().get(index as usize) {
+            None => None,
+            Some(kept) => Some(kept.line((index + 1) as u32)),
+        }
+    }
+
+    /// Returns the text of the messages with this blob id, or `None` if there is none.
+    pub(crate) fn text_of_blob(&self, blob: &ObjectId) -> Option<&[u8]>
+        ensures { option_copied result ≡ blob_text self.now.entries blob.now.0 }
+    {
+        match self.index.number(blob) {
+            None => None,
+            Some(number) => self.text(number),
+        }
+    }
+
+    /// Returns the settings of the archive.
+    pub(crate) fn settings(&self) -> &Config
+        ensures { result.now ≡ self.now.config }
+    {
+        &self.config
     }
 
     /// Appends the bytes of an epoch, and returns whether the epoch has an entry.
@@ -174,7 +219,7 @@ impl MemArchive {
     }
 
     /// Returns the number of the next message.
-    fn next(&self) -> u32
+    pub(crate) fn next(&self) -> u32
         ensures { result ≡ self.now.next }
     {
         self.kept.len() as u32 + 1
@@ -204,12 +249,14 @@ impl MemArchive {
         let end = self
             .end
             .with(self.alloc, self.config.limit, text.as_slice(), moment)?;
+        let commit = end.parent.unwrap();
         let id = own_id_bytes(self.alloc, text.as_slice())?;
         let owner = self.owner_of(text.as_slice());
         self.kept.push(Kept {
             epoch: end.epoch,
             text,
             moment,
+            commit,
         })?;
         if let Err(NoMemory) = self.index.insert(id, blob, owner) {
             let _ = self.kept.pop();

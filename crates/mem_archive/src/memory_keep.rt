@@ -1,32 +1,46 @@
-//! The archive in memory as a keeper. It has no disk that fails, and a crash leaves it whole.
-ghost use Rattle.std.specs.Prelude.{◌≡◌, false, is_some, Some};
+//! The archive in memory as a shelf and a keeper. It has no disk that fails, and a crash leaves it
+//! whole.
+ghost use Rattle.std.specs.Prelude.{◌≡◌, true, Some, refl};
 ghost use Rattle.std.specs.List.{Contains};
-ghost use Rattle.arch_model.specs.Archives.{text_of};
-ghost use Rattle.arch_model.specs.Standing.{only-one};
+ghost use Rattle.mem_archive.specs.Crashes.{held-left, same-read};
 
 use crate::memory::MemArchive;
-use arch_base::{Bytes, NoMemory};
-use arch_model::{Answer, Command, Keep, OpenRefusal, TextRefusal};
+use arch_base::{Bytes, Config, NoMemory, ObjectId};
+use arch_model::{Answer, Command, EntryLine, Keep, OpenRefusal, Shelf, TextRefusal};
 
-impl Keep for MemArchive {
+impl Shelf for MemArchive {
     ghost holds = { λ m a. a ≡ m };
 
-    ghost live = { λ m n. is_some (text_of m.entries n) };
+    ghost ready = { λ m. true };
 
-    ghost stale = { λ m. false };
-
-    ghost clock = { λ m. 0 };
-
-    ghost leaves = { λ m t may. Contains may (Some m) };
+    ghost reads = { λ m. 0 };
 
     ghost faults = { λ m. 0 };
 
-    fn is_stale(&self) -> bool {
-        false
+    ghost alike = { λ m n. n ≡ m };
+
+    fn config(&self) -> &Config {
+        self.settings()
+    }
+
+    fn next_number(&self) -> u32 {
+        self.next()
     }
 
     fn live_from(&self, n: u32) -> Option<u32> {
         self.number_from(n)
+    }
+
+    fn live_to(&self, n: u32) -> Option<u32> {
+        self.number_to(n)
+    }
+
+    fn live_count(&self, low: u32, high: u32) -> u64 {
+        self.count_between(low, high)
+    }
+
+    fn entry(&self, index: u64) -> Option<EntryLine> {
+        self.line(index)
     }
 
     fn text(&mut self, n: u32, into: &mut Bytes) -> Result<(), TextRefusal> {
@@ -39,6 +53,38 @@ impl Keep for MemArchive {
         }
     }
 
+    fn blob(&mut self, id: &ObjectId, into: &mut Bytes) -> Result<bool, TextRefusal> {
+        match self.text_of_blob(id) {
+            None => Ok(false),
+            Some(text) => {
+                into.push_slice(text)?;
+                Ok(true)
+            }
+        }
+    }
+
+    ghost alike_same = { λ m. refl };
+
+    ghost use Rattle.std.proofs.Common.{◌∙◌};
+
+    ghost alike_joined = { λ m n o p q. q ∙ p };
+}
+
+impl Keep for MemArchive {
+    ghost leaves = { λ start m may. Contains may (Some m) };
+
+    fn is_stale(&self) -> bool {
+        false
+    }
+
+    fn fresh(&mut self) -> Result<(), OpenRefusal> {
+        Ok(())
+    }
+
+    fn command(&mut self, command: &Command<'_>, moment: u64) -> Answer {
+        MemArchive::command(self, command, moment)
+    }
+
     fn epoch_bytes(&mut self, epoch: u32, into: &mut Bytes) -> Result<bool, TextRefusal> {
         match self.push_epoch(epoch, into) {
             Ok(found) => Ok(found),
@@ -46,13 +92,9 @@ impl Keep for MemArchive {
         }
     }
 
-    fn command(&mut self, command: &Command<'_>, moment: u64) -> Answer {
-        MemArchive::command(self, command, moment)
-    }
+    ghost holds_left = { λ m a may same has. held-left m a may same has };
 
-    fn fresh(&mut self) -> Result<(), OpenRefusal> {
-        Ok(())
-    }
+    ghost leaves_now = { λ start m may left. left };
 
-    ghost holds_left = { λ m a same. only-one m a same };
+    ghost alike_kept = { λ m n same. same-read m n same };
 }

@@ -1,5 +1,5 @@
 -- Files that are written beside the texts of a root become those of the next one.
-use Rattle.std.specs.Prelude.{◌≡◌, ◌≢◌, ◌+◌, ◌-◌, ◌<◌, ℕ, Bool, true, false, cond, if◌then◌else◌, List, [], ◌++◌, length, Option, Some, None, refl}
+use Rattle.std.specs.Prelude.{◌≡◌, ◌≢◌, ◌-◌, ◌<◌, ℕ, Bool, true, false, cond, if◌then◌else◌, List, [], ◌++◌, length, Option, Some, None, refl}
 use Rattle.std.proofs.Common.{◌∙◌, sym, ap, subst, inl, inr, arith, length-append}
 use Rattle.std.proofs.lemmas.Grind.{common_steps}
 use Rattle.disk_model.specs.declared.name.FileName.{FileName}

@@ -1,5 +1,5 @@
 -- Bytes that are added to a file, one piece after the other.
-use Rattle.std.specs.Prelude.{◌≡◌, ◌≢◌, ℕ, ◌+◌, ◌-◌, ◌<◌, ◌≤◌, List, [], ◌++◌, length, take, drop, Option, Some, None, refl}
+use Rattle.std.specs.Prelude.{◌≡◌, ◌≢◌, ℕ, ◌+◌, ◌<◌, ◌≤◌, List, [], ◌++◌, length, take, drop, Option, Some, None, refl}
 use Rattle.std.proofs.Common.{◌∙◌, sym, ap, subst, arith, length-append, length-take, length-drop}
 use Rattle.std.proofs.lemmas.List.{append-nil, append_assoc, nil_from_length, take-append-drop, take-take, drop-take, drop-drop, drop_all}
 use Rattle.disk_model.specs.declared.name.FileName.{FileName}

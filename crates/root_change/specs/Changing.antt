@@ -1,5 +1,5 @@
 -- What is written for a next root beside the texts of the current one.
-use Rattle.std.specs.Prelude.{◌≡◌, ◌≢◌, ◌⊎◌, ◌<◌, ◌==◌, ◌+◌, nat_lt, ℕ, true, false, cond, if◌then◌else◌, List, [], ◌++◌, length, set, None}
+use Rattle.std.specs.Prelude.{◌≡◌, ◌≢◌, ◌⊎◌, ◌<◌, ◌==◌, ◌+◌, nat_lt, ℕ, true, false, cond, if◌then◌else◌, List, [], ◌++◌, set, None}
 use Rattle.std.specs.BTreeMap.{is_at}
 use Rattle.disk_model.specs.declared.name.FileKind.TheVariants as kind
 use Rattle.disk_model.specs.declared.name.FileName.{FileName}

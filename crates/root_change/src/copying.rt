@@ -1,5 +1,5 @@
 //! Copies ranges of files into another file, without memory.
-ghost use Rattle.std.specs.Prelude.{◌≡◌, ◌≢◌, ◌+◌, ◌-◌, ◌^◌, ◌<◌, ◌≤◌, min, true, length, IfOk};
+ghost use Rattle.std.specs.Prelude.{◌≡◌, ◌≢◌, ◌+◌, ◌-◌, ◌^◌, ◌<◌, min, true, length, IfOk};
 ghost use Rattle.arch_base.specs.Counts.{IsCaused};
 ghost use Rattle.disk_model.specs.Beside.{Bounds, Respects, RunsBeside};
 ghost use Rattle.disk_model.specs.Disk.{Told, WhereTold, IsAtMostLength};

@@ -1,17 +1,24 @@
 use Rattle.std.proofs.Common.{[]}
-use Rattle.archive_cli.proofs.OnDisk.{opened-checks, unopened-checks}
+use Rattle.archive_cli.proofs.OnDisk.{opened-checks, unopened-checks, opened-stands, unopened-stands}
 use Rattle.archive_cli.proofs.disk_commands.check.Goals as goal
+
+pub returns-in-Ok-clause-any_moment : goal.returns-in-Ok-clause-any_moment
+returns-in-Ok-clause-any_moment g c = λ may all. rw c.into_disk.ensures (c.in-Ok.ensures.opened.any_moment may [] all)
 
 pub returns-in-Ok-clause-done : goal.returns-in-Ok-clause-done
 returns-in-Ok-clause-done g c = λ a reads.
-    opened-checks c.in-Ok.archive a (g.D.Disk.content c.open.new.disk) c.entry_count.result c.live_count.result c.next_number.result (c.in-Ok.ensures.opened.done a [] reads) c.entry_count.ensures c.live_count.ensures c.next_number.ensures
+    let store = c.in-Ok.ensures.opened.done a [] reads in
+    rw c.into_disk.ensures (opened-checks c.in-Ok.engine.view a (g.D.Disk.content c.in-Ok.engine.disk) c.entry_count.result c.message_count.result c.next_number.result store c.entry_count.ensures (c.message_count.ensures a ([], store)) (c.next_number.ensures a ([], store)))
 
-pub returns-in-Err-clause-done : goal.returns-in-Err-clause-done
-returns-in-Err-clause-done g c = λ a reads.
-    unopened-checks a c.in-Err.refusal (g.D.Disk.content c.args.disk.now) (g.D.Disk.content c.open.new.disk) reads (c.in-Err.ensures.opened.well a [] reads) c.in-Err.ensures.refused
-
-pub returns-in-Ok-clause-any_moment : goal.returns-in-Ok-clause-any_moment
-returns-in-Ok-clause-any_moment g c = λ may all. c.in-Ok.ensures.opened.any_moment may [] all
+pub returns-in-Ok-clause-stands : goal.returns-in-Ok-clause-stands
+returns-in-Ok-clause-stands g c = rw c.into_disk.ensures (opened-stands g.D.Disk.content g.D.Disk.moment g.D.Disk.left_since g.met.D.Disk.counts_now g.met.D.Disk.reads_fit c.args.disk c.in-Ok.engine c.in-Ok.ensures.opened.done c.in-Ok.ensures.opened.first)
 
 pub returns-in-Err-clause-any_moment : goal.returns-in-Err-clause-any_moment
 returns-in-Err-clause-any_moment g c = λ may all. c.in-Err.ensures.opened.any_moment may [] all
+
+pub returns-in-Err-clause-done : goal.returns-in-Err-clause-done
+returns-in-Err-clause-done g c = λ a reads.
+    unopened-checks a c.in-Err.why (g.D.Disk.content c.args.disk) (g.D.Disk.content c.in-Err.disk) reads (c.in-Err.ensures.opened.well a [] reads) c.in-Err.ensures.refused
+
+pub returns-in-Err-clause-stands : goal.returns-in-Err-clause-stands
+returns-in-Err-clause-stands g c = λ s all. unopened-stands g.D.Disk.content g.D.Disk.moment g.D.Disk.left_since g.met.D.Disk.counts_now g.met.D.Disk.reads_fit s c.args.disk c.in-Err.disk c.in-Err.why all c.in-Err.ensures.opened.any_moment c.in-Err.ensures.opened.well c.in-Err.ensures.opened.first

@@ -1,8 +1,15 @@
-use Rattle.std.proofs.Common.{refl}
-use Rattle.control_door.proofs.Answering.{opening-found}
+use Rattle.std.proofs.Common.{List, ℕ, true, refl}
+use Rattle.answer_lines.specs.Lines.{unopened_words}
+use Rattle.keep_course.proofs.Commands.{reopening-found, reopening-refused}
+use Rattle.control_door.specs.Door.{waiting}
 use Rattle.control_door.proofs.answers.reopen.Goals as goal
 
 pub returns-in-Ok-clause-acts : goal.returns-in-Ok-clause-acts
 returns-in-Ok-clause-acts g c = λ s bytes fits.
     let found = c.in-Ok.ensures.found s fits in
-    opening-found g.K.Keep.holds g.K.Keep.stale g.K.Keep.clock g.K.Keep.leaves (λ k b is. g.met.K.Keep.holds_left k b is) s bytes _ found.0 _ _ found.1 found.2 c.in-Ok.ensures.cause.later refl refl
+    (found.0, found.1, reopening-found unopened_words s (waiting bytes true) found.0 _ _ found.2 c.in-Ok.ensures.later refl refl)
+
+pub returns-in-Err-clause-acts : goal.returns-in-Err-clause-acts
+returns-in-Err-clause-acts g c = λ s bytes fits.
+    let still = c.in-Err.ensures.found s fits in
+    (still.0, still.1, reopening-refused unopened_words s (waiting bytes true) still.0 c.in-Err.refusal _ _ c.say_unopened.result still.2 c.in-Err.ensures.cause c.in-Err.ensures.later c.say_unopened.ensures.said)

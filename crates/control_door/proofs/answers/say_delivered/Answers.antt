@@ -1,7 +1,10 @@
-use Rattle.control_door.proofs.Answering.{delivering}
+use Rattle.std.proofs.Common.{None}
+use Rattle.arch_model.specs.Standing.{standing}
+use Rattle.arch_model.proofs.Keepers.{fits-held}
+use Rattle.control_door.proofs.Answering.{acts-delivered}
 use Rattle.control_door.proofs.answers.say_delivered.Goals as goal
 
 pub returns-clause-acts : goal.returns-clause-acts
 returns-clause-acts g c = λ a rest held.
-    delivering g.K.Keep.holds g.K.Keep.stale g.K.Keep.clock g.K.Keep.leaves (λ k b is. g.met.K.Keep.holds_left k b is) c.args.moment a c.args.message.now rest _ c.command-answer.result _ _ _ (c.command-answer.ensures.done a held) c.command-answer.ensures.cause.failed
-    c.command-answer.ensures.cause.later c.say_answer.ensures.said
+    let done = c.command-answer.ensures.done (standing a None) (fits-held g.K.Shelf.holds g.K.Shelf.ready g.K.Keep.leaves g.met.K.Keep.holds_left c.args.keep.now a held) in
+    (done.0, done.1, acts-delivered c.args.moment a c.args.message.now rest done.0 c.command-answer.result _ _ c.say_answer.result (rw c.requires.ready at done.2) c.command-answer.ensures.cause c.command-answer.ensures.later c.say_answer.ensures.said)

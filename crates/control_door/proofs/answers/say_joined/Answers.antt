@@ -1,14 +1,13 @@
 use Rattle.std.proofs.Common.{◌≡◌, ◌++◌, ◌∙◌, List, ℕ, drop, None, is_ok, true, not, ap, arith}
 use Rattle.arch_model.specs.Standing.{standing}
-use Rattle.control_door.proofs.Answering.{fits-ready, acts-refusing}
+use Rattle.control_door.specs.Requests.{Delivers}
+use Rattle.control_door.proofs.Answering.{answers-held, acts-refusing}
 use Rattle.control_door.proofs.answers.say_joined.Goals as goal
 
 pub returns-then-is_err-clause-acts : goal.returns-then-is_err-clause-acts
-returns-then-is_err-clause-acts g c = λ a rest held. (
-  standing a None,
-  fits-ready g.K.Keep.holds g.K.Keep.stale g.K.Keep.clock g.K.Keep.leaves _ a held (g.met.K.Keep.holds_left _ a held),
-  acts-refusing c.args.moment (standing a None) (drop c.args.start (c.args.held.now ++ c.args.last.now)) rest _ _ _ (omega arith) c.say_memory.ensures.said,
-)
+returns-then-is_err-clause-acts g c =
+    answers-held g.K.Shelf.holds g.K.Shelf.ready g.K.Keep.leaves g.met.K.Keep.holds_left c.args.moment (Delivers (drop c.args.start (c.args.held.now ++ c.args.last.now))) c.args.keep.now _ _ _
+    (λ a rest. acts-refusing c.args.moment (standing a None) (drop c.args.start (c.args.held.now ++ c.args.last.now)) rest _ _ _ (omega arith) c.say_memory.ensures.said)
 
 pub returns-clause-acts : goal.returns-clause-acts
 returns-clause-acts g c =

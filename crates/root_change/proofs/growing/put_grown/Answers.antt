@@ -1,5 +1,5 @@
 -- Two appends beside the old root's texts, and the replacement of the root.
-use Rattle.std.proofs.Common.{◌≤◌, ◌∙◌, sym, subst, arith, length}
+use Rattle.std.proofs.Common.{◌≤◌, ◌∙◌, sym, subst, arith}
 use Rattle.std.proofs.lemmas.Result.{on_ok_weaker}
 use Rattle.disk_model.specs.declared.name.FileKind.TheVariants as kind
 use Rattle.disk_model.specs.declared.name.FileName.{FileName}

@@ -4,7 +4,7 @@ use Rattle.archive_cli.proofs.player.Player.play.Goals as goal
 
 pub returns-then-is_stop-clause-ok : goal.returns-then-is_stop-clause-ok
 returns-then-is_stop-clause-ok g c = λ w shows.
-    Playing-stop g.K.Keep.holds g.K.Keep.stale g.K.Keep.clock g.K.Keep.leaves g.K.Keep.faults c.args.script.now w c.loop-event.index c.loop-event.frames c.loop-event.self (c.loop-event.invariant w shows)
+    Playing-stop g.K.Shelf.holds g.K.Shelf.ready g.K.Keep.leaves g.K.Shelf.faults c.args.script.now w c.loop-event.index c.loop-event.frames c.loop-event.self (c.loop-event.invariant w shows)
     c.in-Some.event.now (sym c.in-Some.ensures.value) (sym c.is_stop.ensures ∙ c.if-is_stop.true)
 
 pub turn-requires : goal.turn-requires
@@ -18,9 +18,9 @@ loop-event-smaller g c =
 pub loop-event-preserved : goal.loop-event-preserved
 loop-event-preserved g c = λ w shows.
     let now = c.loop-event.invariant w shows in
-    Playing-more g.K.Keep.holds g.K.Keep.stale g.K.Keep.clock g.K.Keep.leaves g.K.Keep.faults c.args.script.now w c.loop-event.index c.loop-event.frames c.loop-event.self now c.in-Some.event.now c.turn.new.frames c.turn.new.self
+    Playing-more g.K.Shelf.holds g.K.Shelf.ready g.K.Keep.leaves g.K.Shelf.faults c.args.script.now w c.loop-event.index c.loop-event.frames c.loop-event.self now c.in-Some.event.now c.turn.new.frames c.turn.new.self
     (sym c.in-Some.ensures.value) (sym c.is_stop.ensures ∙ c.if-is_stop.false) (rw c.piece.ensures at (c.in_ok-turn.ensures.ok now.after now.shows))
 
 pub returns-clause-ok : goal.returns-clause-ok
 returns-clause-ok g c = λ w shows.
-    Playing-end g.K.Keep.holds g.K.Keep.stale g.K.Keep.clock g.K.Keep.leaves g.K.Keep.faults c.args.script.now w c.loop-event.index c.loop-event.frames c.loop-event.self (c.loop-event.invariant w shows) (sym c.in_default.ensures.value)
+    Playing-end g.K.Shelf.holds g.K.Shelf.ready g.K.Keep.leaves g.K.Shelf.faults c.args.script.now w c.loop-event.index c.loop-event.frames c.loop-event.self (c.loop-event.invariant w shows) (sym c.in_default.ensures.value)

@@ -1,23 +1,50 @@
+use Rattle.std.proofs.Common.{◌≡◌, ◌≤◌, ◌∙◌, Bool, false, true, sym, ap, subst, arith}
+use Rattle.std.proofs.lemmas.Bool.{false≢true}
 use Rattle.arch_model.specs.Archives.{Archive}
 use Rattle.arch_model.specs.Delivery.{applied}
-use Rattle.archive_core.proofs.Engines.{still_left, command_left, command_done}
+use Rattle.arch_model.specs.Keeping.{ending}
+use Rattle.arch_model.proofs.Keepers.{cause-earlier}
+use Rattle.archive_core.proofs.Engines.{not_true, commanded-after, refused-comes, refused-ready, refused-cause, ready-after, reads-none, stays-ready}
+use Rattle.archive_core.specs.Engines.{Owning, is_ready}
 use Rattle.archive_core.proofs.engine.EngineKeep.command.Goals as goal
 
-pub returns-then-not-has_next_root-clause-any_moment : goal.returns-then-not-has_next_root-clause-any_moment
-returns-then-not-has_next_root-clause-any_moment g c = λ a. still_left g.D.Disk.content g.D.Disk.moment g.D.Disk.left_since g.met.D.Disk.counts_now g.met.D.Disk.only_now g.met.D.Disk.reads_fit c.args.self.now a (applied a c.args.command.now c.args.moment).archive
+pub take-requires-clause-ready : goal.take-requires-clause-ready
+take-requires-clause-ready g c = not_true c.fresh.new.self.stale c.in-Ok.ensures.ready
 
-pub returns-clause-done : goal.returns-clause-done
-returns-clause-done g c =
-    let room = c.has_next_root.ensures.0 c.if-not-has_next_root.false in
-    command_done g.D.Disk.content g.D.Disk.moment g.D.Disk.left_since g.met.D.Disk.counts_now g.met.D.Disk.only_now g.met.D.Disk.reads_fit
-    (record { disk = c.self.inside.disk; view = c.self.inside.archive; stale = c.self.inside.stale }) c.args.self.now c.self.view_is
-    (record { disk = c.command-answer.new.disk; view = c.command-answer.new.self; stale = c.needs_opening-self-inside.result })
-    (λ (a : Archive). applied a c.args.command.now c.args.moment) c.command-answer.result c.needs_opening-self-inside.ensures
-    (λ a cache store. c.command-answer.ensures.taken.any_moment a cache store room) (λ a cache store. c.command-answer.ensures.taken.done a cache store room)
+pub returns-in-Ok-clause-done : goal.returns-in-Ok-clause-done
+returns-in-Ok-clause-done g c = λ s fits.
+    let found = c.in-Ok.ensures.found s fits in
+    commanded-after g.D.Disk.content g.D.Disk.moment g.D.Disk.left_since g.met.D.Disk.counts_now g.met.D.Disk.only_now g.met.D.Disk.reads_fit (is_ready c.args.self.now) c.args.self.now c.fresh.new.self c.take.new.self s found.0
+    (λ (a : Archive). applied a c.args.command.now c.args.moment) c.take.result found.1 found.2 c.in-Ok.ensures.ready c.take.ensures.stands
 
-pub returns-clause-any_moment : goal.returns-clause-any_moment
-returns-clause-any_moment g c =
-    let room = c.has_next_root.ensures.0 c.if-not-has_next_root.false in
-    command_left g.D.Disk.content g.D.Disk.moment g.D.Disk.left_since g.met.D.Disk.counts_now g.met.D.Disk.only_now g.met.D.Disk.reads_fit
-    (record { disk = c.self.inside.disk; view = c.self.inside.archive; stale = c.self.inside.stale }) c.args.self.now c.self.view_is c.command-answer.new.disk
-    (λ (a : Archive). (applied a c.args.command.now c.args.moment).archive) (λ a cache store. c.command-answer.ensures.taken.any_moment a cache store room)
+pub returns-in-Ok-clause-ready : goal.returns-in-Ok-clause-ready
+returns-in-Ok-clause-ready g c = ready-after (is_ready c.args.self.now) (is_ready c.take.new.self) (ending c.take.result) (stays-ready c.take.new.self.stale c.take.result c.take.ensures.ready)
+
+pub returns-in-Ok-clause-cause : goal.returns-in-Ok-clause-cause
+returns-in-Ok-clause-cause g c =
+    cause-earlier (g.D.Disk.faults c.args.self.now.disk) (g.D.Disk.faults c.fresh.new.self.disk) (g.D.Disk.faults c.take.new.self.disk) (ending c.take.result) c.fresh.ensures.later c.take.ensures.cause
+
+pub returns-in-Ok-clause-reads : goal.returns-in-Ok-clause-reads
+returns-in-Ok-clause-reads g c = λ ready.
+    reads-none (g.D.Disk.reads c.args.self.now.disk) (g.D.Disk.reads c.take.new.self.disk)
+    (c.take.ensures.reads ∙ ap (λ (o : Owning g.row.D.Denot). g.D.Disk.reads o.disk) (c.in-Ok.ensures.nothing ready).1)
+
+pub returns-in-Ok-clause-unread : goal.returns-in-Ok-clause-unread
+returns-in-Ok-clause-unread g c = λ a store ready unknown. c.take.ensures.reads ∙ ap (λ (o : Owning g.row.D.Denot). g.D.Disk.reads o.disk) (c.in-Ok.ensures.nothing ready).1
+
+pub returns-in-Err-clause-done : goal.returns-in-Err-clause-done
+returns-in-Err-clause-done g c = λ s fits.
+    let found = c.in-Err.ensures.found s fits in
+    (found.0, found.1, refused-comes (is_ready c.args.self.now) s found.0 (λ (a : Archive). applied a c.args.command.now c.args.moment) c.in-Err.refusal c.answer.result c.answer.ensures (λ ready. (c.in-Err.ensures.nothing ready).0) found.2)
+
+pub returns-in-Err-clause-ready : goal.returns-in-Err-clause-ready
+returns-in-Err-clause-ready g c = refused-ready (is_ready c.args.self.now) (is_ready c.fresh.new.self) c.in-Err.refusal c.answer.result c.answer.ensures (λ ready. (c.in-Err.ensures.nothing ready).0) c.in-Err.ensures.ready
+
+pub returns-in-Err-clause-cause : goal.returns-in-Err-clause-cause
+returns-in-Err-clause-cause g c = refused-cause (g.D.Disk.faults c.args.self.now.disk) (g.D.Disk.faults c.fresh.new.self.disk) c.in-Err.refusal c.answer.result c.answer.ensures c.in-Err.ensures.cause
+
+pub returns-in-Err-clause-reads : goal.returns-in-Err-clause-reads
+returns-in-Err-clause-reads g c = λ ready. absurd (false≢true (c.in-Err.ensures.nothing ready).0)
+
+pub returns-in-Err-clause-unread : goal.returns-in-Err-clause-unread
+returns-in-Err-clause-unread g c = λ a store ready unknown. absurd (false≢true (c.in-Err.ensures.nothing ready).0)

@@ -1,21 +1,18 @@
-use Rattle.std.proofs.Common.{ℕ, List, subst}
-use Rattle.arch_model.specs.Archives.{Archive, in_epoch}
-use Rattle.arch_model.specs.Standing.{GivesEpochIn}
-use Rattle.epoch_store.specs.Stores.{IsStoreWith}
-use Rattle.archive_core.specs.Engines.{Owning}
-use Rattle.archive_core.proofs.Engines.{read_left, read_holds}
+use Rattle.archive_core.proofs.Engines.{held-inside, stays-from, cause-from, quiet-other}
 use Rattle.archive_core.proofs.engine.EngineKeep.epoch_bytes.Goals as goal
 
 pub returns-clause-bytes : goal.returns-clause-bytes
-returns-clause-bytes g c = λ a held.
-    let read : (b : Archive) (cache : List ℕ) → IsStoreWith c.args.self.now.view cache b (g.D.Disk.content c.args.self.now.disk) → GivesEpochIn (in_epoch b.entries c.args.epoch) c.args.into.now c.epoch_bytes.new.into c.epoch_bytes.result =
-    subst (λ (o : Owning g.row.D.Denot). (b : Archive) (cache : List ℕ) → IsStoreWith o.view cache b (g.D.Disk.content o.disk) → GivesEpochIn (in_epoch b.entries c.args.epoch) c.args.into.now c.epoch_bytes.new.into c.epoch_bytes.result) c.self.view_is c.epoch_bytes.ensures.bytes in
-    read a held.0 held.1
+returns-clause-bytes g c = λ a store.
+    let own = held-inside g.D.Disk.content g.D.Disk.moment g.D.Disk.left_since g.met.D.Disk.counts_now g.met.D.Disk.only_now g.met.D.Disk.reads_fit
+    (record { disk = c.self.inside.disk; view = c.self.inside.archive; stale = c.self.inside.stale }) c.args.self.now c.self.view_is a store in
+    c.epoch_bytes.ensures.bytes a own.0 own.1
 
-pub returns-clause-same : goal.returns-clause-same
-returns-clause-same g c = read_holds g.D.Disk.content g.D.Disk.moment g.D.Disk.left_since g.met.D.Disk.counts_now g.met.D.Disk.only_now g.met.D.Disk.reads_fit
-    (record { disk = c.self.inside.disk; view = c.self.inside.archive; stale = c.self.inside.stale }) c.args.self.now c.self.view_is c.epoch_bytes.new.disk c.epoch_bytes.ensures.same
+pub returns-clause-shelf : goal.returns-clause-shelf
+returns-clause-shelf g c = stays-from g.D.Disk.content g.D.Disk.moment g.D.Disk.left_since g.met.D.Disk.counts_now g.met.D.Disk.only_now g.met.D.Disk.reads_fit
+    (record { disk = c.self.inside.disk; view = c.self.inside.archive; stale = c.self.inside.stale }) c.args.self.now c.self.view_is
+    g.D.Disk.faults c.epoch_bytes.new.disk c.requires.ready c.epoch_bytes.ensures.same c.epoch_bytes.ensures.any_moment c.epoch_bytes.ensures.cause.later
 
-pub returns-clause-any_moment : goal.returns-clause-any_moment
-returns-clause-any_moment g c = read_left g.D.Disk.content g.D.Disk.moment g.D.Disk.left_since g.met.D.Disk.counts_now g.met.D.Disk.only_now g.met.D.Disk.reads_fit
-    (record { disk = c.self.inside.disk; view = c.self.inside.archive; stale = c.self.inside.stale }) c.args.self.now c.self.view_is c.epoch_bytes.new.disk c.epoch_bytes.ensures.any_moment
+pub returns-clause-cause : goal.returns-clause-cause
+returns-clause-cause g c = cause-from g.D.Disk.content g.D.Disk.moment g.D.Disk.left_since g.met.D.Disk.counts_now g.met.D.Disk.only_now g.met.D.Disk.reads_fit
+    (record { disk = c.self.inside.disk; view = c.self.inside.archive; stale = c.self.inside.stale }) c.args.self.now c.self.view_is
+    g.D.Disk.faults c.epoch_bytes.new.disk c.epoch_bytes.result c.epoch_bytes.ensures.cause (quiet-other c.epoch_bytes.result c.epoch_bytes.ensures.undamaged)

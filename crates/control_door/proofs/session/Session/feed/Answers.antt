@@ -1,7 +1,17 @@
-use Rattle.std.proofs.Common.{◌++◌, refl, arith}
-use Rattle.line_door.proofs.Courses.{Going-more}
+use Rattle.std.proofs.Common.{◌++◌, Some, None, true, refl, inl, inr, arith}
+use Rattle.line_door.specs.Acts.{outside}
+use Rattle.line_door.specs.Course.{talk}
+use Rattle.keep_course.proofs.Courses.{coming-same, coming-more, ended}
 use Rattle.control_door.specs.Door.{waiting, said, has_request}
 use Rattle.control_door.proofs.session.Session.feed.Goals as goal
+
+pub loop-opened-init : goal.loop-opened-init
+loop-opened-init g c = record {
+  going = λ s fits. (s, fits, coming-same g.K.Keep.leaves (said c.args.moment) has_request c.args.keep.now _);
+  ready = λ _. c.requires.ready;
+  later = omega arith;
+  sink = g.met.O.Sink.alike_same _;
+}
 
 pub loop-opened-preserved-in-Opened : goal.loop-opened-preserved-in-Opened
 loop-opened-preserved-in-Opened g c = record {
@@ -9,8 +19,8 @@ loop-opened-preserved-in-Opened g c = record {
       let before = c.loop-opened.invariant.going s fits in
       let turn = c.in-Opened.ensures.turn before.0 before.1 in (
         turn.0,
-        turn.1,
-        Going-more (said c.args.moment) has_request _ _ _ (waiting (c.loop-opened.self ++ c.loop-opened.rest.now) c.loop-opened.opened) before.2 turn.2.0 (record { held = refl; acts = turn.2.1 }),
+        turn.1.fits,
+        coming-more g.K.Keep.leaves (said c.args.moment) has_request c.args.keep.now c.loop-opened.keep c.act.new.keep _ (waiting (c.loop-opened.self ++ c.loop-opened.rest.now) c.loop-opened.opened) before.0 _ _ turn.0 _ before.2 turn.2.0 turn.2.1 turn.1.passes,
       );
   ready = λ _. c.act.ensures.ready c.in-Opened.is;
   later = omega (arith, c.loop-opened.invariant.later, c.act.ensures.later);
@@ -23,10 +33,30 @@ loop-opened-preserved g c = rw c.split_at.ensures.back (record {
       let before = c.loop-opened.invariant.going s fits in
       let turn = c.in-Went.ensures.turn before.0 before.1 in (
         turn.0,
-        turn.1,
-        Going-more (said c.args.moment) has_request _ _ _ (waiting (c.loop-opened.self ++ c.loop-opened.rest.now) c.loop-opened.opened) before.2 turn.2.0 (record { held = refl; acts = turn.2.1 }),
+        turn.1.fits,
+        coming-more g.K.Keep.leaves (said c.args.moment) has_request c.args.keep.now c.loop-opened.keep c.act.new.keep _ (waiting (c.loop-opened.self ++ c.loop-opened.rest.now) c.loop-opened.opened) before.0 _ _ turn.0 _ before.2 turn.2.0 turn.2.1 turn.1.passes,
       );
   ready = λ h. absurd (cc h);
   later = omega (arith, c.loop-opened.invariant.later, c.act.ensures.later);
   sink = g.met.O.Sink.alike_joined _ _ _ c.loop-opened.invariant.sink c.act.ensures.sink;
 })
+
+pub returns-in-Kept-clause-fed : goal.returns-in-Kept-clause-fed
+returns-in-Kept-clause-fed g c = λ s fits.
+    let before = c.loop-opened.invariant.going s fits in
+    let turn = c.in-Kept.ensures.turn before.0 before.1 in (
+      turn.0,
+      c.loop-opened.opened,
+      turn.1.fits,
+      ended g.K.Keep.leaves (said c.args.moment) has_request g.K.Shelf.holds g.K.Shelf.ready c.args.keep.now c.loop-opened.keep c.act.new.keep _ (waiting (c.loop-opened.self ++ c.loop-opened.rest.now) c.loop-opened.opened) before.0 _ _ turn.0 _ fits before.2 turn.2.1 (inr turn.2.0) turn.1.passes,
+    )
+
+pub returns-in-Closed-clause-fed : goal.returns-in-Closed-clause-fed
+returns-in-Closed-clause-fed g c = λ s fits.
+    let before = c.loop-opened.invariant.going s fits in
+    let turn = c.in-Closed.ensures.turn before.0 before.1 in (
+      turn.0,
+      true,
+      turn.1.fits,
+      ended g.K.Keep.leaves (said c.args.moment) has_request g.K.Shelf.holds g.K.Shelf.ready c.args.keep.now c.loop-opened.keep c.act.new.keep _ (waiting (c.loop-opened.self ++ c.loop-opened.rest.now) c.loop-opened.opened) before.0 _ _ turn.0 _ fits before.2 turn.2 (inl refl) turn.1.passes,
+    )

@@ -1,10 +1,13 @@
 -- What is left while the archive is opened, and what is there then.
-use Rattle.disk_model.specs.Disk.{Image}
-use Rattle.disk_model.specs.Moments.{joined}
+use Rattle.disk_model.specs.Disk.{Files, Image}
+use Rattle.disk_model.specs.Moments.{started, joined, weaker}
 use Rattle.root_change.specs.Texts.{StandsFor}
 use Rattle.root_slots.specs.Slots.{slot_number}
-use Rattle.epoch_store.specs.Opens.{RecoversOfWith}
-use Rattle.epoch_store.proofs.Reopening.{texts_found, opening_stands, opened_store, opened_kept, opened_sizes, opens_well, in_epochs, at_first}
+use Rattle.epoch_store.specs.Opens.{RecoversOfWith, SyncsFirst}
+use Rattle.epoch_store.specs.Recovery.{RecoversWith}
+use Rattle.epoch_store.specs.Stores.{View}
+use Rattle.epoch_store.specs.declared.finding.Found.{Found}
+use Rattle.epoch_store.proofs.Reopening.{texts_found, opening_stands, reading_stands, synced_recovers, refused_first, on_synced, opened_store, opened_kept, opened_sizes, opens_well, in_epochs, at_first}
 use Rattle.epoch_store.proofs.store.Store.open.Goals as goal
 
 pub returns-in-Err-clause-well : goal.returns-in-Err-clause-well
@@ -48,3 +51,45 @@ returns-in-Ok-settle-clause-sizes g c =
 pub returns-in-Ok-settle-clause-kept : goal.returns-in-Ok-settle-clause-kept
 returns-in-Ok-settle-clause-kept g c =
     opened_kept c.in-Ok.found.root (slot_number c.in-Ok.found.slot) (g.D.Disk.content c.args.disk.now) (g.D.Disk.content c.find_synced.new.disk) (g.D.Disk.content c.settle.new.disk) c.in-Ok.ensures.synced c.in-Ok-settle.ensures.kept
+
+pub returns-in-Err-clause-first : goal.returns-in-Err-clause-first
+returns-in-Err-clause-first g c =
+    let disk = c.args.disk.now in
+    let d1 = c.find_synced.new.disk in
+    refused_first Found View (SyncsFirst g.D.Disk.content g.D.Disk.moment g.D.Disk.left_since disk d1) c.in-Err.refusal (g.D.Disk.content disk) (g.D.Disk.content d1) c.in-Err.ensures.synced
+    (λ only. record {
+      synced = d1;
+      only = only;
+      before = c.find_synced.ensures.any_moment;
+      after = λ a cache reads. started g.D.Disk.moment g.D.Disk.left_since d1 (λ (image : Files). RecoversWith cache image a)
+          (λ image left. synced_recovers cache a (g.D.Disk.content disk) (g.D.Disk.content d1) image reads only (g.met.D.Disk.only_now d1 image left));
+    })
+
+pub returns-in-Ok-settle-clause-first : goal.returns-in-Ok-settle-clause-first
+returns-in-Ok-settle-clause-first g c =
+    let disk = c.args.disk.now in
+    let d1 = c.find_synced.new.disk in
+    let found = c.in-Ok.found in
+    record {
+      synced = d1;
+      only = c.in-Ok.ensures.synced;
+      before = c.find_synced.ensures.any_moment;
+      after = λ a cache reads.
+          let so = reading_stands c.law_of_spellings.ensures.differ found cache a (g.D.Disk.content disk) (g.D.Disk.content d1) c.in-Ok.ensures.found reads c.in-Ok.ensures.synced in
+          weaker g.D.Disk.moment g.D.Disk.left_since d1 c.settle.new.disk (StandsFor found.root (texts_found found cache a)) (λ (image : Files). RecoversWith cache image a) (c.settle.ensures.any_moment (texts_found found cache a) so.0) so.1;
+    }
+
+pub returns-in-Err-settle-clause-first : goal.returns-in-Err-settle-clause-first
+returns-in-Err-settle-clause-first g c =
+    let disk = c.args.disk.now in
+    let d1 = c.find_synced.new.disk in
+    let found = c.in-Ok.found in
+    on_synced View (SyncsFirst g.D.Disk.content g.D.Disk.moment g.D.Disk.left_since disk c.settle.new.disk) c.in-Err-settle.refusal
+    (record {
+      synced = d1;
+      only = c.in-Ok.ensures.synced;
+      before = c.find_synced.ensures.any_moment;
+      after = λ a cache reads.
+          let so = reading_stands c.law_of_spellings.ensures.differ found cache a (g.D.Disk.content disk) (g.D.Disk.content d1) c.in-Ok.ensures.found reads c.in-Ok.ensures.synced in
+          weaker g.D.Disk.moment g.D.Disk.left_since d1 c.settle.new.disk (StandsFor found.root (texts_found found cache a)) (λ (image : Files). RecoversWith cache image a) (c.settle.ensures.any_moment (texts_found found cache a) so.0) so.1;
+    })

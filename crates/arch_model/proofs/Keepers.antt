@@ -1,0 +1,149 @@
+-- What follows for whoever calls a keeper.
+use Rattle.std.proofs.Common.{◌≡◌, ◌≤◌, ◌⊎◌, ℕ, Bool, true, false, List, [], ◌∷◌, ◌++◌, Option, Some, None, is_some, Result, Ok, Err, inl, inr, refl, sym, ap, subst, ◌∙◌, arith}
+use Rattle.std.specs.List.{Contains}
+use Rattle.std.proofs.lemmas.Bool.{false≢true}
+use Rattle.arch_model.specs.Archives.{Archive}
+use Rattle.arch_model.specs.Delivery.{Done}
+use Rattle.arch_model.specs.Standing.{Standing, standing, with_doubt, one_of, IsFound}
+use Rattle.arch_model.specs.Keeping.{HasDoubt, Has, HasAll, Passes, Fits, Moves, OnlyRead, Settles, Ending, Accepts, Refuses, Starves, Fails, Breaks, StaysShut, Obeys, Doubts, StaysStale, ComesBy, Comes, StaysReady, CauseBy, AnswerCause, OpeningWhy, opening_answer}
+use Rattle.arch_model.specs.Untold.{HoldsNone, LeavesUntold}
+use Rattle.arch_model.specs.declared.answer.Answer.{Answer}
+use Rattle.arch_model.specs.declared.opening.OpenRefusal.{OpenRefusal}
+use Rattle.arch_model.specs.declared.opening.OpenRefusal.TheVariants as opening
+
+-- The archives of standings among some.
+
+-- What was found was among those before.
+pub has-found : (may : List (Option Archive)) (s : Standing) (b : Archive) → Has may s → IsFound s b → Contains may (Some b)
+has-found may s b has (inl older) = subst (λ (x : Archive). Contains may (Some x)) (sym older) has.archive
+has-found may s b has (inr doubt) = subst (λ (d : Option Archive). HasDoubt may d) doubt has.doubt
+
+-- What reopening leaves was among those before.
+pub has-settled : (may : List (Option Archive)) (s t : Standing) → Has may s → Settles s t → Has may t
+has-settled may s t has settles = record { archive = has-found may s t.archive has settles.found; doubt = subst (λ (d : Option Archive). HasDoubt may d) (sym settles.sure) tt }
+
+has-both : (a : Archive) (d : Option Archive) → Has (with_doubt a d) (standing a d)
+has-both a None = record { archive = (0, omega arith, refl); doubt = tt }
+has-both a (Some b) = record { archive = (0, omega arith, refl); doubt = (1, omega arith, refl) }
+
+-- A standing's own archives have it.
+pub has-own : (s : Standing) → Has (one_of s) s
+has-own s = has-both s.archive s.doubt
+
+-- Those of a standing whose doubt is dropped.
+pub has-sure : (may : List (Option Archive)) (a : Archive) (d : Option Archive) → Has may (standing a d) → Has may (standing a None)
+has-sure may a d has = record { archive = has.archive; doubt = tt }
+
+-- The archives of two lists of standings.
+pub all-split : (may : List (Option Archive)) (ss ts : List Standing) → HasAll may (ss ++ ts) → HasAll may ss × HasAll may ts
+all-split may [] ts has = (tt, has)
+all-split may (s ∷ ss) ts has = let rest = all-split may ss ts has.1 in ((has.0, rest.0), rest.1)
+
+-- Found from one archive.
+pub found-one : (b x : Archive) → IsFound (standing b None) x → x ≡ b
+found-one b x (inl older) = older
+found-one b x (inr no_doubt) = absurd (cc)
+
+-- Found through a reopening.
+found-through : (s t : Standing) (x : Archive) → Settles s t → IsFound (standing t.archive None) x → IsFound s x
+found-through s t x settles found = subst (λ (y : Archive). IsFound s y) (sym (found-one t.archive x found)) settles.found
+
+-- What crashes leave.
+module _ {K : Type 0} (leaves : K → K → List (Option Archive) → Type 0) where
+  -- One run and another.
+  pub passes-both : (old mid new : K) (ss ts : List Standing) → Passes leaves old mid ss → Passes leaves mid new ts → Passes leaves old new (ss ++ ts)
+  passes-both old mid new ss ts first second = λ start may has left.
+      let parts = all-split may ss ts has in
+      second start may parts.1 (first start may parts.0 left)
+
+  -- Runs of acts in order: the standing that one leaves is the one that the next starts with.
+  pub passes-chain : (old mid new : K) (ss : List Standing) (t : Standing) (us : List Standing) → Passes leaves old mid (ss ++ t ∷ []) → Passes leaves mid new (t ∷ us) → Passes leaves old new (ss ++ t ∷ us)
+  passes-chain old mid new ss t us first second = λ start may has left.
+      let parts = all-split may ss (t ∷ us) has in
+      second start may parts.1 (first start may (all-join may ss (t ∷ []) parts.0 (parts.1.0, tt)) left)
+    where
+      all-join : (may : List (Option Archive)) (xs ys : List Standing) → HasAll may xs → HasAll may ys → HasAll may (xs ++ ys)
+      all-join may [] ys hx hy = hy
+      all-join may (x ∷ xs) ys hx hy = (hx.0, all-join may xs ys hx.1 hy)
+
+module _ {K : Type 0} (holds : K → Archive → Type 0) (ready : K → Bool) (leaves : K → K → List (Option Archive) → Type 0) where
+  -- A ready keeper fits the archive that it holds, and nothing is in doubt.
+  pub settled-is : (k : K) (s : Standing) → Fits holds ready leaves k s → ready k ≡ true → (s ≡ standing s.archive None) × holds k s.archive
+  settled-is k s fits at_hand = let both = fits.settled at_hand in (ap (λ (doubt : Option Archive). standing s.archive doubt) both.1, both.0)
+
+  -- Nothing was done.
+  pub moves-same : (k : K) (s : Standing) → Fits holds ready leaves k s → Moves holds ready leaves k s k s
+  moves-same k s fits = record { fits = fits; passes = λ start may has left. left }
+
+  -- What isn't ready fits whatever a crash may have left.
+  pub moves-stale : ((start k : K) (may : List (Option Archive)) → leaves start k may → leaves k k may) → (old : K) (s : Standing) (new : K) (t : Standing) → Fits holds ready leaves old s → ready new ≡ false → ((may : List (Option Archive)) → Has may t → Has may s)
+      → Passes leaves old new (s ∷ t ∷ []) → Moves holds ready leaves old s new t
+  moves-stale leaves_now old s new t fits stale within passes = record {
+    fits = record {
+      settled = λ at_hand. absurd (false≢true (sym stale ∙ at_hand));
+      left = λ may has. leaves_now old new may (passes old may (within may has, (has, tt)) (fits.left may (within may has)));
+    };
+    passes = passes;
+  }
+
+  -- A reopening, and then a call on what it found.
+  pub moves-on : (old mid new : K) (s t u : Standing) → Moves holds ready leaves old s mid t → Settles s t → Moves holds ready leaves mid t new u → Moves holds ready leaves old s new u
+  moves-on old mid new s t u first settles second = record {
+    fits = second.fits;
+    passes = λ start may has left.
+        let middle = has-settled may s t has.0 settles in
+        second.passes start may (middle, (has.1.0, tt)) (first.passes start may (has.0, (middle, tt)) left);
+  }
+
+  module _ (holds_left : (k : K) (a : Archive) (may : List (Option Archive)) → holds k a → Contains may (Some a) → leaves k k may) where
+    -- A keeper that holds an archive fits it.
+    pub fits-held : (k : K) (a : Archive) → holds k a → Fits holds ready leaves k (standing a None)
+    fits-held k a held = record { settled = λ at_hand. (held, refl); left = λ may has. holds_left k a may held has.archive }
+
+    pub moves-held : (old : K) (s : Standing) (new : K) (a : Archive) → holds new a → Passes leaves old new (s ∷ standing a None ∷ []) → Moves holds ready leaves old s new (standing a None)
+    moves-held old s new a held passes = record { fits = fits-held new a held; passes = passes }
+
+    -- A keeper of which only reading changed something fits the same archive.
+    pub moves-read : (old new : K) (a : Archive) → holds old a → OnlyRead holds ready leaves old new → Moves holds ready leaves old (standing a None) new (standing a None)
+    moves-read old new a held read = moves-held old (standing a None) new a (read.held a held) (λ start may has left. read.passes start may tt left)
+
+-- A command on what a reopening found.
+pub comes-by : (was_ready : Bool) (s t : Standing) (wanted : Archive → Done) (reply : Answer) (u : Standing) (e : Ending) → Settles s t → ComesBy true (standing t.archive None) wanted reply u e → ComesBy was_ready s wanted reply u e
+comes-by was_ready s t wanted reply u Accepts settles obeys = record { found = obeys.found; is_found = found-through s t obeys.found settles obeys.is_found; answer_is = obeys.answer_is; stands = obeys.stands }
+comes-by was_ready s t wanted reply u Refuses settles obeys = record { found = obeys.found; is_found = found-through s t obeys.found settles obeys.is_found; answer_is = obeys.answer_is; stands = obeys.stands }
+comes-by was_ready s t wanted reply u Starves settles (inl unopened) = absurd (false≢true (sym unopened.stale))
+comes-by was_ready s t wanted reply u Starves settles (inr still) = inr (record { found = found-through s t u.archive settles still.found; sure = still.sure })
+comes-by was_ready s t wanted reply u Fails settles (inl unopened) = absurd (false≢true (sym unopened.stale))
+comes-by was_ready s t wanted reply u Fails settles (inr doubts) = inr (record { found = doubts.found; is_found = found-through s t doubts.found settles doubts.is_found; stands = doubts.stands })
+comes-by was_ready s t wanted reply u Breaks settles never = never
+
+-- The answer to a command whose archive wasn't reopened.
+pub unopened-comes : (s t : Standing) (wanted : Archive → Done) (why : OpenRefusal) → StaysShut s why t → Comes false s wanted (opening_answer why) t
+unopened-comes s t wanted opening.DiskFault same = inl (record { stale = refl; same = same })
+unopened-comes s t wanted opening.NoMemory same = inl (record { stale = refl; same = same })
+unopened-comes s t wanted opening.NoArchive never = absurd never
+unopened-comes s t wanted (opening.Damaged file at) never = absurd never
+
+pub unopened-ready : (why : OpenRefusal) → StaysReady false (opening_answer why) false
+unopened-ready opening.DiskFault = refl
+unopened-ready opening.NoMemory = λ ready. ready
+unopened-ready opening.NoArchive = refl
+unopened-ready (opening.Damaged file at) = refl
+
+pub unopened-cause : (before now : ℕ) (why : OpenRefusal) → OpeningWhy before now why → AnswerCause before now (opening_answer why)
+unopened-cause before now opening.DiskFault cause = cause
+unopened-cause before now opening.NoMemory cause = tt
+unopened-cause before now opening.NoArchive cause = tt
+unopened-cause before now (opening.Damaged file at) cause = tt
+
+-- A cause in one of several calls is one in all of them.
+pub cause-earlier : (before mid now : ℕ) (e : Ending) → before ≤ mid → CauseBy mid now e → CauseBy before now e
+cause-earlier before mid now Accepts later cause = tt
+cause-earlier before mid now Refuses later cause = tt
+cause-earlier before mid now Starves later cause = tt
+cause-earlier before mid now Fails later rose = omega (arith, later, rose)
+cause-earlier before mid now Breaks later cause = tt
+
+-- A keeper that tells nothing fits no standing.
+pub untold-fits : {K : Type 0} (ready : K → Bool) (k : K) (s : Standing) → Fits HoldsNone ready LeavesUntold k s → ⊥
+untold-fits ready k s fits = fits.left (one_of s) (has-own s)

@@ -1,0 +1,203 @@
+-- What the calls of a keeper leave and answer, and what crashes leave of it.
+use Rattle.std.specs.Prelude.{◌≡◌, ◌⊎◌, ◌≤◌, ◌<◌, ℕ, Bool, true, false, List, [], ◌∷◌, Option, Some, None, is_some, Result, Ok, Err}
+use Rattle.std.specs.List.{Contains}
+use Rattle.arch_base.specs.Counts.{Rose}
+use Rattle.mail_reader.specs.Stored.{stored}
+use Rattle.mail_reader.specs.declared.storing.StoredRefusal.{StoredRefusal}
+use Rattle.git_objects.specs.Objects.{blob_id_of}
+use Rattle.disk_model.specs.declared.name.FileKind.TheVariants.{Root}
+use Rattle.disk_model.specs.declared.name.FileName.{FileName}
+use Rattle.arch_model.specs.Archives.{Entry, Archive, blob_number}
+use Rattle.arch_model.specs.Candidates.{choice_of}
+use Rattle.arch_model.specs.Delivery.{Done}
+use Rattle.arch_model.specs.Standing.{Standing, standing, IsFound}
+use Rattle.arch_model.specs.declared.choice.Choice.{Choice}
+use Rattle.arch_model.specs.declared.choice.Choice.TheVariants.{Take, Repeat}
+use Rattle.arch_model.specs.declared.command.Command.{Command}
+use Rattle.arch_model.specs.declared.command.Command.TheVariants.{Deliver}
+use Rattle.arch_model.specs.declared.answer.Answer.{Answer}
+use Rattle.arch_model.specs.declared.answer.Answer.TheVariants as answer
+use Rattle.arch_model.specs.declared.opening.OpenRefusal.{OpenRefusal}
+use Rattle.arch_model.specs.declared.opening.OpenRefusal.TheVariants as opening
+
+-- The archive in doubt, if there is one, is among these.
+abbrev pub HasDoubt : List (Option Archive) → Option Archive → Type 0
+HasDoubt may None = Unit {0}
+HasDoubt may (Some b) = Contains may (Some b)
+
+-- The archive of a standing is among these, and so is the one in doubt, if there is one.
+pub record Has (may : List (Option Archive)) (s : Standing) : Type 0 where
+  pub archive : Contains may (Some s.archive)
+  pub doubt : HasDoubt may s.doubt
+
+-- The archives of all these standings are among these.
+abbrev pub HasAll : List (Option Archive) → List Standing → Type 0
+HasAll may [] = Unit {0}
+HasAll may (s ∷ ss) = Has may s × HasAll may ss
+
+-- A crash on the way from one state of a keeper to another leaves an archive of one of these
+-- standings, or one in doubt there. Said of a run that began at any state before: its list of what a
+-- crash may have left stays right, if it has the archives of these standings.
+abbrev pub Passes : {K : Type 0} → (K → K → List (Option Archive) → Type 0) → K → K → List Standing
+    → Type 0
+Passes {K} leaves old new standings = (start : K) (may : List (Option Archive))
+    → HasAll may standings → leaves start old may → leaves start new may
+
+-- A keeper: the archives that it holds, whether it is ready, and what each crash since a state may
+-- have left.
+module _ {K : Type 0} (holds : K → Archive → Type 0) (ready : K → Bool)
+    (leaves : K → K → List (Option Archive) → Type 0) where
+  -- The keeper fits a standing: if it is ready, it holds the archive and nothing is in doubt; and a
+  -- crash now leaves the archive or the one in doubt.
+  pub record Fits (k : K) (s : Standing) : Type 0 where
+    pub settled : ready k ≡ true → holds k s.archive × (s.doubt ≡ None)
+    pub left : (may : List (Option Archive)) → Has may s → leaves k k may
+
+  -- The keeper fitted one standing and now fits another, and a crash meanwhile leaves an archive of
+  -- one of the two.
+  pub record Moves (old : K) (s : Standing) (new : K) (t : Standing) : Type 0 where
+    pub fits : Fits new t
+    pub passes : Passes leaves old new (s ∷ t ∷ [])
+
+  -- Nothing changed but what reading changes: the archive and the readiness stay, and a crash leaves
+  -- nothing else.
+  pub record OnlyRead (old new : K) : Type 0 where
+    pub held : (a : Archive) → holds old a → holds new a
+    pub same : ready new ≡ ready old
+    pub passes : Passes leaves old new []
+
+-- Reopening found the archive, or the one in doubt, and nothing is in doubt after it.
+pub record Settles (s t : Standing) : Type 0 where
+  pub found : IsFound s t.archive
+  pub sure : t.doubt ≡ None
+
+-- A refusal to reopen leaves all as it was. Where an archive is there, that there is none or that a
+-- file is damaged is never the reason.
+abbrev pub StaysShut : Standing → OpenRefusal → Standing → Type 0
+StaysShut s opening.DiskFault t = t ≡ s
+StaysShut s opening.NoMemory t = t ≡ s
+StaysShut s opening.NoArchive t = ⊥
+StaysShut s (opening.Damaged file at) t = ⊥
+
+-- The results of reopening.
+abbrev pub Reopens : {T : Type 0} → Standing → Result T OpenRefusal → Standing → Type 0
+Reopens s (Ok x) t = Settles s t
+Reopens s (Err why) t = StaysShut s why t
+
+-- How an answer to a command ends it: it was carried out or refused by the rules, memory ran out, the
+-- disk failed, or a file is damaged.
+pub data Ending : Type 0 where
+  Accepts : Ending
+  Refuses : Ending
+  Starves : Ending
+  Fails : Ending
+  Breaks : Ending
+
+abbrev pub ending : Answer → Ending
+ending (answer.Ok number id) = Accepts
+ending (answer.Duplicate number) = Refuses
+ending answer.NoFields = Refuses
+ending (answer.TooLarge len) = Refuses
+ending (answer.Full max) = Refuses
+ending (answer.Collision number) = Refuses
+ending (answer.NotLive number) = Refuses
+ending (answer.NoText number) = Refuses
+ending answer.IsMirror = Refuses
+ending answer.DiskFault = Fails
+ending (answer.Damaged file at) = Breaks
+ending answer.NoMemory = Starves
+
+-- A command was answered by the rules, on the archive that was found.
+pub record Obeys (s : Standing) (wanted : Archive → Done) (reply : Answer) (t : Standing)
+    : Type 0 where
+  pub found : Archive
+  pub is_found : IsFound s found
+  pub answer_is : (wanted found).answer ≡ reply
+  pub stands : t ≡ standing (wanted found).archive None
+
+-- After a fault of the disk it is in doubt whether the command was carried out on the archive that
+-- was found.
+pub record Doubts (s : Standing) (wanted : Archive → Done) (t : Standing) : Type 0 where
+  pub found : Archive
+  pub is_found : IsFound s found
+  pub stands : t ≡ standing found (Some (wanted found).archive)
+
+-- The keeper had to be reopened, which was refused, and all is as before.
+pub record StaysStale (was_ready : Bool) (s t : Standing) : Type 0 where
+  pub stale : was_ready ≡ false
+  pub same : t ≡ s
+
+-- What a command does by the way that it ends. A keeper that isn't ready is reopened first, which may
+-- be refused. Where an archive is there, no file is damaged.
+abbrev pub ComesBy : Bool → Standing → (Archive → Done) → Answer → Standing → Ending → Type 0
+ComesBy was_ready s wanted reply t Accepts = Obeys s wanted reply t
+ComesBy was_ready s wanted reply t Refuses = Obeys s wanted reply t
+ComesBy was_ready s wanted reply t Starves = StaysStale was_ready s t ⊎ Settles s t
+ComesBy was_ready s wanted reply t Fails = StaysStale was_ready s t ⊎ Doubts s wanted t
+ComesBy was_ready s wanted reply t Breaks = ⊥
+
+-- What a command does: the answer, and the standing after it.
+abbrev pub Comes : Bool → Standing → (Archive → Done) → Answer → Standing → Type 0
+Comes was_ready s wanted reply t = ComesBy was_ready s wanted reply t (ending reply)
+
+-- A refusal by the rules leaves the keeper ready, and so does `NoMemory` if it was ready. After a
+-- fault, or damage, it has to be reopened. After a command that was carried out it may have to be.
+abbrev pub ReadyBy : Bool → Bool → Ending → Type 0
+ReadyBy was now Accepts = Unit {0}
+ReadyBy was now Refuses = now ≡ true
+ReadyBy was now Starves = was ≡ true → now ≡ true
+ReadyBy was now Fails = now ≡ false
+ReadyBy was now Breaks = now ≡ false
+
+-- The same by the answer.
+abbrev pub StaysReady : Bool → Answer → Bool → Type 0
+StaysReady was reply now = ReadyBy was now (ending reply)
+
+-- The disk failed only if its count rose.
+abbrev pub CauseBy : ℕ → ℕ → Ending → Type 0
+CauseBy before now Accepts = Unit {0}
+CauseBy before now Refuses = Unit {0}
+CauseBy before now Starves = Unit {0}
+CauseBy before now Fails = Rose before now
+CauseBy before now Breaks = Unit {0}
+
+-- The same by the answer.
+abbrev pub AnswerCause : ℕ → ℕ → Answer → Type 0
+AnswerCause before now reply = CauseBy before now (ending reply)
+
+-- Why an archive wasn't opened: the disk failed only if its count rose.
+abbrev pub OpeningWhy : ℕ → ℕ → OpenRefusal → Type 0
+OpeningWhy before now opening.DiskFault = Rose before now
+OpeningWhy before now opening.NoMemory = Unit {0}
+OpeningWhy before now opening.NoArchive = Unit {0}
+OpeningWhy before now (opening.Damaged file at) = Unit {0}
+
+-- A refusal to open has a cause.
+abbrev pub OpeningCause : {T : Type 0} → ℕ → ℕ → Result T OpenRefusal → Type 0
+OpeningCause before now (Ok x) = Unit {0}
+OpeningCause before now (Err why) = OpeningWhy before now why
+
+-- The name of the root's file.
+abbrev pub root_file : FileName
+root_file = record { kind = Root; number = 0; gen_ = 0 }
+
+-- The answer to a command whose archive could not be reopened. If there is none, its root is damaged.
+abbrev pub opening_answer : OpenRefusal → Answer
+opening_answer opening.NoArchive = answer.Damaged root_file 0
+opening_answer (opening.Damaged file at) = answer.Damaged file at
+opening_answer opening.DiskFault = answer.DiskFault
+opening_answer opening.NoMemory = answer.NoMemory
+
+-- An entry has the blob id of a text that a choice keeps.
+abbrev pub keeps_known : List Entry → Choice → Bool
+keeps_known entries (Take text) = is_some (blob_number entries (blob_id_of text).0)
+keeps_known entries (Repeat number) = false
+
+-- An entry has the blob id of the text that a delivery of this form would keep.
+abbrev pub form_known : Archive → Result (List ℕ) StoredRefusal → Bool
+form_known a (Ok text) = keeps_known a.entries (choice_of a text)
+form_known a (Err why) = false
+
+-- An entry has the blob id of the new text of a command.
+abbrev pub text_known : Archive → Command → Bool
+text_known a (Deliver bytes) = form_known a (stored bytes.now)

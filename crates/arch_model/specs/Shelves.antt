@@ -1,0 +1,95 @@
+-- What a shelf gives of its archive, and what a call that only reads leaves.
+use Rattle.std.specs.Prelude.{◌≡◌, ◌≢◌, ◌+◌, ◌<◌, ◌≤◌, ℕ, Bool, true, false, ◌&&◌, nat_le, List, [], ◌∷◌, ◌++◌, length, slice_get, Option, Some, None, is_some, Result, Ok, Err, if◌then◌else◌}
+use Rattle.std.specs.List.{filter}
+use Rattle.std.specs.Str.{bytes_eq}
+use Rattle.arch_base.specs.Counts.{Rose}
+use Rattle.git_objects.specs.Objects.{blob_id_of}
+use Rattle.mail_commits.specs.Entries.{commit_id, message_kind}
+use Rattle.arch_model.specs.Archives.{Entry, Archive, text_of, in_epoch}
+use Rattle.arch_model.specs.Epochs.{last_commit}
+use Rattle.arch_model.specs.declared.line.EntryLine.{EntryLine}
+use Rattle.arch_model.specs.declared.text_refusal.TextRefusal.{TextRefusal}
+use Rattle.arch_model.specs.declared.text_refusal.TextRefusal.TheVariants as refusal
+
+-- The greatest number of a message that is at most `n`, or none.
+abbrev pub IsGreatestLive : List Entry → ℕ → Option ℕ → Type 0
+IsGreatestLive entries n None = (m : ℕ) → m ≤ n → text_of entries m ≡ None
+IsGreatestLive entries n (Some found) = (found ≤ n) × (is_some (text_of entries found) ≡ true)
+    × ((m : ℕ) → found < m → m ≤ n → text_of entries m ≡ None)
+
+-- The number of an entry lies between these two, or is one of them.
+abbrev pub is_between : ℕ → ℕ → Entry → Bool
+is_between low high e = nat_le low e.number && nat_le e.number high
+
+-- How many messages have a number from `low` to `high`.
+abbrev pub live_between : List Entry → ℕ → ℕ → ℕ
+live_between entries low high = length (filter (is_between low high) entries)
+
+-- An entry after others, without its text. The parent of its commit is the last commit of its epoch.
+abbrev pub line_after : List Entry → Entry → EntryLine
+line_after before e = record {
+  kind = message_kind;
+  number = e.number;
+  epoch = e.epoch;
+  secs = e.moment;
+  blob = blob_id_of e.text;
+  size = length e.text;
+  commit = commit_id message_kind e.text e.moment (last_commit None (in_epoch before e.epoch));
+}
+
+-- Entries after others, without their texts.
+abbrev pub lines_after : List Entry → List Entry → List EntryLine
+lines_after before [] = []
+lines_after before (e ∷ es) = line_after before e ∷ lines_after (before ++ e ∷ []) es
+
+-- The entry at an index, from 0, without its text.
+abbrev pub line_at : List Entry → ℕ → Option EntryLine
+line_at entries index = slice_get (lines_after [] entries) index
+
+-- The text of the first entry with a blob id, if there is one. All entries of a valid archive that
+-- have the blob id have this text.
+abbrev pub blob_text : List Entry → List ℕ → Option (List ℕ)
+blob_text [] blob = None
+blob_text (e ∷ es) blob =
+    if bytes_eq blob (blob_id_of e.text).0 then Some e.text else blob_text es blob
+
+-- The result of reading a text by its blob id: the text is appended, or no entry has the blob id. No
+-- damage is found.
+abbrev pub GivesBlobIn : List Entry → List ℕ → List ℕ → List ℕ → Result Bool TextRefusal → Type 0
+GivesBlobIn entries blob old new (Ok true) = (text : List ℕ) × (blob_text entries blob ≡ Some text)
+    × (new ≡ old ++ text)
+GivesBlobIn entries blob old new (Ok false) = blob_text entries blob ≡ None
+GivesBlobIn entries blob old new (Err (refusal.Damaged named found)) = ⊥
+GivesBlobIn entries blob old new (Err refusal.DiskFault) = Unit {0}
+GivesBlobIn entries blob old new (Err refusal.NoMemory) = Unit {0}
+
+-- A call that only reads: the states are alike, the archive stays, the shelf is ready, and the count
+-- of faults didn't fall.
+pub record Stays {S : Type 0} (holds : S → Archive → Type 0) (ready : S → Bool)
+    (alike : S → S → Type 0) (faults : S → ℕ) (old new : S) : Type 0 where
+  pub same : alike old new
+  pub kept : (a : Archive) → holds old a → holds new a
+  pub at_hand : ready new ≡ true
+  pub later : faults old ≤ faults new
+
+-- Why a call didn't read: the disk failed, or what was read has another id than is named.
+abbrev pub ReadingWhy : ℕ → ℕ → TextRefusal → Type 0
+ReadingWhy before now refusal.DiskFault = Rose before now
+ReadingWhy before now (refusal.Damaged named found) = found ≢ named
+ReadingWhy before now refusal.NoMemory = Unit {0}
+
+-- A refusal to read has a cause.
+abbrev pub ReadCause : {T : Type 0} → ℕ → ℕ → Result T TextRefusal → Type 0
+ReadCause before now (Ok x) = Unit {0}
+ReadCause before now (Err why) = ReadingWhy before now why
+
+-- The refusal is not that a text is damaged.
+abbrev pub IsUndamaged : TextRefusal → Type 0
+IsUndamaged refusal.DiskFault = Unit {0}
+IsUndamaged (refusal.Damaged named found) = ⊥
+IsUndamaged refusal.NoMemory = Unit {0}
+
+-- A call reads at most once.
+pub record ReadsOnce (before now : ℕ) : Type 0 where
+  pub later : before ≤ now
+  pub most : now ≤ before + 1

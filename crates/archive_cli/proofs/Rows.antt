@@ -1,0 +1,255 @@
+-- Runs on one disk, in order.
+use Rattle.std.specs.Prelude.{◌≡◌, ◌≢◌, ◌⊎◌, ℕ, true, false, List, [], ◌∷◌, length, codes, get_or, Option, Some, None, refl}
+use Rattle.std.specs.List.{Contains}
+use Rattle.std.proofs.Common.{◌∙◌, sym, ap, subst, inl, inr, arith}
+use Rattle.std.proofs.lemmas.Bool.{false≢true}
+use Rattle.arch_base.specs.declared.config.Config.{Config}
+use Rattle.disk_model.specs.Disk.{Files, Content, Image, WhereTold}
+use Rattle.edge_io.specs.Coming.{IsFirst}
+use Rattle.arch_model.specs.Archives.{Archive, empty_archive, text_of}
+use Rattle.arch_model.specs.Delivery.{Done, delivered}
+use Rattle.arch_model.specs.Keeping.{Settles, Comes, Obeys, Doubts}
+use Rattle.arch_model.specs.Laws.{KeepsNumbers}
+use Rattle.arch_model.specs.Standing.{Standing, standing, one_of, IsFound}
+use Rattle.arch_model.specs.declared.answer.Answer.{Answer}
+use Rattle.arch_model.specs.declared.answer.Answer.TheVariants as answer
+use Rattle.arch_model.specs.declared.opening.OpenRefusal.{OpenRefusal}
+use Rattle.arch_model.specs.declared.opening.OpenRefusal.TheVariants as refusal
+use Rattle.arch_model.proofs.Keepers.{found-one}
+use Rattle.epoch_store.specs.Opens.{RecoversOf}
+use Rattle.epoch_store.specs.Recovery.{Recovers}
+use Rattle.epoch_store.specs.Stores.{View, IsDiskOf}
+use Rattle.archive_core.specs.Engines.{store-recovers}
+use Rattle.archive_core.proofs.Engines.{recovers_either}
+use Rattle.archive_cli.specs.declared.outcome.Outcome.{Outcome}
+use Rattle.archive_cli.specs.declared.outcome.Outcome.TheVariants.{Made, Exists, Checked, Answered, Unopened}
+use Rattle.archive_cli.specs.declared.status.Status.{Status}
+use Rattle.archive_cli.specs.declared.status.Status.TheVariants as exit
+use Rattle.archive_cli.specs.declared.words.Job.{Job}
+use Rattle.archive_cli.specs.declared.words.Job.TheVariants.{Help, Version, Replay, Init, Deliver, Check}
+use Rattle.archive_cli.specs.DiskCommands.{Makes, StandsAs, StaysUnopened, DeliversOn}
+use Rattle.archive_cli.specs.Laws.{WithMessage, Goes, IsLeft, RunsInARow}
+use Rattle.archive_cli.specs.Outcomes.{status_of}
+use Rattle.archive_cli.specs.Program.{Edges, Acts, EndsBy, Does, IsDue, Ends, Ran, RanTo, IsInput, AsksForInit, message_of, made_at}
+use Rattle.archive_cli.specs.Statuses.{code_of}
+use Rattle.archive_cli.specs.Words.{AsksFor, IsJob}
+
+-- Words that start with different bytes differ.
+other-words : (c d : ℕ) (x y : List ℕ) (xs ys : List (List ℕ)) → c ≢ d → (c ∷ x) ∷ xs ≡ (d ∷ y) ∷ ys → ⊥
+other-words c d x y xs ys apart same = apart (ap (λ (words : List (List ℕ)). get_or (get_or words 0 []) 0 0) same)
+
+-- Words that ask for a delivery ask for nothing else.
+only-delivers : (words : List (List ℕ)) (job : Job) → AsksFor words Deliver → AsksFor words job → job ≡ Deliver
+only-delivers words Deliver asked also = refl
+only-delivers words Help asked also = absurd (other-words 100 45 (codes "eliver") (codes "-help") [] [] (omega arith) (sym asked ∙ also))
+only-delivers words Version asked also = absurd (other-words 100 45 (codes "eliver") (codes "-version") [] [] (omega arith) (sym asked ∙ also))
+only-delivers words Check asked also = absurd (other-words 100 99 (codes "eliver") (codes "heck") [] [] (omega arith) (sym asked ∙ also))
+only-delivers words (Replay config) asked also = absurd (other-words 100 114 (codes "eliver") (codes "eplay") [] also.after (omega arith) (sym asked ∙ also.is))
+only-delivers words (Init config) asked also = absurd (other-words 100 105 (codes "eliver") (codes "nit") [] also.after (omega arith) (sym asked ∙ also.is))
+
+-- Nor do words that ask to make an archive.
+only-makes : (words : List (List ℕ)) (job : Job) → AsksForInit words → AsksFor words job → (config : Config) × (job ≡ Init config)
+only-makes words (Init config) asked also = (config, refl)
+only-makes words Help asked also = absurd (other-words 105 45 (codes "nit") (codes "-help") asked.1.after [] (omega arith) (sym asked.1.is ∙ also))
+only-makes words Version asked also = absurd (other-words 105 45 (codes "nit") (codes "-version") asked.1.after [] (omega arith) (sym asked.1.is ∙ also))
+only-makes words Check asked also = absurd (other-words 105 99 (codes "nit") (codes "heck") asked.1.after [] (omega arith) (sym asked.1.is ∙ also))
+only-makes words (Replay config) asked also = absurd (other-words 105 114 (codes "nit") (codes "eplay") asked.1.after also.after (omega arith) (sym asked.1.is ∙ also.is))
+only-makes words Deliver asked also = absurd (other-words 105 100 (codes "nit") (codes "eliver") asked.1.after [] (omega arith) (sym asked.1.is ∙ also))
+
+-- The archive is the same, or has the message.
+abbrev FromBy : Edges → Archive → Archive → Type 0
+FromBy i old new = (new ≡ old) ⊎ WithMessage i old new
+
+-- Each archive of one standing goes on from one of another.
+abbrev Steps : Edges → Standing → Standing → Type 0
+Steps i s t = (b : Archive) → IsFound t b → (a : Archive) × IsFound s a × FromBy i a b
+
+module _ (i : Edges) where
+  steps-same : (s t : Standing) → t ≡ s → Steps i s t
+  steps-same s t same b found = (b, subst (λ (x : Standing). IsFound x b) same found, inl refl)
+
+  steps-settled : (s t : Standing) → Settles s t → Steps i s t
+  steps-settled s t settles b (inl is) = (t.archive, settles.found, inl is)
+  steps-settled s t settles b (inr doubt) = absurd (let no : None ≡ Some b = sym settles.sure ∙ doubt in cc)
+
+  module _ (input : List ℕ) (told : IsInput i.left input) (at : ℕ) (first : IsFirst at i.coming) where
+    wanted : Archive → Done
+    wanted a = delivered a (message_of input) at
+
+    with-message : (a b : Archive) → b ≡ (wanted a).archive → FromBy i a b
+    with-message a b is = inr (record { input = input; told = told; at = at; first = first; is = is })
+
+    module _ (s : Standing) (a : Archive) (found : IsFound s a) (t : Standing) where
+      steps-obeyed : (reply : Answer) → Obeys (standing a None) wanted reply t → Steps i s t
+      steps-obeyed reply obeys b (inl is) =
+          let same : obeys.found ≡ a = found-one a obeys.found obeys.is_found in
+          (a, found, with-message a b (is ∙ ap (λ (x : Standing). x.archive) obeys.stands ∙ ap (λ (x : Archive). (wanted x).archive) same))
+      steps-obeyed reply obeys b (inr doubt) = absurd (let no : None ≡ Some b = sym (ap (λ (x : Standing). x.doubt) obeys.stands) ∙ doubt in cc)
+
+      steps-doubted : Doubts (standing a None) wanted t → Steps i s t
+      steps-doubted doubts b (inl is) =
+          let same : doubts.found ≡ a = found-one a doubts.found doubts.is_found in
+          (a, found, inl (is ∙ ap (λ (x : Standing). x.archive) doubts.stands ∙ same))
+      steps-doubted doubts b (inr doubt) =
+          let same : doubts.found ≡ a = found-one a doubts.found doubts.is_found in
+          let one : Some b ≡ Some (wanted doubts.found).archive = sym doubt ∙ ap (λ (x : Standing). x.doubt) doubts.stands in
+          let is : b ≡ (wanted doubts.found).archive = cc in
+          (a, found, with-message a b (is ∙ ap (λ (x : Archive). (wanted x).archive) same))
+
+      steps-starved : Settles (standing a None) t → Steps i s t
+      steps-starved settles b (inl is) = (a, found, inl (is ∙ found-one a t.archive settles.found))
+      steps-starved settles b (inr doubt) = absurd (let no : None ≡ Some b = sym settles.sure ∙ doubt in cc)
+
+      steps-answered : (reply : Answer) → Comes true (standing a None) wanted reply t → Steps i s t
+      steps-answered answer.NoMemory (inl unopened) = absurd (false≢true (sym unopened.stale))
+      steps-answered answer.NoMemory (inr settles) = steps-starved settles
+      steps-answered answer.DiskFault (inl unopened) = absurd (false≢true (sym unopened.stale))
+      steps-answered answer.DiskFault (inr doubts) = steps-doubted doubts
+      steps-answered (answer.Ok number id) obeys = steps-obeyed (answer.Ok number id) obeys
+      steps-answered (answer.Duplicate number) obeys = steps-obeyed (answer.Duplicate number) obeys
+      steps-answered answer.NoFields obeys = steps-obeyed answer.NoFields obeys
+      steps-answered (answer.TooLarge len) obeys = steps-obeyed (answer.TooLarge len) obeys
+      steps-answered (answer.Full max) obeys = steps-obeyed (answer.Full max) obeys
+      steps-answered (answer.Collision number) obeys = steps-obeyed (answer.Collision number) obeys
+      steps-answered (answer.NotLive number) obeys = steps-obeyed (answer.NotLive number) obeys
+      steps-answered (answer.NoText number) obeys = steps-obeyed (answer.NoText number) obeys
+      steps-answered answer.IsMirror obeys = steps-obeyed answer.IsMirror obeys
+      steps-answered (answer.Damaged file offset) never = absurd never
+
+    steps-unopened : (s t : Standing) (old : Option Content) (why : OpenRefusal) → StaysUnopened s old why t → Steps i s t
+    steps-unopened s t old refusal.DiskFault same = steps-same s t same
+    steps-unopened s t old refusal.NoMemory settles = steps-settled s t settles.0
+    steps-unopened s t old refusal.NoArchive never = absurd never
+    steps-unopened s t old (refusal.Damaged file offset) never = absurd never
+
+    steps-done : (s t : Standing) (old : Option Content) (o : Outcome) → DeliversOn s old wanted o t → Steps i s t
+    steps-done s t old (Answered reply) done = steps-answered s done.found done.is_found t reply done.comes
+    steps-done s t old (Unopened why) stays = steps-unopened s t old why stays
+    steps-done s t old (Made name) never = absurd never
+    steps-done s t old Exists never = absurd never
+    steps-done s t old (Checked entries live next) never = absurd never
+
+  -- A delivery leads from what the disk stood for to what it stands for then.
+  abbrev Leads : Standing → Edges → Type 0
+  Leads s j = (t : Standing) × StandsAs t j.content × Steps i s t
+
+  module _ (words : List (List ℕ)) (asked : AsksFor words Deliver) (j : Edges) (s : Standing) (all : StandsAs s i.content) where
+    leads-kept : j.content ≡ i.content → Leads s j
+    leads-kept same = (s, subst (λ (k : Option Content). StandsAs s k) (sym same) all, steps-same s s refl)
+
+    leads-ends : (input : List ℕ) → IsInput i.left input → (status : Status) (printed : List ℕ) → EndsBy Deliver input i j status printed → Leads s j
+    leads-ends input told status printed ends =
+        let t = ends.acts.acts.stands s all in
+        (t.0, t.1, steps-done input told ends.acts.moment ends.acts.first s t.0 i.content ends.outcome t.2)
+
+    leads-does : (input : List ℕ) → IsInput i.left input → (status : Status) (printed : List ℕ) (job : Option Job) → IsJob words job → Ends job input i j status printed → Leads s j
+    leads-does input told status printed None asks ends = absurd (asks Deliver asked)
+    leads-does input told status printed (Some job) asks ends =
+        let same = only-delivers words job asked asks in
+        leads-ends input told status printed (subst (λ (x : Job). Ends (Some x) input i j status printed) same ends)
+
+    leads-due : (input : List ℕ) → IsInput i.left input → (status : Status) (printed : List ℕ) → IsDue words input i j status printed → Leads s j
+    leads-due input told status printed (inl does) = leads-does input told status printed does.job does.asked does.ends
+    leads-due input told status printed (inr (inl out)) = absurd (let no : Replay out.config ≡ Deliver = only-delivers words (Replay out.config) asked out.asked in cc)
+    leads-due input told status printed (inr (inr out)) = leads-kept out.kept
+
+    pub leads : (status : Status) → Ran words status i j → Leads s j
+    leads status (inl printed) = leads-due printed.input printed.told status printed.printed printed.due
+    leads status (inr (inl failed)) = leads-kept failed.silent.kept
+    leads status (inr (inr (inl failed))) = leads-kept failed.silent.kept
+    leads status (inr (inr (inr failed))) = leads-due failed.input failed.told failed.due_status failed.printed failed.due
+
+-- An archive was made.
+pub record IsMadeOn (words : List (List ℕ)) (i : Edges) (k : Content) : Type 0 where
+  pub config : Config
+  pub asked : AsksFor words (Init config)
+  pub born : ℕ
+  pub is_born : IsFirst born i.coming
+  pub view : View
+  pub disk : IsDiskOf view (empty_archive (made_at config born)) k
+
+module _ (words : List (List ℕ)) (asked : AsksForInit words) (i j : Edges) (k : Content) (told : j.content ≡ Some k) where
+  made-by : (config : Config) → AsksFor words (Init config) → (born : ℕ) → IsFirst born i.coming → (o : Outcome) → Makes (made_at config born) o i.content j.content → status_of o ≡ exit.Done → IsMadeOn words i k
+  made-by config asks born first (Made name) makes done =
+      let disk = subst (λ (c : Option Content). WhereTold (λ (m : Content). (v : View) × IsDiskOf v (empty_archive (made_at config born)) m) c) told makes.2 in
+      record { config = config; asked = asks; born = born; is_born = first; view = disk.0; disk = disk.1 }
+  made-by config asks born first Exists makes done = absurd (cc done)
+  made-by config asks born first (Checked entries live next) makes done = absurd makes
+  made-by config asks born first (Unopened why) makes done = absurd makes
+  made-by config asks born first (Answered answer.DiskFault) makes done = absurd (cc done)
+  made-by config asks born first (Answered answer.NoMemory) makes done = absurd (cc done)
+  made-by config asks born first (Answered (answer.Ok number id)) makes done = absurd makes
+  made-by config asks born first (Answered (answer.Duplicate number)) makes done = absurd makes
+  made-by config asks born first (Answered answer.NoFields) makes done = absurd makes
+  made-by config asks born first (Answered (answer.TooLarge len)) makes done = absurd makes
+  made-by config asks born first (Answered (answer.Full max)) makes done = absurd makes
+  made-by config asks born first (Answered (answer.Collision number)) makes done = absurd makes
+  made-by config asks born first (Answered (answer.NotLive number)) makes done = absurd makes
+  made-by config asks born first (Answered (answer.NoText number)) makes done = absurd makes
+  made-by config asks born first (Answered answer.IsMirror) makes done = absurd makes
+  made-by config asks born first (Answered (answer.Damaged file offset)) makes done = absurd makes
+
+  made-job : (input : List ℕ) (status : Status) (printed : List ℕ) (job : Option Job) → IsJob words job → Ends job input i j status printed → status ≡ exit.Done → IsMadeOn words i k
+  made-job input status printed None asks ends done = absurd (asks (Init asked.0) asked.1)
+  made-job input status printed (Some job) asks ends done =
+      let same = only-makes words job asked asks in
+      let made : EndsBy (Init same.0) input i j status printed = subst (λ (x : Job). Ends (Some x) input i j status printed) same.1 ends in
+      made-by same.0 (subst (λ (x : Job). AsksFor words x) same.1 asks) made.acts.moment made.acts.first made.outcome made.acts.acts (sym made.status_is ∙ done)
+
+  made-due : (input : List ℕ) (status : Status) (printed : List ℕ) → IsDue words input i j status printed → status ≡ exit.Done → IsMadeOn words i k
+  made-due input status printed (inl does) done = made-job input status printed does.job does.asked does.ends done
+  made-due input status printed (inr (inl out)) done = absurd (let no : exit.Memory ≡ exit.Done = sym out.stops.status_is ∙ done in cc)
+  made-due input status printed (inr (inr out)) done = absurd (let no : exit.Memory ≡ exit.Done = sym out.status_is ∙ done in cc)
+
+  made-ran : (status : Status) → Ran words status i j → status ≡ exit.Done → IsMadeOn words i k
+  made-ran status (inl printed) done = made-due printed.input status printed.printed printed.due done
+  made-ran status (inr (inl failed)) done = absurd (let no : exit.Edges ≡ exit.Done = sym failed.silent.status_is ∙ done in cc)
+  made-ran status (inr (inr (inl failed))) done = absurd (let no : exit.Edges ≡ exit.Done = sym failed.silent.status_is ∙ done in cc)
+  made-ran status (inr (inr (inr failed))) done = absurd (let no : exit.Edges ≡ exit.Done = sym failed.status_is ∙ done in cc)
+
+-- The status of number 0.
+done-code : (status : Status) → 0 ≡ code_of status → status ≡ exit.Done
+done-code exit.Done is = refl
+done-code exit.Refused is = absurd (omega (arith, is))
+done-code exit.NotRead is = absurd (omega (arith, is))
+done-code exit.Archive is = absurd (omega (arith, is))
+done-code exit.Disk is = absurd (omega (arith, is))
+done-code exit.Edges is = absurd (omega (arith, is))
+done-code exit.Memory is = absurd (omega (arith, is))
+done-code exit.Script is = absurd (omega (arith, is))
+
+-- Numbers keep their texts on the way.
+goes-by : KeepsNumbers → (i : Edges) (a b : Archive) → FromBy i a b → Goes i a b
+goes-by keeps i a b (inl same) = record { from = inl same; texts = λ n text is. subst (λ (x : Archive). text_of x.entries n ≡ Some text) (sym same) is }
+goes-by keeps i a b (inr more) = record {
+  from = inr more;
+  texts = λ n text is. subst (λ (x : Archive). text_of x.entries n ≡ Some text) (sym more.is) (keeps a (message_of more.input) more.at n text is);
+}
+
+-- The three runs.
+pub in-a-row : KeepsNumbers → RunsInARow
+in-a-row keeps first second third a b i j k l m n made asks_first one told kept asks_second two on asks_third three image left =
+    let e = made-ran first asks_first i j made told one.0 one.2 (done-code one.0 one.1) in
+    let empty : Archive = empty_archive (made_at e.config e.born) in
+    let start : StandsAs (standing empty None) k.content =
+    subst (λ (c : Option Content). StandsAs (standing empty None) c) (sym kept) (λ image there. store-recovers e.view [] empty (Some made) (one_of (standing empty None)) image e.disk (0, omega arith, refl) there) in
+    let t = leads k second asks_second l (standing empty None) start two.0 two.2 in
+    let u = leads m third asks_third n t.0 (subst (λ (c : Option Content). StandsAs t.0 c) (sym on) t.1) three.0 three.2 in
+    let last = recovers_either u.0 [] image (at_last u.0 n.content u.1 image left) in
+    let back = u.2 last.0 last.1 in
+    let before = t.2 back.0 back.1 in
+    record {
+      config = e.config;
+      asked = e.asked;
+      born = e.born;
+      is_born = e.is_born;
+      one = back.0;
+      first = goes-by keeps k empty back.0 (subst (λ (x : Archive). FromBy k x back.0) (found-one empty before.0 before.1) before.2);
+      two = last.0;
+      second = goes-by keeps m back.0 last.0 back.2;
+      stands = last.2;
+    }
+  where
+    at_last : (s : Standing) (c : Option Content) → StandsAs s c → (image : Files) → Image c image → RecoversOf (one_of s) image
+    at_last s None all image left = absurd all
+    at_last s (Some c) all image left = all image left

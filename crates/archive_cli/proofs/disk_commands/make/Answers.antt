@@ -1,0 +1,12 @@
+use Rattle.archive_cli.proofs.OnDisk.{made-makes, unmade-makes, unmade-cause}
+use Rattle.archive_cli.proofs.disk_commands.make.Goals as goal
+
+pub returns-in-Ok-clause-made : goal.returns-in-Ok-clause-made
+returns-in-Ok-clause-made g c = rw c.into_disk.ensures
+    (made-makes c.args.config.now c.copy.result c.in-Ok.engine.view (g.D.Disk.content c.args.disk) (g.D.Disk.content c.in-Ok.engine.disk) c.copy.ensures c.in-Ok.ensures.made.answer c.in-Ok.ensures.made.done)
+
+pub returns-in-Err-clause-made : goal.returns-in-Err-clause-made
+returns-in-Err-clause-made g c = unmade-makes c.args.config.now c.in-Err.why c.outcome_of.result (g.D.Disk.content c.args.disk) (g.D.Disk.content c.in-Err.disk) c.outcome_of.ensures c.in-Err.ensures.made.answer c.in-Err.ensures.made.refused
+
+pub returns-in-Err-clause-cause : goal.returns-in-Err-clause-cause
+returns-in-Err-clause-cause g c = unmade-cause (g.D.Disk.faults c.args.disk) (g.D.Disk.faults c.in-Err.disk) c.in-Err.why c.outcome_of.result c.outcome_of.ensures c.in-Err.ensures.made.cause

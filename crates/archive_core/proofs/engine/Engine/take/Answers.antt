@@ -1,0 +1,42 @@
+use Rattle.arch_model.specs.Archives.{Archive}
+use Rattle.arch_model.specs.Delivery.{applied}
+use Rattle.archive_core.proofs.Engines.{starved-at, still-left, left-from, done-from, taken-from, answer-cause-from}
+use Rattle.archive_core.proofs.engine.Engine.take.Goals as goal
+
+pub returns-then-not-has_next_root-clause-any_moment : goal.returns-then-not-has_next_root-clause-any_moment
+returns-then-not-has_next_root-clause-any_moment g c = λ a cache store. still-left g.D.Disk.content g.D.Disk.moment g.D.Disk.left_since g.met.D.Disk.counts_now g.met.D.Disk.only_now g.met.D.Disk.reads_fit c.args.self.now a (applied a c.args.command.now c.args.moment).archive cache store
+
+pub returns-then-not-has_next_root-clause-done : goal.returns-then-not-has_next_root-clause-done
+returns-then-not-has_next_root-clause-done g c = λ a cache store. store
+
+pub returns-then-not-has_next_root-clause-stands : goal.returns-then-not-has_next_root-clause-stands
+returns-then-not-has_next_root-clause-stands g c = λ a store. starved-at g.D.Disk.content g.D.Disk.moment g.D.Disk.left_since g.met.D.Disk.counts_now g.met.D.Disk.only_now g.met.D.Disk.reads_fit c.args.self.now a
+    (λ (b : Archive). applied b c.args.command.now c.args.moment) store
+
+pub returns-clause-any_moment : goal.returns-clause-any_moment
+returns-clause-any_moment g c =
+    let room = c.has_next_root.ensures.0 c.if-not-has_next_root.false in
+    left-from g.D.Disk.content g.D.Disk.moment g.D.Disk.left_since g.met.D.Disk.counts_now g.met.D.Disk.only_now g.met.D.Disk.reads_fit
+    (record { disk = c.self.inside.disk; view = c.self.inside.archive; stale = c.self.inside.stale }) c.args.self.now c.self.view_is c.command-answer.new.disk
+    (λ (a : Archive). (applied a c.args.command.now c.args.moment).archive) (λ a cache store. c.command-answer.ensures.taken.any_moment a cache store room)
+
+pub returns-clause-done : goal.returns-clause-done
+returns-clause-done g c =
+    let room = c.has_next_root.ensures.0 c.if-not-has_next_root.false in
+    done-from g.D.Disk.content g.D.Disk.moment g.D.Disk.left_since g.met.D.Disk.counts_now g.met.D.Disk.only_now g.met.D.Disk.reads_fit
+    (record { disk = c.self.inside.disk; view = c.self.inside.archive; stale = c.self.inside.stale }) c.args.self.now c.self.view_is c.command-answer.new.self c.command-answer.new.disk
+    (λ (a : Archive). applied a c.args.command.now c.args.moment) c.command-answer.result (λ a cache store. c.command-answer.ensures.taken.done a cache store room)
+
+pub returns-clause-stands : goal.returns-clause-stands
+returns-clause-stands g c =
+    let room = c.has_next_root.ensures.0 c.if-not-has_next_root.false in
+    taken-from g.D.Disk.content g.D.Disk.moment g.D.Disk.left_since g.met.D.Disk.counts_now g.met.D.Disk.only_now g.met.D.Disk.reads_fit
+    (record { disk = c.self.inside.disk; view = c.self.inside.archive; stale = c.self.inside.stale }) c.args.self.now c.self.view_is c.law_of_recovery.ensures.caches
+    (record { disk = c.command-answer.new.disk; view = c.command-answer.new.self; stale = c.needs_opening-self-inside.result })
+    (λ (a : Archive). applied a c.args.command.now c.args.moment) c.command-answer.result c.needs_opening-self-inside.ensures
+    (λ a cache store. c.command-answer.ensures.taken.any_moment a cache store room) (λ a cache store. c.command-answer.ensures.taken.done a cache store room) c.command-answer.ensures.taken.untouched
+
+pub returns-clause-cause : goal.returns-clause-cause
+returns-clause-cause g c = answer-cause-from g.D.Disk.content g.D.Disk.moment g.D.Disk.left_since g.met.D.Disk.counts_now g.met.D.Disk.only_now g.met.D.Disk.reads_fit
+    (record { disk = c.self.inside.disk; view = c.self.inside.archive; stale = c.self.inside.stale }) c.args.self.now c.self.view_is
+    g.D.Disk.faults c.command-answer.new.disk c.command-answer.result c.command-answer.ensures.taken.cause

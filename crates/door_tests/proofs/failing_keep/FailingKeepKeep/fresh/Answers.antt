@@ -1,0 +1,14 @@
+use Rattle.arch_model.proofs.Keepers.{untold-fits}
+use Rattle.door_tests.proofs.failing_keep.FailingKeepKeep.fresh.Goals as goal
+
+pub returns-then-not-self-clause-found : goal.returns-then-not-self-clause-found
+returns-then-not-self-clause-found c = λ s fits. absurd (untold-fits _ c.args.self.now s fits)
+
+pub returns-in-Opening-clause-found : goal.returns-in-Opening-clause-found
+returns-in-Opening-clause-found c = λ s fits. absurd (untold-fits _ c.args.self.now s fits)
+
+pub returns-in-OpeningWithoutMemory-clause-found : goal.returns-in-OpeningWithoutMemory-clause-found
+returns-in-OpeningWithoutMemory-clause-found c = λ s fits. absurd (untold-fits _ c.args.self.now s fits)
+
+pub returns-in_default-clause-found : goal.returns-in_default-clause-found
+returns-in_default-clause-found c = λ s fits. absurd (untold-fits _ c.args.self.now s fits)

@@ -1,0 +1,65 @@
+//! Three commands in order over any keeper, with one sentence on a crash since the first one's start.
+ghost use Rattle.std.specs.Prelude.{◌≤◌};
+ghost use Rattle.arch_base.specs.Moments.{last_moment};
+ghost use Rattle.arch_model.specs.Keeping.{Fits};
+ghost use Rattle.arch_model.specs.Standing.{Standing};
+ghost use Rattle.door_tests.specs.Chains.{Chain};
+
+use crate::connection::archive;
+use crate::failing_keep::{Failing, FailingKeep};
+use arch_model::{Answer, Command, Keep};
+
+/// Delivers three messages at a moment, and returns the answers.
+///
+/// A crash since the start leaves the archive before or after one of the deliveries, or one in doubt
+/// there.
+fn deliver_three<K: Keep>(
+    messages: &[&[u8]; 3],
+    moment: u64,
+    keep: &mut K,
+) -> (Answer, Answer, Answer)
+    requires { moment ≤ last_moment }
+    ensures { (s : Standing) → Fits K.holds K.ready K.leaves keep.old s
+        → Chain K.holds K.ready K.leaves keep.old keep.new s }
+{
+    let first = keep.command(&Command::Deliver(messages[0]), moment);
+    let second = keep.command(&Command::Deliver(messages[1]), moment);
+    let third = keep.command(&Command::Deliver(messages[2]), moment);
+    (first, second, third)
+}
+
+/// Messages of which the last is the first one again.
+const MESSAGES: [&[u8]; 3] = [
+    b"Message-ID: <a@x>\n",
+    b"Message-ID: <b@x>\n",
+    b"Message-ID: <a@x>\n",
+];
+
+#[test]
+fn each_delivery_goes_on_from_the_one_before(rt: HostRuntime) {
+    let Some(mut archive) = archive(rt.alloc()) else {
+        return assert!(rt; false);
+    };
+    let (first, second, third) = deliver_three(&MESSAGES, 1, &mut archive);
+    let numbers = (number_of(first), number_of(second));
+    assert!(rt; numbers == (Some(1), Some(2)) && third == Answer::Duplicate(1));
+}
+
+#[test]
+fn a_delivery_after_a_fault_reopens_first(rt: HostRuntime) {
+    let Some(archive) = archive(rt.alloc()) else {
+        return assert!(rt; false);
+    };
+    let mut keep = FailingKeep::new(archive, Failing::Opening);
+    let (first, second, third) = deliver_three(&MESSAGES, 1, &mut keep);
+    let failed = Answer::DiskFault;
+    assert!(rt; first == failed && second == failed && third == failed);
+}
+
+/// Returns the number of a message that was taken.
+fn number_of(answer: Answer) -> Option<u32> {
+    match answer {
+        Answer::Ok { number, id: _ } => Some(number),
+        _other => None,
+    }
+}

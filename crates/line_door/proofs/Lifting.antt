@@ -1,0 +1,55 @@
+-- The course of a session is one of a greater door that has the session among its own.
+use Rattle.std.proofs.Common.{◌≡◌, ◌⊎◌, List, [], ◌∷◌, Option, Some, None, Bool, true, false, inl, inr, refl, sym, ap, subst, ◌∙◌}
+use Rattle.line_door.specs.Acts.{Outside, Said, Way, Sent, Acts}
+use Rattle.line_door.specs.Course.{Talk, talk, Step, Requests, Last, Fed}
+use Rattle.line_door.specs.Over.{held_over, said_over, talk_over, talks_over}
+
+module _ {H A J B : Type 0} (state : A → B) (into : H → J) where
+  sent-over : (s : Said H A) (i : Outside) (held : Option H) (a : A) (j : Outside) → Sent s i held a j → Sent (said_over state into s) i (held_over into held) (state a) j
+  sent-over s i held a j (inl x) = inl (record { held_is = ap (held_over into) x.held_is; after_is = ap state x.after_is; out_is = x.out_is; lost_kept = x.lost_kept })
+  sent-over s i held a j (inr (inl x)) = inr (inl (record { lost_rose = x.lost_rose; held_is = ap (held_over into) x.held_is; after_is = ap state x.after_is; count = x.count; out_is = x.out_is }))
+  sent-over s i held a j (inr (inr x)) = inr (inr (record {
+    streamed = x.streamed;
+    held_is = ap (held_over into) x.held_is;
+    after_is = ap state x.after_is;
+    count = x.count;
+    some = x.some;
+    proper = x.proper;
+    out_is = x.out_is;
+  }))
+
+  -- An act of a session is an act of the greater door, if that says the same.
+  pub acts-over : (words : Way → Said H A) (other : Way → Said J B) (i : Outside) (held : Option H) (a : A) (j : Outside) → ((way : Way) → other way ≡ said_over state into (words way)) → Acts words i held a j
+      → Acts other i (held_over into held) (state a) j
+  acts-over words other i held a j same acts = record {
+    way = acts.way;
+    disk_cause = acts.disk_cause;
+    disk_later = acts.disk_later;
+    lost_later = acts.lost_later;
+    sent = subst (λ (s : Said J B). Sent s i (held_over into held) (state a) j) (sym (same acts.way)) (sent-over (words acts.way) i held a j acts.sent);
+  }
+
+  module _ (said : A → H → Way → Said H A) (is_request : H → Bool) (other : B → J → Way → Said J B) (is_other : J → Bool)
+      (same : (a : A) (h : H) (way : Way) → other (state a) (into h) way ≡ said_over state into (said a h way)) (asks : (h : H) → is_other (into h) ≡ is_request h) where
+    step-over : (h : H) (w v : Talk H A) → Step said is_request h w v → Step other is_other (into h) (talk_over state into w) (talk_over state into v)
+    step-over h w v step = record {
+      held = ap (held_over into) step.held;
+      acts = acts-over (said w.after h) (other (state w.after) (into h)) w.outside v.held v.after v.outside (λ way. same w.after h way) step.acts;
+    }
+
+    -- Requests in order are requests of the greater door.
+    pub requests-over : (w : Talk H A) (ms : List (Talk H A)) (v : Talk H A) → Requests said is_request w ms v → Requests other is_other (talk_over state into w) (talks_over state into ms) (talk_over state into v)
+    requests-over w [] v each = ap (talk_over state into) each
+    requests-over w (m ∷ ms) v each = ((into each.0.0, asks each.0.0 ∙ each.0.1, step-over each.0.0 w m each.0.2), requests-over m ms v each.1)
+
+    -- So is the last act of a piece.
+    pub last-over : (w v : Talk H A) → Last said is_request w v → Last other is_other (talk_over state into w) (talk_over state into v)
+    last-over w v last = record { before = into last.before; step = step-over last.before w v last.step; ends = by last.ends }
+      where
+        by : (v.held ≡ None) ⊎ (is_request last.before ≡ false) → (held_over into v.held ≡ None) ⊎ (is_other (into last.before) ≡ false)
+        by (inl none) = inl (ap (held_over into) none)
+        by (inr rest) = inr (asks last.before ∙ rest)
+
+    -- And so is a whole course.
+    pub fed-over : (w v : Talk H A) → Fed said is_request w v → Fed other is_other (talk_over state into w) (talk_over state into v)
+    fed-over w v fed = (talks_over state into fed.0, talk_over state into fed.1, requests-over w fed.0 fed.1 fed.2, last-over fed.1 v fed.3)

@@ -1,0 +1,110 @@
+-- The archive in memory as a keeper of itself.
+use Rattle.std.proofs.Common.{◌≡◌, ◌⊎◌, ◌+◌, ◌≤◌, ℕ, Bool, true, false, List, [], ◌∷◌, ◌++◌, Option, Some, None, is_some, Result, Ok, Err, inl, inr, refl, sym, ap, subst, ◌∙◌, arith}
+use Rattle.std.specs.List.{Contains}
+use Rattle.arch_model.specs.Archives.{Archive, text_of}
+use Rattle.arch_model.specs.Delivery.{Done, Delivers}
+use Rattle.arch_model.specs.Standing.{Standing, standing, GivesTextIn}
+use Rattle.arch_model.specs.Keeping.{Fits, Moves, Settles, Comes, StaysReady, AnswerCause}
+use Rattle.arch_model.specs.declared.answer.Answer.{Answer}
+use Rattle.arch_model.specs.declared.answer.Answer.TheVariants as answer
+use Rattle.arch_model.specs.declared.text_refusal.TextRefusal.{TextRefusal}
+
+-- It holds itself, is always ready, and a crash leaves it.
+abbrev pub Holds : Archive → Archive → Type 0
+Holds m a = a ≡ m
+
+abbrev pub at_hand : Archive → Bool
+at_hand m = true
+
+abbrev pub Leaves : Archive → Archive → List (Option Archive) → Type 0
+Leaves start m may = Contains may (Some m)
+
+fits-itself : (m n : Archive) → n ≡ m → Fits Holds at_hand Leaves n (standing m None)
+fits-itself m n same = record { settled = λ ready. (sym same, refl); left = λ may has. subst (λ (x : Archive). Contains may (Some x)) (sym same) has.archive }
+
+moves-itself : (m n : Archive) (s : Standing) (a : Archive) → n ≡ a → Moves Holds at_hand Leaves m s n (standing a None)
+moves-itself m n s a same = record { fits = fits-itself a n same; passes = λ start may has left. subst (λ (x : Archive). Contains may (Some x)) (sym same) has.1.0.archive }
+
+-- Reopening does nothing.
+pub fresh-done : (m : Archive) (s : Standing) → Fits Holds at_hand Leaves m s → (t : Standing) × Moves Holds at_hand Leaves m s m t × Settles s t
+fresh-done m s fits = (standing m None, moves-itself m m s m refl, record { found = inl (sym (fits.settled refl).0); sure = refl })
+
+-- The answer to a command is that of its keeper.
+module _ (m n : Archive) (wanted : Archive → Done) (s : Standing) (fits : Fits Holds at_hand Leaves m s) where
+  obeyed : (reply : Answer) → wanted m ≡ record { archive = n; answer = reply } → Moves Holds at_hand Leaves m s n (standing n None) × ((wanted m).answer ≡ reply) × (standing n None ≡ standing (wanted m).archive None)
+  obeyed reply is = (moves-itself m n s n refl, ap (λ (d : Done). d.answer) is, ap (λ (d : Done). standing d.archive None) (sym is))
+
+  pub command-done : (reply : Answer) → Delivers m reply n (wanted m) → (t : Standing) × Moves Holds at_hand Leaves m s n t × Comes true s wanted reply t
+  command-done answer.NoMemory same = (standing m None, moves-itself m n s m same, inr (record { found = inl (sym (fits.settled refl).0); sure = refl }))
+  command-done (answer.Ok number id) is =
+      let done = obeyed (answer.Ok number id) is in
+      (standing n None, done.0, record { found = m; is_found = inl (sym (fits.settled refl).0); answer_is = done.1; stands = done.2 })
+  command-done (answer.Duplicate number) is =
+      let done = obeyed (answer.Duplicate number) is in
+      (standing n None, done.0, record { found = m; is_found = inl (sym (fits.settled refl).0); answer_is = done.1; stands = done.2 })
+  command-done answer.NoFields is =
+      let done = obeyed answer.NoFields is in
+      (standing n None, done.0, record { found = m; is_found = inl (sym (fits.settled refl).0); answer_is = done.1; stands = done.2 })
+  command-done (answer.TooLarge len) is =
+      let done = obeyed (answer.TooLarge len) is in
+      (standing n None, done.0, record { found = m; is_found = inl (sym (fits.settled refl).0); answer_is = done.1; stands = done.2 })
+  command-done (answer.Full max) is =
+      let done = obeyed (answer.Full max) is in
+      (standing n None, done.0, record { found = m; is_found = inl (sym (fits.settled refl).0); answer_is = done.1; stands = done.2 })
+  command-done (answer.Collision number) is =
+      let done = obeyed (answer.Collision number) is in
+      (standing n None, done.0, record { found = m; is_found = inl (sym (fits.settled refl).0); answer_is = done.1; stands = done.2 })
+  command-done (answer.NotLive number) is =
+      let done = obeyed (answer.NotLive number) is in
+      (standing n None, done.0, record { found = m; is_found = inl (sym (fits.settled refl).0); answer_is = done.1; stands = done.2 })
+  command-done (answer.NoText number) is =
+      let done = obeyed (answer.NoText number) is in
+      (standing n None, done.0, record { found = m; is_found = inl (sym (fits.settled refl).0); answer_is = done.1; stands = done.2 })
+  command-done answer.IsMirror is =
+      let done = obeyed answer.IsMirror is in
+      (standing n None, done.0, record { found = m; is_found = inl (sym (fits.settled refl).0); answer_is = done.1; stands = done.2 })
+  command-done answer.DiskFault never = absurd never
+  command-done (answer.Damaged file at) never = absurd never
+
+-- It stays ready.
+pub stays-ready : (m n : Archive) (d : Done) (reply : Answer) → Delivers m reply n d → StaysReady true reply true
+stays-ready m n d answer.NoMemory is = λ ready. refl
+stays-ready m n d (answer.Ok number id) is = tt
+stays-ready m n d (answer.Duplicate number) is = refl
+stays-ready m n d answer.NoFields is = refl
+stays-ready m n d (answer.TooLarge len) is = refl
+stays-ready m n d (answer.Full max) is = refl
+stays-ready m n d (answer.Collision number) is = refl
+stays-ready m n d (answer.NotLive number) is = refl
+stays-ready m n d (answer.NoText number) is = refl
+stays-ready m n d answer.IsMirror is = refl
+stays-ready m n d answer.DiskFault never = absurd never
+stays-ready m n d (answer.Damaged file at) never = absurd never
+
+-- It has no disk that fails.
+pub never-fails : (m n : Archive) (d : Done) (reply : Answer) → Delivers m reply n d → AnswerCause 0 0 reply
+never-fails m n d answer.NoMemory is = tt
+never-fails m n d (answer.Ok number id) is = tt
+never-fails m n d (answer.Duplicate number) is = tt
+never-fails m n d answer.NoFields is = tt
+never-fails m n d (answer.TooLarge len) is = tt
+never-fails m n d (answer.Full max) is = tt
+never-fails m n d (answer.Collision number) is = tt
+never-fails m n d (answer.NotLive number) is = tt
+never-fails m n d (answer.NoText number) is = tt
+never-fails m n d answer.IsMirror is = tt
+never-fails m n d answer.DiskFault never = absurd never
+never-fails m n d (answer.Damaged file at) never = absurd never
+
+-- A live number has a text.
+hidden-text : (m a : Archive) (n : ℕ) (old : List ℕ) → a ≡ m → None ≡ text_of m.entries n → is_some (text_of a.entries n) ≡ true → GivesTextIn a.entries n old old (Ok tt)
+hidden-text m a n old same none live =
+    let is : text_of a.entries n ≡ None = ap (λ (x : Archive). text_of x.entries n) same ∙ sym none in
+    let never : is_some {T = List ℕ} None ≡ true = sym (ap is_some is) ∙ live in
+    absurd (cc)
+
+pub text-none : (m : Archive) (n : ℕ) (old : List ℕ) → None ≡ text_of m.entries n → ((a : Archive) → a ≡ m → is_some (text_of a.entries n) ≡ true) → (a : Archive) → a ≡ m → GivesTextIn a.entries n old old (Ok tt)
+text-none m n old none live a same = hidden-text m a n old same none (live a same)
+
+pub text-some : (m : Archive) (n : ℕ) (old new text : List ℕ) → Some text ≡ text_of m.entries n → new ≡ old ++ text → (a : Archive) → a ≡ m → GivesTextIn a.entries n old new (Ok tt)
+text-some m n old new text some is a same = (text, ap (λ (x : Archive). text_of x.entries n) same ∙ sym some, is)

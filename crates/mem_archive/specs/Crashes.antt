@@ -1,0 +1,21 @@
+-- What a crash leaves of an archive in memory: the archive.
+use Rattle.std.specs.Prelude.{◌≡◌, true, List, Option, Some, refl}
+use Rattle.std.specs.List.{Contains}
+use Rattle.std.proofs.Common.{◌∙◌, sym, subst}
+use Rattle.arch_model.specs.Archives.{Archive}
+use Rattle.arch_model.specs.Keeping.{OnlyRead}
+
+-- The archive that is held is left.
+pub held-left : (m a : Archive) (may : List (Option Archive)) → a ≡ m → Contains may (Some a)
+    → Contains may (Some m)
+held-left m a may same has = subst (λ (x : Archive). Contains may (Some x)) same has
+
+-- A state that is the same was only read.
+pub same-read : (m n : Archive) → n ≡ m → OnlyRead (λ (k : Archive) (a : Archive). a ≡ k)
+    (λ (k : Archive). true)
+    (λ (start : Archive) (k : Archive) (may : List (Option Archive)). Contains may (Some k)) m n
+same-read m n same = record {
+  held = λ a is. is ∙ sym same;
+  same = refl;
+  passes = λ start may has left. subst (λ (x : Archive). Contains may (Some x)) (sym same) left;
+}
