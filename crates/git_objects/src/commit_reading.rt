@@ -36,6 +36,19 @@ pub fn read_commit(alloc: Global, content: &[u8]) -> Result<Option<Commit>, NoMe
     }))
 }
 
+/// Returns when a commit was made, by its content, in seconds since 1970.
+///
+/// `None` if the content is no commit's.
+pub fn committed_at(content: &[u8]) -> Option<u64>
+    ensures exact { MatchOption result (HoldsNoCommit content.now)
+        (λ moment. (c : CommitRecord) × IsContentOf content.now c × (moment ≡ c.committed)) }
+    ensures again { (c : CommitRecord) → IsCommit c → content.now ≡ commit_content c
+        → result ≡ Some c.committed }
+{
+    let parts = read_parts(content)?;
+    Some(parts.committed)
+}
+
 /// Returns a copy of the bytes.
 fn copied(alloc: Global, bytes: &[u8]) -> Result<Bytes, NoMemory>
     ensures { IfOk result (λ made. made ≡ bytes.now) }
