@@ -1,6 +1,6 @@
 -- The entry at the front of bytes, by its parts.
 use Rattle.std.proofs.Common.{◌≡◌, ◌≢◌, ℕ, ◌+◌, ◌≤◌, List, ◌++◌, length, take, drop, Option, Some, None, Result, Ok, Err, sym, ap, subst, ◌∙◌, arith}
-use Rattle.std.proofs.lemmas.List.{take_at, take-append-drop, take-take}
+use Rattle.std.proofs.lemmas.List.{take_at, take-append-drop, take-take, append_cancel_left}
 use Rattle.std.proofs.lemmas.Option.{none-some, same_Some}
 use Rattle.arch_base.specs.declared.ids.Id20.{Id20}
 use Rattle.arch_base.specs.declared.sequence.NoMemory.{NoMemory}
@@ -54,6 +54,12 @@ reads-moment offset parent bytes parts moment (Err e) again reads = tt
 pub reads-no_moment : (offset : ℕ) (parent : Option Id20) (bytes : List ℕ) (parts : Parts) → MomentAgain parts.commit.now None → ReadsWhere (λ e. HasParts parent e parts) offset parent bytes (Ok None)
 reads-no_moment offset parent bytes parts again = λ p e rest valid is has. none-some e.moment (moment_is parent e parts None p valid has again)
 
+-- Two pieces with equal ones in their place.
+pub joined-pieces : (a b x y : List ℕ) → a ≡ x → b ≡ y → (a ++ b ≡ x ++ y) × (x ++ y ≡ a ++ b)
+joined-pieces a b x y first second =
+    let both : a ++ b ≡ x ++ y = λ i. first i ++ second i in
+    (both, sym both)
+
 -- The tree and the commit that follow the blob of bytes, in the bytes of the three objects.
 abbrev pub after_blob_in : Parts → List ℕ → List ℕ
 after_blob_in parts bytes = drop parts.blob (take parts.size bytes)
@@ -76,7 +82,7 @@ pub entry_pieces : (bytes objects : List ℕ) (parts : Parts) (moment : ℕ) (pa
 unfolding entry_bytes
 entry_pieces bytes objects parts moment parent parted cut same =
     let objects_of = tree_of parts.kind parts.text.now ++ commit_text parts.kind parts.text.now moment parent in
-    cut ∙ append_cancel (blob_spelling parts.text.now) (after_blob_in parts bytes) objects_of (sym (blob_and_after bytes parts parted) ∙ same)
+    cut ∙ append_cancel_left (blob_spelling parts.text.now) (after_blob_in parts bytes) objects_of (sym (blob_and_after bytes parts parted) ∙ same)
 
 -- If the text is no storage text.
 pub reads-unstored : (offset : ℕ) (parent : Option Id20) (bytes : List ℕ) (parts : Parts) (moment : ℕ) → (IsStorageText parts.text.now → ⊥)

@@ -224,10 +224,7 @@ fn read_with_id(
 {
     let objects = bytes.split_at(parts.size).0.split_at(parts.blob).1;
     match respell(alloc, objects, parts.kind, parts.text, moment, parent)? {
-        Some(ids) => {
-            let seen = seen_of(alloc, offset, parts, moment, &ids, id)?;
-            Ok(Some((seen, parts.size)))
-        }
+        Some(ids) => Ok(Some((seen_of(alloc, offset, parts, moment, &ids, id)?, parts.size))),
         None => Ok(None),
     }
 }
