@@ -13,7 +13,7 @@ ghost use Rattle.archive_cli.specs.DiskCommands.{Makes, DeliversTo, ChecksTo, Is
 use crate::outcome::Outcome;
 use arch_base::Config;
 use arch_model::{Answer, Command};
-use archive_core::{DiskArchive, live_count, open_store};
+use archive_core::DiskArchive;
 use disk_model::Disk;
 use epoch_store::InitRefusal;
 use std::alloc::Global;
@@ -65,11 +65,11 @@ pub(crate) fn check<D: Disk>(alloc: Global, disk: &mut D) -> Outcome
     ensures unopened { LeavesUnopened result (D.content disk.old) (D.content disk.new) }
     ensures cause { RoseIf (IsFault result) (D.faults disk.old) (D.faults disk.new) }
 {
-    match open_store(alloc, disk) {
-        Ok(store) => Outcome::Checked {
-            entries: store.stored().len() as u64,
-            live: live_count(&store),
-            next: store.next_number(),
+    match DiskArchive::open(alloc, disk) {
+        Ok(archive) => Outcome::Checked {
+            entries: archive.entry_count(),
+            live: archive.live_count(),
+            next: archive.next_number(),
         },
         Err(refusal) => Outcome::Unopened(refusal),
     }

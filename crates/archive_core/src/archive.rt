@@ -17,7 +17,6 @@ ghost use Rattle.epoch_store.specs.Stores.{IsStoreWith, Keeps, HasSizes, Recover
 ghost use Rattle.archive_core.specs.Commands.{DoneBy, OnDone, OnRefusal, UnlessFault, IsForCommand, TakesCommand, refusal_answer};
 
 use crate::entries::index_of;
-use crate::opening::live_count;
 use crate::texts::{put_text, take_text};
 use arch_base::{Config, NoMemory, ObjectId};
 use arch_judge::{Index, Verdict, judge};
@@ -235,7 +234,8 @@ impl DiskArchive {
     pub fn live_count(&self) -> u32
         ensures { (a : Archive) → Keeps self.now a → result ≡ length a.entries }
     {
-        live_count(&self.store)
+        // There are no more entries than numbers.
+        self.store.stored().len().min(u32::MAX as usize) as u32
     }
 
     /// Returns the number of the next message.

@@ -5,11 +5,9 @@ mod archive;
 mod engine;
 mod entries;
 mod not_made;
-mod opening;
 mod reading;
 mod texts;
 
 pub use archive::DiskArchive;
 pub use engine::Engine;
 pub use not_made::{NotMade, NotOpened};
-pub use opening::{live_count, open_store};
