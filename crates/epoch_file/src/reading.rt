@@ -1,5 +1,5 @@
 //! Reads an entry from the front of bytes.
-ghost use Rattle.std.specs.Prelude.{◌≡◌, ◌+◌, ◌-◌, ◌<◌, ◌≤◌, ◌^◌, ◌++◌, ℕ, List, [], Some, None, length, take, IfSome, IfOk, IsTrue, ◌↔◌, MatchOption};
+ghost use Rattle.std.specs.Prelude.{◌≡◌, ◌+◌, ◌-◌, ◌<◌, ◌≤◌, ◌^◌, ◌++◌, ℕ, List, Some, None, length, take, IfSome, IfOk, IsTrue, ◌↔◌, MatchOption};
 ghost use Rattle.arch_base.specs.Ids.{IsId};
 ghost use Rattle.arch_base.specs.declared.ids.Id20.{Id20};
 ghost use Rattle.git_objects.specs.declared.commits.Commit.{Commit as CommitRecord};

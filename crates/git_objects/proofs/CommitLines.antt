@@ -8,15 +8,19 @@ use Rattle.hex.specs.Hex.{encode_lower}
 use Rattle.arch_base.specs.declared.ids.Id20.{Id20}
 use Rattle.git_objects.specs.declared.commits.Commit.{Commit}
 use Rattle.git_objects.specs.Fronts.{NoByte}
-use Rattle.git_objects.specs.Commits.{IsCommit, commit_content, tree_line, hex_line, parent_line, author_line, number_part, text_part, zone_text, clock}
+use Rattle.git_objects.specs.Commits.{IsCommit, commit_content, hex_line, parent_line, number_part, text_part, zone_text, clock}
 use Rattle.git_objects.proofs.Splitting.{NoByte-append}
 use Rattle.git_objects.proofs.HexLines.{NoByte-hex}
 use Rattle.git_objects.proofs.Numbers.{NoByte-decimal}
 use Rattle.git_objects.proofs.Texts.{NoByte-clean}
 
+-- The bytes after the moment.
+abbrev pub after_moment : Commit → List ℕ
+after_moment c = codes "+0000\n\n" ++ text_part 10 c.subject []
+
 -- The moment and what follows it.
 abbrev pub number_on : Commit → List ℕ
-number_on c = number_part 32 c.committed (codes "+0000\n\n" ++ text_part 10 c.subject [])
+number_on c = number_part 32 c.committed (after_moment c)
 
 -- The committer's line and what follows it.
 abbrev pub committer_on : Commit → List ℕ
@@ -86,11 +90,11 @@ words_apart bytes x y parent author =
     omega (arith, heads)
 
 -- What is found after a line of the parent.
-abbrev pub Finds : Option (Bor (List ℕ)) → List ℕ → Type 0
-Finds found rest = MatchOption found ⊥ (λ bytes. bytes.now ≡ rest)
+abbrev pub IsLeft : Option (Bor (List ℕ)) → List ℕ → Type 0
+IsLeft found rest = MatchOption found ⊥ (λ bytes. bytes.now ≡ rest)
 
-pub parent_there : (bytes id : List ℕ) (found : Option (Bor (List ℕ))) → bytes ≡ codes "parent " ++ id → ((line rest : List ℕ) → NoByte 10 line → id ≡ line ++ 10 ∷ rest → Finds found rest)
-    → (parent : Option Id20) (rest : List ℕ) → bytes ≡ parent_line parent (codes "author " ++ rest) → Finds found (codes "author " ++ rest)
+pub parent_there : (bytes id : List ℕ) (found : Option (Bor (List ℕ))) → bytes ≡ codes "parent " ++ id → ((line rest : List ℕ) → NoByte 10 line → id ≡ line ++ 10 ∷ rest → IsLeft found rest)
+    → (parent : Option Id20) (rest : List ℕ) → bytes ≡ parent_line parent (codes "author " ++ rest) → IsLeft found (codes "author " ++ rest)
 parent_there bytes id found here after None rest is = absurd (words_apart bytes id rest here is)
 parent_there bytes id found here after (Some parent) rest is =
     after (encode_lower parent.0) (codes "author " ++ rest) (NoByte-hex parent) (append_cancel_left (codes "parent ") id (hex_line parent (codes "author " ++ rest)) (sym here ∙ is))

@@ -5,7 +5,7 @@ use Rattle.std.specs.Str.{str_eq_ignore_ascii_case}
 use Rattle.mail_reader.specs.Fields.{FieldText}
 use Rattle.mail_reader.specs.Content.{counted, counted_field}
 use Rattle.mail_reader.specs.Counting.{IsFound, AreFound}
-use Rattle.mail_reader.specs.declared.counting.Counted.{Counted}
+use Rattle.mail_reader.specs.declared.counting.FoundFields.{FoundFields}
 use Rattle.mail_reader.specs.declared.counting.Found.{Found}
 use Rattle.mail_reader.specs.declared.counting.Found.TheVariants.{Nothing, Value, Several}
 
@@ -40,5 +40,5 @@ all-value name found value fields one h =
     sym (append-nil (counted_field name value.now)) ∙ sym all
 
 -- The same of each name.
-pub are-found-at : (found : Counted) (fields rest later : List FieldText) → rest ≡ later → AreFound found fields rest → AreFound found fields later
+pub are-found-at : (found : FoundFields) (fields rest later : List FieldText) → rest ≡ later → AreFound found fields rest → AreFound found fields later
 are-found-at found fields rest later same h = let P : List FieldText → Type 0 = λ left. AreFound found fields left in subst P same h

@@ -2,7 +2,7 @@
 use Rattle.std.specs.Prelude.{◌≡◌, ℕ, List, ◌++◌, codes}
 use Rattle.mail_reader.specs.Fields.{FieldText}
 use Rattle.mail_reader.specs.Content.{counted, counted_field}
-use Rattle.mail_reader.specs.declared.counting.Counted.{Counted}
+use Rattle.mail_reader.specs.declared.counting.FoundFields.{FoundFields}
 use Rattle.mail_reader.specs.declared.counting.Found.{Found}
 use Rattle.mail_reader.specs.declared.counting.Found.TheVariants.{Nothing, Value, Several}
 
@@ -15,7 +15,7 @@ IsFound name (Value value) fields rest =
 IsFound name Several fields rest = Unit {0}
 
 -- The same of each name that counts.
-pub record AreFound (found : Counted) (fields rest : List FieldText) : Type 0 where
+pub record AreFound (found : FoundFields) (fields rest : List FieldText) : Type 0 where
   pub subject : IsFound (codes "Subject") found.subject fields rest
   pub authors : IsFound (codes "From") found.authors fields rest
   pub date : IsFound (codes "Date") found.date fields rest

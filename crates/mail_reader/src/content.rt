@@ -7,7 +7,7 @@ ghost use Rattle.mail_reader.specs.Content.{content_id_of, counted, counted_fiel
 ghost use Rattle.mail_reader.specs.Counting.{IsFound};
 ghost use Rattle.mail_reader.specs.Hashing.{Took, given_at, waiting, waits_after};
 
-use crate::counting::{Counted, Found};
+use crate::counting::{Found, FoundFields};
 use crate::header::Fields;
 use crate::reading::{body, is_same_name};
 use crate::values::{space_for, trim};
@@ -21,15 +21,15 @@ use sha2::{Digest, Sha256};
 pub fn content_id(text: &[u8]) -> [u8; 32]
     ensures { result ≡ content_id_of text.now }
 {
-    let counted = Counted::of(text);
+    let found = FoundFields::of(text);
     let mut hasher = Sha256::new();
-    hash_found(&mut hasher, text, b"Subject", counted.subject);
-    hash_found(&mut hasher, text, b"From", counted.authors);
-    hash_found(&mut hasher, text, b"Date", counted.date);
-    hash_found(&mut hasher, text, b"References", counted.references);
-    hash_found(&mut hasher, text, b"In-Reply-To", counted.replied);
-    hash_found(&mut hasher, text, b"To", counted.recipients);
-    hash_found(&mut hasher, text, b"Cc", counted.copied);
+    hash_found(&mut hasher, text, b"Subject", found.subject);
+    hash_found(&mut hasher, text, b"From", found.authors);
+    hash_found(&mut hasher, text, b"Date", found.date);
+    hash_found(&mut hasher, text, b"References", found.references);
+    hash_found(&mut hasher, text, b"In-Reply-To", found.replied);
+    hash_found(&mut hasher, text, b"To", found.recipients);
+    hash_found(&mut hasher, text, b"Cc", found.copied);
     hash_bytes(&mut hasher, b"\n");
     hash_bytes(&mut hasher, body(text));
     hasher.finalize()

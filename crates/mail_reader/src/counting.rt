@@ -37,7 +37,7 @@ impl<'a> Found<'a> {
 
 /// What is found of the fields with each name that counts.
 #[derive(Clone, Copy, Drop)]
-pub(crate) struct Counted<'a> {
+pub(crate) struct FoundFields<'a> {
     /// `Subject`.
     pub(crate) subject: Found<'a>,
     /// `From`.
@@ -54,12 +54,12 @@ pub(crate) struct Counted<'a> {
     pub(crate) copied: Found<'a>,
 }
 
-impl<'a> Counted<'a> {
+impl<'a> FoundFields<'a> {
     /// Returns what is found before the first field.
-    fn nothing() -> Counted<'a>
+    fn nothing() -> FoundFields<'a>
         ensures { (fields : List FieldText) → AreFound result fields fields }
     {
-        Counted {
+        FoundFields {
             subject: Found::Nothing,
             authors: Found::Nothing,
             date: Found::Nothing,
@@ -71,11 +71,11 @@ impl<'a> Counted<'a> {
     }
 
     /// Returns what is found after one more field.
-    fn after(&self, field: &Field<'a>) -> Counted<'a>
+    fn after(&self, field: &Field<'a>) -> FoundFields<'a>
         ensures { (fields rest : List FieldText)
             → AreFound self.now fields (shown field.now ∷ rest) → AreFound result fields rest }
     {
-        Counted {
+        FoundFields {
             subject: self.subject.after(b"Subject", field),
             authors: self.authors.after(b"From", field),
             date: self.date.after(b"Date", field),
@@ -87,13 +87,13 @@ impl<'a> Counted<'a> {
     }
 
     /// Returns what is found of a text's fields.
-    pub(crate) fn of(text: &'a [u8]) -> Counted<'a>
+    pub(crate) fn of(text: &'a [u8]) -> FoundFields<'a>
         ensures { AreFound result (fields_of text.now) [] }
     {
-        let mut counted = Counted::nothing();
+        let mut found = FoundFields::nothing();
         for field in Fields::of(text) {
-            counted = counted.after(&field);
+            found = found.after(&field);
         }
-        counted
+        found
     }
 }

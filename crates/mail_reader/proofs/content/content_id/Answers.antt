@@ -29,22 +29,22 @@ returns c =
     ∙ ap sha256 (nine n1 n2 n3 n4 n5 n6 n7 (10 ∷ []) c.body.result.now ∙ ap (λ b. (n1 ++ (n2 ++ (n3 ++ (n4 ++ (n5 ++ (n6 ++ (n7 ++ []))))))) ++ (10 ∷ b)) c.body.ensures)
 
 pub hash_found-requires : goal.hash_found-requires
-hash_found-requires c = c.of-counted.ensures.subject
+hash_found-requires c = c.of-found.ensures.subject
 
 pub hash_found-2-requires : goal.hash_found-2-requires
-hash_found-2-requires c = c.of-counted.ensures.authors
+hash_found-2-requires c = c.of-found.ensures.authors
 
 pub hash_found-3-requires : goal.hash_found-3-requires
-hash_found-3-requires c = c.of-counted.ensures.date
+hash_found-3-requires c = c.of-found.ensures.date
 
 pub hash_found-4-requires : goal.hash_found-4-requires
-hash_found-4-requires c = c.of-counted.ensures.references
+hash_found-4-requires c = c.of-found.ensures.references
 
 pub hash_found-5-requires : goal.hash_found-5-requires
-hash_found-5-requires c = c.of-counted.ensures.replied
+hash_found-5-requires c = c.of-found.ensures.replied
 
 pub hash_found-6-requires : goal.hash_found-6-requires
-hash_found-6-requires c = c.of-counted.ensures.recipients
+hash_found-6-requires c = c.of-found.ensures.recipients
 
 pub hash_found-7-requires : goal.hash_found-7-requires
-hash_found-7-requires c = c.of-counted.ensures.copied
+hash_found-7-requires c = c.of-found.ensures.copied

@@ -1,4 +1,4 @@
-use Rattle.mail_reader.proofs.counting.Counted.after.Goals as goal
+use Rattle.mail_reader.proofs.counting.FoundFields.after.Goals as goal
 
 pub returns : goal.returns
 returns c = λ fields rest h. record {
