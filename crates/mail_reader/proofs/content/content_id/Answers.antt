@@ -31,20 +31,20 @@ returns c =
 pub hash_found-requires : goal.hash_found-requires
 hash_found-requires c = c.of-found.ensures.subject
 
-pub hash_found-2-requires : goal.hash_found-2-requires
-hash_found-2-requires c = c.of-found.ensures.authors
+pub hash_found-requires-2 : goal.hash_found-requires-2
+hash_found-requires-2 c = c.of-found.ensures.authors
 
-pub hash_found-3-requires : goal.hash_found-3-requires
-hash_found-3-requires c = c.of-found.ensures.date
+pub hash_found-requires-3 : goal.hash_found-requires-3
+hash_found-requires-3 c = c.of-found.ensures.date
 
-pub hash_found-4-requires : goal.hash_found-4-requires
-hash_found-4-requires c = c.of-found.ensures.references
+pub hash_found-requires-4 : goal.hash_found-requires-4
+hash_found-requires-4 c = c.of-found.ensures.references
 
-pub hash_found-5-requires : goal.hash_found-5-requires
-hash_found-5-requires c = c.of-found.ensures.replied
+pub hash_found-requires-5 : goal.hash_found-requires-5
+hash_found-requires-5 c = c.of-found.ensures.replied
 
-pub hash_found-6-requires : goal.hash_found-6-requires
-hash_found-6-requires c = c.of-found.ensures.recipients
+pub hash_found-requires-6 : goal.hash_found-requires-6
+hash_found-requires-6 c = c.of-found.ensures.recipients
 
-pub hash_found-7-requires : goal.hash_found-7-requires
-hash_found-7-requires c = c.of-found.ensures.copied
+pub hash_found-requires-7 : goal.hash_found-requires-7
+hash_found-requires-7 c = c.of-found.ensures.copied
