@@ -15,17 +15,17 @@ pub(crate) fn index_of(alloc: Global, entries: &[StoredEntry]) -> Result<Index, 
     let mut index = Index::new(alloc);
     // From the last to the first, so that the first entry of an id is the one that is found.
     for i in (0..entries.len()).rev() {
-        put_entry(&mut index, &entries[i])?;
+        put_entry(alloc, &mut index, &entries[i])?;
     }
     Ok(index)
 }
 
 /// Adds an entry to an index. It replaces those with its ids.
-fn put_entry(index: &mut Index, entry: &StoredEntry) -> Result<(), NoMemory>
+fn put_entry(alloc: Global, index: &mut Index, entry: &StoredEntry) -> Result<(), NoMemory>
     ensures { OnOk result (Puts index.old index.new entry.now.seen.id entry.now.seen.blob
         (owner_kept entry.now)) }
 {
-    let id = entry.seen.id.copy()?.into_vec();
+    let id = Vec::from_slice(alloc, entry.seen.id.as_slice())?;
     let owner = Owner {
         number: entry.number,
         content: entry.seen.content,

@@ -1,17 +1,17 @@
 -- The entry at the front of bytes, by its parts.
 use Rattle.std.proofs.Common.{◌≡◌, ◌≢◌, ℕ, ◌+◌, ◌≤◌, List, ◌++◌, length, take, drop, Option, Some, None, Result, Ok, Err, sym, ap, subst, ◌∙◌, arith}
-use Rattle.std.proofs.lemmas.List.{take_at, take-append-drop}
+use Rattle.std.proofs.lemmas.List.{take_at, take-append-drop, take-take, append_cancel_left}
 use Rattle.std.proofs.lemmas.Option.{none-some, same_Some}
 use Rattle.arch_base.specs.declared.ids.Id20.{Id20}
 use Rattle.arch_base.specs.declared.sequence.NoMemory.{NoMemory}
 use Rattle.git_objects.specs.declared.commits.Commit.{Commit}
 use Rattle.git_objects.specs.Commits.{IsCommit, IsParent, commit_content}
-use Rattle.git_objects.specs.Objects.{id_of}
+use Rattle.git_objects.specs.Objects.{blob_spelling, id_of}
 use Rattle.git_objects.proofs.ObjectIds.{IsId-id_of}
 use Rattle.mail_reader.specs.StorageTexts.{IsStorageText}
 use Rattle.mail_commits.specs.declared.commits.EntryIds.{EntryIds}
 use Rattle.mail_commits.specs.Commits.{commit_of}
-use Rattle.mail_commits.specs.Entries.{tree_of, entry_bytes}
+use Rattle.mail_commits.specs.Entries.{tree_of, commit_text, entry_bytes}
 use Rattle.epoch_file.specs.declared.entry.Seen.{Seen}
 use Rattle.epoch_file.specs.declared.reading.Parts.{Parts}
 use Rattle.epoch_file.specs.Entries.{EpochEntry, IsEpochEntry, bytes_after}
@@ -53,6 +53,36 @@ reads-moment offset parent bytes parts moment (Err e) again reads = tt
 -- If there is no moment.
 pub reads-no_moment : (offset : ℕ) (parent : Option Id20) (bytes : List ℕ) (parts : Parts) → MomentAgain parts.commit.now None → ReadsWhere (λ e. HasParts parent e parts) offset parent bytes (Ok None)
 reads-no_moment offset parent bytes parts again = λ p e rest valid is has. none-some e.moment (moment_is parent e parts None p valid has again)
+
+-- Two pieces with equal ones in their place.
+pub joined-pieces : (a b x y : List ℕ) → a ≡ x → b ≡ y → (a ++ b ≡ x ++ y) × (x ++ y ≡ a ++ b)
+joined-pieces a b x y first second =
+    let both : a ++ b ≡ x ++ y = λ i. first i ++ second i in
+    (both, sym both)
+
+-- The tree and the commit that follow the blob of bytes, in the bytes of the three objects.
+abbrev pub after_blob_in : Parts → List ℕ → List ℕ
+after_blob_in parts bytes = drop parts.blob (take parts.size bytes)
+
+-- The three objects are the blob, and what follows it.
+blob_and_after : (bytes : List ℕ) (parts : Parts) → IsParted bytes parts → take parts.size bytes ≡ blob_spelling parts.text.now ++ after_blob_in parts bytes
+blob_and_after bytes parts parted =
+    sym (take-append-drop parts.blob (take parts.size bytes)) ∙ ap (λ (l : List ℕ). l ++ after_blob_in parts bytes) (take-take parts.blob parts.size bytes parted.blob_inside ∙ parted.spelled)
+
+-- They are those of an entry if the tree and the commit are.
+pub entry_whole : (bytes objects : List ℕ) (parts : Parts) (moment : ℕ) (parent : Option Id20) → IsParted bytes parts → objects ≡ after_blob_in parts bytes
+    → objects ≡ tree_of parts.kind parts.text.now ++ commit_text parts.kind parts.text.now moment parent → take parts.size bytes ≡ entry_bytes parts.kind parts.text.now moment parent
+unfolding entry_bytes
+entry_whole bytes objects parts moment parent parted cut same =
+    blob_and_after bytes parts parted ∙ ap (λ (l : List ℕ). blob_spelling parts.text.now ++ l) (sym cut ∙ same)
+
+-- And only then.
+pub entry_pieces : (bytes objects : List ℕ) (parts : Parts) (moment : ℕ) (parent : Option Id20) → IsParted bytes parts → objects ≡ after_blob_in parts bytes
+    → take parts.size bytes ≡ entry_bytes parts.kind parts.text.now moment parent → objects ≡ tree_of parts.kind parts.text.now ++ commit_text parts.kind parts.text.now moment parent
+unfolding entry_bytes
+entry_pieces bytes objects parts moment parent parted cut same =
+    let objects_of = tree_of parts.kind parts.text.now ++ commit_text parts.kind parts.text.now moment parent in
+    cut ∙ append_cancel_left (blob_spelling parts.text.now) (after_blob_in parts bytes) objects_of (sym (blob_and_after bytes parts parted) ∙ same)
 
 -- If the text is no storage text.
 pub reads-unstored : (offset : ℕ) (parent : Option Id20) (bytes : List ℕ) (parts : Parts) (moment : ℕ) → (IsStorageText parts.text.now → ⊥)

@@ -1,15 +1,21 @@
 -- The object found at the front of bytes is the one spelled there.
-use Rattle.std.proofs.Common.{◌≡◌, ℕ, List, sym, ap, ◌∙◌, Bor}
+use Rattle.std.proofs.Common.{◌≡◌, ℕ, ◌-◌, List, take, sym, ap, ◌∙◌, Bor, arith}
 use Rattle.arch_base.specs.declared.ids.Id20.{Id20}
 use Rattle.git_objects.specs.declared.entry_kind.EntryKind.{EntryKind}
 use Rattle.git_objects.specs.declared.objects.Object.{Object}
 use Rattle.git_objects.specs.declared.objects.Object.TheVariants.{Blob, Tree, Commit}
-use Rattle.git_objects.specs.Objects.{BlobOf, TreeOf, CommitOf}
-use Rattle.git_objects.specs.Reading.{shown}
+use Rattle.git_objects.specs.Objects.{BlobOf, TreeOf, CommitOf, blob_spelling, spelling}
+use Rattle.git_objects.specs.Reading.{IsFront, shown}
 
 -- A blob.
 pub blob_is : (found : Object) (held : Bor (List ℕ)) (content : List ℕ) → found ≡ Blob held → shown found ≡ BlobOf content → held.now ≡ content
 blob_is found held content is e = let same : BlobOf held.now ≡ BlobOf content = ap shown (sym is) ∙ e in cc
+
+-- The bytes start with the blob.
+pub blob_ahead_is : (bytes : List ℕ) (found : Object) (held : Bor (List ℕ)) (len : ℕ) → found ≡ Blob held → IsFront bytes (shown found) len → take len bytes ≡ blob_spelling held.now
+blob_ahead_is bytes found held len is front =
+    let whole : len ≡ len - 0 = omega arith in
+    ap (λ (n : ℕ). take n bytes) whole ∙ (front.spelled ∙ ap (λ (object : Object). spelling (shown object)) is)
 
 -- A tree.
 pub tree_is : (found : Object) (m : EntryKind) (i : Id20) (kind : EntryKind) (id : Id20) → found ≡ Tree m i → shown found ≡ TreeOf kind id → m ≡ kind

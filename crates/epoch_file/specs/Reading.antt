@@ -1,24 +1,26 @@
 -- The results of reading an entry at the front of bytes.
-use Rattle.std.specs.Prelude.{◌≡◌, ◌≢◌, ℕ, ◌+◌, ◌≤◌, List, ◌++◌, length, Option, Some, None, Result, Ok, Err, MatchOption, [], unwrap_or}
+use Rattle.std.specs.Prelude.{◌≡◌, ◌≢◌, ℕ, ◌+◌, ◌≤◌, List, ◌++◌, length, take, Option, Some, None, Result, Ok, Err, MatchOption, [], unwrap_or}
 use Rattle.arch_base.specs.declared.ids.Id20.{Id20}
 use Rattle.arch_base.specs.declared.sequence.NoMemory.{NoMemory}
 use Rattle.git_objects.specs.declared.entry_kind.EntryKind.{EntryKind}
 use Rattle.git_objects.specs.Commits.{commit_content, IsParent}
-use Rattle.git_objects.specs.Objects.{blob_id_of, id_of}
+use Rattle.git_objects.specs.Objects.{blob_id_of, blob_spelling, id_of}
 use Rattle.mail_reader.specs.Content.{content_id_of}
 use Rattle.mail_reader.specs.Ids.{own_id}
 use Rattle.mail_commits.specs.declared.commits.EntryIds.{EntryIds}
 use Rattle.mail_commits.specs.Commits.{commit_of}
-use Rattle.mail_commits.specs.Entries.{tree_of, commit_id, entry_bytes}
+use Rattle.mail_commits.specs.Entries.{tree_of, commit_id, commit_text}
 use Rattle.epoch_file.specs.declared.entry.Seen.{Seen}
 use Rattle.epoch_file.specs.declared.reading.Parts.{Parts}
 use Rattle.epoch_file.specs.Entries.{EpochEntry, IsEpochEntry, bytes_after}
 use Rattle.epoch_file.specs.Walking.{blob_front, seen_at, LacksEntry}
 
--- Parts of bytes: their lengths are within the bytes.
+-- Parts of bytes: their lengths are within the bytes, which start with the blob of the text.
 pub record IsParted (bytes : List ℕ) (parts : Parts) : Type 0 where
   pub inside : parts.size ≤ length bytes
   pub front : parts.front ≤ parts.size
+  pub blob_inside : parts.blob ≤ parts.size
+  pub spelled : take parts.blob bytes ≡ blob_spelling parts.text.now
 
 -- The parts of an entry.
 pub record HasParts (parent : Option Id20) (e : EpochEntry) (parts : Parts) : Type 0 where
@@ -42,12 +44,14 @@ pub record AreIds (kind : EntryKind) (text : List ℕ) (moment : ℕ) (parent : 
   pub blob : ids.blob ≡ blob_id_of text
   pub commit : ids.commit ≡ commit_id kind text moment parent
 
--- The bytes are those of an entry with these ids, or they are others.
+-- The bytes are the tree and the commit of an entry with these ids, or they are others.
 abbrev pub Respells : List ℕ → EntryKind → List ℕ → ℕ → Option Id20
     → Result (Option EntryIds) NoMemory → Type 0
-Respells bytes kind text moment parent (Ok None) = bytes ≢ entry_bytes kind text moment parent
+Respells bytes kind text moment parent (Ok None) =
+    bytes ≢ tree_of kind text ++ commit_text kind text moment parent
 Respells bytes kind text moment parent (Ok (Some ids)) =
-    (bytes ≡ entry_bytes kind text moment parent) × AreIds kind text moment parent ids
+    (bytes ≡ tree_of kind text ++ commit_text kind text moment parent)
+    × AreIds kind text moment parent ids
 Respells bytes kind text moment parent (Err e) = Unit {0}
 
 -- An entry that bytes start with: what is recorded of it at its offset, and its length.

@@ -1,5 +1,5 @@
 //! Reads an entry from the front of bytes.
-ghost use Rattle.std.specs.Prelude.{◌≡◌, ◌+◌, ◌-◌, ◌<◌, ◌≤◌, ◌^◌, ◌++◌, ℕ, List, [], Some, None, length, unwrap_or, IfSome, IfOk, MatchOption};
+ghost use Rattle.std.specs.Prelude.{◌≡◌, ◌+◌, ◌-◌, ◌<◌, ◌≤◌, ◌^◌, ◌++◌, ℕ, List, Some, None, length, take, IfSome, IfOk, IsTrue, ◌↔◌, MatchOption};
 ghost use Rattle.arch_base.specs.Ids.{IsId};
 ghost use Rattle.arch_base.specs.declared.ids.Id20.{Id20};
 ghost use Rattle.git_objects.specs.declared.commits.Commit.{Commit as CommitRecord};
@@ -7,14 +7,16 @@ ghost use Rattle.git_objects.specs.declared.entry_kind.EntryKind.{EntryKind};
 ghost use Rattle.git_objects.specs.Commits.{IsCommit, commit_content};
 ghost use Rattle.git_objects.specs.Objects.{CommitOf, HasSize, blob_spelling, spelling, tree_spelling};
 ghost use Rattle.mail_reader.specs.Ids.{own_id as own_id_of};
+ghost use Rattle.mail_reader.specs.StorageTexts.{IsStorageText};
 ghost use Rattle.arch_base.specs.Moments.{last_moment};
 ghost use Rattle.epoch_file.specs.Reading.{IsParted, HasParts, PartsAgain, Respells, Reads, ReadsWhere, seen_by};
 
 use crate::entry::Seen;
+use crate::sight::after;
 use arch_base::{Bytes, LAST_MOMENT, NoMemory, ObjectId};
-use git_objects::{EntryKind, Object, read_commit, read_object};
-use mail_commits::{EntryIds, push_entry};
-use mail_reader::{content_id, is_stored, own_id};
+use git_objects::{EntryKind, Object, committed_at, read_object};
+use mail_commits::{EntryIds, entry_objects};
+use mail_reader::{content_id, stored_id};
 use std::alloc::Global;
 
 /// The three objects at the front of bytes.
@@ -26,6 +28,8 @@ pub(crate) struct Parts<'a> {
     text: &'a [u8],
     /// The number of bytes before it.
     front: usize,
+    /// The number of bytes of the blob.
+    blob: usize,
     /// The commit's content.
     commit: &'a [u8],
     /// The number of bytes of the three objects.
@@ -45,6 +49,7 @@ fn read_parts(bytes: &[u8]) -> Option<Parts<'_>>
         kind,
         text,
         front: blob - text.len(),
+        blob,
         commit,
         size: at + len,
     })
@@ -54,6 +59,8 @@ fn read_parts(bytes: &[u8]) -> Option<Parts<'_>>
 fn blob_ahead(bytes: &[u8]) -> Option<(&[u8], usize)>
     ensures inside { IfSome result (λ found. (length found.0.now ≤ found.1)
         × (found.1 ≤ length bytes.now)) }
+    ensures spelled { IfSome result (λ found.
+        take found.1 bytes.now ≡ blob_spelling found.0.now) }
     ensures again { (content rest : List ℕ) → HasSize content
         → bytes.now ≡ blob_spelling content ++ rest
         → MatchOption result ⊥ (λ found. (found.0.now ≡ content)
@@ -96,23 +103,19 @@ fn commit_ahead(bytes: &[u8]) -> Option<(&[u8], usize)>
 /// Returns the moment in a commit's content.
 ///
 /// The result is `None` if the content is no commit's, or the moment is after the last.
-fn moment_of(alloc: Global, content: &[u8]) -> Result<Option<u64>, NoMemory>
-    ensures bound { IfOk result (λ found. IfSome found (λ moment. moment ≤ last_moment)) }
+fn moment_of(content: &[u8]) -> Option<u64>
+    ensures bound { IfSome result (λ moment. moment ≤ last_moment) }
     ensures again { (c : CommitRecord) → IsCommit c → content.now ≡ commit_content c
-        → c.committed ≤ last_moment → IfOk result (λ found. found ≡ Some c.committed) }
+        → c.committed ≤ last_moment → result ≡ Some c.committed }
 {
-    match read_commit(alloc, content)? {
-        Some(commit) => {
-            if commit.committed > LAST_MOMENT {
-                return Ok(None);
-            }
-            Ok(Some(commit.committed))
-        }
-        None => Ok(None),
+    let moment = committed_at(content)?;
+    if moment > LAST_MOMENT {
+        return None;
     }
+    Some(moment)
 }
 
-/// Returns the ids of blob and commit if the bytes are those of an entry.
+/// Returns the ids of an entry's blob and commit if the bytes are its tree and its commit.
 fn respell(
     alloc: Global,
     bytes: &[u8],
@@ -123,23 +126,21 @@ fn respell(
 ) -> Result<Option<EntryIds>, NoMemory>
     ensures { Respells bytes.now kind text.now moment parent result }
 {
-    let mut spelled = Bytes::new(alloc);
-    let ids = push_entry(alloc, kind, text, moment, parent, &mut spelled)?;
-    if spelled.as_slice() != bytes {
+    let objects = entry_objects(alloc, kind, text, moment, parent)?;
+    if !is_joined(bytes, &objects.tree, objects.commit.as_slice()) {
         return Ok(None);
     }
-    Ok(Some(ids))
+    Ok(Some(objects.ids))
 }
 
-/// Returns a copy of the own id of a text, empty if it has none.
-fn id_of(alloc: Global, text: &[u8]) -> Result<Bytes, NoMemory>
-    ensures { IfOk result (λ id. id ≡ unwrap_or (own_id_of text.now) []) }
+/// Returns whether bytes are two others, one after the other.
+fn is_joined(bytes: &[u8], first: &[u8], second: &[u8]) -> bool
+    ensures { IsTrue result ↔ bytes.now ≡ first.now ++ second.now }
 {
-    let mut id = Bytes::new(alloc);
-    if let Some(own) = own_id(text) {
-        id.push_slice(own)?;
+    match after(first, bytes) {
+        Some(rest) => rest == second,
+        None => false,
     }
-    Ok(id)
 }
 
 /// Reads the entry after a parent that bytes start with, and returns it and its length.
@@ -174,7 +175,7 @@ fn read_in_parts(
     requires again { PartsAgain bytes.now (Some parts.now) }
     ensures { ReadsWhere (λ e. HasParts parent e parts.now) offset parent bytes.now result }
 {
-    match moment_of(alloc, parts.commit)? {
+    match moment_of(parts.commit) {
         Some(moment) => read_at_moment(alloc, offset, bytes, parent, parts, moment),
         None => Ok(None),
     }
@@ -196,12 +197,34 @@ fn read_at_moment(
     ensures { ReadsWhere (λ e. HasParts parent e parts.now
         × (moment ≡ e.moment)) offset parent bytes.now result }
 {
-    if !is_stored(parts.text) {
-        return Ok(None);
+    match stored_id(parts.text) {
+        Some(id) => read_with_id(alloc, offset, bytes, parent, parts, moment, id),
+        None => Ok(None),
     }
-    let spelling = bytes.split_at(parts.size).0;
-    match respell(alloc, spelling, parts.kind, parts.text, moment, parent)? {
-        Some(ids) => Ok(Some((seen_of(alloc, offset, parts, moment, &ids)?, parts.size))),
+}
+
+/// Reads the entry, given its objects, its moment and its text's own id.
+fn read_with_id(
+    alloc: Global,
+    offset: u64,
+    bytes: &[u8],
+    parent: Option<ObjectId>,
+    parts: &Parts<'_>,
+    moment: u64,
+    id: &[u8],
+) -> Result<Option<(Seen, usize)>, NoMemory>
+    requires room { offset + length bytes.now < 2 ^ 64 }
+    requires parted { IsParted bytes.now parts.now }
+    requires again { PartsAgain bytes.now (Some parts.now) }
+    requires moment { moment ≤ last_moment }
+    requires stored { IsStorageText parts.now.text.now }
+    requires id { own_id_of parts.now.text.now ≡ Some id.now }
+    ensures { ReadsWhere (λ e. HasParts parent e parts.now
+        × (moment ≡ e.moment)) offset parent bytes.now result }
+{
+    let objects = bytes.split_at(parts.size).0.split_at(parts.blob).1;
+    match respell(alloc, objects, parts.kind, parts.text, moment, parent)? {
+        Some(ids) => Ok(Some((seen_of(alloc, offset, parts, moment, &ids, id)?, parts.size))),
         None => Ok(None),
     }
 }
@@ -213,8 +236,10 @@ fn seen_of(
     parts: &Parts<'_>,
     moment: u64,
     ids: &EntryIds,
+    id: &[u8],
 ) -> Result<Seen, NoMemory>
-    requires { offset + parts.now.front < 2 ^ 64 }
+    requires room { offset + parts.now.front < 2 ^ 64 }
+    requires id { own_id_of parts.now.text.now ≡ Some id.now }
     ensures { IfOk result (λ seen. seen ≡ seen_by offset parts.now moment ids.now) }
 {
     Ok(Seen {
@@ -225,7 +250,7 @@ fn seen_of(
         blob: ids.blob,
         commit: ids.commit,
         moment,
-        id: id_of(alloc, parts.text)?,
+        id: Bytes::from_vec(Vec::from_slice(alloc, id)?),
         content: content_id(parts.text),
     })
 }

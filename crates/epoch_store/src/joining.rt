@@ -93,7 +93,8 @@ impl Joining {
             mut known,
             mut entries,
         } = self;
-        if !add_id(&mut known.ids, &seen.id)? {
+        let alloc = *entries.allocator();
+        if !add_id(alloc, &mut known.ids, &seen.id)? {
             return Err(JoinRefusal::Damaged { at });
         }
         if !add_blob(&mut known.blobs, &seen.blob)? {

@@ -59,10 +59,14 @@ pub(crate) fn known_of_none(alloc: Global) -> Known
 }
 
 /// Adds an own id, and returns whether it is new.
-pub(crate) fn add_id(ids: &mut BTreeSet<Vec<u8>>, id: &Bytes) -> Result<bool, NoMemory>
+pub(crate) fn add_id(
+    alloc: Global,
+    ids: &mut BTreeSet<Vec<u8>>,
+    id: &Bytes,
+) -> Result<bool, NoMemory>
     ensures { IfOk result (AddsOne (id_in ids.old) (id_in ids.new) id.now) }
 {
-    let key = id.copy()?.into_vec();
+    let key = Vec::from_slice(alloc, id.as_slice())?;
     Ok(ids.insert(key)?)
 }
 

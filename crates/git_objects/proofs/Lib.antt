@@ -8,3 +8,4 @@ pub mod HexLines
 pub mod Zones
 pub mod CommitParts
 pub mod ObjectIds
+mod CommitLines

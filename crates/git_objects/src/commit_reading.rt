@@ -1,10 +1,11 @@
 //! Reads commits.
-ghost use Rattle.std.specs.Prelude.{◌≡◌, ◌<◌, IfOk, ◌^◌, ℕ, slice_index, Some, MatchOption, false};
+ghost use Rattle.std.specs.Prelude.{◌≡◌, ◌<◌, IfOk, ◌^◌, ◌++◌, ◌∷◌, ℕ, List, Option, codes, slice_index, Some, MatchOption, false};
+ghost use Rattle.arch_base.specs.declared.ids.Id20.{Id20};
 ghost use Rattle.arch_base.specs.Ids.{IsId};
 ghost use Rattle.git_objects.specs.declared.commits.Commit.{Commit as CommitRecord};
 ghost use Rattle.git_objects.specs.CleanText.{IsClean, is_clean_byte};
-ghost use Rattle.git_objects.specs.Fronts.{Lacks, Begins, Both, in_turn, led};
-ghost use Rattle.git_objects.specs.Commits.{IsCommit, IsContentOf, HoldsNoCommit, IsParent, IsNumber, IsZone, commit_content, hex_line, tree_line, parent_part, text_part, name_part, email_part, number_part, two_digits, zone_text, committed_part, IsBelow100};
+ghost use Rattle.git_objects.specs.Fronts.{Lacks, Begins, Both, NoByte, in_turn, led};
+ghost use Rattle.git_objects.specs.Commits.{IsCommit, IsContentOf, HoldsNoCommit, IsParent, IsNumber, IsZone, commit_content, hex_line, tree_line, parent_line, parent_part, text_part, name_part, email_part, number_part, two_digits, zone_text, committed_part, IsBelow100};
 ghost use Rattle.git_objects.specs.Reading.{ReadsCommit, commit_of};
 
 use crate::clean_text::is_clean;
@@ -34,6 +35,43 @@ pub fn read_commit(alloc: Global, content: &[u8]) -> Result<Option<Commit>, NoMe
         committed: parts.committed,
         subject: copied(alloc, parts.subject)?,
     }))
+}
+
+/// Returns when a commit was made, by its content, in seconds since 1970.
+///
+/// Skips the lines of tree, parent and author. So the result may be anything for bytes that are no
+/// commit's content.
+pub fn committed_at(content: &[u8]) -> Option<u64>
+    ensures { (c : CommitRecord) → IsCommit c → content.now ≡ commit_content c
+        → result ≡ Some c.committed }
+{
+    let unread = after_line(content)?;
+    let author = after_parent(unread)?;
+    let committer = after_line(author)?;
+    let number = after(b"committer piv2 <piv2@localhost> ", committer)?;
+    let (committed, _rest) = read_number(b' ', number)?;
+    Some(committed)
+}
+
+/// Returns the bytes after the first line.
+fn after_line(bytes: &[u8]) -> Option<&[u8]>
+    ensures { (line rest : List ℕ) → NoByte 10 line → bytes.now ≡ line ++ 10 ∷ rest
+        → MatchOption result ⊥ (λ found. found.now ≡ rest) }
+{
+    let parted = parted_at(b'\n', bytes)?;
+    Some(parted.1)
+}
+
+/// Returns the bytes after the line of the parent, if they start with one.
+fn after_parent(bytes: &[u8]) -> Option<&[u8]>
+    ensures { (parent : Option Id20) (rest : List ℕ)
+        → bytes.now ≡ parent_line parent (codes "author " ++ rest)
+        → MatchOption result ⊥ (λ found. found.now ≡ codes "author " ++ rest) }
+{
+    match after(b"parent ", bytes) {
+        Some(id) => after_line(id),
+        None => Some(bytes),
+    }
 }
 
 /// Returns a copy of the bytes.

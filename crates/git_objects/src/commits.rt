@@ -1,5 +1,5 @@
 //! Commits and their spelling.
-ghost use Rattle.std.specs.Prelude.{◌≡◌, ◌++◌, ℕ, List, IfOk, OnOk};
+ghost use Rattle.std.specs.Prelude.{◌≡◌, ◌++◌, ℕ, List, [], IfOk, OnOk};
 ghost use Rattle.git_objects.specs.CleanText.{IsClean};
 ghost use Rattle.git_objects.specs.Fronts.{Appends};
 ghost use Rattle.git_objects.specs.Commits.{IsZone, hex_line, parent_line, number_part, zone_text as zone_digits, author_line, committed_part, commit_spelling, commit_content as content_of_commit};
@@ -38,11 +38,24 @@ pub fn commit_bytes(alloc: Global, commit: &Commit) -> Result<Bytes, NoMemory>
     ensures { IfOk result (λ made. made ≡ commit_spelling commit.now) }
 {
     let content = commit_content(alloc, commit)?;
-    let mut bytes = Bytes::new(alloc);
+    let mut bytes = with_room(alloc, content.as_slice().len().saturating_add(HEAD_ROOM))?;
     bytes.push_slice(b"commit ")?;
     push_number(&mut bytes, content.as_slice().len() as u64, 0)?;
     bytes.push_slice(content.as_slice())?;
     Ok(bytes)
+}
+
+/// The room that the content of most commits needs, in bytes.
+const CONTENT_ROOM: usize = 320;
+
+/// The most bytes that a commit's spelling has before its content.
+const HEAD_ROOM: usize = 28;
+
+/// Returns an empty list with room for so many bytes.
+fn with_room(alloc: Global, len: usize) -> Result<Bytes, NoMemory>
+    ensures { IfOk result (λ made. made ≡ []) }
+{
+    Ok(Bytes::from_vec(Vec::with_capacity(alloc, len)?))
 }
 
 /// Returns the content of a commit.
@@ -50,7 +63,7 @@ fn commit_content(alloc: Global, commit: &Commit) -> Result<Bytes, NoMemory>
     requires { IsZone commit.now.zone }
     ensures { IfOk result (λ made. made ≡ content_of_commit commit.now) }
 {
-    let mut content = Bytes::new(alloc);
+    let mut content = with_room(alloc, CONTENT_ROOM)?;
     push_id(&mut content, b"tree ", &commit.tree)?;
     push_parent(&mut content, &commit.parent)?;
     push_author(&mut content, commit)?;

@@ -11,7 +11,7 @@ mod fronts;
 mod kinds;
 mod objects;
 
-pub use commit_reading::read_commit;
+pub use commit_reading::{committed_at, read_commit};
 pub use commits::{Commit, commit_bytes};
 pub use entry_kind::EntryKind;
 pub use objects::{Object, blob_id, object_id, read_object, spellings_stand_apart, tree_bytes};

@@ -80,15 +80,52 @@ pub fn push_entry(
     ensures ok { OnOk result (into.new ≡ into.old ++ entry_bytes kind text.now moment parent) }
     ensures err { OnErr result (into.new ≡ into.old) }
 {
-    let blob = blob_id(text);
+    let objects = entry_objects(alloc, kind, text, moment, parent)?;
     let head = blob_head(alloc, text.len())?;
+    push_all(
+        into,
+        head.as_slice(),
+        text,
+        &objects.tree,
+        objects.commit.as_slice(),
+    )?;
+    Ok(objects.ids)
+}
+
+/// The objects of an entry after its blob, as they are spelled.
+#[derive(Debug, Drop)]
+pub struct EntryObjects {
+    /// The ids of its blob and its commit.
+    pub ids: EntryIds,
+    /// Its tree.
+    pub tree: [u8; 37],
+    /// Its commit.
+    pub commit: Bytes,
+}
+
+/// Returns the tree and the commit of an entry, and the ids of its blob and its commit.
+///
+/// They are those that `push_entry` appends after the blob. `NoMemory` if an allocation fails.
+pub fn entry_objects(
+    alloc: Global,
+    kind: EntryKind,
+    text: &[u8],
+    moment: u64,
+    parent: Option<ObjectId>,
+) -> Result<EntryObjects, NoMemory>
+    ensures blob { IfOk result (λ made. made.ids.blob ≡ blob_id_of text.now) }
+    ensures commit { IfOk result (λ made. made.ids.commit ≡ commit_id kind text.now moment parent) }
+    ensures tree { IfOk result (λ made. made.tree ≡ tree_of kind text.now) }
+    ensures spelled { IfOk result (λ made. made.commit ≡ commit_text_of kind text.now moment parent) }
+{
+    let blob = blob_id(text);
     let tree = tree_bytes(kind, &blob);
     let commit = commit_text(alloc, kind, text, &tree, parent, moment)?;
-    push_all(into, head.as_slice(), text, &tree, commit.as_slice())?;
-    Ok(EntryIds {
+    let ids = EntryIds {
         blob,
         commit: object_id(commit.as_slice()),
-    })
+    };
+    Ok(EntryObjects { ids, tree, commit })
 }
 
 /// Returns the form of the commit of an entry of a kind. `tree` is the form of its tree.

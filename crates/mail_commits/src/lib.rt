@@ -4,4 +4,4 @@
 mod commits;
 mod facts;
 
-pub use commits::{EntryIds, MAGIC, entry_commit, push_entry};
+pub use commits::{EntryIds, EntryObjects, MAGIC, entry_commit, entry_objects, push_entry};

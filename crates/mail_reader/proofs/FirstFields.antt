@@ -1,5 +1,5 @@
 -- The front of a text: a line, continuation lines, a field, or no field.
-use Rattle.std.proofs.Common.{◌≡◌, ℕ, ◌+◌, ◌<◌, ◌≤◌, suc, Bool, true, false, cond, eqb, ◌||◌, List, [], ◌∷◌, ◌++◌, length, take, drop, map, get_or, refl, sym, ap, ◌∙◌, append_assoc, arith, length-drop, subst}
+use Rattle.std.proofs.Common.{◌≡◌, ℕ, ◌+◌, ◌<◌, ◌≤◌, zero, suc, Bool, true, false, cond, eqb, ◌||◌, List, [], ◌∷◌, ◌++◌, length, take, drop, map, get_or, refl, sym, ap, ◌∙◌, append_assoc, arith, length-drop, subst}
 use Rattle.std.specs.List.{onto_first, prefix_len}
 use Rattle.std.proofs.lemmas.List.{take_more, take_all, drop_all, take-take, take-append-drop, drop-take, drop-drop, length-take-le, append-nil, length-map}
 use Rattle.mail_reader.specs.Lines.{lines_of, is_name_byte, is_field_line, is_continuation, front, after_front, header_lines, after_header}
@@ -89,10 +89,23 @@ from_stops bytes n h s = record {
   after = h.after ∙ s.after;
 }
 
-pub Continues-stop : (bytes : List ℕ) (n : ℕ) (line : List ℕ) (lines : List (List ℕ)) → Continuing bytes n → lines_of (drop n bytes) ≡ line ∷ lines
-    → is_continuation line ≡ false → Continues bytes n
-Continues-stop bytes n line lines h e c =
-    from_stops bytes n h (let P : List (List ℕ) → Type 0 = λ ls. Stops ls in subst P (sym e) (Stops-at line lines c))
+-- Whether bytes start with a continuation line is told by the first of them.
+pub is_continuation-line : (n : ℕ) (bytes : List ℕ) → 0 < n → is_continuation (take n bytes) ≡ is_continuation bytes
+is_continuation-line zero bytes some = absurd (omega arith)
+is_continuation-line (suc n) [] some = refl
+is_continuation-line (suc n) (b ∷ bs) some = refl
+
+Stops-of : (bytes : List ℕ) → is_continuation bytes ≡ false → Stops (lines_of bytes)
+Stops-of [] c = Stops-none
+Stops-of (b ∷ bs) c = by (eqb b 10) (lines_of bs) c
+  where
+    by : (t : Bool) (ls : List (List ℕ)) → (eqb b 32 || eqb b 9) ≡ false → Stops (cond t ((b ∷ []) ∷ ls) (onto_first b ls))
+    by true ls c = Stops-at (b ∷ []) ls c
+    by false [] c = Stops-at (b ∷ []) [] c
+    by false (l ∷ ls) c = Stops-at (b ∷ l) ls c
+
+pub Continues-stop : (bytes : List ℕ) (n : ℕ) → Continuing bytes n → is_continuation (drop n bytes) ≡ false → Continues bytes n
+Continues-stop bytes n h c = from_stops bytes n h (Stops-of (drop n bytes) c)
 
 pub Continues-all : (bytes : List ℕ) (n : ℕ) → Continuing bytes n → length bytes ≤ n → Continues bytes n
 Continues-all bytes n h l =

@@ -13,6 +13,8 @@ pub mod IdLines
 pub mod Blanks
 pub mod Squeezes
 pub mod Hashes
+mod StoredIds
+mod Countings
 pub mod Distincts
 pub mod PieceLaws
 pub mod Folding

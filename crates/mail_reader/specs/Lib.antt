@@ -6,6 +6,7 @@ pub mod Bodies
 pub mod Values
 pub mod References
 pub mod Content
+pub mod Counting
 pub mod StorageTexts
 pub mod Reading
 pub mod Keeping

@@ -1,8 +1,9 @@
 //! Checks whether a text is a storage text, without allocating.
-ghost use Rattle.std.specs.Prelude.{◌≡◌, ◌↔◌, ◌++◌, ◌∷◌, [], Some, IsTrue};
+ghost use Rattle.std.specs.Prelude.{◌≡◌, ◌↔◌, ◌++◌, ◌∷◌, [], Some, IsTrue, MatchOption};
 ghost use Rattle.std.specs.List.{concat};
 ghost use Rattle.mail_reader.specs.Stored.{storage_form, clean_lines};
 ghost use Rattle.mail_reader.specs.StorageTexts.{IsStorageText};
+ghost use Rattle.mail_reader.specs.Ids.{own_id as own_id_of};
 ghost use Rattle.mail_reader.specs.Checking.{Follows, FollowsFields, piece_at};
 
 use crate::lines::first_line;
@@ -17,7 +18,21 @@ const MAX_TEXT_LEN: usize = 8_388_800;
 pub fn is_stored(text: &[u8]) -> bool
     ensures { IsTrue result ↔ IsStorageText text.now }
 {
-    text.len() <= MAX_TEXT_LEN && is_form_of(text, text) && own_id(text).is_some()
+    stored_id(text).is_some()
+}
+
+/// Returns the own id of a storage text, in its brackets, or `None` for any other text.
+pub fn stored_id(text: &[u8]) -> Option<&[u8]>
+    ensures { MatchOption result (IsStorageText text.now → ⊥)
+        (λ id. IsStorageText text.now × (own_id_of text.now ≡ Some id.now)) }
+{
+    if text.len() > MAX_TEXT_LEN {
+        return None;
+    }
+    if !is_form_of(text, text) {
+        return None;
+    }
+    own_id(text)
 }
 
 /// Returns whether a text is the storage form of some bytes.

@@ -4,8 +4,10 @@ ghost use Rattle.std.specs.Str.{str_to_ascii_lowercase};
 ghost use Rattle.mail_reader.specs.Fields.{fields_of};
 ghost use Rattle.mail_reader.specs.Values.{flat_of};
 ghost use Rattle.mail_reader.specs.Content.{content_id_of, counted, counted_field, squeezed};
+ghost use Rattle.mail_reader.specs.Counting.{IsFound};
 ghost use Rattle.mail_reader.specs.Hashing.{Took, given_at, waiting, waits_after};
 
+use crate::counting::{Found, FoundFields};
 use crate::header::Fields;
 use crate::reading::{body, is_same_name};
 use crate::values::{space_for, trim};
@@ -19,17 +21,30 @@ use sha2::{Digest, Sha256};
 pub fn content_id(text: &[u8]) -> [u8; 32]
     ensures { result ≡ content_id_of text.now }
 {
+    let found = FoundFields::of(text);
     let mut hasher = Sha256::new();
-    hash_fields(&mut hasher, text, b"Subject");
-    hash_fields(&mut hasher, text, b"From");
-    hash_fields(&mut hasher, text, b"Date");
-    hash_fields(&mut hasher, text, b"References");
-    hash_fields(&mut hasher, text, b"In-Reply-To");
-    hash_fields(&mut hasher, text, b"To");
-    hash_fields(&mut hasher, text, b"Cc");
+    hash_found(&mut hasher, text, b"Subject", found.subject);
+    hash_found(&mut hasher, text, b"From", found.authors);
+    hash_found(&mut hasher, text, b"Date", found.date);
+    hash_found(&mut hasher, text, b"References", found.references);
+    hash_found(&mut hasher, text, b"In-Reply-To", found.replied);
+    hash_found(&mut hasher, text, b"To", found.recipients);
+    hash_found(&mut hasher, text, b"Cc", found.copied);
     hash_bytes(&mut hasher, b"\n");
     hash_bytes(&mut hasher, body(text));
     hasher.finalize()
+}
+
+/// Hashes the fields with a name, by what is found of them.
+fn hash_found(hasher: &mut Sha256, text: &[u8], name: &[u8], found: Found<'_>)
+    requires { IsFound name.now found (fields_of text.now) [] }
+    ensures { Took hasher.old hasher.new (counted name.now (fields_of text.now)) }
+{
+    match found {
+        Found::Nothing => {}
+        Found::Value(value) => hash_field(hasher, name, value),
+        Found::Several => hash_fields(hasher, text, name),
+    }
 }
 
 /// Hashes the fields with a name.

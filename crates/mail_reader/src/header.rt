@@ -98,11 +98,10 @@ fn continuation_len(bytes: &[u8]) -> usize
     let mut len = 0;
     while len < bytes.len() {
         let rest = &bytes[len..];
-        let line = line_len(rest);
-        if !is_continuation(&rest[..line]) {
+        if !is_continuation(rest) {
             return len;
         }
-        len += line;
+        len += line_len(rest);
     }
     len
 }

@@ -4,6 +4,7 @@
 
 mod checking;
 mod content;
+mod counting;
 mod header;
 mod ids;
 mod laws;
@@ -13,7 +14,7 @@ mod references;
 mod storing;
 mod values;
 
-pub use checking::is_stored;
+pub use checking::{is_stored, stored_id};
 pub use content::content_id;
 pub use header::{Field, Fields};
 pub use ids::Ids;

@@ -1,8 +1,8 @@
 //! Tests of ids and spellings against git, and of bytes that spell nothing.
 use arch_base::{Bytes, NoMemory, ObjectId, id_of_hex};
 use git_objects::{
-    Commit, EntryKind, Object, blob_id, commit_bytes, object_id, read_commit, read_object,
-    tree_bytes,
+    Commit, EntryKind, Object, blob_id, commit_bytes, committed_at, object_id, read_commit,
+    read_object, tree_bytes,
 };
 use std::alloc::Global;
 
@@ -120,6 +120,7 @@ fn has_fields(commit: &Commit, row: &Row<'_>) -> bool {
         && commit.secs == row.secs
         && commit.zone == row.zone
         && commit.committed == row.committed
+        && committed_at(row.content) == Some(row.committed)
         && commit.subject.as_slice() == row.subject
 }
 

@@ -5,6 +5,7 @@ use crate::case::{BytesCase, Case};
 use arch_base::{Bytes, NoMemory, decimal};
 use mail_reader::{
     Fields, StoredRefusal, body, content_id, fields, flat, is_stored, own_id, refs_of, stored,
+    stored_id,
 };
 use std::alloc::{AllocError, Global};
 
@@ -216,10 +217,10 @@ const NOT_STORED: [&[u8]; 10] = [
 #[test]
 fn storage_texts_are_told(rt: HostRuntime) {
     for text in &STORED {
-        assert!(rt; is_stored(text));
+        assert!(rt; is_stored(text) && stored_id(text) == own_id(text));
     }
     for text in &NOT_STORED {
-        assert!(rt; !is_stored(text));
+        assert!(rt; !is_stored(text) && stored_id(text).is_none());
     }
 }
 

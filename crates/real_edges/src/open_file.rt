@@ -5,11 +5,22 @@ use std::fs::File;
 use std::io;
 use std::os::unix::fs::FileExt;
 
-/// An open file, and whether it has changed since its last sync.
+/// What may have changed of a file since its last sync.
+#[derive(Clone, Copy, Drop)]
+enum Change {
+    /// Nothing.
+    Nothing,
+    /// Bytes before its end.
+    Bytes,
+    /// Its length, and any bytes.
+    Length,
+}
+
+/// An open file, and what may have changed of it since its last sync.
 #[derive(Drop)]
 pub(crate) struct OpenFile {
     file: File,
-    changed: bool,
+    change: Change,
 }
 
 impl OpenFile {
@@ -21,7 +32,7 @@ impl OpenFile {
         file.sync_all()?;
         Ok(OpenFile {
             file,
-            changed: false,
+            change: Change::Nothing,
         })
     }
 
@@ -44,22 +55,39 @@ impl OpenFile {
 
     /// Writes all bytes at an offset.
     pub(crate) fn write(&mut self, offset: u64, bytes: &[u8]) -> io::Result<()> {
-        self.changed = true;
+        if !self.holds(offset, bytes.len()) {
+            self.change = Change::Length;
+        } else if let Change::Nothing = self.change {
+            self.change = Change::Bytes;
+        }
         self.file.write_all_at(bytes, offset)
+    }
+
+    /// Returns whether the file is known to have as many bytes from an offset on.
+    fn holds(&self, offset: u64, count: usize) -> bool {
+        match self.length() {
+            Ok(length) => length.saturating_sub(offset) >= count as u64,
+            Err(_) => false,
+        }
     }
 
     /// Cuts the file to a length.
     pub(crate) fn cut(&mut self, length: u64) -> io::Result<()> {
-        self.changed = true;
+        self.change = Change::Length;
         self.file.set_len(length)
     }
 
     /// Syncs the file if it has changed. After a failure it still counts as changed.
+    ///
+    /// If its length stayed, the times that the system keeps of the file need not reach the disk,
+    /// and its bytes alone are synced.
     pub(crate) fn sync(&mut self) -> io::Result<()> {
-        if self.changed {
-            self.file.sync_all()?;
-            self.changed = false;
+        match self.change {
+            Change::Nothing => {}
+            Change::Bytes => self.file.sync_data()?,
+            Change::Length => self.file.sync_all()?,
         }
+        self.change = Change::Nothing;
         Ok(())
     }
 }

@@ -5,5 +5,5 @@ use Rattle.epoch_store.proofs.known.add_id.Goals as goal
 
 pub returns : goal.returns
 returns c =
-    adds_one (λ (k : Vec ℕ). k.items) c.into_vec-key.result c.args.id.now c.args.ids.now.keys c.insert.new.self.keys c.in_ok-insert.field-0 (search rules)
+    adds_one (λ (k : Vec ℕ). k.items) c.in_ok-key.key c.args.id.now c.args.ids.now.keys c.insert.new.self.keys c.in_ok-insert.field-0 (search rules)
     c.in_ok-insert.ensures.added c.in_ok-insert.ensures.keys
