@@ -1,5 +1,5 @@
 -- The own id of a storage text.
-use Rattle.std.proofs.Common.{◌≡◌, ◌<◌, ◌≤◌, ℕ, Bool, true, false, List, length, Option, Some, None, sym, subst, ◌∙◌, arith}
+use Rattle.std.proofs.Common.{◌≡◌, ◌<◌, ◌≤◌, ℕ, Bool, List, length, Option, Some, None, refl, sym, subst, ◌∙◌, arith}
 use Rattle.std.specs.Prelude.{◌↔◌, IsTrue, IsSome, MatchOption, is_some, option_copied}
 use Rattle.std.specs.Borrow.{Bor}
 use Rattle.std.proofs.lemmas.Bool.{false≢true}
@@ -16,10 +16,12 @@ too_long text long storage = let short = storage.short in omega (arith, long, sh
 
 -- A text of a storage text's length and form is one if it has an own id.
 pub id_of_form : (text : List ℕ) (found : Option (Bor (List ℕ))) → length text ≤ max_text_len → storage_form text ≡ Some text → option_copied found ≡ own_id text → FindsId text found
-id_of_form text None short form is = λ storage. let P : Option (List ℕ) → Type 0 = λ id. IsSome id in subst P (sym is) storage.id
+id_of_form text None short form is = λ storage.
+    let P : Option (List ℕ) → Type 0 = λ id. IsSome id in
+    absurd (false≢true (subst P (sym is) storage.id))
 id_of_form text (Some id) short form is =
     let P : Option (List ℕ) → Type 0 = λ here. IsSome here in
-    (record { short = short; form = form; id = subst P is tt }, sym is)
+    (record { short = short; form = form; id = subst P is refl }, sym is)
 
 -- A text is a storage text exactly if its own id is found so.
 pub stored_by_id : (text : List ℕ) (found : Option (Bor (List ℕ))) (answer : Bool) → answer ≡ is_some found → FindsId text found → IsTrue answer ↔ IsStorageText text

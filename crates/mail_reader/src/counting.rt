@@ -22,7 +22,7 @@ impl<'a> Found<'a> {
     /// Returns what is found of the fields with a name after one more field.
     fn after(self, name: &[u8], field: &Field<'a>) -> Found<'a>
         ensures { (fields rest : List FieldText)
-            → IsFound name.now self fields (shown field.now ∷ rest)
+            → IsFound name.now self.entry fields (shown field.now ∷ rest)
             → IsFound name.now result fields rest }
     {
         if !is_same_name(field.name, name) {

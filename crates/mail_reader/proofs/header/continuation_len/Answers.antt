@@ -15,12 +15,12 @@ returns-then-not-is_continuation c =
 pub loop-len-preserved : goal.loop-len-preserved
 loop-len-preserved c =
     let rest = drop c.loop-len.len c.args.bytes.now in
-    let some = c.line_len.ensures.some in
-    let lines = rw (take_rest c.args.bytes.now c.loop-len.len) at c.line_len.ensures.lines in
-    let within = rw (take_rest c.args.bytes.now c.loop-len.len) at c.line_len.ensures.within in
+    let some = c.line_len-len.ensures.some in
+    let lines = rw (take_rest c.args.bytes.now c.loop-len.len) at c.line_len-len.ensures.lines in
+    let within = rw (take_rest c.args.bytes.now c.loop-len.len) at c.line_len-len.ensures.within in
     let starts : is_continuation rest ≡ true = sym (rw (take_rest c.args.bytes.now c.loop-len.len) at c.is_continuation.ensures.value) ∙ c.if-not-is_continuation.false in
-    let is : is_continuation (take c.line_len.result rest) ≡ true = is_continuation-line c.line_len.result rest some ∙ starts in
-    Continuing-more c.args.bytes.now c.loop-len.len c.line_len.result c.loop-len.invariant within lines is
+    let is : is_continuation (take c.line_len-len.result rest) ≡ true = is_continuation-line c.line_len-len.result rest some ∙ starts in
+    Continuing-more c.args.bytes.now c.loop-len.len c.line_len-len.result c.loop-len.invariant within lines is
 
 pub returns : goal.returns
 returns c = Continues-all c.args.bytes.now c.loop-len.len c.loop-len.invariant (search rules)

@@ -1,4 +1,4 @@
-use Rattle.std.proofs.Common.{[], ◌∷◌, sym}
+use Rattle.std.proofs.Common.{[], ◌∷◌, sym, ◌∙◌}
 use Rattle.mail_reader.specs.Fields.{fields_of}
 use Rattle.mail_reader.specs.Reading.{shown}
 use Rattle.mail_reader.proofs.Countings.{are-found-at}
@@ -7,7 +7,7 @@ use Rattle.mail_reader.proofs.counting.FoundFields.of.Goals as goal
 pub loop-field-init : goal.loop-field-init
 loop-field-init c =
     let all = fields_of c.args.text.now in
-    are-found-at c.nothing-found.result all all c.of-field-iterator.result (sym c.of-field-iterator.ensures.value) (c.nothing-found.ensures all)
+    are-found-at c.nothing-found.result all all c.into_iter-field-iterator.result (sym (c.into_iter-field-iterator.ensures.into_iter_gives ∙ c.of-field-items.ensures.value)) (c.nothing-found.ensures all)
 
 pub loop-field-preserved : goal.loop-field-preserved
 loop-field-preserved c =
