@@ -1,6 +1,4 @@
-use Rattle.std.proofs.Common.{◌≡◌, ◌∷◌, ◌++◌, codes, Some, ap}
-use Rattle.git_objects.specs.declared.commits.Commit.{Commit}
-use Rattle.git_objects.specs.Commits.{IsCommit, commit_content}
+use Rattle.std.proofs.Common.{◌∷◌, Some, ap}
 use Rattle.git_objects.proofs.CommitLines.{tree_text, after_tree, person, author_text, committer_on, number_on, after_moment, tree_first, NoByte-tree, author_first, NoByte-author, number_there}
 use Rattle.git_objects.proofs.commit_reading.committed_at.Goals as goal
 
