@@ -1,5 +1,4 @@
-use Rattle.std.proofs.Common.{◌≡◌, ◌++◌, ◌∙◌}
-use Rattle.mail_commits.specs.Entries.{tree_of, commit_text}
+use Rattle.std.proofs.Common.{◌∙◌}
 use Rattle.epoch_file.proofs.Finding.{joined-pieces}
 use Rattle.epoch_file.proofs.reading.respell.Goals as goal
 
