@@ -1,4 +1,4 @@
-use Rattle.std.proofs.Common.{ℕ, false, Bool, subst, arith}
+use Rattle.std.proofs.Common.{◌≡◌, ℕ, false, Bool, subst, arith}
 use Rattle.line_door.specs.Acts.{outside}
 use Rattle.arch_model.proofs.Shelving.{stays-same, stays-joined}
 use Rattle.door_tests.proofs.Parts.{SoFar, sofar-none, sofar-absent, sofar-given, streams-end, streams-unread, streams-lost, streams-short}
@@ -47,5 +47,5 @@ returns-in-Lost-clause-acts g c = λ a h held.
 
 pub returns-clause-acts : goal.returns-clause-acts
 returns-clause-acts g c = λ a h held.
-    let whole = omega (arith, c.loop-at-test.false, c.loop-at.invariant.within) in
+    let whole : c.loop-at.at ≡ c.args.count = omega (arith, c.loop-at-test.false, c.loop-at.invariant.within) in
     rw c.is_ok-2.ensures (streams-end a c.args.low c.args.count h c.loop-at.begun _ _ _ c.say_line.result (subst (λ (n : ℕ). SoFar a.entries c.args.low n c.loop-at.begun _ _) whole (c.loop-at.invariant.so_far a held)) (omega arith) c.say_line.ensures.said)
