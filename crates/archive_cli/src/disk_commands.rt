@@ -1,7 +1,7 @@
 //! The work of `init`, `deliver` and `check` on the archive on a disk.
 //!
 //! Each takes the disk, and hands it back.
-ghost use Rattle.std.specs.Prelude.{◌≤◌, List, Option};
+ghost use Rattle.std.specs.Prelude.{◌≡◌, ◌≤◌, List, Option};
 ghost use Rattle.arch_base.specs.Configs.{IsConfig};
 ghost use Rattle.arch_base.specs.Counts.{RoseIf};
 ghost use Rattle.arch_base.specs.Moments.{last_moment};

@@ -34,7 +34,7 @@ pub returns-in-Unread-clause-acts : goal.returns-in-Unread-clause-acts
 returns-in-Unread-clause-acts g c = λ a h held.
     let part = c.in-Unread.ensures.part a (c.loop-at.invariant.shelf.kept a held) in
     let before = subst (λ (b : Bool). SoFar a.entries c.args.low c.loop-at.at b _ _) part.0 (c.loop-at.invariant.so_far a held) in
-    rw c.is_ok.ensures (streams-unread a c.args.low c.args.count h c.loop-at.at _ _ _ c.in-Unread.sent before part.1)
+    rw c.is_ok.ensures.value (streams-unread a c.args.low c.args.count h c.loop-at.at _ _ _ c.in-Unread.sent before part.1)
 
 pub returns-in-Short-clause-acts : goal.returns-in-Short-clause-acts
 returns-in-Short-clause-acts g c = λ a h held.
@@ -48,4 +48,4 @@ returns-in-Lost-clause-acts g c = λ a h held.
 pub returns-clause-acts : goal.returns-clause-acts
 returns-clause-acts g c = λ a h held.
     let whole : c.loop-at.at ≡ c.args.count = omega (arith, c.loop-at-test.false, c.loop-at.invariant.within) in
-    rw c.is_ok-2.ensures (streams-end a c.args.low c.args.count h c.loop-at.begun _ _ _ c.say_line.result (subst (λ (n : ℕ). SoFar a.entries c.args.low n c.loop-at.begun _ _) whole (c.loop-at.invariant.so_far a held)) (omega arith) c.say_line.ensures.said)
+    rw c.is_ok-2.ensures.value (streams-end a c.args.low c.args.count h c.loop-at.begun _ _ _ c.say_line.result (subst (λ (n : ℕ). SoFar a.entries c.args.low n c.loop-at.begun _ _) whole (c.loop-at.invariant.so_far a held)) (omega arith) c.say_line.ensures.said)
