@@ -46,10 +46,14 @@ unmade-makes config why o old new is answer refused = subst (λ (p : Outcome). M
     of_why making.DiskFault exists kept = tt
     of_why making.NoMemory exists kept = kept
 
-pub unmade-cause : (before now : ℕ) (why : InitRefusal) (o : Outcome) → o ≡ unmade why → RoseIf (Err {T = View} why ≡ Err making.DiskFault) before now → RoseIf (IsFault o) before now
+-- Making an archive was refused.
+abbrev not_made : InitRefusal → Result View InitRefusal
+not_made why = Err why
+
+pub unmade-cause : (before now : ℕ) (why : InitRefusal) (o : Outcome) → o ≡ unmade why → RoseIf (not_made why ≡ not_made making.DiskFault) before now → RoseIf (IsFault o) before now
 unmade-cause before now why o is rose = record { later = rose.later; failed = λ fault. rose.failed (of_why why (subst IsFault is fault)) }
   where
-    of_why : (w : InitRefusal) → IsFault (unmade w) → Err {T = View} w ≡ Err making.DiskFault
+    of_why : (w : InitRefusal) → IsFault (unmade w) → not_made w ≡ not_made making.DiskFault
     of_why making.Exists (inl no) = absurd (cc no)
     of_why making.Exists (inr no) = absurd (cc no)
     of_why making.DiskFault fault = refl

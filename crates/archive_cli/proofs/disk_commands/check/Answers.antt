@@ -18,7 +18,7 @@ returns-in-Err-clause-any_moment g c = λ may all. c.in-Err.ensures.opened.any_m
 
 pub returns-in-Err-clause-done : goal.returns-in-Err-clause-done
 returns-in-Err-clause-done g c = λ a reads.
-    unopened-checks a c.in-Err.why (g.D.Disk.content c.args.disk) (g.D.Disk.content c.in-Err.disk) reads (c.in-Err.ensures.opened.well a [] reads) c.in-Err.ensures.refused
+    unopened-checks a c.in-Err.field-0.why (g.D.Disk.content c.args.disk) (g.D.Disk.content c.in-Err.field-0.disk) reads (c.in-Err.ensures.opened.well a [] reads) c.in-Err.ensures.refused
 
 pub returns-in-Err-clause-stands : goal.returns-in-Err-clause-stands
-returns-in-Err-clause-stands g c = λ s all. unopened-stands g.D.Disk.content g.D.Disk.moment g.D.Disk.left_since g.met.D.Disk.counts_now g.met.D.Disk.reads_fit s c.args.disk c.in-Err.disk c.in-Err.why all c.in-Err.ensures.opened.any_moment c.in-Err.ensures.opened.well c.in-Err.ensures.opened.first
+returns-in-Err-clause-stands g c = λ s all. unopened-stands g.D.Disk.content g.D.Disk.moment g.D.Disk.left_since g.met.D.Disk.counts_now g.met.D.Disk.reads_fit s c.args.disk c.in-Err.field-0.disk c.in-Err.field-0.why all c.in-Err.ensures.opened.any_moment c.in-Err.ensures.opened.well c.in-Err.ensures.opened.first
