@@ -54,11 +54,11 @@ pub unmade-cause : (before now : ℕ) (why : InitRefusal) (o : Outcome) → o �
 unmade-cause before now why o is rose = record { later = rose.later; failed = λ fault. rose.failed (of_why why (subst IsFault is fault)) }
   where
     of_why : (w : InitRefusal) → IsFault (unmade w) → not_made w ≡ not_made making.DiskFault
-    of_why making.Exists (inl no) = absurd (cc no)
-    of_why making.Exists (inr no) = absurd (cc no)
+    of_why making.Exists (inl other) = absurd (cc other)
+    of_why making.Exists (inr other) = absurd (cc other)
     of_why making.DiskFault fault = refl
-    of_why making.NoMemory (inl no) = absurd (cc no)
-    of_why making.NoMemory (inr no) = absurd (cc no)
+    of_why making.NoMemory (inl other) = absurd (cc other)
+    of_why making.NoMemory (inr other) = absurd (cc other)
 
 -- What a refusal to open leaves of an archive that a message was for.
 pub unopened-delivers : (a : Archive) (bytes : List ℕ) (moment : ℕ) (why : OpenRefusal) (old new : Option Content) → ReadsAs a old → IsWant why → LeavesKindly why old new → DeliversTo a bytes moment (Unopened why) new
