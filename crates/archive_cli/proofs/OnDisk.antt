@@ -20,7 +20,8 @@ use Rattle.epoch_store.specs.declared.entries.StoredEntry.{StoredEntry}
 use Rattle.epoch_store.specs.declared.refusal.InitRefusal.{InitRefusal}
 use Rattle.epoch_store.specs.declared.refusal.InitRefusal.TheVariants as making
 use Rattle.epoch_store.specs.First.{MakingAnswers, RefusesToMake}
-use Rattle.epoch_store.specs.Opens.{ReadsAs, ReadsWith, RecoversOf, RecoversOfWith, AllRecoverOf, AllRecoverWith, IsWant, SyncsFirst, OnSynced}
+use Rattle.epoch_store.specs.Files.{as_read}
+use Rattle.epoch_store.specs.Opens.{Opens, ReadsAs, ReadsWith, RecoversOf, RecoversOfWith, AllRecoverOf, AllRecoverWith, IsWant, SyncsFirst, OnSynced}
 use Rattle.epoch_store.specs.Recovery.{Recovers}
 use Rattle.epoch_store.specs.Stores.{View, IsStoreOf, IsStoreWith, IsDiskOf, RecoversEither, RecoversEitherWith}
 use Rattle.archive_core.specs.Commands.{DoneBy}
@@ -28,7 +29,7 @@ use Rattle.archive_core.specs.Engines.{Owning}
 use Rattle.archive_core.specs.Openings.{LeavesKindly}
 use Rattle.archive_core.proofs.Counting.{stored_length}
 use Rattle.archive_core.proofs.Engines.{all_recover, reads_one, stands_for}
-use Rattle.archive_cli.specs.DiskCommands.{Makes, unmade, IsFault, Answers, DeliversTo, ChecksTo, StandsAs, StaysUnopened, DeliversOn, DeliveryLeaves}
+use Rattle.archive_cli.specs.DiskCommands.{Makes, unmade, IsFault, IsOpenedAs, Answers, DeliversTo, ChecksTo, StandsAs, StaysUnopened, DeliversOn, DeliveryLeaves}
 use Rattle.archive_cli.specs.declared.outcome.Outcome.{Outcome}
 use Rattle.archive_cli.specs.declared.outcome.Outcome.TheVariants.{Made, Checked, Answered, Unopened}
 
@@ -75,10 +76,15 @@ unopened-checks a refusal.DiskFault old new reads want kind = tt
 unopened-checks a refusal.NoMemory old new reads want kind = kind a [] reads
 
 -- The counts of a store are those of its archive.
-pub opened-checks : (v : View) (a : Archive) (content : Option Content) (entries live next : ℕ) → IsStoreOf v a content → entries ≡ length v.entries → live ≡ length a.entries → next ≡ a.next → ChecksTo a (Checked entries live next) content
+pub opened-checks : (v : View) (a : Archive) (content : Option Content) (entries live next : ℕ) → IsStoreOf v a content → entries ≡ length v.entries → live ≡ length a.entries → next ≡ v.root.next → ChecksTo a (Checked entries live next) content
 opened-checks v a None entries live next store count lives following = absurd store
 opened-checks v a (Some k) entries live next store count lives following =
-    (count ∙ (ap (λ (es : List StoredEntry). length es) store.keeps.kept ∙ stored_length [] a.entries), lives, following, (v, store))
+    (count ∙ (ap (λ (es : List StoredEntry). length es) store.keeps.kept ∙ stored_length [] a.entries), lives, following ∙ store.keeps.names.next, (v, store))
+
+-- They are those of what was opened.
+pub opened-as : (v : View) (content : Option Content) (entries live next : ℕ) → WhereTold (λ (k : Content). Opens (as_read k) (Ok v)) content → entries ≡ length v.entries → next ≡ v.root.next → WhereTold (λ (k : Content). IsOpenedAs (as_read k) (Checked entries live next)) content
+opened-as v None entries live next answer count following = tt
+opened-as v (Some k) entries live next answer count following = (v, answer, count, following)
 
 -- The answer of an open archive is the answer on the disk.
 pub done-answers : (v : View) (a : Archive) (wanted : Done) (reply : Answer) (content : Option Content) → DoneBy v [] a wanted reply content → Answers a wanted reply content

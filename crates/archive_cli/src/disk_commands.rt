@@ -16,7 +16,7 @@ ghost use Rattle.archive_cli.specs.DiskCommands.{Makes, unmade, DeliversTo, Chec
 
 use crate::outcome::Outcome;
 use arch_base::Config;
-use arch_model::{Answer, Command, Shelf};
+use arch_model::{Answer, Command};
 use archive_core::{Engine, NotMade, NotOpened};
 use disk_model::Disk;
 use epoch_store::InitRefusal;
@@ -91,7 +91,7 @@ pub(crate) fn check<D: Disk>(alloc: Global, disk: D) -> (Outcome, D)
             let counts = Outcome::Checked {
                 entries: engine.entry_count(),
                 live: engine.message_count(),
-                next: engine.next_number(),
+                next: engine.next_of_root(),
             };
             (counts, engine.into_disk())
         }
