@@ -116,10 +116,12 @@ struct Request {
 }
 
 /// Requests to disks that fail. The first one's doesn't, since no epoch is read.
+///
+/// A text ends with the empty line after its header, and each text has a line feed after it.
 const REQUESTS: [Request; 3] = [
     Request {
         failing: Failing::Epoch,
-        words: b"Message-ID: <a@x>\n\nMessage-ID: <b@x>\n\nend\n",
+        words: b"Message-ID: <a@x>\n\n\nMessage-ID: <b@x>\n\n\nend\n",
         goes_on: true,
     },
     Request {
@@ -129,7 +131,7 @@ const REQUESTS: [Request; 3] = [
     },
     Request {
         failing: Failing::LaterText,
-        words: b"Message-ID: <a@x>\n\n",
+        words: b"Message-ID: <a@x>\n\n\n",
         goes_on: false,
     },
 ];
