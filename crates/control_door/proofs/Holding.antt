@@ -64,12 +64,12 @@ unkept-closes s w [] (byte ∷ piece) some = refl
 unkept-closes s w [] [] some = absurd (omega (arith, some))
 
 -- The word for out of memory closes the session.
-pub closes-keeping : (moment : ℕ) (opened : Bool) (s : Standing) (old piece : List ℕ) (payload : Option Payload) (i j : Outside) (sent : Result Unit SinkFault) → 0 < length piece → IsHeld (old ++ piece) payload → i.disk ≤ j.disk → Says memory_word i.out i.lost j.out j.lost sent
+pub closes-keeping : (moment : ℕ) (opened : Bool) (s : Standing) (old piece : List ℕ) (payload : Option Payload) (i j : Outside) (sent : Result Unit SinkFault) → 0 < length piece → IsHeld (old ++ piece) payload → j.disk ≡ i.disk → Says memory_word i.out i.lost j.out j.lost sent
     → Acts (said moment s (waiting (old ++ piece) opened)) i None s j
-closes-keeping moment opened s old piece payload i j sent some h later words =
+closes-keeping moment opened s old piece payload i j sent some h same words =
     let part = held-unfinished (old ++ piece) payload h in
     let w : Waiting = waiting (old ++ piece) opened in
-    acts-closing (said moment s w) Memory (closes s memory_word) i j s sent (rw part (unkept-closes s w old piece some)) refl (λ d. absurd (cc d)) later words refl
+    acts-closing (said moment s w) Memory (closes s memory_word) i j s sent (rw part (unkept-closes s w old piece some)) refl same (omega (arith, same)) words refl
 
 -- The answer to a request is the answer to the bytes that start with it.
 acts-asked : (moment : ℕ) (s : Standing) (bytes : List ℕ) (request : Request) (rest : List ℕ) (i : Outside) (held : Option Waiting) (t : Standing) (j : Outside) → ahead bytes ≡ Asked request rest → Acts (said_to moment s request rest) i held t j

@@ -117,7 +117,7 @@ module _ {H A : Type 0} (said : A → H → Way → Said H A) (is_request : H �
       held = ap (more_of (more q)) step.held;
       acts = record {
         way = step.acts.way;
-        disk_cause = step.acts.disk_cause;
+        cause = step.acts.cause;
         disk_later = step.acts.disk_later;
         lost_later = step.acts.lost_later;
         sent = subst (λ (t : Said H A). Sent t w.outside (more_of (more q) m.held) m.after m.outside) (sym (door.said_stays q w.after h step.acts.way e))
@@ -309,7 +309,7 @@ module _ {H A : Type 0} (said : A → H → Way → Said H A) (is_request : H �
       held = step.held;
       acts = record {
         way = Plain;
-        disk_cause = λ (no : Plain ≡ Disk). absurd (cc);
+        cause = tt;
         disk_later = step.acts.disk_later;
         lost_later = omega (arith, step.acts.whole.lost_kept);
         sent = inl step.acts.whole;

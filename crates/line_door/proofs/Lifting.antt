@@ -23,7 +23,7 @@ module _ {H A J B : Type 0} (state : A → B) (into : H → J) where
       → Acts other i (held_over into held) (state a) j
   acts-over words other i held a j same acts = record {
     way = acts.way;
-    disk_cause = acts.disk_cause;
+    cause = acts.cause;
     disk_later = acts.disk_later;
     lost_later = acts.lost_later;
     sent = subst (λ (s : Said J B). Sent s i (held_over into held) (state a) j) (sym (same acts.way)) (sent-over (words acts.way) i held a j acts.sent);
