@@ -87,8 +87,8 @@ module _ {H A : Type 0} where
     pub lost_later : i.lost ≤ j.lost
     pub sent : Sent (words way) i held a j
 
-  -- One act by the rules, all of whose words reached the connection.
+  -- One act by the rules, all of whose words reached the connection. The disk didn't fail.
   pub record PlainActs (s : Said H A) (i : Outside) (held : Option H) (a : A) (j : Outside)
       : Type 0 where
-    pub disk_later : i.disk ≤ j.disk
+    pub disk_kept : j.disk ≡ i.disk
     pub whole : SaidWhole s i held a j
