@@ -108,6 +108,12 @@ all_edges left unread taken lost coming missed content broken =
       broken = broken;
     }
 
+-- The input, the clock and the disk didn't fail: their counts of faults are as before.
+pub record NoneFailed (i j : Edges) : Type 0 where
+  pub input : j.unread ≡ i.unread
+  pub clock : j.missed ≡ i.missed
+  pub disk : j.broken ≡ i.broken
+
 -- The settings of an archive that is made at a moment. `born` is that moment, but at least 1 and at
 -- most 2^32 - 1.
 abbrev pub made_at : Config → ℕ → Config
@@ -152,12 +158,17 @@ ActsBy Help input moment old new o = ⊥
 ActsBy Version input moment old new o = ⊥
 ActsBy (Replay config) input moment old new o = ⊥
 
--- The same, at the first moment to come. The disk failed only if its count of faults rose.
+-- The same, at the first moment to come. The input and the clock didn't fail. The disk's count of
+-- faults rose if the outcome tells that the disk failed, and otherwise stays. So no fault is told as
+-- out of memory.
 pub record Acts (job : Job) (input : List ℕ) (i j : Edges) (o : Outcome) : Type 0 where
   pub moment : ℕ
   pub first : IsFirst moment i.coming
   pub acts : ActsBy job input moment i.content j.content o
   pub fault : IsFault o → Rose i.broken j.broken
+  pub input_kept : j.unread ≡ i.unread
+  pub clock_kept : j.missed ≡ i.missed
+  pub disk_kept : (IsFault o → ⊥) → j.broken ≡ i.broken
 
 -- What a job over the archive on a disk ends with.
 pub record EndsBy (job : Job) (input : List ℕ) (i j : Edges) (status : Status) (printed : List ℕ)
@@ -201,24 +212,26 @@ pub record StopsShort (config : Config) (input : List ℕ) (status : Status) (pr
   pub played : (frames ≡ []) ⊎ PlaysPart config input frames
   pub printed_is : printed ≡ frames ++ whole_line (codes "12 no memory")
 
--- The words ask for a replay, which ran out of memory.
-pub record ReplayRunsOut (words : List (List ℕ)) (input : List ℕ) (status : Status)
+-- The words ask for a replay, which ran out of memory. No device failed.
+pub record ReplayRunsOut (words : List (List ℕ)) (input : List ℕ) (i j : Edges) (status : Status)
     (printed : List ℕ) : Type 0 where
   pub config : Config
   pub asked : AsksFor words (Replay config)
   pub stops : StopsShort config input status printed
+  pub spared : NoneFailed i j
 
--- Out of memory, a message isn't read, and the disk is unchanged.
+-- Out of memory, a message isn't read, and the disk is unchanged. No device failed.
 pub record DeliverRunsOut (words : List (List ℕ)) (i j : Edges) (status : Status) (printed : List ℕ)
     : Type 0 where
   pub asked : AsksFor words Deliver
   pub status_is : status ≡ exit.Memory
   pub printed_is : printed ≡ whole_line (codes "12 no memory")
   pub kept : j.content ≡ i.content
+  pub spared : NoneFailed i j
 
 -- A replay or a delivery ran out of memory.
 abbrev pub RunsOut : List (List ℕ) → List ℕ → Edges → Edges → Status → List ℕ → Type 0
-RunsOut words input i j status printed = ReplayRunsOut words input status printed
+RunsOut words input i j status printed = ReplayRunsOut words input i j status printed
     ⊎ DeliverRunsOut words i j status printed
 
 -- What a run is to print, and its status if all of that is taken.

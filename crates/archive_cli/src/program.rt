@@ -152,7 +152,9 @@ fn deliver_input<D: Disk, S: Source, O: Sink, C: Clock>(
 {
     match read_message(alloc, input) {
         Err(InputRefusal::Fault) => (Status::Edges, disk),
-        Err(_refused) => (print_no_memory(out), disk),
+        Err(InputRefusal::NoMemory) => (print_no_memory(out), disk),
+        // A message's front is never too long.
+        Err(InputRefusal::TooLong) => (print_no_memory(out), disk),
         Ok(bytes) => deliver_bytes(alloc, disk, bytes.as_slice(), out, clock),
     }
 }

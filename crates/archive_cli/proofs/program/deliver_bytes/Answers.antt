@@ -1,4 +1,4 @@
-use Rattle.std.proofs.Common.{inl}
+use Rattle.std.proofs.Common.{inl, refl}
 use Rattle.archive_cli.specs.declared.words.Job.TheVariants.{Deliver}
 use Rattle.archive_cli.proofs.Leaving.{bytes-first, bytes-at}
 use Rattle.archive_cli.proofs.Printed.{outcome-due}
@@ -24,4 +24,7 @@ returns-clause-ends g c = λ input is.
         unopened = c.deliver-outcome.ensures.unopened;
       };
       fault = c.deliver-outcome.ensures.cause.failed;
+      input_kept = refl;
+      clock_kept = c.in-Ok.ensures.cause.kept;
+      disk_kept = c.deliver-outcome.ensures.cause.kept;
     }) c.print_outcome.ensures.printed)
