@@ -7,7 +7,7 @@ use Rattle.git_objects.specs.Objects.{blob_id_of}
 use Rattle.arch_model.specs.Archives.{Entry, Archive, text_of, blob_number}
 use Rattle.arch_model.specs.Validity.{Rise}
 use Rattle.arch_model.specs.Standing.{GivesTextIn, GivesEpochIn}
-use Rattle.arch_model.specs.Shelves.{line_after, lines_after, blob_text, GivesBlobIn, IsUndamaged, ReadingWhy, Stays}
+use Rattle.arch_model.specs.Shelves.{line_after, lines_after, blob_text, GivesBlobIn, AppendsTo, IsUndamaged, ReadingWhy, Stays}
 use Rattle.arch_model.specs.declared.line.EntryLine.{EntryLine}
 use Rattle.arch_model.specs.declared.text_refusal.TextRefusal.{TextRefusal}
 use Rattle.arch_model.specs.declared.text_refusal.TextRefusal.TheVariants as refusal
@@ -29,6 +29,10 @@ pub undamaged-epoch : (entries : List Entry) (old new : List ℕ) (why : TextRef
 undamaged-epoch entries old new refusal.DiskFault given = tt
 undamaged-epoch entries old new (refusal.Damaged named found) given = given
 undamaged-epoch entries old new refusal.NoMemory given = tt
+
+-- Nothing was appended.
+pub appends-none : (old new : List ℕ) → new ≡ old → AppendsTo old new
+appends-none old new same = ([], same ∙ sym (append-nil old))
 
 -- One call that only reads, and another.
 pub stays-joined : {S : Type 0} (holds : S → Archive → Type 0) (ready : S → Bool) (alike : S → S → Type 0) (faults : S → ℕ) → ((s t u : S) → alike s t → alike t u → alike s u) → (s t u : S) → Stays holds ready alike faults s t → Stays holds ready alike faults t u

@@ -63,6 +63,10 @@ GivesBlobIn entries blob old new (Err (refusal.Damaged named found)) = ⊥
 GivesBlobIn entries blob old new (Err refusal.DiskFault) = Unit {0}
 GivesBlobIn entries blob old new (Err refusal.NoMemory) = Unit {0}
 
+-- Bytes were only appended to.
+abbrev pub AppendsTo : List ℕ → List ℕ → Type 0
+AppendsTo old new = (more : List ℕ) × (new ≡ old ++ more)
+
 -- A call that only reads: the states are alike, the archive stays, the shelf is ready, and the count
 -- of faults didn't fall.
 pub record Stays {S : Type 0} (holds : S → Archive → Type 0) (ready : S → Bool)

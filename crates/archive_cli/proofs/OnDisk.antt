@@ -1,7 +1,7 @@
 -- What `init`, `deliver` and `check` do, by the calls below them.
 use Rattle.std.specs.Prelude.{◌≡◌, ◌≤◌, ℕ, true, List, [], length, Option, Some, None, Result, Ok, Err, refl}
 use Rattle.std.proofs.Common.{◌∙◌, sym, ap, subst, inl, inr, arith}
-use Rattle.arch_base.specs.Counts.{RoseIf}
+use Rattle.arch_base.specs.Counts.{Rose, RoseIf}
 use Rattle.arch_base.specs.declared.config.Config.{Config}
 use Rattle.disk_model.specs.Disk.{Files, Content, Image, WhereTold, ReadsFit, LeavesOnly}
 use Rattle.disk_model.specs.Moments.{joined, weaker}
@@ -9,7 +9,7 @@ use Rattle.root_slots.specs.RootName.{root_name}
 use Rattle.root_slots.specs.Slots.{IsShutFile}
 use Rattle.arch_model.specs.Archives.{Archive, empty_archive}
 use Rattle.arch_model.specs.Delivery.{Done}
-use Rattle.arch_model.specs.Keeping.{Settles, Comes, Obeys, Doubts}
+use Rattle.arch_model.specs.Keeping.{Settles, Comes, Obeys, Doubts, AnswerCause}
 use Rattle.arch_model.specs.Standing.{Standing, standing, one_of, IsFound}
 use Rattle.arch_model.specs.declared.answer.Answer.{Answer}
 use Rattle.arch_model.specs.declared.answer.Answer.TheVariants as answer
@@ -51,14 +51,69 @@ abbrev not_made : InitRefusal → Result View InitRefusal
 not_made why = Err why
 
 pub unmade-cause : (before now : ℕ) (why : InitRefusal) (o : Outcome) → o ≡ unmade why → RoseIf (not_made why ≡ not_made making.DiskFault) before now → RoseIf (IsFault o) before now
-unmade-cause before now why o is rose = record { later = rose.later; failed = λ fault. rose.failed (of_why why (subst IsFault is fault)) }
+unmade-cause before now why o is rose = record { later = rose.later; failed = λ fault. rose.failed (of_why why (subst IsFault is fault)); kept = λ free. rose.kept (λ same. free (subst IsFault (sym is) (to_why why same))) }
   where
+    to_why : (w : InitRefusal) → not_made w ≡ not_made making.DiskFault → IsFault (unmade w)
+    to_why making.Exists same = absurd (cc same)
+    to_why making.DiskFault same = inl refl
+    to_why making.NoMemory same = absurd (cc same)
+
     of_why : (w : InitRefusal) → IsFault (unmade w) → not_made w ≡ not_made making.DiskFault
     of_why making.Exists (inl other) = absurd (cc other)
     of_why making.Exists (inr other) = absurd (cc other)
     of_why making.DiskFault fault = refl
     of_why making.NoMemory (inl other) = absurd (cc other)
     of_why making.NoMemory (inr other) = absurd (cc other)
+
+-- An archive was made, and the disk didn't fail.
+pub made-cause : (before now : ℕ) (name : List ℕ) → now ≡ before → RoseIf (IsFault (Made name)) before now
+made-cause before now name same = record { later = omega (arith, same); failed = none; kept = λ free. same }
+  where
+    none : IsFault (Made name) → Rose before now
+    none (inl other) = absurd (cc other)
+    none (inr other) = absurd (cc other)
+
+-- It was counted, and the disk didn't fail.
+pub checked-cause : (before now entries live next : ℕ) → now ≡ before → RoseIf (IsFault (Checked entries live next)) before now
+checked-cause before now entries live next same = record { later = omega (arith, same); failed = none; kept = λ free. same }
+  where
+    none : IsFault (Checked entries live next) → Rose before now
+    none (inl other) = absurd (cc other)
+    none (inr other) = absurd (cc other)
+
+-- It wasn't opened.
+abbrev not_opened : OpenRefusal → Result View OpenRefusal
+not_opened why = Err why
+
+pub refused-cause : (before now : ℕ) (why : OpenRefusal) → RoseIf (not_opened why ≡ not_opened refusal.DiskFault) before now → RoseIf (IsFault (Unopened why)) before now
+refused-cause before now why rose = record { later = rose.later; failed = λ fault. rose.failed (of_why why fault); kept = λ free. rose.kept (λ same. free (to_why why same)) }
+  where
+    of_why : (w : OpenRefusal) → IsFault (Unopened w) → not_opened w ≡ not_opened refusal.DiskFault
+    of_why refusal.DiskFault fault = refl
+    of_why refusal.NoMemory (inl other) = absurd (cc other)
+    of_why refusal.NoMemory (inr other) = absurd (cc other)
+    of_why refusal.NoArchive (inl other) = absurd (cc other)
+    of_why refusal.NoArchive (inr other) = absurd (cc other)
+    of_why (refusal.Damaged file at) (inl other) = absurd (cc other)
+    of_why (refusal.Damaged file at) (inr other) = absurd (cc other)
+
+    to_why : (w : OpenRefusal) → not_opened w ≡ not_opened refusal.DiskFault → IsFault (Unopened w)
+    to_why refusal.DiskFault same = inr refl
+    to_why refusal.NoMemory same = absurd (cc same)
+    to_why refusal.NoArchive same = absurd (cc same)
+    to_why (refusal.Damaged file at) same = absurd (cc same)
+
+-- A command was answered on what was opened.
+pub answered-cause : (before mid now : ℕ) (reply : Answer) → mid ≡ before → mid ≤ now → AnswerCause mid now reply → ((reply ≡ answer.DiskFault → ⊥) → now ≡ mid) → RoseIf (IsFault (Answered reply)) before now
+answered-cause before mid now reply same later cause steady = record {
+  later = omega (arith, same, later);
+  failed = λ fault. let rose : Rose mid now = subst (λ (r : Answer). AnswerCause mid now r) (of_answer fault) cause in omega (arith, same, rose);
+  kept = λ free. steady (λ is. free (inl (ap Answered is))) ∙ same;
+}
+  where
+    of_answer : IsFault (Answered reply) → reply ≡ answer.DiskFault
+    of_answer (inl same_outcome) = cc same_outcome
+    of_answer (inr other) = absurd (cc other)
 
 -- What a refusal to open leaves of an archive that a message was for.
 pub unopened-delivers : (a : Archive) (bytes : List ℕ) (moment : ℕ) (why : OpenRefusal) (old new : Option Content) → ReadsAs a old → IsWant why → LeavesKindly why old new → DeliversTo a bytes moment (Unopened why) new

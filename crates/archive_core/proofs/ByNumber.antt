@@ -267,3 +267,16 @@ pub other_refused : (T U : Type 0) (why : TextRefusal) → TellsOther {T = T} (E
 other_refused T U (Damaged named found) other = other
 other_refused T U DiskFault other = tt
 other_refused T U NoMemory other = tt
+
+-- A text was appended, or nothing was.
+pub kept_appends : (entries : List StoredEntry) (n : ℕ) (old new : List ℕ) (r : Result Unit TextRefusal) → GivesTextKept entries n old new r → AppendsTo old new
+kept_appends entries n old new (Ok done) given = (given.4.0, given.4.2)
+kept_appends entries n old new (Err reading.DiskFault) given = appends-none old new given.4
+kept_appends entries n old new (Err (reading.Damaged named found)) given = appends-none old new given.4.0
+kept_appends entries n old new (Err reading.NoMemory) given = appends-none old new given.4
+
+-- The bytes of an epoch were appended, or nothing was.
+pub epoch_appends : (root : Root) (e : ℕ) (old new : List ℕ) (r : Result Bool TextRefusal) → IsEpochFound root e old new r → KeepsUnlessFound old new r → AppendsTo old new
+epoch_appends root e old new (Ok true) found kept = (found.0, found.3)
+epoch_appends root e old new (Ok false) found kept = appends-none old new kept
+epoch_appends root e old new (Err refused) found kept = appends-none old new kept

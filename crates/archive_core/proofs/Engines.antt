@@ -354,6 +354,9 @@ module _ {D : Type 0} (content : D → Option Content) (moment : D → ℕ) (lef
     pub opened-cause-from : {T : Type 0} (faults : D → ℕ) (disk : D) (x : T) (r : Result T OpenRefusal) → r ≡ Ok x → RoseIf (r ≡ Err refusal.DiskFault) (faults inside.disk) (faults disk) → faults disk ≡ faults old.disk
     opened-cause-from faults disk x r ok rose = subst (λ (o : Owning D). faults disk ≡ faults o.disk) is (rose.kept (λ fault. absurd (cc (sym ok ∙ fault))))
 
+    pub steady-from : (faults : D → ℕ) (disk : D) (reply : Answer) → RoseIf (reply ≡ answer.DiskFault) (faults inside.disk) (faults disk) → (reply ≡ answer.DiskFault → ⊥) → faults disk ≡ faults old.disk
+    steady-from faults disk reply rose free = subst (λ (o : Owning D). faults disk ≡ faults o.disk) is (rose.kept free)
+
     pub answer-cause-from : (faults : D → ℕ) (disk : D) (reply : Answer) → RoseIf (reply ≡ answer.DiskFault) (faults inside.disk) (faults disk) → AnswerCause (faults old.disk) (faults disk) reply
     answer-cause-from faults disk reply rose = subst (λ (o : Owning D). AnswerCause (faults o.disk) (faults disk) reply) is (answer-cause (faults inside.disk) (faults disk) reply rose)
 
