@@ -1,12 +1,15 @@
 -- What `init`, `deliver` and `check` do, by the calls below them.
-use Rattle.std.specs.Prelude.{◌≡◌, ◌≤◌, ℕ, true, List, [], length, Option, Some, None, Result, Ok, Err, refl}
+use Rattle.std.specs.Prelude.{◌≡◌, ◌≢◌, ◌<◌, ◌≤◌, ℕ, zero, suc, true, List, [], length, Option, Some, None, Result, Ok, Err, refl}
 use Rattle.std.proofs.Common.{◌∙◌, sym, ap, subst, inl, inr, arith}
 use Rattle.arch_base.specs.Counts.{Rose, RoseIf}
 use Rattle.arch_base.specs.declared.config.Config.{Config}
-use Rattle.disk_model.specs.Disk.{Files, Content, Image, WhereTold, ReadsFit, LeavesOnly}
+use Rattle.disk_model.specs.Disk.{File, Files, Content, Image, WhereTold, ReadsFit, LeavesOnly}
 use Rattle.disk_model.specs.Moments.{joined, weaker}
 use Rattle.root_slots.specs.RootName.{root_name}
-use Rattle.root_slots.specs.Slots.{IsShutFile}
+use Rattle.root_slots.specs.Slots.{IsShutFile, Current, gate, IfThere}
+use Rattle.root_slots.specs.Spelling.{spelling}
+use Rattle.root_slots.specs.declared.root.Root.{Root}
+use Rattle.std.specs.List.{Contains}
 use Rattle.arch_model.specs.Archives.{Archive, empty_archive}
 use Rattle.arch_model.specs.Delivery.{Done}
 use Rattle.arch_model.specs.Keeping.{Settles, Comes, Obeys, Doubts, AnswerCause}
@@ -21,14 +24,15 @@ use Rattle.epoch_store.specs.declared.refusal.InitRefusal.TheVariants as making
 use Rattle.epoch_store.specs.First.{MakingAnswers, RefusesToMake}
 use Rattle.epoch_store.specs.Files.{as_read}
 use Rattle.epoch_store.specs.Opens.{Opens, ReadsAs, ReadsWith, RecoversOf, RecoversOfWith, AllRecoverOf, AllRecoverWith, IsWant, SyncsFirst, OnSynced}
-use Rattle.epoch_store.specs.Recovery.{Recovers}
+use Rattle.epoch_store.specs.Recovery.{Recovers, RecoversSomeWith}
+use Rattle.epoch_store.specs.Finding.{IsCurrentRoot}
 use Rattle.epoch_store.specs.Stores.{View, IsStoreOf, IsStoreWith, IsDiskOf, RecoversEither, RecoversEitherWith}
 use Rattle.archive_core.specs.Commands.{DoneBy}
 use Rattle.archive_core.specs.Engines.{Owning}
 use Rattle.archive_core.specs.Openings.{LeavesKindly}
 use Rattle.archive_core.proofs.Counting.{stored_length}
 use Rattle.archive_core.proofs.Engines.{all_recover, reads_one, stands_for}
-use Rattle.archive_cli.specs.DiskCommands.{Makes, unmade, IsFault, IsOpenedAs, Answers, DeliversTo, ChecksTo, StandsAs, StaysUnopened, DeliversOn, DeliveryLeaves}
+use Rattle.archive_cli.specs.DiskCommands.{Makes, unmade, IsFault, IsOpenedAs, Answers, DeliversTo, ChecksTo, StandsAs, StaysUnopened, DeliversOn, DeliveryLeaves, DeliveryLeavesAmong}
 use Rattle.archive_cli.specs.declared.outcome.Outcome.{Outcome}
 use Rattle.archive_cli.specs.declared.outcome.Outcome.TheVariants.{Made, Checked, Answered, Unopened}
 
@@ -160,6 +164,29 @@ pub image-all : (may : List (Option Archive)) (k : Option Content) (image : File
 image-all may None image all left = absurd all
 image-all may (Some k) image all left = all image left
 
+-- A file with a current root isn't shut.
+open-not-shut : (root : Root) (slot : ℕ) (files : Files) → IsCurrentRoot root slot files → IsShutFile (files root_name) → ⊥
+open-not-shut root slot files is shut = by_file (files root_name) is.current shut
+  where
+    by_slot : (bytes : List ℕ) (n : ℕ) → n < 2 → gate bytes n ≡ 1 → (gate bytes 0 ≢ 1) × (gate bytes 1 ≢ 1) → ⊥
+    by_slot bytes zero low opened gates = gates.0 opened
+    by_slot bytes (suc zero) low opened gates = gates.1 opened
+    by_slot bytes (suc (suc n)) low opened gates = absurd (omega (arith, low))
+
+    by_file : (f : File) → IfThere (Current slot (spelling root)) f → IsShutFile f → ⊥
+    by_file None never closed = never
+    by_file (Some bytes) current (inl other) = other current.size
+    by_file (Some bytes) current (inr gates) = by_slot bytes slot current.in_range current.opened gates
+
+-- What was opened is one of the archives that the disk may have stood for.
+read-among : (may : List (Option Archive)) (k : Option Content) → ReadsFit k → AllRecoverOf may k → (v : View) → WhereTold (λ (c : Content). Opens (as_read c) (Ok v)) k → (b : Archive) × Contains may (Some b) × ReadsAs b k
+read-among may None fit all v answer = absurd all
+read-among may (Some k) fit all v answer = let one = all (as_read k) (λ name. fit k refl name) in by one.0 one.1 one.2
+  where
+    by : (o : Option Archive) → Contains may o → RecoversSomeWith [] (as_read k) o → (b : Archive) × Contains may (Some b) × ReadsAs b (Some k)
+    by None has shut = absurd (open-not-shut v.root v.slot (as_read k) answer.root shut)
+    by (Some b) has recovers = (b, has, recovers)
+
 module _ {D : Type 0} (content : D → Option Content) (moment : D → ℕ) (left_since : D → ℕ → Files → Type 0)
     (counts_now : (disk : D) (t : ℕ) (image : Files) → t ≤ moment disk → Image (content disk) image → left_since disk t image)
     (reads_fit : (disk : D) → ReadsFit (content disk)) where
@@ -220,6 +247,20 @@ module _ {D : Type 0} (content : D → Option Content) (moment : D → ℕ) (lef
             synced = first.synced;
             only = first.only;
             before = weaker moment left_since old first.synced (Image (content old)) (RecoversOf (one_of s)) first.before (λ image now. image-all (one_of s) (content old) image all now);
+            after = joined moment left_since first.synced e.disk new.disk (λ (i : Files). Recovers i found.0) (RecoversEither found.0 (wanted found.0).archive) (RecoversEither found.0 (wanted found.0).archive) (first.after found.0 [] found.2) (left found.0 [] (done found.0 [] found.2))
+                (λ image one. inl one) (λ image either. either);
+          })
+
+      pub delivered-among : (may : List (Option Archive)) → AllRecoverOf may (content old) → WhereTold (λ (k : Content). Opens (as_read k) (Ok e.view)) (content old) → DeliveryLeavesAmong content moment left_since old new.disk may wanted
+      delivered-among may all answer =
+          let found = read-among may (content old) (reads_fit old) all e.view answer in
+          inr (record {
+            found = found.0;
+            is_among = found.1;
+            reads = found.2;
+            synced = first.synced;
+            only = first.only;
+            before = weaker moment left_since old first.synced (Image (content old)) (RecoversOf may) first.before (λ image now. image-all may (content old) image all now);
             after = joined moment left_since first.synced e.disk new.disk (λ (i : Files). Recovers i found.0) (RecoversEither found.0 (wanted found.0).archive) (RecoversEither found.0 (wanted found.0).archive) (first.after found.0 [] found.2) (left found.0 [] (done found.0 [] found.2))
                 (λ image one. inl one) (λ image either. either);
           })

@@ -11,7 +11,7 @@ use Rattle.arch_model.specs.Delivery.{delivered}
 use Rattle.arch_model.specs.Standing.{Standing, one_of}
 use Rattle.epoch_store.specs.Opens.{RecoversOf}
 use Rattle.answer_lines.specs.Lines.{whole_line}
-use Rattle.archive_cli.specs.DiskCommands.{DeliveryRuns}
+use Rattle.archive_cli.specs.DiskCommands.{DeliveryRuns, DeliveryRunsAmong}
 use Rattle.archive_cli.specs.declared.words.Job.{Job}
 use Rattle.archive_cli.specs.declared.words.Job.TheVariants.{Deliver}
 use Rattle.archive_cli.specs.Program.{Edges, NoneFailed, EndsBy, IsSilent, IsInput, input_limit, Replays, StopsShort}
@@ -108,6 +108,15 @@ BytesLeave content moment left_since old new s bytes coming =
     LeavesOnly moment left_since old new (RecoversOf (one_of s))
     ⊎ ((at : ℕ) × IsFirst at coming
     × DeliveryRuns content moment left_since old new s (λ (a : Archive). delivered a bytes at))
+
+-- The same where the disk may have stood for any of these archives, or for none.
+abbrev pub BytesLeaveAmong : {D : Type 0} → (D → Option Content) → (D → ℕ)
+    → (D → ℕ → Files → Type 0) → D → D → List (Option Archive) → List ℕ → Option Moments → Type 0
+BytesLeaveAmong content moment left_since old new may bytes coming =
+    LeavesOnly moment left_since old new (RecoversOf may)
+    ⊎ ((at : ℕ) × IsFirst at coming
+    × DeliveryRunsAmong content moment left_since old new may
+    (λ (a : Archive). delivered a bytes at))
 
 -- The message was not read, because memory ran out. No device failed.
 pub record IsUnread (i j : Edges) (status : Status) (printed : List ℕ) : Type 0 where

@@ -14,7 +14,7 @@ use Rattle.epoch_store.specs.Files.{as_read}
 use Rattle.epoch_store.specs.First.{MakingLeaves}
 use Rattle.epoch_store.specs.Opens.{ReadsAs, RecoversOf}
 use Rattle.answer_lines.specs.Lines.{whole_line}
-use Rattle.archive_cli.specs.DiskCommands.{Makes, DeliversTo, ChecksTo, IsOpenedAs, IsFault, IsDelivery, IsCheck, StandsAs, DeliversOn, ChecksOn, DeliveryRuns, LeavesUnopened}
+use Rattle.archive_cli.specs.DiskCommands.{Makes, DeliversTo, ChecksTo, IsOpenedAs, IsFault, IsDelivery, IsCheck, StandsAs, DeliversOn, ChecksOn, DeliveryRuns, DeliveryRunsAmong, LeavesUnopened}
 use Rattle.archive_cli.specs.Outcomes.{outcome_line, status_of}
 use Rattle.archive_cli.specs.Statuses.{code_of}
 use Rattle.archive_cli.specs.Words.{IsJob, AsksFor}
@@ -338,6 +338,16 @@ RunLeaves content moment left_since old new s left coming =
     LeavesOnly moment left_since old new (RecoversOf (one_of s))
     ⊎ ((input : List ℕ) × IsInput left input × (at : ℕ) × IsFirst at coming
     × DeliveryRuns content moment left_since old new s
+    (λ (a : Archive). delivered a (message_of input) at))
+
+-- The same where the disk may have stood for any of these archives, or for none, as after an `init` in
+-- doubt.
+abbrev pub RunLeavesAmong : {D : Type 0} → (D → Option Content) → (D → ℕ) → (D → ℕ → Files → Type 0)
+    → D → D → List (Option Archive) → Option (List ℕ) → Option Moments → Type 0
+RunLeavesAmong content moment left_since old new may left coming =
+    LeavesOnly moment left_since old new (RecoversOf may)
+    ⊎ ((input : List ℕ) × IsInput left input × (at : ℕ) × IsFirst at coming
+    × DeliveryRunsAmong content moment left_since old new may
     (λ (a : Archive). delivered a (message_of input) at))
 
 -- The words ask for a job without a disk.

@@ -72,3 +72,9 @@ returns-in-Some-Check-clause-ends g c =
 
 pub returns-in-Some-Check-clause-check : goal.returns-in-Some-Check-clause-check
 returns-in-Some-Check-clause-check g c = λ may asked all. c.check-outcome.ensures.any_moment may all
+
+pub returns-in-None-clause-among : goal.returns-in-None-clause-among
+returns-in-None-clause-among g c = λ may asked all. absurd (c.in-None.ensures Deliver asked)
+
+pub returns-in-Some-Deliver-clause-among : goal.returns-in-Some-Deliver-clause-among
+returns-in-Some-Deliver-clause-among g c = λ may asked all. c.deliver_input-status.ensures.among may all
