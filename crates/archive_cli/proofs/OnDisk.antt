@@ -6,7 +6,8 @@ use Rattle.arch_base.specs.declared.config.Config.{Config}
 use Rattle.disk_model.specs.Disk.{File, Files, Content, Image, WhereTold, ReadsFit, LeavesOnly}
 use Rattle.disk_model.specs.Moments.{joined, weaker}
 use Rattle.root_slots.specs.RootName.{root_name}
-use Rattle.root_slots.specs.Slots.{IsShutFile, Current, gate, IfThere}
+use Rattle.root_slots.specs.Slots.{IsShutFile, Current, gate}
+use Rattle.root_slots.specs.Each.{IfThere}
 use Rattle.root_slots.specs.Spelling.{spelling}
 use Rattle.root_slots.specs.declared.root.Root.{Root}
 use Rattle.std.specs.List.{Contains}
