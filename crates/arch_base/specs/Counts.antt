@@ -11,12 +11,8 @@ pub record HasCause {T E : Type 0} (before now : ℕ) (result : Result T E) : Ty
   pub failed : OnErr result (Rose before now)
   pub kept : OnOk result (now ≡ before)
 
--- The count never falls, and it rises if the call fails. It may rise if the call succeeds.
-pub record IsCaused {T E : Type 0} (before now : ℕ) (result : Result T E) : Type 0 where
-  pub later : before ≤ now
-  pub failed : OnErr result (Rose before now)
-
--- The count never falls, and it rises if there is a fault. It may rise without one.
+-- The count never falls. It rises if there is a fault, and stays the same if there is none.
 pub record RoseIf (is_fault : Type 0) (before now : ℕ) : Type 0 where
   pub later : before ≤ now
   pub failed : is_fault → Rose before now
+  pub kept : (is_fault → ⊥) → now ≡ before

@@ -7,7 +7,7 @@ use Rattle.git_objects.specs.Objects.{blob_id_of}
 use Rattle.arch_model.specs.Archives.{Entry, Archive, text_of, blob_number}
 use Rattle.arch_model.specs.Validity.{Rise}
 use Rattle.arch_model.specs.Standing.{GivesTextIn, GivesEpochIn}
-use Rattle.arch_model.specs.Shelves.{line_after, lines_after, blob_text, GivesBlobIn, IsUndamaged, ReadingWhy, Stays}
+use Rattle.arch_model.specs.Shelves.{line_after, lines_after, blob_text, GivesBlobIn, AppendsTo, IsUndamaged, ReadingWhy, Stays}
 use Rattle.arch_model.specs.declared.line.EntryLine.{EntryLine}
 use Rattle.arch_model.specs.declared.text_refusal.TextRefusal.{TextRefusal}
 use Rattle.arch_model.specs.declared.text_refusal.TextRefusal.TheVariants as refusal
@@ -30,6 +30,10 @@ undamaged-epoch entries old new refusal.DiskFault given = tt
 undamaged-epoch entries old new (refusal.Damaged named found) given = given
 undamaged-epoch entries old new refusal.NoMemory given = tt
 
+-- Nothing was appended.
+pub appends-none : (old new : List ℕ) → new ≡ old → AppendsTo old new
+appends-none old new same = ([], same ∙ sym (append-nil old))
+
 -- One call that only reads, and another.
 pub stays-joined : {S : Type 0} (holds : S → Archive → Type 0) (ready : S → Bool) (alike : S → S → Type 0) (faults : S → ℕ) → ((s t u : S) → alike s t → alike t u → alike s u) → (s t u : S) → Stays holds ready alike faults s t → Stays holds ready alike faults t u
     → Stays holds ready alike faults s u
@@ -44,11 +48,11 @@ stays-joined holds ready alike faults joined s t u first second = record {
 pub stays-same : {S : Type 0} (holds : S → Archive → Type 0) (ready : S → Bool) (alike : S → S → Type 0) (faults : S → ℕ) → ((s : S) → alike s s) → (s : S) → ready s ≡ true → Stays holds ready alike faults s s
 stays-same holds ready alike faults same s at_hand = record { same = same s; kept = λ a held. held; at_hand = at_hand; later = omega arith }
 
--- A cause in one of several calls is one in all of them.
-pub why-earlier : (before mid now : ℕ) (why : TextRefusal) → before ≤ mid → ReadingWhy mid now why → ReadingWhy before now why
-why-earlier before mid now refusal.DiskFault later rose = omega (arith, later, rose)
-why-earlier before mid now (refusal.Damaged named found) later other = other
-why-earlier before mid now refusal.NoMemory later none = tt
+-- A cause in the last of several calls is one in all of them, if the calls before it met no fault.
+pub why-earlier : (before mid now : ℕ) (why : TextRefusal) → mid ≡ before → ReadingWhy mid now why → ReadingWhy before now why
+why-earlier before mid now refusal.DiskFault same rose = omega (arith, same, rose)
+why-earlier before mid now (refusal.Damaged named found) same other = other
+why-earlier before mid now refusal.NoMemory same kept = kept ∙ same
 
 -- The lines of entries with one more.
 pub lines_after-push : (before es : List Entry) (e : Entry) → lines_after before (es ++ e ∷ []) ≡ lines_after before es ++ line_after (before ++ es) e ∷ []

@@ -153,11 +153,12 @@ ReadyBy was now Breaks = now ≡ false
 abbrev pub StaysReady : Bool → Answer → Bool → Type 0
 StaysReady was reply now = ReadyBy was now (ending reply)
 
--- The disk failed only if its count rose.
+-- The disk failed only if its count rose, and memory ran out only if no count rose: a fault of the
+-- disk is never told as out of memory.
 abbrev pub CauseBy : ℕ → ℕ → Ending → Type 0
 CauseBy before now Accepts = Unit {0}
 CauseBy before now Refuses = Unit {0}
-CauseBy before now Starves = Unit {0}
+CauseBy before now Starves = now ≡ before
 CauseBy before now Fails = Rose before now
 CauseBy before now Breaks = Unit {0}
 
@@ -165,16 +166,17 @@ CauseBy before now Breaks = Unit {0}
 abbrev pub AnswerCause : ℕ → ℕ → Answer → Type 0
 AnswerCause before now reply = CauseBy before now (ending reply)
 
--- Why an archive wasn't opened: the disk failed only if its count rose.
+-- Why an archive wasn't opened: the disk failed only if its count rose, and memory ran out only if it
+-- didn't.
 abbrev pub OpeningWhy : ℕ → ℕ → OpenRefusal → Type 0
 OpeningWhy before now opening.DiskFault = Rose before now
-OpeningWhy before now opening.NoMemory = Unit {0}
+OpeningWhy before now opening.NoMemory = now ≡ before
 OpeningWhy before now opening.NoArchive = Unit {0}
 OpeningWhy before now (opening.Damaged file at) = Unit {0}
 
--- A refusal to open has a cause.
+-- A refusal to open has a cause. An opening that succeeded met no fault.
 abbrev pub OpeningCause : {T : Type 0} → ℕ → ℕ → Result T OpenRefusal → Type 0
-OpeningCause before now (Ok x) = Unit {0}
+OpeningCause before now (Ok x) = now ≡ before
 OpeningCause before now (Err why) = OpeningWhy before now why
 
 -- The name of the root's file.

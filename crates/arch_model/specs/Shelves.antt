@@ -63,6 +63,10 @@ GivesBlobIn entries blob old new (Err (refusal.Damaged named found)) = ⊥
 GivesBlobIn entries blob old new (Err refusal.DiskFault) = Unit {0}
 GivesBlobIn entries blob old new (Err refusal.NoMemory) = Unit {0}
 
+-- Bytes were only appended to.
+abbrev pub AppendsTo : List ℕ → List ℕ → Type 0
+AppendsTo old new = (more : List ℕ) × (new ≡ old ++ more)
+
 -- A call that only reads: the states are alike, the archive stays, the shelf is ready, and the count
 -- of faults didn't fall.
 pub record Stays {S : Type 0} (holds : S → Archive → Type 0) (ready : S → Bool)
@@ -72,15 +76,16 @@ pub record Stays {S : Type 0} (holds : S → Archive → Type 0) (ready : S → 
   pub at_hand : ready new ≡ true
   pub later : faults old ≤ faults new
 
--- Why a call didn't read: the disk failed, or what was read has another id than is named.
+-- Why a call didn't read: the disk failed, and its count rose; or what was read has another id than is
+-- named; or memory ran out, and the count stayed.
 abbrev pub ReadingWhy : ℕ → ℕ → TextRefusal → Type 0
 ReadingWhy before now refusal.DiskFault = Rose before now
 ReadingWhy before now (refusal.Damaged named found) = found ≢ named
-ReadingWhy before now refusal.NoMemory = Unit {0}
+ReadingWhy before now refusal.NoMemory = now ≡ before
 
--- A refusal to read has a cause.
+-- A refusal to read has a cause. A call that read met no fault.
 abbrev pub ReadCause : {T : Type 0} → ℕ → ℕ → Result T TextRefusal → Type 0
-ReadCause before now (Ok x) = Unit {0}
+ReadCause before now (Ok x) = now ≡ before
 ReadCause before now (Err why) = ReadingWhy before now why
 
 -- The refusal is not that a text is damaged.

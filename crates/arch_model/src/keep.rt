@@ -5,7 +5,7 @@ ghost use Rattle.arch_base.specs.Moments.{last_moment};
 ghost use Rattle.arch_model.specs.Archives.{Archive, in_epoch};
 ghost use Rattle.arch_model.specs.Delivery.{applied};
 ghost use Rattle.arch_model.specs.Keeping.{Passes, Fits, Moves, OnlyRead, Reopens, Comes, StaysReady, AnswerCause, OpeningCause, text_known};
-ghost use Rattle.arch_model.specs.Shelves.{Stays, ReadCause, ReadsOnce};
+ghost use Rattle.arch_model.specs.Shelves.{AppendsTo, Stays, ReadCause, ReadsOnce};
 ghost use Rattle.arch_model.specs.Standing.{Standing, GivesEpochIn, KeepsUnlessFound};
 
 use crate::answer::Answer;
@@ -72,7 +72,8 @@ pub trait Keep: Shelf {
         ensures unread { (a : Archive) → Self.holds self.old a → Self.ready self.old ≡ true
             → text_known a command.now ≡ false → Self.reads self.new ≡ Self.reads self.old };
 
-    /// Appends the bytes of an epoch, and returns whether the epoch has an entry.
+    /// Appends the bytes of an epoch, and returns whether the epoch has an entry. Reads the disk at
+    /// most once.
     ///
     /// `DiskFault` if the disk failed, and the count of faults rose. `NoMemory` if an allocation
     /// fails. `Damaged` never comes while an archive is held. Each of them, and an epoch without an
@@ -82,8 +83,10 @@ pub trait Keep: Shelf {
         ensures bytes { (a : Archive) → Self.holds self.old a
             → GivesEpochIn (in_epoch a.entries epoch) into.old into.new result }
         ensures kept { KeepsUnlessFound into.old into.new result }
+        ensures appends { AppendsTo into.old into.new }
         ensures shelf { Stays Self.holds Self.ready Self.alike Self.faults self.old self.new }
-        ensures cause { ReadCause (Self.faults self.old) (Self.faults self.new) result };
+        ensures cause { ReadCause (Self.faults self.old) (Self.faults self.new) result }
+        ensures reads { ReadsOnce (Self.reads self.old) (Self.reads self.new) };
 
     /// A crash leaves the archive that a keeper holds.
     ghost holds_left: { (k : Self) (a : Archive) (may : List (Option Archive)) → Self.holds k a

@@ -1,7 +1,7 @@
 //! The trait of shelves: values that give the texts of one archive.
 ghost use Rattle.std.specs.Prelude.{◌≡◌, ℕ, Bool, true, OnErr, is_some};
 ghost use Rattle.arch_model.specs.Archives.{Archive, text_of};
-ghost use Rattle.arch_model.specs.Shelves.{IsGreatestLive, live_between, line_at, GivesBlobIn, Stays, ReadCause, ReadsOnce};
+ghost use Rattle.arch_model.specs.Shelves.{IsGreatestLive, live_between, line_at, GivesBlobIn, AppendsTo, Stays, ReadCause, ReadsOnce};
 ghost use Rattle.arch_model.specs.Standing.{IsLeastLive, GivesTextIn, KeepsUnlessFound};
 
 use crate::line::EntryLine;
@@ -71,6 +71,7 @@ pub trait Shelf {
         ensures text { (a : Archive) → holds self.old a
             → GivesTextIn a.entries n into.old into.new result }
         ensures refused { OnErr result (into.new ≡ into.old) }
+        ensures appends { AppendsTo into.old into.new }
         ensures shelf { Stays holds ready alike faults self.old self.new }
         ensures cause { ReadCause (faults self.old) (faults self.new) result }
         ensures reads { ReadsOnce (reads self.old) (reads self.new) };
@@ -85,6 +86,7 @@ pub trait Shelf {
         ensures blob { (a : Archive) → holds self.old a
             → GivesBlobIn a.entries id.now.0 into.old into.new result }
         ensures kept { KeepsUnlessFound into.old into.new result }
+        ensures appends { AppendsTo into.old into.new }
         ensures shelf { Stays holds ready alike faults self.old self.new }
         ensures cause { ReadCause (faults self.old) (faults self.new) result }
         ensures reads { ReadsOnce (reads self.old) (reads self.new) };

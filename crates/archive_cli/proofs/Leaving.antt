@@ -2,16 +2,16 @@
 use Rattle.std.specs.Prelude.{◌≡◌, ℕ, List, take, Option}
 use Rattle.std.proofs.Common.{subst, inl, inr}
 use Rattle.arch_base.specs.declared.config.Config.{Config}
-use Rattle.disk_model.specs.Disk.{Files, Content, Image}
+use Rattle.disk_model.specs.Disk.{Files, Content, Image, LeavesOnly}
 use Rattle.disk_model.specs.Moments.{started}
 use Rattle.edge_io.specs.Coming.{Moments, IsFirst}
 use Rattle.arch_model.specs.Archives.{Archive}
 use Rattle.arch_model.specs.Delivery.{delivered}
 use Rattle.arch_model.specs.Standing.{Standing, one_of}
-use Rattle.epoch_store.specs.Opens.{RecoversOf}
-use Rattle.archive_cli.specs.DiskCommands.{StandsAs, DeliveryRuns, DeliveryLeaves}
-use Rattle.archive_cli.specs.Printing.{BytesLeave}
-use Rattle.archive_cli.specs.Program.{InitLeaves, RunLeaves, IsInput, message_limit}
+use Rattle.epoch_store.specs.Opens.{RecoversOf, AllRecoverOf}
+use Rattle.archive_cli.specs.DiskCommands.{StandsAs, DeliveryRuns, DeliveryRunsAmong, DeliveryLeaves, DeliveryLeavesAmong}
+use Rattle.archive_cli.specs.Printing.{BytesLeave, BytesLeaveAmong}
+use Rattle.archive_cli.specs.Program.{InitLeaves, RunLeaves, RunLeavesAmong, IsInput, message_limit}
 use Rattle.archive_cli.proofs.OnDisk.{image-all}
 use Rattle.archive_cli.proofs.Printed.{some-moment}
 
@@ -39,3 +39,17 @@ module _ {D : Type 0} (content : D → Option Content) (moment : D → ℕ) (lef
   run-bytes old new s left bytes coming front (inl before) = inl before
   run-bytes old new s left bytes coming front (inr run) =
       inr (front.0, front.1, run.0, run.1, subst (λ (b : List ℕ). DeliveryRuns content moment left_since old new s (λ (a : Archive). delivered a b run.0)) front.2 run.2)
+
+  -- The same where there may be no archive.
+  pub among-first : (may : List (Option Archive)) (disk : D) → AllRecoverOf may (content disk) → LeavesOnly moment left_since disk disk (RecoversOf may)
+  among-first may disk all = started moment left_since disk (RecoversOf may) (λ image now. image-all may (content disk) image all (only_now disk image now))
+
+  pub among-at : (old new : D) (may : List (Option Archive)) (bytes : List ℕ) (at : ℕ) (coming : Option Moments) → IsFirst at coming → DeliveryLeavesAmong content moment left_since old new may (λ (a : Archive). delivered a bytes at) → BytesLeaveAmong content moment left_since old new may bytes coming
+  among-at old new may bytes at coming first (inl before) = inl before
+  among-at old new may bytes at coming first (inr runs) = inr (at, first, runs)
+
+  pub run-among : (old new : D) (may : List (Option Archive)) (left : Option (List ℕ)) (bytes : List ℕ) (coming : Option Moments) → (input : List ℕ) × IsInput left input × (bytes ≡ take message_limit input) → BytesLeaveAmong content moment left_since old new may bytes coming
+      → RunLeavesAmong content moment left_since old new may left coming
+  run-among old new may left bytes coming front (inl before) = inl before
+  run-among old new may left bytes coming front (inr run) =
+      inr (front.0, front.1, run.0, run.1, subst (λ (b : List ℕ). DeliveryRunsAmong content moment left_since old new may (λ (a : Archive). delivered a b run.0)) front.2 run.2)

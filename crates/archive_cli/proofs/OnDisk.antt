@@ -1,15 +1,19 @@
 -- What `init`, `deliver` and `check` do, by the calls below them.
-use Rattle.std.specs.Prelude.{◌≡◌, ◌≤◌, ℕ, true, List, [], length, Option, Some, None, Result, Ok, Err, refl}
+use Rattle.std.specs.Prelude.{◌≡◌, ◌≢◌, ◌<◌, ◌≤◌, ℕ, zero, suc, true, List, [], length, Option, Some, None, Result, Ok, Err, refl}
 use Rattle.std.proofs.Common.{◌∙◌, sym, ap, subst, inl, inr, arith}
-use Rattle.arch_base.specs.Counts.{RoseIf}
+use Rattle.arch_base.specs.Counts.{Rose, RoseIf}
 use Rattle.arch_base.specs.declared.config.Config.{Config}
-use Rattle.disk_model.specs.Disk.{Files, Content, Image, WhereTold, ReadsFit, LeavesOnly}
+use Rattle.disk_model.specs.Disk.{File, Files, Content, Image, WhereTold, ReadsFit, LeavesOnly}
 use Rattle.disk_model.specs.Moments.{joined, weaker}
 use Rattle.root_slots.specs.RootName.{root_name}
-use Rattle.root_slots.specs.Slots.{IsShutFile}
+use Rattle.root_slots.specs.Slots.{IsShutFile, Current, gate}
+use Rattle.root_slots.specs.Each.{IfThere}
+use Rattle.root_slots.specs.Spelling.{spelling}
+use Rattle.root_slots.specs.declared.root.Root.{Root}
+use Rattle.std.specs.List.{Contains}
 use Rattle.arch_model.specs.Archives.{Archive, empty_archive}
 use Rattle.arch_model.specs.Delivery.{Done}
-use Rattle.arch_model.specs.Keeping.{Settles, Comes, Obeys, Doubts}
+use Rattle.arch_model.specs.Keeping.{Settles, Comes, Obeys, Doubts, AnswerCause}
 use Rattle.arch_model.specs.Standing.{Standing, standing, one_of, IsFound}
 use Rattle.arch_model.specs.declared.answer.Answer.{Answer}
 use Rattle.arch_model.specs.declared.answer.Answer.TheVariants as answer
@@ -21,14 +25,15 @@ use Rattle.epoch_store.specs.declared.refusal.InitRefusal.TheVariants as making
 use Rattle.epoch_store.specs.First.{MakingAnswers, RefusesToMake}
 use Rattle.epoch_store.specs.Files.{as_read}
 use Rattle.epoch_store.specs.Opens.{Opens, ReadsAs, ReadsWith, RecoversOf, RecoversOfWith, AllRecoverOf, AllRecoverWith, IsWant, SyncsFirst, OnSynced}
-use Rattle.epoch_store.specs.Recovery.{Recovers}
+use Rattle.epoch_store.specs.Recovery.{Recovers, RecoversSomeWith}
+use Rattle.epoch_store.specs.Finding.{IsCurrentRoot}
 use Rattle.epoch_store.specs.Stores.{View, IsStoreOf, IsStoreWith, IsDiskOf, RecoversEither, RecoversEitherWith}
 use Rattle.archive_core.specs.Commands.{DoneBy}
 use Rattle.archive_core.specs.Engines.{Owning}
 use Rattle.archive_core.specs.Openings.{LeavesKindly}
 use Rattle.archive_core.proofs.Counting.{stored_length}
 use Rattle.archive_core.proofs.Engines.{all_recover, reads_one, stands_for}
-use Rattle.archive_cli.specs.DiskCommands.{Makes, unmade, IsFault, IsOpenedAs, Answers, DeliversTo, ChecksTo, StandsAs, StaysUnopened, DeliversOn, DeliveryLeaves}
+use Rattle.archive_cli.specs.DiskCommands.{Makes, unmade, IsFault, IsOpenedAs, Answers, DeliversTo, ChecksTo, StandsAs, StaysUnopened, DeliversOn, DeliveryLeaves, DeliveryLeavesAmong}
 use Rattle.archive_cli.specs.declared.outcome.Outcome.{Outcome}
 use Rattle.archive_cli.specs.declared.outcome.Outcome.TheVariants.{Made, Checked, Answered, Unopened}
 
@@ -51,14 +56,69 @@ abbrev not_made : InitRefusal → Result View InitRefusal
 not_made why = Err why
 
 pub unmade-cause : (before now : ℕ) (why : InitRefusal) (o : Outcome) → o ≡ unmade why → RoseIf (not_made why ≡ not_made making.DiskFault) before now → RoseIf (IsFault o) before now
-unmade-cause before now why o is rose = record { later = rose.later; failed = λ fault. rose.failed (of_why why (subst IsFault is fault)) }
+unmade-cause before now why o is rose = record { later = rose.later; failed = λ fault. rose.failed (of_why why (subst IsFault is fault)); kept = λ free. rose.kept (λ same. free (subst IsFault (sym is) (to_why why same))) }
   where
+    to_why : (w : InitRefusal) → not_made w ≡ not_made making.DiskFault → IsFault (unmade w)
+    to_why making.Exists same = absurd (cc same)
+    to_why making.DiskFault same = inl refl
+    to_why making.NoMemory same = absurd (cc same)
+
     of_why : (w : InitRefusal) → IsFault (unmade w) → not_made w ≡ not_made making.DiskFault
     of_why making.Exists (inl other) = absurd (cc other)
     of_why making.Exists (inr other) = absurd (cc other)
     of_why making.DiskFault fault = refl
     of_why making.NoMemory (inl other) = absurd (cc other)
     of_why making.NoMemory (inr other) = absurd (cc other)
+
+-- An archive was made, and the disk didn't fail.
+pub made-cause : (before now : ℕ) (name : List ℕ) → now ≡ before → RoseIf (IsFault (Made name)) before now
+made-cause before now name same = record { later = omega (arith, same); failed = none; kept = λ free. same }
+  where
+    none : IsFault (Made name) → Rose before now
+    none (inl other) = absurd (cc other)
+    none (inr other) = absurd (cc other)
+
+-- It was counted, and the disk didn't fail.
+pub checked-cause : (before now entries live next : ℕ) → now ≡ before → RoseIf (IsFault (Checked entries live next)) before now
+checked-cause before now entries live next same = record { later = omega (arith, same); failed = none; kept = λ free. same }
+  where
+    none : IsFault (Checked entries live next) → Rose before now
+    none (inl other) = absurd (cc other)
+    none (inr other) = absurd (cc other)
+
+-- It wasn't opened.
+abbrev not_opened : OpenRefusal → Result View OpenRefusal
+not_opened why = Err why
+
+pub refused-cause : (before now : ℕ) (why : OpenRefusal) → RoseIf (not_opened why ≡ not_opened refusal.DiskFault) before now → RoseIf (IsFault (Unopened why)) before now
+refused-cause before now why rose = record { later = rose.later; failed = λ fault. rose.failed (of_why why fault); kept = λ free. rose.kept (λ same. free (to_why why same)) }
+  where
+    of_why : (w : OpenRefusal) → IsFault (Unopened w) → not_opened w ≡ not_opened refusal.DiskFault
+    of_why refusal.DiskFault fault = refl
+    of_why refusal.NoMemory (inl other) = absurd (cc other)
+    of_why refusal.NoMemory (inr other) = absurd (cc other)
+    of_why refusal.NoArchive (inl other) = absurd (cc other)
+    of_why refusal.NoArchive (inr other) = absurd (cc other)
+    of_why (refusal.Damaged file at) (inl other) = absurd (cc other)
+    of_why (refusal.Damaged file at) (inr other) = absurd (cc other)
+
+    to_why : (w : OpenRefusal) → not_opened w ≡ not_opened refusal.DiskFault → IsFault (Unopened w)
+    to_why refusal.DiskFault same = inr refl
+    to_why refusal.NoMemory same = absurd (cc same)
+    to_why refusal.NoArchive same = absurd (cc same)
+    to_why (refusal.Damaged file at) same = absurd (cc same)
+
+-- A command was answered on what was opened.
+pub answered-cause : (before mid now : ℕ) (reply : Answer) → mid ≡ before → mid ≤ now → AnswerCause mid now reply → ((reply ≡ answer.DiskFault → ⊥) → now ≡ mid) → RoseIf (IsFault (Answered reply)) before now
+answered-cause before mid now reply same later cause steady = record {
+  later = omega (arith, same, later);
+  failed = λ fault. let rose : Rose mid now = subst (λ (r : Answer). AnswerCause mid now r) (of_answer fault) cause in omega (arith, same, rose);
+  kept = λ free. steady (λ is. free (inl (ap Answered is))) ∙ same;
+}
+  where
+    of_answer : IsFault (Answered reply) → reply ≡ answer.DiskFault
+    of_answer (inl same_outcome) = cc same_outcome
+    of_answer (inr other) = absurd (cc other)
 
 -- What a refusal to open leaves of an archive that a message was for.
 pub unopened-delivers : (a : Archive) (bytes : List ℕ) (moment : ℕ) (why : OpenRefusal) (old new : Option Content) → ReadsAs a old → IsWant why → LeavesKindly why old new → DeliversTo a bytes moment (Unopened why) new
@@ -104,6 +164,29 @@ done-answers v a wanted (answer.Damaged file at) content done = absurd done
 pub image-all : (may : List (Option Archive)) (k : Option Content) (image : Files) → AllRecoverOf may k → Image k image → RecoversOf may image
 image-all may None image all left = absurd all
 image-all may (Some k) image all left = all image left
+
+-- A file with a current root isn't shut.
+open-not-shut : (root : Root) (slot : ℕ) (files : Files) → IsCurrentRoot root slot files → IsShutFile (files root_name) → ⊥
+open-not-shut root slot files is shut = by_file (files root_name) is.current shut
+  where
+    by_slot : (bytes : List ℕ) (n : ℕ) → n < 2 → gate bytes n ≡ 1 → (gate bytes 0 ≢ 1) × (gate bytes 1 ≢ 1) → ⊥
+    by_slot bytes zero low opened gates = gates.0 opened
+    by_slot bytes (suc zero) low opened gates = gates.1 opened
+    by_slot bytes (suc (suc n)) low opened gates = absurd (omega (arith, low))
+
+    by_file : (f : File) → IfThere (Current slot (spelling root)) f → IsShutFile f → ⊥
+    by_file None never closed = never
+    by_file (Some bytes) current (inl other) = other current.size
+    by_file (Some bytes) current (inr gates) = by_slot bytes slot current.in_range current.opened gates
+
+-- What was opened is one of the archives that the disk may have stood for.
+read-among : (may : List (Option Archive)) (k : Option Content) → ReadsFit k → AllRecoverOf may k → (v : View) → WhereTold (λ (c : Content). Opens (as_read c) (Ok v)) k → (b : Archive) × Contains may (Some b) × ReadsAs b k
+read-among may None fit all v answer = absurd all
+read-among may (Some k) fit all v answer = let one = all (as_read k) (λ name. fit k refl name) in by one.0 one.1 one.2
+  where
+    by : (o : Option Archive) → Contains may o → RecoversSomeWith [] (as_read k) o → (b : Archive) × Contains may (Some b) × ReadsAs b (Some k)
+    by None has shut = absurd (open-not-shut v.root v.slot (as_read k) answer.root shut)
+    by (Some b) has recovers = (b, has, recovers)
 
 module _ {D : Type 0} (content : D → Option Content) (moment : D → ℕ) (left_since : D → ℕ → Files → Type 0)
     (counts_now : (disk : D) (t : ℕ) (image : Files) → t ≤ moment disk → Image (content disk) image → left_since disk t image)
@@ -165,6 +248,20 @@ module _ {D : Type 0} (content : D → Option Content) (moment : D → ℕ) (lef
             synced = first.synced;
             only = first.only;
             before = weaker moment left_since old first.synced (Image (content old)) (RecoversOf (one_of s)) first.before (λ image now. image-all (one_of s) (content old) image all now);
+            after = joined moment left_since first.synced e.disk new.disk (λ (i : Files). Recovers i found.0) (RecoversEither found.0 (wanted found.0).archive) (RecoversEither found.0 (wanted found.0).archive) (first.after found.0 [] found.2) (left found.0 [] (done found.0 [] found.2))
+                (λ image one. inl one) (λ image either. either);
+          })
+
+      pub delivered-among : (may : List (Option Archive)) → AllRecoverOf may (content old) → WhereTold (λ (k : Content). Opens (as_read k) (Ok e.view)) (content old) → DeliveryLeavesAmong content moment left_since old new.disk may wanted
+      delivered-among may all answer =
+          let found = read-among may (content old) (reads_fit old) all e.view answer in
+          inr (record {
+            found = found.0;
+            is_among = found.1;
+            reads = found.2;
+            synced = first.synced;
+            only = first.only;
+            before = weaker moment left_since old first.synced (Image (content old)) (RecoversOf may) first.before (λ image now. image-all may (content old) image all now);
             after = joined moment left_since first.synced e.disk new.disk (λ (i : Files). Recovers i found.0) (RecoversEither found.0 (wanted found.0).archive) (RecoversEither found.0 (wanted found.0).archive) (first.after found.0 [] found.2) (left found.0 [] (done found.0 [] found.2))
                 (λ image one. inl one) (λ image either. either);
           })

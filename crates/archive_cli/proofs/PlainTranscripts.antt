@@ -31,7 +31,7 @@ fed_plain moment held piece w =
     let from : Talk Waiting Standing = talk (Some (waiting (held ++ piece) true)) w.standing (outside (Some []) 0 0) in
     let to : Talk Waiting Standing = talk s.next s.after (outside (Some s.words) 0 0) in
     let course : PlainFed (said moment) has_request from to =
-    (laws.by_rules (waiting (held ++ piece) true) from to refl).1 (record { disk_later = omega arith; whole = record { held_is = refl; after_is = refl; out_is = refl; lost_kept = refl } }) in
+    (laws.by_rules (waiting (held ++ piece) true) from to refl).1 (record { disk_kept = refl; whole = record { held_is = refl; after_is = refl; out_is = refl; lost_kept = refl } }) in
     record { closed_is = refl; opened = flag_of s.next; fed = subst (λ (h : Option Waiting). Fed (said moment) has_request from (talk h s.after (outside (Some s.words) 0 0))) (session_back s.next) (laws.is_course from to course) }
 
 plain_came : (session : Option (List ℕ)) (moment : ℕ) (piece : List ℕ) (w : World) → CameTo session moment piece w (plain_piece session moment piece w).bytes (plain_piece session moment piece w).closed (plain_piece session moment piece w).after

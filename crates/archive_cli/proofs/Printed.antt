@@ -15,7 +15,7 @@ use Rattle.disk_model.specs.Disk.{Content}
 use Rattle.edge_io.specs.Coming.{Moments, IsFirst}
 use Rattle.archive_cli.specs.Outcomes.{outcome_line, status_of}
 use Rattle.archive_cli.specs.declared.outcome.Outcome.{Outcome}
-use Rattle.archive_cli.specs.Program.{Edges, all_edges, Acts, IsInput, IsDue, Ends, Ran, start, input_limit, TookAtMost}
+use Rattle.archive_cli.specs.Program.{Edges, all_edges, NoneFailed, Acts, IsInput, IsDue, Ends, Ran, start, input_limit, TookAtMost}
 use Rattle.archive_cli.specs.Printing.{Printed, Exactly, IsReplayDue, Replayed, IsPieceRead, IsOutcomeDue, JobDone, InputDone, IsUnread}
 use Rattle.archive_cli.specs.declared.status.Status.{Status}
 use Rattle.archive_cli.specs.declared.status.Status.TheVariants as exit
@@ -90,21 +90,22 @@ ran-exactly words job text code status i j asked ends p =
     let given = some-input i.left in
     ran-printed words given.0 status i j (Exactly text code) given.1 (λ s printed e. inl (record { job = job; asked = asked; ends = subst (λ w. Ends job given.0 i j s w) (sym e.words_is) (subst (λ c. Ends job given.0 i j c text) (sym e.status_is) (ends given.0)) })) p
 
-due_job : (words : List (List ℕ)) (config : Config) (input : List ℕ) (i j : Edges) (s : Status) (printed : List ℕ) → AsksFor words (Replay config) → IsReplayDue config input s printed → IsDue words input i j s printed
-due_job words config input i j s printed asked (inl replays) = inl (record { job = Some (Replay config); asked = asked; ends = replays })
-due_job words config input i j s printed asked (inr short) = inr (inl (record { config = config; asked = asked; stops = short }))
+due_job : (words : List (List ℕ)) (config : Config) (input : List ℕ) (i j : Edges) (s : Status) (printed : List ℕ) → AsksFor words (Replay config) → NoneFailed i j → IsReplayDue config input s printed → IsDue words input i j s printed
+due_job words config input i j s printed asked spared (inl replays) = inl (record { job = Some (Replay config); asked = asked; ends = replays })
+due_job words config input i j s printed asked spared (inr short) = inr (inl (record { config = config; asked = asked; stops = short; spared = spared }))
 
 -- A script that was run is a run.
-pub ran-replayed : (words : List (List ℕ)) (config : Config) (status : Status) (i j : Edges) → AsksFor words (Replay config) → Replayed config status i j → j.content ≡ i.content → Ran words status i j
-ran-replayed words config status i j asked (inl r) kept = ran-printed words r.0 status i j (IsReplayDue config r.0) r.1 (λ s printed due. due_job words config r.0 i j s printed asked due) r.2
-ran-replayed words config status i j asked (inr r) kept = inr (inl (record { asked = inl (config, asked); rose = r.1; silent = record { status_is = r.0; taken_is = r.2; lost_kept = r.3; kept = kept } }))
+pub ran-replayed : (words : List (List ℕ)) (config : Config) (status : Status) (i j : Edges) → AsksFor words (Replay config) → Replayed config status i j → j.content ≡ i.content → j.missed ≡ i.missed → j.broken ≡ i.broken → Ran words status i j
+ran-replayed words config status i j asked (inl r) kept clock disk =
+    ran-printed words r.0 status i j (IsReplayDue config r.0) r.1 (λ s printed due. due_job words config r.0 i j s printed asked (record { input = r.2; clock = clock; disk = disk }) due) r.3
+ran-replayed words config status i j asked (inr r) kept clock disk = inr (inl (record { asked = inl (config, asked); rose = r.1; silent = record { status_is = r.0; taken_is = r.2; lost_kept = r.3; kept = kept } }))
 
 -- An archive that was to be made is a run.
 pub ran-made : (words : List (List ℕ)) (config : Config) (status : Status) (i j : Edges) → AsksFor words (Init config) → JobDone (Init config) [] status i j → Ran words status i j
 ran-made words config status i j asked (inl p) =
     let given = some-input i.left in
     ran-printed words given.0 status i j (IsOutcomeDue (Init config) [] i j) given.1
-    (λ s printed due. inl (record { job = Some (Init config); asked = asked; ends = record { outcome = due.outcome; acts = record { moment = due.acts.moment; first = due.acts.first; acts = due.acts.acts; fault = due.acts.fault }; status_is = due.status_is; printed_is = due.printed_is } })) p
+    (λ s printed due. inl (record { job = Some (Init config); asked = asked; ends = record { outcome = due.outcome; acts = record { moment = due.acts.moment; first = due.acts.first; acts = due.acts.acts; fault = due.acts.fault; input_kept = due.acts.input_kept; clock_kept = due.acts.clock_kept; disk_kept = due.acts.disk_kept }; status_is = due.status_is; printed_is = due.printed_is } })) p
 ran-made words config status i j asked (inr missed) = inr (inr (inl (record { asked = inl (config, asked); rose = missed.1; silent = missed.0 })))
 
 -- A message that was to be delivered is a run.
@@ -114,7 +115,7 @@ ran-delivered words status i j asked (inl (input, told, inl p)) =
 ran-delivered words status i j asked (inl (input, told, inr missed)) = inr (inr (inl (record { asked = inr asked; rose = missed.1; silent = missed.0 })))
 ran-delivered words status i j asked (inr (inl p)) =
     let given = some-input i.left in
-    ran-printed words given.0 status i j (IsUnread i j) given.1 (λ s printed unread. inr (inr (record { asked = asked; status_is = unread.status_is; printed_is = unread.printed_is; kept = unread.kept }))) p
+    ran-printed words given.0 status i j (IsUnread i j) given.1 (λ s printed unread. inr (inr (record { asked = asked; status_is = unread.status_is; printed_is = unread.printed_is; kept = unread.kept; spared = unread.spared }))) p
 ran-delivered words status i j asked (inr (inr failed)) = inr (inl (record { asked = inr asked; rose = failed.1; silent = failed.0 }))
 
 -- A check is a run.
@@ -132,22 +133,22 @@ outcome-due job input status i j o acts p =
 
 -- A job over the disk does not depend on the end of the input.
 pub job-moved : (job : Job) (input : List ℕ) (status : Status) (left left' : Option (List ℕ)) (unread unread' : ℕ) (taken taken' : Option (List ℕ)) (lost lost' : ℕ) (coming coming' : Option Moments) (missed missed' : ℕ) (content content' : Option Content) (broken broken' : ℕ)
-    → JobDone job input status (all_edges None 0 taken lost coming missed content broken) (all_edges None 0 taken' lost' coming' missed' content' broken')
+    → unread' ≡ unread → JobDone job input status (all_edges None 0 taken lost coming missed content broken) (all_edges None 0 taken' lost' coming' missed' content' broken')
     → JobDone job input status (all_edges left unread taken lost coming missed content broken) (all_edges left' unread' taken' lost' coming' missed' content' broken')
-job-moved job input status left left' unread unread' taken taken' lost lost' coming coming' missed missed' content content' broken broken' (inl p) =
+job-moved job input status left left' unread unread' taken taken' lost lost' coming coming' missed missed' content content' broken broken' same (inl p) =
     inl (printed-as taken lost taken' lost' _ _ status p (λ s words due. record {
       outcome = due.outcome;
-      acts = record { moment = due.acts.moment; first = due.acts.first; acts = due.acts.acts; fault = due.acts.fault };
+      acts = record { moment = due.acts.moment; first = due.acts.first; acts = due.acts.acts; fault = due.acts.fault; input_kept = same; clock_kept = due.acts.clock_kept; disk_kept = due.acts.disk_kept };
       status_is = due.status_is;
       printed_is = due.printed_is;
     }))
-job-moved job input status left left' unread unread' taken taken' lost lost' coming coming' missed missed' content content' broken broken' (inr m) =
+job-moved job input status left left' unread unread' taken taken' lost lost' coming coming' missed missed' content content' broken broken' same (inr m) =
     inr (record { status_is = m.0.status_is; taken_is = m.0.taken_is; lost_kept = m.0.lost_kept; kept = m.0.kept }, m.1)
 
 -- The line for out of memory is due if a message wasn't read.
-pub unread-due : (status : Status) (i j : Edges) (out : Option (List ℕ)) (lost : ℕ) (out' : Option (List ℕ)) (lost' : ℕ) → j.content ≡ i.content → Printed (Exactly (whole_line (codes "12 no memory")) exit.Memory) status out lost out' lost' → Printed (IsUnread i j) status out lost out' lost'
-unread-due status i j out lost out' lost' kept p =
-    printed-as out lost out' lost' (Exactly (whole_line (codes "12 no memory")) exit.Memory) (IsUnread i j) status p (λ s words e. record { status_is = e.status_is; printed_is = e.words_is; kept = kept })
+pub unread-due : (status : Status) (i j : Edges) (out : Option (List ℕ)) (lost : ℕ) (out' : Option (List ℕ)) (lost' : ℕ) → j.content ≡ i.content → NoneFailed i j → Printed (Exactly (whole_line (codes "12 no memory")) exit.Memory) status out lost out' lost' → Printed (IsUnread i j) status out lost out' lost'
+unread-due status i j out lost out' lost' kept spared p =
+    printed-as out lost out' lost' (Exactly (whole_line (codes "12 no memory")) exit.Memory) (IsUnread i j) status p (λ s words e. record { status_is = e.status_is; printed_is = e.words_is; kept = kept; spared = spared })
 
 -- Some moment is the first to come.
 pub some-moment : (coming : Option Moments) → (moment : ℕ) × IsFirst moment coming

@@ -1,5 +1,6 @@
 -- What `init`, `deliver` and `check` do to a disk, and how they end.
-use Rattle.std.specs.Prelude.{◌≡◌, ◌⊎◌, ℕ, true, List, length, Option, None, Ok, Err}
+use Rattle.std.specs.Prelude.{◌≡◌, ◌⊎◌, ℕ, true, List, length, Option, Some, None, Ok, Err}
+use Rattle.std.specs.List.{Contains}
 use Rattle.arch_base.specs.declared.config.Config.{Config}
 use Rattle.disk_model.specs.Disk.{Files, Content, Told, WhereTold, LeavesOnly}
 use Rattle.root_slots.specs.RootName.{root_name}
@@ -190,6 +191,24 @@ module _ {D : Type 0} (content : D → Option Content) (moment : D → ℕ)
   abbrev pub DeliveryLeaves : D → D → Standing → (Archive → Done) → Type 0
   DeliveryLeaves old new s wanted = LeavesOnly moment left_since old new (RecoversOf (one_of s))
       ⊎ DeliveryRuns old new s wanted
+
+  -- A delivery to one of some archives that the disk may have stood for, where it may have stood for
+  -- none. Until the sync a crash leaves one of them, or none; from then on, the archive that was found,
+  -- or what the delivery makes of it.
+  pub record DeliveryRunsAmong (old new : D) (may : List (Option Archive)) (wanted : Archive → Done)
+      : Type 0 where
+    pub found : Archive
+    pub is_among : Contains may (Some found)
+    pub reads : ReadsAs found (content old)
+    pub synced : D
+    pub only : Told IsOnlySynced (content old) (content synced)
+    pub before : LeavesOnly moment left_since old synced (RecoversOf may)
+    pub after : LeavesOnly moment left_since synced new (RecoversEither found (wanted found).archive)
+
+  -- The same; or nothing was delivered, and a crash leaves what it might have left before.
+  abbrev pub DeliveryLeavesAmong : D → D → List (Option Archive) → (Archive → Done) → Type 0
+  DeliveryLeavesAmong old new may wanted = LeavesOnly moment left_since old new (RecoversOf may)
+      ⊎ DeliveryRunsAmong old new may wanted
 
 -- The outcome tells that the disk failed.
 abbrev pub IsFault : Outcome → Type 0

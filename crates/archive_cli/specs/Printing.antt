@@ -11,10 +11,10 @@ use Rattle.arch_model.specs.Delivery.{delivered}
 use Rattle.arch_model.specs.Standing.{Standing, one_of}
 use Rattle.epoch_store.specs.Opens.{RecoversOf}
 use Rattle.answer_lines.specs.Lines.{whole_line}
-use Rattle.archive_cli.specs.DiskCommands.{DeliveryRuns}
+use Rattle.archive_cli.specs.DiskCommands.{DeliveryRuns, DeliveryRunsAmong}
 use Rattle.archive_cli.specs.declared.words.Job.{Job}
 use Rattle.archive_cli.specs.declared.words.Job.TheVariants.{Deliver}
-use Rattle.archive_cli.specs.Program.{Edges, EndsBy, IsSilent, IsInput, input_limit, Replays, StopsShort}
+use Rattle.archive_cli.specs.Program.{Edges, NoneFailed, EndsBy, IsSilent, IsInput, input_limit, Replays, StopsShort}
 use Rattle.edge_io.specs.Left.{before, IsUsedUp}
 use Rattle.archive_cli.specs.declared.status.Status.{Status}
 use Rattle.archive_cli.specs.declared.status.Status.TheVariants as exit
@@ -45,43 +45,46 @@ IsReplayDue config input status printed = Replays config input status printed
     ⊎ StopsShort config input status printed
 
 -- One more piece of the input was appended, and the bytes are at most `most`; or none remains; or
--- the source failed; or memory ran out for a piece, which was taken all the same.
+-- the source failed; or memory ran out for a piece, which was taken all the same. The count of faults
+-- stays unless the source failed.
 abbrev pub IsPieceRead : ℕ → Result Piece InputRefusal → Option (List ℕ) → Option (List ℕ) → List ℕ
     → List ℕ → ℕ → ℕ → Type 0
 IsPieceRead most (Ok End) left left' bytes bytes' faults faults' = (left ≡ left') × IsUsedUp left'
-    × (bytes' ≡ bytes)
+    × (bytes' ≡ bytes) × (faults' ≡ faults)
 IsPieceRead most (Ok More) left left' bytes bytes' faults faults' =
     (piece : List ℕ) × (left ≡ before piece left') × (bytes' ≡ bytes ++ piece) × (0 < length piece)
-    × (length bytes + length piece ≤ most)
+    × (length bytes + length piece ≤ most) × (faults' ≡ faults)
 IsPieceRead most (Err Fault) left left' bytes bytes' faults faults' = (left' ≡ left)
     × Rose faults faults'
 IsPieceRead most (Err TooLong) left left' bytes bytes' faults faults' = ⊥
 IsPieceRead most (Err NoMemory) left left' bytes bytes' faults faults' =
     (piece : List ℕ) × (left ≡ before piece left') × (length bytes + length piece ≤ most)
+    × (faults' ≡ faults)
 
 -- The first `most` bytes of the input were read, or all of it; or the source failed. Memory may run
--- out at any time.
+-- out at any time. The count of faults stays unless the source failed.
 abbrev pub IsFrontRead : ℕ → Option (List ℕ) → ℕ → Result (List ℕ) InputRefusal → ℕ → Type 0
-IsFrontRead most left faults (Ok bytes) faults' = (input : List ℕ) × IsInput left input
-    × (bytes ≡ take most input)
+IsFrontRead most left faults (Ok bytes) faults' =
+    ((input : List ℕ) × IsInput left input × (bytes ≡ take most input)) × (faults' ≡ faults)
 IsFrontRead most left faults (Err TooLong) faults' = ⊥
 IsFrontRead most left faults (Err Fault) faults' = Rose faults faults'
-IsFrontRead most left faults (Err NoMemory) faults' = Unit {0}
+IsFrontRead most left faults (Err NoMemory) faults' = faults' ≡ faults
 
 -- The whole input was read, or it is too long, or the source failed. Memory may run out at any
--- time.
+-- time. The count of faults stays unless the source failed.
 abbrev pub IsRead : Option (List ℕ) → ℕ → Result (List ℕ) InputRefusal → ℕ → Type 0
 IsRead left faults (Ok bytes) faults' = IsInput left bytes × (length bytes ≤ input_limit)
+    × (faults' ≡ faults)
 IsRead left faults (Err TooLong) faults' = (input : List ℕ) × IsInput left input
-    × (input_limit < length input)
+    × (input_limit < length input) × (faults' ≡ faults)
 IsRead left faults (Err Fault) faults' = Rose faults faults'
-IsRead left faults (Err NoMemory) faults' = Unit {0}
+IsRead left faults (Err NoMemory) faults' = faults' ≡ faults
 
--- A script on the input was run: what was due is printed, or the input failed and nothing is
--- printed.
+-- A script on the input was run, and the input didn't fail: what was due is printed. Or the input
+-- failed and nothing is printed.
 abbrev pub Replayed : Config → Status → Edges → Edges → Type 0
 Replayed config status i j =
-    ((input : List ℕ) × IsInput i.left input
+    ((input : List ℕ) × IsInput i.left input × (j.unread ≡ i.unread)
     × Printed (IsReplayDue config input) status i.taken i.lost j.taken j.lost)
     ⊎ ((status ≡ exit.Edges) × Rose i.unread j.unread × (j.taken ≡ i.taken) × (j.lost ≡ i.lost))
 
@@ -106,11 +109,21 @@ BytesLeave content moment left_since old new s bytes coming =
     ⊎ ((at : ℕ) × IsFirst at coming
     × DeliveryRuns content moment left_since old new s (λ (a : Archive). delivered a bytes at))
 
--- The message was not read, because memory ran out.
+-- The same where the disk may have stood for any of these archives, or for none.
+abbrev pub BytesLeaveAmong : {D : Type 0} → (D → Option Content) → (D → ℕ)
+    → (D → ℕ → Files → Type 0) → D → D → List (Option Archive) → List ℕ → Option Moments → Type 0
+BytesLeaveAmong content moment left_since old new may bytes coming =
+    LeavesOnly moment left_since old new (RecoversOf may)
+    ⊎ ((at : ℕ) × IsFirst at coming
+    × DeliveryRunsAmong content moment left_since old new may
+    (λ (a : Archive). delivered a bytes at))
+
+-- The message was not read, because memory ran out. No device failed.
 pub record IsUnread (i j : Edges) (status : Status) (printed : List ℕ) : Type 0 where
   pub status_is : status ≡ exit.Memory
   pub printed_is : printed ≡ whole_line (codes "12 no memory")
   pub kept : j.content ≡ i.content
+  pub spared : NoneFailed i j
 
 -- The message on the input was to be delivered: what was due is printed, or the message was not
 -- read, or the input failed.

@@ -14,7 +14,7 @@ use Rattle.epoch_store.specs.Files.{as_read}
 use Rattle.epoch_store.specs.First.{MakingLeaves}
 use Rattle.epoch_store.specs.Opens.{ReadsAs, RecoversOf}
 use Rattle.answer_lines.specs.Lines.{whole_line}
-use Rattle.archive_cli.specs.DiskCommands.{Makes, DeliversTo, ChecksTo, IsOpenedAs, IsFault, IsDelivery, IsCheck, StandsAs, DeliversOn, ChecksOn, DeliveryRuns, LeavesUnopened}
+use Rattle.archive_cli.specs.DiskCommands.{Makes, DeliversTo, ChecksTo, IsOpenedAs, IsFault, IsDelivery, IsCheck, StandsAs, DeliversOn, ChecksOn, DeliveryRuns, DeliveryRunsAmong, LeavesUnopened}
 use Rattle.archive_cli.specs.Outcomes.{outcome_line, status_of}
 use Rattle.archive_cli.specs.Statuses.{code_of}
 use Rattle.archive_cli.specs.Words.{IsJob, AsksFor}
@@ -108,6 +108,12 @@ all_edges left unread taken lost coming missed content broken =
       broken = broken;
     }
 
+-- The input, the clock and the disk didn't fail: their counts of faults are as before.
+pub record NoneFailed (i j : Edges) : Type 0 where
+  pub input : j.unread ≡ i.unread
+  pub clock : j.missed ≡ i.missed
+  pub disk : j.broken ≡ i.broken
+
 -- The settings of an archive that is made at a moment. `born` is that moment, but at least 1 and at
 -- most 2^32 - 1.
 abbrev pub made_at : Config → ℕ → Config
@@ -152,12 +158,17 @@ ActsBy Help input moment old new o = ⊥
 ActsBy Version input moment old new o = ⊥
 ActsBy (Replay config) input moment old new o = ⊥
 
--- The same, at the first moment to come. The disk failed only if its count of faults rose.
+-- The same, at the first moment to come. The input and the clock didn't fail. The disk's count of
+-- faults rose if the outcome tells that the disk failed, and otherwise stays. So no fault is told as
+-- out of memory.
 pub record Acts (job : Job) (input : List ℕ) (i j : Edges) (o : Outcome) : Type 0 where
   pub moment : ℕ
   pub first : IsFirst moment i.coming
   pub acts : ActsBy job input moment i.content j.content o
   pub fault : IsFault o → Rose i.broken j.broken
+  pub input_kept : j.unread ≡ i.unread
+  pub clock_kept : j.missed ≡ i.missed
+  pub disk_kept : (IsFault o → ⊥) → j.broken ≡ i.broken
 
 -- What a job over the archive on a disk ends with.
 pub record EndsBy (job : Job) (input : List ℕ) (i j : Edges) (status : Status) (printed : List ℕ)
@@ -201,24 +212,26 @@ pub record StopsShort (config : Config) (input : List ℕ) (status : Status) (pr
   pub played : (frames ≡ []) ⊎ PlaysPart config input frames
   pub printed_is : printed ≡ frames ++ whole_line (codes "12 no memory")
 
--- The words ask for a replay, which ran out of memory.
-pub record ReplayRunsOut (words : List (List ℕ)) (input : List ℕ) (status : Status)
+-- The words ask for a replay, which ran out of memory. No device failed.
+pub record ReplayRunsOut (words : List (List ℕ)) (input : List ℕ) (i j : Edges) (status : Status)
     (printed : List ℕ) : Type 0 where
   pub config : Config
   pub asked : AsksFor words (Replay config)
   pub stops : StopsShort config input status printed
+  pub spared : NoneFailed i j
 
--- Out of memory, a message isn't read, and the disk is unchanged.
+-- Out of memory, a message isn't read, and the disk is unchanged. No device failed.
 pub record DeliverRunsOut (words : List (List ℕ)) (i j : Edges) (status : Status) (printed : List ℕ)
     : Type 0 where
   pub asked : AsksFor words Deliver
   pub status_is : status ≡ exit.Memory
   pub printed_is : printed ≡ whole_line (codes "12 no memory")
   pub kept : j.content ≡ i.content
+  pub spared : NoneFailed i j
 
 -- A replay or a delivery ran out of memory.
 abbrev pub RunsOut : List (List ℕ) → List ℕ → Edges → Edges → Status → List ℕ → Type 0
-RunsOut words input i j status printed = ReplayRunsOut words input status printed
+RunsOut words input i j status printed = ReplayRunsOut words input i j status printed
     ⊎ DeliverRunsOut words i j status printed
 
 -- What a run is to print, and its status if all of that is taken.
@@ -325,6 +338,16 @@ RunLeaves content moment left_since old new s left coming =
     LeavesOnly moment left_since old new (RecoversOf (one_of s))
     ⊎ ((input : List ℕ) × IsInput left input × (at : ℕ) × IsFirst at coming
     × DeliveryRuns content moment left_since old new s
+    (λ (a : Archive). delivered a (message_of input) at))
+
+-- The same where the disk may have stood for any of these archives, or for none, as after an `init` in
+-- doubt.
+abbrev pub RunLeavesAmong : {D : Type 0} → (D → Option Content) → (D → ℕ) → (D → ℕ → Files → Type 0)
+    → D → D → List (Option Archive) → Option (List ℕ) → Option Moments → Type 0
+RunLeavesAmong content moment left_since old new may left coming =
+    LeavesOnly moment left_since old new (RecoversOf may)
+    ⊎ ((input : List ℕ) × IsInput left input × (at : ℕ) × IsFirst at coming
+    × DeliveryRunsAmong content moment left_since old new may
     (λ (a : Archive). delivered a (message_of input) at))
 
 -- The words ask for a job without a disk.

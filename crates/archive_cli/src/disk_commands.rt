@@ -12,7 +12,7 @@ ghost use Rattle.arch_model.specs.Standing.{Standing};
 ghost use Rattle.epoch_store.specs.Files.{as_read};
 ghost use Rattle.epoch_store.specs.First.{MakingLeaves};
 ghost use Rattle.epoch_store.specs.Opens.{AllRecoverOf, ReadsAs, RecoversOf};
-ghost use Rattle.archive_cli.specs.DiskCommands.{Makes, unmade, DeliversTo, ChecksTo, IsOpenedAs, LeavesUnopened, IsDelivery, IsCheck, StandsAs, DeliversOn, ChecksOn, DeliveryLeaves, IsFault};
+ghost use Rattle.archive_cli.specs.DiskCommands.{Makes, unmade, DeliversTo, ChecksTo, IsOpenedAs, LeavesUnopened, IsDelivery, IsCheck, StandsAs, DeliversOn, ChecksOn, DeliveryLeaves, DeliveryLeavesAmong, IsFault};
 
 use crate::outcome::Outcome;
 use arch_base::Config;
@@ -52,6 +52,9 @@ pub(crate) fn deliver<D: Disk>(alloc: Global, disk: D, bytes: &[u8], moment: u64
     requires moment { moment ≤ last_moment }
     ensures any_moment { (s : Standing) → StandsAs s (D.content disk)
         → DeliveryLeaves D.content D.moment D.left_since disk result.1 s
+        (λ (a : Archive). delivered a bytes.now moment) }
+    ensures among { (may : List (Option Archive)) → AllRecoverOf may (D.content disk)
+        → DeliveryLeavesAmong D.content D.moment D.left_since disk result.1 may
         (λ (a : Archive). delivered a bytes.now moment) }
     ensures stands { (s : Standing) → StandsAs s (D.content disk) → (t : Standing)
         × StandsAs t (D.content result.1)

@@ -10,8 +10,8 @@ ghost use Rattle.arch_base.specs.declared.config.Config.{Config};
 ghost use Rattle.arch_model.specs.Standing.{Standing};
 ghost use Rattle.archive_cli.specs.DiskCommands.{StandsAs};
 ghost use Rattle.archive_cli.specs.Outcomes.{outcome_line, status_of};
-ghost use Rattle.archive_cli.specs.Program.{RanTo, TakesInput, TookAtMost, LeavesDisk, AsksForInit, WordsLeave, InitLeaves, RunLeaves, all_edges, edges, input_limit, message_limit, message_of, made_at};
-ghost use Rattle.archive_cli.specs.Printing.{Printed, Exactly, IsReplayDue, Replayed, JobDone, InputDone, BytesLeave};
+ghost use Rattle.archive_cli.specs.Program.{RanTo, TakesInput, TookAtMost, LeavesDisk, AsksForInit, WordsLeave, InitLeaves, RunLeaves, RunLeavesAmong, all_edges, edges, input_limit, message_limit, message_of, made_at};
+ghost use Rattle.archive_cli.specs.Printing.{Printed, Exactly, IsReplayDue, Replayed, JobDone, InputDone, BytesLeave, BytesLeaveAmong};
 ghost use Rattle.arch_base.specs.Configs.{IsConfig};
 ghost use Rattle.edge_io.specs.Phrases.{Says};
 ghost use Rattle.edge_io.specs.Scripts.{IsArrival, IsScript};
@@ -60,6 +60,11 @@ pub fn run<D: Disk, S: Source, O: Sink, C: Clock>(
     ensures deliver { (s : Standing) → AsksFor (spelled words.now) Deliver
         → StandsAs s (D.content disk) → RunLeaves D.content D.moment D.left_since disk result.1 s
         (S.left input.old) (C.coming clock.old) }
+    // The same where there may be no archive, as after an `init` in doubt.
+    ensures among { (may : List (Option Archive)) → AsksFor (spelled words.now) Deliver
+        → AllRecoverOf may (D.content disk)
+        → RunLeavesAmong D.content D.moment D.left_since disk result.1 may (S.left input.old)
+        (C.coming clock.old) }
     // A crash while an archive is checked leaves one that the disk may have stood for.
     ensures check { (may : List (Option Archive)) → AsksFor (spelled words.now) Check
         → AllRecoverOf may (D.content disk)
@@ -146,13 +151,18 @@ fn deliver_input<D: Disk, S: Source, O: Sink, C: Clock>(
     ensures any_moment { (s : Standing) → StandsAs s (D.content disk)
         → RunLeaves D.content D.moment D.left_since disk result.1 s (S.left input.old)
         (C.coming clock.old) }
+    ensures among { (may : List (Option Archive)) → AllRecoverOf may (D.content disk)
+        → RunLeavesAmong D.content D.moment D.left_since disk result.1 may (S.left input.old)
+        (C.coming clock.old) }
     ensures disk_later { D.faults disk ≤ D.faults result.1 }
     ensures clock_later { C.faults clock.old ≤ C.faults clock.new }
     ensures sink { O.alike out.old out.new }
 {
     match read_message(alloc, input) {
         Err(InputRefusal::Fault) => (Status::Edges, disk),
-        Err(_refused) => (print_no_memory(out), disk),
+        Err(InputRefusal::NoMemory) => (print_no_memory(out), disk),
+        // A message's front is never too long.
+        Err(InputRefusal::TooLong) => (print_no_memory(out), disk),
         Ok(bytes) => deliver_bytes(alloc, disk, bytes.as_slice(), out, clock),
     }
 }
@@ -173,6 +183,9 @@ fn deliver_bytes<D: Disk, O: Sink, C: Clock>(
         (C.faults clock.new) (D.content result.1) (D.faults result.1)) }
     ensures any_moment { (s : Standing) → StandsAs s (D.content disk)
         → BytesLeave D.content D.moment D.left_since disk result.1 s bytes.now
+        (C.coming clock.old) }
+    ensures among { (may : List (Option Archive)) → AllRecoverOf may (D.content disk)
+        → BytesLeaveAmong D.content D.moment D.left_since disk result.1 may bytes.now
         (C.coming clock.old) }
     ensures disk_later { D.faults disk ≤ D.faults result.1 }
     ensures clock_later { C.faults clock.old ≤ C.faults clock.new }

@@ -8,13 +8,15 @@ use Rattle.std.proofs.lemmas.List.Sorted.{IsNonDecreasingBy-from_all_adjacent}
 use Rattle.std.proofs.lemmas.Option.{slice_get_within, slice_get-get_or}
 use Rattle.disk_model.specs.Disk.{Content}
 use Rattle.arch_model.specs.Archives.{Entry, Archive, text_of}
-use Rattle.arch_model.specs.Shelves.{IsGreatestLive}
-use Rattle.arch_model.specs.Standing.{IsLeastLive, GivesTextIn}
+use Rattle.arch_model.specs.Shelves.{IsGreatestLive, AppendsTo}
+use Rattle.arch_model.specs.Standing.{IsLeastLive, GivesTextIn, KeepsUnlessFound}
 use Rattle.arch_model.specs.Validity.{Rise}
+use Rattle.arch_model.proofs.Shelving.{appends-none}
+use Rattle.root_slots.specs.declared.root.Root.{Root}
 use Rattle.arch_model.specs.declared.text_refusal.TextRefusal.{TextRefusal}
 use Rattle.arch_model.specs.declared.text_refusal.TextRefusal.TheVariants.{DiskFault, Damaged, NoMemory}
 use Rattle.epoch_store.specs.declared.entries.StoredEntry.{StoredEntry}
-use Rattle.epoch_store.specs.Reads.{GivesText, GivesTextOf, text_if}
+use Rattle.epoch_store.specs.Reads.{GivesText, GivesTextOf, text_if, IsEpochFound}
 use Rattle.epoch_store.specs.Stores.{View, Keeps, IsStoreWith, stored_at, stored_after}
 use Rattle.archive_core.specs.Numbers.{has_number, NumbersRise, IsNumberAt, IsCountBelow, IsCountUpTo, GivesTextKept, TellsOther}
 use Rattle.archive_core.proofs.Standing.{store_keeps}
@@ -267,3 +269,16 @@ pub other_refused : (T U : Type 0) (why : TextRefusal) → TellsOther {T = T} (E
 other_refused T U (Damaged named found) other = other
 other_refused T U DiskFault other = tt
 other_refused T U NoMemory other = tt
+
+-- A text was appended, or nothing was.
+pub kept_appends : (entries : List StoredEntry) (n : ℕ) (old new : List ℕ) (r : Result Unit TextRefusal) → GivesTextKept entries n old new r → AppendsTo old new
+kept_appends entries n old new (Ok done) given = (given.4.0, given.4.2)
+kept_appends entries n old new (Err DiskFault) given = appends-none old new given.4
+kept_appends entries n old new (Err (Damaged named found)) given = appends-none old new given.4.0
+kept_appends entries n old new (Err NoMemory) given = appends-none old new given.4
+
+-- The bytes of an epoch were appended, or nothing was.
+pub epoch_appends : (root : Root) (e : ℕ) (old new : List ℕ) (r : Result Bool TextRefusal) → IsEpochFound root e old new r → KeepsUnlessFound old new r → AppendsTo old new
+epoch_appends root e old new (Ok true) found kept = (found.0, found.3)
+epoch_appends root e old new (Ok false) found kept = appends-none old new kept
+epoch_appends root e old new (Err refused) found kept = appends-none old new kept

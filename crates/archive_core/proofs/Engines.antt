@@ -90,15 +90,15 @@ cache_is caches v cache a (Some k) fit store d may each =
 -- The causes of refusals.
 pub opening-why : {T : Type 0} (before now : ℕ) (why : OpenRefusal) (r : Result T OpenRefusal) → r ≡ Err why → RoseIf (r ≡ Err refusal.DiskFault) before now → OpeningWhy before now why
 opening-why before now refusal.DiskFault r is rose = rose.failed is
-opening-why before now refusal.NoMemory r is rose = tt
+opening-why before now refusal.NoMemory r is rose = rose.kept (λ fault. absurd (cc (sym is ∙ fault)))
 opening-why before now refusal.NoArchive r is rose = tt
 opening-why before now (refusal.Damaged file at) r is rose = tt
 
 pub read-cause : {T : Type 0} (before now : ℕ) (r : Result T TextRefusal) → RoseIf (r ≡ Err reading.DiskFault) before now → TellsOther r → ReadCause before now r
-read-cause before now (Ok x) rose other = tt
+read-cause before now (Ok x) rose other = rose.kept (λ fault. absurd (cc fault))
 read-cause before now (Err reading.DiskFault) rose other = rose.failed refl
 read-cause before now (Err (reading.Damaged named found)) rose other = other
-read-cause before now (Err reading.NoMemory) rose other = tt
+read-cause before now (Err reading.NoMemory) rose other = rose.kept (λ fault. absurd (cc fault))
 
 pub quiet-other : {T : Type 0} (r : Result T TextRefusal) → AnswersQuietly r → TellsOther r
 quiet-other (Ok x) quiet = tt
@@ -108,7 +108,7 @@ quiet-other (Err reading.NoMemory) quiet = tt
 
 pub answer-cause : (before now : ℕ) (reply : Answer) → RoseIf (reply ≡ answer.DiskFault) before now → AnswerCause before now reply
 answer-cause before now answer.DiskFault rose = rose.failed refl
-answer-cause before now answer.NoMemory rose = tt
+answer-cause before now answer.NoMemory rose = rose.kept (λ fault. absurd (cc fault))
 answer-cause before now (answer.Ok number id) rose = tt
 answer-cause before now (answer.Duplicate number) rose = tt
 answer-cause before now answer.NoFields rose = tt
@@ -350,6 +350,12 @@ module _ {D : Type 0} (content : D → Option Content) (moment : D → ℕ) (lef
 
     pub opening-why-from : {T : Type 0} (faults : D → ℕ) (disk : D) (why : OpenRefusal) (r : Result T OpenRefusal) → r ≡ Err why → RoseIf (r ≡ Err refusal.DiskFault) (faults inside.disk) (faults disk) → OpeningWhy (faults old.disk) (faults disk) why
     opening-why-from faults disk why r err rose = subst (λ (o : Owning D). OpeningWhy (faults o.disk) (faults disk) why) is (opening-why (faults inside.disk) (faults disk) why r err rose)
+
+    pub opened-cause-from : {T : Type 0} (faults : D → ℕ) (disk : D) (x : T) (r : Result T OpenRefusal) → r ≡ Ok x → RoseIf (r ≡ Err refusal.DiskFault) (faults inside.disk) (faults disk) → faults disk ≡ faults old.disk
+    opened-cause-from faults disk x r ok rose = subst (λ (o : Owning D). faults disk ≡ faults o.disk) is (rose.kept (λ fault. absurd (cc (sym ok ∙ fault))))
+
+    pub steady-from : (faults : D → ℕ) (disk : D) (reply : Answer) → RoseIf (reply ≡ answer.DiskFault) (faults inside.disk) (faults disk) → (reply ≡ answer.DiskFault → ⊥) → faults disk ≡ faults old.disk
+    steady-from faults disk reply rose free = subst (λ (o : Owning D). faults disk ≡ faults o.disk) is (rose.kept free)
 
     pub answer-cause-from : (faults : D → ℕ) (disk : D) (reply : Answer) → RoseIf (reply ≡ answer.DiskFault) (faults inside.disk) (faults disk) → AnswerCause (faults old.disk) (faults disk) reply
     answer-cause-from faults disk reply rose = subst (λ (o : Owning D). AnswerCause (faults o.disk) (faults disk) reply) is (answer-cause (faults inside.disk) (faults disk) reply rose)

@@ -1,5 +1,5 @@
 //! An archive that owns its disk.
-ghost use Rattle.std.specs.Prelude.{◌≡◌, ◌≤◌, true, false, IfOk, List, None, length, ℕ};
+ghost use Rattle.std.specs.Prelude.{◌≡◌, ◌≢◌, ◌≤◌, true, false, IfOk, List, None, length, ℕ};
 ghost use Rattle.arch_base.specs.Configs.{IsConfig};
 ghost use Rattle.arch_base.specs.Moments.{last_moment};
 ghost use Rattle.disk_model.specs.Disk.{LeavesOnly};
@@ -7,6 +7,7 @@ ghost use Rattle.arch_model.specs.Archives.{Archive};
 ghost use Rattle.arch_model.specs.Delivery.{applied};
 ghost use Rattle.arch_model.specs.Keeping.{Moves, Comes, AnswerCause};
 ghost use Rattle.arch_model.specs.Standing.{Standing, standing};
+ghost use Rattle.arch_model.specs.declared.answer.Answer.{Answer};
 ghost use Rattle.epoch_store.specs.Promises.{MakesArchive, OpensArchive};
 ghost use Rattle.epoch_store.specs.Stores.{IsStoreWith, RecoversEitherWith};
 ghost use Rattle.archive_core.specs.Commands.{DoneBy, IsForCommand};
@@ -174,6 +175,9 @@ impl<D: Disk> Engine<D> {
         ensures never_damaged { IsForCommand result }
         ensures later { D.faults self.old.disk ≤ D.faults self.new.disk }
         ensures cause { AnswerCause (D.faults self.old.disk) (D.faults self.new.disk) result }
+        // Each fault of the disk is told.
+        ensures steady { result ≢ Answer.DiskFault
+            → D.faults self.new.disk ≡ D.faults self.old.disk }
         ensures reads { D.reads self.new.disk ≡ D.reads self.old.disk }
     {
         law_of_recovery();

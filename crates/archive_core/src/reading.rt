@@ -3,7 +3,7 @@ ghost use Rattle.std.specs.Prelude.{◌≡◌, ◌≤◌, ◌<◌, ◌+◌, ◌^
 ghost use Rattle.arch_base.specs.Counts.{RoseIf};
 ghost use Rattle.disk_model.specs.Disk.{Image, Told, Unchanged, LeavesOnly};
 ghost use Rattle.arch_model.specs.Archives.{Archive, in_epoch, text_of, blob_number};
-ghost use Rattle.arch_model.specs.Shelves.{IsGreatestLive, live_between, line_at, GivesBlobIn};
+ghost use Rattle.arch_model.specs.Shelves.{IsGreatestLive, live_between, line_at, GivesBlobIn, AppendsTo};
 ghost use Rattle.arch_model.specs.Standing.{IsLeastLive, GivesTextIn, GivesEpochIn, KeepsUnlessFound};
 ghost use Rattle.arch_model.specs.declared.text_refusal.TextRefusal.{TextRefusal};
 ghost use Rattle.epoch_store.specs.Reads.{AnswersQuietly};
@@ -120,6 +120,7 @@ impl DiskArchive {
             → IsStoreWith self.now cache a (D.content disk.old)
             → GivesBlobIn a.entries id.now.0 into.old into.new result }
         ensures kept { KeepsUnlessFound into.old into.new result }
+        ensures appends { AppendsTo into.old into.new }
         ensures other { TellsOther result }
         ensures same { Told Unchanged (D.content disk.old) (D.content disk.new) }
         ensures any_moment { LeavesOnly D.moment D.left_since disk.old disk.new
@@ -162,6 +163,7 @@ impl DiskArchive {
             → IsStoreWith self.now cache a (D.content disk.old)
             → GivesEpochIn (in_epoch a.entries epoch) into.old into.new result }
         ensures kept { KeepsUnlessFound into.old into.new result }
+        ensures appends { AppendsTo into.old into.new }
         ensures undamaged { AnswersQuietly result }
         ensures same { Told Unchanged (D.content disk.old) (D.content disk.new) }
         ensures any_moment { LeavesOnly D.moment D.left_since disk.old disk.new

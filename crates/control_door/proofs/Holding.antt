@@ -44,18 +44,18 @@ held-unfinished bytes None h = rw h refl
 held-unfinished bytes (Some payload) h = payload-unfinished bytes payload.start payload.end h
 
 -- The beginning of a request is kept.
-pub keeps : (moment : ℕ) (opened : Bool) (s : Standing) (bytes : List ℕ) (payload : Option Payload) (i : Outside) → IsHeld bytes payload → (is_request bytes ≡ false) × Acts (said moment s (waiting bytes opened)) i (Some (waiting bytes opened)) s i
+pub keeps : (moment : ℕ) (opened : Bool) (s : Standing) (bytes : List ℕ) (payload : Option Payload) (i : Outside) → IsHeld bytes payload → (is_request bytes ≡ false) × (i.disk ≡ i.disk) × Acts (said moment s (waiting bytes opened)) i (Some (waiting bytes opened)) s i
 keeps moment opened s bytes payload i h =
     let part = held-unfinished bytes payload h in
     let w : Waiting = waiting bytes opened in
-    (ap is_asked part, acts-silent (said moment s w) (silent s w) i i (Some w) s (rw part refl) refl refl refl (omega arith) refl refl)
+    (ap is_asked part, refl, acts-silent (said moment s w) (silent s w) i i (Some w) s (rw part refl) refl refl refl (omega arith) refl refl)
 
 -- An empty piece leaves what was held.
 pub keeps-nothing : (moment : ℕ) (opened : Bool) (s : Standing) (old piece : List ℕ) (payload : Option Payload) (i : Outside) → piece ≡ [] → IsHeld (old ++ piece) payload
-    → (is_request (old ++ piece) ≡ false) × Acts (said moment s (waiting (old ++ piece) opened)) i (Some (waiting old opened)) s i
+    → (is_request (old ++ piece) ≡ false) × (i.disk ≡ i.disk) × Acts (said moment s (waiting (old ++ piece) opened)) i (Some (waiting old opened)) s i
 keeps-nothing moment opened s old piece payload i none h =
     let same : old ++ piece ≡ old = ap (λ (p : List ℕ). old ++ p) none ∙ append-nil old in
-    subst (λ (kept : List ℕ). (is_request (old ++ piece) ≡ false) × Acts (said moment s (waiting (old ++ piece) opened)) i (Some (waiting kept opened)) s i) same (keeps moment opened s (old ++ piece) payload i h)
+    subst (λ (kept : List ℕ). (is_request (old ++ piece) ≡ false) × (i.disk ≡ i.disk) × Acts (said moment s (waiting (old ++ piece) opened)) i (Some (waiting kept opened)) s i) same (keeps moment opened s (old ++ piece) payload i h)
 
 -- Out of memory for a piece that isn't empty closes the session.
 unkept-closes : (s : Standing) (w : Waiting) (old piece : List ℕ) → 0 < length piece → unkept s w (old ++ piece) ≡ closes s memory_word
@@ -64,12 +64,12 @@ unkept-closes s w [] (byte ∷ piece) some = refl
 unkept-closes s w [] [] some = absurd (omega (arith, some))
 
 -- The word for out of memory closes the session.
-pub closes-keeping : (moment : ℕ) (opened : Bool) (s : Standing) (old piece : List ℕ) (payload : Option Payload) (i j : Outside) (sent : Result Unit SinkFault) → 0 < length piece → IsHeld (old ++ piece) payload → i.disk ≤ j.disk → Says memory_word i.out i.lost j.out j.lost sent
+pub closes-keeping : (moment : ℕ) (opened : Bool) (s : Standing) (old piece : List ℕ) (payload : Option Payload) (i j : Outside) (sent : Result Unit SinkFault) → 0 < length piece → IsHeld (old ++ piece) payload → j.disk ≡ i.disk → Says memory_word i.out i.lost j.out j.lost sent
     → Acts (said moment s (waiting (old ++ piece) opened)) i None s j
-closes-keeping moment opened s old piece payload i j sent some h later words =
+closes-keeping moment opened s old piece payload i j sent some h same words =
     let part = held-unfinished (old ++ piece) payload h in
     let w : Waiting = waiting (old ++ piece) opened in
-    acts-closing (said moment s w) Memory (closes s memory_word) i j s sent (rw part (unkept-closes s w old piece some)) refl (λ d. absurd (cc d)) later words refl
+    acts-closing (said moment s w) Memory (closes s memory_word) i j s sent (rw part (unkept-closes s w old piece some)) refl same (omega (arith, same)) words refl
 
 -- The answer to a request is the answer to the bytes that start with it.
 acts-asked : (moment : ℕ) (s : Standing) (bytes : List ℕ) (request : Request) (rest : List ℕ) (i : Outside) (held : Option Waiting) (t : Standing) (j : Outside) → ahead bytes ≡ Asked request rest → Acts (said_to moment s request rest) i held t j

@@ -80,7 +80,7 @@ IsTurn moment opened s old piece i (Went n) t new j =
     (is_request (old ++ piece) ≡ true) × Acts (said moment s (waiting (old ++ piece) opened)) i
     (Some (waiting (new ++ drop n piece) false)) t j
 IsTurn moment opened s old piece i Kept t new j =
-    (is_request (old ++ piece) ≡ false)
+    (is_request (old ++ piece) ≡ false) × (j.disk ≡ i.disk)
     × Acts (said moment s (waiting (old ++ piece) opened)) i (Some (waiting new opened)) t j
 IsTurn moment opened s old piece i Closed t new j =
     Acts (said moment s (waiting (old ++ piece) opened)) i None t j

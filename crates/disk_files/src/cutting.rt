@@ -1,7 +1,7 @@
 //! Cuts files to their first bytes.
 ghost use Rattle.std.specs.Prelude.{◌≡◌, OnOk};
 ghost use Rattle.std.specs.List.{Contains};
-ghost use Rattle.arch_base.specs.Counts.{IsCaused};
+ghost use Rattle.arch_base.specs.Counts.{HasCause};
 ghost use Rattle.disk_model.specs.Beside.{Bounds, Respects, RunsBeside};
 ghost use Rattle.disk_model.specs.Disk.{LeavesOnly, OneFile, Told};
 ghost use Rattle.disk_files.specs.declared.cutting.FilePart.{FilePart};
@@ -26,7 +26,7 @@ fn trim<D: Disk>(disk: &mut D, part: FilePart) -> Result<(), DiskFault>
         → RunsBeside D.content D.moment D.left_since bounds disk.old disk.new }
     ensures done { OnOk result (Told (OneFile part.file (TrimmedTo part.length))
         (D.content disk.old) (D.content disk.new)) }
-    ensures cause { IsCaused (D.faults disk.old) (D.faults disk.new) result }
+    ensures cause { HasCause (D.faults disk.old) (D.faults disk.new) result }
     ensures count { D.reads disk.new ≡ D.reads disk.old }
 {
     let length = disk.length(part.file)?;
@@ -50,7 +50,7 @@ pub fn cut_files<D: Disk>(disk: &mut D, parts: &[FilePart]) -> Result<(), DiskFa
         → RunsBeside D.content D.moment D.left_since bounds disk.old disk.new }
     // After `Ok` each file reads as its part, and the others are as they were.
     ensures done { OnOk result (Told (AreCut parts.now) (D.content disk.old) (D.content disk.new)) }
-    ensures cause { IsCaused (D.faults disk.old) (D.faults disk.new) result }
+    ensures cause { HasCause (D.faults disk.old) (D.faults disk.new) result }
     ensures count { D.reads disk.new ≡ D.reads disk.old }
 {
     for part in parts {

@@ -1,7 +1,7 @@
 //! Removes files.
 ghost use Rattle.std.specs.Prelude.{◌≡◌, OnOk};
 ghost use Rattle.std.specs.List.{Contains};
-ghost use Rattle.arch_base.specs.Counts.{IsCaused};
+ghost use Rattle.arch_base.specs.Counts.{HasCause};
 ghost use Rattle.disk_model.specs.declared.name.FileName.{FileName};
 ghost use Rattle.disk_model.specs.Beside.{Bounds, Respects, RunsBeside};
 ghost use Rattle.disk_model.specs.Disk.{LeavesOnly, Told};
@@ -21,7 +21,7 @@ pub fn remove_files<D: Disk>(disk: &mut D, names: &[FileName]) -> Result<(), Dis
     // After `Ok` none of them is there, and the others are as they were.
     ensures done { OnOk result
         (Told (AreRemoved names.now) (D.content disk.old) (D.content disk.new)) }
-    ensures cause { IsCaused (D.faults disk.old) (D.faults disk.new) result }
+    ensures cause { HasCause (D.faults disk.old) (D.faults disk.new) result }
     ensures count { D.reads disk.new ≡ D.reads disk.old }
 {
     for name in names {

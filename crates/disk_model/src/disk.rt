@@ -1,6 +1,6 @@
 //! The `Disk` trait: what reads give, and what a crash may leave.
 ghost use Rattle.std.specs.Prelude.{◌≡◌, ◌≤◌, Some, ◌<◌, ◌+◌, ◌^◌, ℕ, Bool, Option, length, is_ok, IfOk, OnOk, OnErr};
-ghost use Rattle.arch_base.specs.Counts.{IsCaused};
+ghost use Rattle.arch_base.specs.Counts.{HasCause};
 ghost use Rattle.disk_model.specs.declared.name.FileName.{FileName};
 ghost use Rattle.disk_model.specs.Disk.{Files, Content, Image, Told, WhereTold, OneFile, Unchanged, Wrote, Tore, CutTo, TornCut, Removed, TornRemoval, Synced, NotSynced, HasRead, IsLength, IsAtMostLength, IsNameAt, Elapses, Fits};
 
@@ -58,7 +58,7 @@ pub trait Disk {
         ensures same { Told Unchanged (content self.old) (content self.new) }
         ensures time { Elapses (moment self.old) (moment self.new) (left_since self.old)
             (left_since self.new) (content self.new) }
-        ensures cause { IsCaused (faults self.old) (faults self.new) result }
+        ensures cause { HasCause (faults self.old) (faults self.new) result }
         ensures plan { fails_by self.old (is_ok result) self.new }
         ensures fewest { reads self.old ≤ reads self.new }
         ensures count { reads self.new ≤ reads self.old + 1 };
@@ -69,7 +69,7 @@ pub trait Disk {
         ensures same { Told Unchanged (content self.old) (content self.new) }
         ensures time { Elapses (moment self.old) (moment self.new) (left_since self.old)
             (left_since self.new) (content self.new) }
-        ensures cause { IsCaused (faults self.old) (faults self.new) result }
+        ensures cause { HasCause (faults self.old) (faults self.new) result }
         ensures plan { fails_by self.old (is_ok result) self.new }
         ensures count { reads self.new ≡ reads self.old };
 
@@ -86,7 +86,7 @@ pub trait Disk {
             (content self.old) (content self.new)) }
         ensures time { Elapses (moment self.old) (moment self.new) (left_since self.old)
             (left_since self.new) (content self.new) }
-        ensures cause { IsCaused (faults self.old) (faults self.new) result }
+        ensures cause { HasCause (faults self.old) (faults self.new) result }
         ensures plan { fails_by self.old (is_ok result) self.new }
         ensures count { reads self.new ≡ reads self.old };
 
@@ -99,7 +99,7 @@ pub trait Disk {
             (Told (OneFile name (TornCut length)) (content self.old) (content self.new)) }
         ensures time { Elapses (moment self.old) (moment self.new) (left_since self.old)
             (left_since self.new) (content self.new) }
-        ensures cause { IsCaused (faults self.old) (faults self.new) result }
+        ensures cause { HasCause (faults self.old) (faults self.new) result }
         ensures plan { fails_by self.old (is_ok result) self.new }
         ensures count { reads self.new ≡ reads self.old };
 
@@ -111,7 +111,7 @@ pub trait Disk {
             (Told (OneFile name TornRemoval) (content self.old) (content self.new)) }
         ensures time { Elapses (moment self.old) (moment self.new) (left_since self.old)
             (left_since self.new) (content self.new) }
-        ensures cause { IsCaused (faults self.old) (faults self.new) result }
+        ensures cause { HasCause (faults self.old) (faults self.new) result }
         ensures plan { fails_by self.old (is_ok result) self.new }
         ensures count { reads self.new ≡ reads self.old };
 
@@ -123,7 +123,7 @@ pub trait Disk {
         ensures same { Told Unchanged (content self.old) (content self.new) }
         ensures time { Elapses (moment self.old) (moment self.new) (left_since self.old)
             (left_since self.new) (content self.new) }
-        ensures cause { IsCaused (faults self.old) (faults self.new) result }
+        ensures cause { HasCause (faults self.old) (faults self.new) result }
         ensures plan { fails_by self.old (is_ok result) self.new }
         ensures count { reads self.new ≡ reads self.old };
 
@@ -136,7 +136,7 @@ pub trait Disk {
         ensures torn { OnErr result (Told NotSynced (content self.old) (content self.new)) }
         ensures time { Elapses (moment self.old) (moment self.new) (left_since self.old)
             (left_since self.new) (content self.new) }
-        ensures cause { IsCaused (faults self.old) (faults self.new) result }
+        ensures cause { HasCause (faults self.old) (faults self.new) result }
         ensures plan { fails_by self.old (is_ok result) self.new }
         ensures count { reads self.new ≡ reads self.old };
 

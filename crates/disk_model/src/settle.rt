@@ -1,6 +1,6 @@
 //! One range of a file, written and synced.
 ghost use Rattle.std.specs.Prelude.{◌≡◌, ◌<◌, ◌+◌, ◌^◌, length, OnOk};
-ghost use Rattle.arch_base.specs.Counts.{IsCaused};
+ghost use Rattle.arch_base.specs.Counts.{HasCause};
 ghost use Rattle.disk_model.specs.Disk.{Told, WhereTold, IsAtMostLength, LeavesOnly};
 ghost use Rattle.disk_model.specs.Synced.{Writing, IsWritten};
 
@@ -22,7 +22,7 @@ pub fn write_and_sync<D: Disk>(
         (Writing name offset (length bytes.now) (D.content disk.old)) }
     ensures written { OnOk result
         (Told (IsWritten name offset bytes.now) (D.content disk.old) (D.content disk.new)) }
-    ensures cause { IsCaused (D.faults disk.old) (D.faults disk.new) result }
+    ensures cause { HasCause (D.faults disk.old) (D.faults disk.new) result }
     ensures count { D.reads disk.new ≡ D.reads disk.old }
 {
     disk.write_at(name, offset, bytes)?;

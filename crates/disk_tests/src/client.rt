@@ -1,6 +1,6 @@
 //! Replaces a text in a file safely against crashes.
 ghost use Rattle.std.specs.Prelude.{ℕ, List, OnOk};
-ghost use Rattle.arch_base.specs.Counts.{IsCaused};
+ghost use Rattle.arch_base.specs.Counts.{HasCause};
 ghost use Rattle.disk_model.specs.Disk.{WhereTold, LeavesOnly};
 ghost use Rattle.disk_model.specs.declared.name.FileName.{FileName};
 ghost use Rattle.disk_tests.specs.Texts.{HasSize, EachFile, IsReady, StandsFor, StandsForEither};
@@ -19,7 +19,7 @@ pub fn change_text<D: Disk>(disk: &mut D, name: FileName, text: &[u8; 8]) -> Res
     // After Ok it leaves the new one.
     ensures done { (old : List ℕ) → EachFile name (IsReady old) (D.content disk.old)
         → OnOk result (EachFile name (StandsFor text.now) (D.content disk.new)) }
-    ensures cause { IsCaused (D.faults disk.old) (D.faults disk.new) result }
+    ensures cause { HasCause (D.faults disk.old) (D.faults disk.new) result }
 {
     write_and_sync(disk, name, 9, text)?;
     write_and_sync(disk, name, 0, &[1])

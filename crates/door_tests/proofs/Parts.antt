@@ -23,7 +23,7 @@ pub record SoFar (entries : List Entry) (low at : ℕ) (begun : Bool) (i j : Out
   pub words : Says (texts_from entries low at) i.out i.lost j.out j.lost (Ok tt)
   pub some : begun ≡ true → 0 < length (texts_from entries low at)
   pub none : begun ≡ false → texts_from entries low at ≡ []
-  pub later : i.disk ≤ j.disk
+  pub kept : j.disk ≡ i.disk
 
 -- Why a text wasn't read, while an archive is held.
 pub says-unread : (i j k : Outside) (why : TextRefusal) (sent : Result Unit SinkFault) → IsUndamaged why → ReadingWhy i.disk j.disk why → i.disk ≤ j.disk → i.out ≡ j.out → i.lost ≡ j.lost → j.disk ≡ k.disk → Says (unread_words why) j.out j.lost k.out k.lost sent → SaysUnread i sent k
@@ -32,9 +32,9 @@ says-unread i j k refusal.DiskFault sent well rose later out lost same said =
     let now : Rose i.disk k.disk = subst (λ (n : ℕ). Rose i.disk n) same rose in
     record { words = inl (now, on); later = omega (arith, later, same) }
 says-unread i j k (refusal.Damaged named found) sent well rose later out lost same said = absurd well
-says-unread i j k refusal.NoMemory sent well rose later out lost same said =
+says-unread i j k refusal.NoMemory sent well kept later out lost same said =
     let on : Says memory_word i.out i.lost k.out k.lost sent = rw (out, lost) said in
-    record { words = inr on; later = omega (arith, later, same) }
+    record { words = inr (sym same ∙ kept, on); later = omega (arith, later, same) }
 
 -- Whether a text that was sent was taken.
 pub part-given : (begun : Bool) (text : Option (List ℕ)) (i j : Outside) (sent : Result Unit SinkFault) (what : Part) → what ≡ (if is_ok sent then part.Given else part.Lost) → SaysText text i sent j → IsPart begun text i what j
@@ -61,18 +61,18 @@ says-still words i j k said nothing = (nothing.lost ∙ said.0, nothing.out ∙ 
 
 module _ (entries : List Entry) (low : ℕ) where
   pub sofar-none : (i : Outside) → SoFar entries low 0 false i i
-  sofar-none i = record { words = (refl, plus-none i.out); some = λ no. absurd (cc no); none = λ is. refl; later = omega arith }
+  sofar-none i = record { words = (refl, plus-none i.out); some = λ no. absurd (cc no); none = λ is. refl; kept = refl }
 
   module _ (at : ℕ) (begun : Bool) (i j k : Outside) (before : SoFar entries low at begun i j) where
     -- One more number, which has no text.
-    pub sofar-absent : text_of entries (low + at) ≡ None → SaysNothing j k → SoFar entries low (at + 1) begun i k
-    sofar-absent none nothing =
+    pub sofar-absent : text_of entries (low + at) ≡ None → SaysNothing j k → k.disk ≡ j.disk → SoFar entries low (at + 1) begun i k
+    sofar-absent none nothing kept =
         let same : texts_from entries low (at + 1) ≡ texts_from entries low at = rw add-one (ap (λ (t : Option (List ℕ)). texts_from entries low at ++ text_line t) none ∙ append-nil (texts_from entries low at)) in
         record {
           words = subst (λ (w : List ℕ). Says w i.out i.lost k.out k.lost (Ok tt)) (sym same) (says-still (texts_from entries low at) i j k before.words nothing);
           some = λ is. subst (λ (w : List ℕ). 0 < length w) (sym same) (before.some is);
           none = λ is. same ∙ before.none is;
-          later = omega (arith, before.later, nothing.later);
+          kept = kept ∙ before.kept;
         }
 
     -- One more number, whose text was said.
@@ -83,7 +83,7 @@ module _ (entries : List Entry) (low : ℕ) where
           words = subst (λ (w : List ℕ). Says w i.out i.lost k.out k.lost (Ok tt)) (sym more) (Says-then (texts_from entries low at) (whole_line said.found) i.out j.out k.out i.lost j.lost k.lost tt (Ok tt) before.words said.words);
           some = λ is. subst (λ (w : List ℕ). 0 < length w) (sym more) (omega (arith, length-append (texts_from entries low at) (whole_line said.found), line-some said.found));
           none = λ no. absurd (cc no);
-          later = omega (arith, before.later, said.later);
+          kept = said.kept ∙ before.kept;
         }
 
   below : (at count : ℕ) → at < suc count → (at < count) ⊎ (at ≡ count)
@@ -117,19 +117,19 @@ module _ (a : Archive) (low count : ℕ) (h : List ℕ) where
   pub streams-end : (at : ℕ) (begun : Bool) (i j k : Outside) (sent : Result Unit SinkFault) → at ≡ count → SoFar a.entries low at begun i j → j.disk ≡ k.disk → Says (whole_line (codes "end")) j.out j.lost k.out k.lost sent → Acts (texts_said a low count h) i (held_if (is_ok sent) h) a k
   streams-end at begun i j k sent all so_far same said =
       let before : SoFar a.entries low count begun i j = subst (λ (n : ℕ). SoFar a.entries low n begun i j) all so_far in
-      acts-by_held (texts_said a low count h) Plain (streams a h (texts_from a.entries low count ++ whole_line (codes "end"))) i k h a sent refl refl (λ (no : Plain ≡ Disk). (cc)) (omega (arith, before.later, same))
+      acts-by_held (texts_said a low count h) Plain (streams a h (texts_from a.entries low count ++ whole_line (codes "end"))) i k h a sent refl refl tt (omega (arith, before.kept, same))
       (Says-then (texts_from a.entries low count) (whole_line (codes "end")) i.out j.out k.out i.lost j.lost k.lost tt sent before.words said) refl
 
   -- No text was said, but why.
   pub streams-unread : (at : ℕ) (begun : Bool) (i j k : Outside) (sent : Result Unit SinkFault) → begun ≡ false → SoFar a.entries low at begun i j → SaysUnread j sent k → Acts (texts_said a low count h) i (held_if (is_ok sent) h) a k
   streams-unread at begun i j k sent unbegun before unread = elim unread.words [
     | inl both ↦ (
-        let rose : Rose i.disk k.disk = omega (arith, both.0, before.later) in
-        acts-by_held (texts_said a low count h) Disk (says a h disk_word) i k h a sent refl refl (λ is. rose) (omega (arith, before.later, unread.later))
+        let rose : Rose i.disk k.disk = omega (arith, both.0, before.kept) in
+        acts-by_held (texts_said a low count h) Disk (says a h disk_word) i k h a sent refl refl rose (omega (arith, before.kept, unread.later))
         (Says-then [] disk_word i.out j.out k.out i.lost j.lost k.lost tt sent none both.1) refl)
-    | inr said ↦
-        acts-by_held (texts_said a low count h) Memory (says a h memory_word) i k h a sent refl refl (λ (no : Memory ≡ Disk). (cc)) (omega (arith, before.later, unread.later))
-        (Says-then [] memory_word i.out j.out k.out i.lost j.lost k.lost tt sent none said) refl
+    | inr both ↦
+        acts-by_held (texts_said a low count h) Memory (says a h memory_word) i k h a sent refl refl (both.0 ∙ before.kept) (omega (arith, before.kept, unread.later))
+        (Says-then [] memory_word i.out j.out k.out i.lost j.lost k.lost tt sent none both.1) refl
   ]
     where
       none : Says [] i.out i.lost j.out j.lost (Ok tt)
@@ -140,7 +140,7 @@ module _ (a : Archive) (low count : ℕ) (h : List ℕ) where
   streams-lost at begun i j k fault less before said =
       let rest = words-from a.entries low at count said.found less said.is in
       acts-cut_off (texts_said a low count h) Plain (streams a h (texts_from a.entries low count ++ whole_line (codes "end"))) (texts_from a.entries low at) (whole_line said.found) rest.0 i j k a fault refl rest.1
-      (λ (no : Plain ≡ Disk). (cc)) (omega (arith, before.later, said.later)) before.words said.words refl
+      tt (omega (arith, before.kept, said.kept)) before.words said.words refl
 
   -- The reply stopped after a text.
   pub streams-short : (at : ℕ) (begun : Bool) (i j k : Outside) → at < count → SoFar a.entries low at begun i j → Stops begun (text_of a.entries (low + at)) j k → Acts (texts_said a low count h) i None a k
@@ -149,5 +149,5 @@ module _ (a : Archive) (low count : ℕ) (h : List ℕ) where
       let line = whole_line stops.found in
       let apart : texts_from a.entries low count ++ whole_line (codes "end") ≡ texts_from a.entries low at ++ (line ++ rest.0) = rest.1 ∙ append_assoc (texts_from a.entries low at) line rest.0 in
       acts-short (texts_said a low count h) Plain (streams a h (texts_from a.entries low count ++ whole_line (codes "end"))) (texts_from a.entries low at) (line ++ rest.0) i k a refl refl apart
-      (before.some stops.begun_is) (omega (arith, length-append line rest.0, line-some stops.found)) (λ (no : Plain ≡ Disk). (cc)) (omega (arith, before.later, stops.nothing.later))
+      (before.some stops.begun_is) (omega (arith, length-append line rest.0, line-some stops.found)) tt (omega (arith, before.kept, stops.nothing.later))
       (says-still (texts_from a.entries low at) i j k before.words stops.nothing) refl

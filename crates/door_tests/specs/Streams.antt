@@ -33,18 +33,18 @@ pub record SaysNothing (i j : Outside) : Type 0 where
   pub lost : j.lost ≡ i.lost
   pub later : i.disk ≤ j.disk
 
--- The line of a text was said, or lost.
+-- The line of a text was said, or lost. The disk didn't fail.
 pub record SaysText (text : Option (List ℕ)) (i : Outside) (sent : Result Unit SinkFault)
     (j : Outside) : Type 0 where
   pub found : List ℕ
   pub is : text ≡ Some found
   pub words : Says (whole_line found) i.out i.lost j.out j.lost sent
-  pub later : i.disk ≤ j.disk
+  pub kept : j.disk ≡ i.disk
 
 -- It was said why a text wasn't read.
 pub record SaysUnread (i : Outside) (sent : Result Unit SinkFault) (j : Outside) : Type 0 where
   pub words : (Rose i.disk j.disk × Says disk_word i.out i.lost j.out j.lost sent)
-      ⊎ Says memory_word i.out i.lost j.out j.lost sent
+      ⊎ ((j.disk ≡ i.disk) × Says memory_word i.out i.lost j.out j.lost sent)
   pub later : i.disk ≤ j.disk
 
 -- A text wasn't read, after another one was said.
@@ -56,7 +56,7 @@ pub record Stops (begun : Bool) (text : Option (List ℕ)) (i j : Outside) : Typ
 
 -- What became of one number.
 abbrev pub IsPart : Bool → Option (List ℕ) → Outside → Part → Outside → Type 0
-IsPart begun text i part.Absent j = (text ≡ None) × SaysNothing i j
+IsPart begun text i part.Absent j = (text ≡ None) × SaysNothing i j × (j.disk ≡ i.disk)
 IsPart begun text i part.Given j = SaysText text i (Ok tt) j
 IsPart begun text i (part.Unread sent) j = (begun ≡ false) × SaysUnread i sent j
 IsPart begun text i part.Short j = Stops begun text i j

@@ -1,6 +1,6 @@
 //! The clock trait.
 ghost use Rattle.std.specs.Prelude.{◌≡◌, ℕ, Option, IfOk, OnOk, OnErr};
-ghost use Rattle.arch_base.specs.Counts.{IsCaused};
+ghost use Rattle.arch_base.specs.Counts.{HasCause};
 ghost use Rattle.arch_base.specs.Moments.{IsMoment};
 ghost use Rattle.edge_io.specs.Coming.{Moments, IsFirst, after_first};
 
@@ -28,5 +28,5 @@ pub trait Clock {
         ensures first { IfOk result (λ moment. IsFirst moment (coming self.old)) }
         ensures rest { OnOk result (coming self.new ≡ after_first (coming self.old)) }
         ensures failed { OnErr result (coming self.new ≡ coming self.old) }
-        ensures cause { IsCaused (faults self.old) (faults self.new) result };
+        ensures cause { HasCause (faults self.old) (faults self.new) result };
 }

@@ -1,6 +1,6 @@
 //! A clock in memory.
 ghost use Rattle.std.specs.Prelude.{◌≡◌, ◌<◌, ◌+◌, ◌-◌, Some, length, min, All, IfOk, OnOk, OnErr};
-ghost use Rattle.arch_base.specs.Counts.{IsCaused};
+ghost use Rattle.arch_base.specs.Counts.{HasCause};
 ghost use Rattle.arch_base.specs.Moments.{IsMoment};
 ghost use Rattle.edge_io.specs.Coming.{IsFirst, after_first, moments_of};
 ghost use Rattle.edge_io.specs.Listed.{is_listed};
@@ -79,7 +79,7 @@ impl Clock for MemClock {
         ensures first { IfOk result (λ moment. IsFirst moment (Some self.old.coming)) }
         ensures rest { OnOk result (Some self.new.coming ≡ after_first (Some self.old.coming)) }
         ensures failed { OnErr result (Some self.new.coming ≡ Some self.old.coming) }
-        ensures cause { IsCaused self.old.faults self.new.faults result }
+        ensures cause { HasCause self.old.faults self.new.faults result }
         ensures ticks { Ticks result self.old self.new }
     {
         let fails = is_listed(&self.listed, self.calls);

@@ -1,6 +1,6 @@
 //! A source in memory.
 ghost use Rattle.std.specs.Prelude.{◌≡◌, ◌≤◌, ◌<◌, ◌+◌, ◌-◌, Some, length, IfOk, OnErr};
-ghost use Rattle.arch_base.specs.Counts.{IsCaused};
+ghost use Rattle.arch_base.specs.Counts.{HasCause};
 ghost use Rattle.edge_io.specs.Left.{Gave};
 ghost use Rattle.edge_io.specs.Listed.{is_listed};
 ghost use Rattle.edge_io.specs.MemSources.{Reading, Reads};
@@ -71,7 +71,7 @@ impl Source for MemSource {
         ensures gave { IfOk result (λ count.
             Gave count into.new (Some self.old.left) (Some self.new.left)) }
         ensures failed { OnErr result (Some self.new.left ≡ Some self.old.left) }
-        ensures cause { IsCaused self.old.faults self.new.faults result }
+        ensures cause { HasCause self.old.faults self.new.faults result }
         ensures reads { Reads result into.old into.new self.old self.new }
     {
         let fails = is_listed(&self.listed, self.calls);

@@ -1,6 +1,6 @@
 //! The source trait.
 ghost use Rattle.std.specs.Prelude.{◌≡◌, ◌≤◌, ◌<◌, ℕ, List, Option, length, IfOk, OnErr};
-ghost use Rattle.arch_base.specs.Counts.{IsCaused};
+ghost use Rattle.arch_base.specs.Counts.{HasCause};
 ghost use Rattle.edge_io.specs.Left.{Gave};
 
 use thiserror::Error;
@@ -28,5 +28,5 @@ pub trait Source {
         ensures within { IfOk result (λ count. count ≤ length into.new) }
         ensures gave { IfOk result (λ count. Gave count into.new (left self.old) (left self.new)) }
         ensures failed { OnErr result (left self.new ≡ left self.old) }
-        ensures cause { IsCaused (faults self.old) (faults self.new) result };
+        ensures cause { HasCause (faults self.old) (faults self.new) result };
 }

@@ -59,9 +59,16 @@ module _ {D : Type 0} (content : D → Option Content) (moment : D → ℕ) (lef
 pub rose-before : (a b c : ℕ) → a ≤ b → Rose b c → Rose a c
 rose-before a b c le rose = omega arith
 
--- A fault that came later came.
-pub fault-later : {T : Type 0} (a b c : ℕ) (result : Result T WalkRefusal) → a ≤ b → FaultRose b c result → FaultRose a c result
-fault-later a b c (Ok value) le rose = tt
-fault-later a b c (Err DiskFault) le rose = rose-before a b c le rose
-fault-later a b c (Err NoMemory) le rose = tt
-fault-later a b c (Err (Damaged offset)) le rose = tt
+-- A fault that came later came, if no call before it failed.
+pub fault-later : {T : Type 0} (a b c : ℕ) (result : Result T WalkRefusal) → b ≡ a → FaultRose b c result → FaultRose a c result
+fault-later a b c (Ok value) same kept = kept ∙ same
+fault-later a b c (Err DiskFault) same rose = omega (arith, same, rose)
+fault-later a b c (Err NoMemory) same kept = kept ∙ same
+fault-later a b c (Err (Damaged offset)) same kept = kept ∙ same
+
+-- Without a fault the count stays.
+pub fault-free : {T : Type 0} (before now : ℕ) (result : Result T WalkRefusal) → FaultRose before now result → (result ≡ Err DiskFault → ⊥) → now ≡ before
+fault-free before now (Ok value) kept free = kept
+fault-free before now (Err DiskFault) rose free = absurd (free refl)
+fault-free before now (Err NoMemory) kept free = kept
+fault-free before now (Err (Damaged offset)) kept free = kept

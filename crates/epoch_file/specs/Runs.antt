@@ -1,5 +1,5 @@
 -- Calls that only read a disk.
-use Rattle.std.specs.Prelude.{ℕ, ◌≤◌, Option, Result, Ok, Err}
+use Rattle.std.specs.Prelude.{◌≡◌, ℕ, ◌≤◌, Option, Result, Ok, Err}
 use Rattle.arch_base.specs.Counts.{Rose}
 use Rattle.disk_model.specs.declared.refusal.WalkRefusal.{WalkRefusal}
 use Rattle.disk_model.specs.declared.refusal.WalkRefusal.TheVariants.{DiskFault, NoMemory, Damaged}
@@ -12,16 +12,16 @@ pub record OnlyReads {D : Type 0} (content : D → Option Content) (moment : D �
   pub any_moment : LeavesOnly moment left_since old new (Image (content old))
   pub later : faults old ≤ faults new
 
--- A result of a failed disk comes only if the count of faults rose.
+-- The count of faults rose if the disk failed, and otherwise stays the same.
 abbrev pub FaultRose : {T : Type 0} → ℕ → ℕ → Result T WalkRefusal → Type 0
-FaultRose before now (Ok value) = Unit {0}
+FaultRose before now (Ok value) = now ≡ before
 FaultRose before now (Err DiskFault) = Rose before now
-FaultRose before now (Err NoMemory) = Unit {0}
-FaultRose before now (Err (Damaged offset)) = Unit {0}
+FaultRose before now (Err NoMemory) = now ≡ before
+FaultRose before now (Err (Damaged offset)) = now ≡ before
 
 -- The same if nothing else can go wrong than that and running out of memory.
 abbrev pub StopRose : {T : Type 0} → ℕ → ℕ → Result T WalkRefusal → Type 0
-StopRose before now (Ok value) = Unit {0}
+StopRose before now (Ok value) = now ≡ before
 StopRose before now (Err DiskFault) = Rose before now
-StopRose before now (Err NoMemory) = Unit {0}
+StopRose before now (Err NoMemory) = now ≡ before
 StopRose before now (Err (Damaged offset)) = ⊥

@@ -68,6 +68,7 @@ fn find_root<D: Disk>(disk: &mut D) -> Result<(Slot, Root), OpenRefusal>
     ensures reads { OnlyReads D.content D.moment D.left_since D.faults disk.old disk.new }
     ensures fault { result ≡ Err OpenRefusal.DiskFault
         → Rose (D.faults disk.old) (D.faults disk.new) }
+    ensures steady { result ≢ Err OpenRefusal.DiskFault → D.faults disk.new ≡ D.faults disk.old }
 {
     match root_slots::read(disk) {
         Ok(Some((slot, root))) => {
@@ -90,6 +91,7 @@ fn find_records<D: Disk>(alloc: Global, disk: &mut D, root: &Root) -> Result<Rec
     ensures reads { OnlyReads D.content D.moment D.left_since D.faults disk.old disk.new }
     ensures fault { result ≡ Err OpenRefusal.DiskFault
         → Rose (D.faults disk.old) (D.faults disk.new) }
+    ensures steady { result ≢ Err OpenRefusal.DiskFault → D.faults disk.new ≡ D.faults disk.old }
 {
     let file = map_file(root.map.gen_);
     match number_map::walk(alloc, disk, file, root.next - 1) {
@@ -160,6 +162,7 @@ fn stop_at<D: Disk>(
         StopsEpoch root.now epoch joining at result (as_read k)) (D.content disk.old) }
     ensures reads { OnlyReads D.content D.moment D.left_since D.faults disk.old disk.new }
     ensures fault { result ≡ OpenRefusal.DiskFault → Rose (D.faults disk.old) (D.faults disk.new) }
+    ensures steady { result ≢ OpenRefusal.DiskFault → D.faults disk.new ≡ D.faults disk.old }
 {
     law_of_entries();
     let file = named_file(root, epoch);
@@ -193,6 +196,7 @@ fn join_epoch<D: Disk>(
     ensures reads { OnlyReads D.content D.moment D.left_since D.faults disk.old disk.new }
     ensures fault { result ≡ Err OpenRefusal.DiskFault
         → Rose (D.faults disk.old) (D.faults disk.new) }
+    ensures steady { result ≢ Err OpenRefusal.DiskFault → D.faults disk.new ≡ D.faults disk.old }
 {
     let length = named_place(root, epoch).length;
     if length == 0 {
@@ -220,6 +224,7 @@ fn join_all<D: Disk>(
     ensures reads { OnlyReads D.content D.moment D.left_since D.faults disk.old disk.new }
     ensures fault { result ≡ Err OpenRefusal.DiskFault
         → Rose (D.faults disk.old) (D.faults disk.new) }
+    ensures steady { result ≢ Err OpenRefusal.DiskFault → D.faults disk.new ≡ D.faults disk.old }
 {
     let mut joining = joining;
     for epoch in 0..EPOCHS {
@@ -261,6 +266,7 @@ fn read_epochs<D: Disk>(
     ensures reads { OnlyReads D.content D.moment D.left_since D.faults disk.old disk.new }
     ensures fault { result ≡ Err OpenRefusal.DiskFault
         → Rose (D.faults disk.old) (D.faults disk.new) }
+    ensures steady { result ≢ Err OpenRefusal.DiskFault → D.faults disk.new ≡ D.faults disk.old }
 {
     let Ok(joining) = Joining::new(alloc, records) else {
         return Err(OpenRefusal::NoMemory);
@@ -284,6 +290,7 @@ fn find_entries<D: Disk>(
     ensures reads { OnlyReads D.content D.moment D.left_since D.faults disk.old disk.new }
     ensures fault { result ≡ Err OpenRefusal.DiskFault
         → Rose (D.faults disk.old) (D.faults disk.new) }
+    ensures steady { result ≢ Err OpenRefusal.DiskFault → D.faults disk.new ≡ D.faults disk.old }
 {
     match find_records(alloc, disk, root) {
         Ok(records) => read_epochs(alloc, disk, root, &records),

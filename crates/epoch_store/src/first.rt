@@ -1,6 +1,6 @@
 //! The first root of an archive.
 ghost use Rattle.std.specs.Prelude.{◌≡◌, ◌≢◌, ◌<◌, ◌≤◌, Err, IfOk, OnOk};
-ghost use Rattle.arch_base.specs.Counts.{RoseIf, IsCaused};
+ghost use Rattle.arch_base.specs.Counts.{RoseIf, HasCause};
 ghost use Rattle.disk_model.specs.Disk.{Image, Told, WhereTold, Unchanged, Synced, LeavesOnly};
 ghost use Rattle.root_slots.specs.Each.{EachRoot};
 ghost use Rattle.root_slots.specs.Slots.{HasRootSize, Ready, IsCommitted};
@@ -51,7 +51,7 @@ pub fn make<D: Disk>(disk: &mut D, names: &[FileName], root: &Root) -> Result<()
         → OnOk result (WhereTold (HasOnly (spelling root.now)) (D.content disk.new)) }
     ensures told { OnOk result
         (Told (λ old new. Unit {0}) (D.content disk.old) (D.content disk.new)) }
-    ensures cause { IsCaused (D.faults disk.old) (D.faults disk.new) result }
+    ensures cause { HasCause (D.faults disk.old) (D.faults disk.new) result }
     ensures count { D.reads disk.new ≡ D.reads disk.old }
 {
     let _sequence = root.sequence;
@@ -70,7 +70,7 @@ pub fn raise_first<D: Disk>(disk: &mut D, root: &Root) -> Result<(), DiskFault>
     ensures done { EachRoot AreZeros (D.content disk.old) → 0 < root.now.sequence
         → OnOk result (EachRoot (Ready 1 (spelling root.now)) (D.content disk.new)) }
     ensures committed { OnOk result (Told IsCommitted (D.content disk.old) (D.content disk.new)) }
-    ensures cause { IsCaused (D.faults disk.old) (D.faults disk.new) result }
+    ensures cause { HasCause (D.faults disk.old) (D.faults disk.new) result }
     ensures count { D.reads disk.new ≡ D.reads disk.old }
 {
     let _sequence = root.sequence; // brings the range of a field behind a `&` into the proof

@@ -1,6 +1,6 @@
 //! Settles the disk of an archive when it is opened.
 ghost use Rattle.std.specs.Prelude.{◌-◌, OnOk};
-ghost use Rattle.arch_base.specs.Counts.{IsCaused};
+ghost use Rattle.arch_base.specs.Counts.{HasCause};
 ghost use Rattle.disk_model.specs.Disk.{Told, WhereTold, LeavesOnly};
 ghost use Rattle.disk_model.specs.Synced.{IsSettled};
 ghost use Rattle.root_slots.specs.Slots.{slot_number, HasRootSize};
@@ -28,7 +28,7 @@ pub(crate) fn ready_other<D: Disk>(disk: &mut D, slot: Slot, root: &Root) -> Res
     // Whatever the root file holds, only the body of a shut slot is written.
     ensures readies { OnOk result (Told (ReadiesSlot (slot_number slot) (spelling root.now))
         (D.content disk.old) (D.content disk.new)) }
-    ensures cause { IsCaused (D.faults disk.old) (D.faults disk.new) result }
+    ensures cause { HasCause (D.faults disk.old) (D.faults disk.new) result }
 {
     let other = slot.other();
     if is_open(disk, other)? {
@@ -60,7 +60,7 @@ pub(crate) fn sweep<D: Disk>(
     ensures settled { OnOk result (WhereTold IsSettled (D.content disk.new)) }
     ensures swept { OnOk result (Told (IsSwept root.now (slot_number slot) names.now)
         (D.content disk.old) (D.content disk.new)) }
-    ensures cause { IsCaused (D.faults disk.old) (D.faults disk.new) result }
+    ensures cause { HasCause (D.faults disk.old) (D.faults disk.new) result }
 {
     ready_other(disk, slot, root)?;
     tidy(disk, root, names)

@@ -1,5 +1,5 @@
 //! Opens an archive: syncs, reads its files, and settles the disk.
-ghost use Rattle.std.specs.Prelude.{◌≡◌, ◌-◌, ℕ, List, Option, Err, IfOk, OnOk};
+ghost use Rattle.std.specs.Prelude.{◌≡◌, ◌≢◌, ◌-◌, ℕ, List, Option, Err, IfOk, OnOk};
 ghost use Rattle.arch_base.specs.Counts.{Rose, RoseIf};
 ghost use Rattle.disk_model.specs.Disk.{Image, Told, WhereTold, Unchanged, LeavesOnly};
 ghost use Rattle.disk_model.specs.Sizes.{epoch_count};
@@ -50,6 +50,7 @@ fn present_files<D: Disk>(alloc: Global, disk: &mut D) -> Result<FileNames, Open
     ensures well { OpensWell result }
     ensures fault { result ≡ Err OpenRefusal.DiskFault
         → Rose (D.faults disk.old) (D.faults disk.new) }
+    ensures steady { result ≢ Err OpenRefusal.DiskFault → D.faults disk.new ≡ D.faults disk.old }
 {
     match file_names(alloc, disk) {
         Ok(names) => Ok(names),

@@ -29,24 +29,24 @@ module _ {H : Type 0} (words : Way → Said H Standing) (h : H) (line : Answer �
       let found : obeys.found ≡ a = found-one a obeys.found obeys.is_found in
       let answer_is : (wanted a).answer ≡ reply = ap (λ (x : Archive). (wanted x).answer) (sym found) ∙ obeys.answer_is in
       let stands : t ≡ standing (wanted a).archive None = obeys.stands ∙ ap (λ (x : Archive). standing (wanted x).archive None) found in
-      acts-by_held words Plain (says (standing (wanted a).archive None) h (line (wanted a).answer)) i j h t sent plain refl (λ (no : Plain ≡ Disk). absurd (cc)) later
+      acts-by_held words Plain (says (standing (wanted a).archive None) h (line (wanted a).answer)) i j h t sent plain refl tt later
       (subst (λ (r : Answer). Says (line r) i.out i.lost j.out j.lost sent) (sym answer_is) said) stands
 
-  starved : (t : Standing) (i j : Outside) (sent : Result Unit SinkFault) → StaysStale true (standing a None) t ⊎ Settles (standing a None) t → i.disk ≤ j.disk → Says (line answer.NoMemory) i.out i.lost j.out j.lost sent → Acts words i (held_if (is_ok sent) h) t j
-  starved t i j sent (inl stale) later said = absurd (false≢true (sym stale.stale))
-  starved t i j sent (inr settles) later said =
+  starved : (t : Standing) (i j : Outside) (sent : Result Unit SinkFault) → StaysStale true (standing a None) t ⊎ Settles (standing a None) t → j.disk ≡ i.disk → i.disk ≤ j.disk → Says (line answer.NoMemory) i.out i.lost j.out j.lost sent → Acts words i (held_if (is_ok sent) h) t j
+  starved t i j sent (inl stale) cause later said = absurd (false≢true (sym stale.stale))
+  starved t i j sent (inr settles) cause later said =
       let stands : t ≡ standing a None = ap (λ (d : Option Archive). standing t.archive d) settles.sure ∙ ap (λ (x : Archive). standing x None) (found-one a t.archive settles.found) in
-      acts-by_held words Memory (says (standing a None) h (line answer.NoMemory)) i j h t sent memory refl (λ (no : Memory ≡ Disk). absurd (cc)) later said stands
+      acts-by_held words Memory (says (standing a None) h (line answer.NoMemory)) i j h t sent memory refl cause later said stands
 
   failed : (t : Standing) (i j : Outside) (sent : Result Unit SinkFault) → StaysStale true (standing a None) t ⊎ Doubts (standing a None) wanted t → Rose i.disk j.disk → i.disk ≤ j.disk → Says (line answer.DiskFault) i.out i.lost j.out j.lost sent → Acts words i (held_if (is_ok sent) h) t j
   failed t i j sent (inl stale) cause later said = absurd (false≢true (sym stale.stale))
   failed t i j sent (inr doubts) cause later said =
       let stands : t ≡ standing a (Some (wanted a).archive) = doubts.stands ∙ ap (λ (x : Archive). standing x (Some (wanted x).archive)) (found-one a doubts.found doubts.is_found) in
-      acts-by_held words Disk (says (standing a (Some (wanted a).archive)) h (line answer.DiskFault)) i j h t sent disk refl (λ yes_disk. cause) later said stands
+      acts-by_held words Disk (says (standing a (Some (wanted a).archive)) h (line answer.DiskFault)) i j h t sent disk refl cause later said stands
 
   pub commanded : (reply : Answer) (t : Standing) (i j : Outside) (sent : Result Unit SinkFault) → Comes true (standing a None) wanted reply t → AnswerCause i.disk j.disk reply → i.disk ≤ j.disk → Says (line reply) i.out i.lost j.out j.lost sent
       → Acts words i (held_if (is_ok sent) h) t j
-  commanded answer.NoMemory t i j sent comes cause later said = starved t i j sent comes later said
+  commanded answer.NoMemory t i j sent comes cause later said = starved t i j sent comes cause later said
   commanded answer.DiskFault t i j sent comes cause later said = failed t i j sent comes cause later said
   commanded (answer.Damaged file at) t i j sent never cause later said = absurd never
   commanded (answer.Ok number id) t i j sent comes cause later said = obeyed (answer.Ok number id) t i j sent comes later said
@@ -72,14 +72,14 @@ module _ {H : Type 0} (line : OpenRefusal → List ℕ) (s : Standing) (h : H) w
     where
       by : IsFound s t.archive → Acts (said_reopening line s h) i (Some h) t j
       by (inl older) =
-          acts-by_held (said_reopening line s h) Plain (says (standing s.archive None) h []) i j h t (Ok tt) refl refl (λ (no : Plain ≡ Disk). absurd (cc)) later (said_nothing i j out lost) (settled_is t s.archive older settles.sure)
+          acts-by_held (said_reopening line s h) Plain (says (standing s.archive None) h []) i j h t (Ok tt) refl refl tt later (said_nothing i j out lost) (settled_is t s.archive older settles.sure)
       by (inr doubt) =
           let is : t.archive ≡ newer s = sym (ap (newer_of s.archive) doubt) in
-          acts-by_held (said_reopening line s h) Newer (says (standing (newer s) None) h []) i j h t (Ok tt) refl refl (λ (no : Newer ≡ Disk). absurd (cc)) later (said_nothing i j out lost) (settled_is t (newer s) is settles.sure)
+          acts-by_held (said_reopening line s h) Newer (says (standing (newer s) None) h []) i j h t (Ok tt) refl refl tt later (said_nothing i j out lost) (settled_is t (newer s) is settles.sure)
 
   pub reopening-refused : (t : Standing) (why : OpenRefusal) (i j : Outside) (sent : Result Unit SinkFault) → StaysShut s why t → OpeningWhy i.disk j.disk why → i.disk ≤ j.disk → Says (line why) i.out i.lost j.out j.lost sent
       → Acts (said_reopening line s h) i None t j
-  reopening-refused t opening.DiskFault i j sent same cause later said = acts-closing (said_reopening line s h) Disk (closes s (line opening.DiskFault)) i j t sent refl refl (λ yes_disk. cause) later said same
-  reopening-refused t opening.NoMemory i j sent same cause later said = acts-closing (said_reopening line s h) Memory (closes s (line opening.NoMemory)) i j t sent refl refl (λ (no : Memory ≡ Disk). absurd (cc)) later said same
+  reopening-refused t opening.DiskFault i j sent same cause later said = acts-closing (said_reopening line s h) Disk (closes s (line opening.DiskFault)) i j t sent refl refl cause later said same
+  reopening-refused t opening.NoMemory i j sent same cause later said = acts-closing (said_reopening line s h) Memory (closes s (line opening.NoMemory)) i j t sent refl refl cause later said same
   reopening-refused t opening.NoArchive i j sent never cause later said = absurd never
   reopening-refused t (opening.Damaged file at) i j sent never cause later said = absurd never

@@ -71,7 +71,7 @@ module _ {K H : Type 0} (leaves : K → K → List (Option Archive) → Type 0) 
   }
 
   -- The last act of a course.
-  pub coming-last : (old mid new : K) (w : Talk H Standing) (h : H) (s : Standing) (i : Outside) (held : Option H) (t : Standing) (j : Outside) → Coming leaves said is_request old mid w (talk (Some h) s i) → Acts (said s h) i held t j → (held ≡ None) ⊎ (is_request h ≡ false)
+  pub coming-last : (old mid new : K) (w : Talk H Standing) (h : H) (s : Standing) (i : Outside) (held : Option H) (t : Standing) (j : Outside) → Coming leaves said is_request old mid w (talk (Some h) s i) → Acts (said s h) i held t j → (held ≡ None) ⊎ ((is_request h ≡ false) × (j.disk ≡ i.disk))
       → Passes leaves mid new (s ∷ t ∷ []) → Course leaves said is_request old new w (talk held t j)
   coming-last old mid new w h s i held t j coming acts ends passes = record {
     acts = coming.acts;
@@ -111,7 +111,7 @@ module _ {K H : Type 0} (leaves : K → K → List (Option Archive) → Type 0) 
 
     -- The last act of a course, and what a crash since its start leaves.
     pub ended : (old mid new : K) (w : Talk H Standing) (h : H) (s : Standing) (i : Outside) (held : Option H) (t : Standing) (j : Outside) → Fits holds ready leaves old w.after → Coming leaves said is_request old mid w (talk (Some h) s i) → Acts (said s h) i held t j
-        → (held ≡ None) ⊎ (is_request h ≡ false) → Passes leaves mid new (s ∷ t ∷ []) → CourseLeft leaves said is_request old new w (talk held t j)
+        → (held ≡ None) ⊎ ((is_request h ≡ false) × (j.disk ≡ i.disk)) → Passes leaves mid new (s ∷ t ∷ []) → CourseLeft leaves said is_request old new w (talk held t j)
     ended old mid new w h s i held t j fits coming acts ends passes = record {
       course = record {
         acts = coming.acts;

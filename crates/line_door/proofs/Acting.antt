@@ -1,12 +1,11 @@
 -- Words that are written make an act.
 use Rattle.std.proofs.Common.{◌≡◌, ◌≤◌, ℕ, List, [], take, Option, Some, None, Result, Ok, Err, is_ok, inl, inr, refl, sym, ap, subst, ◌∙◌, arith}
 use Rattle.std.specs.Prelude.{if◌then◌else◌}
-use Rattle.arch_base.specs.Counts.{Rose}
 use Rattle.edge_io.specs.Taken.{plus}
 use Rattle.edge_io.specs.Phrases.{Says}
 use Rattle.edge_io.specs.declared.sink.SinkFault.{SinkFault}
 use Rattle.edge_io.proofs.Wording.{plus-none}
-use Rattle.line_door.specs.Acts.{Outside, Said, Way, Plain, Disk, Sent, Acts, held_if}
+use Rattle.line_door.specs.Acts.{Outside, Said, Way, Plain, WayCause, Sent, Acts, held_if}
 
 module _ {H A : Type 0} where
   says_sent : (s : Said H A) (i j : Outside) (held : Option H) (a : A) (said : Result Unit SinkFault) → Says s.words i.out i.lost j.out j.lost said → held ≡ (if is_ok said then s.next else None) → a ≡ s.after → Sent s i held a j
@@ -18,24 +17,24 @@ module _ {H A : Type 0} where
   says_later s i j (Err fault) says = says.0
 
   -- An act that says its words.
-  pub acts-by_says : (words : Way → Said H A) (way : Way) (s : Said H A) (i j : Outside) (held : Option H) (a : A) (said : Result Unit SinkFault) → words way ≡ s → (way ≡ Disk → Rose i.disk j.disk) → i.disk ≤ j.disk →
+  pub acts-by_says : (words : Way → Said H A) (way : Way) (s : Said H A) (i j : Outside) (held : Option H) (a : A) (said : Result Unit SinkFault) → words way ≡ s → WayCause way i.disk j.disk → i.disk ≤ j.disk →
       Says s.words i.out i.lost j.out j.lost said → held ≡ (if is_ok said then s.next else None) → a ≡ s.after → Acts words i held a j
   acts-by_says words way s i j held a said e cause later says h b = record {
     way = way;
-    disk_cause = cause;
+    cause = cause;
     disk_later = later;
     lost_later = says_later s i j said says;
     sent = subst (λ (t : Said H A). Sent t i held a j) (sym e) (says_sent s i j held a said says h b);
   }
 
   -- The same, where the session continues.
-  pub acts-by_held : (words : Way → Said H A) (way : Way) (s : Said H A) (i j : Outside) (h : H) (a : A) (said : Result Unit SinkFault) → words way ≡ s → s.next ≡ Some h → (way ≡ Disk → Rose i.disk j.disk) → i.disk ≤ j.disk →
+  pub acts-by_held : (words : Way → Said H A) (way : Way) (s : Said H A) (i j : Outside) (h : H) (a : A) (said : Result Unit SinkFault) → words way ≡ s → s.next ≡ Some h → WayCause way i.disk j.disk → i.disk ≤ j.disk →
       Says s.words i.out i.lost j.out j.lost said → a ≡ s.after → Acts words i (held_if (is_ok said) h) a j
   acts-by_held words way s i j h a (Ok done) e next cause later says b = acts-by_says words way s i j (Some h) a (Ok done) e cause later says (sym next) b
   acts-by_held words way s i j h a (Err fault) e next cause later says b = acts-by_says words way s i j None a (Err fault) e cause later says refl b
 
   -- An act whose words close the session.
-  pub acts-closing : (words : Way → Said H A) (way : Way) (s : Said H A) (i j : Outside) (a : A) (said : Result Unit SinkFault) → words way ≡ s → s.next ≡ None → (way ≡ Disk → Rose i.disk j.disk) → i.disk ≤ j.disk →
+  pub acts-closing : (words : Way → Said H A) (way : Way) (s : Said H A) (i j : Outside) (a : A) (said : Result Unit SinkFault) → words way ≡ s → s.next ≡ None → WayCause way i.disk j.disk → i.disk ≤ j.disk →
       Says s.words i.out i.lost j.out j.lost said → a ≡ s.after → Acts words i None a j
   acts-closing words way s i j a (Ok done) e next cause later says b = acts-by_says words way s i j None a (Ok done) e cause later says (sym next) b
   acts-closing words way s i j a (Err fault) e next cause later says b = acts-by_says words way s i j None a (Err fault) e cause later says refl b
@@ -44,13 +43,13 @@ module _ {H A : Type 0} where
   pub acts-silent : (words : Way → Said H A) (s : Said H A) (i j : Outside) (held : Option H) (a : A) → words Plain ≡ s → s.words ≡ [] → j.out ≡ i.out → j.lost ≡ i.lost → i.disk ≤ j.disk → held ≡ s.next → a ≡ s.after →
       Acts words i held a j
   acts-silent words s i j held a e none out lost later h b =
-      acts-by_says words Plain s i j held a (Ok tt) e (λ (no : Plain ≡ Disk). (cc)) later (lost, out ∙ plus-none i.out ∙ ap (plus i.out) (sym none)) h b
+      acts-by_says words Plain s i j held a (Ok tt) e tt later (lost, out ∙ plus-none i.out ∙ ap (plus i.out) (sym none)) h b
 
   -- An act depends only on what its words are in each way.
   pub acts-words : (words other : Way → Said H A) (i : Outside) (held : Option H) (a : A) (j : Outside) → ((way : Way) → words way ≡ other way) → Acts other i held a j → Acts words i held a j
   acts-words words other i held a j e acts = record {
     way = acts.way;
-    disk_cause = acts.disk_cause;
+    cause = acts.cause;
     disk_later = acts.disk_later;
     lost_later = acts.lost_later;
     sent = subst (λ (t : Said H A). Sent t i held a j) (sym (e acts.way)) acts.sent;
@@ -75,12 +74,12 @@ module _ {H A : Type 0} where
     out_is = x.out_is ∙ ap (λ (o : Option (List ℕ)). plus o (take x.count s.words)) (sym out);
   }))
 
-  -- An act may start from a lower count of the disk's faults.
-  pub acts-from : (words : Way → Said H A) (i i' : Outside) (held : Option H) (a : A) (j : Outside) → i'.out ≡ i.out → i'.lost ≡ i.lost → i'.disk ≤ i.disk → Acts words i held a j → Acts words i' held a j
+  -- An act may start from another outside of the same parts.
+  pub acts-from : (words : Way → Said H A) (i i' : Outside) (held : Option H) (a : A) (j : Outside) → i'.out ≡ i.out → i'.lost ≡ i.lost → i'.disk ≡ i.disk → Acts words i held a j → Acts words i' held a j
   acts-from words i i' held a j out lost disk acts = record {
     way = acts.way;
-    disk_cause = λ (e : acts.way ≡ Disk). let r : Rose i.disk j.disk = acts.disk_cause e in omega (arith, r);
-    disk_later = omega (arith, acts.disk_later);
+    cause = subst (λ (n : ℕ). WayCause acts.way n j.disk) (sym disk) acts.cause;
+    disk_later = omega (arith, disk, acts.disk_later);
     lost_later = omega (arith, acts.lost_later);
     sent = sent-from (words acts.way) i i' held a j out lost acts.sent;
   }

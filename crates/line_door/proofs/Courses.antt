@@ -22,5 +22,5 @@ module _ {H A : Type 0} (said : A → H → Way → Said H A) (is_request : H �
   Fed-last start m v going last = (going.acts, m, going.each, last)
 
   -- The last act of the code is a last act.
-  pub Last-done : (h : H) (a : A) (i : Outside) (held : Option H) (b : A) (j : Outside) → Acts (said a h) i held b j → (held ≡ None) ⊎ (is_request h ≡ false) → Last said is_request (talk (Some h) a i) (talk held b j)
+  pub Last-done : (h : H) (a : A) (i : Outside) (held : Option H) (b : A) (j : Outside) → Acts (said a h) i held b j → (held ≡ None) ⊎ ((is_request h ≡ false) × (j.disk ≡ i.disk)) → Last said is_request (talk (Some h) a i) (talk held b j)
   Last-done h a i held b j acts ends = record { before = h; step = record { held = refl; acts = acts }; ends = ends }

@@ -117,7 +117,7 @@ module _ {H A : Type 0} (said : A → H → Way → Said H A) (is_request : H �
       held = ap (more_of (more q)) step.held;
       acts = record {
         way = step.acts.way;
-        disk_cause = step.acts.disk_cause;
+        cause = step.acts.cause;
         disk_later = step.acts.disk_later;
         lost_later = step.acts.lost_later;
         sent = subst (λ (t : Said H A). Sent t w.outside (more_of (more q) m.held) m.after m.outside) (sym (door.said_stays q w.after h step.acts.way e))
@@ -129,19 +129,23 @@ module _ {H A : Type 0} (said : A → H → Way → Said H A) (is_request : H �
     requests-with q w [] m e = ap (with q) e
     requests-with q w (x ∷ xs) m e = ((more q e.0.0, door.request_stays q e.0.0 e.0.1, step-with q e.0.0 w x e.0.1 e.0.2), requests-with q x xs m e.1)
 
-    -- A step may start from a lower count of the disk's faults.
-    step-from : (h : H) (w x m : Talk H A) → x.held ≡ w.held → x.after ≡ w.after → x.outside.out ≡ w.outside.out → x.outside.lost ≡ w.outside.lost → x.outside.disk ≤ w.outside.disk →
+    -- A step may start from another talk of the same parts.
+    step-from : (h : H) (w x m : Talk H A) → x.held ≡ w.held → x.after ≡ w.after → x.outside.out ≡ w.outside.out → x.outside.lost ≡ w.outside.lost → x.outside.disk ≡ w.outside.disk →
         Step said is_request h w m → Step said is_request h x m
     step-from h w x m held after out lost disk step = record {
       held = held ∙ step.held;
       acts = subst (λ (a : A). Acts (said a h) x.outside m.held m.after m.outside) (sym after) (acts-from (said w.after h) w.outside x.outside m.held m.after m.outside out lost disk step.acts);
     }
 
-    last-from : (w x v : Talk H A) → x.held ≡ w.held → x.after ≡ w.after → x.outside.out ≡ w.outside.out → x.outside.lost ≡ w.outside.lost → x.outside.disk ≤ w.outside.disk →
+    last-from : (w x v : Talk H A) → x.held ≡ w.held → x.after ≡ w.after → x.outside.out ≡ w.outside.out → x.outside.lost ≡ w.outside.lost → x.outside.disk ≡ w.outside.disk →
         Last said is_request w v → Last said is_request x v
-    last-from w x v held after out lost disk last = record { before = last.before; step = step-from last.before w x v held after out lost disk last.step; ends = last.ends }
+    last-from w x v held after out lost disk last = record {
+      before = last.before;
+      step = step-from last.before w x v held after out lost disk last.step;
+      ends = elim last.ends [ | inl none ↦ inl none | inr rest ↦ inr (rest.0, rest.1 ∙ sym disk) ];
+    }
 
-    fed-from : (w x v : Talk H A) → x.held ≡ w.held → x.after ≡ w.after → x.outside.out ≡ w.outside.out → x.outside.lost ≡ w.outside.lost → x.outside.disk ≤ w.outside.disk →
+    fed-from : (w x v : Talk H A) → x.held ≡ w.held → x.after ≡ w.after → x.outside.out ≡ w.outside.out → x.outside.lost ≡ w.outside.lost → x.outside.disk ≡ w.outside.disk →
         (ms : List (Talk H A)) (m : Talk H A) → Requests said is_request w ms m → Last said is_request m v → Fed said is_request x v
     fed-from w x v held after out lost disk [] m each last = ([], x, refl, last-from w x v held after out lost disk (subst (λ (t : Talk H A). Last said is_request t v) each last))
     fed-from w x v held after out lost disk (y ∷ ys) m each last =
@@ -152,36 +156,36 @@ module _ {H A : Type 0} (said : A → H → Way → Said H A) (is_request : H �
     fed-after w [] m v each fed = subst (λ (t : Talk H A). Fed said is_request t v) each fed
     fed-after w (x ∷ xs) m v each fed = let more_fed = fed-after x xs m v each.1 fed in (x ∷ more_fed.0, more_fed.1, (each.0, more_fed.2), more_fed.3)
 
-    -- The act kept the rest `k`, and changed nothing else but the disk's count of faults.
+    -- The act kept the rest `k`, and changed nothing else.
     record Kept (k : H) (m v : Talk H A) : Type 0 where
       held : m.held ≡ Some k
       after : v.after ≡ m.after
       out : v.outside.out ≡ m.outside.out
       lost : v.outside.lost ≡ m.outside.lost
-      disk : m.outside.disk ≤ v.outside.disk
+      disk : v.outside.disk ≡ m.outside.disk
 
-    kept-by : (k h : H) (m v : Talk H A) (s : Said H A) → m.held ≡ Some h → m.outside.disk ≤ v.outside.disk → v.held ≡ Some k → (s.next ≡ None) ⊎ (s ≡ silent m.after h) →
+    kept-by : (k h : H) (m v : Talk H A) (s : Said H A) → m.held ≡ Some h → v.outside.disk ≡ m.outside.disk → v.held ≡ Some k → (s.next ≡ None) ⊎ (s ≡ silent m.after h) →
         Sent s m.outside v.held v.after v.outside → Kept k m v
-    kept-by k h m v s held later kept (inl none) (inl x) = absurd (cc (kept, x.held_is, none))
-    kept-by k h m v s held later kept (inl none) (inr (inl x)) = absurd (cc (kept, x.held_is))
-    kept-by k h m v s held later kept (inl none) (inr (inr x)) = absurd (cc (kept, x.held_is))
-    kept-by k h m v s held later kept (inr is) (inl x) = record {
+    kept-by k h m v s held same kept (inl none) (inl x) = absurd (cc (kept, x.held_is, none))
+    kept-by k h m v s held same kept (inl none) (inr (inl x)) = absurd (cc (kept, x.held_is))
+    kept-by k h m v s held same kept (inl none) (inr (inr x)) = absurd (cc (kept, x.held_is))
+    kept-by k h m v s held same kept (inr is) (inl x) = record {
       held = held ∙ sym (sym kept ∙ x.held_is ∙ ap (λ (t : Said H A). t.next) is);
       after = x.after_is ∙ ap (λ (t : Said H A). t.after) is;
       out = x.out_is ∙ ap (λ (t : Said H A). plus m.outside.out t.words) is ∙ sym (plus-none m.outside.out);
       lost = x.lost_kept;
-      disk = later;
+      disk = same;
     }
-    kept-by k h m v s held later kept (inr is) (inr (inl x)) = absurd (cc (kept, x.held_is))
-    kept-by k h m v s held later kept (inr is) (inr (inr x)) = absurd (cc (kept, x.held_is))
+    kept-by k h m v s held same kept (inr is) (inr (inl x)) = absurd (cc (kept, x.held_is))
+    kept-by k h m v s held same kept (inr is) (inr (inr x)) = absurd (cc (kept, x.held_is))
 
     kept-last : (k : H) (m v : Talk H A) → Last said is_request m v → v.held ≡ Some k → Kept k m v
     kept-last k m v last kept = by last.ends
       where
-        by : (v.held ≡ None) ⊎ (is_request last.before ≡ false) → Kept k m v
+        by : (v.held ≡ None) ⊎ ((is_request last.before ≡ false) × (v.outside.disk ≡ m.outside.disk)) → Kept k m v
         by (inl none) = absurd (cc (kept, none))
         by (inr rest) =
-            kept-by k last.before m v (said m.after last.before last.step.acts.way) last.step.held last.step.acts.disk_later kept (door.rest_kept m.after last.before last.step.acts.way rest) last.step.acts.sent
+            kept-by k last.before m v (said m.after last.before last.step.acts.way) last.step.held rest.1 kept (door.rest_kept m.after last.before last.step.acts.way rest.0) last.step.acts.sent
 
     -- A course of `p` whose rest was kept, and then a course of `q`, make a course of both at once.
     pub pieces : PiecesLaw said is_request more size
@@ -189,7 +193,7 @@ module _ {H A : Type 0} (said : A → H → Way → Said H A) (is_request : H �
         let rest = kept-last k first.1 v first.3 kept in
         subst (λ (g : H). Fed said is_request (talk (Some g) a o) z) (door.more_joined p q h)
         (fed-after (talk (Some (more q (more p h))) a o) (all_with q first.0) (with q first.1) z (requests-with q (talk (Some (more p h)) a o) first.0 first.1 first.2)
-        (fed-from (talk (Some (more q k)) v.after v.outside) (with q first.1) z (ap (more_of (more q)) rest.held) (sym rest.after) (sym rest.out) (sym rest.lost) rest.disk second.0 second.1 second.2 second.3))
+        (fed-from (talk (Some (more q k)) v.after v.outside) (with q first.1) z (ap (more_of (more q)) rest.held) (sym rest.after) (sym rest.out) (sym rest.lost) (sym rest.disk) second.0 second.1 second.2 second.3))
 
     -- The requests of a course whose rest was kept begin the course of both pieces joined.
     pub calls : CallsLaw said is_request more size
@@ -198,7 +202,7 @@ module _ {H A : Type 0} (said : A → H → Way → Said H A) (is_request : H �
           all_with q first.0,
           with q first.1,
           subst (λ (g : H). Requests said is_request (talk (Some g) a o) (all_with q first.0) (with q first.1)) (door.more_joined p q h) (requests-with q (talk (Some (more p h)) a o) first.0 first.1 first.2),
-          record { held = ap (more_of (more q)) rest.held; after = sym rest.after; out = sym rest.out; lost = sym rest.lost; disk = rest.disk },
+          record { held = ap (more_of (more q)) rest.held; after = sym rest.after; out = sym rest.out; lost = sym rest.lost; disk = sym rest.disk },
         )
 
     -- The plain function.
@@ -206,7 +210,7 @@ module _ {H A : Type 0} (said : A → H → Way → Said H A) (is_request : H �
     -- Two plain acts in order are one with the joined words.
     plain-then : (s t : Said H A) (i j l : Outside) (held : Option H) (b c : A) (k : Option H) → PlainActs s i held b j → PlainActs t j k c l → PlainActs (said_after s.words t) i k c l
     plain-then s t i j l held b c k first second = record {
-      disk_later = omega (arith, first.disk_later, second.disk_later);
+      disk_kept = second.disk_kept ∙ first.disk_kept;
       whole = record {
         held_is = second.whole.held_is;
         after_is = second.whole.after_is;
@@ -218,7 +222,7 @@ module _ {H A : Type 0} (said : A → H → Way → Said H A) (is_request : H �
     -- The second part of such an act is a plain act from the middle on.
     plain-second : (s t : Said H A) (i l : Outside) (c : A) (k : Option H) → PlainActs (said_after s.words t) i k c l → PlainActs t (outside (plus i.out s.words) i.disk i.lost) k c l
     plain-second s t i l c k both = record {
-      disk_later = both.disk_later;
+      disk_kept = both.disk_kept;
       whole = record {
         held_is = both.whole.held_is;
         after_is = both.whole.after_is;
@@ -288,7 +292,7 @@ module _ {H A : Type 0} (said : A → H → Way → Said H A) (is_request : H �
         let both : PlainActs (said_after s.words (plain_from said is_request n s.after k)) w.outside v.held v.after v.outside = subst (λ (t : Said H A). PlainActs t w.outside v.held v.after v.outside)
         (at-request n w.after h e ∙ then-some s (plain_from said is_request n) k is) acts in
         let fed = later k m (door.shorter w.after h k e is) refl (plain-second s (plain_from said is_request n s.after k) w.outside v.outside v.after v.held both) in
-        let step : PlainStep said is_request h w m = record { held = held; acts = record { disk_later = omega arith; whole = record { held_is = sym is; after_is = refl; out_is = refl; lost_kept = refl } } } in
+        let step : PlainStep said is_request h w m = record { held = held; acts = record { disk_kept = refl; whole = record { held_is = sym is; after_is = refl; out_is = refl; lost_kept = refl } } } in
         (m ∷ fed.0, fed.1, ((h, e, step), fed.2), fed.3)
 
     plain-fed : (n : ℕ) (h : H) (w v : Talk H A) → size h < n → w.held ≡ Some h → PlainActs (plain_from said is_request n w.after h) w.outside v.held v.after v.outside → PlainFed said is_request w v
@@ -309,8 +313,8 @@ module _ {H A : Type 0} (said : A → H → Way → Said H A) (is_request : H �
       held = step.held;
       acts = record {
         way = Plain;
-        disk_cause = λ (no : Plain ≡ Disk). absurd (cc);
-        disk_later = step.acts.disk_later;
+        cause = tt;
+        disk_later = omega (arith, step.acts.disk_kept);
         lost_later = omega (arith, step.acts.whole.lost_kept);
         sent = inl step.acts.whole;
       };
@@ -323,7 +327,11 @@ module _ {H A : Type 0} (said : A → H → Way → Said H A) (is_request : H �
     -- A plain course is a course.
     pub is_course : PlainIsFed said is_request more size
     is_course w v fed =
-        (fed.0, fed.1, course-plain w fed.0 fed.1 fed.2, record { before = fed.3.before; step = step-plain fed.3.before fed.1 v fed.3.step; ends = fed.3.ends })
+        (fed.0, fed.1, course-plain w fed.0 fed.1 fed.2, record {
+          before = fed.3.before;
+          step = step-plain fed.3.before fed.1 v fed.3.step;
+          ends = elim fed.3.ends [ | inl none ↦ inl none | inr rest ↦ inr (rest, fed.3.step.acts.disk_kept) ];
+        })
 
     -- All laws of a door.
     pub door_laws : DoorLaws said is_request more size

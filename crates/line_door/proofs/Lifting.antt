@@ -23,7 +23,7 @@ module _ {H A J B : Type 0} (state : A → B) (into : H → J) where
       → Acts other i (held_over into held) (state a) j
   acts-over words other i held a j same acts = record {
     way = acts.way;
-    disk_cause = acts.disk_cause;
+    cause = acts.cause;
     disk_later = acts.disk_later;
     lost_later = acts.lost_later;
     sent = subst (λ (s : Said J B). Sent s i (held_over into held) (state a) j) (sym (same acts.way)) (sent-over (words acts.way) i held a j acts.sent);
@@ -46,9 +46,9 @@ module _ {H A J B : Type 0} (state : A → B) (into : H → J) where
     pub last-over : (w v : Talk H A) → Last said is_request w v → Last other is_other (talk_over state into w) (talk_over state into v)
     last-over w v last = record { before = into last.before; step = step-over last.before w v last.step; ends = by last.ends }
       where
-        by : (v.held ≡ None) ⊎ (is_request last.before ≡ false) → (held_over into v.held ≡ None) ⊎ (is_other (into last.before) ≡ false)
+        by : (v.held ≡ None) ⊎ ((is_request last.before ≡ false) × (v.outside.disk ≡ w.outside.disk)) → (held_over into v.held ≡ None) ⊎ ((is_other (into last.before) ≡ false) × (v.outside.disk ≡ w.outside.disk))
         by (inl none) = inl (ap (held_over into) none)
-        by (inr rest) = inr (asks last.before ∙ rest)
+        by (inr rest) = inr (asks last.before ∙ rest.0, rest.1)
 
     -- And so is a whole course.
     pub fed-over : (w v : Talk H A) → Fed said is_request w v → Fed other is_other (talk_over state into w) (talk_over state into v)

@@ -1,12 +1,11 @@
 -- A streamed reply that stops, or that is lost.
 use Rattle.std.proofs.Common.{◌≡◌, ◌≤◌, ◌<◌, ℕ, min, true, List, ◌++◌, length, take, Option, None, Ok, Err, inr, refl, sym, ap, subst, ◌∙◌, length-append, arith}
 use Rattle.std.proofs.Math.Seq.{take-append_seam}
-use Rattle.arch_base.specs.Counts.{Rose}
 use Rattle.edge_io.specs.Taken.{plus}
 use Rattle.edge_io.specs.Phrases.{Says}
 use Rattle.edge_io.specs.declared.sink.SinkFault.{SinkFault}
 use Rattle.edge_io.proofs.Wording.{take-first, Says-then}
-use Rattle.line_door.specs.Acts.{Outside, Said, Way, Disk, Acts}
+use Rattle.line_door.specs.Acts.{Outside, Said, Way, WayCause, Acts}
 use Rattle.line_door.proofs.Acting.{acts-by_says}
 
 lost-first : (a b : List ℕ) (out out' : Option (List ℕ)) (lost lost' : ℕ) (fault : SinkFault) → Says a out lost out' lost' (Err fault) → Says (a ++ b) out lost out' lost' (Err fault)
@@ -15,10 +14,10 @@ lost-first a b out out' lost lost' fault p = (p.0, p.1, (min p.2.0 (length a), p
 module _ {H A : Type 0} where
   -- The reply stops after some of its words, and the session is closed.
   pub acts-short : (words : Way → Said H A) (way : Way) (s : Said H A) (front more : List ℕ) (i j : Outside) (a : A) → words way ≡ s → s.streamed ≡ true → s.words ≡ front ++ more → 0 < length front → 0 < length more →
-      (way ≡ Disk → Rose i.disk j.disk) → i.disk ≤ j.disk → Says front i.out i.lost j.out j.lost (Ok tt) → a ≡ s.after → Acts words i None a j
+      WayCause way i.disk j.disk → i.disk ≤ j.disk → Says front i.out i.lost j.out j.lost (Ok tt) → a ≡ s.after → Acts words i None a j
   acts-short words way s front more i j a e streamed is some rest cause later said b = record {
     way = way;
-    disk_cause = cause;
+    cause = cause;
     disk_later = later;
     lost_later = omega (arith, said.0);
     sent = inr (inr (record {
@@ -33,7 +32,7 @@ module _ {H A : Type 0} where
   }
 
   -- A piece of the reply is lost after the words before it.
-  pub acts-cut_off : (words : Way → Said H A) (way : Way) (s : Said H A) (front piece more : List ℕ) (i j k : Outside) (a : A) (fault : SinkFault) → words way ≡ s → s.words ≡ (front ++ piece) ++ more → (way ≡ Disk → Rose i.disk k.disk) →
+  pub acts-cut_off : (words : Way → Said H A) (way : Way) (s : Said H A) (front piece more : List ℕ) (i j k : Outside) (a : A) (fault : SinkFault) → words way ≡ s → s.words ≡ (front ++ piece) ++ more → WayCause way i.disk k.disk →
       i.disk ≤ k.disk → Says front i.out i.lost j.out j.lost (Ok tt) → Says piece j.out j.lost k.out k.lost (Err fault) → a ≡ s.after → Acts words i None a k
   acts-cut_off words way s front piece more i j k a fault e is cause later said lost b =
       let both : Says (front ++ piece) i.out i.lost k.out k.lost (Err fault) = Says-then front piece i.out j.out k.out i.lost j.lost k.lost tt (Err fault) said lost in

@@ -30,6 +30,15 @@ pub data Way : Type 0 where
   Disk : Way
   Newer : Way
 
+-- Why an act goes so, by the disk's count of faults before and after it: the word for the disk is said
+-- only if the count rose, and the word for out of memory only if it stayed. So no fault of the disk is
+-- told as out of memory.
+abbrev pub WayCause : Way → ℕ → ℕ → Type 0
+WayCause Plain before now = Unit {0}
+WayCause Memory before now = now ≡ before
+WayCause Disk before now = Rose before now
+WayCause Newer before now = Unit {0}
+
 -- The session if it continues, otherwise none.
 abbrev pub held_if : {H : Type 0} → Bool → H → Option H
 held_if true h = Some h
@@ -69,18 +78,17 @@ module _ {H A : Type 0} where
   abbrev pub Sent : Said H A → Outside → Option H → A → Outside → Type 0
   Sent s i held a j = SaidWhole s i held a j ⊎ (SaidLost s i held a j ⊎ SaidShort s i held a j)
 
-  -- One act, in one of its ways. The word for the disk is said only if the disk's count rose in
-  -- this act.
+  -- One act, in one of its ways, for a cause in this act.
   pub record Acts (words : Way → Said H A) (i : Outside) (held : Option H) (a : A) (j : Outside)
       : Type 0 where
     pub way : Way
-    pub disk_cause : way ≡ Disk → Rose i.disk j.disk
+    pub cause : WayCause way i.disk j.disk
     pub disk_later : i.disk ≤ j.disk
     pub lost_later : i.lost ≤ j.lost
     pub sent : Sent (words way) i held a j
 
-  -- One act by the rules, all of whose words reached the connection.
+  -- One act by the rules, all of whose words reached the connection. The disk didn't fail.
   pub record PlainActs (s : Said H A) (i : Outside) (held : Option H) (a : A) (j : Outside)
       : Type 0 where
-    pub disk_later : i.disk ≤ j.disk
+    pub disk_kept : j.disk ≡ i.disk
     pub whole : SaidWhole s i held a j

@@ -25,11 +25,12 @@ module _ {H A : Type 0} (said : A → H → Way → Said H A) (is_request : H �
   Requests w (m ∷ ms) v = ((h : H) × (is_request h ≡ true) × Step h w m) × Requests m ms v
 
   -- The last act of a piece closes the session, or it keeps a rest that starts with no whole
-  -- request.
+  -- request, and meets no fault of the disk.
   pub record Last (w v : Talk H A) : Type 0 where
     pub before : H
     pub step : Step before w v
-    pub ends : (v.held ≡ None) ⊎ (is_request before ≡ false)
+    pub ends : (v.held ≡ None)
+        ⊎ ((is_request before ≡ false) × (v.outside.disk ≡ w.outside.disk))
 
   -- The course of a piece: requests, and then the last act.
   abbrev pub Fed : Talk H A → Talk H A → Type 0

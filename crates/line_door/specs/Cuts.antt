@@ -52,13 +52,12 @@ module _ {H A : Type 0} (said : A → H → Way → Said H A)
       Fed said is_request (talk (Some (more (p ++ q) h)) a o) z
 
   -- The session has `q` after the rest `k`, and all else is as after the course that kept the rest.
-  -- While it was kept, only the disk's count of faults may have risen.
   pub record LeftWith (q : List ℕ) (k : H) (m v : Talk H A) : Type 0 where
     pub held : m.held ≡ Some (more q k)
     pub after : m.after ≡ v.after
     pub out : m.outside.out ≡ v.outside.out
     pub lost : m.outside.lost ≡ v.outside.lost
-    pub disk : m.outside.disk ≤ v.outside.disk
+    pub disk : m.outside.disk ≡ v.outside.disk
 
   -- The requests of a course of `p` whose rest was kept are the first ones of both pieces joined, and
   -- leave `q` after that rest. So a course of `q` goes on there, whatever stood between the two: it

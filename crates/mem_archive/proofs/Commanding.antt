@@ -82,7 +82,7 @@ stays-ready m n d (answer.Damaged file at) never = absurd never
 
 -- It has no disk that fails.
 pub never-fails : (m n : Archive) (d : Done) (reply : Answer) → Delivers m reply n d → AnswerCause 0 0 reply
-never-fails m n d answer.NoMemory is = tt
+never-fails m n d answer.NoMemory is = refl
 never-fails m n d (answer.Ok number id) is = tt
 never-fails m n d (answer.Duplicate number) is = tt
 never-fails m n d answer.NoFields is = tt

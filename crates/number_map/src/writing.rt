@@ -1,6 +1,6 @@
 //! Appends a record to a map.
 ghost use Rattle.std.specs.Prelude.{◌≡◌, ◌+◌, ◌<◌, ◌^◌, length, OnOk, OnErr};
-ghost use Rattle.arch_base.specs.Counts.{IsCaused};
+ghost use Rattle.arch_base.specs.Counts.{HasCause};
 ghost use Rattle.disk_model.specs.Beside.{Bounds, Respects, RunsBeside};
 ghost use Rattle.disk_model.specs.Disk.{Told, WhereTold, OneFile, Wrote, Tore, IsAtMostLength, Elapses};
 ghost use Rattle.disk_model.specs.Sizes.{record_size};
@@ -42,7 +42,7 @@ pub fn append<D: Disk>(
         → RunsBeside D.content D.moment D.left_since bounds disk.old disk.new }
     ensures time { Elapses (D.moment disk.old) (D.moment disk.new) (D.left_since disk.old)
         (D.left_since disk.new) (D.content disk.new) }
-    ensures cause { IsCaused (D.faults disk.old) (D.faults disk.new) result }
+    ensures cause { HasCause (D.faults disk.old) (D.faults disk.new) result }
     ensures count { D.reads disk.new ≡ D.reads disk.old }
 {
     disk.write_at(file, at, &spell(line))

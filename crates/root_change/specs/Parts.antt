@@ -1,6 +1,6 @@
 -- The parts of an archive, the files that hold them by a root, and what a command on them promises.
 use Rattle.std.specs.Prelude.{◌≡◌, ◌⊎◌, ℕ, ◌-◌, if◌then◌else◌, List, [], length, Option, Result, IfOk, OnOk}
-use Rattle.arch_base.specs.Counts.{IsCaused}
+use Rattle.arch_base.specs.Counts.{HasCause}
 use Rattle.disk_model.specs.declared.name.FileKind.{FileKind}
 use Rattle.disk_model.specs.Disk.{Files, Content, WhereTold, LeavesOnly}
 use Rattle.disk_model.specs.Synced.{IsSettled}
@@ -61,4 +61,4 @@ pub record Commands {D E : Type 0} (content : D → Option Content)
   pub settled : OnOk result (WhereTold IsSettled (content new))
   pub valid : IfOk result (λ made. IsRoot made)
   pub sizes : IfOk result (λ made. WhereTold (HasSizes made) (content new))
-  pub cause : IsCaused (faults old) (faults new) result
+  pub cause : HasCause (faults old) (faults new) result

@@ -1,6 +1,6 @@
 //! Appends bytes to a file beside all that a root names.
 ghost use Rattle.std.specs.Prelude.{◌≡◌, ◌≢◌, ◌+◌, ◌^◌, ◌<◌, OnOk, length};
-ghost use Rattle.arch_base.specs.Counts.{IsCaused};
+ghost use Rattle.arch_base.specs.Counts.{HasCause};
 ghost use Rattle.disk_model.specs.Disk.{Told, WhereTold, OneFile, Wrote};
 ghost use Rattle.root_slots.specs.RootName.{root_name};
 ghost use Rattle.disk_model.specs.Beside.{RunsBeside};
@@ -38,7 +38,7 @@ pub fn append<D: Disk>(
     ensures wrote { OnOk result (Told (OneFile name (Wrote (named_end root.now name) bytes.now))
         (D.content disk.old) (D.content disk.new)) }
     ensures sizes { OnOk result (WhereTold (HasSizes root.now) (D.content disk.new)) }
-    ensures cause { IsCaused (D.faults disk.old) (D.faults disk.new) result }
+    ensures cause { HasCause (D.faults disk.old) (D.faults disk.new) result }
     ensures count { D.reads disk.new ≡ D.reads disk.old }
 {
     let end = end_of(root, name);

@@ -1,6 +1,6 @@
 //! Copies ranges of files into another file, without memory.
 ghost use Rattle.std.specs.Prelude.{◌≡◌, ◌≢◌, ◌+◌, ◌-◌, ◌^◌, ◌<◌, min, true, length, IfOk};
-ghost use Rattle.arch_base.specs.Counts.{IsCaused};
+ghost use Rattle.arch_base.specs.Counts.{HasCause};
 ghost use Rattle.disk_model.specs.Beside.{Bounds, Respects, RunsBeside};
 ghost use Rattle.disk_model.specs.Disk.{Told, WhereTold, IsAtMostLength};
 ghost use Rattle.root_change.specs.Copying.{Copied, HasRange};
@@ -58,7 +58,7 @@ fn copy_window<D: Disk>(
         (D.content disk.new)) }
     ensures whole { HasRange range.file range.offset range.count (D.content disk.old)
         → IfOk result (λ whole. whole ≡ true) }
-    ensures cause { IsCaused (D.faults disk.old) (D.faults disk.new) result }
+    ensures cause { HasCause (D.faults disk.old) (D.faults disk.new) result }
 {
     let count = disk.read(range.file, range.offset, window)?;
     if count < window.len() {
@@ -90,7 +90,7 @@ pub fn copy_range<D: Disk>(
         (D.content disk.new)) }
     ensures whole { HasRange range.file range.offset range.count (D.content disk.old)
         → IfOk result (λ whole. whole ≡ true) }
-    ensures cause { IsCaused (D.faults disk.old) (D.faults disk.new) result }
+    ensures cause { HasCause (D.faults disk.old) (D.faults disk.new) result }
 {
     let mut window = [0; WINDOW as usize];
     let mut done = 0;

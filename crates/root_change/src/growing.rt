@@ -1,6 +1,6 @@
 //! Appends a message to an archive: bytes to an epoch, and a record to the map.
 ghost use Rattle.std.specs.Prelude.{◌≡◌, ◌+◌, ◌-◌, ◌^◌, ◌<◌, OnOk, length};
-ghost use Rattle.arch_base.specs.Counts.{IsCaused};
+ghost use Rattle.arch_base.specs.Counts.{HasCause};
 ghost use Rattle.disk_model.specs.declared.name.FileKind.TheVariants as kind;
 ghost use Rattle.disk_model.specs.Disk.{WhereTold, LeavesOnly};
 ghost use Rattle.disk_model.specs.Sizes.{epoch_count, record_size};
@@ -88,7 +88,7 @@ fn put_grown<D: Disk>(
         (D.content disk.new)) }
     ensures settled { OnOk result (WhereTold IsSettled (D.content disk.new)) }
     ensures sizes { OnOk result (WhereTold (HasSizes new.now) (D.content disk.new)) }
-    ensures cause { IsCaused (D.faults disk.old) (D.faults disk.new) result }
+    ensures cause { HasCause (D.faults disk.old) (D.faults disk.new) result }
     ensures count { D.reads disk.new ≡ D.reads disk.old }
 {
     root_fits(old);

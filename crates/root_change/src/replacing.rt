@@ -1,6 +1,6 @@
 //! Replaces the current root, and removes the files that only the old one names.
 ghost use Rattle.std.specs.Prelude.{◌≡◌, ◌-◌, ◌<◌, OnOk};
-ghost use Rattle.arch_base.specs.Counts.{IsCaused};
+ghost use Rattle.arch_base.specs.Counts.{HasCause};
 ghost use Rattle.disk_model.specs.Disk.{Told, WhereTold, LeavesOnly};
 ghost use Rattle.disk_model.specs.Sizes.{epoch_count};
 ghost use Rattle.disk_model.specs.Synced.{IsSettled};
@@ -28,7 +28,7 @@ fn drop_file<D: Disk>(disk: &mut D, name: FileName, old: &Root, new: &Root) -> R
         disk.old disk.new }
     ensures dropped { OnOk result (Told (Dropped (IsOne name) old.now new.now) (D.content disk.old)
         (D.content disk.new)) }
-    ensures cause { IsCaused (D.faults disk.old) (D.faults disk.new) result }
+    ensures cause { HasCause (D.faults disk.old) (D.faults disk.new) result }
     ensures count { D.reads disk.new ≡ D.reads disk.old }
 {
     if is_dropped(name, old, new) {
@@ -43,7 +43,7 @@ fn drop_epochs<D: Disk>(disk: &mut D, old: &Root, new: &Root) -> Result<(), Disk
         disk.old disk.new }
     ensures dropped { OnOk result (Told (Dropped (IsEpochBelow epoch_count) old.now new.now)
         (D.content disk.old) (D.content disk.new)) }
-    ensures cause { IsCaused (D.faults disk.old) (D.faults disk.new) result }
+    ensures cause { HasCause (D.faults disk.old) (D.faults disk.new) result }
     ensures count { D.reads disk.new ≡ D.reads disk.old }
 {
     for epoch in 0..EPOCHS {
@@ -59,7 +59,7 @@ fn drop_files<D: Disk>(disk: &mut D, old: &Root, new: &Root) -> Result<(), DiskF
         disk.old disk.new }
     ensures dropped { OnOk result
         (Told (Dropped IsAny old.now new.now) (D.content disk.old) (D.content disk.new)) }
-    ensures cause { IsCaused (D.faults disk.old) (D.faults disk.new) result }
+    ensures cause { HasCause (D.faults disk.old) (D.faults disk.new) result }
     ensures count { D.reads disk.new ≡ D.reads disk.old }
 {
     drop_file(disk, map_file(old.map.gen_), old, new)?;
@@ -93,7 +93,7 @@ pub fn replace_root<D: Disk>(
     // The files that the new root names read as before, whatever the disk held.
     ensures kept { OnOk result
         (Told (KeepsNamed new.now) (D.content disk.old) (D.content disk.new)) }
-    ensures cause { IsCaused (D.faults disk.old) (D.faults disk.new) result }
+    ensures cause { HasCause (D.faults disk.old) (D.faults disk.new) result }
     ensures count { D.reads disk.new ≡ D.reads disk.old }
 {
     disk.sync()?;

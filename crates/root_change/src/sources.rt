@@ -1,7 +1,7 @@
 //! Puts bytes and ranges of files after one another into a file, without memory.
 ghost use Rattle.std.specs.Prelude.{◌≡◌, ◌+◌, ◌^◌, ◌<◌, ◌≤◌, true, length, IfOk};
 ghost use Rattle.std.specs.List.{sum_by};
-ghost use Rattle.arch_base.specs.Counts.{IsCaused};
+ghost use Rattle.arch_base.specs.Counts.{HasCause};
 ghost use Rattle.disk_model.specs.Beside.{Bounds, Respects, RunsBeside};
 ghost use Rattle.disk_model.specs.Disk.{Told, WhereTold, IsAtMostLength};
 ghost use Rattle.root_change.specs.Copying.{range_of, Put};
@@ -52,7 +52,7 @@ fn put_bytes<D: Disk>(
     ensures put { IfOk result (λ whole. whole ≡ true → Told (Put (range_of bytes.now offset count)
         count to end) (D.content disk.old) (D.content disk.new)) }
     ensures whole { offset + count ≤ length bytes.now → IfOk result (λ whole. whole ≡ true) }
-    ensures cause { IsCaused (D.faults disk.old) (D.faults disk.new) result }
+    ensures cause { HasCause (D.faults disk.old) (D.faults disk.new) result }
 {
     if offset > bytes.len() {
         return Ok(false);
@@ -85,7 +85,7 @@ fn put_source<D: Disk>(
         (D.content disk.old) (D.content disk.new)) }
     ensures whole { HasSource bytes.now (D.content disk.old) source
         → IfOk result (λ whole. whole ≡ true) }
-    ensures cause { IsCaused (D.faults disk.old) (D.faults disk.new) result }
+    ensures cause { HasCause (D.faults disk.old) (D.faults disk.new) result }
 {
     match source {
         Source::Bytes { offset, count } => put_bytes(disk, bytes, offset, count, to, end),
@@ -115,7 +115,7 @@ pub fn put_sources<D: Disk>(
         (D.content disk.new)) }
     ensures whole { HasSources bytes.now (D.content disk.old) sources.now
         → IfOk result (λ whole. whole ≡ true) }
-    ensures cause { IsCaused (D.faults disk.old) (D.faults disk.new) result }
+    ensures cause { HasCause (D.faults disk.old) (D.faults disk.new) result }
 {
     let mut next = end;
     for source in sources {

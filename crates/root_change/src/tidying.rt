@@ -1,7 +1,7 @@
 //! Brings the files of a disk to what a root names.
 ghost use Rattle.std.specs.Prelude.{◌≡◌, ℕ, OnOk};
 ghost use Rattle.std.specs.List.{Contains};
-ghost use Rattle.arch_base.specs.Counts.{IsCaused};
+ghost use Rattle.arch_base.specs.Counts.{HasCause};
 ghost use Rattle.disk_model.specs.Beside.{Bounds, Respects, RunsBeside};
 ghost use Rattle.disk_model.specs.Disk.{Told, WhereTold, OneFile, LeavesOnly};
 ghost use Rattle.disk_model.specs.Synced.{IsSettled};
@@ -31,7 +31,7 @@ fn trim<D: Disk>(disk: &mut D, name: FileName, length: u64) -> Result<(), DiskFa
         → RunsBeside D.content D.moment D.left_since bounds disk.old disk.new }
     ensures trimmed { OnOk result
         (Told (OneFile name (Trimmed length)) (D.content disk.old) (D.content disk.new)) }
-    ensures cause { IsCaused (D.faults disk.old) (D.faults disk.new) result }
+    ensures cause { HasCause (D.faults disk.old) (D.faults disk.new) result }
     ensures count { D.reads disk.new ≡ D.reads disk.old }
 {
     let size = disk.length(name)?;
@@ -49,7 +49,7 @@ fn tidy_file<D: Disk>(disk: &mut D, root: &Root, name: FileName) -> Result<(), D
         disk.old disk.new }
     ensures tidied { OnOk result
         (Told (Tidied (IsOne name) root.now) (D.content disk.old) (D.content disk.new)) }
-    ensures cause { IsCaused (D.faults disk.old) (D.faults disk.new) result }
+    ensures cause { HasCause (D.faults disk.old) (D.faults disk.new) result }
     ensures count { D.reads disk.new ≡ D.reads disk.old }
 {
     if !is_named(root, name) {
@@ -68,7 +68,7 @@ fn tidy_files<D: Disk>(disk: &mut D, root: &Root, names: &[FileName]) -> Result<
         disk.old disk.new }
     ensures tidied { OnOk result (Told (Tidied (Contains names.now) root.now)
         (D.content disk.old) (D.content disk.new)) }
-    ensures cause { IsCaused (D.faults disk.old) (D.faults disk.new) result }
+    ensures cause { HasCause (D.faults disk.old) (D.faults disk.new) result }
     ensures count { D.reads disk.new ≡ D.reads disk.old }
 {
     for name in names {
@@ -94,7 +94,7 @@ pub fn tidy<D: Disk>(disk: &mut D, root: &Root, names: &[FileName]) -> Result<()
     // And the listed files are tidied: all bytes that count stay.
     ensures tidied { OnOk result (Told (Tidied (Contains names.now) root.now)
         (D.content disk.old) (D.content disk.new)) }
-    ensures cause { IsCaused (D.faults disk.old) (D.faults disk.new) result }
+    ensures cause { HasCause (D.faults disk.old) (D.faults disk.new) result }
     ensures count { D.reads disk.new ≡ D.reads disk.old }
 {
     tidy_files(disk, root, names)?;

@@ -1,6 +1,6 @@
 //! Reads the current root of a root file.
 ghost use Rattle.std.specs.Prelude.{◌≡◌, ◌≢◌, ◌↔◌, ◌<◌, Ok, Err, Some, length, IsTrue, IfOk, IfSome, IfNone};
-ghost use Rattle.arch_base.specs.Counts.{RoseIf, IsCaused};
+ghost use Rattle.arch_base.specs.Counts.{RoseIf, HasCause};
 ghost use Rattle.arch_base.specs.Configs.{IsConfig};
 ghost use Rattle.disk_model.specs.Disk.{Image, Told, WhereTold, Unchanged, LeavesOnly, bytes_of};
 ghost use Rattle.root_slots.specs.declared.root.Root.{Root};
@@ -130,7 +130,7 @@ fn whole_file<D: Disk>(disk: &mut D, file: &mut [u8; ROOT_SIZE]) -> Result<bool,
     ensures same { Told Unchanged (D.content disk.old) (D.content disk.new) }
     ensures any_moment { LeavesOnly D.moment D.left_since disk.old disk.new
         (Image (D.content disk.old)) }
-    ensures cause { IsCaused (D.faults disk.old) (D.faults disk.new) result }
+    ensures cause { HasCause (D.faults disk.old) (D.faults disk.new) result }
 {
     if disk.length(root_file())? != ROOT_SIZE as u64 {
         return Ok(false);

@@ -1,6 +1,6 @@
 //! The two slots, and the commit of a new root.
 ghost use Rattle.std.specs.Prelude.{◌≡◌, ◌-◌, ◌<◌, ◌∷◌, [], ℕ, List, length, OnOk, IfOk};
-ghost use Rattle.arch_base.specs.Counts.{IsCaused};
+ghost use Rattle.arch_base.specs.Counts.{HasCause};
 ghost use Rattle.disk_model.specs.Disk.{Image, Told, WhereTold, Unchanged, LeavesOnly};
 ghost use Rattle.disk_model.specs.Synced.{Writing, IsWritten};
 ghost use Rattle.root_slots.specs.RootName.{root_name};
@@ -32,7 +32,7 @@ pub fn is_open<D: Disk>(disk: &mut D, slot: Slot) -> Result<bool, DiskFault>
     ensures same { Told Unchanged (D.content disk.old) (D.content disk.new) }
     ensures any_moment { LeavesOnly D.moment D.left_since disk.old disk.new
         (Image (D.content disk.old)) }
-    ensures cause { IsCaused (D.faults disk.old) (D.faults disk.new) result }
+    ensures cause { HasCause (D.faults disk.old) (D.faults disk.new) result }
 {
     let mut gate = [0];
     disk.read(root_file(), slot.gate() as u64, &mut gate)?;
@@ -46,7 +46,7 @@ pub fn shut<D: Disk>(disk: &mut D, slot: Slot) -> Result<(), DiskFault>
         (Writing root_name (slot_number slot) 1 (D.content disk.old)) }
     ensures written { OnOk result (Told (IsWritten root_name (slot_number slot)
         (0 ∷ [])) (D.content disk.old) (D.content disk.new)) }
-    ensures cause { IsCaused (D.faults disk.old) (D.faults disk.new) result }
+    ensures cause { HasCause (D.faults disk.old) (D.faults disk.new) result }
     ensures count { D.reads disk.new ≡ D.reads disk.old }
 {
     write_and_sync(disk, root_file(), slot.gate() as u64, &[0])
@@ -61,7 +61,7 @@ pub fn fill<D: Disk>(disk: &mut D, slot: Slot, root: &Root) -> Result<(), DiskFa
     ensures written { OnOk result (Told (IsWritten root_name (body_offset (slot_number slot))
         (spelling root.now)) (D.content disk.old) (D.content disk.new)) }
     ensures whole { length (spelling root.now) ≡ body_size }
-    ensures cause { IsCaused (D.faults disk.old) (D.faults disk.new) result }
+    ensures cause { HasCause (D.faults disk.old) (D.faults disk.new) result }
     ensures count { D.reads disk.new ≡ D.reads disk.old }
 {
     write_and_sync(disk, root_file(), slot.body() as u64, &spell(root))
@@ -74,7 +74,7 @@ pub fn raise<D: Disk>(disk: &mut D, slot: Slot) -> Result<(), DiskFault>
         (Writing root_name (slot_number slot) 1 (D.content disk.old)) }
     ensures written { OnOk result (Told (IsWritten root_name (slot_number slot)
         (1 ∷ [])) (D.content disk.old) (D.content disk.new)) }
-    ensures cause { IsCaused (D.faults disk.old) (D.faults disk.new) result }
+    ensures cause { HasCause (D.faults disk.old) (D.faults disk.new) result }
     ensures count { D.reads disk.new ≡ D.reads disk.old }
 {
     write_and_sync(disk, root_file(), slot.gate() as u64, &[1])
@@ -111,7 +111,7 @@ pub fn commit<D: Disk>(disk: &mut D, slot: Slot, root: &Root) -> Result<(), Disk
         (D.content disk.old) (D.content disk.new)) }
     ensures whole { OnOk result (length (spelling root.now) ≡ body_size) }
     ensures committed { OnOk result (Told IsCommitted (D.content disk.old) (D.content disk.new)) }
-    ensures cause { IsCaused (D.faults disk.old) (D.faults disk.new) result }
+    ensures cause { HasCause (D.faults disk.old) (D.faults disk.new) result }
     ensures count { D.reads disk.new ≡ D.reads disk.old }
 {
     let _sequence = root.sequence; // brings the range of a field behind a `&` into the proof

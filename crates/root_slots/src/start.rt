@@ -1,6 +1,6 @@
 //! Creates a root file without an open slot.
 ghost use Rattle.std.specs.Prelude.{◌≡◌, OnOk};
-ghost use Rattle.arch_base.specs.Counts.{IsCaused};
+ghost use Rattle.arch_base.specs.Counts.{HasCause};
 ghost use Rattle.disk_model.specs.Disk.{Told, LeavesOnly};
 ghost use Rattle.root_slots.specs.Slots.{EachShut, LeavesShut, OthersStay, IsBegun, Clearing, IsCleared};
 
@@ -13,7 +13,7 @@ fn clear<D: Disk>(disk: &mut D) -> Result<(), DiskFault>
     ensures any_moment { LeavesOnly D.moment D.left_since disk.old disk.new
         (Clearing (D.content disk.old)) }
     ensures cleared { OnOk result (Told IsCleared (D.content disk.old) (D.content disk.new)) }
-    ensures cause { IsCaused (D.faults disk.old) (D.faults disk.new) result }
+    ensures cause { HasCause (D.faults disk.old) (D.faults disk.new) result }
     ensures count { D.reads disk.new ≡ D.reads disk.old }
 {
     disk.remove(root_file())?;
@@ -31,7 +31,7 @@ pub fn begin<D: Disk>(disk: &mut D) -> Result<(), DiskFault>
     ensures elsewhere { LeavesOnly D.moment D.left_since disk.old disk.new
         (OthersStay (D.content disk.old)) }
     ensures made { OnOk result (Told IsBegun (D.content disk.old) (D.content disk.new)) }
-    ensures cause { IsCaused (D.faults disk.old) (D.faults disk.new) result }
+    ensures cause { HasCause (D.faults disk.old) (D.faults disk.new) result }
     ensures count { D.reads disk.new ≡ D.reads disk.old }
 {
     clear(disk)?;

@@ -1,5 +1,5 @@
 use Rattle.std.proofs.Common.{[]}
-use Rattle.archive_cli.proofs.OnDisk.{opened-checks, opened-as, unopened-checks, opened-stands, unopened-stands}
+use Rattle.archive_cli.proofs.OnDisk.{opened-checks, opened-as, unopened-checks, opened-stands, unopened-stands, checked-cause, refused-cause}
 use Rattle.archive_cli.proofs.disk_commands.check.Goals as goal
 
 pub returns-in-Ok-clause-any_moment : goal.returns-in-Ok-clause-any_moment
@@ -15,6 +15,13 @@ returns-in-Ok-clause-answer g c = opened-as c.in-Ok.engine.view (g.D.Disk.conten
 
 pub returns-in-Ok-clause-stands : goal.returns-in-Ok-clause-stands
 returns-in-Ok-clause-stands g c = rw c.into_disk.ensures (opened-stands g.D.Disk.content g.D.Disk.moment g.D.Disk.left_since g.met.D.Disk.counts_now g.met.D.Disk.reads_fit c.args.disk c.in-Ok.engine c.in-Ok.ensures.opened.done c.in-Ok.ensures.opened.first)
+
+pub returns-in-Ok-clause-cause : goal.returns-in-Ok-clause-cause
+returns-in-Ok-clause-cause g c = rw c.into_disk.ensures
+    (checked-cause (g.D.Disk.faults c.args.disk) (g.D.Disk.faults c.in-Ok.engine.disk) c.entry_count.result c.message_count.result c.next_of_root.result (c.in-Ok.ensures.opened.cause.kept (λ fault. absurd (cc fault))))
+
+pub returns-in-Err-clause-cause : goal.returns-in-Err-clause-cause
+returns-in-Err-clause-cause g c = refused-cause (g.D.Disk.faults c.args.disk) (g.D.Disk.faults c.in-Err.field-0.disk) c.in-Err.field-0.why c.in-Err.ensures.opened.cause
 
 pub returns-in-Err-clause-any_moment : goal.returns-in-Err-clause-any_moment
 returns-in-Err-clause-any_moment g c = λ may all. c.in-Err.ensures.opened.any_moment may [] all

@@ -2,7 +2,7 @@ use Rattle.std.proofs.Common.{[], inl}
 use Rattle.arch_model.specs.Archives.{Archive}
 use Rattle.arch_model.specs.Delivery.{delivered}
 use Rattle.arch_model.specs.Standing.{one_of}
-use Rattle.archive_cli.proofs.OnDisk.{unopened-delivers, unopened-stands, delivered-stands, delivered-leaves, delivered-answers}
+use Rattle.archive_cli.proofs.OnDisk.{unopened-delivers, unopened-stands, delivered-stands, delivered-leaves, delivered-answers, delivered-among, answered-cause, refused-cause}
 use Rattle.archive_cli.proofs.disk_commands.deliver.Goals as goal
 
 pub returns-in-Ok-clause-any_moment : goal.returns-in-Ok-clause-any_moment
@@ -20,8 +20,23 @@ returns-in-Ok-clause-done g c = rw c.into_disk.ensures
     (delivered-answers g.D.Disk.content g.D.Disk.moment g.D.Disk.left_since g.met.D.Disk.counts_now g.met.D.Disk.reads_fit c.args.disk c.in-Ok.engine c.in-Ok.ensures.opened.done c.in-Ok.ensures.opened.first c.take-answer.new.self (λ (a : Archive). delivered a c.args.bytes.now c.args.moment) c.take-answer.result
     c.take-answer.ensures.done c.take-answer.ensures.any_moment)
 
+pub returns-in-Ok-clause-cause : goal.returns-in-Ok-clause-cause
+returns-in-Ok-clause-cause g c = rw c.into_disk.ensures
+    (answered-cause (g.D.Disk.faults c.args.disk) (g.D.Disk.faults c.in-Ok.engine.disk) (g.D.Disk.faults c.take-answer.new.self.disk) c.take-answer.result (c.in-Ok.ensures.opened.cause.kept (λ fault. absurd (cc fault))) c.take-answer.ensures.later c.take-answer.ensures.cause c.take-answer.ensures.steady)
+
+pub returns-in-Err-clause-cause : goal.returns-in-Err-clause-cause
+returns-in-Err-clause-cause g c = refused-cause (g.D.Disk.faults c.args.disk) (g.D.Disk.faults c.in-Err.field-0.disk) c.in-Err.field-0.why c.in-Err.ensures.opened.cause
+
 pub returns-in-Err-clause-any_moment : goal.returns-in-Err-clause-any_moment
 returns-in-Err-clause-any_moment g c = λ s all. inl (c.in-Err.ensures.opened.any_moment (one_of s) [] all)
+
+pub returns-in-Ok-clause-among : goal.returns-in-Ok-clause-among
+returns-in-Ok-clause-among g c = rw c.into_disk.ensures
+    (λ may all. delivered-among g.D.Disk.content g.D.Disk.moment g.D.Disk.left_since g.met.D.Disk.counts_now g.met.D.Disk.reads_fit c.args.disk c.in-Ok.engine c.in-Ok.ensures.opened.done c.in-Ok.ensures.opened.first c.take-answer.new.self (λ (a : Archive). delivered a c.args.bytes.now c.args.moment) c.take-answer.result
+    c.take-answer.ensures.done c.take-answer.ensures.any_moment may all c.in-Ok.ensures.opened.answer)
+
+pub returns-in-Err-clause-among : goal.returns-in-Err-clause-among
+returns-in-Err-clause-among g c = λ may all. inl (c.in-Err.ensures.opened.any_moment may [] all)
 
 pub returns-in-Err-clause-stands : goal.returns-in-Err-clause-stands
 returns-in-Err-clause-stands g c = λ s all. unopened-stands g.D.Disk.content g.D.Disk.moment g.D.Disk.left_since g.met.D.Disk.counts_now g.met.D.Disk.reads_fit s c.args.disk c.in-Err.field-0.disk c.in-Err.field-0.why all c.in-Err.ensures.opened.any_moment c.in-Err.ensures.opened.well c.in-Err.ensures.opened.first

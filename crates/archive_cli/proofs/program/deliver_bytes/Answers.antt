@@ -1,6 +1,6 @@
-use Rattle.std.proofs.Common.{inl}
+use Rattle.std.proofs.Common.{inl, refl}
 use Rattle.archive_cli.specs.declared.words.Job.TheVariants.{Deliver}
-use Rattle.archive_cli.proofs.Leaving.{bytes-first, bytes-at}
+use Rattle.archive_cli.proofs.Leaving.{bytes-first, bytes-at, among-first, among-at}
 use Rattle.archive_cli.proofs.Printed.{outcome-due}
 use Rattle.archive_cli.proofs.program.deliver_bytes.Goals as goal
 
@@ -10,6 +10,13 @@ returns-in-Err-clause-any_moment g c = λ s all. bytes-first g.D.Disk.content g.
 pub returns-clause-any_moment : goal.returns-clause-any_moment
 returns-clause-any_moment g c = λ s all.
     bytes-at g.D.Disk.content g.D.Disk.moment g.D.Disk.left_since g.met.D.Disk.only_now c.args.disk c.deliver-outcome.result.1 s c.args.bytes.now c.in-Ok.moment (g.C.Clock.coming c.args.clock.now) c.in-Ok.ensures.first (c.deliver-outcome.ensures.any_moment s all)
+
+pub returns-in-Err-clause-among : goal.returns-in-Err-clause-among
+returns-in-Err-clause-among g c = λ may all. inl (among-first g.D.Disk.content g.D.Disk.moment g.D.Disk.left_since g.met.D.Disk.only_now may c.args.disk all)
+
+pub returns-clause-among : goal.returns-clause-among
+returns-clause-among g c = λ may all.
+    among-at g.D.Disk.content g.D.Disk.moment g.D.Disk.left_since g.met.D.Disk.only_now c.args.disk c.deliver-outcome.result.1 may c.args.bytes.now c.in-Ok.moment (g.C.Clock.coming c.args.clock.now) c.in-Ok.ensures.first (c.deliver-outcome.ensures.among may all)
 
 pub returns-clause-ends : goal.returns-clause-ends
 returns-clause-ends g c = λ input is.
@@ -24,4 +31,7 @@ returns-clause-ends g c = λ input is.
         unopened = c.deliver-outcome.ensures.unopened;
       };
       fault = c.deliver-outcome.ensures.cause.failed;
+      input_kept = refl;
+      clock_kept = c.in-Ok.ensures.cause.kept;
+      disk_kept = c.deliver-outcome.ensures.cause.kept;
     }) c.print_outcome.ensures.printed)

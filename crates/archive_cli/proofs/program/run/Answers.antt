@@ -24,7 +24,7 @@ returns-in-Some-Version-clause-ends g c =
 
 pub returns-in-Some-Replay-clause-ends : goal.returns-in-Some-Replay-clause-ends
 returns-in-Some-Replay-clause-ends g c =
-    (c.replay.result, c.code-in-Some-Replay.ensures, ran-replayed (spelled c.args.words.now) c.in-Some-Replay.config _ _ _ (rw c.in-Some-Replay.field-0-is at c.in-Some-Replay.ensures) c.replay.ensures.ends refl)
+    (c.replay.result, c.code-in-Some-Replay.ensures, ran-replayed (spelled c.args.words.now) c.in-Some-Replay.config _ _ _ (rw c.in-Some-Replay.field-0-is at c.in-Some-Replay.ensures) c.replay.ensures.ends refl refl refl)
 
 pub replay-requires : goal.replay-requires
 replay-requires g c = replay-config (spelled c.args.words.now) c.in-Some-Replay.config (rw c.in-Some-Replay.field-0-is at c.in-Some-Replay.ensures)
@@ -34,7 +34,7 @@ returns-in-Some-Init-clause-ends g c = (
   c.init-status.result.0,
   c.code-in-Some-Init.ensures,
   ran-made (spelled c.args.words.now) c.in-Some-Init.config _ _ _ (rw c.in-Some-Init.field-0-is at c.in-Some-Init.ensures)
-      (job-moved (Init c.in-Some-Init.config) [] c.init-status.result.0 _ _ _ _ _ _ _ _ _ _ _ _ _ _ _ _ c.init-status.ensures.ends),
+      (job-moved (Init c.in-Some-Init.config) [] c.init-status.result.0 _ _ _ _ _ _ _ _ _ _ _ _ _ _ _ _ refl c.init-status.ensures.ends),
 )
 
 pub returns-in-Some-Deliver-clause-ends : goal.returns-in-Some-Deliver-clause-ends
@@ -67,8 +67,14 @@ returns-in-Some-Check-clause-ends g c =
       c.print_outcome.result,
       c.code-in-Some-Check.ensures,
       ran-checked (spelled c.args.words.now) _ _ _ c.check-outcome.result.0 (rw c.in-Some-Check.field-0-is at c.in-Some-Check.ensures)
-          (λ input. record { moment = some.0; first = some.1; acts = record { kind = c.check-outcome.ensures.kind; done = c.check-outcome.ensures.done; stands = c.check-outcome.ensures.stands; answer = c.check-outcome.ensures.answer; unopened = c.check-outcome.ensures.unopened }; fault = c.check-outcome.ensures.cause.failed }) c.print_outcome.ensures.printed,
+          (λ input. record { moment = some.0; first = some.1; acts = record { kind = c.check-outcome.ensures.kind; done = c.check-outcome.ensures.done; stands = c.check-outcome.ensures.stands; answer = c.check-outcome.ensures.answer; unopened = c.check-outcome.ensures.unopened }; fault = c.check-outcome.ensures.cause.failed; input_kept = refl; clock_kept = refl; disk_kept = c.check-outcome.ensures.cause.kept }) c.print_outcome.ensures.printed,
     )
 
 pub returns-in-Some-Check-clause-check : goal.returns-in-Some-Check-clause-check
 returns-in-Some-Check-clause-check g c = λ may asked all. c.check-outcome.ensures.any_moment may all
+
+pub returns-in-None-clause-among : goal.returns-in-None-clause-among
+returns-in-None-clause-among g c = λ may asked all. absurd (c.in-None.ensures Deliver asked)
+
+pub returns-in-Some-Deliver-clause-among : goal.returns-in-Some-Deliver-clause-among
+returns-in-Some-Deliver-clause-among g c = λ may asked all. c.deliver_input-status.ensures.among may all

@@ -11,4 +11,4 @@ pub returns-clause-read : goal.returns-clause-read
 returns-clause-read g c =
     let many : c.args.most ≤ length c.pieces.bytes = rw c.as_slice.ensures at c.pieces-test.false in
     let few = c.pieces.invariant.few in
-    front-full c.args.most (g.S.Source.left c.args.input.now) (g.S.Source.left c.pieces.input) c.pieces.bytes c.pieces.invariant.read (omega (arith, many, few))
+    (front-full c.args.most (g.S.Source.left c.args.input.now) (g.S.Source.left c.pieces.input) c.pieces.bytes c.pieces.invariant.read (omega (arith, many, few)), c.pieces.invariant.kept)

@@ -1,4 +1,4 @@
-use Rattle.std.proofs.Common.{◌++◌, ℕ, List, ◌∙◌, ap, add-one}
+use Rattle.std.proofs.Common.{◌++◌, ℕ, List, refl, ◌∙◌, ap, add-one}
 use Rattle.arch_model.specs.Archives.{in_epoch}
 use Rattle.arch_model.proofs.Shelving.{stays-same, stays-joined, why-earlier}
 use Rattle.control_door.specs.Door.{listed}
@@ -8,6 +8,7 @@ pub loop-epoch-init : goal.loop-epoch-init
 loop-epoch-init g c = record {
   words = λ a held. c.requires.empty;
   shelf = stays-same g.K.Shelf.holds g.K.Shelf.ready g.K.Shelf.alike g.K.Shelf.faults g.met.K.Shelf.alike_same c.args.keep.now c.requires.ready;
+  kept = refl;
 }
 
 pub loop-epoch-preserved : goal.loop-epoch-preserved
@@ -16,6 +17,7 @@ loop-epoch-preserved g c = record {
       let more = c.in-Ok.ensures.words a (c.loop-epoch.invariant.shelf.kept a held) in
       rw add-one (more ∙ ap (λ (xs : List ℕ). xs ++ listed c.loop-epoch.epoch (in_epoch a.entries c.loop-epoch.epoch)) (c.loop-epoch.invariant.words a held));
   shelf = stays-joined g.K.Shelf.holds g.K.Shelf.ready g.K.Shelf.alike g.K.Shelf.faults g.met.K.Shelf.alike_joined _ _ _ c.loop-epoch.invariant.shelf c.push_listed.ensures.shelf;
+  kept = c.in-Ok.ensures.cause ∙ c.loop-epoch.invariant.kept;
 }
 
 pub returns-in-Err-clause-words : goal.returns-in-Err-clause-words
@@ -25,4 +27,4 @@ pub returns-in-Err-clause-shelf : goal.returns-in-Err-clause-shelf
 returns-in-Err-clause-shelf g c = stays-joined g.K.Shelf.holds g.K.Shelf.ready g.K.Shelf.alike g.K.Shelf.faults g.met.K.Shelf.alike_joined _ _ _ c.loop-epoch.invariant.shelf c.push_listed.ensures.shelf
 
 pub returns-in-Err-clause-cause : goal.returns-in-Err-clause-cause
-returns-in-Err-clause-cause g c = why-earlier _ _ _ c.in-Err.refusal c.loop-epoch.invariant.shelf.later c.in-Err.ensures.cause
+returns-in-Err-clause-cause g c = why-earlier _ _ _ c.in-Err.refusal c.loop-epoch.invariant.kept c.in-Err.ensures.cause

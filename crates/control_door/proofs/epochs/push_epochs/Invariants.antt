@@ -8,4 +8,5 @@ abbrev pub invariant-loop-epoch : goal.invariant-loop-epoch
 invariant-loop-epoch g l = record {
   words : (a : Archive) → g.K.Shelf.holds l.fn.keep a → l.into ≡ listed_below l.epoch a.entries;
   shelf : Stays g.K.Shelf.holds g.K.Shelf.ready g.K.Shelf.alike g.K.Shelf.faults l.fn.keep l.keep;
+  kept : g.K.Shelf.faults l.keep ≡ g.K.Shelf.faults l.fn.keep;
 }

@@ -18,7 +18,7 @@ loop-part-init g c =
       told = none_trimmed parts (content disk);
       beside = λ bounds far. run_started content g.D.Disk.moment g.D.Disk.left_since bounds disk (g.met.D.Disk.only_now disk);
       moments = started g.D.Disk.moment g.D.Disk.left_since disk (HasFronts parts (content disk)) (λ image since. fronts_at_start parts (content disk) image (g.met.D.Disk.only_now disk image since));
-      later = omega arith;
+      kept = refl;
       reads = refl;
     }
 
@@ -54,7 +54,7 @@ loop-part-preserved g c =
       moments = joined g.D.Disk.moment g.D.Disk.left_since disk c.loop-part.disk c.trim.new.disk _ _ (HasFronts parts k) before.moments c.trim.ensures.any_moment
           (λ image has. has)
           (λ image. fronts_cutting parts i _ k m image (slice_get-get_or parts i _ below) (g.met.D.Disk.reads_fit disk) before.told);
-      later = omega (arith, before.later, c.trim.ensures.cause.later);
+      kept = omega (arith, before.kept, c.in_ok-trim.ensures.cause.kept);
       reads = omega (arith, before.reads, c.trim.ensures.count);
     }
 

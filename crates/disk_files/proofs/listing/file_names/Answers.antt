@@ -20,6 +20,6 @@ loop-index-preserved g c =
       first = subst P (sym c.in_ok-push-in-Some.ensures) (first_more c.loop-index.names i c.in-Some.name k m before.same before.first told);
       same = same;
       moments = goes_on g.D.Disk.moment g.D.Disk.left_since c.args.disk.now c.loop-index.disk c.name_at.new.self (Image k) o before.moments c.name_at.ensures.time (λ image. unchanged_image k o image same);
-      later = omega (arith, before.later, c.name_at.ensures.cause.later);
+      kept = omega (arith, before.kept, c.in_ok-name.ensures.cause.kept);
       reads = omega (arith, before.reads, c.name_at.ensures.count);
     }

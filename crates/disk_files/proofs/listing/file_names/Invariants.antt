@@ -1,5 +1,5 @@
 -- The names so far are the first ones.
-use Rattle.std.specs.Prelude.{◌≡◌, ◌≤◌}
+use Rattle.std.specs.Prelude.{◌≡◌}
 use Rattle.disk_model.specs.Disk.{Image, LeavesOnly, Told, Unchanged, WhereTold}
 use Rattle.disk_files.proofs.NameLists.{AreFirstNames}
 use Rattle.disk_files.proofs.listing.file_names.Given as goal
@@ -9,6 +9,6 @@ invariant-loop-index g l = record {
   first : WhereTold (AreFirstNames l.names l.index) (g.D.Disk.content l.fn.disk);
   same : Told Unchanged (g.D.Disk.content l.fn.disk) (g.D.Disk.content l.disk);
   moments : LeavesOnly g.D.Disk.moment g.D.Disk.left_since l.fn.disk l.disk (Image (g.D.Disk.content l.fn.disk));
-  later : g.D.Disk.faults l.fn.disk ≤ g.D.Disk.faults l.disk;
+  kept : g.D.Disk.faults l.disk ≡ g.D.Disk.faults l.fn.disk;
   reads : g.D.Disk.reads l.disk ≡ g.D.Disk.reads l.fn.disk;
 }

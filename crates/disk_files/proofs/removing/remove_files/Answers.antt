@@ -18,7 +18,7 @@ loop-name-init g c =
       told = none_gone names (content disk);
       beside = λ bounds far. run_started content g.D.Disk.moment g.D.Disk.left_since bounds disk (g.met.D.Disk.only_now disk);
       moments = started g.D.Disk.moment g.D.Disk.left_since disk (Fewer names (content disk)) (λ image since. fewer_at_start names (content disk) image (g.met.D.Disk.only_now disk image since));
-      later = omega arith;
+      kept = refl;
       reads = refl;
     }
 
@@ -57,7 +57,7 @@ loop-name-preserved g c =
           (remove_told c.remove.result bounds _ m o (g.met.D.Disk.reads_fit c.loop-name.disk) (far _ (at_place_in names i _ (slice_get-get_or names i _ below))) c.remove.ensures.removed c.remove.ensures.torn);
       moments = goes_on g.D.Disk.moment g.D.Disk.left_since c.args.disk.now c.loop-name.disk c.remove.new.self (Fewer names k) o before.moments c.remove.ensures.time
           (λ image. fewer_removed names i _ k m o image (slice_get-get_or names i _ below) before.told c.in_ok-remove.ensures.removed);
-      later = omega (arith, before.later, c.remove.ensures.cause.later);
+      kept = omega (arith, before.kept, c.in_ok-remove.ensures.cause.kept);
       reads = omega (arith, before.reads, c.remove.ensures.count);
     }
 

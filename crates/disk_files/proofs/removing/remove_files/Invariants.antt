@@ -1,5 +1,5 @@
 -- The files so far are gone.
-use Rattle.std.specs.Prelude.{◌≡◌, ◌≤◌}
+use Rattle.std.specs.Prelude.{◌≡◌}
 use Rattle.std.specs.List.{Contains}
 use Rattle.disk_model.specs.declared.name.FileName.{FileName}
 use Rattle.disk_model.specs.Beside.{Bounds, Respects, RunsBeside}
@@ -13,6 +13,6 @@ invariant-loop-name g l = record {
   told : Told (GoneUpTo l.names l.name-index) (g.D.Disk.content l.fn.disk) (g.D.Disk.content l.disk);
   beside : (bounds : Bounds) → ((name : FileName) → Contains l.names name → Respects (bounds name) 0) → RunsBeside g.D.Disk.content g.D.Disk.moment g.D.Disk.left_since bounds l.fn.disk l.disk;
   moments : LeavesOnly g.D.Disk.moment g.D.Disk.left_since l.fn.disk l.disk (Fewer l.names (g.D.Disk.content l.fn.disk));
-  later : g.D.Disk.faults l.fn.disk ≤ g.D.Disk.faults l.disk;
+  kept : g.D.Disk.faults l.disk ≡ g.D.Disk.faults l.fn.disk;
   reads : g.D.Disk.reads l.disk ≡ g.D.Disk.reads l.fn.disk;
 }

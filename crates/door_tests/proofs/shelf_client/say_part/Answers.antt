@@ -5,7 +5,7 @@ use Rattle.door_tests.proofs.Parts.{part-given, no-text, some-text, says-unread}
 use Rattle.door_tests.proofs.shelf_client.say_part.Goals as goal
 
 pub returns-then-not-is_live-clause-part : goal.returns-then-not-is_live-clause-part
-returns-then-not-is_live-clause-part g c = λ a held. (no-text (text_of a.entries c.args.n) (c.is_live.ensures a held ∙ c.if-not-is_live.true), record { out = refl; lost = refl; later = omega arith })
+returns-then-not-is_live-clause-part g c = λ a held. (no-text (text_of a.entries c.args.n) (c.is_live.ensures a held ∙ c.if-not-is_live.true), record { out = refl; lost = refl; later = omega arith }, refl)
 
 pub text-requires-clause-live : goal.text-requires-clause-live
 text-requires-clause-live g c = λ a held. c.is_live.ensures a held ∙ c.if-not-is_live.false
@@ -14,7 +14,7 @@ pub returns-in-Ok-clause-part : goal.returns-in-Ok-clause-part
 returns-in-Ok-clause-part g c = λ a held.
     let text = c.in-Ok.ensures.text a held in
     part-given c.args.begun (text_of a.entries c.args.n) _ _ c.say_line.result c.given.result c.given.ensures
-    (record { found = text.0; is = text.1; words = rw (c.as_slice.ensures ∙ text.2 ∙ ap (λ (t : List ℕ). t ++ text.0) c.new-text.ensures) at c.say_line.ensures.said; later = c.text.ensures.shelf.later })
+    (record { found = text.0; is = text.1; words = rw (c.as_slice.ensures ∙ text.2 ∙ ap (λ (t : List ℕ). t ++ text.0) c.new-text.ensures) at c.say_line.ensures.said; kept = c.in-Ok.ensures.cause })
 
 pub returns-then-begun-clause-part : goal.returns-then-begun-clause-part
 returns-then-begun-clause-part g c = λ a held.

@@ -15,7 +15,7 @@ pub loop-at-preserved-in-Absent : goal.loop-at-preserved-in-Absent
 loop-at-preserved-in-Absent g c = record {
   so_far = λ a held.
       let part = c.in-Absent.ensures.part a (c.loop-at.invariant.shelf.kept a held) in
-      sofar-absent a.entries c.args.low c.loop-at.at c.loop-at.begun _ _ _ (c.loop-at.invariant.so_far a held) part.0 part.1;
+      sofar-absent a.entries c.args.low c.loop-at.at c.loop-at.begun _ _ _ (c.loop-at.invariant.so_far a held) part.0 part.1 part.2;
   shelf = stays-joined g.S.Shelf.holds g.S.Shelf.ready g.S.Shelf.alike g.S.Shelf.faults g.met.S.Shelf.alike_joined _ _ _ c.loop-at.invariant.shelf c.say_part.ensures.shelf;
   sink = g.met.O.Sink.alike_joined _ _ _ c.loop-at.invariant.sink c.say_part.ensures.sink;
   within = omega (arith, c.loop-at-test.true);

@@ -1,4 +1,4 @@
-use Rattle.std.proofs.Common.{◌+◌, List, Ok, Err}
+use Rattle.std.proofs.Common.{◌+◌, ◌∙◌, List, Ok, Err}
 use Rattle.number_map.specs.declared.line.Record.{Record}
 use Rattle.root_slots.specs.Valid.{RootFits}
 use Rattle.epoch_store.specs.Openings.{IsReadUpTo}
@@ -33,4 +33,5 @@ loop-epoch-preserved g c =
           (g.D.Disk.content c.args.disk.now) (g.D.Disk.content c.loop-epoch.disk) inv.reads.same inv.up c.in-Ok.ensures.joined
           (λ files so_far reads. more_read root epoch old now next files so_far reads);
       reads = reads_both g.D.Disk.content g.D.Disk.moment g.D.Disk.left_since g.D.Disk.faults c.args.disk.now c.loop-epoch.disk c.join_epoch.new.disk inv.reads c.in-Ok.ensures.reads;
+      kept = c.in-Ok.ensures.steady (λ no. absurd (cc no)) ∙ inv.kept;
     }

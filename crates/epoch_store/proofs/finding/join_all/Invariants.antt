@@ -1,5 +1,5 @@
 -- The epochs so far are read.
-use Rattle.std.specs.Prelude.{List}
+use Rattle.std.specs.Prelude.{◌≡◌, List}
 use Rattle.disk_model.specs.Disk.{WhereTold}
 use Rattle.epoch_file.specs.Runs.{OnlyReads}
 use Rattle.number_map.specs.declared.line.Record.{Record}
@@ -14,4 +14,5 @@ invariant-loop-epoch g l = record {
   before : AreBefore l.epoch l.joining.entries;
   up : WhereTold (λ k. (rs : List Record) → RootFits l.root → IsReadUpTo l.root (as_read k) rs 0 l.fn.joining → IsReadUpTo l.root (as_read k) rs l.epoch l.joining) (g.D.Disk.content l.fn.disk);
   reads : OnlyReads g.D.Disk.content g.D.Disk.moment g.D.Disk.left_since g.D.Disk.faults l.fn.disk l.disk;
+  kept : g.D.Disk.faults l.disk ≡ g.D.Disk.faults l.fn.disk;
 }

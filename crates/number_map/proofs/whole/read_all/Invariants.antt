@@ -10,7 +10,7 @@ invariant-loop-done g l = record {
   begins : WhereTold (λ k. BeginsWith l.lines (bytes_of (k l.file).seen)) (g.D.Disk.content l.disk);
   same : Told Unchanged (g.D.Disk.content l.fn.disk) (g.D.Disk.content l.disk);
   moments : LeavesOnly g.D.Disk.moment g.D.Disk.left_since l.fn.disk l.disk (Image (g.D.Disk.content l.fn.disk));
-  later : g.D.Disk.faults l.fn.disk ≤ g.D.Disk.faults l.disk;
+  kept : g.D.Disk.faults l.disk ≡ g.D.Disk.faults l.fn.disk;
 }
 
 abbrev pub decreases-loop-done : goal.decreases-loop-done

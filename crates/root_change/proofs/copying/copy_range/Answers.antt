@@ -19,7 +19,7 @@ loop-done-init g c =
       beside = λ bounds far. run_started content g.D.Disk.moment g.D.Disk.left_since bounds disk (g.met.D.Disk.only_now disk);
       copied = first_copied c.args.range.file c.args.range.offset c.args.to c.args.end (content disk) c.requires.inside;
       inside = simp unary_clauses c.requires.inside;
-      later = omega arith;
+      kept = refl;
     }
 
 pub returns-in_err-whole-clause-beside : goal.returns-in_err-whole-clause-beside
@@ -59,7 +59,7 @@ loop-done-preserved g c =
       beside = λ bounds far. run_joined content g.D.Disk.moment g.D.Disk.left_since bounds c.args.disk.now c.loop-done.disk c.copy_window.new.disk (before.beside bounds far) (c.copy_window.ensures.beside bounds (respects_more (bounds c.args.to) c.args.end (c.args.end + done) (omega arith) far));
       copied = copied;
       inside = copied_inside range.file range.offset (done + next.count) c.args.to c.args.end (c.args.end + (done + next.count)) k o refl copied;
-      later = omega (arith, before.later, c.copy_window.ensures.cause.later);
+      kept = omega (arith, before.kept, c.in_ok-whole.ensures.cause.kept);
     }
 
 pub returns-clause-copied : goal.returns-clause-copied

@@ -1,5 +1,5 @@
 -- The bytes so far are copied.
-use Rattle.std.specs.Prelude.{◌+◌, ◌-◌, ◌≤◌}
+use Rattle.std.specs.Prelude.{◌≡◌, ◌+◌, ◌-◌, ◌≤◌}
 use Rattle.disk_model.specs.Beside.{Bounds, Respects, RunsBeside}
 use Rattle.disk_model.specs.Disk.{Told, WhereTold, IsAtMostLength}
 use Rattle.root_change.specs.Copying.{Copied}
@@ -11,7 +11,7 @@ invariant-loop-done g l = record {
   beside : (bounds : Bounds) → Respects (bounds l.to) l.end → RunsBeside g.D.Disk.content g.D.Disk.moment g.D.Disk.left_since bounds l.fn.disk l.disk;
   copied : Told (Copied l.range.file l.range.offset l.done l.to l.end) (g.D.Disk.content l.fn.disk) (g.D.Disk.content l.disk);
   inside : WhereTold (IsAtMostLength l.to (l.end + l.done)) (g.D.Disk.content l.disk);
-  later : g.D.Disk.faults l.fn.disk ≤ g.D.Disk.faults l.disk;
+  kept : g.D.Disk.faults l.disk ≡ g.D.Disk.faults l.fn.disk;
 }
 
 abbrev pub decreases-loop-done : goal.decreases-loop-done

@@ -16,7 +16,7 @@ loop-epoch-init g c =
     record {
       beside = run_started g.D.Disk.content g.D.Disk.moment g.D.Disk.left_since (bounds_of c.args.new.now) disk (g.met.D.Disk.only_now disk);
       dropped = none_dropped c.args.old.now c.args.new.now (g.D.Disk.content disk);
-      later = omega arith;
+      kept = refl;
       reads = refl;
     }
 
@@ -35,6 +35,6 @@ loop-epoch-preserved g c =
     record {
       beside = run_joined g.D.Disk.content g.D.Disk.moment g.D.Disk.left_since (bounds_of c.args.new.now) c.args.disk.now c.loop-epoch.disk c.drop_file.new.disk before.beside c.drop_file.ensures.beside;
       dropped = epoch_dropped old new c.loop-epoch.epoch (content c.args.disk.now) (content c.loop-epoch.disk) (content c.drop_file.new.disk) before.dropped one;
-      later = omega (arith, before.later, c.drop_file.ensures.cause.later);
+      kept = omega (arith, before.kept, c.in_ok-drop_file.ensures.cause.kept);
       reads = omega (arith, before.reads, c.drop_file.ensures.count);
     }

@@ -1,5 +1,5 @@
 -- One more source.
-use Rattle.std.proofs.Common.{◌≡◌, ◌<◌, ◌+◌, List, length, take, subst, arith, take_all}
+use Rattle.std.proofs.Common.{◌≡◌, ◌<◌, ◌+◌, List, length, take, refl, subst, arith, take_all}
 use Rattle.std.specs.List.{sum_by}
 use Rattle.std.proofs.lemmas.Option.{slice_get-get_or}
 use Rattle.disk_model.specs.Disk.{Told}
@@ -20,7 +20,7 @@ loop-source-init g c =
       beside = λ bounds far. run_started content g.D.Disk.moment g.D.Disk.left_since bounds disk (g.met.D.Disk.only_now disk);
       put = first_put c.args.bytes.now c.args.sources.now c.args.to c.args.end (content disk) c.requires.inside;
       inside = c.requires.inside;
-      later = omega arith;
+      kept = refl;
     }
 
 pub put_source-requires-clause-source : goal.put_source-requires-clause-source
@@ -67,7 +67,7 @@ loop-source-preserved g c =
       beside = λ bounds far. run_joined content g.D.Disk.moment g.D.Disk.left_since bounds c.args.disk.now c.loop-source.disk c.put_source.new.disk (before.beside bounds far) (c.put_source.ensures.beside bounds (respects_more (bounds c.args.to) c.args.end next (omega (arith, before.next_is)) far));
       put = put;
       inside = put_inside c.args.bytes.now (take (i + 1) sources) c.args.to c.args.end (next + c.count_of-next.result) k o after put;
-      later = omega (arith, before.later, c.put_source.ensures.cause.later);
+      kept = omega (arith, before.kept, c.in_ok-whole.ensures.cause.kept);
     }
 
 pub returns-clause-put : goal.returns-clause-put

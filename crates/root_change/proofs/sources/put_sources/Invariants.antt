@@ -1,5 +1,5 @@
 -- The sources so far are put.
-use Rattle.std.specs.Prelude.{◌≡◌, ◌+◌, ◌≤◌, take}
+use Rattle.std.specs.Prelude.{◌≡◌, ◌+◌, take}
 use Rattle.std.specs.List.{sum_by}
 use Rattle.disk_model.specs.Beside.{Bounds, Respects, RunsBeside}
 use Rattle.disk_model.specs.Disk.{Told, WhereTold, IsAtMostLength}
@@ -12,5 +12,5 @@ invariant-loop-source g l = record {
   beside : (bounds : Bounds) → Respects (bounds l.to) l.end → RunsBeside g.D.Disk.content g.D.Disk.moment g.D.Disk.left_since bounds l.fn.disk l.disk;
   put : Told (PutSources l.bytes (take l.source-index l.sources) l.to l.end) (g.D.Disk.content l.fn.disk) (g.D.Disk.content l.disk);
   inside : WhereTold (IsAtMostLength l.to l.next) (g.D.Disk.content l.disk);
-  later : g.D.Disk.faults l.fn.disk ≤ g.D.Disk.faults l.disk;
+  kept : g.D.Disk.faults l.disk ≡ g.D.Disk.faults l.fn.disk;
 }

@@ -15,7 +15,7 @@ loop-name-init g c =
     record {
       beside = run_started g.D.Disk.content g.D.Disk.moment g.D.Disk.left_since (bounds_of c.args.root.now) disk (g.met.D.Disk.only_now disk);
       tidied = none_tidied c.args.root.now c.args.names.now (g.D.Disk.content disk);
-      later = omega arith;
+      kept = refl;
       reads = refl;
     }
 
@@ -34,7 +34,7 @@ loop-name-preserved g c =
     record {
       beside = run_joined content g.D.Disk.moment g.D.Disk.left_since (bounds_of root) c.args.disk.now c.loop-name.disk c.tidy_file.new.disk before.beside c.tidy_file.ensures.beside;
       tidied = more_tidied root names i _ (content c.args.disk.now) (content c.loop-name.disk) (content c.tidy_file.new.disk) (slice_get-get_or names i _ below) before.tidied c.in_ok-tidy_file.ensures.tidied;
-      later = omega (arith, before.later, c.tidy_file.ensures.cause.later);
+      kept = omega (arith, before.kept, c.in_ok-tidy_file.ensures.cause.kept);
       reads = omega (arith, before.reads, c.tidy_file.ensures.count);
     }
 

@@ -1,7 +1,8 @@
-use Rattle.std.proofs.Common.{◌∙◌, sym, Err, Bool}
+use Rattle.std.proofs.Common.{◌∙◌, sym, refl, Ok, Err, Bool}
 use Rattle.archive_core.proofs.ByIndex.{blob_given, blob_refused, blob_missing}
-use Rattle.archive_core.proofs.ByNumber.{tells_other, other_refused}
+use Rattle.archive_core.proofs.ByNumber.{tells_other, other_refused, kept_appends}
 use Rattle.archive_core.proofs.Standing.{store_keeps}
+use Rattle.arch_model.proofs.Shelving.{appends-none}
 use Rattle.archive_core.proofs.archive.DiskArchive.blob.Goals as goal
 
 pub returns-in_default-clause-blob : goal.returns-in_default-clause-blob
@@ -18,3 +19,12 @@ returns-in-Err-clause-blob g c = λ a cache own. blob_refused a c.args.id.now.0 
 
 pub returns-in-Err-clause-other : goal.returns-in-Err-clause-other
 returns-in-Err-clause-other g c = other_refused Unit Bool c.in-Err.refusal (tells_other c.args.self.now.entries c.in-Some.number c.args.into.now c.text.new.into (Err c.in-Err.refusal) c.in-Err.ensures.kept)
+
+pub returns-in_default-clause-appends : goal.returns-in_default-clause-appends
+returns-in_default-clause-appends g c = appends-none c.args.into.now c.args.into.now refl
+
+pub returns-in-Ok-clause-appends : goal.returns-in-Ok-clause-appends
+returns-in-Ok-clause-appends g c = kept_appends c.args.self.now.entries c.in-Some.number c.args.into.now c.text.new.into (Ok tt) c.in-Ok.ensures.kept
+
+pub returns-in-Err-clause-appends : goal.returns-in-Err-clause-appends
+returns-in-Err-clause-appends g c = kept_appends c.args.self.now.entries c.in-Some.number c.args.into.now c.text.new.into (Err c.in-Err.refusal) c.in-Err.ensures.kept

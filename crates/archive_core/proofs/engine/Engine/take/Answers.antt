@@ -1,6 +1,6 @@
 use Rattle.arch_model.specs.Archives.{Archive}
 use Rattle.arch_model.specs.Delivery.{applied}
-use Rattle.archive_core.proofs.Engines.{starved-at, still-left, left-from, done-from, taken-from, answer-cause-from}
+use Rattle.archive_core.proofs.Engines.{starved-at, still-left, left-from, done-from, taken-from, answer-cause-from, steady-from}
 use Rattle.archive_core.proofs.engine.Engine.take.Goals as goal
 
 pub returns-then-not-has_next_root-clause-any_moment : goal.returns-then-not-has_next_root-clause-any_moment
@@ -38,5 +38,10 @@ returns-clause-stands g c =
 
 pub returns-clause-cause : goal.returns-clause-cause
 returns-clause-cause g c = answer-cause-from g.D.Disk.content g.D.Disk.moment g.D.Disk.left_since g.met.D.Disk.counts_now g.met.D.Disk.only_now g.met.D.Disk.reads_fit
+    (record { disk = c.self.inside.disk; view = c.self.inside.archive; stale = c.self.inside.stale }) c.args.self.now c.self.view_is
+    g.D.Disk.faults c.command-answer.new.disk c.command-answer.result c.command-answer.ensures.taken.cause
+
+pub returns-clause-steady : goal.returns-clause-steady
+returns-clause-steady g c = steady-from g.D.Disk.content g.D.Disk.moment g.D.Disk.left_since g.met.D.Disk.counts_now g.met.D.Disk.only_now g.met.D.Disk.reads_fit
     (record { disk = c.self.inside.disk; view = c.self.inside.archive; stale = c.self.inside.stale }) c.args.self.now c.self.view_is
     g.D.Disk.faults c.command-answer.new.disk c.command-answer.result c.command-answer.ensures.taken.cause

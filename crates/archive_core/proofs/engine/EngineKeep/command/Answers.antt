@@ -22,7 +22,7 @@ returns-in-Ok-clause-ready g c = ready-after (is_ready c.args.self.now) (is_read
 
 pub returns-in-Ok-clause-cause : goal.returns-in-Ok-clause-cause
 returns-in-Ok-clause-cause g c =
-    cause-earlier (g.D.Disk.faults c.args.self.now.disk) (g.D.Disk.faults c.fresh.new.self.disk) (g.D.Disk.faults c.take.new.self.disk) (ending c.take.result) c.fresh.ensures.later c.take.ensures.cause
+    cause-earlier (g.D.Disk.faults c.args.self.now.disk) (g.D.Disk.faults c.fresh.new.self.disk) (g.D.Disk.faults c.take.new.self.disk) (ending c.take.result) c.in-Ok.ensures.cause c.take.ensures.cause
 
 pub returns-in-Ok-clause-reads : goal.returns-in-Ok-clause-reads
 returns-in-Ok-clause-reads g c = λ ready.

@@ -1,4 +1,4 @@
-use Rattle.archive_core.proofs.Engines.{held-inside, stays-from, cause-from, quiet-other}
+use Rattle.archive_core.proofs.Engines.{held-inside, stays-from, cause-from, once-from, quiet-other}
 use Rattle.archive_core.proofs.engine.EngineKeep.epoch_bytes.Goals as goal
 
 pub returns-clause-bytes : goal.returns-clause-bytes
@@ -16,3 +16,8 @@ pub returns-clause-cause : goal.returns-clause-cause
 returns-clause-cause g c = cause-from g.D.Disk.content g.D.Disk.moment g.D.Disk.left_since g.met.D.Disk.counts_now g.met.D.Disk.only_now g.met.D.Disk.reads_fit
     (record { disk = c.self.inside.disk; view = c.self.inside.archive; stale = c.self.inside.stale }) c.args.self.now c.self.view_is
     g.D.Disk.faults c.epoch_bytes.new.disk c.epoch_bytes.result c.epoch_bytes.ensures.cause (quiet-other c.epoch_bytes.result c.epoch_bytes.ensures.undamaged)
+
+pub returns-clause-reads : goal.returns-clause-reads
+returns-clause-reads g c = once-from g.D.Disk.content g.D.Disk.moment g.D.Disk.left_since g.met.D.Disk.counts_now g.met.D.Disk.only_now g.met.D.Disk.reads_fit
+    (record { disk = c.self.inside.disk; view = c.self.inside.archive; stale = c.self.inside.stale }) c.args.self.now c.self.view_is
+    g.D.Disk.reads c.epoch_bytes.new.disk c.epoch_bytes.ensures.fewest c.epoch_bytes.ensures.count

@@ -1,5 +1,5 @@
 use Rattle.std.proofs.Common.{false, ap, not}
-use Rattle.archive_core.proofs.Engines.{still-ready, still-stale, ready-at, opened-from, unopened-from, passes-from, opening-why-from}
+use Rattle.archive_core.proofs.Engines.{still-ready, still-stale, ready-at, opened-from, unopened-from, passes-from, opening-why-from, opened-cause-from}
 use Rattle.archive_core.proofs.engine.EngineKeep.fresh.Goals as goal
 
 pub returns-then-not-self-clause-found : goal.returns-then-not-self-clause-found
@@ -27,6 +27,11 @@ pub returns-in-Ok-clause-any_moment : goal.returns-in-Ok-clause-any_moment
 returns-in-Ok-clause-any_moment g c = passes-from g.D.Disk.content g.D.Disk.moment g.D.Disk.left_since g.met.D.Disk.counts_now g.met.D.Disk.only_now g.met.D.Disk.reads_fit
     (record { disk = c.self.inside.disk; view = c.self.inside.archive; stale = c.self.inside.stale }) c.args.self.now c.self.view_is
     (record { disk = c.open.new.disk; view = c.in-Ok.archive; stale = false }) c.open.ensures.opened.any_moment
+
+pub returns-in-Ok-clause-cause : goal.returns-in-Ok-clause-cause
+returns-in-Ok-clause-cause g c = opened-cause-from g.D.Disk.content g.D.Disk.moment g.D.Disk.left_since g.met.D.Disk.counts_now g.met.D.Disk.only_now g.met.D.Disk.reads_fit
+    (record { disk = c.self.inside.disk; view = c.self.inside.archive; stale = c.self.inside.stale }) c.args.self.now c.self.view_is
+    g.D.Disk.faults c.open.new.disk c.in-Ok.archive c.open.result c.in-Ok.is c.open.ensures.opened.cause
 
 pub returns-in-Err-clause-nothing : goal.returns-in-Err-clause-nothing
 returns-in-Err-clause-nothing g c = λ ready. absurd (still-stale g.D.Disk.content g.D.Disk.moment g.D.Disk.left_since g.met.D.Disk.counts_now g.met.D.Disk.only_now g.met.D.Disk.reads_fit

@@ -1,6 +1,7 @@
-use Rattle.std.proofs.Common.{◌∙◌, sym}
+use Rattle.std.proofs.Common.{◌∙◌, sym, refl}
 use Rattle.std.proofs.lemmas.Bool.{false≢true}
-use Rattle.archive_core.proofs.ByNumber.{tells_other}
+use Rattle.archive_core.proofs.ByNumber.{tells_other, kept_appends}
+use Rattle.arch_model.proofs.Shelving.{appends-none}
 use Rattle.archive_core.proofs.Engines.{kept-inside, held-inside, stays-still, stays-from, cause-from, once-from}
 use Rattle.archive_core.proofs.engine.EngineShelf.text.Goals as goal
 
@@ -33,3 +34,9 @@ pub returns-clause-reads : goal.returns-clause-reads
 returns-clause-reads g c = once-from g.D.Disk.content g.D.Disk.moment g.D.Disk.left_since g.met.D.Disk.counts_now g.met.D.Disk.only_now g.met.D.Disk.reads_fit
     (record { disk = c.self.inside.disk; view = c.self.inside.archive; stale = c.self.inside.stale }) c.args.self.now c.self.view_is
     g.D.Disk.reads c.text.new.disk c.text.ensures.fewest c.text.ensures.count
+
+pub returns-then-not-has_text-clause-appends : goal.returns-then-not-has_text-clause-appends
+returns-then-not-has_text-clause-appends g c = appends-none c.args.into.now c.args.into.now refl
+
+pub returns-clause-appends : goal.returns-clause-appends
+returns-clause-appends g c = kept_appends c.self.inside.archive.entries c.args.n c.args.into.now c.text.new.into c.text.result c.text.ensures.kept

@@ -11,7 +11,7 @@ returns-then-is_empty-clause-turn g c = λ moment disk opened s.
 
 pub returns-then-is_err-clause-turn : goal.returns-then-is_err-clause-turn
 returns-then-is_err-clause-turn g c = λ moment disk opened s.
-    closes-keeping moment opened s c.args.self.now c.args.piece.now c.args.payload _ _ _ (grind (arith, nat_tests)) c.requires (omega arith) c.say_memory.ensures.said
+    closes-keeping moment opened s c.args.self.now c.args.piece.now c.args.payload _ _ _ (grind (arith, nat_tests)) c.requires refl c.say_memory.ensures.said
 
 pub returns-clause-turn : goal.returns-clause-turn
 returns-clause-turn g c = λ moment disk opened s.

@@ -6,7 +6,7 @@ pub returns-in-Ok-clause-done : goal.returns-in-Ok-clause-done
 returns-in-Ok-clause-done c = λ s fits. absurd (untold-fits _ c.args.self.now s fits)
 
 pub returns-in-Ok-clause-cause : goal.returns-in-Ok-clause-cause
-returns-in-Ok-clause-cause c = cause-earlier _ _ _ (ending c.take.result) c.in-Ok.ensures.later c.take.ensures.cause
+returns-in-Ok-clause-cause c = cause-earlier _ _ _ (ending c.take.result) c.in-Ok.ensures.cause c.take.ensures.cause
 
 pub returns-in-Err-clause-done : goal.returns-in-Err-clause-done
 returns-in-Err-clause-done c = λ s fits. absurd (untold-fits _ c.args.self.now s fits)
