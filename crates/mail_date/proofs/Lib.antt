@@ -1,4 +1,5 @@
 mod DateLemmas
+pub mod DayLemmas
 mod OneLemmas
 mod PartLemmas
 mod PrintLemmas

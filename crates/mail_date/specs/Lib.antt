@@ -1,4 +1,5 @@
 pub mod Dates
+pub mod Days
 pub mod Laws
 pub mod Parts
 pub mod Pieces
