@@ -1,7 +1,7 @@
 -- Mailbox files, piece by piece and line by line.
 use Rattle.std.proofs.Common.{◌≡◌, ℕ, ◌+◌, ◌-◌, ◌^◌, ◌<◌, ◌≤◌, min, List, [], ◌∷◌, ◌++◌, map, length, take, drop, sum, sum_by, refl, sym, ap, ◌∙◌, arith, length-append, append_assoc, append-nil, length-take}
 use Rattle.std.specs.List.{flat_map}
-use Rattle.std.proofs.lemmas.List.{nil_from_length, take-append-le}
+use Rattle.std.proofs.lemmas.List.{nil_from_length, take-take}
 use Rattle.std.proofs.lemmas.List.Sums.{sum_by-cons}
 use Rattle.mail_reader.specs.Lines.{lines_of}
 use Rattle.mail_forms.specs.Mailboxes.{mbox_of, quoted, separator}
@@ -43,5 +43,5 @@ lines-end new all rest none so_far =
 pub kept-on : (old now new : List ℕ) → take (length old) now ≡ old → take (length now) new ≡ now → take (length old) new ≡ old
 kept-on old now new first second =
     let within : length old ≤ length now = omega (arith, length-take (length old) now, ap length first) in
-    let shorter : take (length old) (take (length now) new) ≡ take (length old) new = take-take-le (length old) (length now) new within in
+    let shorter : take (length old) (take (length now) new) ≡ take (length old) new = take-take (length old) (length now) new within in
     sym shorter ∙ ap (take (length old)) second ∙ first
