@@ -19,7 +19,8 @@ struct EntryCase {
 }
 
 /// The lines before the entries, up to the moment.
-const START: &[u8] = b"<?xml version=\"1.0\" encoding=\"utf-8\"?>\n<feed xmlns=\"http://www.w3.org/2005/Atom\">\n<title>list</title>\n<id>mid:list@piv2.invalid</id>\n<updated>";
+const START: &[u8] =
+    b"<?xml version=\"1.0\" encoding=\"utf-8\"?>\n<feed xmlns=\"http://www.w3.org/2005/Atom\">\n<title>list</title>\n<id>mid:list@piv2.invalid</id>\n<updated>";
 
 /// Mails of all kinds.
 static ENTRIES: [EntryCase; 6] = [
@@ -86,7 +87,13 @@ fn feed_of_one(alloc: Global, case: &EntryCase) -> Option<Bytes> {
 /// Returns the feed of `list` that has two mails.
 fn feed_of_two(alloc: Global, first: &EntryCase, second: &EntryCase) -> Option<Bytes> {
     let name = Name::read(b"list")?;
-    feed(alloc, &name, 1, &[shown(alloc, first)?, shown(alloc, second)?]).ok()
+    feed(
+        alloc,
+        &name,
+        1,
+        &[shown(alloc, first)?, shown(alloc, second)?],
+    )
+    .ok()
 }
 
 /// Returns the feed of `list` without a mail.
@@ -134,14 +141,29 @@ fn mails_have_the_entries_that_were_worked_out(rt: HostRuntime) {
 
 #[test]
 fn a_feed_without_mails_is_as_old_as_the_archive(rt: HostRuntime) {
-    assert!(rt; is_made(empty_feed(rt.alloc(), 1), b"<?xml version=\"1.0\" encoding=\"utf-8\"?>\n<feed xmlns=\"http://www.w3.org/2005/Atom\">\n<title>list</title>\n<id>mid:list@piv2.invalid</id>\n<updated>1970-01-01T00:00:01Z</updated>\n</feed>\n"));
-    assert!(rt; is_made(empty_feed(rt.alloc(), 4_294_967_295), b"<?xml version=\"1.0\" encoding=\"utf-8\"?>\n<feed xmlns=\"http://www.w3.org/2005/Atom\">\n<title>list</title>\n<id>mid:list@piv2.invalid</id>\n<updated>2106-02-07T06:28:15Z</updated>\n</feed>\n"));
+    assert!(rt;
+        is_made(
+            empty_feed(rt.alloc(), 1),
+            b"<?xml version=\"1.0\" encoding=\"utf-8\"?>\n<feed xmlns=\"http://www.w3.org/2005/Atom\">\n<title>list</title>\n<id>mid:list@piv2.invalid</id>\n<updated>1970-01-01T00:00:01Z</updated>\n</feed>\n"
+        )
+    );
+    assert!(rt;
+        is_made(
+            empty_feed(rt.alloc(), 4_294_967_295),
+            b"<?xml version=\"1.0\" encoding=\"utf-8\"?>\n<feed xmlns=\"http://www.w3.org/2005/Atom\">\n<title>list</title>\n<id>mid:list@piv2.invalid</id>\n<updated>2106-02-07T06:28:15Z</updated>\n</feed>\n"
+        )
+    );
 }
 
 #[test]
 fn a_feed_has_its_mails_in_order_and_their_last_arrival(rt: HostRuntime) {
     let made = feed_of_two(rt.alloc(), &ENTRIES[0], &ENTRIES[1]);
-    assert!(rt; is_made(made, b"<?xml version=\"1.0\" encoding=\"utf-8\"?>\n<feed xmlns=\"http://www.w3.org/2005/Atom\">\n<title>list</title>\n<id>mid:list@piv2.invalid</id>\n<updated>2024-02-01T10:01:40Z</updated>\n<entry><author><name>Ann</name></author><title>first</title><id>mid:a@x</id><updated>2024-02-01T10:01:40Z</updated><link href=\"/list/a@x/\"/><content type=\"text\">one\n</content></entry>\n<entry><author><name>unknown</name></author><title>(no subject)</title><id>mid:n@x</id><updated>1970-01-01T00:00:00Z</updated><link href=\"/list/n@x/\"/><content type=\"text\">\n</content></entry>\n</feed>\n"));
+    assert!(rt;
+        is_made(
+            made,
+            b"<?xml version=\"1.0\" encoding=\"utf-8\"?>\n<feed xmlns=\"http://www.w3.org/2005/Atom\">\n<title>list</title>\n<id>mid:list@piv2.invalid</id>\n<updated>2024-02-01T10:01:40Z</updated>\n<entry><author><name>Ann</name></author><title>first</title><id>mid:a@x</id><updated>2024-02-01T10:01:40Z</updated><link href=\"/list/a@x/\"/><content type=\"text\">one\n</content></entry>\n<entry><author><name>unknown</name></author><title>(no subject)</title><id>mid:n@x</id><updated>1970-01-01T00:00:00Z</updated><link href=\"/list/n@x/\"/><content type=\"text\">\n</content></entry>\n</feed>\n"
+        )
+    );
 }
 
 /// Returns when feeds of a mail that arrived at 0, and of that one and a later one, were updated.

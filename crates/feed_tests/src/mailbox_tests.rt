@@ -7,7 +7,8 @@ use mail_rows::{Row, row_of};
 use std::alloc::Global;
 
 /// The text that has 103 bytes.
-const FIRST: &[u8] = b"From: Ann <ann@example.org>\nDate: Thu, 1 Feb 2024 10:00:00 +0000\nSubject: first\nMessage-ID: <a@x>\n\none\n";
+const FIRST: &[u8] =
+    b"From: Ann <ann@example.org>\nDate: Thu, 1 Feb 2024 10:00:00 +0000\nSubject: first\nMessage-ID: <a@x>\n\none\n";
 
 /// A text, and the lines of its piece of a mailbox file between the first line and the empty one.
 #[derive(Drop)]

@@ -98,12 +98,7 @@ fn add_mail(
 }
 
 /// Adds a text.
-fn add_text(
-    alloc: Global,
-    name: &Name,
-    text: &[u8],
-    printed: &mut Printed,
-) -> Result<(), NoMemory>
+fn add_text(alloc: Global, name: &Name, text: &[u8], printed: &mut Printed) -> Result<(), NoMemory>
     requires { IsStorageText text.now }
 {
     let row = row_of(alloc, 1, &blob_id(text), text, ARRIVED)?;

@@ -67,6 +67,7 @@ next_is_day n d h = by (ltb d.day (days_in_month (pos d.year) d.month)) (ltb d.m
     chosen : Bool → Bool → Day
     chosen more months = cond more (record { year = d.year; month = d.month; day = d.day + 1 })
         (cond months (record { year = d.year; month = d.month + 1; day = 1 }) (record { year = d.year + 1; month = 1; day = 1 }))
+
     by : (more months : Bool) → ltb d.day (days_in_month (pos d.year) d.month) ≡ more → ltb d.month 12 ≡ months
         → IsDay (suc n) (chosen more months).year (chosen more months).month (chosen more months).day
     by true months e f = next_in_month n d.year d.month d.day h (grind arith)
