@@ -1,0 +1,114 @@
+//! Wildmats: lists of patterns of names.
+ghost use Rattle.std.specs.Prelude.{◌≡◌, ◌≤◌, ◌<◌, ◌+◌, ℕ, List, true, length, drop, map, slice_index, EachIndex, false};
+ghost use Rattle.nntp_words.specs.Wildmats.{is_special as special, wildmat_matches, decided, pattern_matches, fits as fits_byte, Ends};
+
+use memchr::memrchr;
+
+/// The greatest length of a name, in bytes.
+const NAME_LEN: usize = 64;
+
+/// For each index of a name, up to its length, whether a pattern matches the name from there on.
+type Ends = [bool; NAME_LEN + 1];
+
+/// Returns whether a wildmat matches a name (RFC 3977, section 4, in a form of its own).
+///
+/// It is a list of patterns between commas. `*` stands for any bytes, `?` for one byte, and each
+/// other byte for itself. The last pattern that matches decides: one after a `!` says no, any other
+/// yes. If none matches, the answer is no.
+///
+/// `None` if it has a `[`, a `]` or a backslash.
+pub fn matches(wildmat: &[u8], name: &[u8]) -> Option<bool>
+    requires { length name.now ≤ 64 }
+    ensures { result ≡ wildmat_matches wildmat.now name.now }
+{
+    if wildmat.iter().any(|byte| is_special(*byte)) {
+        return None;
+    }
+    Some(is_matched(wildmat, name))
+}
+
+/// Returns whether a byte has no meaning in a wildmat.
+fn is_special(byte: u8) -> bool
+    ensures { result ≡ special byte }
+{
+    byte == b'[' || byte == b']' || byte == b'\\'
+}
+
+/// Returns whether the last pattern that matches a name says yes.
+fn is_matched(wildmat: &[u8], name: &[u8]) -> bool
+    requires { length name.now ≤ 64 }
+    ensures { result ≡ decided wildmat.now name.now }
+{
+    let mut left = wildmat;
+    while let Some(comma) = memrchr(b',', left) {
+        if let Some(said) = says(&left[comma + 1..], name) {
+            return said;
+        }
+        left = &left[..comma];
+    }
+    says(left, name).unwrap_or(false)
+}
+
+/// Returns what a pattern says of a name: yes, or no after a `!`, or `None` if it doesn't match.
+fn says(pattern: &[u8], name: &[u8]) -> Option<bool>
+    requires { length name.now ≤ 64 }
+{
+    let (bytes, yes) = match pattern {
+        [b'!', rest @ ..] => (rest, false),
+        _ => (pattern, true),
+    };
+    if is_match(bytes, name) { Some(yes) } else { None }
+}
+
+/// Returns whether a pattern matches a name.
+fn is_match(pattern: &[u8], name: &[u8]) -> bool
+    requires { length name.now ≤ 64 }
+    ensures { result ≡ pattern_matches pattern.now name.now }
+{
+    let mut ends = [false; NAME_LEN + 1];
+    ends[name.len()] = true;
+    for byte in pattern.iter().rev() {
+        ends = with_byte(*byte, name, &ends);
+    }
+    ends[0]
+}
+
+/// Returns where a byte of a pattern, and then what matches at these ends, matches a name.
+fn with_byte(byte: u8, name: &[u8], ends: &Ends) -> Ends
+    requires { length name.now ≤ 64 }
+{
+    if byte == b'*' {
+        after_any(name.len(), ends)
+    } else {
+        after_one(byte, name, ends)
+    }
+}
+
+/// Returns where any bytes, and then what matches at these ends, match a name of a length.
+fn after_any(len: usize, ends: &Ends) -> Ends
+    requires { len ≤ 64 }
+{
+    let mut made = *ends;
+    for index in (0..len).rev() {
+        made[index] = made[index] || made[index + 1];
+    }
+    made
+}
+
+/// Returns where one byte that fits, and then what matches at these ends, match a name.
+fn after_one(byte: u8, name: &[u8], ends: &Ends) -> Ends
+    requires { length name.now ≤ 64 }
+{
+    let mut made = [false; NAME_LEN + 1];
+    for (index, own) in name.iter().enumerate() {
+        made[index] = fits(byte, *own) && ends[index + 1];
+    }
+    made
+}
+
+/// Returns whether a byte of a pattern that isn't `*` fits a byte of a name.
+fn fits(byte: u8, own: u8) -> bool
+    ensures { result ≡ fits_byte byte own }
+{
+    byte == b'?' || byte == own
+}
