@@ -2,16 +2,11 @@
 use Rattle.std.specs.Prelude.{ℕ, max, fold, List, [], ◌∷◌, ◌++◌, codes}
 use Rattle.std.specs.List.{flat_map}
 use Rattle.arch_base.specs.Moments.{IsMoment}
-use Rattle.mail_date.specs.Days.{date_at}
-use Rattle.mail_date.specs.Printed.{rfc3339_text}
 use Rattle.mail_rows.specs.declared.row.Row.{Row}
 use Rattle.web_text.specs.Addresses.{address_of}
+use Rattle.web_text.specs.Days.{moment_text}
 use Rattle.web_text.specs.Escapes.{escaped}
 use Rattle.atom_mbox.specs.declared.feed.Shown.{Shown}
-
--- A moment as a feed has it (RFC 4287, section 3.3): in UTC.
-unfoldable pub moment_text : ℕ → List ℕ
-moment_text secs = rfc3339_text (date_at secs)
 
 -- The title of a mail with this subject.
 abbrev pub title_of : List ℕ → List ℕ

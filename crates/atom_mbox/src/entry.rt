@@ -2,14 +2,14 @@
 ghost use Rattle.std.specs.Prelude.{◌≡◌, ◌++◌, OnOk};
 ghost use Rattle.arch_base.specs.Moments.{IsMoment};
 ghost use Rattle.web_text.specs.Addresses.{address_of};
+ghost use Rattle.web_text.specs.Days.{moment_text};
 ghost use Rattle.web_text.specs.Escapes.{escaped};
-ghost use Rattle.atom_mbox.specs.Feeds.{moment_text, title_of, feed_start, feed_end, entry_of, entry_author, entry_place, entry_body};
+ghost use Rattle.atom_mbox.specs.Feeds.{title_of, feed_start, feed_end, entry_of, entry_author, entry_place, entry_body};
 
 use arch_base::{Bytes, Name, NoMemory};
-use mail_date::print_rfc3339;
 use mail_rows::Row;
 use std::alloc::Global;
-use web_text::{push_address, push_escaped};
+use web_text::{push_address, push_escaped, push_moment};
 
 /// Appends what is before the entries of a feed: its title and its id by the name of the archive,
 /// and when it was updated, in seconds since 1970 UTC.
@@ -103,14 +103,4 @@ fn push_body(alloc: Global, body: &[u8], into: &mut Bytes) -> Result<(), NoMemor
     into.push_slice(b"<content type=\"text\">")?;
     push_escaped(alloc, body, into)?;
     into.push_slice(b"</content></entry>\n")
-}
-
-/// Appends a moment as a feed has it.
-///
-/// `NoMemory` leaves the bytes unchanged.
-fn push_moment(secs: u64, into: &mut Bytes) -> Result<(), NoMemory>
-    requires { IsMoment secs }
-    ensures { OnOk result (into.new ≡ into.old ++ moment_text secs) }
-{
-    into.push_slice(&print_rfc3339(secs))
 }

@@ -1,5 +1,4 @@
 mod DateLemmas
-pub mod DayLemmas
 mod OneLemmas
 mod PartLemmas
 mod PrintLemmas

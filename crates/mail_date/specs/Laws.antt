@@ -3,10 +3,9 @@ use Rattle.std.specs.Prelude.{◌≡◌, ◌↔◌, ℕ, ◌≤◌, List, Option
 use Rattle.mail_date.specs.declared.moment.Moment.{Moment}
 use Rattle.mail_date.specs.declared.moment.CivilDate.{CivilDate}
 use Rattle.mail_date.specs.Dates.{last_second}
-use Rattle.mail_date.specs.Days.{date_at}
 use Rattle.mail_date.specs.Parts.{Spells}
 use Rattle.mail_date.specs.Pieces.{IsZone}
-use Rattle.mail_date.specs.Printed.{IsDateAt, PrintsUtc, mail_text}
+use Rattle.mail_date.specs.Printed.{IsDateAt, mail_text}
 use Rattle.mail_date.specs.Reading.{moment_in}
 
 -- A text spells at most one moment.
@@ -17,11 +16,6 @@ SpelledMomentIsOne = (text : List ℕ) (a b : Moment) → Spells text a → Spel
 abbrev pub PrintedDateIsOne : Type 0
 PrintedDateIsOne = (moment : Moment) (a b : CivilDate) → IsDateAt moment a
     → IsDateAt moment b → a ≡ b
-
--- What prints a moment in UTC, with `form` as the form of a date, prints the date of the moment.
-abbrev pub PrintedInUtcIsOne : Type 0
-PrintedInUtcIsOne = (form : CivilDate → List ℕ) (secs : ℕ) (text : List ℕ)
-    → secs ≤ last_second → PrintsUtc form secs text → text ≡ form (date_at secs)
 
 -- A Date that is written for a moment, in a zone less than a day from UTC, spells that moment.
 abbrev pub WrittenDateIsSpelled : Type 0

@@ -1,5 +1,4 @@
 pub mod Dates
-pub mod Days
 pub mod Laws
 pub mod Parts
 pub mod Pieces

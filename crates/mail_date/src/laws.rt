@@ -1,6 +1,6 @@
 //! Laws of the definitions that the contracts cite. Each function does nothing: its contract is the
 //! law.
-ghost use Rattle.mail_date.specs.Laws.{SpelledMomentIsOne, PrintedDateIsOne, PrintedInUtcIsOne, WrittenDateIsSpelled, MomentIsSpelled};
+ghost use Rattle.mail_date.specs.Laws.{SpelledMomentIsOne, PrintedDateIsOne, WrittenDateIsSpelled, MomentIsSpelled};
 
 /// Shows that a value spells at most one moment.
 pub fn spelled_moment_is_one()
@@ -10,11 +10,6 @@ pub fn spelled_moment_is_one()
 /// Shows that a clock in a moment's zone shows one date.
 pub fn printed_date_is_one()
     ensures { PrintedDateIsOne }
-{}
-
-/// Shows that what prints a moment in UTC prints the date of the definitions.
-pub fn printed_in_utc_is_one()
-    ensures { PrintedInUtcIsOne }
 {}
 
 /// Shows that a Date that is written for a moment spells that moment.

@@ -9,8 +9,7 @@ mod reading;
 mod words;
 
 pub use laws::{
-    moment_is_spelled, printed_date_is_one, printed_in_utc_is_one, spelled_moment_is_one,
-    written_date_is_spelled,
+    moment_is_spelled, printed_date_is_one, spelled_moment_is_one, written_date_is_spelled,
 };
 pub use moment::{CivilDate, Moment};
 pub use pieces::Clock;

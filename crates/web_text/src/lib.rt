@@ -3,6 +3,8 @@
 
 mod addresses;
 mod escapes;
+mod moments;
 
 pub use addresses::push_address;
 pub use escapes::push_escaped;
+pub use moments::push_moment;

@@ -1,7 +1,8 @@
 -- The date of a moment in UTC, day by day from the start of 1970.
-use Rattle.std.specs.Prelude.{ℕ, zero, suc, ◌+◌, ◌/◌, ◌%◌, if◌then◌else◌, nat_lt, pos}
+use Rattle.std.specs.Prelude.{ℕ, zero, suc, ◌+◌, ◌/◌, ◌%◌, if◌then◌else◌, nat_lt, pos, List}
 use Rattle.jiff_core.specs.Calendar.{days_in_month}
 use Rattle.mail_date.specs.declared.moment.CivilDate.{CivilDate}
+use Rattle.mail_date.specs.Printed.{rfc3339_text}
 
 -- A day of the calendar.
 pub record Day : Type 0 where
@@ -37,3 +38,7 @@ date_on d second = record {
 -- The date that a clock in UTC shows so many seconds after the start of 1970.
 unfoldable pub date_at : ℕ → CivilDate
 date_at secs = date_on (day_at (secs / 86400)) (secs % 86400)
+
+-- A moment in UTC as a feed has it (RFC 3339, section 5.6).
+unfoldable pub moment_text : ℕ → List ℕ
+moment_text secs = rfc3339_text (date_at secs)

@@ -7,9 +7,9 @@ use Rattle.jiff_core.proofs.CalendarLemmas.{days_from_civil-day_count, day_count
 use Rattle.jiff_core.proofs.DateLemmas.{days_from_civil-day, days_from_civil-next_month, days_from_civil-next_year, days_from_civil-max}
 use Rattle.mail_date.specs.declared.moment.CivilDate.{CivilDate}
 use Rattle.mail_date.specs.Dates.{last_second, IsValid, IsValidDay, seconds_of}
-use Rattle.mail_date.specs.Days.{Day, next_day, day_at, date_on, date_at}
-use Rattle.mail_date.specs.Printed.{IsDateAt, utc, PrintsUtc}
-use Rattle.mail_date.proofs.OneLemmas.{one_date}
+use Rattle.web_text.specs.Days.{Day, next_day, day_at, date_on, date_at, moment_text}
+use Rattle.mail_date.specs.Laws.{PrintedDateIsOne}
+use Rattle.mail_date.specs.Printed.{IsDateAt, utc, PrintsUtc, rfc3339_text}
 
 -- The day is one of the calendar from 1970 on, so many days after its first.
 record IsDay (n y m d : ℕ) : Type 0 where
@@ -127,6 +127,7 @@ date_at_is_shown secs within =
     }
 
 -- What prints a moment in UTC prints that date.
-pub printed_is_one : (form : CivilDate → List ℕ) (secs : ℕ) (text : List ℕ) → secs ≤ last_second → PrintsUtc form secs text → text ≡ form (date_at secs)
-printed_is_one form secs text within prints =
-    prints.2 ∙ ap form (one_date (utc secs) prints.0 (date_at secs) prints.1 (date_at_is_shown secs within))
+pub moment-printed : (secs : ℕ) (text : List ℕ) → PrintedDateIsOne → secs ≤ last_second → PrintsUtc rfc3339_text secs text → text ≡ moment_text secs
+unfolding moment_text
+moment-printed secs text one within prints =
+    prints.2 ∙ ap rfc3339_text (one (utc secs) prints.0 (date_at secs) prints.1 (date_at_is_shown secs within))
