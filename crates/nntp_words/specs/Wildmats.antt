@@ -1,5 +1,5 @@
 -- Wildmats: lists of patterns of names (RFC 3977, section 4, without its syntax errors).
-use Rattle.std.specs.Prelude.{◌≡◌, ℕ, ◌≤◌, Bool, true, false, not, ◌&&◌, ◌||◌, ◌==◌, List, [], ◌∷◌, length, drop, Option, Some, None, if◌then◌else◌}
+use Rattle.std.specs.Prelude.{◌≡◌, ℕ, ◌≤◌, Bool, true, false, not, ◌&&◌, ◌||◌, ◌==◌, List, [], ◌∷◌, length, drop, slice_index_or, Option, Some, None, if◌then◌else◌}
 use Rattle.std.specs.List.{list_any}
 
 -- The byte has no meaning in a wildmat: a bracket or a backslash.
@@ -63,7 +63,11 @@ abbrev pub wildmat_matches : List ℕ → List ℕ → Option Bool
 wildmat_matches wildmat name =
     if list_any is_special wildmat then None else Some (decided wildmat name)
 
--- The flags say at which ends of a name a pattern matches what is left of it.
-abbrev pub Ends : List ℕ → List ℕ → (ℕ → Bool) → Type 0
-Ends pattern name flag =
-    (i : ℕ) → i ≤ length name → flag i ≡ pattern_matches pattern (drop i name)
+-- What matches any bytes or one, as the byte of a pattern says, and then what passes the test.
+abbrev pub after_byte : ℕ → (List ℕ → Bool) → List ℕ → Bool
+after_byte p test name = if p == 42 then some_end test name else fits_first p test name
+
+-- The flags tell at each end of a name whether the test passes there.
+abbrev pub Tells : (List ℕ → Bool) → List ℕ → List Bool → Type 0
+Tells test name flags =
+    (i : ℕ) → i ≤ length name → slice_index_or flags i false ≡ test (drop i name)

@@ -1,6 +1,6 @@
 //! Wildmats: lists of patterns of names.
-ghost use Rattle.std.specs.Prelude.{◌≡◌, ◌≤◌, ◌<◌, ◌+◌, ℕ, List, true, length, drop, map, slice_index, EachIndex, false};
-ghost use Rattle.nntp_words.specs.Wildmats.{is_special as special, wildmat_matches, decided, pattern_matches, fits as fits_byte, Ends};
+ghost use Rattle.std.specs.Prelude.{◌≡◌, ◌≤◌, ℕ, Bool, List, length};
+ghost use Rattle.nntp_words.specs.Wildmats.{is_special as special, wildmat_matches, decided, says as says_of, pattern_matches, some_end, fits as fits_byte, fits_first, after_byte, Tells};
 
 use memchr::memrchr;
 
@@ -52,12 +52,17 @@ fn is_matched(wildmat: &[u8], name: &[u8]) -> bool
 /// Returns what a pattern says of a name: yes, or no after a `!`, or `None` if it doesn't match.
 fn says(pattern: &[u8], name: &[u8]) -> Option<bool>
     requires { length name.now ≤ 64 }
+    ensures { result ≡ says_of pattern.now name.now }
 {
     let (bytes, yes) = match pattern {
         [b'!', rest @ ..] => (rest, false),
         _ => (pattern, true),
     };
-    if is_match(bytes, name) { Some(yes) } else { None }
+    if is_match(bytes, name) {
+        Some(yes)
+    } else {
+        None
+    }
 }
 
 /// Returns whether a pattern matches a name.
@@ -67,8 +72,10 @@ fn is_match(pattern: &[u8], name: &[u8]) -> bool
 {
     let mut ends = [false; NAME_LEN + 1];
     ends[name.len()] = true;
-    for byte in pattern.iter().rev() {
-        ends = with_byte(*byte, name, &ends);
+    let mut index = pattern.len();
+    while index > 0 {
+        index -= 1;
+        ends = with_byte(pattern[index], name, &ends);
     }
     ends[0]
 }
@@ -76,6 +83,8 @@ fn is_match(pattern: &[u8], name: &[u8]) -> bool
 /// Returns where a byte of a pattern, and then what matches at these ends, matches a name.
 fn with_byte(byte: u8, name: &[u8], ends: &Ends) -> Ends
     requires { length name.now ≤ 64 }
+    ensures { (test : List ℕ → Bool) → Tells test name.now ends.now
+        → Tells (after_byte byte test) name.now result }
 {
     if byte == b'*' {
         after_any(name.len(), ends)
@@ -87,9 +96,13 @@ fn with_byte(byte: u8, name: &[u8], ends: &Ends) -> Ends
 /// Returns where any bytes, and then what matches at these ends, match a name of a length.
 fn after_any(len: usize, ends: &Ends) -> Ends
     requires { len ≤ 64 }
+    ensures { (test : List ℕ → Bool) (name : List ℕ) → length name ≡ len → Tells test name ends.now
+        → Tells (some_end test) name result }
 {
     let mut made = *ends;
-    for index in (0..len).rev() {
+    let mut index = len;
+    while index > 0 {
+        index -= 1;
         made[index] = made[index] || made[index + 1];
     }
     made
@@ -98,6 +111,8 @@ fn after_any(len: usize, ends: &Ends) -> Ends
 /// Returns where one byte that fits, and then what matches at these ends, match a name.
 fn after_one(byte: u8, name: &[u8], ends: &Ends) -> Ends
     requires { length name.now ≤ 64 }
+    ensures { (test : List ℕ → Bool) → Tells test name.now ends.now
+        → Tells (fits_first byte test) name.now result }
 {
     let mut made = [false; NAME_LEN + 1];
     for (index, own) in name.iter().enumerate() {
