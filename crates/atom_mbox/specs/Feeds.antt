@@ -1,17 +1,16 @@
 -- Feeds of mails (RFC 4287).
-use Rattle.std.specs.Prelude.{ℕ, max, fold, List, [], ◌∷◌, ◌++◌, codes}
+use Rattle.std.specs.Prelude.{ℕ, max, fold, ◌==◌, List, ◌++◌, length, codes, if◌then◌else◌}
 use Rattle.std.specs.List.{flat_map}
 use Rattle.arch_base.specs.Moments.{IsMoment}
 use Rattle.mail_rows.specs.declared.row.Row.{Row}
 use Rattle.web_text.specs.Addresses.{address_of}
 use Rattle.web_text.specs.Days.{moment_text}
 use Rattle.web_text.specs.Escapes.{escaped}
-use Rattle.atom_mbox.specs.declared.feed.Shown.{Shown}
+use Rattle.atom_mbox.specs.declared.feeds.Shown.{Shown}
 
 -- The title of a mail with this subject.
 abbrev pub title_of : List ℕ → List ℕ
-title_of [] = codes "(no subject)"
-title_of (c ∷ cs) = escaped (c ∷ cs)
+title_of subject = if length subject == 0 then codes "(no subject)" else escaped subject
 
 -- What is before the entries, in the feed of the archive with a name.
 unfoldable pub feed_start : List ℕ → ℕ → List ℕ
@@ -67,8 +66,7 @@ last_arrival mails = fold later 0 mails
 -- When a feed of mails was updated: at the last of their arrivals, or without a mail when the
 -- archive was created.
 abbrev pub updated_of : ℕ → List Shown → ℕ
-updated_of born [] = born
-updated_of born (mail ∷ mails) = last_arrival (mail ∷ mails)
+updated_of born mails = if length mails == 0 then born else last_arrival mails
 
 -- The feed of mails, of the archive with a name that was created at a moment.
 unfoldable pub feed_of : List ℕ → ℕ → List Shown → List ℕ

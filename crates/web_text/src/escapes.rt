@@ -1,6 +1,6 @@
 //! Text between the tags of a page or a feed, and in quoted attributes.
 ghost use Rattle.std.specs.Prelude.{◌≡◌, ◌++◌, OnOk};
-ghost use Rattle.std.specs.Str.{encode_utf8};
+ghost use Rattle.std.specs.Char.{encode_utf8};
 ghost use Rattle.web_text.specs.Escapes.{escaped, escaped_chars, spelled, shown, is_excluded as excluded};
 
 use arch_base::{Bytes, NoMemory};

@@ -3,7 +3,7 @@ ghost use Rattle.std.specs.Prelude.{◌≡◌, ◌++◌, IfOk, OnOk, All};
 ghost use Rattle.arch_base.specs.Moments.{IsMoment};
 ghost use Rattle.atom_mbox.specs.Feeds.{HasMoment, feed_of, updated_of, entries_of, last_arrival};
 
-use crate::entry::{push_feed_end, push_feed_entry, push_feed_start};
+use crate::entries::{push_feed_end, push_feed_entry, push_feed_start};
 use arch_base::{Bytes, Name, NoMemory};
 use mail_rows::Row;
 use std::alloc::Global;
@@ -21,6 +21,7 @@ pub struct Shown {
 ///
 /// `name` is the name of the archive, and `born` is when it was created, in seconds since 1970 UTC.
 /// `NoMemory` if an allocation fails.
+#[tactic(auto, unfolding(crate::specs::Feeds::feed_of))]
 pub fn feed(alloc: Global, name: &Name, born: u32, mails: &[Shown]) -> Result<Bytes, NoMemory>
     requires { All HasMoment mails.now }
     ensures { IfOk result (λ made. made ≡ feed_of name.now born mails.now) }
