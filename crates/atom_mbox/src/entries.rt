@@ -15,6 +15,7 @@ use web_text::{push_address, push_escaped, push_moment};
 /// and when it was updated, in seconds since 1970 UTC.
 ///
 /// The only error is `NoMemory`. It may leave a part appended.
+#[tactic(auto, unfolding(crate::specs::Feeds::feed_start))]
 pub fn push_feed_start(name: &Name, updated: u64, into: &mut Bytes) -> Result<(), NoMemory>
     requires { IsMoment updated }
     ensures { OnOk result (into.new ≡ into.old ++ feed_start name.now updated) }
@@ -32,6 +33,7 @@ pub fn push_feed_start(name: &Name, updated: u64, into: &mut Bytes) -> Result<()
 /// Appends what is after the entries of a feed.
 ///
 /// `NoMemory` leaves the bytes unchanged.
+#[tactic(auto, unfolding(crate::specs::Feeds::feed_end))]
 pub fn push_feed_end(into: &mut Bytes) -> Result<(), NoMemory>
     ensures { OnOk result (into.new ≡ into.old ++ feed_end) }
 {
@@ -59,6 +61,7 @@ pub fn push_feed_entry(
 }
 
 /// Appends the start of an entry: the author and the title.
+#[tactic(auto, unfolding(crate::specs::Feeds::entry_author))]
 fn push_author(alloc: Global, row: &Row, into: &mut Bytes) -> Result<(), NoMemory>
     ensures { OnOk result (into.new ≡ into.old ++ entry_author row.now) }
 {
@@ -81,6 +84,7 @@ fn push_title(alloc: Global, subject: &[u8], into: &mut Bytes) -> Result<(), NoM
 }
 
 /// Appends the middle of an entry: its id, when it arrived, and where its page is.
+#[tactic(auto, unfolding(crate::specs::Feeds::entry_place))]
 fn push_place(name: &Name, row: &Row, into: &mut Bytes) -> Result<(), NoMemory>
     requires { IsMoment row.now.arrived }
     ensures { OnOk result (into.new ≡ into.old ++ entry_place name.now row.now) }
@@ -97,6 +101,7 @@ fn push_place(name: &Name, row: &Row, into: &mut Bytes) -> Result<(), NoMemory>
 }
 
 /// Appends the end of an entry: the text of the body.
+#[tactic(auto, unfolding(crate::specs::Feeds::entry_body))]
 fn push_body(alloc: Global, body: &[u8], into: &mut Bytes) -> Result<(), NoMemory>
     ensures { OnOk result (into.new ≡ into.old ++ entry_body body.now) }
 {

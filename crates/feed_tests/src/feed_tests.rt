@@ -81,19 +81,15 @@ fn shown(alloc: Global, case: &EntryCase) -> Option<Shown>
 /// Returns the feed of `list` that has one mail.
 fn feed_of_one(alloc: Global, case: &EntryCase) -> Option<Bytes> {
     let name = Name::read(b"list")?;
-    feed(alloc, &name, 1, &[shown(alloc, case)?]).ok()
+    let mails = [shown(alloc, case)?];
+    feed(alloc, &name, 1, &mails).ok()
 }
 
 /// Returns the feed of `list` that has two mails.
 fn feed_of_two(alloc: Global, first: &EntryCase, second: &EntryCase) -> Option<Bytes> {
     let name = Name::read(b"list")?;
-    feed(
-        alloc,
-        &name,
-        1,
-        &[shown(alloc, first)?, shown(alloc, second)?],
-    )
-    .ok()
+    let mails = [shown(alloc, first)?, shown(alloc, second)?];
+    feed(alloc, &name, 1, &mails).ok()
 }
 
 /// Returns the feed of `list` without a mail.

@@ -6,9 +6,7 @@
 //! then the line `mbox LEN` and the mailbox file, and the line `feed LEN` and the feed.
 #![tactic(auto)]
 
-ghost use Rattle.std.specs.Prelude.{◌<◌, length, IfSome, All};
-ghost use Rattle.mail_reader.specs.StorageTexts.{IsStorageText};
-ghost use Rattle.arch_base.specs.Moments.{IsMoment};
+ghost use Rattle.std.specs.Prelude.{◌<◌, length, IfSome};
 
 use arch_base::{Bytes, Name, NoMemory, decimal, read_decimal};
 use atom_mbox::{mbox_piece, push_feed_end, push_feed_entry, push_feed_start};
@@ -83,7 +81,7 @@ fn next_mail(input: &[u8]) -> Option<(&[u8], &[u8])>
     Some(rest.split_at(len as usize))
 }
 
-/// Adds a mail, if it has a storage form and an id.
+/// Adds a mail, if it has a storage form.
 fn add_mail(
     alloc: Global,
     name: &Name,
@@ -91,16 +89,22 @@ fn add_mail(
     printed: &mut Printed,
 ) -> Result<(), NoMemory> {
     match stored(alloc, mail) {
-        Ok(text) if is_stored(text.as_slice()) => add_text(alloc, name, text.as_slice(), printed),
+        Ok(text) => add_text(alloc, name, text.as_slice(), printed),
         Err(StoredRefusal::NoMemory) => Err(NoMemory),
-        _ => Ok(()),
+        Err(_) => Ok(()),
     }
 }
 
-/// Adds a text.
-fn add_text(alloc: Global, name: &Name, text: &[u8], printed: &mut Printed) -> Result<(), NoMemory>
-    requires { IsStorageText text.now }
-{
+/// Adds a text, if it has an id.
+fn add_text(
+    alloc: Global,
+    name: &Name,
+    text: &[u8],
+    printed: &mut Printed,
+) -> Result<(), NoMemory> {
+    if !is_stored(text) {
+        return Ok(());
+    }
     let row = row_of(alloc, 1, &blob_id(text), text, ARRIVED)?;
     push_part(alloc, b"text ", text, &mut printed.texts)?;
     mbox_piece(text, &mut printed.mbox)?;
