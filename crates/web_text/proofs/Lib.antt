@@ -1,2 +1,2 @@
-mod DayLemmas
+mod CivilDays
 mod Pieces

@@ -1,4 +1,4 @@
-use Rattle.web_text.proofs.DayLemmas.{moment-printed}
+use Rattle.web_text.proofs.CivilDays.{moment-printed}
 use Rattle.web_text.proofs.moments.push_moment.Goals as goal
 
 pub returns : goal.returns
