@@ -4,11 +4,11 @@ ghost use Rattle.nntp_words.specs.Wildmats.{is_special as special, wildmat_match
 
 use memchr::memrchr;
 
-/// The greatest length of a name, in bytes.
-const NAME_LEN: usize = 64;
+/// The number of ends of the longest name, which has 64 bytes.
+const ENDS: usize = 65;
 
 /// For each index of a name, up to its length, whether a pattern matches the name from there on.
-type Ends = [bool; NAME_LEN + 1];
+type Ends = [bool; ENDS];
 
 /// Returns whether a wildmat matches a name (RFC 3977, section 4, in a form of its own).
 ///
@@ -70,7 +70,7 @@ fn is_match(pattern: &[u8], name: &[u8]) -> bool
     requires { length name.now ≤ 64 }
     ensures { result ≡ pattern_matches pattern.now name.now }
 {
-    let mut ends = [false; NAME_LEN + 1];
+    let mut ends = [false; ENDS];
     ends[name.len()] = true;
     let mut index = pattern.len();
     while index > 0 {
@@ -114,7 +114,7 @@ fn after_one(byte: u8, name: &[u8], ends: &Ends) -> Ends
     ensures { (test : List ℕ → Bool) → Tells test name.now ends.now
         → Tells (fits_first byte test) name.now result }
 {
-    let mut made = [false; NAME_LEN + 1];
+    let mut made = [false; ENDS];
     for (index, own) in name.iter().enumerate() {
         made[index] = fits(byte, *own) && ends[index + 1];
     }
