@@ -27,16 +27,17 @@ some_part (b ∷ bs) = by (eqb b 44)
     by false = some_byte b (parts_of bs)
 
 -- The part after a comma is one more.
-pub parts-append : (as bs : List ℕ) → parts_of bs ≡ bs ∷ [] → parts_of (as ++ 44 ∷ bs) ≡ parts_of as ++ bs ∷ []
+pub parts-append : (front bs : List ℕ) → parts_of bs ≡ bs ∷ [] → parts_of (front ++ 44 ∷ bs) ≡ parts_of front ++ bs ∷ []
 parts-append [] bs one = ap (λ ps. [] ∷ ps) one
-parts-append (a ∷ as) bs one = by (eqb a 44)
+parts-append (a ∷ front) bs one = by (eqb a 44)
   where
-    rest : parts_of (as ++ 44 ∷ bs) ≡ parts_of as ++ bs ∷ []
-    rest = parts-append as bs one
-    by : (comma : Bool) → cond comma ([] ∷ parts_of (as ++ 44 ∷ bs)) (with_byte a (parts_of (as ++ 44 ∷ bs))) ≡ cond comma ([] ∷ parts_of as) (with_byte a (parts_of as)) ++ bs ∷ []
+    rest : parts_of (front ++ 44 ∷ bs) ≡ parts_of front ++ bs ∷ []
+    rest = parts-append front bs one
+
+    by : (comma : Bool) → cond comma ([] ∷ parts_of (front ++ 44 ∷ bs)) (with_byte a (parts_of (front ++ 44 ∷ bs))) ≡ cond comma ([] ∷ parts_of front) (with_byte a (parts_of front)) ++ bs ∷ []
     by true = ap (λ ps. [] ∷ ps) rest
     by false =
-        let some = some_part as in
+        let some = some_part front in
         ap (with_byte a) (rest ∙ ap (λ ps. ps ++ bs ∷ []) some.2) ∙ joined_byte a some.0 some.1 (bs ∷ []) ∙ ap (λ ps. with_byte a ps ++ bs ∷ []) (sym some.2)
 
 said-append : (before : Bool) (parts : List (List ℕ)) (last name : List ℕ) → last_said before (parts ++ last ∷ []) name ≡ later (says last name) (last_said before parts name)
@@ -44,9 +45,9 @@ said-append before [] last name = refl
 said-append before (part ∷ parts) last name = said-append (later (says part name) before) parts last name
 
 -- What the patterns say, by the last of them and those before it.
-pub said-before : (as bs name : List ℕ) → ((i : ℕ) → i < length bs → get_or bs i 0 ≢ 44)
-    → last_said false (parts_of (as ++ 44 ∷ bs)) name ≡ later (says bs name) (last_said false (parts_of as) name)
-said-before as bs name none = ap (λ ps. last_said false ps name) (parts-append as bs (one-part bs none)) ∙ said-append false (parts_of as) bs name
+pub said-before : (front bs name : List ℕ) → ((i : ℕ) → i < length bs → get_or bs i 0 ≢ 44)
+    → last_said false (parts_of (front ++ 44 ∷ bs)) name ≡ later (says bs name) (last_said false (parts_of front) name)
+said-before front bs name none = ap (λ ps. last_said false ps name) (parts-append front bs (one-part bs none)) ∙ said-append false (parts_of front) bs name
 
 -- What one pattern says.
 pub said-alone : (bs name : List ℕ) → ((i : ℕ) → i < length bs → get_or bs i 0 ≢ 44) → last_said false (parts_of bs) name ≡ later (says bs name) false
