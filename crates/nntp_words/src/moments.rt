@@ -24,6 +24,7 @@ pub fn read_moment(date: &[u8], time: &[u8], this_year: u16) -> Option<i64>
 }
 
 /// Returns the day that a date spells. The first of January 1970 is 0.
+#[tactic(auto, unfolding(crate::specs::Moments::day_of))]
 fn read_day(date: &[u8], this_year: u16) -> Option<i32>
     requires { IsInRange 1970 9999 this_year }
     ensures { result ≡ day_of date.now this_year }
@@ -93,6 +94,7 @@ fn day_in(year: Option<u16>, month: Option<u8>, day: Option<u8>) -> Option<i32>
 }
 
 /// Returns the second of the day that a time spells.
+#[tactic(auto, unfolding(crate::specs::Moments::second_of))]
 fn read_second(time: &[u8]) -> Option<u32>
     ensures value { result ≡ second_of time.now }
     ensures bound { IfSome result (λ n. n < 86400) }

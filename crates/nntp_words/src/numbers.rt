@@ -2,7 +2,7 @@
 ghost use Rattle.std.specs.Prelude.{◌≡◌, ◌≤◌, length};
 ghost use Rattle.std.specs.List.{prefix_len};
 ghost use Rattle.mail_reader.specs.Ids.{is_id_byte as id_byte};
-ghost use Rattle.nntp_words.specs.Numbers.{is_zero as zero, is_before_dash, without_zeros, number_in, number_of, range_of, is_id as id};
+ghost use Rattle.nntp_words.specs.Numbers.{is_zero as zero_digit, is_before_dash, without_zeros, number_in, number_of, range_of, is_id as in_brackets};
 
 use arch_base::read_decimal;
 
@@ -24,6 +24,7 @@ pub struct Range {
 /// 2,147,483,647. Zeros may come first.
 ///
 /// `None` if it spells none.
+#[tactic(auto, unfolding(crate::specs::Numbers::number_of))]
 pub fn read_number(word: &[u8]) -> Option<u32>
     ensures { result ≡ number_of word.now }
 {
@@ -42,7 +43,7 @@ fn without_zeros(word: &[u8]) -> &[u8]
 
 /// Returns the number of zeros that come first.
 fn zeros_before(word: &[u8]) -> usize
-    ensures value { result ≡ prefix_len zero word.now }
+    ensures value { result ≡ prefix_len zero_digit word.now }
     ensures within { result ≤ length word.now }
 {
     word.iter().take_while(|byte| **byte == b'0').count()
@@ -66,6 +67,7 @@ fn number_in(digits: &[u8]) -> Option<u32>
 /// from `N` on, and `N-M` has those from `N` to `M`.
 ///
 /// `None` if it spells none.
+#[tactic(auto, unfolding(crate::specs::Numbers::range_of))]
 pub fn read_range(word: &[u8]) -> Option<Range>
     ensures { result ≡ range_of word.now }
 {
@@ -94,8 +96,9 @@ fn before_dash(word: &[u8]) -> usize
 
 /// Returns whether a word is the id of a message, in its brackets: 1 to 248 bytes of printable
 /// ASCII other than brackets.
+#[tactic(auto, unfolding(crate::specs::Numbers::is_id))]
 pub fn is_id(word: &[u8]) -> bool
-    ensures { result ≡ id word.now }
+    ensures { result ≡ in_brackets word.now }
 {
     match word {
         [b'<', inside @ .., b'>'] => {
