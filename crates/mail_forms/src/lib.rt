@@ -7,6 +7,6 @@ mod named_values;
 mod wire_form;
 
 pub use laws::{wire_len_is_sum, wire_lines_end_as_sent};
-pub use mailbox::mbox_len;
+pub use mailbox::{is_from_line, line_len, mbox_len};
 pub use named_values::{first_value, flat_first};
 pub use wire_form::{line_feeds, wire, wire_len};

@@ -47,7 +47,7 @@ fn marks_for(line: &[u8]) -> usize
 }
 
 /// Returns whether a line starts with `From ` after any number of `>`.
-fn is_from_line(line: &[u8]) -> bool
+pub fn is_from_line(line: &[u8]) -> bool
     ensures { result ≡ from_line line.now }
 {
     line.split_at(marks_before(line)).1.starts_with(b"From ")
@@ -62,7 +62,7 @@ fn marks_before(line: &[u8]) -> usize
 }
 
 /// Returns the length of the first line of a text that isn't empty, with its line feed.
-fn line_len(text: &[u8]) -> usize
+pub fn line_len(text: &[u8]) -> usize
     requires { 0 < length text.now }
     ensures some { 0 < result }
     ensures within { result ≤ length text.now }

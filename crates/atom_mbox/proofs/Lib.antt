@@ -1,0 +1,2 @@
+mod Mailing
+mod Pushing

@@ -1,0 +1,2 @@
+mod CivilDays
+mod Pieces

@@ -1,0 +1,10 @@
+//! Text of mails in pages and feeds: no byte of a mail is read as markup or as a part of an address.
+#![tactic(auto)]
+
+mod addresses;
+mod escapes;
+mod moments;
+
+pub use addresses::push_address;
+pub use escapes::push_escaped;
+pub use moments::push_moment;

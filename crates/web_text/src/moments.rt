@@ -1,0 +1,18 @@
+//! Moments in feeds.
+ghost use Rattle.std.specs.Prelude.{◌≡◌, ◌++◌, OnOk};
+ghost use Rattle.arch_base.specs.Moments.{IsMoment};
+ghost use Rattle.web_text.specs.Days.{moment_text};
+
+use arch_base::{Bytes, NoMemory};
+use mail_date::{print_rfc3339, printed_date_is_one};
+
+/// Appends a moment, in seconds since 1970 UTC, as a feed has it: `YYYY-MM-DDThh:mm:ssZ`.
+///
+/// `NoMemory` leaves the bytes unchanged.
+pub fn push_moment(secs: u64, into: &mut Bytes) -> Result<(), NoMemory>
+    requires { IsMoment secs }
+    ensures { OnOk result (into.new ≡ into.old ++ moment_text secs) }
+{
+    printed_date_is_one();
+    into.push_slice(&print_rfc3339(secs))
+}
