@@ -153,26 +153,25 @@ ReadyBy was now Breaks = now ≡ false
 abbrev pub StaysReady : Bool → Answer → Bool → Type 0
 StaysReady was reply now = ReadyBy was now (ending reply)
 
--- The disk failed only if its count rose, and memory ran out only if no count rose: a fault of the
--- disk is never told as out of memory.
+-- The disk's count of faults rises exactly when the answer is that it failed. So no fault of the disk
+-- is told as out of memory, and none is passed over.
 abbrev pub CauseBy : ℕ → ℕ → Ending → Type 0
-CauseBy before now Accepts = Unit {0}
-CauseBy before now Refuses = Unit {0}
+CauseBy before now Accepts = now ≡ before
+CauseBy before now Refuses = now ≡ before
 CauseBy before now Starves = now ≡ before
 CauseBy before now Fails = Rose before now
-CauseBy before now Breaks = Unit {0}
+CauseBy before now Breaks = now ≡ before
 
 -- The same by the answer.
 abbrev pub AnswerCause : ℕ → ℕ → Answer → Type 0
 AnswerCause before now reply = CauseBy before now (ending reply)
 
--- Why an archive wasn't opened: the disk failed only if its count rose, and memory ran out only if it
--- didn't.
+-- Why an archive wasn't opened: the count of faults rises exactly when the disk failed.
 abbrev pub OpeningWhy : ℕ → ℕ → OpenRefusal → Type 0
 OpeningWhy before now opening.DiskFault = Rose before now
 OpeningWhy before now opening.NoMemory = now ≡ before
-OpeningWhy before now opening.NoArchive = Unit {0}
-OpeningWhy before now (opening.Damaged file at) = Unit {0}
+OpeningWhy before now opening.NoArchive = now ≡ before
+OpeningWhy before now (opening.Damaged file at) = now ≡ before
 
 -- A refusal to open has a cause. An opening that succeeded met no fault.
 abbrev pub OpeningCause : {T : Type 0} → ℕ → ℕ → Result T OpenRefusal → Type 0

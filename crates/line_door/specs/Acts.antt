@@ -30,14 +30,14 @@ pub data Way : Type 0 where
   Disk : Way
   Newer : Way
 
--- Why an act goes so, by the disk's count of faults before and after it: the word for the disk is said
--- only if the count rose, and the word for out of memory only if it stayed. So no fault of the disk is
--- told as out of memory.
+-- Why an act goes so, by the disk's count of faults before and after it: the count rises exactly when
+-- the word for the disk is said. So no fault of the disk is told as out of memory, and none is passed
+-- over.
 abbrev pub WayCause : Way → ℕ → ℕ → Type 0
-WayCause Plain before now = Unit {0}
+WayCause Plain before now = now ≡ before
 WayCause Memory before now = now ≡ before
 WayCause Disk before now = Rose before now
-WayCause Newer before now = Unit {0}
+WayCause Newer before now = now ≡ before
 
 -- The session if it continues, otherwise none.
 abbrev pub held_if : {H : Type 0} → Bool → H → Option H
