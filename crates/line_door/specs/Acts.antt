@@ -23,16 +23,16 @@ pub record Said (H A : Type 0) : Type 0 where
   pub after : A
 
 -- How an act goes: by the rules; out of memory, with the word for that; at a fault of the disk, with
--- the word for that; or, Newer, with what a reopening finds of what was in doubt. A streamed reply that
--- is under way stops in place of either word.
+-- its word; or, Newer, with what a reopening finds of what was in doubt. In place of either word a
+-- streamed reply that is under way stops.
 pub data Way : Type 0 where
   Plain : Way
   Memory : Way
   Disk : Way
   Newer : Way
 
--- Why an act goes so, by the disk's count of faults before and after it: the count rises exactly in the
--- way of the disk. So no fault of the disk is told as out of memory, and none is passed over.
+-- Why an act goes so, by the disk's count of faults before and after it: the count rises exactly in
+-- the way of the disk. So no fault of the disk is told as out of memory, and none is passed over.
 abbrev pub WayCause : Way → ℕ → ℕ → Type 0
 WayCause Plain before now = now ≡ before
 WayCause Memory before now = now ≡ before
@@ -74,7 +74,7 @@ module _ {H A : Type 0} where
     pub proper : count < length s.words
     pub out_is : j.out ≡ plus i.out (take count s.words)
 
-  -- The reply by the rules stopped short, since memory ran out or the disk failed in the midst of it.
+  -- The reply by the rules stopped short: memory ran out, or the disk failed, in the midst of it.
   abbrev pub StopsShort : (Way → Said H A) → Way → Outside → Option H → A → Outside → Type 0
   StopsShort words Plain i held a j = ⊥
   StopsShort words Memory i held a j = SaidShort (words Plain) i held a j

@@ -82,8 +82,8 @@ module _ {H A : Type 0} (said : A → H → Way → Said H A)
   abbrev pub PlainIsFed : Type 0
   PlainIsFed = (w v : Talk H A) → PlainFed said is_request w v → Fed said is_request w v
 
-  -- A plain act is an act by the rules, all of whose words reached the connection; and each such act is
-  -- a plain one.
+  -- A plain act is an act by the rules, all of whose words reached the connection; and each such act
+  -- is a plain one.
   abbrev pub PlainIsAct : Type 0
   PlainIsAct =
       (a : A) (h : H) (i : Outside) (held : Option H) (b : A) (j : Outside) →

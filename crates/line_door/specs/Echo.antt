@@ -69,7 +69,8 @@ EchoPieces = PiecesLaw echo_said echo_request echo_more length
 abbrev pub EchoCalls : Type 0
 EchoCalls = CallsLaw echo_said echo_request echo_more length
 
--- A plain course is what the plain function says, and it is a course. A plain act is one by the rules.
+-- A plain course is what the plain function says, and it is a course. A plain act is one by the
+-- rules.
 abbrev pub EchoPlain : Type 0
 EchoPlain = PlainLaw echo_said echo_request echo_more length
     × PlainIsFed echo_said echo_request echo_more length
