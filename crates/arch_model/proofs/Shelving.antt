@@ -51,7 +51,7 @@ stays-same holds ready alike faults same s at_hand = record { same = same s; kep
 -- A cause in the last of several calls is one in all of them, if the calls before it met no fault.
 pub why-earlier : (before mid now : ℕ) (why : TextRefusal) → mid ≡ before → ReadingWhy mid now why → ReadingWhy before now why
 why-earlier before mid now refusal.DiskFault same rose = omega (arith, same, rose)
-why-earlier before mid now (refusal.Damaged named found) same other = other
+why-earlier before mid now (refusal.Damaged named found) same cause = (cause.0, cause.1 ∙ same)
 why-earlier before mid now refusal.NoMemory same kept = kept ∙ same
 
 -- The lines of entries with one more.
