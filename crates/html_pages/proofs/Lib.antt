@@ -1,0 +1,4 @@
+pub mod CivilDays
+pub mod FieldLines
+pub mod ListingRows
+pub mod Harmless
