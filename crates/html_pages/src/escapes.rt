@@ -63,11 +63,7 @@ fn push_shown(c: char, into: &mut Bytes) -> Result<(), NoMemory>
 /// Appends a subject as a page holds it, or `(no subject)` if it is empty.
 ///
 /// `NoMemory` may leave a part of the subject appended.
-pub(crate) fn push_subject(
-    alloc: Global,
-    subject: &[u8],
-    into: &mut Bytes,
-) -> Result<(), NoMemory>
+pub(crate) fn push_subject(alloc: Global, subject: &[u8], into: &mut Bytes) -> Result<(), NoMemory>
     ensures { OnOk result (into.new ≡ into.old ++ subject_text subject.now) }
 {
     if subject.is_empty() {

@@ -22,12 +22,7 @@ const ROWS_SHOWN: usize = 200;
 /// 200 of them. If there are more, it has a link to the rest, so 201 rows say as much as all.
 /// `NoMemory` if an allocation fails.
 #[tactic(auto, unfolding(crate::specs::Pages::listing_of))]
-pub fn listing_page(
-    alloc: Global,
-    name: &Name,
-    rows: &[&Row],
-    skip: u64,
-) -> Result<Bytes, NoMemory>
+pub fn listing_page(alloc: Global, name: &Name, rows: &[&Row], skip: u64) -> Result<Bytes, NoMemory>
     ensures { IfOk result (λ made. made
         ≡ listing_of name.now (map (λ (row : Bor Row). row.now) rows.now) skip) }
 {
@@ -43,12 +38,7 @@ pub fn listing_page(
 }
 
 /// Appends the lines of mails.
-fn push_rows(
-    alloc: Global,
-    name: &Name,
-    rows: &[&Row],
-    into: &mut Bytes,
-) -> Result<(), NoMemory>
+fn push_rows(alloc: Global, name: &Name, rows: &[&Row], into: &mut Bytes) -> Result<(), NoMemory>
     ensures { OnOk result (into.new
         ≡ into.old ++ flat_map (row_line name.now) (map (λ (row : Bor Row). row.now) rows.now)) }
 {

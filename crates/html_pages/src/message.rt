@@ -72,12 +72,7 @@ fn push_fields(alloc: Global, text: &[u8], into: &mut Bytes) -> Result<(), NoMem
 }
 
 /// Appends the line of the first field with a name, if the text has one.
-fn push_field(
-    alloc: Global,
-    text: &[u8],
-    name: &[u8],
-    into: &mut Bytes,
-) -> Result<(), NoMemory>
+fn push_field(alloc: Global, text: &[u8], name: &[u8], into: &mut Bytes) -> Result<(), NoMemory>
     ensures { OnOk result (into.new ≡ into.old ++ header_line text.now name.now) }
 {
     match first_value(text, name) {
@@ -87,12 +82,7 @@ fn push_field(
 }
 
 /// Appends the line of a field with a name and a value.
-fn push_value(
-    alloc: Global,
-    name: &[u8],
-    value: &[u8],
-    into: &mut Bytes,
-) -> Result<(), NoMemory>
+fn push_value(alloc: Global, name: &[u8], value: &[u8], into: &mut Bytes) -> Result<(), NoMemory>
     ensures { OnOk result (into.new
         ≡ into.old ++ name.now ++ codes ": " ++ esc (decoded (flat_of value.now)) ++ codes "\n") }
 {
