@@ -58,14 +58,14 @@ fn length(page: Option<Bytes>) -> usize {
     }
 }
 
-/// Depths, and the lengths of pages with a line at them. Without an indent the page has 104 bytes.
+/// Depths, and the lengths of pages with a line at them. Without an indent the page has 102 bytes.
 const DEPTHS: [(u64, usize); 6] = [
-    (0, 104),
-    (1, 106),
-    (39, 182),
-    (40, 184),
-    (41, 184),
-    (18_446_744_073_709_551_615, 184),
+    (0, 102),
+    (1, 104),
+    (39, 180),
+    (40, 182),
+    (41, 182),
+    (18_446_744_073_709_551_615, 182),
 ];
 
 #[test]
