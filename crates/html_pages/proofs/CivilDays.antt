@@ -1,5 +1,5 @@
 -- The days after the first of January 1970, and the dates that clocks show.
-use Rattle.std.proofs.Common.{◌≡◌, ℕ, zero, suc, ◌+◌, ◌-◌, ◌*◌, ◌/◌, ◌%◌, ◌<◌, ◌≤◌, ◌⊎◌, inl, inr, Bool, true, false, cond, nat_lt, List, refl, sym, ap, ◌∙◌, arith, ℤ, pos, neg_ℤ, ◌+ℤ◌, ◌-ℤ◌, ◌*ℤ◌, ◌<ℤ◌, ◌≤ℤ◌, min}
+use Rattle.std.proofs.Common.{◌≡◌, ℕ, zero, suc, ◌+◌, ◌-◌, ◌*◌, ◌/◌, ◌%◌, ◌<◌, ◌≤◌, ◌⊎◌, inl, inr, Bool, true, false, cond, nat_lt, List, refl, sym, ap, ◌∙◌, subst, arith, rules, ℤ, pos, neg_ℤ, ◌+ℤ◌, ◌-ℤ◌, ◌*ℤ◌, ◌<ℤ◌, ◌≤ℤ◌, min}
 use Rattle.std.proofs.lemmas.Bool.Decides.{nat_tests}
 use Rattle.std.proofs.lemmas.Bool.{cases_order}
 use Rattle.std.specs.Int.{IsInRange}
@@ -24,7 +24,7 @@ record IsNth (n : ℕ) (d : Day) : Type 0 where
 in_month : (n y m d : ℕ) → IsNth n (day_of y m d) → d < days_in_month (pos y) m → IsNth (suc n) (day_of y m (d + 1))
 in_month n y m d h more =
     let low = h.days.0 in
-    let here = h.number in
+    let here : days_from_civil (pos y) m d ≡ pos n = h.number in
     record {
       year = h.year;
       month = h.month;
@@ -36,8 +36,8 @@ in_month n y m d h more =
 in_year : (n y m d : ℕ) → IsNth n (day_of y m d) → days_in_month (pos y) m ≤ d → m < 12 → IsNth (suc n) (day_of y (m + 1) 1)
 in_year n y m d h last more =
     let low = h.month.0 in
-    let high = h.days.1 in
-    let here = h.number in
+    let high : d ≤ days_in_month (pos y) m = h.days.1 in
+    let here : days_from_civil (pos y) m d ≡ pos n = h.number in
     let bounds = days_in_month_bounds (pos y) (m + 1) in
     record {
       year = h.year;
@@ -51,10 +51,10 @@ of_year : (n y m d : ℕ) → IsNth n (day_of y m d) → days_in_month (pos y) m
 of_year n y m d h last end =
     let high = h.month.1 in
     let december : m ≡ 12 = omega arith in
-    let most : d ≤ days_in_month (pos y) 12 = rw (← december) h.days.1 in
-    let least : days_in_month (pos y) 12 ≤ d = rw (← december) last in
+    let most : d ≤ 31 = subst (λ (k : ℕ). d ≤ days_in_month (pos y) k) december h.days.1 in
+    let least : 31 ≤ d = subst (λ (k : ℕ). days_in_month (pos y) k ≤ d) december last in
     let day : d ≡ 31 = omega arith in
-    let here : days_from_civil (pos y) 12 31 ≡ pos n = rw (december, day) at h.number in
+    let here : days_from_civil (pos y) 12 31 ≡ pos n = subst (λ (k : ℕ). days_from_civil (pos y) k 31 ≡ pos n) december (subst (λ (k : ℕ). days_from_civil (pos y) m k ≡ pos n) day h.number) in
     record {
       year = (let low = h.year in omega arith);
       month = (omega arith, omega arith);
@@ -79,15 +79,15 @@ first_day = record {
 nth_day : (n : ℕ) → IsNth n (day_at n)
 unfolding day_at
 nth_day zero = first_day
-nth_day (suc n) = next_by n (day_at n).year (day_at n).month (day_at n).day _ _ refl refl (nth_day n)
+nth_day (suc n) = next_by n (day_at n).year (day_at n).month (day_at n).day (nat_lt (day_at n).day (days_in_month (pos (day_at n).year) (day_at n).month)) (nat_lt (day_at n).month 12) refl refl (nth_day n)
 
 -- The days up to the last of the year 9999 have years with four digits.
 too_late : (n y m d : ℕ) → IsNth n (day_of y m d) → n ≤ 2_932_896 → 10000 ≤ y → ⊥
 too_late n y m d h most far =
     let first = h.days.0 in
-    let last : IsCivilDate (pos 9999) 12 31 = ((omega (arith, signed_arith), omega (arith, signed_arith)), (omega arith, omega arith), (omega arith, omega arith)) in
+    let last : IsCivilDate (pos 9999) 12 31 = (search rules, search rules, search rules) in
     let later = day_count-lt_year (pos 9999) 12 31 (pos y) m d last first (omega (arith, signed_arith)) in
-    let here = h.number in
+    let here : days_from_civil (pos y) m d ≡ pos n = h.number in
     omega (arith, signed_arith, later, days_from_civil-day_count (pos 9999) 12 31, days_from_civil-day_count (pos y) m d, days_from_civil-max, here)
 
 four_digits : (n y m d : ℕ) → IsNth n (day_of y m d) → n ≤ 2_932_896 → y ≤ 9999

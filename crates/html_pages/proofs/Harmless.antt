@@ -1,8 +1,8 @@
 -- The bytes of texts and addresses in pages.
 use Rattle.std.proofs.Common.{◌≡◌, ℕ, zero, suc, ◌+◌, ◌/◌, ◌%◌, ◌<◌, ◌≤◌, Bool, true, false, cond, eqb, ltb, List, [], ◌∷◌, ◌++◌, refl, sym, subst, arith}
-use Rattle.std.specs.Prelude.{codes, All}
+use Rattle.std.specs.Prelude.{codes}
 use Rattle.std.specs.Char.{encode_utf8}
-use Rattle.std.specs.List.{flat_map}
+use Rattle.std.specs.List.{All, flat_map}
 use Rattle.std.specs.Str.{chars}
 use Rattle.std.specs.Str.Lossy.{utf8_lossy}
 use Rattle.std.proofs.lemmas.Bool.{eq-eqb}
@@ -33,12 +33,11 @@ all_safe [] = true
 all_safe (b ∷ bs) = cond (safe b) (all_safe bs) false
 
 safe-harmless : (b : ℕ) → safe b ≡ true → IsHarmless b
-safe-harmless b s =
-    (
-      (λ (e : b ≡ 60). (let no : false ≡ true = subst (λ (x : ℕ). safe x ≡ true) e s in cc)),
-      (λ (e : b ≡ 62). (let no : false ≡ true = subst (λ (x : ℕ). safe x ≡ true) e s in cc)),
-      (λ (e : b ≡ 34). (let no : false ≡ true = subst (λ (x : ℕ). safe x ≡ true) e s in cc)),
-    )
+safe-harmless b s = (
+  (λ (e : b ≡ 60). (let no : false ≡ true = subst (λ (x : ℕ). safe x ≡ true) e s in cc)),
+  (λ (e : b ≡ 62). (let no : false ≡ true = subst (λ (x : ℕ). safe x ≡ true) e s in cc)),
+  (λ (e : b ≡ 34). (let no : false ≡ true = subst (λ (x : ℕ). safe x ≡ true) e s in cc)),
+)
 
 literal_by : (t : Bool) (b : ℕ) (bs : List ℕ) → safe b ≡ t → cond t (all_safe bs) false ≡ true → (all_safe bs ≡ true → All IsHarmless bs) → All IsHarmless (b ∷ bs)
 literal_by true b bs f e rest = all-cons IsHarmless b bs (safe-harmless b f) (rest e)
@@ -103,19 +102,16 @@ digit_by false n h e =
 escape : (b : ℕ) → All IsHarmless (percent_encode_byte b)
 unfolding percent_encode_byte
 escape b =
-    let first = b / 16 % 16 in
-    let second = b % 16 in
     all-cons IsHarmless 37 _ (safe-harmless 37 refl)
     (all-cons IsHarmless _ _ (digit_by (ltb (b / 16 % 16) 10) (b / 16 % 16) (omega arith) refl)
     (all-cons IsHarmless _ [] (digit_by (ltb (b % 16) 10) (b % 16) (omega arith) refl) (all-nil IsHarmless)))
 
 plain-harmless : (b : ℕ) → is_plain b ≡ true → IsHarmless b
-plain-harmless b s =
-    (
-      (λ (e : b ≡ 60). (let no : false ≡ true = subst (λ (x : ℕ). is_plain x ≡ true) e s in cc)),
-      (λ (e : b ≡ 62). (let no : false ≡ true = subst (λ (x : ℕ). is_plain x ≡ true) e s in cc)),
-      (λ (e : b ≡ 34). (let no : false ≡ true = subst (λ (x : ℕ). is_plain x ≡ true) e s in cc)),
-    )
+plain-harmless b s = (
+  (λ (e : b ≡ 60). (let no : false ≡ true = subst (λ (x : ℕ). is_plain x ≡ true) e s in cc)),
+  (λ (e : b ≡ 62). (let no : false ≡ true = subst (λ (x : ℕ). is_plain x ≡ true) e s in cc)),
+  (λ (e : b ≡ 34). (let no : false ≡ true = subst (λ (x : ℕ). is_plain x ≡ true) e s in cc)),
+)
 
 link_by : (plain : Bool) (b : ℕ) → is_plain b ≡ plain → All IsHarmless (cond plain (b ∷ []) (percent_encode_byte b))
 link_by true b e = all-cons IsHarmless b [] (plain-harmless b e) (all-nil IsHarmless)

@@ -1,6 +1,6 @@
 -- The rows that a listing shows, and those after them.
 use Rattle.std.proofs.Common.{◌≡◌, ℕ, ◌<◌, ◌≤◌, ◌⊎◌, inl, inr, List, [], length, take, drop, refl, sym, ap, ◌∙◌, arith, min}
-use Rattle.std.specs.List.{map}
+use Rattle.std.specs.Prelude.{map}
 use Rattle.std.proofs.lemmas.Bool.{cases_order}
 use Rattle.std.proofs.lemmas.List.{take-map, drop-map, take_all, drop_all}
 

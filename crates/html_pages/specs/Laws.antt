@@ -1,5 +1,6 @@
 -- Laws of pages.
-use Rattle.std.specs.Prelude.{◌≡◌, ◌≢◌, ℕ, List, [], ◌++◌, All}
+use Rattle.std.specs.Prelude.{◌≢◌, ℕ, List}
+use Rattle.std.specs.List.{All}
 use Rattle.html_pages.specs.Escapes.{esc}
 use Rattle.html_pages.specs.Links.{address}
 

@@ -1,9 +1,7 @@
 //! The page of a listing.
-ghost use Rattle.std.specs.Prelude.{◌≡◌, ◌++◌, ◌+◌, OnOk, IfOk, map, codes, take, drop};
-ghost use Rattle.std.specs.Borrow.{Bor};
+ghost use Rattle.std.specs.Prelude.{◌≡◌, ◌++◌, ◌+◌, OnOk, IfOk, map, codes};
 ghost use Rattle.std.specs.Fmt.{decimal};
 ghost use Rattle.std.specs.List.{flat_map};
-ghost use Rattle.mail_rows.specs.declared.row.Row.{Row};
 ghost use Rattle.html_pages.specs.Lines.{row_line, rows_shown, older_link};
 ghost use Rattle.html_pages.specs.Pages.{listing_of};
 
@@ -24,7 +22,7 @@ const ROWS_SHOWN: usize = 200;
 #[tactic(auto, unfolding(crate::specs::Pages::listing_of))]
 pub fn listing_page(alloc: Global, name: &Name, rows: &[&Row], skip: u64) -> Result<Bytes, NoMemory>
     ensures { IfOk result (λ made. made
-        ≡ listing_of name.now (map (λ (row : Bor Row). row.now) rows.now) skip) }
+        ≡ listing_of name.now (map (λ row. row.now) rows.now) skip) }
 {
     let (shown, older) = rows.split_at(rows.len().min(ROWS_SHOWN));
     let mut made = Bytes::new(alloc);
@@ -40,7 +38,7 @@ pub fn listing_page(alloc: Global, name: &Name, rows: &[&Row], skip: u64) -> Res
 /// Appends the lines of mails.
 fn push_rows(alloc: Global, name: &Name, rows: &[&Row], into: &mut Bytes) -> Result<(), NoMemory>
     ensures { OnOk result (into.new
-        ≡ into.old ++ flat_map (row_line name.now) (map (λ (row : Bor Row). row.now) rows.now)) }
+        ≡ into.old ++ flat_map (row_line name.now) (map (λ row. row.now) rows.now)) }
 {
     for row in rows {
         push_row(alloc, name, *row, into)?;
@@ -51,7 +49,7 @@ fn push_rows(alloc: Global, name: &Name, rows: &[&Row], into: &mut Bytes) -> Res
 /// Appends the link to the rows after those that are shown, if there are any.
 fn push_older(older: &[&Row], skip: u64, into: &mut Bytes) -> Result<(), NoMemory>
     ensures { OnOk result (into.new
-        ≡ into.old ++ older_link skip (map (λ (row : Bor Row). row.now) older.now)) }
+        ≡ into.old ++ older_link skip (map (λ row. row.now) older.now)) }
 {
     match older {
         [] => Ok(()),
