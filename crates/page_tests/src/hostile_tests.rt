@@ -1,5 +1,5 @@
 //! Pages of mails that try to bring tags and attributes of their own.
-use crate::mails::{list, row};
+use crate::mails::{is, list, row};
 use arch_base::Bytes;
 use html_pages::{ThreadEntry, ThreadLine, listing_page, message_page, push_escaped, thread_page};
 use std::alloc::Global;
@@ -119,6 +119,6 @@ const ESCAPED: [(&[u8], &[u8]); 8] = [
 #[test]
 fn texts_are_escaped_as_they_were_worked_out(rt: HostRuntime) {
     for (text, wanted) in &ESCAPED {
-        assert!(rt; matches!(escaped(rt.alloc(), text), Some(made) if made.as_slice() == *wanted));
+        assert!(rt; is(escaped(rt.alloc(), text), wanted));
     }
 }

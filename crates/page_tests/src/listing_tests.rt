@@ -1,5 +1,5 @@
 //! Pages of listings.
-use crate::mails::{FIRST, list, row};
+use crate::mails::{FIRST, is, length, list, row};
 use arch_base::Bytes;
 use html_pages::listing_page;
 use std::alloc::Global;
@@ -61,7 +61,7 @@ fn a_listing_has_the_lines_that_were_worked_out(rt: HostRuntime) {
 
 #[test]
 fn the_listing_of_the_first_mail_has_122_bytes(rt: HostRuntime) {
-    assert!(rt; matches!(listed(rt.alloc(), FIRST), Some(page) if page.as_slice().len() == 122));
+    assert!(rt; length(listed(rt.alloc(), FIRST)) == 122);
 }
 
 #[test]
@@ -70,6 +70,9 @@ fn an_empty_listing_has_no_line(rt: HostRuntime) {
         matches!(nothing(rt.alloc()), Some(page) if page.as_slice() == b"<html><head><title>list</title></head><body><pre></pre></body></html>\n")
     );
 }
+
+/// The page of a listing without mails.
+const EMPTY: &[u8] = b"<html><head><title>list</title></head><body><pre></pre></body></html>\n";
 
 /// Returns the page of a listing without mails.
 fn nothing(alloc: Global) -> Option<Bytes> {
@@ -87,7 +90,10 @@ fn many(alloc: Global, count: usize, skip: u64) -> Option<Bytes> {
 
 /// Returns whether a page has a length and an end.
 fn ends(page: Option<Bytes>, len: usize, end: &[u8]) -> bool {
-    matches!(page, Some(made) if made.as_slice().len() == len && made.as_slice().ends_with(end))
+    match page {
+        Some(made) => made.as_slice().len() == len && made.as_slice().ends_with(end),
+        None => false,
+    }
 }
 
 /// How many mails are listed after how many, and the length and the end of the page. The line of a

@@ -1,5 +1,5 @@
 //! Mails for the tests, and their rows.
-use arch_base::Name;
+use arch_base::{Bytes, Name};
 use git_objects::blob_id;
 use mail_reader::is_stored;
 use mail_rows::{Row, row_of};
@@ -21,4 +21,20 @@ pub(crate) fn row(alloc: Global, text: &[u8]) -> Option<Row> {
         return None;
     }
     row_of(alloc, 1, &blob_id(text), text, 1_706_781_700).ok()
+}
+
+/// Returns whether a page is the wanted one.
+pub(crate) fn is(page: Option<Bytes>, wanted: &[u8]) -> bool {
+    match page {
+        Some(made) => made.as_slice() == wanted,
+        None => false,
+    }
+}
+
+/// Returns the length of a page, or 0 if there is none.
+pub(crate) fn length(page: Option<Bytes>) -> usize {
+    match page {
+        Some(made) => made.as_slice().len(),
+        None => 0,
+    }
 }

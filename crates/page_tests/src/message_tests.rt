@@ -1,5 +1,5 @@
 //! Pages of messages.
-use crate::mails::{FIRST, list, row};
+use crate::mails::{FIRST, is, list, row};
 use arch_base::Bytes;
 use html_pages::message_page;
 use std::alloc::Global;
@@ -51,8 +51,6 @@ static SHOWN: [Shown; 5] = [
 #[test]
 fn a_message_has_the_page_that_was_worked_out(rt: HostRuntime) {
     for case in &SHOWN {
-        assert!(rt;
-            matches!(shown(rt.alloc(), case.text, case.body), Some(page) if page.as_slice() == case.page)
-        );
+        assert!(rt; is(shown(rt.alloc(), case.text, case.body), case.page));
     }
 }

@@ -1,5 +1,5 @@
 //! Pages of threads.
-use crate::mails::{FIRST, list, row};
+use crate::mails::{FIRST, is, length, list, row};
 use arch_base::Bytes;
 use html_pages::{ThreadEntry, ThreadLine, thread_page};
 use std::alloc::Global;
@@ -32,7 +32,7 @@ fn three(alloc: Global) -> Option<Bytes> {
 
 #[test]
 fn a_thread_has_the_page_that_was_worked_out(rt: HostRuntime) {
-    assert!(rt; matches!(three(rt.alloc()), Some(page) if page.as_slice() == THREE));
+    assert!(rt; is(three(rt.alloc()), THREE));
 }
 
 /// The page of the three lines.
@@ -48,14 +48,6 @@ fn missing(alloc: Global, depth: u64) -> Option<Bytes> {
         entry: ThreadEntry::Missing(b"<g@x>"),
     }];
     thread_page(alloc, &name, &plain, &lines).ok()
-}
-
-/// Returns the length of a page.
-fn length(page: Option<Bytes>) -> usize {
-    match page {
-        Some(made) => made.as_slice().len(),
-        None => 0,
-    }
 }
 
 /// Depths, and the lengths of pages with a line at them. Without an indent the page has 102 bytes.
@@ -75,6 +67,9 @@ fn an_indent_has_at_most_80_spaces(rt: HostRuntime) {
     }
 }
 
+/// The page of a thread without lines.
+const EMPTY: &[u8] = b"<html><head><title>first</title></head><body><pre></pre></body></html>\n";
+
 /// Returns the page of a thread without lines.
 fn empty(alloc: Global) -> Option<Bytes> {
     let first = row(alloc, FIRST)?;
@@ -84,7 +79,5 @@ fn empty(alloc: Global) -> Option<Bytes> {
 
 #[test]
 fn a_thread_without_lines_has_a_title(rt: HostRuntime) {
-    assert!(rt;
-        matches!(empty(rt.alloc()), Some(page) if page.as_slice() == b"<html><head><title>first</title></head><body><pre></pre></body></html>\n")
-    );
+    assert!(rt; is(empty(rt.alloc()), EMPTY));
 }
