@@ -73,7 +73,7 @@ fn one_segment(a: &[u8]) -> Option<Address<'_>>
 {
     if a.is_empty() {
         Some(Address::Listing)
-    } else if a == b"new.atom" || a == b"all.mbox" {
+    } else if a == b"new.atom".as_slice() || a == b"all.mbox".as_slice() {
         None
     } else {
         Some(Address::Message(a))
@@ -84,11 +84,11 @@ fn one_segment(a: &[u8]) -> Option<Address<'_>>
 fn two_segments<'a>(a: &'a [u8], b: &[u8]) -> Option<Address<'a>>
     ensures { option_map shown result ≡ two a.now b.now }
 {
-    if a == b"_" {
+    if a == b"_".as_slice() {
         None
     } else if b.is_empty() {
         Some(Address::Message(a))
-    } else if b == b"raw" {
+    } else if b == b"raw".as_slice() {
         Some(Address::Text(a))
     } else {
         None
@@ -99,9 +99,9 @@ fn two_segments<'a>(a: &'a [u8], b: &[u8]) -> Option<Address<'a>>
 fn three_segments<'a>(a: &'a [u8], b: &[u8], c: &[u8]) -> Option<Address<'a>>
     ensures { option_map shown result ≡ three a.now b.now c.now }
 {
-    if a == b"_" {
+    if a == b"_".as_slice() {
         None
-    } else if b == b"t" && c.is_empty() {
+    } else if b == b"t".as_slice() && c.is_empty() {
         Some(Address::Thread(a))
     } else {
         None

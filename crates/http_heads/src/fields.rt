@@ -13,7 +13,7 @@ pub(crate) fn announces_body(name: &[u8], value: &[u8]) -> bool
     ensures { result ≡ announces (name.now, value.now) }
 {
     name.eq_ignore_ascii_case(b"Transfer-Encoding")
-        || (name.eq_ignore_ascii_case(b"Content-Length") && value != b"0")
+        || (name.eq_ignore_ascii_case(b"Content-Length") && value != b"0".as_slice())
 }
 
 /// Returns whether a field asks that the connection is closed.

@@ -53,9 +53,7 @@ static LISTED: [Listed; 7] = [
 #[test]
 fn a_listing_has_the_lines_that_were_worked_out(rt: HostRuntime) {
     for case in &LISTED {
-        assert!(rt;
-            matches!(listed(rt.alloc(), case.text), Some(page) if page.as_slice() == case.page)
-        );
+        assert!(rt; is(listed(rt.alloc(), case.text), case.page));
     }
 }
 
@@ -66,9 +64,7 @@ fn the_listing_of_the_first_mail_has_122_bytes(rt: HostRuntime) {
 
 #[test]
 fn an_empty_listing_has_no_line(rt: HostRuntime) {
-    assert!(rt;
-        matches!(nothing(rt.alloc()), Some(page) if page.as_slice() == b"<html><head><title>list</title></head><body><pre></pre></body></html>\n")
-    );
+    assert!(rt; is(nothing(rt.alloc()), EMPTY));
 }
 
 /// The page of a listing without mails.
