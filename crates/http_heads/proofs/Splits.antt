@@ -20,4 +20,5 @@ pub split-some : (stop n : ℕ) (bs : List ℕ) → n < length bs → eqb (get_o
 split-some stop n [] h e none = absurd (omega arith)
 split-some stop zero (b ∷ bs) h e none = rw e refl
 split-some stop (suc n) (b ∷ bs) h e none =
-    split_cons stop b bs (take n bs) (pieces_of stop (drop (n + 1) bs)) (false_from_ne_true (eqb b stop) (none 0 (omega arith))) (split-some stop n bs (omega arith) e (λ k l. none (suc k) (omega arith)))
+    let next : suc n + 1 ≡ suc (n + 1) = omega arith in
+    rw next (split_cons stop b bs (take n bs) (pieces_of stop (drop (n + 1) bs)) (false_from_ne_true (eqb b stop) (none 0 (omega arith))) (split-some stop n bs (omega arith) e (λ k l. none (suc k) (omega arith))))
