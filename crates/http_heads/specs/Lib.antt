@@ -1,3 +1,4 @@
 pub mod Pieces
 pub mod Addresses
 pub mod Heads
+pub mod Replies

@@ -5,7 +5,9 @@ mod address;
 mod fields;
 mod head;
 mod pieces;
+mod reply;
 
 pub use address::{Address, address_of, segments};
 pub use head::{Request, read_head};
 pub use pieces::{Pieces, split_piece};
+pub use reply::{Status, Verdict, judge, push_reply_head};
