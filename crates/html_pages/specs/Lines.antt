@@ -1,5 +1,5 @@
 -- The lines of pages.
-use Rattle.std.specs.Prelude.{ℕ, ◌+◌, ◌*◌, min, List, [], ◌∷◌, ◌++◌, Option, Some, None, drop, replicate, codes}
+use Rattle.std.specs.Prelude.{ℕ, ◌+◌, ◌*◌, min, ◌==◌, List, [], ◌++◌, Option, Some, None, replicate, codes, if◌then◌else◌}
 use Rattle.std.specs.Fmt.{decimal}
 use Rattle.mail_reader.specs.Fields.{FieldText, fields_of, first_named}
 use Rattle.mail_reader.specs.Values.{flat_of}
@@ -22,11 +22,12 @@ row_line name row =
 abbrev pub rows_shown : ℕ
 rows_shown = 200
 
--- The link to the rows after those that are shown, if there are any.
-abbrev pub older_link : ℕ → List Row → List ℕ
-older_link skip [] = []
-older_link skip (row ∷ rows) =
-    codes "<a href=\"?o=" ++ decimal (skip + rows_shown) ++ codes "\">older</a>\n"
+-- The link to the rows after those that are shown, of which there are so many. For none there is no
+-- link.
+abbrev pub older_link : ℕ → ℕ → List ℕ
+older_link skip count =
+    if count == 0 then []
+    else codes "<a href=\"?o=" ++ decimal (skip + rows_shown) ++ codes "\">older</a>\n"
 
 -- The line of a field: its name, and its decoded value.
 abbrev pub field_line : List ℕ → Option FieldText → List ℕ

@@ -1,5 +1,5 @@
 -- Pages (HTML Living Standard, section 13.1).
-use Rattle.std.specs.Prelude.{ℕ, List, [], ◌∷◌, ◌++◌, take, drop, codes}
+use Rattle.std.specs.Prelude.{ℕ, List, [], ◌∷◌, ◌++◌, length, take, drop, codes}
 use Rattle.std.specs.List.{flat_map}
 use Rattle.mail_rows.specs.declared.row.Row.{Row}
 use Rattle.html_pages.specs.Escapes.{esc, subject_text}
@@ -16,7 +16,8 @@ page_of title lines =
 -- after them.
 unfoldable pub listing_of : List ℕ → List Row → ℕ → List ℕ
 listing_of name rows skip =
-    page_of name (flat_map (row_line name) (take rows_shown rows) ++ older_link skip (drop rows_shown rows))
+    page_of name
+    (flat_map (row_line name) (take rows_shown rows) ++ older_link skip (length (drop rows_shown rows)))
 
 -- The fields that the page of a message shows, in this order.
 abbrev pub shown_fields : List (List ℕ)

@@ -1,5 +1,5 @@
 //! The page of a listing.
-ghost use Rattle.std.specs.Prelude.{◌≡◌, ◌++◌, ◌+◌, OnOk, IfOk, map, codes};
+ghost use Rattle.std.specs.Prelude.{◌≡◌, ◌++◌, ◌+◌, OnOk, IfOk, length, map, codes};
 ghost use Rattle.std.specs.Fmt.{decimal};
 ghost use Rattle.std.specs.List.{flat_map};
 ghost use Rattle.html_pages.specs.Lines.{row_line, rows_shown, older_link};
@@ -38,7 +38,7 @@ pub fn listing_page(alloc: Global, name: &Name, rows: &[&Row], skip: u64) -> Res
 /// Appends the lines of mails.
 fn push_rows(alloc: Global, name: &Name, rows: &[&Row], into: &mut Bytes) -> Result<(), NoMemory>
     ensures { OnOk result (into.new
-        ≡ into.old ++ flat_map (row_line name.now) (map (λ row. row.now) rows.now)) }
+        ≡ into.old ++ flat_map (λ row. row_line name.now row.now) rows.now) }
 {
     for row in rows {
         push_row(alloc, name, *row, into)?;
@@ -48,12 +48,12 @@ fn push_rows(alloc: Global, name: &Name, rows: &[&Row], into: &mut Bytes) -> Res
 
 /// Appends the link to the rows after those that are shown, if there are any.
 fn push_older(older: &[&Row], skip: u64, into: &mut Bytes) -> Result<(), NoMemory>
-    ensures { OnOk result (into.new
-        ≡ into.old ++ older_link skip (map (λ row. row.now) older.now)) }
+    ensures { OnOk result (into.new ≡ into.old ++ older_link skip (length older.now)) }
 {
-    match older {
-        [] => Ok(()),
-        [_, ..] => push_older_link(skip, into),
+    if older.is_empty() {
+        Ok(())
+    } else {
+        push_older_link(skip, into)
     }
 }
 
