@@ -48,7 +48,7 @@ shown_lines f n m rows shown e taken =
 older_count : (n m : ℕ) (rows older : List (Bor Row)) → m ≡ min (length rows) n → older ≡ drop m rows → length older ≡ length (drop n (map now_of rows))
 older_count n m rows older e dropped =
     let last : older ≡ drop n rows = dropped ∙ ap (λ k. drop k rows) e ∙ drop_least n rows in
-    ap length last ∙ sym (length-map now_of (drop n rows)) ∙ ap length (sym (drop-map now_of n rows))
+    ap length last ∙ sym (length-map (drop n rows) now_of) ∙ ap length (sym (drop-map now_of n rows))
 
 -- The pieces of a page, as they were appended.
 joined : (a name b lines older d : List ℕ) → ((((a ++ name) ++ b) ++ lines) ++ older) ++ d ≡ a ++ (name ++ (b ++ ((lines ++ older) ++ d)))
