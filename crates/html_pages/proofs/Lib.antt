@@ -2,3 +2,4 @@ pub mod CivilDays
 pub mod FieldLines
 pub mod ListingRows
 pub mod Harmless
+pub mod Indents

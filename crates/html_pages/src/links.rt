@@ -24,9 +24,10 @@ pub(crate) fn push_address(name: &Name, id: &[u8], into: &mut Bytes) -> Result<(
 fn without_brackets(id: &[u8]) -> &[u8]
     ensures { result.now ≡ inside id.now }
 {
-    match id.split_at(id.len().saturating_sub(1)).0 {
-        [_, rest @ ..] => rest,
-        [] => &[],
+    let front = id.split_at(id.len().saturating_sub(1)).0;
+    match front {
+        [_, inside @ ..] => inside,
+        [] => front,
     }
 }
 

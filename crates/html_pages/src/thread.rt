@@ -16,7 +16,8 @@ use std::alloc::Global;
 const LEVELS: u64 = 40;
 
 /// The indent of the deepest of these levels.
-const SPACES: [u8; 80] = [b' '; 80];
+const SPACES: &[u8] =
+    b"                                                                                ";
 
 /// Returns the page of a thread.
 ///
@@ -77,7 +78,7 @@ fn push_indent(depth: u64, into: &mut Bytes) -> Result<(), NoMemory>
     ensures { OnOk result (into.new ≡ into.old ++ indent depth) }
 {
     let len = 2 * depth.min(LEVELS) as usize;
-    into.push_slice(&SPACES[..len])
+    into.push_slice(SPACES.split_at(len).0)
 }
 
 /// Appends the line of a mail that the list doesn't have.
