@@ -1,5 +1,0 @@
-pub mod Pieces
-pub mod Addresses
-pub mod Heads
-pub mod Parameters
-pub mod Replies
