@@ -1,7 +1,7 @@
 -- Patterns at the ends of names.
-use Rattle.std.proofs.Common.{◌≡◌, ℕ, zero, suc, ◌+◌, ◌-◌, ◌<◌, ◌≤◌, ◌⊎◌, inl, inr, Bool, true, false, ◌||◌, ◌&&◌, eqb, List, [], ◌∷◌, length, drop, set, replicate, get_or, refl, sym, ap, ◌∙◌, arith, length-drop}
+use Rattle.std.proofs.Common.{◌≡◌, ℕ, zero, suc, ◌+◌, ◌-◌, ◌<◌, ◌≤◌, inl, inr, Bool, true, false, ◌||◌, ◌&&◌, eqb, List, [], ◌∷◌, length, drop, set, replicate, get_or, refl, sym, ap, ◌∙◌, arith, length-drop}
 use Rattle.std.proofs.lemmas.Bool.{cases_lt, cases_order, eq-eqb, ne_eqb}
-use Rattle.std.proofs.lemmas.List.{drop_more, drop_all, get_or-set_same, get_or-set_other, get_or-replicate, length-replicate}
+use Rattle.std.proofs.lemmas.List.{drop_more, drop_all, get_or-set_same, get_or-set_other, get_or-replicate, get_or_past, length-replicate}
 use Rattle.nntp_words.specs.Wildmats.{some_end, fits, fits_first, pattern_matches, after_byte, Tells}
 
 no_pattern : (name : List ℕ) → pattern_matches [] name ≡ eqb (length name) 0
@@ -14,7 +14,7 @@ unfolding pattern_matches
 matches-cons p ps name = refl
 
 -- No pattern matches at the end of a name alone.
-pub first-ends : (name : List ℕ) → length name ≤ 64 → Tells (pattern_matches []) name (set (replicate 65 false) (length name) true)
+first-ends : (name : List ℕ) → length name ≤ 64 → Tells (pattern_matches []) name (set (replicate 65 false) (length name) true)
 first-ends name fit i within =
     elim (cases_order i (length name)) [
       | inl same ↦ at_end same
@@ -38,11 +38,18 @@ first-ends name fit i within =
         ∙ get_or-replicate 65 i false false (omega (arith, less, fit))
         ∙ sym (no_pattern (drop i name) ∙ ne_eqb (length (drop i name)) 0 (λ (e : length (drop i name) ≡ 0). omega (arith, left, less, e)))
 
+-- The same of a whole pattern's end.
+pub start-ends : (pattern name : List ℕ) → length name ≤ 64 → Tells (pattern_matches (drop (length pattern) pattern)) name (set (replicate 65 false) (length name) true)
+start-ends pattern name fit i within =
+    first-ends name fit i within ∙ sym (ap (λ p. pattern_matches p (drop i name)) (drop_all (length pattern) pattern (omega arith)))
+
 -- One more byte of a pattern.
-pub byte-before : (pattern name : List ℕ) (k : ℕ) (flags : List Bool) → k < length pattern
-    → Tells (after_byte (get_or pattern k 0) (pattern_matches (drop (k + 1) pattern))) name flags → Tells (pattern_matches (drop k pattern)) name flags
-byte-before pattern name k flags within tells i inside =
-    tells i inside ∙ sym (ap (λ p. pattern_matches p (drop i name)) (drop_more pattern k 0 within) ∙ matches-cons (get_or pattern k 0) (drop (k + 1) pattern) (drop i name))
+pub byte-before : (pattern name : List ℕ) (k n : ℕ) (flags : List Bool) → k + 1 ≡ n → k < length pattern
+    → Tells (after_byte (get_or pattern k 0) (pattern_matches (drop n pattern))) name flags → Tells (pattern_matches (drop k pattern)) name flags
+byte-before pattern name k n flags next within tells i inside =
+    let parts : drop k pattern ≡ get_or pattern k 0 ∷ drop n pattern =
+    drop_more pattern k 0 within ∙ ap (λ m. get_or pattern k 0 ∷ drop m pattern) next in
+    tells i inside ∙ sym (ap (λ p. pattern_matches p (drop i name)) parts ∙ matches-cons (get_or pattern k 0) (drop n pattern) (drop i name))
 
 -- The flags of one byte that fits.
 pub one-told : (test : List ℕ → Bool) (name : List ℕ) (ends made : List Bool) (p : ℕ) → Tells test name ends
@@ -70,30 +77,38 @@ any-told test name ends made tells here past i within = from (length name - i) i
         here j less ∙ ap (λ t. t || get_or made (j + 1) false) (tells j (omega (arith, e)) ∙ ap test next)
         ∙ ap (λ t. test (get_or name j 0 ∷ drop (j + 1) name) || t) (from k (j + 1) (omega (arith, e))) ∙ sym (ap (some_end test) next)
 
--- One more flag of any bytes, from the end on.
-pub any-more : (ends made : List Bool) (len k : ℕ) → k < len → len < length made
-    → ((i : ℕ) → k + 1 ≤ i → i < len → get_or made i false ≡ (get_or ends i false || get_or made (i + 1) false))
-    → ((i : ℕ) → i < k + 1 → get_or made i false ≡ get_or ends i false)
-    → let next : List Bool = set made k (get_or made k false || get_or made (k + 1) false) in
-    (i : ℕ) → k ≤ i → i < len → get_or next i false ≡ (get_or ends i false || get_or next (i + 1) false)
-any-more ends made len k within room later before i above below =
+-- One more flag of one byte.
+pub one-more : (name : List ℕ) (ends made : List Bool) (p k : ℕ) (flag : Bool) → k < length made → flag ≡ (fits p (get_or name k 0) && get_or ends (k + 1) false)
+    → ((i : ℕ) → i < k → get_or made i false ≡ (fits p (get_or name i 0) && get_or ends (i + 1) false))
+    → (i : ℕ) → i < k + 1 → get_or (set made k flag) i false ≡ (fits p (get_or name i 0) && get_or ends (i + 1) false)
+one-more name ends made p k flag room e before i within =
     elim (cases_order i k) [
       | inl same ↦ here same
-      | inr (inl less) ↦ absurd (omega (arith, less, above))
-      | inr (inr more) ↦ after more
+      | inr (inl less) ↦ get_or-set_other made k i flag false (λ (e : i ≡ k). omega (arith, less, e)) ∙ before i less
+      | inr (inr more) ↦ absurd (omega (arith, more, within))
     ]
   where
-    value : Bool
-    value = get_or made k false || get_or made (k + 1) false
-
-    here : i ≡ k → get_or (set made k value) i false ≡ (get_or ends i false || get_or (set made k value) (i + 1) false)
+    here : i ≡ k → get_or (set made k flag) i false ≡ (fits p (get_or name i 0) && get_or ends (i + 1) false)
     here same =
-        ap (λ j. get_or (set made k value) j false) same ∙ get_or-set_same made k value false (omega (arith, within, room))
-        ∙ ap (λ t. t || get_or made (k + 1) false) (before k (omega arith))
-        ∙ ap (λ t. get_or ends k false || t) (sym (get_or-set_other made k (k + 1) value false (λ (e : k + 1 ≡ k). omega (arith, e))))
-        ∙ sym (ap (λ j. get_or ends j false || get_or (set made k value) (j + 1) false) same)
+        ap (λ j. get_or (set made k flag) j false) same ∙ get_or-set_same made k flag false room ∙ e
+        ∙ sym (ap (λ j. fits p (get_or name j 0) && get_or ends (j + 1) false) same)
 
-    after : k < i → get_or (set made k value) i false ≡ (get_or ends i false || get_or (set made k value) (i + 1) false)
-    after more =
-        get_or-set_other made k i value false (λ (e : i ≡ k). omega (arith, more, e)) ∙ later i (omega (arith, more)) below
-        ∙ ap (λ t. get_or ends i false || t) (sym (get_or-set_other made k (i + 1) value false (λ (e : i + 1 ≡ k). omega (arith, more, e))))
+-- The flags past it stay.
+pub one-past : (made : List Bool) (k : ℕ) (flag : Bool) → ((i : ℕ) → k ≤ i → get_or made i false ≡ false)
+    → (i : ℕ) → k + 1 ≤ i → get_or (set made k flag) i false ≡ false
+one-past made k flag past i above = get_or-set_other made k i flag false (λ (e : i ≡ k). omega (arith, above, e)) ∙ past i (omega (arith, above))
+
+-- No flag is set at first.
+pub none-set : (n i : ℕ) → get_or (replicate n false) i false ≡ false
+none-set n i =
+    elim (cases_lt i n) [
+      | inl less ↦ get_or-replicate n i false false less
+      | inr more ↦ get_or_past (replicate n false) i false (omega (arith, more, length-replicate n false))
+    ]
+
+-- Both tests pass, or the first doesn't.
+pub both : (a b f flag : Bool) → f ≡ a → f ≡ true → flag ≡ b → flag ≡ (a && b)
+both a b f flag is yes_f same = same ∙ ap (λ t. t && b) (sym yes_f ∙ is)
+
+pub neither : (a b f flag : Bool) → f ≡ a → f ≡ false → flag ≡ false → flag ≡ (a && b)
+neither a b f flag is no_f same = same ∙ ap (λ t. t && b) (sym no_f ∙ is)

@@ -1,6 +1,7 @@
 -- Wildmats: lists of patterns of names (RFC 3977, section 4, without its syntax errors).
-use Rattle.std.specs.Prelude.{◌≡◌, ℕ, ◌≤◌, Bool, true, false, not, ◌&&◌, ◌||◌, ◌==◌, List, [], ◌∷◌, length, drop, slice_index_or, Option, Some, None, if◌then◌else◌}
+use Rattle.std.specs.Prelude.{◌≡◌, ℕ, ◌≤◌, Bool, true, false, ◌&&◌, ◌||◌, ◌==◌, List, [], ◌∷◌, length, drop, slice_index_or, Option, Some, None, if◌then◌else◌}
 use Rattle.std.specs.List.{list_any}
+use Rattle.std.specs.Option.{unwrap_or}
 
 -- The byte has no meaning in a wildmat: a bracket or a backslash.
 abbrev pub is_special : ℕ → Bool
@@ -28,7 +29,7 @@ pattern_matches (p ∷ ps) name =
 
 -- What a pattern says of a name: nothing if it doesn't match.
 abbrev pub says_of : List ℕ → Bool → List ℕ → Option Bool
-says_of pattern yes name = if pattern_matches pattern name then Some yes else None
+says_of pattern said name = if pattern_matches pattern name then Some said else None
 
 -- The same of a pattern that may come after a `!`, which turns it.
 abbrev pub says : List ℕ → List ℕ → Option Bool
@@ -44,15 +45,11 @@ abbrev pub parts_of : List ℕ → List (List ℕ)
 parts_of [] = [] ∷ []
 parts_of (b ∷ bs) = if b == 44 then [] ∷ parts_of bs else with_byte b (parts_of bs)
 
--- What the last of the patterns says that matches.
-abbrev pub later : Option Bool → Bool → Bool
-later None before = before
-later (Some said) before = said
-
+-- What the last of the patterns says that matches, or what was said before.
 abbrev pub last_said : Bool → List (List ℕ) → List ℕ → Bool
 last_said before [] name = before
 last_said before (pattern ∷ patterns) name =
-    last_said (later (says pattern name) before) patterns name
+    last_said (unwrap_or (says pattern name) before) patterns name
 
 -- The last pattern between commas that matches the name says yes. None that matches says no.
 unfoldable pub decided : List ℕ → List ℕ → Bool

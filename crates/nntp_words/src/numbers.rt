@@ -1,8 +1,8 @@
 //! Numbers, ranges and ids of articles.
 ghost use Rattle.std.specs.Prelude.{◌≡◌, ◌≤◌, length};
-ghost use Rattle.std.specs.List.{prefix_len};
+ghost use Rattle.std.specs.List.{prefix_len, list_all};
 ghost use Rattle.mail_reader.specs.Ids.{is_id_byte as id_byte};
-ghost use Rattle.nntp_words.specs.Numbers.{is_zero as zero_digit, is_before_dash, without_zeros, number_in, number_of, range_of, is_id as in_brackets};
+ghost use Rattle.nntp_words.specs.Numbers.{is_zero as zero_digit, is_before_dash, without_zeros, number_in, number_of, range_of, is_id as in_brackets, is_inside_id as is_inside};
 
 use arch_base::read_decimal;
 
@@ -101,11 +101,26 @@ pub fn is_id(word: &[u8]) -> bool
     ensures { result ≡ in_brackets word.now }
 {
     match word {
-        [b'<', inside @ .., b'>'] => {
-            !inside.is_empty() && inside.len() <= 248 && inside.iter().all(|byte| is_id_byte(*byte))
-        }
+        [b'<', inside @ .., b'>'] => is_inside_id(inside),
         _ => false,
     }
+}
+
+/// Returns whether bytes are those of an id between its brackets.
+fn is_inside_id(inside: &[u8]) -> bool
+    ensures { result ≡ is_inside inside.now }
+{
+    if inside.is_empty() || inside.len() > 248 {
+        return false;
+    }
+    are_id_bytes(inside)
+}
+
+/// Returns whether all bytes may stand in an id between its brackets.
+fn are_id_bytes(bytes: &[u8]) -> bool
+    ensures { result ≡ list_all id_byte bytes.now }
+{
+    bytes.iter().all(|byte| is_id_byte(*byte))
 }
 
 /// Returns whether a byte may stand in an id between its brackets.

@@ -1,5 +1,6 @@
 //! Wildmats: lists of patterns of names.
 ghost use Rattle.std.specs.Prelude.{◌≡◌, ◌≤◌, ℕ, Bool, List, length};
+ghost use Rattle.std.specs.List.{list_any};
 ghost use Rattle.nntp_words.specs.Wildmats.{is_special as special, wildmat_matches, decided, says as says_of, pattern_matches, some_end, fits as fits_byte, fits_first, after_byte, Tells};
 
 use memchr::memrchr;
@@ -21,10 +22,17 @@ pub fn matches(wildmat: &[u8], name: &[u8]) -> Option<bool>
     requires { length name.now ≤ 64 }
     ensures { result ≡ wildmat_matches wildmat.now name.now }
 {
-    if wildmat.iter().any(|byte| is_special(*byte)) {
+    if has_special(wildmat) {
         return None;
     }
     Some(is_matched(wildmat, name))
+}
+
+/// Returns whether a byte of a wildmat has no meaning there.
+fn has_special(wildmat: &[u8]) -> bool
+    ensures { result ≡ list_any special wildmat.now }
+{
+    wildmat.iter().any(|byte| is_special(*byte))
 }
 
 /// Returns whether a byte has no meaning in a wildmat.

@@ -1,17 +1,16 @@
 -- The days after the first of January 1970, and the dates that clocks show.
-use Rattle.std.proofs.Common.{◌≡◌, ℕ, zero, suc, ◌+◌, ◌-◌, ◌*◌, ◌/◌, ◌%◌, ◌<◌, ◌≤◌, ◌⊎◌, inl, inr, Bool, true, false, cond, nat_lt, List, refl, sym, ap, ◌∙◌, subst, arith, rules, ℤ, pos, neg_ℤ, ◌+ℤ◌, ◌-ℤ◌, ◌*ℤ◌, ◌<ℤ◌, ◌≤ℤ◌, min}
+use Rattle.std.proofs.Common.{◌≡◌, ℕ, zero, suc, ◌+◌, ◌*◌, ◌/◌, ◌%◌, ◌<◌, ◌≤◌, inl, inr, Bool, true, false, cond, nat_lt, List, refl, ap, ◌∙◌, subst, arith, rules, ℤ, pos, ◌+ℤ◌, ◌-ℤ◌, ◌*ℤ◌, min}
 use Rattle.std.proofs.lemmas.Bool.Decides.{nat_tests}
 use Rattle.std.proofs.lemmas.Bool.{cases_order}
 use Rattle.std.specs.Int.{IsInRange}
-use Rattle.jiff_core.specs.Calendar.{days_in_month, day_count, days_from_civil, IsCivilDate}
+use Rattle.jiff_core.specs.Calendar.{days_in_month, days_from_civil, IsCivilDate}
 use Rattle.jiff_core.proofs.SignedLemmas.{signed_arith}
 use Rattle.jiff_core.proofs.CalendarLemmas.{day_count-epoch, days_from_civil-day_count, days_in_month_bounds, day_count-lt_year}
 use Rattle.jiff_core.proofs.DateLemmas.{days_from_civil-day, days_from_civil-next_month, days_from_civil-next_year, days_from_civil-max}
-use Rattle.mail_date.specs.declared.moment.CivilDate.{CivilDate}
-use Rattle.mail_date.specs.Dates.{last_second, IsValid, IsValidDay, civil_seconds, seconds_of, second_of_day}
+use Rattle.mail_date.specs.Dates.{last_second, IsValid, second_of_day}
 use Rattle.mail_date.specs.Laws.{PrintedDateIsOne}
 use Rattle.mail_date.specs.Printed.{IsDateAt, utc, PrintsUtc, rfc3339_text}
-use Rattle.web_text.specs.Days.{Day, day_of, next_day, day_at, time_of, date_at, moment_text}
+use Rattle.web_text.specs.Days.{Day, day_of, day_at, time_of, date_at, moment_text}
 
 -- The calendar has the day, and it is so many days after the first of January 1970.
 record IsNth (n : ℕ) (d : Day) : Type 0 where

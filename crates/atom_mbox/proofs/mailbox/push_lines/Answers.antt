@@ -1,4 +1,5 @@
-use Rattle.mail_forms.proofs.WireLengths.{kept-more}
+use Rattle.std.proofs.Common.{◌≡◌, length, arith}
+use Rattle.std.proofs.lemmas.Bool.Decides.{nat_tests}
 use Rattle.atom_mbox.proofs.Mailing.{lines-more, lines-end, kept-on}
 use Rattle.atom_mbox.proofs.mailbox.push_lines.Goals as goal
 
@@ -10,4 +11,6 @@ loop-rest-preserved c =
     }
 
 pub returns-clause-ok : goal.returns-clause-ok
-returns-clause-ok c = lines-end c.loop-rest.into _ c.loop-rest.rest.now c.is_empty.ensures c.loop-rest.invariant.pushed
+returns-clause-ok c =
+    let none : length c.loop-rest.rest.now ≡ 0 = grind (arith, nat_tests) in
+    lines-end c.loop-rest.into _ c.loop-rest.rest.now none c.loop-rest.invariant.pushed

@@ -1,3 +1,4 @@
+use Rattle.std.proofs.Common.{rules}
 use Rattle.web_text.proofs.CivilDays.{moment-printed}
 use Rattle.web_text.proofs.moments.push_moment.Goals as goal
 
