@@ -2,15 +2,16 @@
 use Rattle.std.proofs.Common.{◌≡◌, ℕ, zero, suc, ◌+◌, ◌/◌, ◌%◌, ◌<◌, ◌≤◌, Bool, true, false, cond, eqb, ltb, List, [], ◌∷◌, ◌++◌, refl, sym, subst, arith}
 use Rattle.std.specs.Prelude.{codes}
 use Rattle.std.specs.Char.{encode_utf8}
+use Rattle.std.specs.Fmt.{digit_glyph}
 use Rattle.std.specs.List.{All, flat_map}
 use Rattle.std.specs.Str.{chars}
 use Rattle.std.specs.Str.Lossy.{utf8_lossy}
 use Rattle.std.proofs.lemmas.Bool.{eq-eqb}
 use Rattle.std.proofs.lemmas.Bool.Decides.{nat_tests}
 use Rattle.std.proofs.lemmas.List.Elements.{All-append}
-use Rattle.percent_encoding.specs.Percent.{percent_encode_byte}
-use Rattle.html_pages.specs.Escapes.{is_hidden, esc_shown, esc_char, esc}
-use Rattle.html_pages.specs.Links.{is_plain, link_byte, without_brackets, address}
+use Rattle.web_text.specs.Addresses.{is_plain, in_address, inside, escaped_bytes, address_of}
+use Rattle.web_text.specs.Escapes.{is_excluded, shown, spelled, escaped_chars, escaped}
+use Rattle.html_pages.specs.Pieces.{address}
 use Rattle.html_pages.specs.Laws.{IsHarmless, TextMakesNoTag, AddressMakesNoTag}
 
 all-nil : (P : ℕ → Type 0) → All P []
@@ -67,44 +68,44 @@ encoded c h =
     encoded_by (ltb c 128) (ltb c 2048) (ltb c 65536) c (192 + c / 64) (128 + c % 64) (224 + c / 4096) (128 + c / 64 % 64) (128 + c % 64) (240 + c / 262144) (128 + c / 4096 % 64) (128 + c / 64 % 64) (128 + c % 64)
     h (omega arith) (omega arith) (omega arith) (omega arith) (omega arith) (omega arith) (omega arith) (omega arith) (omega arith)
 
+-- U+FFFD is harmless, and so is a character that stands for itself.
+shown_by : (out : Bool) (c : ℕ) → IsHarmless c → IsHarmless (cond out 0xFFFD c)
+shown_by true c h = high 0xFFFD (omega arith)
+shown_by false c h = h
+
 -- What a page has for a character is harmless.
-shown_by : (amp less more quote : Bool) (c : ℕ) → eqb c 60 ≡ less → eqb c 62 ≡ more → eqb c 34 ≡ quote
-    → All IsHarmless (cond amp (codes "&amp;") (cond less (codes "&lt;") (cond more (codes "&gt;") (cond quote (codes "&quot;") (encode_utf8 c)))))
-shown_by true less more quote c e f g = literal (codes "&amp;") refl
-shown_by false true more quote c e f g = literal (codes "&lt;") refl
-shown_by false false true quote c e f g = literal (codes "&gt;") refl
-shown_by false false false true c e f g = literal (codes "&quot;") refl
-shown_by false false false false c e f g =
-    encoded c (
+spelled_by : (amp less more quote : Bool) (c : ℕ) → eqb c 60 ≡ less → eqb c 62 ≡ more → eqb c 34 ≡ quote
+    → All IsHarmless (cond amp (codes "&amp;") (cond less (codes "&lt;") (cond more (codes "&gt;") (cond quote (codes "&quot;") (encode_utf8 (shown c))))))
+spelled_by true less more quote c e f g = literal (codes "&amp;") refl
+spelled_by false true more quote c e f g = literal (codes "&lt;") refl
+spelled_by false false true quote c e f g = literal (codes "&gt;") refl
+spelled_by false false false true c e f g = literal (codes "&quot;") refl
+spelled_by false false false false c e f g =
+    encoded (shown c) (shown_by (is_excluded c) c (
       (λ (h : c ≡ 60). (let yes : eqb c 60 ≡ true = eq-eqb c 60 h in cc (yes, e))),
       (λ (h : c ≡ 62). (let yes : eqb c 62 ≡ true = eq-eqb c 62 h in cc (yes, f))),
       (λ (h : c ≡ 34). (let yes : eqb c 34 ≡ true = eq-eqb c 34 h in cc (yes, g))),
-    )
-
-escaped_by : (hidden : Bool) (c : ℕ) → All IsHarmless (cond hidden (239 ∷ 191 ∷ 189 ∷ []) (esc_shown c))
-escaped_by true c = literal (239 ∷ 191 ∷ 189 ∷ []) refl
-escaped_by false c = shown_by (eqb c 38) (eqb c 60) (eqb c 62) (eqb c 34) c refl refl refl
+    ))
 
 -- A text in a page is harmless.
 pub text_harmless : TextMakesNoTag
-unfolding esc
-text_harmless text = all-flat_map IsHarmless esc_char (λ c. escaped_by (is_hidden c) c) (chars (utf8_lossy text))
+unfolding escaped_chars
+text_harmless text = all-flat_map IsHarmless spelled (λ c. spelled_by (eqb c 38) (eqb c 60) (eqb c 62) (eqb c 34) c refl refl refl) (chars (utf8_lossy text))
 
--- A hexadecimal digit is harmless.
-digit_by : (small : Bool) (n : ℕ) → n < 16 → ltb n 10 ≡ small → IsHarmless (cond small (48 + n) (55 + n))
-digit_by true n h e =
+-- A hexadecimal digit is harmless, and so is what stands for any greater number.
+glyph_by : (small : Bool) (n : ℕ) → ltb n 10 ≡ small → IsHarmless (cond small (48 + n) (55 + n))
+glyph_by true n e =
     let low : n < 10 = grind (arith, nat_tests, e) in
     ((λ (f : 48 + n ≡ 60). omega arith), (λ (f : 48 + n ≡ 62). omega arith), (λ (f : 48 + n ≡ 34). omega arith))
-digit_by false n h e =
+glyph_by false n e =
     let low : 10 ≤ n = grind (arith, nat_tests, e) in
     ((λ (f : 55 + n ≡ 60). omega arith), (λ (f : 55 + n ≡ 62). omega arith), (λ (f : 55 + n ≡ 34). omega arith))
 
-escape : (b : ℕ) → All IsHarmless (percent_encode_byte b)
-unfolding percent_encode_byte
+escape : (b : ℕ) → All IsHarmless (37 ∷ digit_glyph true (b / 16) ∷ digit_glyph true (b % 16) ∷ [])
 escape b =
     all-cons IsHarmless 37 _ (safe-harmless 37 refl)
-    (all-cons IsHarmless _ _ (digit_by (ltb (b / 16 % 16) 10) (b / 16 % 16) (omega arith) refl)
-    (all-cons IsHarmless _ [] (digit_by (ltb (b % 16) 10) (b % 16) (omega arith) refl) (all-nil IsHarmless)))
+    (all-cons IsHarmless _ _ (glyph_by (ltb (b / 16) 10) (b / 16) refl)
+    (all-cons IsHarmless _ [] (glyph_by (ltb (b % 16) 10) (b % 16) refl) (all-nil IsHarmless)))
 
 plain-harmless : (b : ℕ) → is_plain b ≡ true → IsHarmless b
 plain-harmless b s = (
@@ -113,16 +114,19 @@ plain-harmless b s = (
   (λ (e : b ≡ 34). (let no : false ≡ true = subst (λ (x : ℕ). is_plain x ≡ true) e s in cc)),
 )
 
-link_by : (plain : Bool) (b : ℕ) → is_plain b ≡ plain → All IsHarmless (cond plain (b ∷ []) (percent_encode_byte b))
-link_by true b e = all-cons IsHarmless b [] (plain-harmless b e) (all-nil IsHarmless)
-link_by false b e = escape b
+byte_by : (plain : Bool) (b : ℕ) → is_plain b ≡ plain → All IsHarmless (cond plain (b ∷ []) (37 ∷ digit_glyph true (b / 16) ∷ digit_glyph true (b % 16) ∷ []))
+byte_by true b e = all-cons IsHarmless b [] (plain-harmless b e) (all-nil IsHarmless)
+byte_by false b e = escape b
+
+id_harmless : (id : List ℕ) → All IsHarmless (address_of id)
+unfolding escaped_bytes
+id_harmless id = all-flat_map IsHarmless in_address (λ b. byte_by (is_plain b) b refl) (inside id)
 
 -- An address is harmless.
 pub address_harmless : AddressMakesNoTag
 unfolding address
 address_harmless name id h =
     let slash : All IsHarmless (codes "/") = literal (codes "/") refl in
-    let inside = all-flat_map IsHarmless link_byte (λ b. link_by (is_plain b) b refl) (without_brackets id) in
     All-append IsHarmless (codes "/") _ slash
     (All-append IsHarmless name _ h
-    (All-append IsHarmless (codes "/") _ slash (All-append IsHarmless (flat_map link_byte (without_brackets id)) (codes "/") inside slash)))
+    (All-append IsHarmless (codes "/") _ slash (All-append IsHarmless (address_of id) (codes "/") (id_harmless id) slash)))

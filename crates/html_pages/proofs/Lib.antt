@@ -1,5 +1,5 @@
-pub mod CivilDays
-pub mod FieldLines
-pub mod ListingRows
-pub mod Harmless
-pub mod Indents
+mod FieldLines
+mod ListingRows
+mod Harmless
+mod Indents
+mod Pushing

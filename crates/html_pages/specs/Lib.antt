@@ -1,6 +1,4 @@
-pub mod Escapes
-pub mod Days
-pub mod Links
+pub mod Pieces
 pub mod Lines
 pub mod Pages
 pub mod Laws

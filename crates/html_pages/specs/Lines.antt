@@ -5,9 +5,8 @@ use Rattle.mail_reader.specs.Fields.{FieldText, fields_of, first_named}
 use Rattle.mail_reader.specs.Values.{flat_of}
 use Rattle.mime_words.specs.Decoding.{decoded}
 use Rattle.mail_rows.specs.declared.row.Row.{Row}
-use Rattle.html_pages.specs.Escapes.{esc, subject_text}
-use Rattle.html_pages.specs.Days.{page_date}
-use Rattle.html_pages.specs.Links.{address}
+use Rattle.web_text.specs.Escapes.{escaped}
+use Rattle.html_pages.specs.Pieces.{page_date, subject_text, address}
 use Rattle.html_pages.specs.declared.thread_line.ThreadLine.{ThreadLine}
 use Rattle.html_pages.specs.declared.thread_line.ThreadEntry.{ThreadEntry}
 use Rattle.html_pages.specs.declared.thread_line.ThreadEntry.TheVariants.{Mail, Missing}
@@ -16,7 +15,7 @@ use Rattle.html_pages.specs.declared.thread_line.ThreadEntry.TheVariants.{Mail, 
 unfoldable pub row_line : List ℕ → Row → List ℕ
 row_line name row =
     page_date row.date.secs ++ codes " <a href=\"" ++ address name row.id ++ codes "\">"
-    ++ subject_text row.subject ++ codes "</a> " ++ esc row.from ++ codes "\n"
+    ++ subject_text row.subject ++ codes "</a> " ++ escaped row.from ++ codes "\n"
 
 -- How many rows a listing shows at once.
 abbrev pub rows_shown : ℕ
@@ -32,7 +31,7 @@ older_link skip count =
 -- The line of a field: its name, and its decoded value.
 abbrev pub field_line : List ℕ → Option FieldText → List ℕ
 field_line name None = []
-field_line name (Some field) = name ++ codes ": " ++ esc (decoded (flat_of field.value)) ++ codes "\n"
+field_line name (Some field) = name ++ codes ": " ++ escaped (decoded (flat_of field.value)) ++ codes "\n"
 
 -- The line of the first field with a name, if the text has one.
 unfoldable pub header_line : List ℕ → List ℕ → List ℕ
@@ -51,7 +50,7 @@ indent depth = replicate (2 * min depth 40) 32
 -- The line of a mail in a thread, or of a mail that is only known by its id.
 abbrev pub entry_line : List ℕ → ThreadEntry → List ℕ
 entry_line name (Mail row) = row_line name row.now
-entry_line name (Missing id) = codes "[not found] " ++ esc id.now ++ codes "\n"
+entry_line name (Missing id) = codes "[not found] " ++ escaped id.now ++ codes "\n"
 
 -- A line of a thread.
 abbrev pub thread_line : List ℕ → ThreadLine → List ℕ

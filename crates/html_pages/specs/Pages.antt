@@ -2,7 +2,8 @@
 use Rattle.std.specs.Prelude.{ℕ, List, [], ◌∷◌, ◌++◌, length, take, drop, codes}
 use Rattle.std.specs.List.{flat_map}
 use Rattle.mail_rows.specs.declared.row.Row.{Row}
-use Rattle.html_pages.specs.Escapes.{esc, subject_text}
+use Rattle.web_text.specs.Escapes.{escaped}
+use Rattle.html_pages.specs.Pieces.{subject_text}
 use Rattle.html_pages.specs.Lines.{row_line, rows_shown, older_link, header_line, links_line, thread_line}
 use Rattle.html_pages.specs.declared.thread_line.ThreadLine.{ThreadLine}
 
@@ -27,7 +28,7 @@ shown_fields =
 -- What the page of a message shows: fields of its text, the text of its body, and links.
 abbrev pub message_lines : List ℕ → Row → List ℕ → List ℕ → List ℕ
 message_lines name row text body =
-    flat_map (header_line text) shown_fields ++ codes "\n" ++ esc body ++ codes "\n"
+    flat_map (header_line text) shown_fields ++ codes "\n" ++ escaped body ++ codes "\n"
     ++ links_line name row.id
 
 -- The page of a message with a row and a text, whose body has this text.

@@ -1,17 +1,14 @@
 //! The pages of a list for browsers.
 #![tactic(auto)]
 
-mod days;
-mod escapes;
 mod laws;
 mod lines;
-mod links;
 mod listing;
 mod message;
+mod pieces;
 mod thread;
 mod thread_line;
 
-pub use escapes::push_escaped;
 pub use laws::{address_makes_no_tag, text_makes_no_tag};
 pub use listing::listing_page;
 pub use message::message_page;

@@ -2,12 +2,11 @@
 ghost use Rattle.std.specs.Prelude.{◌≡◌, ◌++◌, OnOk, codes};
 ghost use Rattle.html_pages.specs.Lines.{row_line};
 
-use crate::days::page_date;
-use crate::escapes::{push_escaped, push_subject};
-use crate::links::push_address;
+use crate::pieces::{push_date, push_place, push_subject};
 use arch_base::{Bytes, Name, NoMemory};
 use mail_rows::Row;
 use std::alloc::Global;
+use web_text::push_escaped;
 
 /// Appends what a page has before its title.
 ///
@@ -48,9 +47,9 @@ pub(crate) fn push_row(
 ) -> Result<(), NoMemory>
     ensures { OnOk result (into.new ≡ into.old ++ row_line name.now row.now) }
 {
-    into.push_slice(&page_date(row.date.secs))?;
+    push_date(row.date.secs, into)?;
     into.push_slice(b" <a href=\"")?;
-    push_address(name, row.id.as_slice(), into)?;
+    push_place(name, row.id.as_slice(), into)?;
     into.push_slice(b"\">")?;
     push_subject(alloc, row.subject.as_slice(), into)?;
     into.push_slice(b"</a> ")?;

@@ -3,19 +3,19 @@ ghost use Rattle.std.specs.Prelude.{◌≡◌, ◌++◌, OnOk, IfOk, codes};
 ghost use Rattle.std.specs.List.{flat_map};
 ghost use Rattle.mail_reader.specs.Values.{flat_of};
 ghost use Rattle.mime_words.specs.Decoding.{decoded};
-ghost use Rattle.html_pages.specs.Escapes.{esc};
+ghost use Rattle.web_text.specs.Escapes.{escaped};
 ghost use Rattle.html_pages.specs.Lines.{header_line, links_line};
 ghost use Rattle.html_pages.specs.Pages.{shown_fields, message_lines, message_of};
 
-use crate::escapes::{push_escaped, push_subject};
 use crate::lines::{end_page, end_title, open_page};
-use crate::links::push_address;
+use crate::pieces::{push_place, push_subject};
 use arch_base::{Bytes, Name, NoMemory};
 use mail_forms::first_value;
 use mail_reader::flat;
 use mail_rows::Row;
 use mime_words::decode;
 use std::alloc::Global;
+use web_text::push_escaped;
 
 /// Returns the page of a message.
 ///
@@ -84,7 +84,7 @@ fn push_field(alloc: Global, text: &[u8], name: &[u8], into: &mut Bytes) -> Resu
 /// Appends the line of a field with a name and a value.
 fn push_value(alloc: Global, name: &[u8], value: &[u8], into: &mut Bytes) -> Result<(), NoMemory>
     ensures { OnOk result (into.new
-        ≡ into.old ++ name.now ++ codes ": " ++ esc (decoded (flat_of value.now)) ++ codes "\n") }
+        ≡ into.old ++ name.now ++ codes ": " ++ escaped (decoded (flat_of value.now)) ++ codes "\n") }
 {
     let value = flat(alloc, value)?;
     let value = decode(alloc, value.as_slice())?;
@@ -100,8 +100,8 @@ fn push_links(name: &Name, id: &[u8], into: &mut Bytes) -> Result<(), NoMemory>
     ensures { OnOk result (into.new ≡ into.old ++ links_line name.now id.now) }
 {
     into.push_slice(b"<a href=\"")?;
-    push_address(name, id, into)?;
+    push_place(name, id, into)?;
     into.push_slice(b"raw\">raw</a> <a href=\"")?;
-    push_address(name, id, into)?;
+    push_place(name, id, into)?;
     into.push_slice(b"t/\">thread</a>\n")
 }

@@ -1,16 +1,17 @@
 //! The page of a thread.
 ghost use Rattle.std.specs.Prelude.{◌≡◌, ◌++◌, OnOk, IfOk, codes};
 ghost use Rattle.std.specs.List.{flat_map};
-ghost use Rattle.html_pages.specs.Escapes.{esc};
+ghost use Rattle.web_text.specs.Escapes.{escaped};
 ghost use Rattle.html_pages.specs.Lines.{indent, thread_line};
 ghost use Rattle.html_pages.specs.Pages.{thread_of};
 
-use crate::escapes::{push_escaped, push_subject};
 use crate::lines::{end_page, end_title, open_page, push_row};
+use crate::pieces::push_subject;
 use crate::thread_line::{ThreadEntry, ThreadLine};
 use arch_base::{Bytes, Name, NoMemory};
 use mail_rows::Row;
 use std::alloc::Global;
+use web_text::push_escaped;
 
 /// The levels of a thread that are shown by an indent.
 const LEVELS: u64 = 40;
@@ -84,7 +85,7 @@ fn push_indent(depth: u64, into: &mut Bytes) -> Result<(), NoMemory>
 /// Appends the line of a mail that the list doesn't have.
 fn push_missing(alloc: Global, id: &[u8], into: &mut Bytes) -> Result<(), NoMemory>
     ensures { OnOk result (into.new
-        ≡ into.old ++ codes "[not found] " ++ esc id.now ++ codes "\n") }
+        ≡ into.old ++ codes "[not found] " ++ escaped id.now ++ codes "\n") }
 {
     into.push_slice(b"[not found] ")?;
     push_escaped(alloc, id, into)?;

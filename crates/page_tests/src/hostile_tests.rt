@@ -1,7 +1,7 @@
 //! Pages of mails that try to bring tags and attributes of their own.
-use crate::mails::{is, list, row};
+use crate::mails::{list, row};
 use arch_base::Bytes;
-use html_pages::{ThreadEntry, ThreadLine, listing_page, message_page, push_escaped, thread_page};
+use html_pages::{ThreadEntry, ThreadLine, listing_page, message_page, thread_page};
 use std::alloc::Global;
 
 /// Mails whose fields have what begins and ends tags and attributes.
@@ -82,43 +82,5 @@ fn no_tag_of_a_message_comes_from_a_mail(rt: HostRuntime) {
 fn no_tag_of_a_thread_comes_from_a_mail(rt: HostRuntime) {
     for text in &HOSTILE {
         assert!(rt; has_tags(threaded(rt.alloc(), text), 12, 1));
-    }
-}
-
-/// Returns a text as a page holds it.
-fn escaped(alloc: Global, text: &[u8]) -> Option<Bytes> {
-    let mut made = Bytes::new(alloc);
-    push_escaped(alloc, text, &mut made).ok()?;
-    Some(made)
-}
-
-/// Texts, and what a page has for them.
-const ESCAPED: [(&[u8], &[u8]); 8] = [
-    (b"", b""),
-    (b"plain 'text'", b"plain 'text'"),
-    (b"&amp;", b"&amp;amp;"),
-    (b"<a href=\"x\">", b"&lt;a href=&quot;x&quot;&gt;"),
-    (
-        b"\t\n\r\x00\x1f\x20\x7f\x80",
-        b"\t\n\xef\xbf\xbd\xef\xbf\xbd\xef\xbf\xbd \xef\xbf\xbd\xef\xbf\xbd",
-    ),
-    (
-        b"\xef\xbf\xbe\xef\xbf\xbf\xef\xbf\xbd",
-        b"\xef\xbf\xbd\xef\xbf\xbd\xef\xbf\xbd",
-    ),
-    (
-        b"\xc2\x80\xc2\x9f\xe2\x80\xa8",
-        b"\xc2\x80\xc2\x9f\xe2\x80\xa8",
-    ),
-    (
-        b"\xf0\x9f\x98\x80\xc3\xff\xed\xa0\x80",
-        b"\xf0\x9f\x98\x80\xef\xbf\xbd\xef\xbf\xbd\xef\xbf\xbd\xef\xbf\xbd\xef\xbf\xbd",
-    ),
-];
-
-#[test]
-fn texts_are_escaped_as_they_were_worked_out(rt: HostRuntime) {
-    for (text, wanted) in &ESCAPED {
-        assert!(rt; is(escaped(rt.alloc(), text), wanted));
     }
 }
