@@ -7,4 +7,4 @@ mod moments;
 
 pub use addresses::push_address;
 pub use escapes::push_escaped;
-pub use moments::push_moment;
+pub use moments::{push_moment, push_page_moment};

@@ -1,0 +1,5 @@
+mod FieldLines
+mod ListingRows
+mod Harmless
+mod Indents
+mod Pushing

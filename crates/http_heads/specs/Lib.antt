@@ -1,0 +1,5 @@
+pub mod Pieces
+pub mod Addresses
+pub mod Heads
+pub mod Parameters
+pub mod Replies

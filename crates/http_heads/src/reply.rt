@@ -1,0 +1,133 @@
+//! What becomes of a head, and the head of a reply.
+ghost use Rattle.std.specs.Prelude.{◌≡◌, ◌++◌, OnOk, Some, option_map};
+ghost use Rattle.http_heads.specs.Heads.{shown};
+ghost use Rattle.http_heads.specs.Replies.{status_words, allow_line, close_line, reply_head, verdict_of};
+
+use crate::head::Request;
+use arch_base::{Bytes, NoMemory};
+use itoa::Buffer;
+
+/// The status of a reply.
+#[derive(Debug, Clone, Copy, PartialEq, Eq)]
+pub enum Status {
+    /// The reply has what was asked.
+    Done,
+    /// The head, or what it asks, is not understood.
+    BadRequest,
+    /// Nothing has the address.
+    NotFound,
+    /// The method is another one than `GET` and `HEAD`.
+    MethodNotAllowed,
+    /// Too many connections are open.
+    TooManyRequests,
+    /// The head is too long.
+    HeadTooLarge,
+    /// The disk failed, or holds another text.
+    ServerError,
+    /// An allocation failed.
+    Unavailable,
+}
+
+/// What becomes of a head.
+#[derive(Debug, Clone, Copy, PartialEq, Eq)]
+pub enum Verdict {
+    /// What it asks is answered, with a body or without one.
+    Serve(bool),
+    /// It is refused with a status, with a body or without one, and the connection is closed.
+    Refuse(Status, bool),
+}
+
+/// Returns what becomes of a head that was read, or that couldn't be.
+pub fn judge(request: Option<Request<'_>>) -> Verdict
+    ensures { result ≡ verdict_of (option_map shown request) }
+{
+    match request {
+        None => Verdict::Refuse(Status::BadRequest, true),
+        Some(request) => judge_request(&request),
+    }
+}
+
+/// Returns what becomes of a head that was read.
+fn judge_request(request: &Request<'_>) -> Verdict
+    ensures { result ≡ verdict_of (Some (shown request.now)) }
+{
+    let is_head = request.method == b"HEAD".as_slice();
+    if request.has_body {
+        Verdict::Refuse(Status::BadRequest, !is_head)
+    } else if request.method == b"GET".as_slice() {
+        Verdict::Serve(true)
+    } else if is_head {
+        Verdict::Serve(false)
+    } else {
+        Verdict::Refuse(Status::MethodNotAllowed, true)
+    }
+}
+
+impl Status {
+    /// Returns the code and the reason.
+    pub fn words(self) -> &'static [u8]
+        ensures { result.now ≡ status_words self }
+    {
+        match self {
+            Status::Done => b"200 OK",
+            Status::BadRequest => b"400 Bad Request",
+            Status::NotFound => b"404 Not Found",
+            Status::MethodNotAllowed => b"405 Method Not Allowed",
+            Status::TooManyRequests => b"429 Too Many Requests",
+            Status::HeadTooLarge => b"431 Request Header Fields Too Large",
+            Status::ServerError => b"500 Internal Server Error",
+            Status::Unavailable => b"503 Service Unavailable",
+        }
+    }
+}
+
+/// Appends the head of a reply, with its date, and the type and the length of its body.
+///
+/// `NoMemory` may leave a part of the head appended.
+#[tactic(auto, unfolding(crate::specs::Replies::reply_head))]
+pub fn push_reply_head(
+    status: Status,
+    date: &[u8],
+    kind: &[u8],
+    len: u64,
+    closes: bool,
+    into: &mut Bytes,
+) -> Result<(), NoMemory>
+    ensures { OnOk result (into.new
+        ≡ into.old ++ reply_head status date.now kind.now len closes) }
+{
+    let mut digits = Buffer::new();
+    into.push_slice(b"HTTP/1.1 ")?;
+    into.push_slice(status.words())?;
+    into.push_slice(b"\r\nDate: ")?;
+    into.push_slice(date)?;
+    into.push_slice(b"\r\nContent-Type: ")?;
+    into.push_slice(kind)?;
+    into.push_slice(b"\r\nContent-Length: ")?;
+    into.push_slice(digits.format(len).as_bytes())?;
+    into.push_slice(b"\r\n")?;
+    push_allow(status, into)?;
+    push_close(closes, into)?;
+    into.push_slice(b"\r\n")
+}
+
+/// Appends the line that names the allowed methods, if the status refuses another one.
+fn push_allow(status: Status, into: &mut Bytes) -> Result<(), NoMemory>
+    ensures { OnOk result (into.new ≡ into.old ++ allow_line status) }
+{
+    match status {
+        Status::MethodNotAllowed => into.push_slice(b"Allow: GET, HEAD\r\n"),
+        _ => Ok(()),
+    }
+}
+
+/// Appends the line that says that the connection is closed, if it is.
+fn push_close(closes: bool, into: &mut Bytes) -> Result<(), NoMemory>
+    ensures { OnOk result (into.new ≡ into.old ++ close_line closes) }
+{
+    if closes {
+        into.push_slice(b"Connection: close\r\n")
+    } else {
+        Ok(())
+    }
+}
