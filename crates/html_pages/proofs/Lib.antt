@@ -1,5 +1,5 @@
 mod FieldLines
 mod ListingRows
-mod Harmless
+mod Markup
+mod Links
 mod Indents
-mod Pushing

@@ -51,8 +51,8 @@ older_count n m rows older e dropped =
     ap length last ∙ sym (length-map (drop n rows) now_of) ∙ ap length (sym (drop-map now_of n rows))
 
 -- The pieces of a page, as they were appended.
-joined : (a name b lines older d : List ℕ) → ((((a ++ name) ++ b) ++ lines) ++ older) ++ d ≡ a ++ (name ++ (b ++ ((lines ++ older) ++ d)))
-joined a name b lines older d = simp append_assoc
+joined : (a name b lines older d : List ℕ) → ((((a ++ name) ++ b) ++ lines) ++ older) ++ d ≡ (((a ++ name) ++ b) ++ (lines ++ older)) ++ d
+joined a name b lines older d = ap (λ t. t ++ d) (append_assoc ((a ++ name) ++ b) lines older)
 
 -- The page of a listing, by its pieces.
 pub listing-made : (name : List ℕ) (rows shown older : List (Bor Row)) (m skip : ℕ) (made : List ℕ) → m ≡ min (length rows) 200 → shown ≡ take m rows → older ≡ drop m rows

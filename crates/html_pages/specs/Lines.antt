@@ -5,8 +5,8 @@ use Rattle.mail_reader.specs.Fields.{FieldText, fields_of, first_named}
 use Rattle.mail_reader.specs.Values.{flat_of}
 use Rattle.mime_words.specs.Decoding.{decoded}
 use Rattle.mail_rows.specs.declared.row.Row.{Row}
-use Rattle.web_text.specs.Escapes.{escaped}
-use Rattle.html_pages.specs.Pieces.{page_date, subject_text, address}
+use Rattle.web_text.specs.Escapes.{escaped, title_of}
+use Rattle.html_pages.specs.Pieces.{page_date, address}
 use Rattle.html_pages.specs.declared.thread_line.ThreadLine.{ThreadLine}
 use Rattle.html_pages.specs.declared.thread_line.ThreadEntry.{ThreadEntry}
 use Rattle.html_pages.specs.declared.thread_line.ThreadEntry.TheVariants.{Mail, Missing}
@@ -15,7 +15,7 @@ use Rattle.html_pages.specs.declared.thread_line.ThreadEntry.TheVariants.{Mail, 
 unfoldable pub row_line : List ℕ → Row → List ℕ
 row_line name row =
     page_date row.date.secs ++ codes " <a href=\"" ++ address name row.id ++ codes "\">"
-    ++ subject_text row.subject ++ codes "</a> " ++ escaped row.from ++ codes "\n"
+    ++ title_of row.subject ++ codes "</a> " ++ escaped row.from ++ codes "\n"
 
 -- How many rows a listing shows at once.
 abbrev pub rows_shown : ℕ

@@ -2,8 +2,7 @@
 use Rattle.std.specs.Prelude.{ℕ, List, [], ◌∷◌, ◌++◌, length, take, drop, codes}
 use Rattle.std.specs.List.{flat_map}
 use Rattle.mail_rows.specs.declared.row.Row.{Row}
-use Rattle.web_text.specs.Escapes.{escaped}
-use Rattle.html_pages.specs.Pieces.{subject_text}
+use Rattle.web_text.specs.Escapes.{escaped, title_of}
 use Rattle.html_pages.specs.Lines.{row_line, rows_shown, older_link, header_line, links_line, thread_line}
 use Rattle.html_pages.specs.declared.thread_line.ThreadLine.{ThreadLine}
 
@@ -33,8 +32,8 @@ message_lines name row text body =
 
 -- The page of a message with a row and a text, whose body has this text.
 unfoldable pub message_of : List ℕ → Row → List ℕ → List ℕ → List ℕ
-message_of name row text body = page_of (subject_text row.subject) (message_lines name row text body)
+message_of name row text body = page_of (title_of row.subject) (message_lines name row text body)
 
 -- The page of a thread, whose title is the subject of one of its mails.
 unfoldable pub thread_of : List ℕ → Row → List ThreadLine → List ℕ
-thread_of name row lines = page_of (subject_text row.subject) (flat_map (thread_line name) lines)
+thread_of name row lines = page_of (title_of row.subject) (flat_map (thread_line name) lines)

@@ -2,11 +2,11 @@
 ghost use Rattle.std.specs.Prelude.{◌≡◌, ◌++◌, OnOk, codes};
 ghost use Rattle.html_pages.specs.Lines.{row_line};
 
-use crate::pieces::{push_date, push_place, push_subject};
+use crate::pieces::{push_date, push_place};
 use arch_base::{Bytes, Name, NoMemory};
 use mail_rows::Row;
 use std::alloc::Global;
-use web_text::push_escaped;
+use web_text::{push_escaped, push_title};
 
 /// Appends what a page has before its title.
 ///
@@ -51,7 +51,7 @@ pub(crate) fn push_row(
     into.push_slice(b" <a href=\"")?;
     push_place(name, row.id.as_slice(), into)?;
     into.push_slice(b"\">")?;
-    push_subject(alloc, row.subject.as_slice(), into)?;
+    push_title(alloc, row.subject.as_slice(), into)?;
     into.push_slice(b"</a> ")?;
     push_escaped(alloc, row.from.as_slice(), into)?;
     into.push_slice(b"\n")

@@ -8,14 +8,14 @@ ghost use Rattle.html_pages.specs.Lines.{header_line, links_line};
 ghost use Rattle.html_pages.specs.Pages.{shown_fields, message_lines, message_of};
 
 use crate::lines::{end_page, end_title, open_page};
-use crate::pieces::{push_place, push_subject};
+use crate::pieces::push_place;
 use arch_base::{Bytes, Name, NoMemory};
 use mail_forms::first_value;
 use mail_reader::flat;
 use mail_rows::Row;
 use mime_words::decode;
 use std::alloc::Global;
-use web_text::push_escaped;
+use web_text::{push_escaped, push_title};
 
 /// Returns the page of a message.
 ///
@@ -32,7 +32,7 @@ pub fn message_page(
 {
     let mut made = Bytes::new(alloc);
     open_page(&mut made)?;
-    push_subject(alloc, row.subject.as_slice(), &mut made)?;
+    push_title(alloc, row.subject.as_slice(), &mut made)?;
     end_title(&mut made)?;
     push_message(alloc, name, row, text, body, &mut made)?;
     end_page(&mut made)?;

@@ -1,10 +1,9 @@
-//! The pieces of lines: the moment, the subject and the address of a mail.
+//! The pieces of lines: the moment and the address of a mail.
 ghost use Rattle.std.specs.Prelude.{◌≡◌, ◌++◌, OnOk};
-ghost use Rattle.html_pages.specs.Pieces.{page_date, subject_text, address};
+ghost use Rattle.html_pages.specs.Pieces.{page_date, address};
 
 use arch_base::{Bytes, LAST_MOMENT, Name, NoMemory, last_moment_is_defined};
-use std::alloc::Global;
-use web_text::{push_address, push_escaped, push_page_moment};
+use web_text::{push_address, push_page_moment};
 
 /// Appends a moment as `YYYY-MM-DD hh:mm` in UTC.
 ///
@@ -15,19 +14,6 @@ pub(crate) fn push_date(secs: u64, into: &mut Bytes) -> Result<(), NoMemory>
 {
     last_moment_is_defined();
     push_page_moment(secs.min(LAST_MOMENT), into)
-}
-
-/// Appends a subject as a page has it, or `(no subject)` if it is empty.
-///
-/// `NoMemory` may leave a part of the subject appended.
-pub(crate) fn push_subject(alloc: Global, subject: &[u8], into: &mut Bytes) -> Result<(), NoMemory>
-    ensures { OnOk result (into.new ≡ into.old ++ subject_text subject.now) }
-{
-    if subject.is_empty() {
-        into.push_slice(b"(no subject)")
-    } else {
-        push_escaped(alloc, subject, into)
-    }
 }
 
 /// Appends the address of a message, `/NAME/ID/`, by the message's id in brackets.

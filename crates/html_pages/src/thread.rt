@@ -6,12 +6,11 @@ ghost use Rattle.html_pages.specs.Lines.{indent, thread_line};
 ghost use Rattle.html_pages.specs.Pages.{thread_of};
 
 use crate::lines::{end_page, end_title, open_page, push_row};
-use crate::pieces::push_subject;
 use crate::thread_line::{ThreadEntry, ThreadLine};
 use arch_base::{Bytes, Name, NoMemory};
 use mail_rows::Row;
 use std::alloc::Global;
-use web_text::push_escaped;
+use web_text::{push_escaped, push_title};
 
 /// The levels of a thread that are shown by an indent.
 const LEVELS: u64 = 40;
@@ -35,7 +34,7 @@ pub fn thread_page(
 {
     let mut made = Bytes::new(alloc);
     open_page(&mut made)?;
-    push_subject(alloc, row.subject.as_slice(), &mut made)?;
+    push_title(alloc, row.subject.as_slice(), &mut made)?;
     end_title(&mut made)?;
     push_lines(alloc, name, lines, &mut made)?;
     end_page(&mut made)?;
@@ -53,7 +52,7 @@ fn push_lines(
         ≡ into.old ++ flat_map (thread_line name.now) lines.now) }
 {
     for line in lines {
-        push_line(alloc, name, *line, into)?;
+        push_line(alloc, name, line, into)?;
     }
     Ok(())
 }
@@ -62,10 +61,10 @@ fn push_lines(
 fn push_line(
     alloc: Global,
     name: &Name,
-    line: ThreadLine<'_>,
+    line: &ThreadLine<'_>,
     into: &mut Bytes,
 ) -> Result<(), NoMemory>
-    ensures { OnOk result (into.new ≡ into.old ++ thread_line name.now line) }
+    ensures { OnOk result (into.new ≡ into.old ++ thread_line name.now line.now) }
 {
     push_indent(line.depth, into)?;
     match line.entry {

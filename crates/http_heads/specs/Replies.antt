@@ -2,8 +2,12 @@
 use Rattle.std.specs.Prelude.{ℕ, Bool, true, false, not, List, [], ◌∷◌, ◌++◌, Option, Some, None, codes, if◌then◌else◌}
 use Rattle.std.specs.Fmt.{decimal}
 use Rattle.std.specs.Str.{bytes_eq}
+use Rattle.httpdate.specs.declared.date.HttpDate.{HttpDate}
+use Rattle.httpdate.specs.Date.{date_text}
 use Rattle.http_heads.specs.declared.reply.Status.{Status}
 use Rattle.http_heads.specs.declared.reply.Status.TheVariants.{Done, BadRequest, NotFound, MethodNotAllowed, TooManyRequests, HeadTooLarge, ServerError, Unavailable}
+use Rattle.http_heads.specs.declared.reply.Body.{Body}
+use Rattle.http_heads.specs.declared.reply.Body.TheVariants.{Page, Text, Words}
 use Rattle.http_heads.specs.declared.reply.Verdict.{Verdict}
 use Rattle.http_heads.specs.declared.reply.Verdict.TheVariants.{Serve, Refuse}
 use Rattle.http_heads.specs.Heads.{Asked}
@@ -18,6 +22,12 @@ status_words TooManyRequests = codes "429 Too Many Requests"
 status_words HeadTooLarge = codes "431 Request Header Fields Too Large"
 status_words ServerError = codes "500 Internal Server Error"
 status_words Unavailable = codes "503 Service Unavailable"
+
+-- The media type of a body.
+abbrev pub media_type : Body → List ℕ
+media_type Page = codes "text/html; charset=utf-8"
+media_type Text = codes "text/plain"
+media_type Words = codes "text/plain; charset=utf-8"
 
 -- The end of a line.
 abbrev pub line_end : List ℕ
@@ -38,12 +48,22 @@ allow_line Unavailable = []
 abbrev pub close_line : Bool → List ℕ
 close_line closes = if closes then codes "Connection: close" ++ line_end else []
 
--- The head of a reply: its status, its date, the type and the length of its body.
-unfoldable pub reply_head : Status → List ℕ → List ℕ → ℕ → Bool → List ℕ
-reply_head status date kind len closes =
-    codes "HTTP/1.1 " ++ status_words status ++ codes "\r\nDate: " ++ date
-    ++ codes "\r\nContent-Type: " ++ kind ++ codes "\r\nContent-Length: " ++ decimal len ++ line_end
-    ++ allow_line status ++ close_line closes ++ line_end
+-- The line of a status, and the line of a date.
+unfoldable pub status_lines : Status → HttpDate → List ℕ
+status_lines status date =
+    codes "HTTP/1.1 " ++ status_words status ++ codes "\r\nDate: " ++ date_text date ++ line_end
+
+-- The lines of the type and the length of a body.
+unfoldable pub body_lines : Body → ℕ → List ℕ
+body_lines body len =
+    codes "Content-Type: " ++ media_type body ++ codes "\r\nContent-Length: " ++ decimal len
+    ++ line_end
+
+-- The head of a reply: its status, its date, the type and the length of its body, and an empty line.
+abbrev pub reply_head : Status → HttpDate → Body → ℕ → Bool → List ℕ
+reply_head status date body len closes =
+    status_lines status date ++ body_lines body len ++ allow_line status ++ close_line closes
+    ++ line_end
 
 -- What becomes of a head that was read, or that couldn't be (`None`). A body is refused before the
 -- method is looked at. A reply to the method `HEAD` has no body.

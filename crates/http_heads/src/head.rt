@@ -1,5 +1,5 @@
 //! Reads the head of a request.
-ghost use Rattle.std.specs.Prelude.{◌≡◌, IfSome, IfNone, length, map};
+ghost use Rattle.std.specs.Prelude.{◌≡◌, IfSome, Some, option_map, length, map};
 ghost use Rattle.std.specs.List.{All, list_any};
 ghost use Rattle.httparse.specs.Grammar.{RequestHead};
 ghost use Rattle.httparse.specs.Spans.{IsHeaderWithin, header_bytes};
@@ -30,7 +30,8 @@ pub struct Request<'a> {
 pub fn read_head(bytes: &[u8]) -> Option<Request<'_>>
     ensures some { IfSome result (λ request. (head : RequestHead)
         × IsHead bytes.now head × (shown request ≡ asked_of head)) }
-    ensures none { IfNone result ((head : RequestHead) → IsHead bytes.now head → ⊥) }
+    ensures found { (head : RequestHead) → IsHead bytes.now head
+        → option_map shown result ≡ Some (asked_of head) }
 {
     let mut headers = [EMPTY_HEADER_SPAN; MAX_FIELDS];
     match parse_request(bytes, &mut headers) {

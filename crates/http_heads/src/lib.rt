@@ -12,4 +12,4 @@ pub use address::{Address, address_of, segments};
 pub use head::{Request, read_head};
 pub use parameters::{parameter, skip_of, split_target};
 pub use pieces::{Pieces, split_piece};
-pub use reply::{Status, Verdict, judge, push_reply_head};
+pub use reply::{Body, Status, Verdict, judge, push_reply_head};

@@ -1,10 +1,11 @@
 //! What becomes of a head, and the head of a reply.
 ghost use Rattle.std.specs.Prelude.{◌≡◌, ◌++◌, OnOk, Some, option_map};
 ghost use Rattle.http_heads.specs.Heads.{shown};
-ghost use Rattle.http_heads.specs.Replies.{status_words, allow_line, close_line, reply_head, verdict_of};
+ghost use Rattle.http_heads.specs.Replies.{status_words, media_type, status_lines, body_lines, allow_line, close_line, reply_head, verdict_of};
 
 use crate::head::Request;
 use arch_base::{Bytes, NoMemory};
+use httpdate::HttpDate;
 use itoa::Buffer;
 
 /// The status of a reply.
@@ -26,6 +27,17 @@ pub enum Status {
     ServerError,
     /// An allocation failed.
     Unavailable,
+}
+
+/// What the body of a reply is.
+#[derive(Debug, Clone, Copy, PartialEq, Eq)]
+pub enum Body {
+    /// A page.
+    Page,
+    /// The text of a message.
+    Text,
+    /// Words on a status other than 200.
+    Words,
 }
 
 /// What becomes of a head.
@@ -81,33 +93,59 @@ impl Status {
     }
 }
 
+impl Body {
+    /// Returns the media type.
+    pub fn media_type(self) -> &'static [u8]
+        ensures { result.now ≡ media_type self }
+    {
+        match self {
+            Body::Page => b"text/html; charset=utf-8",
+            Body::Text => b"text/plain",
+            Body::Words => b"text/plain; charset=utf-8",
+        }
+    }
+}
+
 /// Appends the head of a reply, with its date, and the type and the length of its body.
 ///
 /// `NoMemory` may leave a part of the head appended.
-#[tactic(auto, unfolding(crate::specs::Replies::reply_head))]
 pub fn push_reply_head(
     status: Status,
-    date: &[u8],
-    kind: &[u8],
+    date: HttpDate,
+    body: Body,
     len: u64,
     closes: bool,
     into: &mut Bytes,
 ) -> Result<(), NoMemory>
-    ensures { OnOk result (into.new
-        ≡ into.old ++ reply_head status date.now kind.now len closes) }
+    ensures { OnOk result (into.new ≡ into.old ++ reply_head status date body len closes) }
 {
-    let mut digits = Buffer::new();
+    push_status(status, date, into)?;
+    push_body(body, len, into)?;
+    push_allow(status, into)?;
+    push_close(closes, into)?;
+    into.push_slice(b"\r\n")
+}
+
+/// Appends the line of a status, and the line of a date.
+fn push_status(status: Status, date: HttpDate, into: &mut Bytes) -> Result<(), NoMemory>
+    ensures { OnOk result (into.new ≡ into.old ++ status_lines status date) }
+{
     into.push_slice(b"HTTP/1.1 ")?;
     into.push_slice(status.words())?;
     into.push_slice(b"\r\nDate: ")?;
-    into.push_slice(date)?;
-    into.push_slice(b"\r\nContent-Type: ")?;
-    into.push_slice(kind)?;
+    into.push_slice(&date.to_bytes())?;
+    into.push_slice(b"\r\n")
+}
+
+/// Appends the lines of the type and the length of a body.
+fn push_body(body: Body, len: u64, into: &mut Bytes) -> Result<(), NoMemory>
+    ensures { OnOk result (into.new ≡ into.old ++ body_lines body len) }
+{
+    let mut digits = Buffer::new();
+    into.push_slice(b"Content-Type: ")?;
+    into.push_slice(body.media_type())?;
     into.push_slice(b"\r\nContent-Length: ")?;
     into.push_slice(digits.format(len).as_bytes())?;
-    into.push_slice(b"\r\n")?;
-    push_allow(status, into)?;
-    push_close(closes, into)?;
     into.push_slice(b"\r\n")
 }
 

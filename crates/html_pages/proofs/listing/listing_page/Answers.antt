@@ -1,4 +1,4 @@
-use Rattle.std.proofs.Common.{◌≡◌, ◌++◌, ap, ◌∙◌, min}
+use Rattle.std.proofs.Common.{◌≡◌, ◌++◌, ap, ◌∙◌}
 use Rattle.std.specs.Borrow.{Bor}
 use Rattle.std.specs.List.{flat_map}
 use Rattle.std.specs.Prelude.{codes, length}
@@ -20,4 +20,4 @@ returns c =
     let four = c.in_ok-push_rows.ensures ∙ ap (λ t. t ++ flat_map (λ (row : Bor Row). row_line name row.now) shown) three in
     let five = c.in_ok-push_older.ensures ∙ ap (λ t. t ++ older_link c.args.skip (length older)) four in
     let six = c.in_ok-end_page.ensures ∙ ap (λ t. t ++ codes "</pre></body></html>\n") five in
-    listing-made name c.args.rows.now shown older c.min.result c.args.skip c.end_page.new.into (c.min.ensures ∙ ap (λ k. min k 200) c.len.ensures) c.split_at.ensures.front c.split_at.ensures.back six
+    listing-made name c.args.rows.now shown older c.min.result c.args.skip c.end_page.new.into c.min.ensures c.split_at.ensures.front c.split_at.ensures.back six
