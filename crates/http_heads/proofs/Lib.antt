@@ -1,2 +1,2 @@
-pub mod Splits
-pub mod Pushing
+mod Dates
+mod Splits

@@ -2,14 +2,13 @@
 use Rattle.std.specs.Prelude.{ℕ, Bool, true, false, not, List, [], ◌∷◌, ◌++◌, Option, Some, None, codes, if◌then◌else◌}
 use Rattle.std.specs.Fmt.{decimal}
 use Rattle.std.specs.Str.{bytes_eq}
-use Rattle.httpdate.specs.declared.date.HttpDate.{HttpDate}
-use Rattle.httpdate.specs.Date.{date_text}
 use Rattle.http_heads.specs.declared.reply.Status.{Status}
 use Rattle.http_heads.specs.declared.reply.Status.TheVariants.{Done, BadRequest, NotFound, MethodNotAllowed, TooManyRequests, HeadTooLarge, ServerError, Unavailable}
 use Rattle.http_heads.specs.declared.reply.Body.{Body}
 use Rattle.http_heads.specs.declared.reply.Body.TheVariants.{Page, Text, Words}
 use Rattle.http_heads.specs.declared.reply.Verdict.{Verdict}
 use Rattle.http_heads.specs.declared.reply.Verdict.TheVariants.{Serve, Refuse}
+use Rattle.http_heads.specs.Dates.{reply_date}
 use Rattle.http_heads.specs.Heads.{Asked}
 
 -- The code of a status and its reason.
@@ -48,10 +47,10 @@ allow_line Unavailable = []
 abbrev pub close_line : Bool → List ℕ
 close_line closes = if closes then codes "Connection: close" ++ line_end else []
 
--- The line of a status, and the line of a date.
-unfoldable pub status_lines : Status → HttpDate → List ℕ
-status_lines status date =
-    codes "HTTP/1.1 " ++ status_words status ++ codes "\r\nDate: " ++ date_text date ++ line_end
+-- The line of a status, and the line of a moment's date.
+unfoldable pub status_lines : Status → ℕ → List ℕ
+status_lines status moment =
+    codes "HTTP/1.1 " ++ status_words status ++ codes "\r\nDate: " ++ reply_date moment ++ line_end
 
 -- The lines of the type and the length of a body.
 unfoldable pub body_lines : Body → ℕ → List ℕ
@@ -60,9 +59,9 @@ body_lines body len =
     ++ line_end
 
 -- The head of a reply: its status, its date, the type and the length of its body, and an empty line.
-abbrev pub reply_head : Status → HttpDate → Body → ℕ → Bool → List ℕ
-reply_head status date body len closes =
-    status_lines status date ++ body_lines body len ++ allow_line status ++ close_line closes
+abbrev pub reply_head : Status → ℕ → Body → ℕ → Bool → List ℕ
+reply_head status moment body len closes =
+    status_lines status moment ++ body_lines body len ++ allow_line status ++ close_line closes
     ++ line_end
 
 -- What becomes of a head that was read, or that couldn't be (`None`). A body is refused before the

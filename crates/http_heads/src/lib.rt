@@ -2,6 +2,7 @@
 #![tactic(auto)]
 
 mod address;
+mod dates;
 mod fields;
 mod head;
 mod parameters;

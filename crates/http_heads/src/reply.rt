@@ -1,11 +1,12 @@
 //! What becomes of a head, and the head of a reply.
 ghost use Rattle.std.specs.Prelude.{◌≡◌, ◌++◌, OnOk, Some, option_map};
+ghost use Rattle.arch_base.specs.Moments.{IsMoment};
 ghost use Rattle.http_heads.specs.Heads.{shown};
 ghost use Rattle.http_heads.specs.Replies.{status_words, media_type, status_lines, body_lines, allow_line, close_line, reply_head, verdict_of};
 
+use crate::dates::date_at;
 use crate::head::Request;
 use arch_base::{Bytes, NoMemory};
-use httpdate::HttpDate;
 use itoa::Buffer;
 
 /// The status of a reply.
@@ -106,34 +107,36 @@ impl Body {
     }
 }
 
-/// Appends the head of a reply, with its date, and the type and the length of its body.
+/// Appends the head of a reply, with the date of a moment, and the type and the length of its body.
 ///
-/// `NoMemory` may leave a part of the head appended.
+/// The moment is in seconds since 1970 UTC. `NoMemory` may leave a part of the head appended.
 pub fn push_reply_head(
     status: Status,
-    date: HttpDate,
+    moment: u64,
     body: Body,
     len: u64,
     closes: bool,
     into: &mut Bytes,
 ) -> Result<(), NoMemory>
-    ensures { OnOk result (into.new ≡ into.old ++ reply_head status date body len closes) }
+    requires { IsMoment moment }
+    ensures { OnOk result (into.new ≡ into.old ++ reply_head status moment body len closes) }
 {
-    push_status(status, date, into)?;
+    push_status(status, moment, into)?;
     push_body(body, len, into)?;
     push_allow(status, into)?;
     push_close(closes, into)?;
     into.push_slice(b"\r\n")
 }
 
-/// Appends the line of a status, and the line of a date.
-fn push_status(status: Status, date: HttpDate, into: &mut Bytes) -> Result<(), NoMemory>
-    ensures { OnOk result (into.new ≡ into.old ++ status_lines status date) }
+/// Appends the line of a status, and the line of a moment's date.
+fn push_status(status: Status, moment: u64, into: &mut Bytes) -> Result<(), NoMemory>
+    requires { IsMoment moment }
+    ensures { OnOk result (into.new ≡ into.old ++ status_lines status moment) }
 {
     into.push_slice(b"HTTP/1.1 ")?;
     into.push_slice(status.words())?;
     into.push_slice(b"\r\nDate: ")?;
-    into.push_slice(&date.to_bytes())?;
+    into.push_slice(&date_at(moment))?;
     into.push_slice(b"\r\n")
 }
 

@@ -13,38 +13,38 @@ fn listed(alloc: Global, text: &[u8]) -> Option<Bytes> {
 
 /// A mail, and the page of a listing that has it alone.
 #[derive(Drop)]
-struct Listed {
+struct ListedMail {
     text: &'static [u8],
     page: &'static [u8],
 }
 
 /// Mails with subjects, names and ids of all kinds.
-static LISTED: [Listed; 7] = [
-    Listed {
+static LISTED: [ListedMail; 7] = [
+    ListedMail {
         text: FIRST,
         page: b"<html><head><title>list</title></head><body><pre>2024-02-01 10:00 <a href=\"/list/a@x/\">first</a> Ann\n</pre></body></html>\n",
     },
-    Listed {
+    ListedMail {
         text: b"From: Ann <ann@example.org>\nSubject: <b>&\nMessage-ID: <a@x>\n\n",
         page: b"<html><head><title>list</title></head><body><pre>2024-02-01 10:01 <a href=\"/list/a@x/\">&lt;b&gt;&amp;</a> Ann\n</pre></body></html>\n",
     },
-    Listed {
+    ListedMail {
         text: b"Message-ID: <n@x>\n\n",
         page: b"<html><head><title>list</title></head><body><pre>2024-02-01 10:01 <a href=\"/list/n@x/\">(no subject)</a> unknown\n</pre></body></html>\n",
     },
-    Listed {
+    ListedMail {
         text: b"From: Ann\nDate: Fri, 31 Dec 9999 23:59:59 +0000\nSubject: late\nMessage-ID: <l@x>\n\n",
         page: b"<html><head><title>list</title></head><body><pre>9999-12-31 23:59 <a href=\"/list/l@x/\">late</a> Ann@\n</pre></body></html>\n",
     },
-    Listed {
+    ListedMail {
         text: b"From: Ann <a@x>\nDate: Thu, 29 Feb 2024 00:30:00 +0100\nSubject: =?utf-8?Q?Gr=C3=BC=C3=9Fe?=\nMessage-ID: <z@x>\n\n",
         page: b"<html><head><title>list</title></head><body><pre>2024-02-28 23:30 <a href=\"/list/z@x/\">Gr\xc3\xbc\xc3\x9fe</a> Ann\n</pre></body></html>\n",
     },
-    Listed {
+    ListedMail {
         text: b"From: Tom & \"Q\" <t@x>\nSubject: it's\nMessage-ID: <a/b?c#d%e+f-g.h_i~j@x>\n\n",
         page: b"<html><head><title>list</title></head><body><pre>2024-02-01 10:01 <a href=\"/list/a%2Fb%3Fc%23d%25e%2Bf-g.h_i~j@x/\">it's</a> Tom &amp; Q\n</pre></body></html>\n",
     },
-    Listed {
+    ListedMail {
         text: b"Subject: =?utf-8?Q?a=01b=09c=0Ad=7Fe=EF=BF=BEf?=\nMessage-ID: <c@x>\n\n",
         page: b"<html><head><title>list</title></head><body><pre>2024-02-01 10:01 <a href=\"/list/c@x/\">a\xef\xbf\xbdb\tc\nd\xef\xbf\xbde\xef\xbf\xbdf</a> unknown\n</pre></body></html>\n",
     },

@@ -1,7 +1,7 @@
 use Rattle.std.proofs.Common.{◌≡◌, ℕ, List, ◌++◌, ap, ◌∙◌, codes}
 use Rattle.std.specs.Fmt.{decimal}
 use Rattle.http_heads.specs.Replies.{media_type, line_end, body_lines}
-use Rattle.http_heads.proofs.Pushing.{grown, last_grown}
+use Rattle.web_text.proofs.Pushing.{grown, last_grown}
 use Rattle.http_heads.proofs.reply.push_body.Goals as goal
 
 pub returns : goal.returns

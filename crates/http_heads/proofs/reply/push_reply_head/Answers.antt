@@ -1,12 +1,12 @@
 use Rattle.std.proofs.Common.{◌≡◌, ℕ, List, ◌++◌}
 use Rattle.http_heads.specs.Replies.{status_lines, body_lines, allow_line, close_line, line_end}
-use Rattle.http_heads.proofs.Pushing.{grown, last_grown}
+use Rattle.web_text.proofs.Pushing.{grown, last_grown}
 use Rattle.http_heads.proofs.reply.push_reply_head.Goals as goal
 
 pub returns : goal.returns
 returns c =
     let first = c.args.into.now in
-    let front_1 : List ℕ = status_lines c.args.status c.args.date in
+    let front_1 : List ℕ = status_lines c.args.status c.args.moment in
     let is_1 : c.push_status.new.into ≡ first ++ front_1 = c.in_ok-push_status.ensures in
     let front_2 : List ℕ = front_1 ++ body_lines c.args.body c.args.len in
     let is_2 : c.push_body.new.into ≡ first ++ front_2 = grown first c.push_status.new.into c.push_body.new.into front_1 (body_lines c.args.body c.args.len) is_1 c.in_ok-push_body.ensures in
