@@ -1,2 +1,3 @@
-mod Dates
+mod ReplyDays
 mod Splits
+mod Targets

@@ -10,8 +10,8 @@ pub(crate) fn date_at(moment: u64) -> [u8; 29]
     requires { IsMoment moment }
     ensures { result ≡ reply_date moment }
 {
-    match HttpDate::from_unix_secs(moment) {
-        Ok(date) => date.to_bytes(),
-        Err(_) => unreachable!(),
-    }
+    let Ok(date) = HttpDate::from_unix_secs(moment) else {
+        unreachable!()
+    };
+    date.to_bytes()
 }

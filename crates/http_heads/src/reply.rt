@@ -52,7 +52,7 @@ pub enum Verdict {
 
 /// Returns what becomes of a head that was read, or that couldn't be.
 pub fn judge(request: Option<Request<'_>>) -> Verdict
-    ensures { result ≡ verdict_of (option_map shown request) }
+    ensures { result ≡ verdict_of (option_map shown request.entry) }
 {
     match request {
         None => Verdict::Refuse(Status::BadRequest, true),

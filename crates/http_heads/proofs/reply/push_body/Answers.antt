@@ -15,5 +15,5 @@ returns c =
     let front_3 : List ℕ = front_2 ++ codes "\r\nContent-Length: " in
     let is_3 : c.push_slice-3.new.self ≡ first ++ front_3 = grown first c.push_slice-2.new.self c.push_slice-3.new.self front_2 (codes "\r\nContent-Length: ") is_2 c.in_ok-push_slice-3.ensures in
     let front_4 : List ℕ = front_3 ++ decimal c.args.len in
-    let is_4 : c.push_slice-4.new.self ≡ first ++ front_4 = grown first c.push_slice-3.new.self c.push_slice-4.new.self front_3 (decimal c.args.len) is_3 (c.in_ok-push_slice-4.ensures ∙ ap (λ t. c.push_slice-3.new.self ++ t) (c.as_bytes.ensures.value ∙ c.format.ensures)) in
+    let is_4 : c.push_slice-4.new.self ≡ first ++ front_4 = grown first c.push_slice-3.new.self c.push_slice-4.new.self front_3 (decimal c.args.len) is_3 (c.in_ok-push_slice-4.ensures ∙ ap (λ t. c.push_slice-3.new.self ++ t) (c.as_bytes.ensures.value ∙ c.format.ensures.text)) in
     last_grown c.push_slice-5.result first c.push_slice-4.new.self c.push_slice-5.new.self front_4 (line_end) is_4 c.push_slice-5.ensures

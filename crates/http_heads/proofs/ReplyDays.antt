@@ -26,7 +26,7 @@ in_month : (n y m d : ℕ) → IsNth n (day_of y m d) → d < days_in_month y m 
 in_month n y m d h more =
     let low = h.days.0 in
     let here : days_from_civil y m d ≡ n = h.number in
-    record { year = h.year; month = h.month; days = (omega arith, omega arith); number = omega (arith, here); }
+    record { year = h.year; month = h.month; days = (omega arith, omega arith); number = omega (arith, here) }
 
 first_day : (y m : ℕ) → 1 ≤ days_in_month y m
 first_day y m = grind arith
@@ -83,8 +83,8 @@ next_by n y m d false true e f h = in_year n y m d h (grind (arith, nat_tests, e
 next_by n y m d false false e f h = of_year n y m d h (grind (arith, nat_tests, e)) (grind (arith, nat_tests, f))
 
 start : IsNth 0 (day_of 1970 1 1)
-unfolding days_of_years, days_of_months
-start = record { year = omega arith; month = (omega arith, omega arith); days = (omega arith, omega arith); number = refl; }
+unfolding days_of_years days_of_months
+start = record { year = omega arith; month = (omega arith, omega arith); days = (omega arith, omega arith); number = refl }
 
 nth_day : (n : ℕ) → IsNth n (day_at n)
 unfolding day_at
