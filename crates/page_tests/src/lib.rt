@@ -1,6 +1,9 @@
-//! Tests of pages, by their public calls alone. The pages were worked out by hand from the formats.
+//! Tests of pages and of heads, by their public calls alone. Pages and heads were worked out by hand
+//! from the formats.
 #![tactic(auto)]
 
+#[cfg(test)]
+mod head_tests;
 #[cfg(test)]
 mod hostile_tests;
 #[cfg(test)]
@@ -9,5 +12,7 @@ mod listing_tests;
 mod mails;
 #[cfg(test)]
 mod message_tests;
+#[cfg(test)]
+mod target_tests;
 #[cfg(test)]
 mod thread_tests;
