@@ -1,8 +1,8 @@
 -- The markup of lines and of pages: that of their links.
-use Rattle.std.proofs.Common.{◌≡◌, ℕ, zero, suc, ◌+◌, ◌*◌, ◌/◌, ◌%◌, ◌^◌, ◌<◌, ◌≤◌, Bool, true, false, cond, eqb, List, [], ◌∷◌, ◌++◌, Option, Some, None, length, take, drop, refl, sym, ap, ◌∙◌, arith, append_assoc, append-nil, min, length-take, length-drop}
+use Rattle.std.proofs.Common.{◌≡◌, ℕ, zero, suc, ◌+◌, ◌*◌, ◌%◌, ◌^◌, ◌<◌, ◌≤◌, Bool, true, false, cond, eqb, List, [], ◌∷◌, ◌++◌, Option, Some, None, length, take, drop, refl, ap, ◌∙◌, arith, append_assoc, append-nil, min, length-take, length-drop}
 use Rattle.std.specs.Prelude.{codes, filter, replicate}
 use Rattle.std.specs.Fmt.{decimal}
-use Rattle.std.specs.List.{flat_map, concat}
+use Rattle.std.specs.List.{flat_map}
 use Rattle.std.proofs.lemmas.Bool.{eqb-true, eqb-false}
 use Rattle.std.proofs.lemmas.Fmt.{decimal_by_steps_wide}
 use Rattle.std.proofs.lemmas.List.Elements.{filter-append}
@@ -18,7 +18,7 @@ use Rattle.html_pages.specs.declared.thread_line.ThreadLine.{ThreadLine}
 use Rattle.html_pages.specs.declared.thread_line.ThreadEntry.{ThreadEntry}
 use Rattle.html_pages.specs.declared.thread_line.ThreadEntry.TheVariants.{Mail, Missing}
 use Rattle.html_pages.specs.Pieces.{page_date, address}
-use Rattle.html_pages.specs.Lines.{row_line, rows_shown, older_link, field_line, header_line, links_line, indent, entry_line, thread_line}
+use Rattle.html_pages.specs.Lines.{row_line, older_link, field_line, header_line, links_line, indent, entry_line, thread_line}
 use Rattle.html_pages.specs.Pages.{page_of, shown_fields, message_lines, listing_of, message_of, thread_of}
 use Rattle.html_pages.specs.Laws.{is_markup, markup, link_markup, links_markup, page_markup, is_of_mail, mail_count, ListingHasItsTags, MessageHasItsTags, ThreadHasItsTags}
 use Rattle.html_pages.proofs.Markup.{apart, none-all, none-append, none-cons, text_none, address_none, name_none}

@@ -1,5 +1,5 @@
 -- The rows that a listing shows, and those after them.
-use Rattle.std.proofs.Common.{◌≡◌, ℕ, ◌<◌, ◌≤◌, ◌⊎◌, inl, inr, List, ◌++◌, length, take, drop, sym, ap, ◌∙◌, arith, min, append_assoc}
+use Rattle.std.proofs.Common.{◌≡◌, ℕ, ◌≤◌, inl, inr, List, ◌++◌, length, take, drop, sym, ap, ◌∙◌, arith, min, append_assoc}
 use Rattle.std.specs.Borrow.{Bor}
 use Rattle.std.specs.List.{flat_map}
 use Rattle.std.specs.Prelude.{map, codes}
@@ -7,7 +7,7 @@ use Rattle.std.proofs.lemmas.Bool.{cases_order}
 use Rattle.std.proofs.lemmas.List.{take-map, drop-map, take_all, drop_all, length-map}
 use Rattle.std.proofs.lemmas.List.Folds.{flat_map-map}
 use Rattle.mail_rows.specs.declared.row.Row.{Row}
-use Rattle.html_pages.specs.Lines.{row_line, rows_shown, older_link}
+use Rattle.html_pages.specs.Lines.{row_line, older_link}
 use Rattle.html_pages.specs.Pages.{page_of, listing_of}
 
 least_left : (a b : ℕ) → a ≤ b → min a b ≡ a

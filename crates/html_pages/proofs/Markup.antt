@@ -1,17 +1,17 @@
 -- The markup of texts and of addresses.
-use Rattle.std.proofs.Common.{◌≡◌, ℕ, zero, suc, ◌+◌, ◌/◌, ◌%◌, ◌<◌, ◌≤◌, Bool, true, false, cond, eqb, ltb, List, [], ◌∷◌, ◌++◌, get_or, refl, sym, ap, ◌∙◌, arith}
+use Rattle.std.proofs.Common.{◌≡◌, ℕ, suc, ◌+◌, ◌/◌, ◌%◌, ◌<◌, ◌≤◌, Bool, true, false, cond, eqb, ltb, List, [], ◌∷◌, ◌++◌, get_or, refl, sym, ap, ◌∙◌, arith}
 use Rattle.std.specs.Prelude.{◌||◌, codes}
 use Rattle.std.specs.Char.{encode_utf8}
 use Rattle.std.specs.Fmt.{digit_glyph}
 use Rattle.std.specs.List.{All, flat_map}
 use Rattle.std.specs.Str.{chars}
 use Rattle.std.specs.Str.Lossy.{utf8_lossy}
-use Rattle.std.proofs.lemmas.Bool.{eqb-false, ne_eqb, or_from}
+use Rattle.std.proofs.lemmas.Bool.{ne_eqb, or_from}
 use Rattle.std.proofs.lemmas.Bool.Decides.{nat_tests}
 use Rattle.std.proofs.lemmas.List.Elements.{filter-append}
 use Rattle.arch_base.specs.Names.{IsName, is_name_byte}
 use Rattle.web_text.specs.Addresses.{is_plain, in_address, inside, escaped_bytes, address_of}
-use Rattle.web_text.specs.Escapes.{is_excluded, shown, spelled, escaped_chars, escaped}
+use Rattle.web_text.specs.Escapes.{is_excluded, shown, spelled, escaped_chars}
 use Rattle.html_pages.specs.Pieces.{address}
 use Rattle.html_pages.specs.Laws.{is_markup, markup, TextMakesNoTag, AddressMakesNoTag}
 

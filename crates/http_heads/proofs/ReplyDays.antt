@@ -1,10 +1,9 @@
 -- The days after the first of January 1970 in the calendar of heads.
-use Rattle.std.proofs.Common.{◌≡◌, ℕ, zero, suc, ◌+◌, ◌-◌, ◌*◌, ◌/◌, ◌%◌, ◌<◌, ◌≤◌, inl, inr, Bool, true, false, cond, nat_lt, List, refl, sym, ap, ◌∙◌, subst, arith, rules}
+use Rattle.std.proofs.Common.{◌≡◌, ℕ, zero, suc, ◌+◌, ◌-◌, ◌*◌, ◌/◌, ◌%◌, ◌<◌, ◌≤◌, inl, inr, Bool, true, false, cond, nat_lt, refl, sym, ap, ◌∙◌, subst, arith}
 use Rattle.std.proofs.lemmas.Bool.Decides.{nat_tests}
 use Rattle.std.proofs.lemmas.Bool.{cases_order}
 use Rattle.std.specs.Int.{IsInRange}
 use Rattle.arch_base.specs.Moments.{IsMoment}
-use Rattle.httpdate.specs.declared.parts.Parts.{Parts}
 use Rattle.httpdate.specs.declared.date.HttpDate.{HttpDate}
 use Rattle.httpdate.specs.Calendar.{days_in_year, days_in_month, days_of_years, days_of_months, days_from_civil, weekday, IsCivilDate}
 use Rattle.httpdate.specs.Date.{date_text, unix_secs}
@@ -12,7 +11,7 @@ use Rattle.httpdate.specs.Text.{imf_fixdate}
 use Rattle.httpdate.proofs.CalendarLemmas.{days_of_years_closed, days_of_months_closed, days_of_months_more, days_of_months_all, days_from_civil_year}
 use Rattle.httpdate.proofs.Theorems.{unix_secs_injective}
 use Rattle.web_text.specs.Days.{Day, day_of, day_at}
-use Rattle.http_heads.specs.Dates.{clock_at, parts_at, reply_date}
+use Rattle.http_heads.specs.Dates.{clock_at, reply_date}
 
 -- The calendar has the day, and it is so many days after the first of January 1970.
 record IsNth (n : ℕ) (d : Day) : Type 0 where

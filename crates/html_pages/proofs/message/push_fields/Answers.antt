@@ -1,4 +1,4 @@
-use Rattle.std.proofs.Common.{◌≡◌, ℕ, List, ◌++◌, ◌∙◌, codes}
+use Rattle.std.proofs.Common.{◌≡◌, ℕ, List, ◌++◌, codes}
 use Rattle.html_pages.specs.Lines.{header_line}
 use Rattle.html_pages.proofs.FieldLines.{six_lines}
 use Rattle.web_text.proofs.Pushing.{grown, last_ok}

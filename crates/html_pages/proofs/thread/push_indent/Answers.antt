@@ -1,4 +1,4 @@
-use Rattle.std.proofs.Common.{◌≡◌, ◌*◌, ap, ◌∙◌, rules, min}
+use Rattle.std.proofs.Common.{◌≡◌, ◌*◌, ap, rules, min}
 use Rattle.std.specs.Prelude.{replicate}
 use Rattle.html_pages.proofs.Indents.{indent-taken}
 use Rattle.html_pages.proofs.thread.push_indent.Goals as goal

@@ -1,4 +1,4 @@
-use Rattle.std.proofs.Common.{◌≡◌, ◌+◌, ◌∙◌, ap, drop, arith}
+use Rattle.std.proofs.Common.{◌+◌, ◌∙◌, ap, drop, arith}
 use Rattle.http_heads.proofs.Targets.{query-some, query-none}
 use Rattle.http_heads.proofs.parameters.split_target.Goals as goal
 

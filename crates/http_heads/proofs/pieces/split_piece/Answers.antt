@@ -1,4 +1,4 @@
-use Rattle.std.proofs.Common.{◌≡◌, refl, ◌∙◌, arith}
+use Rattle.std.proofs.Common.{refl, ◌∙◌, arith}
 use Rattle.http_heads.proofs.Splits.{split-none, split-some}
 use Rattle.http_heads.proofs.pieces.split_piece.Goals as goal
 
