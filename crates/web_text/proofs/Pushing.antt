@@ -10,3 +10,8 @@ pub last_grown : {E : Type 0} (r : Result Unit E) (first old new front piece : L
     → OnOk r (new ≡ first ++ (front ++ piece))
 last_grown (Ok done) first old new front piece so_far e = grown first old new front piece so_far e
 last_grown (Err why) first old new front piece so_far e = tt
+
+-- The last piece, of a call that says nothing of a failure.
+pub last_ok : {E : Type 0} {A B : Type 0} (r : Result Unit E) → (A → B) → OnOk r A → OnOk r B
+last_ok (Ok done) f a = f a
+last_ok (Err why) f a = tt
