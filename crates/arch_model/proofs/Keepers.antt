@@ -1,11 +1,11 @@
 -- What follows for whoever calls a keeper.
-use Rattle.std.proofs.Common.{◌≡◌, ◌≤◌, ◌⊎◌, ℕ, Bool, true, false, List, [], ◌∷◌, ◌++◌, Option, Some, None, is_some, Result, Ok, Err, inl, inr, refl, sym, ap, subst, ◌∙◌, arith}
+use Rattle.std.proofs.Common.{◌≡◌, ◌≤◌, ℕ, Bool, true, false, List, [], ◌∷◌, ◌++◌, Option, Some, None, inl, inr, refl, sym, ap, subst, ◌∙◌, arith}
 use Rattle.std.specs.List.{Contains}
 use Rattle.std.proofs.lemmas.Bool.{false≢true}
 use Rattle.arch_model.specs.Archives.{Archive}
 use Rattle.arch_model.specs.Delivery.{Done}
 use Rattle.arch_model.specs.Standing.{Standing, standing, with_doubt, one_of, IsFound}
-use Rattle.arch_model.specs.Keeping.{HasDoubt, Has, HasAll, Passes, Fits, Moves, OnlyRead, Settles, Ending, Accepts, Refuses, Starves, Fails, Breaks, StaysShut, Obeys, Doubts, StaysStale, ComesBy, Comes, StaysReady, CauseBy, AnswerCause, OpeningWhy, opening_answer}
+use Rattle.arch_model.specs.Keeping.{HasDoubt, Has, HasAll, Passes, Fits, Moves, OnlyRead, Settles, Ending, Accepts, Refuses, Starves, Fails, Breaks, StaysShut, ComesBy, Comes, StaysReady, CauseBy, AnswerCause, OpeningWhy, opening_answer}
 use Rattle.arch_model.specs.Untold.{HoldsNone, LeavesUntold}
 use Rattle.arch_model.specs.declared.answer.Answer.{Answer}
 use Rattle.arch_model.specs.declared.opening.OpenRefusal.{OpenRefusal}

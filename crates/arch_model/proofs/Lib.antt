@@ -4,6 +4,7 @@ pub mod Deliveries
 pub mod FirstChoice
 pub mod Owners
 pub mod EpochLemmas
+pub mod LiveEntries
 pub mod ValidArchives
 pub mod Keepers
 pub mod Shelving
