@@ -1,33 +1,47 @@
 -- What the archive in memory holds.
-use Rattle.std.specs.Prelude.{◌≡◌, ◌+◌, ◌-◌, ◌≤◌, ◌==◌, ◌||◌, nat_lt, ℕ, take, Bool, Result, Ok, Err, List, [], ◌∷◌, ◌++◌, length, Option, Some, None, if◌then◌else◌}
+use Rattle.std.specs.Prelude.{◌≡◌, ◌+◌, ◌-◌, ◌<◌, ◌≤◌, slice_get, ◌==◌, ◌||◌, nat_lt, ℕ, take, Bool, Result, Ok, Err, List, [], ◌∷◌, ◌++◌, length, Option, Some, None, if◌then◌else◌}
 use Rattle.arch_base.specs.Configs.{IsConfig}
 use Rattle.arch_base.specs.declared.config.Config.{Config}
 use Rattle.arch_base.specs.declared.ids.Id20.{Id20}
 use Rattle.disk_model.specs.Sizes.{greatest_epoch}
-use Rattle.arch_model.specs.Archives.{Entry, Archive, in_epoch, has_entry}
+use Rattle.arch_model.specs.Archives.{Entry, Archive, live, text_of, in_epoch, has_entry}
+use Rattle.arch_model.specs.Validity.{Rise, AtEachPlace, EndsLive, IdsDiffer, BlobsAgree}
+use Rattle.std.specs.List.{AllByRecursion}
 use Rattle.arch_model.specs.Delivery.{last_epoch}
 use Rattle.arch_model.specs.Epochs.{epoch_bytes, last_commit}
 use Rattle.arch_model.specs.Shelves.{lines_after}
 use Rattle.arch_model.specs.declared.line.EntryLine.{EntryLine}
 use Rattle.git_objects.specs.Objects.{blob_id_of}
-use Rattle.mail_commits.specs.Entries.{commit_id, entry_bytes, magic, message_kind}
+use Rattle.mail_commits.specs.Entries.{commit_id, entry_bytes, magic}
+use Rattle.git_objects.specs.declared.entry_kind.EntryKind.{EntryKind}
+use Rattle.git_objects.specs.declared.entry_kind.EntryKind.TheVariants.{Message}
 use Rattle.mem_archive.specs.declared.kept.Kept.{Kept}
+use Rattle.mem_archive.specs.declared.kept.Place.{Place}
 use Rattle.mem_archive.specs.declared.kept.End.{End}
 use Rattle.arch_base.specs.declared.sequence.NoMemory.{NoMemory}
 use Rattle.arch_judge.specs.Indexes.{IsIndex}
 use Rattle.arch_judge.specs.declared.index.Index.{Index}
 
--- The entries of kept messages, the first of which has this number.
-abbrev pub entries_from : ℕ → List Kept → List Entry
-entries_from n [] = []
-entries_from n (k ∷ ks) = record { number = n; epoch = k.epoch; text = k.text; moment = k.moment }
-    ∷ entries_from (n + 1) ks
+-- The entry that is kept so.
+abbrev pub entry_of : Kept → Entry
+entry_of k = record {
+  kind = k.kind;
+  number = k.number;
+  epoch = k.epoch;
+  text = k.text;
+  moment = k.moment;
+}
 
--- A kept message with this number, without its text.
-abbrev pub line_of : ℕ → Kept → EntryLine
-line_of n k = record {
-  kind = message_kind;
-  number = n;
+-- The entries that are kept so.
+abbrev pub entries_of : List Kept → List Entry
+entries_of [] = []
+entries_of (k ∷ ks) = entry_of k ∷ entries_of ks
+
+-- A kept entry without its text.
+abbrev pub line_of : Kept → EntryLine
+line_of k = record {
+  kind = k.kind;
+  number = k.number;
   epoch = k.epoch;
   secs = k.moment;
   blob = blob_id_of k.text;
@@ -35,15 +49,29 @@ line_of n k = record {
   commit = k.commit;
 }
 
--- Kept messages without their texts, the first of which has this number.
-abbrev pub lines_from : ℕ → List Kept → List EntryLine
-lines_from n [] = []
-lines_from n (k ∷ ks) = line_of n k ∷ lines_from (n + 1) ks
+-- Kept entries without their texts.
+abbrev pub lines_of : List Kept → List EntryLine
+lines_of [] = []
+lines_of (k ∷ ks) = line_of k ∷ lines_of ks
 
--- The archive of kept messages.
-abbrev pub archive_of : Config → List Kept → Archive
-archive_of config kept =
-    record { config = config; entries = entries_from 1 kept; next = length kept + 1 }
+-- The archive of kept entries, whose messages have the places of the numbers from 1 on.
+abbrev pub archive_of : Config → List Kept → List Place → Archive
+archive_of config kept places =
+    record { config = config; entries = entries_of kept; next = length places + 1 }
+
+-- A place has the index of a number's message, and tells whether it is live.
+pub record IsPlace (kept : List Kept) (number : ℕ) (place : Place) : Type 0 where
+  pub entry : Kept
+  pub is_there : slice_get kept place.entry ≡ Some entry
+  pub kind : entry.kind ≡ Message
+  pub number_is : entry.number ≡ number
+  pub shown : text_of (live (entries_of kept)) number
+      ≡ (if place.live then Some entry.text else None)
+
+-- Each number from 1 on has its place.
+abbrev pub ArePlaces : List Kept → ℕ → List Place → Type 0
+ArePlaces kept number [] = Unit {0}
+ArePlaces kept number (p ∷ ps) = IsPlace kept number p × ArePlaces kept (number + 1) ps
 
 -- The end holds the room and the last commit of its epoch.
 pub record IsEnd (limit : ℕ) (entries : List Entry) (end_ : End) : Type 0 where
@@ -51,15 +79,24 @@ pub record IsEnd (limit : ℕ) (entries : List Entry) (end_ : End) : Type 0 wher
   pub parent : end_.parent ≡ last_commit None (in_epoch entries end_.epoch)
   pub small : end_.epoch ≤ greatest_epoch
 
--- What is kept is sound: the settings are valid, no number is above the greatest, the index has the
--- messages, each has the id of its commit, and the end is that of the last epoch.
-pub record IsKept (config : Config) (kept : List Kept) (index : Index) (end_ : End) : Type 0 where
+-- What is kept is sound: the settings are valid, no number is above the greatest, each has its place,
+-- numbers rise, deletions end live messages, live ids differ and each blob id has one text, the index
+-- is that of the entries, each has the id of its commit, and the end is that of the last epoch.
+pub record IsKept (config : Config) (kept : List Kept) (places : List Place) (index : Index)
+    (end_ : End) : Type 0 where
   pub settings : IsConfig config
-  pub numbers : length kept ≤ config.max
-  pub indexed : IsIndex (entries_from 1 kept) index
-  pub lines : lines_from 1 kept ≡ lines_after [] (entries_from 1 kept)
-  pub last : end_.epoch ≡ last_epoch (entries_from 1 kept)
-  pub ends : IsEnd config.limit (entries_from 1 kept) end_
+  pub numbers : length places ≤ config.max
+  pub placed : ArePlaces kept 1 places
+  pub below : AllByRecursion (λ (e : Entry). e.number < length places + 1) (entries_of kept)
+  pub order : Rise 1 0 (entries_of kept)
+  pub deletions : AtEachPlace (λ (before : List Entry) (e : Entry). EndsLive e.kind before e) []
+      (entries_of kept)
+  pub ids : IdsDiffer (live (entries_of kept))
+  pub blobs : BlobsAgree (entries_of kept)
+  pub indexed : IsIndex (entries_of kept) index
+  pub lines : lines_of kept ≡ lines_after [] (entries_of kept)
+  pub last : end_.epoch ≡ last_epoch (entries_of kept)
+  pub ends : IsEnd config.limit (entries_of kept) end_
 
 -- The bytes before those of an entry: an epoch's first bytes, if the entry has no parent.
 abbrev pub front_bytes : Option Id20 → List ℕ
@@ -76,12 +113,11 @@ abbrev pub end_for_new : ℕ → End → End
 end_for_new limit end_ = end_by_room end_.room limit end_
 
 -- The end after one more entry.
-abbrev pub end_after : End → List ℕ → ℕ → End
-end_after end_ text moment = record {
+abbrev pub end_after : End → EntryKind → List ℕ → ℕ → End
+end_after end_ kind text moment = record {
   epoch = end_.epoch;
-  room = end_.room
-      - length (front_bytes end_.parent ++ entry_bytes message_kind text moment end_.parent);
-  parent = Some (commit_id message_kind text moment end_.parent);
+  room = end_.room - length (front_bytes end_.parent ++ entry_bytes kind text moment end_.parent);
+  parent = Some (commit_id kind text moment end_.parent);
 }
 
 -- The new bytes start with the old ones.
