@@ -20,7 +20,8 @@ use Rattle.epoch_store.specs.declared.entries.StoredEntry.{StoredEntry}
 use Rattle.epoch_store.specs.declared.refusal.InitRefusal.{InitRefusal}
 use Rattle.epoch_store.specs.declared.refusal.InitRefusal.TheVariants as making
 use Rattle.epoch_store.specs.First.{MakingAnswers, RefusesToMake}
-use Rattle.epoch_store.specs.Opens.{ReadsAs, ReadsWith, RecoversOf, RecoversOfWith, AllRecoverOf, AllRecoverWith, IsWant, SyncsFirst, OnSynced}
+use Rattle.epoch_store.specs.Files.{as_read}
+use Rattle.epoch_store.specs.Opens.{Opens, ReadsAs, ReadsWith, RecoversOf, RecoversOfWith, AllRecoverOf, AllRecoverWith, IsWant, SyncsFirst, OnSynced}
 use Rattle.epoch_store.specs.Recovery.{Recovers}
 use Rattle.epoch_store.specs.Stores.{View, IsStoreOf, IsStoreWith, IsDiskOf, RecoversEither, RecoversEitherWith}
 use Rattle.archive_core.specs.Commands.{DoneBy}
@@ -28,7 +29,7 @@ use Rattle.archive_core.specs.Engines.{Owning}
 use Rattle.archive_core.specs.Openings.{LeavesKindly}
 use Rattle.archive_core.proofs.Counting.{stored_length}
 use Rattle.archive_core.proofs.Engines.{all_recover, reads_one, stands_for}
-use Rattle.archive_cli.specs.DiskCommands.{Makes, unmade, IsFault, Answers, DeliversTo, ChecksTo, StandsAs, StaysUnopened, DeliversOn, DeliveryLeaves}
+use Rattle.archive_cli.specs.DiskCommands.{Makes, unmade, IsFault, IsOpenedAs, Answers, DeliversTo, ChecksTo, StandsAs, StaysUnopened, DeliversOn, DeliveryLeaves}
 use Rattle.archive_cli.specs.declared.outcome.Outcome.{Outcome}
 use Rattle.archive_cli.specs.declared.outcome.Outcome.TheVariants.{Made, Checked, Answered, Unopened}
 
@@ -46,15 +47,19 @@ unmade-makes config why o old new is answer refused = subst (λ (p : Outcome). M
     of_why making.DiskFault exists kept = tt
     of_why making.NoMemory exists kept = kept
 
-pub unmade-cause : (before now : ℕ) (why : InitRefusal) (o : Outcome) → o ≡ unmade why → RoseIf (Err {T = View} why ≡ Err making.DiskFault) before now → RoseIf (IsFault o) before now
+-- Making an archive was refused.
+abbrev not_made : InitRefusal → Result View InitRefusal
+not_made why = Err why
+
+pub unmade-cause : (before now : ℕ) (why : InitRefusal) (o : Outcome) → o ≡ unmade why → RoseIf (not_made why ≡ not_made making.DiskFault) before now → RoseIf (IsFault o) before now
 unmade-cause before now why o is rose = record { later = rose.later; failed = λ fault. rose.failed (of_why why (subst IsFault is fault)) }
   where
-    of_why : (w : InitRefusal) → IsFault (unmade w) → Err {T = View} w ≡ Err making.DiskFault
-    of_why making.Exists (inl no) = absurd (cc no)
-    of_why making.Exists (inr no) = absurd (cc no)
+    of_why : (w : InitRefusal) → IsFault (unmade w) → not_made w ≡ not_made making.DiskFault
+    of_why making.Exists (inl other) = absurd (cc other)
+    of_why making.Exists (inr other) = absurd (cc other)
     of_why making.DiskFault fault = refl
-    of_why making.NoMemory (inl no) = absurd (cc no)
-    of_why making.NoMemory (inr no) = absurd (cc no)
+    of_why making.NoMemory (inl other) = absurd (cc other)
+    of_why making.NoMemory (inr other) = absurd (cc other)
 
 -- What a refusal to open leaves of an archive that a message was for.
 pub unopened-delivers : (a : Archive) (bytes : List ℕ) (moment : ℕ) (why : OpenRefusal) (old new : Option Content) → ReadsAs a old → IsWant why → LeavesKindly why old new → DeliversTo a bytes moment (Unopened why) new
@@ -71,10 +76,15 @@ unopened-checks a refusal.DiskFault old new reads want kind = tt
 unopened-checks a refusal.NoMemory old new reads want kind = kind a [] reads
 
 -- The counts of a store are those of its archive.
-pub opened-checks : (v : View) (a : Archive) (content : Option Content) (entries live next : ℕ) → IsStoreOf v a content → entries ≡ length v.entries → live ≡ length a.entries → next ≡ a.next → ChecksTo a (Checked entries live next) content
+pub opened-checks : (v : View) (a : Archive) (content : Option Content) (entries live next : ℕ) → IsStoreOf v a content → entries ≡ length v.entries → live ≡ length a.entries → next ≡ v.root.next → ChecksTo a (Checked entries live next) content
 opened-checks v a None entries live next store count lives following = absurd store
 opened-checks v a (Some k) entries live next store count lives following =
-    (count ∙ (ap (λ (es : List StoredEntry). length es) store.keeps.kept ∙ stored_length [] a.entries), lives, following, (v, store))
+    (count ∙ (ap (λ (es : List StoredEntry). length es) store.keeps.kept ∙ stored_length [] a.entries), lives, following ∙ store.keeps.names.next, (v, store))
+
+-- They are those of what was opened.
+pub opened-as : (v : View) (content : Option Content) (entries live next : ℕ) → WhereTold (λ (k : Content). Opens (as_read k) (Ok v)) content → entries ≡ length v.entries → next ≡ v.root.next → WhereTold (λ (k : Content). IsOpenedAs (as_read k) (Checked entries live next)) content
+opened-as v None entries live next answer count following = tt
+opened-as v (Some k) entries live next answer count following = (v, answer, count, following)
 
 -- The answer of an open archive is the answer on the disk.
 pub done-answers : (v : View) (a : Archive) (wanted : Done) (reply : Answer) (content : Option Content) → DoneBy v [] a wanted reply content → Answers a wanted reply content

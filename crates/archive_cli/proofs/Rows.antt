@@ -73,7 +73,7 @@ module _ (i : Edges) where
   steps-settled s t settles b (inr doubt) = absurd (let no : None ≡ Some b = sym settles.sure ∙ doubt in cc)
 
   module _ (input : List ℕ) (told : IsInput i.left input) (at : ℕ) (first : IsFirst at i.coming) where
-    wanted : Archive → Done
+    abbrev wanted : Archive → Done
     wanted a = delivered a (message_of input) at
 
     with-message : (a b : Archive) → b ≡ (wanted a).archive → FromBy i a b

@@ -1,7 +1,7 @@
 //! The work of `init`, `deliver` and `check` on the archive on a disk.
 //!
 //! Each takes the disk, and hands it back.
-ghost use Rattle.std.specs.Prelude.{◌≤◌, List, Option};
+ghost use Rattle.std.specs.Prelude.{◌≡◌, ◌≤◌, List, Option};
 ghost use Rattle.arch_base.specs.Configs.{IsConfig};
 ghost use Rattle.arch_base.specs.Counts.{RoseIf};
 ghost use Rattle.arch_base.specs.Moments.{last_moment};
@@ -16,7 +16,7 @@ ghost use Rattle.archive_cli.specs.DiskCommands.{Makes, unmade, DeliversTo, Chec
 
 use crate::outcome::Outcome;
 use arch_base::Config;
-use arch_model::{Answer, Command, Shelf};
+use arch_model::{Answer, Command};
 use archive_core::{Engine, NotMade, NotOpened};
 use disk_model::Disk;
 use epoch_store::InitRefusal;
@@ -91,7 +91,7 @@ pub(crate) fn check<D: Disk>(alloc: Global, disk: D) -> (Outcome, D)
             let counts = Outcome::Checked {
                 entries: engine.entry_count(),
                 live: engine.message_count(),
-                next: engine.next_number(),
+                next: engine.next_of_root(),
             };
             (counts, engine.into_disk())
         }

@@ -136,6 +136,13 @@ impl<D: Disk> Engine<D> {
         self.archive.entry_count()
     }
 
+    /// Returns the number of the next message, as the current root has it.
+    pub fn next_of_root(&self) -> u32
+        ensures { result ≡ self.now.view.root.next }
+    {
+        self.archive.next_number()
+    }
+
     /// Returns the number of messages.
     pub fn message_count(&self) -> u32
         ensures { (a : Archive) → Holds D.content self.now a → result ≡ length a.entries }

@@ -1,15 +1,14 @@
 -- What the calls of a keeper mean at the control door.
-use Rattle.std.proofs.Common.{◌≡◌, ◌≤◌, ℕ, Bool, true, false, List, [], ◌++◌, drop, Option, Some, None, is_some, is_ok, Result, Ok, Err, refl, sym, ◌∙◌, ap, subst, arith, if◌then◌else◌}
+use Rattle.std.proofs.Common.{◌≡◌, ◌≤◌, ℕ, Bool, true, false, List, [], ◌++◌, drop, Option, Some, None, is_some, is_ok, Result, refl, sym, subst, arith, if◌then◌else◌}
 use Rattle.std.specs.List.{Contains}
-use Rattle.arch_base.specs.Counts.{Rose}
 use Rattle.line_door.specs.Acts.{Outside, Plain, Memory, Disk, Acts, held_if}
 use Rattle.line_door.specs.Making.{closes}
 use Rattle.edge_io.specs.Phrases.{Says}
 use Rattle.edge_io.specs.declared.sink.SinkFault.{SinkFault}
 use Rattle.line_door.proofs.Acting.{acts-by_held, acts-closing, acts-silent}
-use Rattle.arch_model.specs.Archives.{Archive, Entry, text_of}
+use Rattle.arch_model.specs.Archives.{Archive, text_of}
 use Rattle.arch_model.specs.Delivery.{delivered, answer_line}
-use Rattle.arch_model.specs.Keeping.{Fits, Moves, OnlyRead, Comes, AnswerCause}
+use Rattle.arch_model.specs.Keeping.{Moves, OnlyRead, Comes, AnswerCause}
 use Rattle.arch_model.specs.Shelves.{IsUndamaged, ReadingWhy}
 use Rattle.arch_model.specs.Standing.{Standing, standing}
 use Rattle.arch_model.specs.declared.answer.Answer.{Answer}

@@ -5,7 +5,7 @@ use Rattle.line_door.specs.Acts.{Said, Way}
 use Rattle.line_door.specs.Making.{says, closes, in_ways}
 use Rattle.line_door.specs.Plain.{silent}
 use Rattle.disk_model.specs.Sizes.{epoch_count}
-use Rattle.arch_model.specs.Archives.{Entry, Archive, text_of, in_epoch}
+use Rattle.arch_model.specs.Archives.{Entry, text_of, in_epoch}
 use Rattle.arch_model.specs.Epochs.{epoch_bytes}
 use Rattle.arch_model.specs.Delivery.{Done, delivered, answer_line}
 use Rattle.arch_model.specs.Standing.{Standing, standing}

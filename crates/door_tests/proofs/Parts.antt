@@ -114,14 +114,15 @@ module _ (entries : List Entry) (low : ℕ) where
 
 module _ (a : Archive) (low count : ℕ) (h : List ℕ) where
   -- All was said, or the end was lost.
-  pub streams-end : (begun : Bool) (i j k : Outside) (sent : Result Unit SinkFault) → SoFar a.entries low count begun i j → j.disk ≤ k.disk → Says (whole_line (codes "end")) j.out j.lost k.out k.lost sent → Acts (texts_said a low count h) i (held_if (is_ok sent) h) a k
-  streams-end begun i j k sent before later said =
-      acts-by_held (texts_said a low count h) Plain (streams a h (texts_from a.entries low count ++ whole_line (codes "end"))) i k h a sent refl refl (λ (no : Plain ≡ Disk). (cc)) (omega (arith, before.later, later))
+  pub streams-end : (at : ℕ) (begun : Bool) (i j k : Outside) (sent : Result Unit SinkFault) → at ≡ count → SoFar a.entries low at begun i j → j.disk ≡ k.disk → Says (whole_line (codes "end")) j.out j.lost k.out k.lost sent → Acts (texts_said a low count h) i (held_if (is_ok sent) h) a k
+  streams-end at begun i j k sent all so_far same said =
+      let before : SoFar a.entries low count begun i j = subst (λ (n : ℕ). SoFar a.entries low n begun i j) all so_far in
+      acts-by_held (texts_said a low count h) Plain (streams a h (texts_from a.entries low count ++ whole_line (codes "end"))) i k h a sent refl refl (λ (no : Plain ≡ Disk). (cc)) (omega (arith, before.later, same))
       (Says-then (texts_from a.entries low count) (whole_line (codes "end")) i.out j.out k.out i.lost j.lost k.lost tt sent before.words said) refl
 
   -- No text was said, but why.
-  pub streams-unread : (at : ℕ) (i j k : Outside) (sent : Result Unit SinkFault) → SoFar a.entries low at false i j → SaysUnread j sent k → Acts (texts_said a low count h) i (held_if (is_ok sent) h) a k
-  streams-unread at i j k sent before unread = elim unread.words [
+  pub streams-unread : (at : ℕ) (begun : Bool) (i j k : Outside) (sent : Result Unit SinkFault) → begun ≡ false → SoFar a.entries low at begun i j → SaysUnread j sent k → Acts (texts_said a low count h) i (held_if (is_ok sent) h) a k
+  streams-unread at begun i j k sent unbegun before unread = elim unread.words [
     | inl both ↦ (
         let rose : Rose i.disk k.disk = omega (arith, both.0, before.later) in
         acts-by_held (texts_said a low count h) Disk (says a h disk_word) i k h a sent refl refl (λ is. rose) (omega (arith, before.later, unread.later))
@@ -132,7 +133,7 @@ module _ (a : Archive) (low count : ℕ) (h : List ℕ) where
   ]
     where
       none : Says [] i.out i.lost j.out j.lost (Ok tt)
-      none = subst (λ (w : List ℕ). Says w i.out i.lost j.out j.lost (Ok tt)) (before.none refl) before.words
+      none = subst (λ (w : List ℕ). Says w i.out i.lost j.out j.lost (Ok tt)) (before.none unbegun) before.words
 
   -- A text was lost.
   pub streams-lost : (at : ℕ) (begun : Bool) (i j k : Outside) (fault : SinkFault) → at < count → SoFar a.entries low at begun i j → SaysText (text_of a.entries (low + at)) j (Err fault) k → Acts (texts_said a low count h) i None a k

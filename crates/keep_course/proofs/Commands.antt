@@ -1,8 +1,7 @@
 -- The acts of a command and of a reopening, for any door.
-use Rattle.std.proofs.Common.{◌≡◌, ◌⊎◌, ◌≤◌, ℕ, Bool, true, false, List, [], ◌++◌, Option, Some, None, is_ok, Result, Ok, Err, inl, inr, refl, sym, ap, subst, ◌∙◌, arith}
+use Rattle.std.proofs.Common.{◌≡◌, ◌⊎◌, ◌≤◌, ℕ, true, List, [], Option, Some, None, is_ok, Result, Ok, inl, inr, refl, sym, ap, subst, ◌∙◌}
 use Rattle.std.proofs.lemmas.Bool.{false≢true}
 use Rattle.arch_base.specs.Counts.{Rose}
-use Rattle.edge_io.specs.Taken.{plus}
 use Rattle.edge_io.specs.Phrases.{Says}
 use Rattle.edge_io.specs.declared.sink.SinkFault.{SinkFault}
 use Rattle.edge_io.proofs.Wording.{plus-none}
@@ -18,7 +17,7 @@ use Rattle.arch_model.specs.declared.answer.Answer.TheVariants as answer
 use Rattle.arch_model.specs.declared.opening.OpenRefusal.{OpenRefusal}
 use Rattle.arch_model.specs.declared.opening.OpenRefusal.TheVariants as opening
 use Rattle.arch_model.proofs.Keepers.{found-one}
-use Rattle.keep_course.specs.Answering.{newer_of, newer, said_reopening, said_command}
+use Rattle.keep_course.specs.Answering.{newer_of, newer, said_reopening}
 
 -- A command on the archive that is held was answered, and a door's line for the answer was said. The
 -- door's words are those of `said_command`, as far as they are named here.

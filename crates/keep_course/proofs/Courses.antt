@@ -1,14 +1,13 @@
 -- Acts over a keeper make a course.
 use Rattle.std.proofs.Common.{◌≡◌, ◌⊎◌, Bool, true, false, List, [], ◌∷◌, ◌++◌, Option, Some, None, refl, sym, ap, subst, append_assoc}
-use Rattle.std.specs.List.{Contains}
 use Rattle.std.proofs.lemmas.List.Elements.{Contains-append_left, Contains-append_right}
 use Rattle.line_door.specs.Acts.{Outside, Said, Way, Acts}
-use Rattle.line_door.specs.Course.{Talk, talk, Step, Requests, Last, Fed}
+use Rattle.line_door.specs.Course.{Talk, talk, Requests, Fed}
 use Rattle.line_door.specs.Over.{said_over, talk_over}
 use Rattle.line_door.proofs.Courses.{Requests-more, Last-done}
 use Rattle.line_door.proofs.Lifting.{fed-over}
 use Rattle.arch_model.specs.Archives.{Archive}
-use Rattle.arch_model.specs.Standing.{Standing, standing, with_doubt, one_of}
+use Rattle.arch_model.specs.Standing.{Standing, standing, one_of}
 use Rattle.arch_model.specs.Keeping.{HasDoubt, Has, HasAll, Passes, Fits, OnlyRead}
 use Rattle.arch_model.proofs.Keepers.{has-own, all-split}
 use Rattle.keep_course.specs.Courses.{afters, LeftBy, archives_of, archives_in, Coming, Course, CourseLeft}

@@ -1,5 +1,5 @@
 -- What one act over a keeper does, for any door: it answers a request, or reopens the archive.
-use Rattle.std.specs.Prelude.{◌≡◌, ℕ, Bool, List, [], Option, Some, None}
+use Rattle.std.specs.Prelude.{ℕ, Bool, List, [], Option, Some, None}
 use Rattle.line_door.specs.Acts.{Outside, Said, Way, Plain, Memory, Disk, Newer, Acts, held_if}
 use Rattle.line_door.specs.Making.{says, closes}
 use Rattle.arch_model.specs.Archives.{Archive}

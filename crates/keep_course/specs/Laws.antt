@@ -1,6 +1,6 @@
 -- A small keeper, at which the laws of courses are stated: its state is the archives that it has held
 -- so far, and a crash may leave any of them.
-use Rattle.std.specs.Prelude.{◌≡◌, ℕ, Bool, true, List, [], ◌∷◌, ◌++◌, Option, Some, None}
+use Rattle.std.specs.Prelude.{◌≡◌, ℕ, Bool, true, List, [], ◌∷◌, ◌++◌, Option, Some}
 use Rattle.std.specs.List.{Contains}
 use Rattle.line_door.specs.Acts.{Said, Way}
 use Rattle.line_door.specs.Course.{Talk}

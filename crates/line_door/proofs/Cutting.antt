@@ -5,7 +5,7 @@ use Rattle.edge_io.specs.Taken.{plus}
 use Rattle.line_door.specs.Acts.{Outside, outside, Said, Way, Plain, Disk, Sent, Acts, PlainActs}
 use Rattle.line_door.specs.Course.{Talk, talk, Step, Requests, Last, Fed, PlainStep, PlainRequests, PlainLast, PlainFed}
 use Rattle.line_door.specs.Plain.{silent, said_after, then_by, then_say, if_request, plain_from, plain}
-use Rattle.line_door.specs.Cuts.{more_of, said_with, CutDoor, CutLaw, PiecesLaw, LeftWith, CallsLaw, PlainLaw, PlainIsFed, DoorLaws}
+use Rattle.line_door.specs.Cuts.{more_of, said_with, CutDoor, CutLaw, PiecesLaw, CallsLaw, PlainLaw, PlainIsFed, DoorLaws}
 use Rattle.edge_io.proofs.Wording.{plus-plus, plus-none}
 use Rattle.line_door.proofs.Acting.{acts-from}
 

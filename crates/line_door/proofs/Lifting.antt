@@ -1,7 +1,7 @@
 -- The course of a session is one of a greater door that has the session among its own.
-use Rattle.std.proofs.Common.{◌≡◌, ◌⊎◌, List, [], ◌∷◌, Option, Some, None, Bool, true, false, inl, inr, refl, sym, ap, subst, ◌∙◌}
+use Rattle.std.proofs.Common.{◌≡◌, ◌⊎◌, List, [], ◌∷◌, Option, None, Bool, false, inl, inr, sym, ap, subst, ◌∙◌}
 use Rattle.line_door.specs.Acts.{Outside, Said, Way, Sent, Acts}
-use Rattle.line_door.specs.Course.{Talk, talk, Step, Requests, Last, Fed}
+use Rattle.line_door.specs.Course.{Talk, Step, Requests, Last, Fed}
 use Rattle.line_door.specs.Over.{held_over, said_over, talk_over, talks_over}
 
 module _ {H A J B : Type 0} (state : A → B) (into : H → J) where

@@ -4,8 +4,8 @@ use Rattle.std.specs.Prelude.{if◌then◌else◌}
 use Rattle.std.proofs.lemmas.Bool.{ltb-true, ltb-false, lt-ltb, le-ltb}
 use Rattle.std.proofs.lemmas.List.{length-take-le, take_all, get_or-take, append-nil}
 use Rattle.line_door.specs.Lines.{first_line}
-use Rattle.line_door.specs.LineLaws.{NoFeed, IsLine}
-use Rattle.line_door.specs.Skipping.{Passing, Taken, Skipped, Unended, passed, skipping_front, held_of, IsPassage, SkippingLaw}
+use Rattle.line_door.specs.LineLaws.{IsLine}
+use Rattle.line_door.specs.Skipping.{Taken, Skipped, Unended, passed, skipping_front, held_of, IsPassage, SkippingLaw}
 use Rattle.line_door.specs.declared.skipping.Passage.TheVariants as passage
 use Rattle.line_door.proofs.Fronts.{first_line-goes_on, first_line-joined, first_line-shorter, first_line-at, first_line-none, first_line-append, first_line-append_none, first_line-no_feed, first_line-single}
 

@@ -1,5 +1,5 @@
 -- A streamed reply that stops, or that is lost.
-use Rattle.std.proofs.Common.{◌≡◌, ◌≤◌, ◌<◌, ℕ, min, true, List, ◌++◌, length, take, Option, Some, None, Result, Ok, Err, inl, inr, refl, sym, ap, subst, ◌∙◌, length-append, arith}
+use Rattle.std.proofs.Common.{◌≡◌, ◌≤◌, ◌<◌, ℕ, min, true, List, ◌++◌, length, take, Option, None, Ok, Err, inr, refl, sym, ap, subst, ◌∙◌, length-append, arith}
 use Rattle.std.proofs.Math.Seq.{take-append_seam}
 use Rattle.arch_base.specs.Counts.{Rose}
 use Rattle.edge_io.specs.Taken.{plus}

@@ -1,5 +1,5 @@
 -- What an act says, by its form: the session continues, it is closed, or the words are streamed.
-use Rattle.std.specs.Prelude.{ℕ, List, Option, Some, None, Bool, true, false}
+use Rattle.std.specs.Prelude.{ℕ, List, Some, None, true, false}
 use Rattle.line_door.specs.Acts.{Said, Way, Plain, Memory, Disk, Newer}
 
 -- These words, and the session continues as `h`.

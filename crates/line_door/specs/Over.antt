@@ -1,6 +1,6 @@
 -- A door's sessions as some of a greater door's, as those of one connection among many.
-use Rattle.std.specs.Prelude.{ℕ, Bool, List, [], ◌∷◌, Option, Some, None}
-use Rattle.line_door.specs.Acts.{Said, Way}
+use Rattle.std.specs.Prelude.{List, [], ◌∷◌, Option, Some, None}
+use Rattle.line_door.specs.Acts.{Said}
 use Rattle.line_door.specs.Course.{Talk, talk}
 
 -- The session in the greater door, if it is open.

@@ -1,5 +1,5 @@
 -- The archive in memory as a keeper of itself.
-use Rattle.std.proofs.Common.{◌≡◌, ◌⊎◌, ◌+◌, ◌≤◌, ℕ, Bool, true, false, List, [], ◌∷◌, ◌++◌, Option, Some, None, is_some, Result, Ok, Err, inl, inr, refl, sym, ap, subst, ◌∙◌, arith}
+use Rattle.std.proofs.Common.{◌≡◌, ℕ, Bool, true, List, ◌++◌, Option, Some, None, is_some, Ok, inl, inr, refl, sym, ap, subst, ◌∙◌}
 use Rattle.std.specs.List.{Contains}
 use Rattle.arch_model.specs.Archives.{Archive, text_of}
 use Rattle.arch_model.specs.Delivery.{Done, Delivers}
@@ -7,7 +7,6 @@ use Rattle.arch_model.specs.Standing.{Standing, standing, GivesTextIn}
 use Rattle.arch_model.specs.Keeping.{Fits, Moves, Settles, Comes, StaysReady, AnswerCause}
 use Rattle.arch_model.specs.declared.answer.Answer.{Answer}
 use Rattle.arch_model.specs.declared.answer.Answer.TheVariants as answer
-use Rattle.arch_model.specs.declared.text_refusal.TextRefusal.{TextRefusal}
 
 -- It holds itself, is always ready, and a crash leaves it.
 abbrev pub Holds : Archive → Archive → Type 0

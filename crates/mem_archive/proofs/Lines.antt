@@ -1,9 +1,7 @@
 -- Kept messages without their texts, and their texts by blob ids.
 use Rattle.std.proofs.Common.{◌≡◌, ◌+◌, ◌<◌, ◌≤◌, ℕ, zero, suc, List, [], ◌∷◌, ◌++◌, length, get_or, slice_get, Option, Some, None, refl, sym, ap, subst, ◌∙◌, arith}
 use Rattle.arch_base.specs.declared.config.Config.{Config}
-use Rattle.arch_base.specs.declared.ids.Id20.{Id20}
-use Rattle.arch_model.specs.Archives.{Entry, Archive, text_of, blob_number}
-use Rattle.arch_model.specs.Epochs.{last_commit}
+use Rattle.arch_model.specs.Archives.{Archive, text_of, blob_number}
 use Rattle.arch_model.specs.Shelves.{lines_after, line_at, blob_text}
 use Rattle.arch_model.specs.declared.line.EntryLine.{EntryLine}
 use Rattle.arch_model.proofs.Shelving.{RisesFrom, blob_found-text, blob-none}

@@ -1,5 +1,5 @@
 use Rattle.std.proofs.Common.{[]}
-use Rattle.archive_cli.proofs.OnDisk.{opened-checks, unopened-checks, opened-stands, unopened-stands}
+use Rattle.archive_cli.proofs.OnDisk.{opened-checks, opened-as, unopened-checks, opened-stands, unopened-stands}
 use Rattle.archive_cli.proofs.disk_commands.check.Goals as goal
 
 pub returns-in-Ok-clause-any_moment : goal.returns-in-Ok-clause-any_moment
@@ -8,7 +8,10 @@ returns-in-Ok-clause-any_moment g c = λ may all. rw c.into_disk.ensures (c.in-O
 pub returns-in-Ok-clause-done : goal.returns-in-Ok-clause-done
 returns-in-Ok-clause-done g c = λ a reads.
     let store = c.in-Ok.ensures.opened.done a [] reads in
-    rw c.into_disk.ensures (opened-checks c.in-Ok.engine.view a (g.D.Disk.content c.in-Ok.engine.disk) c.entry_count.result c.message_count.result c.next_number.result store c.entry_count.ensures (c.message_count.ensures a ([], store)) (c.next_number.ensures a ([], store)))
+    rw c.into_disk.ensures (opened-checks c.in-Ok.engine.view a (g.D.Disk.content c.in-Ok.engine.disk) c.entry_count.result c.message_count.result c.next_of_root.result store c.entry_count.ensures (c.message_count.ensures a ([], store)) c.next_of_root.ensures)
+
+pub returns-in-Ok-clause-answer : goal.returns-in-Ok-clause-answer
+returns-in-Ok-clause-answer g c = opened-as c.in-Ok.engine.view (g.D.Disk.content c.args.disk) c.entry_count.result c.message_count.result c.next_of_root.result c.in-Ok.ensures.opened.answer c.entry_count.ensures c.next_of_root.ensures
 
 pub returns-in-Ok-clause-stands : goal.returns-in-Ok-clause-stands
 returns-in-Ok-clause-stands g c = rw c.into_disk.ensures (opened-stands g.D.Disk.content g.D.Disk.moment g.D.Disk.left_since g.met.D.Disk.counts_now g.met.D.Disk.reads_fit c.args.disk c.in-Ok.engine c.in-Ok.ensures.opened.done c.in-Ok.ensures.opened.first)
@@ -18,7 +21,7 @@ returns-in-Err-clause-any_moment g c = λ may all. c.in-Err.ensures.opened.any_m
 
 pub returns-in-Err-clause-done : goal.returns-in-Err-clause-done
 returns-in-Err-clause-done g c = λ a reads.
-    unopened-checks a c.in-Err.why (g.D.Disk.content c.args.disk) (g.D.Disk.content c.in-Err.disk) reads (c.in-Err.ensures.opened.well a [] reads) c.in-Err.ensures.refused
+    unopened-checks a c.in-Err.field-0.why (g.D.Disk.content c.args.disk) (g.D.Disk.content c.in-Err.field-0.disk) reads (c.in-Err.ensures.opened.well a [] reads) c.in-Err.ensures.refused
 
 pub returns-in-Err-clause-stands : goal.returns-in-Err-clause-stands
-returns-in-Err-clause-stands g c = λ s all. unopened-stands g.D.Disk.content g.D.Disk.moment g.D.Disk.left_since g.met.D.Disk.counts_now g.met.D.Disk.reads_fit s c.args.disk c.in-Err.disk c.in-Err.why all c.in-Err.ensures.opened.any_moment c.in-Err.ensures.opened.well c.in-Err.ensures.opened.first
+returns-in-Err-clause-stands g c = λ s all. unopened-stands g.D.Disk.content g.D.Disk.moment g.D.Disk.left_since g.met.D.Disk.counts_now g.met.D.Disk.reads_fit s c.args.disk c.in-Err.field-0.disk c.in-Err.field-0.why all c.in-Err.ensures.opened.any_moment c.in-Err.ensures.opened.well c.in-Err.ensures.opened.first

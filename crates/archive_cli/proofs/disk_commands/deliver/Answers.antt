@@ -7,25 +7,25 @@ use Rattle.archive_cli.proofs.disk_commands.deliver.Goals as goal
 
 pub returns-in-Ok-clause-any_moment : goal.returns-in-Ok-clause-any_moment
 returns-in-Ok-clause-any_moment g c = rw c.into_disk.ensures
-    (delivered-leaves g.D.Disk.content g.D.Disk.moment g.D.Disk.left_since g.met.D.Disk.counts_now g.met.D.Disk.reads_fit c.args.disk c.in-Ok.engine c.in-Ok.ensures.opened.done c.in-Ok.ensures.opened.first c.take.new.self (λ (a : Archive). delivered a c.args.bytes.now c.args.moment) c.take.result
-    c.take.ensures.done c.take.ensures.any_moment)
+    (delivered-leaves g.D.Disk.content g.D.Disk.moment g.D.Disk.left_since g.met.D.Disk.counts_now g.met.D.Disk.reads_fit c.args.disk c.in-Ok.engine c.in-Ok.ensures.opened.done c.in-Ok.ensures.opened.first c.take-answer.new.self (λ (a : Archive). delivered a c.args.bytes.now c.args.moment) c.take-answer.result
+    c.take-answer.ensures.done c.take-answer.ensures.any_moment)
 
 pub returns-in-Ok-clause-stands : goal.returns-in-Ok-clause-stands
 returns-in-Ok-clause-stands g c = rw c.into_disk.ensures
-    (delivered-stands g.D.Disk.content g.D.Disk.moment g.D.Disk.left_since g.met.D.Disk.counts_now g.met.D.Disk.reads_fit c.args.disk c.in-Ok.engine c.in-Ok.ensures.opened.done c.in-Ok.ensures.opened.first c.take.new.self (λ (a : Archive). delivered a c.args.bytes.now c.args.moment) c.take.result
-    c.take.ensures.done c.take.ensures.any_moment)
+    (delivered-stands g.D.Disk.content g.D.Disk.moment g.D.Disk.left_since g.met.D.Disk.counts_now g.met.D.Disk.reads_fit c.args.disk c.in-Ok.engine c.in-Ok.ensures.opened.done c.in-Ok.ensures.opened.first c.take-answer.new.self (λ (a : Archive). delivered a c.args.bytes.now c.args.moment) c.take-answer.result
+    c.take-answer.ensures.done c.take-answer.ensures.any_moment)
 
 pub returns-in-Ok-clause-done : goal.returns-in-Ok-clause-done
 returns-in-Ok-clause-done g c = rw c.into_disk.ensures
-    (delivered-answers g.D.Disk.content g.D.Disk.moment g.D.Disk.left_since g.met.D.Disk.counts_now g.met.D.Disk.reads_fit c.args.disk c.in-Ok.engine c.in-Ok.ensures.opened.done c.in-Ok.ensures.opened.first c.take.new.self (λ (a : Archive). delivered a c.args.bytes.now c.args.moment) c.take.result
-    c.take.ensures.done c.take.ensures.any_moment)
+    (delivered-answers g.D.Disk.content g.D.Disk.moment g.D.Disk.left_since g.met.D.Disk.counts_now g.met.D.Disk.reads_fit c.args.disk c.in-Ok.engine c.in-Ok.ensures.opened.done c.in-Ok.ensures.opened.first c.take-answer.new.self (λ (a : Archive). delivered a c.args.bytes.now c.args.moment) c.take-answer.result
+    c.take-answer.ensures.done c.take-answer.ensures.any_moment)
 
 pub returns-in-Err-clause-any_moment : goal.returns-in-Err-clause-any_moment
 returns-in-Err-clause-any_moment g c = λ s all. inl (c.in-Err.ensures.opened.any_moment (one_of s) [] all)
 
 pub returns-in-Err-clause-stands : goal.returns-in-Err-clause-stands
-returns-in-Err-clause-stands g c = λ s all. unopened-stands g.D.Disk.content g.D.Disk.moment g.D.Disk.left_since g.met.D.Disk.counts_now g.met.D.Disk.reads_fit s c.args.disk c.in-Err.disk c.in-Err.why all c.in-Err.ensures.opened.any_moment c.in-Err.ensures.opened.well c.in-Err.ensures.opened.first
+returns-in-Err-clause-stands g c = λ s all. unopened-stands g.D.Disk.content g.D.Disk.moment g.D.Disk.left_since g.met.D.Disk.counts_now g.met.D.Disk.reads_fit s c.args.disk c.in-Err.field-0.disk c.in-Err.field-0.why all c.in-Err.ensures.opened.any_moment c.in-Err.ensures.opened.well c.in-Err.ensures.opened.first
 
 pub returns-in-Err-clause-done : goal.returns-in-Err-clause-done
 returns-in-Err-clause-done g c = λ a reads.
-    unopened-delivers a c.args.bytes.now c.args.moment c.in-Err.why (g.D.Disk.content c.args.disk) (g.D.Disk.content c.in-Err.disk) reads (c.in-Err.ensures.opened.well a [] reads) c.in-Err.ensures.refused
+    unopened-delivers a c.args.bytes.now c.args.moment c.in-Err.field-0.why (g.D.Disk.content c.args.disk) (g.D.Disk.content c.in-Err.field-0.disk) reads (c.in-Err.ensures.opened.well a [] reads) c.in-Err.ensures.refused

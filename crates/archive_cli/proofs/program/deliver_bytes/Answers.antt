@@ -9,19 +9,19 @@ returns-in-Err-clause-any_moment g c = λ s all. bytes-first g.D.Disk.content g.
 
 pub returns-clause-any_moment : goal.returns-clause-any_moment
 returns-clause-any_moment g c = λ s all.
-    bytes-at g.D.Disk.content g.D.Disk.moment g.D.Disk.left_since g.met.D.Disk.only_now c.args.disk c.deliver.result.1 s c.args.bytes.now c.in-Ok.moment (g.C.Clock.coming c.args.clock.now) c.in-Ok.ensures.first (c.deliver.ensures.any_moment s all)
+    bytes-at g.D.Disk.content g.D.Disk.moment g.D.Disk.left_since g.met.D.Disk.only_now c.args.disk c.deliver-outcome.result.1 s c.args.bytes.now c.in-Ok.moment (g.C.Clock.coming c.args.clock.now) c.in-Ok.ensures.first (c.deliver-outcome.ensures.any_moment s all)
 
 pub returns-clause-ends : goal.returns-clause-ends
 returns-clause-ends g c = λ input is.
-    inl (outcome-due Deliver input _ _ _ c.deliver.result.0 (record {
+    inl (outcome-due Deliver input _ _ _ c.deliver-outcome.result.0 (record {
       moment = c.in-Ok.moment;
       first = c.in-Ok.ensures.first;
       acts = record {
-        kind = c.deliver.ensures.kind;
-        done = rw is at c.deliver.ensures.done;
-        stands = rw is at c.deliver.ensures.stands;
-        answer = c.deliver.ensures.answer;
-        unopened = c.deliver.ensures.unopened;
+        kind = c.deliver-outcome.ensures.kind;
+        done = rw is at c.deliver-outcome.ensures.done;
+        stands = rw is at c.deliver-outcome.ensures.stands;
+        answer = c.deliver-outcome.ensures.answer;
+        unopened = c.deliver-outcome.ensures.unopened;
       };
-      fault = c.deliver.ensures.cause.failed;
+      fault = c.deliver-outcome.ensures.cause.failed;
     }) c.print_outcome.ensures.printed)

@@ -21,9 +21,9 @@ returns-clause-any_moment g c =
     let disk = c.args.disk in
     let k0 = g.D.Disk.content disk in
     let coming = g.C.Clock.coming c.args.clock.now in
-    let made = subst (λ (config : Config). LeavesOnly g.D.Disk.moment g.D.Disk.left_since disk c.make.result.1 (MakingLeaves (empty_archive config) k0)) c.config_at-config.ensures.at c.make.ensures.any_moment in
-    weaker g.D.Disk.moment g.D.Disk.left_since disk c.make.result.1 _ (InitLeaves c.args.config coming k0) made (λ image leaves. (c.in-Ok.moment, c.in-Ok.ensures.first, leaves))
+    let made = subst (λ (config : Config). LeavesOnly g.D.Disk.moment g.D.Disk.left_since disk c.make-outcome.result.1 (MakingLeaves (empty_archive config) k0)) c.config_at-config.ensures.at c.make-outcome.ensures.any_moment in
+    weaker g.D.Disk.moment g.D.Disk.left_since disk c.make-outcome.result.1 _ (InitLeaves c.args.config coming k0) made (λ image leaves. (c.in-Ok.moment, c.in-Ok.ensures.first, leaves))
 
 pub returns-clause-ends : goal.returns-clause-ends
 returns-clause-ends g c =
-    inl (outcome-due (Init c.args.config) [] _ _ _ c.make.result.0 (record { moment = c.in-Ok.moment; first = c.in-Ok.ensures.first; acts = rw c.config_at-config.ensures.at at c.make.ensures.made; fault = c.make.ensures.cause.failed }) c.print_outcome.ensures.printed)
+    inl (outcome-due (Init c.args.config) [] _ _ _ c.make-outcome.result.0 (record { moment = c.in-Ok.moment; first = c.in-Ok.ensures.first; acts = rw c.config_at-config.ensures.at at c.make-outcome.ensures.made; fault = c.make-outcome.ensures.cause.failed }) c.print_outcome.ensures.printed)

@@ -31,18 +31,18 @@ replay-requires g c = replay-config (spelled c.args.words.now) c.in-Some-Replay.
 
 pub returns-in-Some-Init-clause-ends : goal.returns-in-Some-Init-clause-ends
 returns-in-Some-Init-clause-ends g c = (
-  c.init.result.0,
+  c.init-status.result.0,
   c.code-in-Some-Init.ensures,
   ran-made (spelled c.args.words.now) c.in-Some-Init.config _ _ _ (rw c.in-Some-Init.field-0-is at c.in-Some-Init.ensures)
-      (job-moved (Init c.in-Some-Init.config) [] c.init.result.0 _ _ _ _ _ _ _ _ _ _ _ _ _ _ _ _ c.init.ensures.ends),
+      (job-moved (Init c.in-Some-Init.config) [] c.init-status.result.0 _ _ _ _ _ _ _ _ _ _ _ _ _ _ _ _ c.init-status.ensures.ends),
 )
 
 pub returns-in-Some-Deliver-clause-ends : goal.returns-in-Some-Deliver-clause-ends
 returns-in-Some-Deliver-clause-ends g c =
-    (c.deliver_input.result.0, c.code-in-Some-Deliver.ensures, ran-delivered (spelled c.args.words.now) _ _ _ (rw c.in-Some-Deliver.field-0-is at c.in-Some-Deliver.ensures) c.deliver_input.ensures.ends)
+    (c.deliver_input-status.result.0, c.code-in-Some-Deliver.ensures, ran-delivered (spelled c.args.words.now) _ _ _ (rw c.in-Some-Deliver.field-0-is at c.in-Some-Deliver.ensures) c.deliver_input-status.ensures.ends)
 
-pub init-requires : goal.init-requires
-init-requires g c = init-config (spelled c.args.words.now) c.in-Some-Init.config (rw c.in-Some-Init.field-0-is at c.in-Some-Init.ensures)
+pub init-status-requires : goal.init-status-requires
+init-status-requires g c = init-config (spelled c.args.words.now) c.in-Some-Init.config (rw c.in-Some-Init.field-0-is at c.in-Some-Init.ensures)
 
 pub returns-in-None-clause-init : goal.returns-in-None-clause-init
 returns-in-None-clause-init g c = λ asked. absurd (c.in-None.ensures (Init asked.0) asked.1)
@@ -55,20 +55,20 @@ returns-in-Some-Init-clause-init g c = λ asked.
     let config = c.in-Some-Init.config in
     let coming = g.C.Clock.coming c.args.clock.now in
     let k0 = g.D.Disk.content c.args.disk in
-    weaker g.D.Disk.moment g.D.Disk.left_since c.args.disk c.init.result.1 (InitLeaves config coming k0) (WordsLeave (spelled c.args.words.now) coming k0) c.init.ensures.any_moment
+    weaker g.D.Disk.moment g.D.Disk.left_since c.args.disk c.init-status.result.1 (InitLeaves config coming k0) (WordsLeave (spelled c.args.words.now) coming k0) c.init-status.ensures.any_moment
     (λ image leaves. (config, rw c.in-Some-Init.field-0-is at c.in-Some-Init.ensures, leaves))
 
 pub returns-in-Some-Deliver-clause-deliver : goal.returns-in-Some-Deliver-clause-deliver
-returns-in-Some-Deliver-clause-deliver g c = λ s asked all. c.deliver_input.ensures.any_moment s all
+returns-in-Some-Deliver-clause-deliver g c = λ s asked all. c.deliver_input-status.ensures.any_moment s all
 
 pub returns-in-Some-Check-clause-ends : goal.returns-in-Some-Check-clause-ends
 returns-in-Some-Check-clause-ends g c =
     let some = some-moment (g.C.Clock.coming c.args.clock.now) in (
       c.print_outcome.result,
       c.code-in-Some-Check.ensures,
-      ran-checked (spelled c.args.words.now) _ _ _ c.check.result.0 (rw c.in-Some-Check.field-0-is at c.in-Some-Check.ensures)
-          (λ input. record { moment = some.0; first = some.1; acts = record { kind = c.check.ensures.kind; done = c.check.ensures.done; stands = c.check.ensures.stands; answer = c.check.ensures.answer; unopened = c.check.ensures.unopened }; fault = c.check.ensures.cause.failed }) c.print_outcome.ensures.printed,
+      ran-checked (spelled c.args.words.now) _ _ _ c.check-outcome.result.0 (rw c.in-Some-Check.field-0-is at c.in-Some-Check.ensures)
+          (λ input. record { moment = some.0; first = some.1; acts = record { kind = c.check-outcome.ensures.kind; done = c.check-outcome.ensures.done; stands = c.check-outcome.ensures.stands; answer = c.check-outcome.ensures.answer; unopened = c.check-outcome.ensures.unopened }; fault = c.check-outcome.ensures.cause.failed }) c.print_outcome.ensures.printed,
     )
 
 pub returns-in-Some-Check-clause-check : goal.returns-in-Some-Check-clause-check
-returns-in-Some-Check-clause-check g c = λ may asked all. c.check.ensures.any_moment may all
+returns-in-Some-Check-clause-check g c = λ may asked all. c.check-outcome.ensures.any_moment may all

@@ -1,4 +1,4 @@
-use Rattle.std.proofs.Common.{List, ℕ, true, refl}
+use Rattle.std.proofs.Common.{true, refl}
 use Rattle.answer_lines.specs.Lines.{unopened_words}
 use Rattle.keep_course.proofs.Commands.{reopening-found, reopening-refused}
 use Rattle.control_door.specs.Door.{waiting}

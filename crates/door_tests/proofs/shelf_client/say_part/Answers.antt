@@ -21,8 +21,8 @@ returns-then-begun-clause-part g c = λ a held.
     let text = some-text (text_of a.entries c.args.n) (c.is_live.ensures a held ∙ c.if-not-is_live.false) in
     record { begun_is = c.if-begun.true; found = text.0; is = text.1; nothing = record { out = refl; lost = refl; later = c.text.ensures.shelf.later } }
 
-pub returns-in-Err-clause-part : goal.returns-in-Err-clause-part
-returns-in-Err-clause-part g c = λ a held. (
+pub returns-clause-part : goal.returns-clause-part
+returns-clause-part g c = λ a held. (
   c.if-begun.false,
   says-unread _ _ _ c.in-Err.refusal c.say_unread.result (undamaged-text a.entries c.args.n c.new-text.result c.text.new.into c.in-Err.refusal (c.in-Err.ensures.text a held)) c.in-Err.ensures.cause c.text.ensures.shelf.later refl refl refl c.say_unread.ensures.said,
 )

@@ -1,7 +1,6 @@
-use Rattle.std.proofs.Common.{ℕ, false, Bool, subst, arith}
-use Rattle.line_door.specs.Acts.{outside}
+use Rattle.std.proofs.Common.{◌≡◌, refl, arith}
 use Rattle.arch_model.proofs.Shelving.{stays-same, stays-joined}
-use Rattle.door_tests.proofs.Parts.{SoFar, sofar-none, sofar-absent, sofar-given, streams-end, streams-unread, streams-lost, streams-short}
+use Rattle.door_tests.proofs.Parts.{sofar-none, sofar-absent, sofar-given, streams-end, streams-unread, streams-lost, streams-short}
 use Rattle.door_tests.proofs.shelf_client.say_texts.Goals as goal
 
 pub loop-at-init : goal.loop-at-init
@@ -33,8 +32,7 @@ loop-at-preserved g c = record {
 pub returns-in-Unread-clause-acts : goal.returns-in-Unread-clause-acts
 returns-in-Unread-clause-acts g c = λ a h held.
     let part = c.in-Unread.ensures.part a (c.loop-at.invariant.shelf.kept a held) in
-    let before = subst (λ (b : Bool). SoFar a.entries c.args.low c.loop-at.at b _ _) part.0 (c.loop-at.invariant.so_far a held) in
-    rw c.is_ok.ensures (streams-unread a c.args.low c.args.count h c.loop-at.at _ _ _ c.in-Unread.sent before part.1)
+    rw c.is_ok.ensures.value (streams-unread a c.args.low c.args.count h c.loop-at.at c.loop-at.begun _ _ _ c.in-Unread.sent part.0 (c.loop-at.invariant.so_far a held) part.1)
 
 pub returns-in-Short-clause-acts : goal.returns-in-Short-clause-acts
 returns-in-Short-clause-acts g c = λ a h held.
@@ -47,5 +45,5 @@ returns-in-Lost-clause-acts g c = λ a h held.
 
 pub returns-clause-acts : goal.returns-clause-acts
 returns-clause-acts g c = λ a h held.
-    let whole = omega (arith, c.loop-at-test.false, c.loop-at.invariant.within) in
-    rw c.is_ok-2.ensures (streams-end a c.args.low c.args.count h c.loop-at.begun _ _ _ c.say_line.result (subst (λ (n : ℕ). SoFar a.entries c.args.low n c.loop-at.begun _ _) whole (c.loop-at.invariant.so_far a held)) (omega arith) c.say_line.ensures.said)
+    let all : c.loop-at.at ≡ c.args.count = omega (arith, c.loop-at-test.false, c.loop-at.invariant.within) in
+    rw c.is_ok-2.ensures.value (streams-end a c.args.low c.args.count h c.loop-at.at c.loop-at.begun _ _ _ c.say_line.result all (c.loop-at.invariant.so_far a held) refl c.say_line.ensures.said)

@@ -1,7 +1,7 @@
 -- The law of crashes in a course, at the small keeper.
 use Rattle.keep_course.specs.Laws.{HistoryHolds, history_ready, HistoryLeaves}
 use Rattle.keep_course.proofs.Courses.{crash-in}
-use Rattle.std.proofs.Common.{List, [], ◌∷◌, ◌++◌}
+use Rattle.std.proofs.Common.{[], ◌∷◌, ◌++◌}
 use Rattle.keep_course.proofs.laws.course_law.Goals as goal
 
 pub returns : goal.returns

@@ -1,5 +1,5 @@
 -- The scan of a piece up to its first line feed.
-use Rattle.std.proofs.Common.{◌≡◌, ◌<◌, ◌-◌, length, ap, ◌∙◌, ltb, refl, arith}
+use Rattle.std.proofs.Common.{◌<◌, length, ltb, refl, arith}
 use Rattle.std.proofs.lemmas.Bool.{eqb-true, eq-eqb}
 use Rattle.line_door.proofs.Fronts.{first_line-none}
 use Rattle.line_door.proofs.Passages.{passage-by, passage-more}

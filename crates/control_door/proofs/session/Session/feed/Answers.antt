@@ -1,6 +1,4 @@
-use Rattle.std.proofs.Common.{◌++◌, Some, None, true, refl, inl, inr, arith}
-use Rattle.line_door.specs.Acts.{outside}
-use Rattle.line_door.specs.Course.{talk}
+use Rattle.std.proofs.Common.{◌++◌, true, refl, inl, inr, arith}
 use Rattle.keep_course.proofs.Courses.{coming-same, coming-more, ended}
 use Rattle.control_door.specs.Door.{waiting, said, has_request}
 use Rattle.control_door.proofs.session.Session.feed.Goals as goal

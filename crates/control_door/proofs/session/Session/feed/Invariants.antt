@@ -1,4 +1,4 @@
-use Rattle.std.proofs.Common.{◌≡◌, ◌≤◌, ◌+◌, ◌*◌, ◌++◌, length, Some, true, false, if◌then◌else◌}
+use Rattle.std.proofs.Common.{◌≡◌, ◌≤◌, ◌+◌, ◌*◌, ◌++◌, length, Some, true, if◌then◌else◌}
 use Rattle.line_door.specs.Acts.{outside}
 use Rattle.line_door.specs.Course.{talk}
 use Rattle.keep_course.specs.Courses.{Coming}

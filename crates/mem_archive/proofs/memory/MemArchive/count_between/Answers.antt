@@ -1,4 +1,4 @@
-use Rattle.std.proofs.Common.{◌≡◌, length, max, min, ◌+◌, arith}
+use Rattle.std.proofs.Common.{◌≡◌, length, arith}
 use Rattle.mem_archive.proofs.Numbers.{counted}
 use Rattle.mem_archive.proofs.memory.MemArchive.count_between.Goals as goal
 
