@@ -10,4 +10,4 @@ pub mod Keepers
 pub mod Shelving
 mod Following
 mod TakenTexts
-mod Commands
+pub mod Commands

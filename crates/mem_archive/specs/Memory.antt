@@ -1,26 +1,27 @@
 -- What the archive in memory holds.
-use Rattle.std.specs.Prelude.{◌≡◌, ◌+◌, ◌-◌, ◌<◌, ◌≤◌, slice_get, ◌==◌, ◌||◌, nat_lt, ℕ, take, Bool, Result, Ok, Err, List, [], ◌∷◌, ◌++◌, length, Option, Some, None, if◌then◌else◌}
+use Rattle.std.specs.Prelude.{◌≡◌, ◌≢◌, zero, suc, false, option_map, ◌+◌, ◌-◌, ◌<◌, ◌≤◌, slice_get, ◌==◌, ◌||◌, nat_lt, ℕ, take, Bool, Result, Ok, Err, List, [], ◌∷◌, ◌++◌, length, Option, Some, None, if◌then◌else◌}
 use Rattle.arch_base.specs.Configs.{IsConfig}
 use Rattle.arch_base.specs.declared.config.Config.{Config}
 use Rattle.arch_base.specs.declared.ids.Id20.{Id20}
 use Rattle.disk_model.specs.Sizes.{greatest_epoch}
-use Rattle.arch_model.specs.Archives.{Entry, Archive, live, text_of, in_epoch, has_entry}
+use Rattle.arch_model.specs.Archives.{Entry, Archive, live, messages, text_of, in_epoch, has_entry, IsFree}
 use Rattle.arch_model.specs.Validity.{Rise, AtEachPlace, EndsLive, IdsDiffer, BlobsAgree}
 use Rattle.std.specs.List.{AllByRecursion}
-use Rattle.arch_model.specs.Delivery.{last_epoch}
+use Rattle.arch_model.specs.Delivery.{last_epoch, collision}
 use Rattle.arch_model.specs.Epochs.{epoch_bytes, last_commit}
 use Rattle.arch_model.specs.Shelves.{lines_after}
 use Rattle.arch_model.specs.declared.line.EntryLine.{EntryLine}
 use Rattle.git_objects.specs.Objects.{blob_id_of}
 use Rattle.mail_commits.specs.Entries.{commit_id, entry_bytes, magic}
 use Rattle.git_objects.specs.declared.entry_kind.EntryKind.{EntryKind}
-use Rattle.git_objects.specs.declared.entry_kind.EntryKind.TheVariants.{Message}
 use Rattle.mem_archive.specs.declared.kept.Kept.{Kept}
 use Rattle.mem_archive.specs.declared.kept.Place.{Place}
 use Rattle.mem_archive.specs.declared.kept.End.{End}
 use Rattle.arch_base.specs.declared.sequence.NoMemory.{NoMemory}
 use Rattle.arch_judge.specs.Indexes.{IsIndex}
 use Rattle.arch_judge.specs.declared.index.Index.{Index}
+use Rattle.arch_judge.specs.declared.judging.Verdict.{Verdict}
+use Rattle.arch_judge.specs.declared.judging.Verdict.TheVariants.{Take, Compare, Refuse}
 
 -- The entry that is kept so.
 abbrev pub entry_of : Kept → Entry
@@ -59,19 +60,55 @@ abbrev pub archive_of : Config → List Kept → List Place → Archive
 archive_of config kept places =
     record { config = config; entries = entries_of kept; next = length places + 1 }
 
--- A place has the index of a number's message, and tells whether it is live.
+-- The place of a number, from 1 on.
+abbrev pub place_in : List Place → ℕ → Option Place
+place_in places zero = None
+place_in places (suc index) = slice_get places index
+
+-- The text of the kept entry at an index.
+abbrev pub text_in : List Kept → ℕ → Option (List ℕ)
+text_in kept index = option_map (λ (k : Kept). k.text) (slice_get kept index)
+
+-- The text at a place, if it is live.
+abbrev pub shown_in : List Kept → Option Place → Option (List ℕ)
+shown_in kept None = None
+shown_in kept (Some place) = if place.live then text_in kept place.entry else None
+
+-- The text at a place, live or not.
+abbrev pub once_in : List Kept → Option Place → Option (List ℕ)
+once_in kept None = None
+once_in kept (Some place) = text_in kept place.entry
+
+-- The place has the index of a number's message, and tells whether the number is live.
 pub record IsPlace (kept : List Kept) (number : ℕ) (place : Place) : Type 0 where
-  pub entry : Kept
-  pub is_there : slice_get kept place.entry ≡ Some entry
-  pub kind : entry.kind ≡ Message
-  pub number_is : entry.number ≡ number
-  pub shown : text_of (live (entries_of kept)) number
-      ≡ (if place.live then Some entry.text else None)
+  pub text : List ℕ
+  pub is_there : text_in kept place.entry ≡ Some text
+  pub once : text_of (messages (entries_of kept)) number ≡ Some text
+  pub shown : text_of (live (entries_of kept)) number ≡ (if place.live then Some text else None)
 
 -- Each number from 1 on has its place.
-abbrev pub ArePlaces : List Kept → ℕ → List Place → Type 0
-ArePlaces kept number [] = Unit {0}
-ArePlaces kept number (p ∷ ps) = IsPlace kept number p × ArePlaces kept (number + 1) ps
+abbrev pub ArePlaces : List Kept → List Place → Type 0
+ArePlaces kept places =
+    (i : ℕ) (place : Place) → slice_get places i ≡ Some place → IsPlace kept (i + 1) place
+
+-- The place at an index is no longer live, and each other place stays.
+pub record Hides (old new : List Place) (at : ℕ) : Type 0 where
+  pub size : length new ≡ length old
+  pub here : (place : Place) → slice_get old at ≡ Some place
+      → slice_get new at ≡ Some (record { entry = place.entry; live = false })
+  pub kept : (i : ℕ) → i ≢ at → slice_get new i ≡ slice_get old i
+
+-- The number of an entry is at least one and at most so many.
+abbrev pub IsUpTo : ℕ → Entry → Type 0
+IsUpTo most e = (1 ≤ e.number) × (e.number < most + 1)
+
+-- What may be kept: no live message has the text's own id, no other text has its blob id, and a
+-- number is left. A text is never still to be compared.
+abbrev pub MayKeep : Archive → Verdict → Type 0
+MayKeep a (Take text blob number) = IsFree (live a.entries) text × (blob ≡ blob_id_of text)
+    × (collision a.entries text ≡ None) × (a.next ≤ a.config.max) × (number ≡ a.next)
+MayKeep a (Compare text blob number) = ⊥
+MayKeep a (Refuse reply) = Unit {0}
 
 -- The end holds the room and the last commit of its epoch.
 pub record IsEnd (limit : ℕ) (entries : List Entry) (end_ : End) : Type 0 where
@@ -79,15 +116,15 @@ pub record IsEnd (limit : ℕ) (entries : List Entry) (end_ : End) : Type 0 wher
   pub parent : end_.parent ≡ last_commit None (in_epoch entries end_.epoch)
   pub small : end_.epoch ≤ greatest_epoch
 
--- What is kept is sound: the settings are valid, no number is above the greatest, each has its place,
--- numbers rise, deletions end live messages, live ids differ and each blob id has one text, the index
+-- What is kept is sound: the settings are valid, no number is above the greatest, each has its
+-- place, numbers are from 1 to the last and rise, deletions end live messages, live ids differ and each blob id has one text, the index
 -- is that of the entries, each has the id of its commit, and the end is that of the last epoch.
 pub record IsKept (config : Config) (kept : List Kept) (places : List Place) (index : Index)
     (end_ : End) : Type 0 where
   pub settings : IsConfig config
   pub numbers : length places ≤ config.max
-  pub placed : ArePlaces kept 1 places
-  pub below : AllByRecursion (λ (e : Entry). e.number < length places + 1) (entries_of kept)
+  pub placed : ArePlaces kept places
+  pub numbered : AllByRecursion (IsUpTo (length places)) (entries_of kept)
   pub order : Rise 1 0 (entries_of kept)
   pub deletions : AtEachPlace (λ (before : List Entry) (e : Entry). EndsLive e.kind before e) []
       (entries_of kept)
