@@ -1,5 +1,5 @@
 -- What the archive in memory holds.
-use Rattle.std.specs.Prelude.{◌≡◌, ◌≢◌, zero, suc, false, option_map, ◌+◌, ◌-◌, ◌<◌, ◌≤◌, slice_get, ◌==◌, ◌||◌, nat_lt, ℕ, take, Bool, Result, Ok, Err, List, [], ◌∷◌, ◌++◌, length, Option, Some, None, if◌then◌else◌}
+use Rattle.std.specs.Prelude.{◌≡◌, ◌≢◌, zero, suc, true, false, ◌&&◌, nat_le, option_map, ◌+◌, ◌-◌, ◌<◌, ◌≤◌, slice_get, ◌==◌, ◌||◌, nat_lt, ℕ, take, Bool, Result, Ok, Err, List, [], ◌∷◌, ◌++◌, length, Option, Some, None, if◌then◌else◌}
 use Rattle.arch_base.specs.Configs.{IsConfig}
 use Rattle.arch_base.specs.declared.config.Config.{Config}
 use Rattle.arch_base.specs.declared.ids.Id20.{Id20}
@@ -78,6 +78,34 @@ shown_in kept (Some place) = if place.live then text_in kept place.entry else No
 abbrev pub once_in : List Kept → Option Place → Option (List ℕ)
 once_in kept None = None
 once_in kept (Some place) = text_in kept place.entry
+
+-- The place, if there is one, is live.
+abbrev pub is_live_place : Option Place → Bool
+is_live_place None = false
+is_live_place (Some place) = place.live
+
+-- The place of a number is live.
+abbrev pub live_at : List Place → ℕ → Bool
+live_at places number = is_live_place (place_in places number)
+
+-- The least number from one on whose place is live, or none.
+abbrev pub IsLeastAt : List Place → ℕ → Option ℕ → Type 0
+IsLeastAt places n None = (m : ℕ) → n ≤ m → live_at places m ≡ false
+IsLeastAt places n (Some found) = (n ≤ found) × (live_at places found ≡ true)
+    × ((m : ℕ) → n ≤ m → m < found → live_at places m ≡ false)
+
+-- The greatest number up to one whose place is live, or none.
+abbrev pub IsGreatestAt : List Place → ℕ → Option ℕ → Type 0
+IsGreatestAt places n None = (m : ℕ) → m ≤ n → live_at places m ≡ false
+IsGreatestAt places n (Some found) = (found ≤ n) × (live_at places found ≡ true)
+    × ((m : ℕ) → found < m → m ≤ n → live_at places m ≡ false)
+
+-- How many of the places of the numbers from `n` on are live, of those between two numbers.
+abbrev pub count_from : ℕ → ℕ → ℕ → List Place → ℕ
+count_from n low high [] = 0
+count_from n low high (place ∷ places) =
+    if place.live && (nat_le low n && nat_le n high) then suc (count_from (n + 1) low high places)
+    else count_from (n + 1) low high places
 
 -- The place has the index of a number's message, and tells whether the number is live.
 pub record IsPlace (kept : List Kept) (number : ℕ) (place : Place) : Type 0 where

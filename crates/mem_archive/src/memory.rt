@@ -1,5 +1,5 @@
 //! A plain archive in memory, which does what the definitions say, call by call.
-ghost use Rattle.std.specs.Prelude.{◌≡◌, ◌++◌, ◌≤◌, false, is_some, take, option_copied, IfOk, OnOk, OnErr, IsSome, Some, None};
+ghost use Rattle.std.specs.Prelude.{◌≡◌, ◌++◌, ◌≤◌, false, option_copied, IfOk, OnOk, OnErr, IsSome, Some, None};
 ghost use Rattle.arch_base.specs.Configs.{IsConfig};
 ghost use Rattle.mail_reader.specs.Content.{content_id_of};
 ghost use Rattle.mail_reader.specs.Ids.{own_id as own_id_of};
@@ -8,12 +8,13 @@ ghost use Rattle.arch_model.specs.Archives.{empty_archive, with_entry, with_dele
 ghost use Rattle.arch_model.specs.Delivery.{Delivers, applied, delivered, removed, collision, new_epoch};
 ghost use Rattle.arch_judge.specs.Judging.{Judges};
 ghost use Rattle.arch_model.specs.Epochs.{epoch_bytes};
-ghost use Rattle.mem_archive.specs.Memory.{GivesEpoch, Grows};
+ghost use Rattle.mem_archive.specs.Memory.{GivesEpoch, Grows, MayKeep};
 ghost use Rattle.arch_model.specs.Shelves.{IsGreatestLive, live_between, line_at, blob_text};
 ghost use Rattle.arch_model.specs.Standing.{IsLeastLive, IsUntouched};
 ghost use Rattle.arch_model.specs.declared.answer.Answer.{Answer};
 
 use crate::kept::{End, Kept, Place, push_after};
+use crate::placing::{count_live, greatest_live, hide, least_live, once_at, place_of, shown_at};
 use arch_base::{Bytes, Config, NoMemory, ObjectId};
 use arch_judge::{Index, Owner, Verdict, compared, judge};
 use arch_model::{Answer, Command, EntryLine};
@@ -69,42 +70,16 @@ impl MemArchive {
     pub fn text(&self, number: u32) -> Option<&[u8]>
         ensures { option_copied result ≡ text_of (live self.now.entries) number }
     {
-        match self.place(number) {
-            None => None,
-            Some(place) => {
-                if place.live {
-                    self.text_at(place.entry)
-                } else {
-                    None
-                }
-            }
-        }
+        let found = place_of(self.places.as_slice(), number);
+        shown_at(self.kept.as_slice(), found)
     }
 
     /// Returns the text of the message with a number, live or not, or `None` if there is none.
     fn text_once(&self, number: u32) -> Option<&[u8]>
         ensures { option_copied result ≡ text_of (messages self.now.entries) number }
     {
-        match self.place(number) {
-            None => None,
-            Some(place) => self.text_at(place.entry),
-        }
-    }
-
-    /// Returns the text of the entry at an index, or `None` if there are not so many.
-    fn text_at(&self, entry: usize) -> Option<&[u8]> {
-        match self.kept.as_slice().get(entry) {
-            None => None,
-            Some(kept) => Some(kept.text.as_slice()),
-        }
-    }
-
-    /// Returns the place of the message with a number, or `None` if there is none.
-    fn place(&self, number: u32) -> Option<Place> {
-        if number == 0 {
-            return None;
-        }
-        self.places.as_slice().get(number as usize - 1).copied()
+        let found = place_of(self.places.as_slice(), number);
+        once_at(self.kept.as_slice(), found)
     }
 
     /// Returns the least number of a live message that is at least this one, or `None` if there is
@@ -112,22 +87,7 @@ impl MemArchive {
     pub fn number_from(&self, number: u32) -> Option<u32>
         ensures { IsLeastLive (live self.now.entries) number result }
     {
-        for least in number.max(1)..self.next() {
-            if self.is_live(least) {
-                return Some(least);
-            }
-        }
-        None
-    }
-
-    /// Returns whether a number is live.
-    fn is_live(&self, number: u32) -> bool
-        ensures { is_some (text_of (live self.now.entries) number) ≡ result }
-    {
-        match self.place(number) {
-            None => false,
-            Some(place) => place.live,
-        }
+        least_live(self.places.as_slice(), number)
     }
 
     /// Returns the greatest number of a live message that is at most this one, or `None` if there is
@@ -135,26 +95,14 @@ impl MemArchive {
     pub(crate) fn number_to(&self, number: u32) -> Option<u32>
         ensures { IsGreatestLive (live self.now.entries) number result }
     {
-        let most = number.min(self.places.len() as u32);
-        for below in 0..most {
-            if self.is_live(most - below) {
-                return Some(most - below);
-            }
-        }
-        None
+        greatest_live(self.places.as_slice(), number)
     }
 
     /// Returns how many live messages have a number from `low` to `high`.
     pub(crate) fn count_between(&self, low: u32, high: u32) -> u64
         ensures { result ≡ live_between (live self.now.entries) low high }
     {
-        let mut count = 0;
-        for number in low.max(1)..self.next() {
-            if number <= high && self.is_live(number) {
-                count += 1;
-            }
-        }
-        count
+        count_live(self.places.as_slice(), low, high)
     }
 
     /// Returns the entry at an index, from 0, without its text, or `None` if there are not so many.
@@ -258,15 +206,17 @@ impl MemArchive {
     /// Returns the verdict on the delivery of a message, where texts are compared.
     fn verdict(&self, bytes: &[u8]) -> Verdict
         ensures judged { Judges self.now bytes.now result }
+        ensures taken { MayKeep self.now result }
     {
         let count = self.kept.len();
         let next = self.next();
         match judge(self.alloc, &self.config, &self.index, count, next, bytes) {
+            Verdict::Refuse(answer) => Verdict::Refuse(answer),
+            Verdict::Take { text, blob, number } => Verdict::Take { text, blob, number },
             Verdict::Compare { text, blob, number } => match self.text_once(number) {
                 None => Verdict::Refuse(Answer::NoMemory),
                 Some(kept) => compared(&self.config, next, text, blob, number, kept),
             },
-            verdict => verdict,
         }
     }
 
@@ -354,9 +304,7 @@ impl MemArchive {
             commit,
         })?;
         self.index.remove(id.as_slice());
-        if let Some(place) = self.places.get_mut(number as usize - 1) {
-            place.live = false;
-        }
+        hide(&mut self.places, number as usize - 1);
         self.end = end;
         Ok(())
     }
