@@ -1,7 +1,8 @@
 -- The answers to a command on an archive on a disk, and what the disk then holds.
 use Rattle.std.specs.Prelude.{◌≡◌, ◌+◌, ◌-◌, ◌<◌, ◌^◌, ℕ, List, Option}
 use Rattle.arch_base.specs.Counts.{RoseIf}
-use Rattle.disk_model.specs.Disk.{Files, Content, WhereTold, LeavesOnly}
+use Rattle.disk_model.specs.Disk.{Files, Content, WhereTold, LeavesOnly, Told, Unchanged, Image}
+use Rattle.arch_model.specs.Shelves.{ReadsOnce}
 use Rattle.disk_model.specs.Synced.{IsSettled}
 use Rattle.arch_model.specs.Archives.{Archive}
 use Rattle.arch_model.specs.Delivery.{Done}
@@ -35,7 +36,8 @@ DoneBy v cache a wanted (answer.Full max) content = IsDone v cache wanted (answe
 DoneBy v cache a wanted (answer.Collision number) content =
     IsDone v cache wanted (answer.Collision number) content
 DoneBy v cache a wanted answer.IsMirror content = IsDone v cache wanted answer.IsMirror content
-DoneBy v cache a wanted (answer.NotLive number) content = ⊥
+DoneBy v cache a wanted (answer.NotLive number) content =
+    IsDone v cache wanted (answer.NotLive number) content
 DoneBy v cache a wanted (answer.NoText number) content = ⊥
 DoneBy v cache a wanted (answer.Damaged file offset) content = ⊥
 
@@ -84,8 +86,7 @@ UnlessFault answer.IsMirror P = P
 UnlessFault (answer.Damaged file offset) P = P
 UnlessFault answer.NoMemory P = P
 
--- The answers to a command. As long as no command removes, purges or edits, no number is refused,
--- and no text is read that could be damaged.
+-- The answers to a command. As long as no command purges or edits, no number is without a text.
 abbrev pub IsForCommand : Answer → Type 0
 IsForCommand (answer.Ok number id) = Unit {0}
 IsForCommand (answer.Duplicate number) = Unit {0}
@@ -96,9 +97,9 @@ IsForCommand (answer.Collision number) = Unit {0}
 IsForCommand answer.IsMirror = Unit {0}
 IsForCommand answer.DiskFault = Unit {0}
 IsForCommand answer.NoMemory = Unit {0}
-IsForCommand (answer.NotLive number) = ⊥
+IsForCommand (answer.NotLive number) = Unit {0}
 IsForCommand (answer.NoText number) = ⊥
-IsForCommand (answer.Damaged file offset) = ⊥
+IsForCommand (answer.Damaged file offset) = Unit {0}
 
 -- The answer for an error of the store.
 abbrev pub refusal_answer : StoreRefusal → Answer
@@ -106,12 +107,19 @@ refusal_answer refusal.DiskFault = answer.DiskFault
 refusal_answer refusal.NoMemory = answer.NoMemory
 refusal_answer (refusal.Damaged file offset) = answer.Damaged file offset
 
+-- The disk was read, and nothing else: its content is the same, and a crash leaves what it might have
+-- left before.
+pub record OnlyLooks {D : Type 0} (content : D → Option Content) (moment : D → ℕ)
+    (left_since : D → ℕ → Files → Type 0) (old new : D) : Type 0 where
+  pub same : Told Unchanged (content old) (content new)
+  pub any_moment : LeavesOnly moment left_since old new (Image (content old))
+
 -- What a command promises, by its answer and the archive after it, of each archive before it. While
 -- the root's sequence can be raised, at each moment a crash leaves the archive before the command or
 -- the one after it, and the answer and the disk then are the wanted ones. After `Ok` all that reads
 -- give is on the disk, and the root, in the other slot, goes on from the one before. Any other
--- answer leaves what is kept in memory, and, but for a fault, the disk. The command fails only if
--- the count of faults rose, and reads nothing.
+-- answer leaves what is kept in memory, and, but for a fault, the content of the disk. The command
+-- fails only if the count of faults rose, and reads at most once.
 pub record TakesCommand {D : Type 0} (content : D → Option Content) (moment : D → ℕ)
     (left_since : D → ℕ → Files → Type 0) (faults reads : D → ℕ) (old new : D)
     (before after : View) (wanted : Archive → Done) (reply : Answer) : Type 0 where
@@ -125,8 +133,8 @@ pub record TakesCommand {D : Type 0} (content : D → Option Content) (moment : 
   pub goes_on : OnDone reply (GoesOn before.root after.root)
   pub slot : OnDone reply (after.slot ≡ 1 - before.slot)
   pub same : OnRefusal reply (after ≡ before)
-  pub untouched : OnRefusal reply (UnlessFault reply (new ≡ old))
+  pub untouched : OnRefusal reply (UnlessFault reply (OnlyLooks content moment left_since old new))
   pub sizes : UnlessFault reply (WhereTold (HasSizes after) (content new))
   pub cause : RoseIf (reply ≡ answer.DiskFault) (faults old) (faults new)
   pub never_damaged : IsForCommand reply
-  pub count : reads new ≡ reads old
+  pub count : ReadsOnce (reads old) (reads new)

@@ -70,7 +70,7 @@ impl DiskArchive {
     pub fn has_text(&self, n: u32) -> bool
         ensures known { result ≡ true → has_number self.now.entries n ≡ true }
         ensures text { (a : Archive) → Keeps self.now a
-            → is_some (text_of a.entries n) ≡ result }
+            → is_some (text_of (live a.entries) n) ≡ result }
     {
         match self.live_from(n) {
             Some(found) => found == n,

@@ -166,6 +166,17 @@ JoinsOne old epoch seen same (Err (Damaged at)) = (at ≡ seen.at)
 JoinsOne old epoch seen same (Err DiskFault) = ⊥
 JoinsOne old epoch seen same (Err NoMemory) = Unit {0}
 
+-- The same where the texts are read.
+abbrev pub JoinsByText : Root → Joined → ℕ → Seen → Result Joined JoinRefusal → Files → Type 0
+JoinsByText root old epoch seen (Err DiskFault) files = Unit {0}
+JoinsByText root old epoch seen (Err NoMemory) files = Unit {0}
+JoinsByText root old epoch seen (Err (Damaged at)) files =
+    (same : Bool) × ComparesText root old epoch seen (Ok same) files
+    × JoinsOne old epoch seen same (Err (Damaged at))
+JoinsByText root old epoch seen (Ok new) files =
+    (same : Bool) × ComparesText root old epoch seen (Ok same) files
+    × JoinsOne old epoch seen same (Ok new)
+
 -- The entries of an epoch are all joined to others.
 pub record AreJoined (new : Joined) (rs : List Record) (others : List Entry) (epoch : ℕ)
     (here : List EpochEntry) : Type 0 where

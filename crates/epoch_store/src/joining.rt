@@ -7,11 +7,11 @@ ghost use Rattle.epoch_store.specs.Damage.{messages};
 ghost use Rattle.git_objects.specs.declared.entry_kind.EntryKind.TheVariants.{Message, Deletion};
 ghost use Rattle.epoch_file.specs.Runs.{OnlyReads};
 ghost use Rattle.epoch_store.specs.Files.{as_read, epoch_file_of};
-ghost use Rattle.epoch_store.specs.Joined.{Wants, JoinsOne, AreBefore, ComparesText, TakesEpoch, Finishes, TextIn, entry_seen};
+ghost use Rattle.epoch_store.specs.Joined.{Wants, JoinsOne, AreBefore, ComparesText, JoinsByText, TakesEpoch, Finishes, TextIn, entry_seen};
 ghost use Rattle.epoch_store.specs.declared.known.JoinRefusal.{JoinRefusal};
 
 use crate::entries::StoredEntry;
-use crate::known::{JoinRefusal, Known, Unmatched, add_first, add_id, known_of_none};
+use crate::known::{JoinRefusal, Known, Unmatched, add_first, add_id, add_number, known_of_none};
 use crate::reads::read_text;
 use arch_base::NoMemory;
 use arch_model::TextRefusal;
@@ -113,7 +113,7 @@ impl Joining {
         if !add_id(&mut known.ids, &seen.id)? {
             return Err(JoinRefusal::Damaged { at });
         }
-        known.numbers.insert(seen.blob.0, number)?;
+        add_number(&mut known.numbers, &seen.blob, number)?;
         add_first(&mut known.firsts, &seen.blob, entries.len())?;
         let entries = with_entry(entries, number, epoch, seen)?;
         Ok(Joining {
@@ -194,6 +194,30 @@ impl Joining {
         Ok(old.as_slice() == new.as_slice())
     }
 
+    /// Joins the next entry of an epoch's file.
+    fn join_next<D: Disk>(
+        self,
+        alloc: Global,
+        disk: &mut D,
+        root: &Root,
+        epoch: u32,
+        seen: Seen,
+    ) -> Result<Joining, JoinRefusal>
+        requires small { epoch ≤ greatest_epoch }
+        ensures joined { WhereTold (λ k.
+            JoinsByText root.now self epoch seen result (as_read k)) (D.content disk.old) }
+        ensures below { (most : ℕ) → AreBefore most self.entries → epoch < most
+            → IfOk result (λ joining. AreBefore most joining.entries) }
+        ensures reads { OnlyReads D.content D.moment D.left_since D.faults disk.old disk.new }
+        ensures fault { result ≡ Err JoinRefusal.DiskFault
+            → Rose (D.faults disk.old) (D.faults disk.new) }
+    {
+        match self.has_same(alloc, disk, root, epoch, &seen) {
+            Ok(same) => self.take_one(epoch, seen, same),
+            Err(refusal) => Err(refusal),
+        }
+    }
+
     /// Joins the entries of an epoch's file, in order.
     ///
     /// Epochs are taken one after the other, each at most once.
@@ -221,8 +245,7 @@ impl Joining {
     {
         let mut joining = self;
         for entry in seen.into_vec() {
-            let same = joining.has_same(alloc, disk, root, epoch, &entry)?;
-            match joining.take_one(epoch, entry, same) {
+            match joining.join_next(alloc, disk, root, epoch, entry) {
                 Err(refusal) => return Err(refusal),
                 Ok(next) => joining = next,
             }

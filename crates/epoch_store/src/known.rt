@@ -76,6 +76,19 @@ pub(crate) fn add_id(ids: &mut BTreeSet<Vec<u8>>, id: &Bytes) -> Result<bool, No
     Ok(ids.insert(key)?)
 }
 
+/// Makes a number that of the live entry with a blob id.
+pub(crate) fn add_number(
+    numbers: &mut BTreeMap<[u8; 20], u32>,
+    blob: &ObjectId,
+    number: u32,
+) -> Result<(), NoMemory>
+    ensures { OnOk result ((q : List ℕ) → value_in numbers.new q
+        ≡ (if bytes_eq q blob.now.0 then Some number else value_in numbers.old q)) }
+{
+    numbers.insert(blob.0, number)?;
+    Ok(())
+}
+
 /// Makes an index that of the first entry with a blob id, unless there is an older one.
 pub(crate) fn add_first(
     firsts: &mut BTreeMap<[u8; 20], usize>,
