@@ -2,7 +2,7 @@
 ghost use Rattle.std.specs.Prelude.{◌≡◌, ◌≤◌, ◌<◌, ◌+◌, ◌^◌, ◌↔◌, ◌&&◌, ℕ, List, nat_le, true, length, count_by, Err, IsTrue, IsSome, IfSome, OnErr, is_some};
 ghost use Rattle.arch_base.specs.Counts.{RoseIf};
 ghost use Rattle.disk_model.specs.Disk.{Image, Told, Unchanged, LeavesOnly};
-ghost use Rattle.arch_model.specs.Archives.{Archive, in_epoch, text_of, blob_number};
+ghost use Rattle.arch_model.specs.Archives.{Archive, live, in_epoch, text_of, blob_number};
 ghost use Rattle.arch_model.specs.Shelves.{IsGreatestLive, live_between, line_at, GivesBlobIn};
 ghost use Rattle.arch_model.specs.Standing.{IsLeastLive, GivesTextIn, GivesEpochIn, KeepsUnlessFound};
 ghost use Rattle.arch_model.specs.declared.text_refusal.TextRefusal.{TextRefusal};

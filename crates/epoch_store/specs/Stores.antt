@@ -1,6 +1,6 @@
 -- What a store keeps in memory of an archive, and which disk is its own.
 use Rattle.std.specs.Prelude.{◌-◌, ◌^◌, min, set, slice_get, Bool, not, ◌&&◌, ◌||◌, ◌≡◌, ◌≢◌, ◌⊎◌, ◌+◌, ◌<◌, ◌≤◌, ◌==◌, ℕ, false, List, [], ◌∷◌, ◌++◌, length, get_or, Option, Some, None, if◌then◌else◌, Result, Ok, Err}
-use Rattle.std.specs.List.{AllByRecursion}
+use Rattle.std.specs.List.{AllByRecursion, Contains}
 use Rattle.arch_base.specs.declared.ids.Id20.{Id20}
 use Rattle.disk_model.specs.Disk.{Files, Content, bytes_of}
 use Rattle.disk_model.specs.Sizes.{epoch_count, greatest_epoch, record_size}
@@ -107,20 +107,23 @@ live_kept (e ∷ es) =
     if is_message e.seen.kind && not (is_ended_in es e.number) then e ∷ live_kept es
     else live_kept es
 
--- A new text would be accepted: the archive is no mirror and has a number left, the text is a
--- storage text, no live message has its own id, and no other text has its blob id.
+-- A new text would be accepted by what is kept: the archive is no mirror and has a number left, the
+-- text is a storage text, and no live message has its own id.
 pub record Accepts (v : View) (text : List ℕ) : Type 0 where
   pub writable : v.root.config.mirror ≡ false
   pub number_left : v.root.next ≤ v.root.config.max
   pub storage : IsStorageText text
   pub id : AllByRecursion (λ (e : StoredEntry). own_id text ≢ Some e.seen.id) (live_kept v.entries)
-  pub alone : (a : Archive) → Keeps v a → collision a.entries text ≡ None
 
--- A removal would be accepted: the archive is no mirror, and the number is live and shows this text.
+-- A removal would be accepted by what is kept: the archive is no mirror, and a live entry has the
+-- number, and the own id and the blob id of the text.
 pub record MayEnd (v : View) (number : ℕ) (text : List ℕ) : Type 0 where
   pub writable : v.root.config.mirror ≡ false
-  pub storage : IsStorageText text
-  pub live : (a : Archive) → Keeps v a → text_of (live a.entries) number ≡ Some text
+  pub entry : StoredEntry
+  pub is_live : Contains (live_kept v.entries) entry
+  pub number_is : entry.number ≡ number
+  pub id : own_id text ≡ Some entry.seen.id
+  pub blob : blob_id_of text ≡ entry.seen.blob
 
 -- The entries of a store are in epochs 0 to 63.
 abbrev pub InEpochs : List StoredEntry → Type 0
@@ -187,19 +190,21 @@ pub record IsDeletion (p : NextPlace) (entry : NewEntry) : Type 0 where
   pub kind : entry.kind ≡ Deletion
   pub parent : entry.parent ≡ p.parent
 
--- This place is that of the next entry of the archive, its text would be accepted, and there is a
--- next root.
+-- This place is that of the next entry of the archive, its text would be accepted and no other text
+-- has its blob id, and there is a next root.
 pub record GoesNext (v : View) (a : Archive) (p : NextPlace) (entry : NewEntry) : Type 0 where
   pub place : IsNextPlace v.root a (next_sequence v.root.sequence) p
   pub accepts : Accepts v entry.text.now
+  pub alone : collision a.entries entry.text.now ≡ None
   pub room : v.root.sequence + 1 < 2 ^ 64
 
--- This place is that of the next entry of the archive, the removal of a number with this text would
--- be accepted, and there is a next root.
+-- This place is that of the next entry of the archive, the removal of a number would be accepted and
+-- this is its text, and there is a next root.
 pub record EndsNext (v : View) (a : Archive) (p : NextPlace) (number : ℕ) (entry : NewEntry)
     : Type 0 where
   pub place : IsNextPlace v.root a (next_sequence v.root.sequence) p
   pub may : MayEnd v number entry.text.now
+  pub shown : text_of (live a.entries) number ≡ Some entry.text.now
   pub room : v.root.sequence + 1 < 2 ^ 64
 
 -- The archive with a new entry as a message.

@@ -1,5 +1,5 @@
 //! The archive on a disk, as it is kept in memory.
-ghost use Rattle.std.specs.Prelude.{◌≡◌, ◌≤◌, ◌<◌, ◌+◌, ◌-◌, ◌^◌, ℕ, List, [], Err, Some, IsSome, IfOk, OnOk, OnErr, ◌==◌, if◌then◌else◌, decimal, length};
+ghost use Rattle.std.specs.Prelude.{◌≡◌, ◌≤◌, ◌<◌, ◌+◌, ◌-◌, ◌^◌, ℕ, List, [], Err, Some, None, IsSome, IfOk, OnOk, OnErr, ◌==◌, if◌then◌else◌, decimal, length};
 ghost use Rattle.arch_base.specs.Counts.{RoseIf};
 ghost use Rattle.disk_model.specs.Disk.{WhereTold, LeavesOnly};
 ghost use Rattle.disk_model.specs.Sizes.{greatest_epoch, epoch_count};
@@ -7,8 +7,8 @@ ghost use Rattle.disk_model.specs.Synced.{IsSettled};
 ghost use Rattle.mail_reader.specs.Ids.{own_id as own_id_in};
 ghost use Rattle.mail_reader.specs.Content.{content_id_of};
 ghost use Rattle.git_objects.specs.Objects.{blob_id_of};
-ghost use Rattle.arch_model.specs.Archives.{Archive, with_entry, with_deletion, empty_archive};
-ghost use Rattle.arch_model.specs.Delivery.{new_epoch};
+ghost use Rattle.arch_model.specs.Archives.{Archive, with_entry, with_deletion, live, text_of, empty_archive};
+ghost use Rattle.arch_model.specs.Delivery.{new_epoch, collision};
 ghost use Rattle.arch_base.specs.Moments.{last_moment};
 ghost use Rattle.epoch_file.specs.Appending.{written_of};
 ghost use Rattle.root_slots.specs.Valid.{IsRoot};
@@ -360,12 +360,12 @@ impl Store {
         requires sizes { WhereTold (HasSizes self.old) (D.content disk.old) }
         ensures any_moment { (a : Archive) (cache : List ℕ)
             → IsStoreWith self.old cache a (D.content disk.old)
-            → self.old.root.sequence + 1 < 2 ^ 64
+            → self.old.root.sequence + 1 < 2 ^ 64 → collision a.entries text.now ≡ None
             → LeavesOnly D.moment D.left_since disk.old disk.new
             (RecoversEitherWith cache a (with_entry a (new_epoch a) text.now moment)) }
         ensures done { (a : Archive) (cache : List ℕ)
             → IsStoreWith self.old cache a (D.content disk.old)
-            → self.old.root.sequence + 1 < 2 ^ 64
+            → self.old.root.sequence + 1 < 2 ^ 64 → collision a.entries text.now ≡ None
             → OnOk result (IsStoreWith self.new cache (with_entry a (new_epoch a) text.now moment)
             (D.content disk.new)) }
         ensures settled { OnOk result (WhereTold IsSettled (D.content disk.new)) }
@@ -428,11 +428,13 @@ impl Store {
         ensures any_moment { (a : Archive) (cache : List ℕ)
             → IsStoreWith self.old cache a (D.content disk.old)
             → self.old.root.sequence + 1 < 2 ^ 64
+            → text_of (live a.entries) number ≡ Some text.now
             → LeavesOnly D.moment D.left_since disk.old disk.new
             (RecoversEitherWith cache a (with_deletion a number (new_epoch a) text.now moment)) }
         ensures done { (a : Archive) (cache : List ℕ)
             → IsStoreWith self.old cache a (D.content disk.old)
             → self.old.root.sequence + 1 < 2 ^ 64
+            → text_of (live a.entries) number ≡ Some text.now
             → OnOk result (IsStoreWith self.new cache
             (with_deletion a number (new_epoch a) text.now moment) (D.content disk.new)) }
         ensures settled { OnOk result (WhereTold IsSettled (D.content disk.new)) }
