@@ -2,6 +2,16 @@
 use Rattle.std.specs.Prelude.{◌≡◌, ◌+◌, ◌-◌, ◌<◌, ◌^◌, ℕ, List, Option}
 use Rattle.arch_base.specs.Counts.{RoseIf}
 use Rattle.disk_model.specs.Disk.{Files, Content, WhereTold, LeavesOnly, Told, Unchanged, Image}
+use Rattle.std.specs.List.{find}
+use Rattle.arch_model.specs.Archives.{is_message}
+use Rattle.arch_model.specs.Delivery.{collision}
+use Rattle.arch_model.specs.declared.text_refusal.TextRefusal.{TextRefusal}
+use Rattle.arch_model.specs.declared.text_refusal.TextRefusal.TheVariants as unread
+use Rattle.arch_judge.specs.Judging.{Judges}
+use Rattle.arch_judge.specs.declared.judging.Verdict.{Verdict}
+use Rattle.arch_judge.specs.declared.judging.Verdict.TheVariants.{Take, Compare, Refuse}
+use Rattle.epoch_store.specs.declared.entries.StoredEntry.{StoredEntry}
+use Rattle.epoch_store.specs.Files.{epoch_file_of}
 use Rattle.arch_model.specs.Shelves.{ReadsOnce}
 use Rattle.disk_model.specs.Synced.{IsSettled}
 use Rattle.arch_model.specs.Archives.{Archive}
@@ -106,6 +116,40 @@ abbrev pub refusal_answer : StoreRefusal → Answer
 refusal_answer refusal.DiskFault = answer.DiskFault
 refusal_answer refusal.NoMemory = answer.NoMemory
 refusal_answer (refusal.Damaged file offset) = answer.Damaged file offset
+
+-- The place that is damaged where the text of a number is: the file of its message's epoch, and the
+-- offset of the entry there.
+abbrev pub damaged_place : View → Option StoredEntry → Answer
+damaged_place v None = answer.NoMemory
+damaged_place v (Some e) = answer.Damaged (epoch_file_of v.root e.epoch) e.seen.at
+
+-- The message of a number among the entries that are kept, live or not.
+abbrev pub message_kept : View → ℕ → Option StoredEntry
+message_kept v number =
+    find (λ (e : StoredEntry). is_message e.seen.kind && e.number == number) v.entries
+
+-- The answer where the text of a number wasn't read.
+abbrev pub unread_answer : View → ℕ → TextRefusal → Answer
+unread_answer v number unread.DiskFault = answer.DiskFault
+unread_answer v number (unread.Damaged named found) = damaged_place v (message_kept v number)
+unread_answer v number unread.NoMemory = answer.NoMemory
+
+-- The verdict is that a read failed.
+abbrev pub IsFaultRead : Verdict → Type 0
+IsFaultRead (Take text blob number) = ⊥
+IsFaultRead (Compare text blob number) = ⊥
+IsFaultRead (Refuse reply) = reply ≡ answer.DiskFault
+
+-- The verdict is what the definition says of the delivery, unless a read failed.
+abbrev pub JudgesRead : Archive → List ℕ → Verdict → Type 0
+JudgesRead a bytes (Refuse answer.DiskFault) = Unit {0}
+JudgesRead a bytes verdict = Judges a bytes verdict
+
+-- No other text has the blob id of a text that is taken.
+abbrev pub IsAlone : Archive → Verdict → Type 0
+IsAlone a (Take text blob number) = collision a.entries text ≡ None
+IsAlone a (Compare text blob number) = Unit {0}
+IsAlone a (Refuse reply) = Unit {0}
 
 -- The disk was read, and nothing else: its content is the same, and a crash leaves what it might have
 -- left before.

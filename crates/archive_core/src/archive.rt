@@ -4,7 +4,7 @@ ghost use Rattle.arch_base.specs.Configs.{IsConfig};
 ghost use Rattle.arch_base.specs.Counts.{RoseIf};
 ghost use Rattle.disk_model.specs.Disk.{WhereTold, LeavesOnly};
 ghost use Rattle.disk_model.specs.Synced.{IsSettled};
-ghost use Rattle.arch_model.specs.Archives.{Archive, with_entry};
+ghost use Rattle.arch_model.specs.Archives.{Archive, with_entry, live};
 ghost use Rattle.arch_model.specs.Delivery.{applied, delivered, removed, collision, new_epoch};
 ghost use Rattle.arch_model.specs.Shelves.{ReadsOnce};
 ghost use Rattle.git_objects.specs.Objects.{blob_id_of};
@@ -15,7 +15,7 @@ ghost use Rattle.arch_base.specs.Moments.{last_moment};
 ghost use Rattle.archive_core.specs.Openings.{RefusesKindly};
 ghost use Rattle.epoch_store.specs.Promises.{MakesArchive, OpensArchive};
 ghost use Rattle.epoch_store.specs.Stores.{IsStoreWith, Keeps, HasSizes, RecoversEitherWith, SeesNoDamage, GoesOn};
-ghost use Rattle.archive_core.specs.Commands.{DoneBy, OnDone, OnRefusal, UnlessFault, OnlyLooks, IsForCommand, IsFaultRead, JudgesRead, IsAlone, TakesCommand, refusal_answer, unread_answer};
+ghost use Rattle.archive_core.specs.Commands.{DoneBy, OnDone, OnRefusal, UnlessFault, OnlyLooks, IsForCommand, IsFaultRead, JudgesRead, IsAlone, TakesCommand, refusal_answer, unread_answer, damaged_place, message_kept};
 
 use crate::entries::index_of;
 use crate::texts::{end_text, put_text, take_text};
@@ -26,6 +26,7 @@ use disk_model::Disk;
 use epoch_file::StoreRefusal;
 use epoch_store::{InitRefusal, Store, law_of_stores};
 use git_objects::blob_id;
+use mail_reader::own_id;
 use std::alloc::Global;
 use std::marker::Model;
 
@@ -223,6 +224,27 @@ impl DiskArchive {
         }
     }
 
+    /// Returns the answer that the entry of a number's message is damaged.
+    fn damaged(&self, number: u32) -> Answer
+        ensures { result ≡ damaged_place self.now (message_kept self.now number) }
+    {
+        match self.message_index(number) {
+            None => Answer::NoMemory,
+            Some(index) => match self.store.place(index) {
+                None => Answer::NoMemory,
+                Some((file, at)) => Answer::Damaged { file, at },
+            },
+        }
+    }
+
+    /// Returns whether the message with a number has the own id of a text.
+    fn is_named(&self, number: u32, text: &[u8]) -> bool {
+        match (self.message_index(number), own_id(text)) {
+            (Some(index), Some(id)) => self.store.stored()[index as usize].seen.id.as_slice() == id,
+            _ => false,
+        }
+    }
+
     /// Removes a message, or refuses. Reads at most once.
     fn remove<D: Disk>(&mut self, disk: &mut D, number: u32, moment: u64) -> Answer
         requires moment { moment ≤ last_moment }
@@ -326,9 +348,9 @@ impl DiskArchive {
         self.store.stored().len() as u64
     }
 
-    /// Returns how many numbers have a message. Until messages are removed each entry has one.
+    /// Returns how many numbers have a live message.
     pub fn live_count(&self) -> u32
-        ensures { (a : Archive) → Keeps self.now a → result ≡ length a.entries }
+        ensures { (a : Archive) → Keeps self.now a → result ≡ length (live a.entries) }
     {
         // There are no more entries than numbers.
         self.store.stored().len().min(u32::MAX as usize) as u32
