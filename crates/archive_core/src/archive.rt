@@ -18,6 +18,7 @@ ghost use Rattle.epoch_store.specs.Stores.{IsStoreWith, Keeps, HasSizes, Recover
 ghost use Rattle.archive_core.specs.Commands.{DoneBy, OnDone, OnRefusal, UnlessFault, OnlyLooks, IsForCommand, IsFaultRead, JudgesRead, IsAlone, TakesCommand, refusal_answer, unread_answer, damaged_place, message_kept};
 
 use crate::entries::index_of;
+use crate::placing::{MessagePlace, end_place, places_of};
 use crate::texts::{end_text, put_text, take_text};
 use arch_base::{Bytes, Config, NoMemory, ObjectId};
 use arch_judge::{Index, Verdict, compared, judge};
@@ -38,17 +39,21 @@ pub struct DiskArchive {
     alloc: Global,
     pub(crate) store: Store,
     pub(crate) index: Index,
+    pub(crate) places: Vec<MessagePlace>,
 }
 
 impl Model for DiskArchive {
     ghost use Rattle.epoch_store.specs.Stores.{View};
+    ghost use Rattle.std.specs.Prelude.{◌≡◌};
     ghost use Rattle.archive_core.specs.Kept.{IndexesStored};
+    ghost use Rattle.archive_core.specs.Placing.{message_places};
 
     ghost Value = { View };
 
     ghost view = { λ s. s.store };
 
-    ghost invariant = { λ s. IndexesStored s.store.entries s.index };
+    ghost invariant = { λ s. IndexesStored s.store.entries s.index
+        × (s.places.items ≡ message_places 0 s.store.entries) };
 }
 
 impl DiskArchive {
@@ -75,6 +80,7 @@ impl DiskArchive {
             alloc,
             store,
             index: Index::new(alloc),
+            places: Vec::new(alloc),
         })
     }
 
@@ -100,14 +106,18 @@ impl DiskArchive {
             Ok(store) => store,
             Err(refusal) => return Err(refusal),
         };
-        match index_of(alloc, store.stored()) {
-            Ok(index) => Ok(DiskArchive {
-                alloc,
-                store,
-                index,
-            }),
-            Err(NoMemory) => Err(OpenRefusal::NoMemory),
-        }
+        let Ok(index) = index_of(alloc, store.stored()) else {
+            return Err(OpenRefusal::NoMemory);
+        };
+        let Ok(places) = places_of(alloc, store.stored()) else {
+            return Err(OpenRefusal::NoMemory);
+        };
+        Ok(DiskArchive {
+            alloc,
+            store,
+            index,
+            places,
+        })
     }
 
     /// Takes a command at a moment, in seconds since 1970.
@@ -287,6 +297,7 @@ impl DiskArchive {
         match self.store.remove_entry(self.alloc, disk, number, text, moment) {
             Ok(()) => {
                 end_text(&mut self.index, text);
+                end_place(&mut self.places, number);
                 Answer::Ok {
                     number,
                     id: blob_id(text),
@@ -332,12 +343,20 @@ impl DiskArchive {
     {
         law_of_stores();
         let number = self.store.next_number();
+        let entry = self.store.stored().len();
+        self.places.reserve(1)?;
         put_text(self.alloc, &mut self.index, text, blob, number)?;
         if let Err(refusal) = self.store.deliver_entry(self.alloc, disk, text, moment) {
             // The index is as it was before.
             take_text(&mut self.index, text, &blob, number);
             return Err(refusal);
         }
+        // There is room for it.
+        let _ = self.places.push(MessagePlace {
+            number,
+            entry,
+            live: true,
+        });
         Ok(())
     }
 
