@@ -344,7 +344,9 @@ impl DiskArchive {
         law_of_stores();
         let number = self.store.next_number();
         let entry = self.store.stored().len();
-        self.places.reserve(1)?;
+        let Ok(()) = self.places.reserve(1) else {
+            return Err(StoreRefusal::NoMemory);
+        };
         put_text(self.alloc, &mut self.index, text, blob, number)?;
         if let Err(refusal) = self.store.deliver_entry(self.alloc, disk, text, moment) {
             // The index is as it was before.
@@ -371,8 +373,8 @@ impl DiskArchive {
     pub fn live_count(&self) -> u32
         ensures { (a : Archive) → Keeps self.now a → result ≡ length (live a.entries) }
     {
-        // There are no more entries than numbers.
-        self.store.stored().len().min(u32::MAX as usize) as u32
+        // There are no more messages than numbers.
+        self.live_between(0, u32::MAX).min(u64::from(u32::MAX)) as u32
     }
 
     /// Returns the number of the next message.
