@@ -1,10 +1,12 @@
 -- The answers to a command on an archive on a disk, and what the disk then holds.
-use Rattle.std.specs.Prelude.{◌≡◌, ◌+◌, ◌-◌, ◌<◌, ◌^◌, ℕ, List, Option}
+use Rattle.std.specs.Prelude.{◌≡◌, ◌≢◌, ◌==◌, ◌&&◌, ◌+◌, ◌-◌, ◌<◌, ◌^◌, ℕ, List, Option, Some, None}
 use Rattle.arch_base.specs.Counts.{RoseIf}
 use Rattle.disk_model.specs.Disk.{Files, Content, WhereTold, LeavesOnly, Told, Unchanged, Image}
-use Rattle.std.specs.List.{find}
-use Rattle.arch_model.specs.Archives.{is_message}
-use Rattle.arch_model.specs.Delivery.{collision}
+use Rattle.std.specs.List.{AllByRecursion, find}
+use Rattle.arch_base.specs.declared.ids.Id20.{Id20}
+use Rattle.mail_reader.specs.StorageTexts.{IsStorageText}
+use Rattle.mail_reader.specs.Ids.{own_id}
+use Rattle.git_objects.specs.Objects.{blob_id_of}
 use Rattle.arch_model.specs.declared.text_refusal.TextRefusal.{TextRefusal}
 use Rattle.arch_model.specs.declared.text_refusal.TextRefusal.TheVariants as unread
 use Rattle.arch_judge.specs.Judging.{Judges}
@@ -14,13 +16,13 @@ use Rattle.epoch_store.specs.declared.entries.StoredEntry.{StoredEntry}
 use Rattle.epoch_store.specs.Files.{epoch_file_of}
 use Rattle.arch_model.specs.Shelves.{ReadsOnce}
 use Rattle.disk_model.specs.Synced.{IsSettled}
-use Rattle.arch_model.specs.Archives.{Archive}
-use Rattle.arch_model.specs.Delivery.{Done}
+use Rattle.arch_model.specs.Archives.{Archive, is_message}
+use Rattle.arch_model.specs.Delivery.{Done, collision}
 use Rattle.arch_model.specs.declared.answer.Answer.{Answer}
 use Rattle.arch_model.specs.declared.answer.Answer.TheVariants as answer
 use Rattle.epoch_file.specs.declared.refusal.StoreRefusal.{StoreRefusal}
 use Rattle.epoch_file.specs.declared.refusal.StoreRefusal.TheVariants as refusal
-use Rattle.epoch_store.specs.Stores.{View, IsStoreWith, HasSizes, RecoversEitherWith, GoesOn}
+use Rattle.epoch_store.specs.Stores.{View, live_kept, IsStoreWith, HasSizes, RecoversEitherWith, GoesOn}
 
 -- The definition's answer was given, and the disk is the own one of a store that keeps the
 -- definition's archive, with a cache of these bytes.
@@ -133,6 +135,19 @@ abbrev pub unread_answer : View → ℕ → TextRefusal → Answer
 unread_answer v number unread.DiskFault = answer.DiskFault
 unread_answer v number (unread.Damaged named found) = damaged_place v (message_kept v number)
 unread_answer v number unread.NoMemory = answer.NoMemory
+
+-- The message of a number has the own id of a text.
+abbrev pub IsNamed : View → ℕ → List ℕ → Type 0
+IsNamed v number text = (e : StoredEntry) × (message_kept v number ≡ Some e)
+    × (own_id text ≡ Some e.seen.id)
+
+-- A text may come to what is kept: the archive is no mirror, the text is a storage text, and no live
+-- message has its own id.
+pub record MayComeTo (v : View) (text : List ℕ) (blob : Id20) : Type 0 where
+  pub writable : v.root.config.mirror ≡ false
+  pub storage : IsStorageText text
+  pub blob_is : blob ≡ blob_id_of text
+  pub id : AllByRecursion (λ (e : StoredEntry). own_id text ≢ Some e.seen.id) (live_kept v.entries)
 
 -- The verdict is that a read failed.
 abbrev pub IsFaultRead : Verdict → Type 0

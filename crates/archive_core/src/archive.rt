@@ -1,13 +1,14 @@
 //! An archive on a disk that is handed in. Each of its commands has the result of the definition.
-ghost use Rattle.std.specs.Prelude.{◌≡◌, ◌≤◌, ◌<◌, ◌+◌, ◌-◌, ◌^◌, ℕ, length, Err, OnOk, OnErr, List};
+ghost use Rattle.std.specs.Prelude.{true, false, Some, None, ◌≡◌, ◌≤◌, ◌<◌, ◌+◌, ◌-◌, ◌^◌, ℕ, length, Err, OnOk, OnErr, List};
 ghost use Rattle.arch_base.specs.Configs.{IsConfig};
 ghost use Rattle.arch_base.specs.Counts.{RoseIf};
 ghost use Rattle.disk_model.specs.Disk.{WhereTold, LeavesOnly};
 ghost use Rattle.disk_model.specs.Synced.{IsSettled};
-ghost use Rattle.arch_model.specs.Archives.{Archive, with_entry, live};
+ghost use Rattle.arch_model.specs.Archives.{Archive, with_entry, live, text_of};
 ghost use Rattle.arch_model.specs.Delivery.{applied, delivered, removed, collision, new_epoch};
 ghost use Rattle.arch_model.specs.Shelves.{ReadsOnce};
-ghost use Rattle.git_objects.specs.Objects.{blob_id_of};
+ghost use Rattle.arch_judge.specs.Judging.{Compares};
+ghost use Rattle.archive_core.specs.Numbers.{has_live};
 ghost use Rattle.epoch_file.specs.declared.refusal.StoreRefusal.{StoreRefusal};
 ghost use Rattle.archive_core.specs.Kept.{MayGoIn, TakesWhatMay};
 ghost use Rattle.arch_model.specs.declared.answer.Answer.{Answer};
@@ -15,7 +16,7 @@ ghost use Rattle.arch_base.specs.Moments.{last_moment};
 ghost use Rattle.archive_core.specs.Openings.{RefusesKindly};
 ghost use Rattle.epoch_store.specs.Promises.{MakesArchive, OpensArchive};
 ghost use Rattle.epoch_store.specs.Stores.{IsStoreWith, Keeps, HasSizes, RecoversEitherWith, SeesNoDamage, GoesOn};
-ghost use Rattle.archive_core.specs.Commands.{DoneBy, OnDone, OnRefusal, UnlessFault, OnlyLooks, IsForCommand, IsFaultRead, JudgesRead, IsAlone, TakesCommand, refusal_answer, unread_answer, damaged_place, message_kept};
+ghost use Rattle.archive_core.specs.Commands.{DoneBy, OnDone, OnRefusal, UnlessFault, OnlyLooks, IsForCommand, IsFaultRead, JudgesRead, IsAlone, TakesCommand, refusal_answer, unread_answer, damaged_place, message_kept, IsNamed, MayComeTo};
 
 use crate::entries::index_of;
 use crate::placing::{MessagePlace, end_place, places_of};
@@ -208,7 +209,13 @@ impl DiskArchive {
         blob: ObjectId,
         number: u32,
     ) -> Verdict
-        requires blob { blob ≡ blob_id_of text }
+        requires may { MayComeTo self.now text blob }
+        ensures judged { (a : Archive) (bytes : List ℕ) (cache : List ℕ)
+            → IsStoreWith self.now cache a (D.content disk.old)
+            → Compares a bytes text blob number → JudgesRead a bytes result }
+        ensures alone { (a : Archive) (cache : List ℕ)
+            → IsStoreWith self.now cache a (D.content disk.old) → IsAlone a result }
+        ensures taken { TakesWhatMay self.now result }
         ensures looks { OnlyLooks D.content D.moment D.left_since disk.old disk.new }
         ensures cause { RoseIf (IsFaultRead result) (D.faults disk.old) (D.faults disk.new) }
         ensures count { ReadsOnce (D.reads disk.old) (D.reads disk.new) }
@@ -248,7 +255,9 @@ impl DiskArchive {
     }
 
     /// Returns whether the message with a number has the own id of a text.
-    fn is_named(&self, number: u32, text: &[u8]) -> bool {
+    fn is_named(&self, number: u32, text: &[u8]) -> bool
+        ensures { result ≡ true → IsNamed self.now number text.now }
+    {
         match (self.message_index(number), own_id(text)) {
             (Some(index), Some(id)) => self.store.stored()[index as usize].seen.id.as_slice() == id,
             _ => false,
@@ -289,7 +298,28 @@ impl DiskArchive {
     ) -> Answer
         requires moment { moment ≤ last_moment }
         requires writable { self.old.root.config.mirror ≡ false }
+        requires live { has_live self.old.entries number ≡ true }
         requires sizes { WhereTold (HasSizes self.old) (D.content disk.old) }
+        ensures any_moment { (a : Archive) (cache : List ℕ)
+            → IsStoreWith self.old cache a (D.content disk.old)
+            → self.old.root.sequence + 1 < 2 ^ 64
+            → text_of (live a.entries) number ≡ Some text.now
+            → LeavesOnly D.moment D.left_since disk.old disk.new
+            (RecoversEitherWith cache a (removed a number moment).archive) }
+        ensures done { (a : Archive) (cache : List ℕ)
+            → IsStoreWith self.old cache a (D.content disk.old)
+            → self.old.root.sequence + 1 < 2 ^ 64
+            → text_of (live a.entries) number ≡ Some text.now
+            → DoneBy self.new cache a (removed a number moment) result (D.content disk.new) }
+        ensures settled { OnDone result (WhereTold IsSettled (D.content disk.new)) }
+        ensures goes_on { OnDone result (GoesOn self.old.root self.new.root) }
+        ensures slot { OnDone result (self.new.slot ≡ 1 - self.old.slot) }
+        ensures same { OnRefusal result (self.new ≡ self.old) }
+        ensures untouched { OnRefusal result (UnlessFault result (disk.new ≡ disk.old)) }
+        ensures sizes { UnlessFault result (WhereTold (HasSizes self.new) (D.content disk.new)) }
+        ensures cause { RoseIf (result ≡ Answer.DiskFault) (D.faults disk.old) (D.faults disk.new) }
+        ensures for_command { IsForCommand result }
+        ensures count { D.reads disk.new ≡ D.reads disk.old }
     {
         if !self.is_named(number, text) {
             return self.damaged(number);

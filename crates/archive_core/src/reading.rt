@@ -9,6 +9,7 @@ ghost use Rattle.arch_model.specs.declared.text_refusal.TextRefusal.{TextRefusal
 ghost use Rattle.epoch_store.specs.Reads.{AnswersQuietly};
 ghost use Rattle.epoch_store.specs.Stores.{IsStoreWith, Keeps};
 ghost use Rattle.archive_core.specs.Numbers.{has_live, has_message_number, IsKnownLive, IsMessageAt, GivesTextKept, TellsOther};
+ghost use Rattle.archive_core.specs.Placing.{live_place, PlacesRise, IsLeastPlace, IsGreatestPlace};
 ghost use Rattle.archive_core.specs.declared.placing.MessagePlace.{MessagePlace};
 
 use crate::archive::DiskArchive;
@@ -179,7 +180,10 @@ impl DiskArchive {
 }
 
 /// Returns the least live number from `n` on, or `None` if there is none.
-fn live_from(places: &[MessagePlace], n: u32) -> Option<u32> {
+fn live_from(places: &[MessagePlace], n: u32) -> Option<u32>
+    ensures known { IsKnownLive (live_place places.now) result }
+    ensures least { PlacesRise places.now → IsLeastPlace places.now n result }
+{
     let first = places.partition_point(|place| place.number < n);
     for index in first..places.len() {
         if places[index].live {
@@ -190,7 +194,10 @@ fn live_from(places: &[MessagePlace], n: u32) -> Option<u32> {
 }
 
 /// Returns the greatest live number up to `n`, or `None` if there is none.
-fn live_to(places: &[MessagePlace], n: u32) -> Option<u32> {
+fn live_to(places: &[MessagePlace], n: u32) -> Option<u32>
+    ensures known { IsKnownLive (live_place places.now) result }
+    ensures greatest { PlacesRise places.now → IsGreatestPlace places.now n result }
+{
     let count = places.partition_point(|place| place.number <= n);
     for index in (0..count).rev() {
         if places[index].live {
