@@ -290,9 +290,10 @@ impl Store {
         let epoch = epoch_file(place.epoch, place.gen_);
         let written = append_entry(alloc, disk, epoch, place.length, entry)?;
         let root = self.ended_root(place, written.end);
-        let slot = self.slot.other();
-        replace_root(disk, slot, &self.root, &root)?;
-        Ok((root, written))
+        let other = self.slot.other();
+        replace_root(disk, other, &self.root, &root)?;
+        let made = (root, written);
+        Ok(made)
     }
 
     /// Returns what is kept of a new entry that was written.
