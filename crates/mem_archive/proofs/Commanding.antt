@@ -80,7 +80,7 @@ stays-ready m n d answer.IsMirror is = refl
 stays-ready m n d answer.DiskFault never = absurd never
 stays-ready m n d (answer.Damaged file at) never = absurd never
 
--- It has no disk that fails.
+-- It has no disk that fails, and its count of faults stays 0.
 pub never-fails : (m n : Archive) (d : Done) (reply : Answer) → Delivers m reply n d → AnswerCause 0 0 reply
 never-fails m n d answer.NoMemory is = refl
 never-fails m n d (answer.Ok number id) is = refl
