@@ -1,7 +1,8 @@
 -- What the candidate ids decide over an index, and in each archive of that index.
-use Rattle.std.specs.Prelude.{◌≡◌, ◌+◌, ◌^◌, ◌<◌, ◌≤◌, ℕ, Bool, true, false, List, [], ◌++◌, length, Option, Some, None, option_map, IsSome, refl, if◌then◌else◌}
+use Rattle.std.specs.Prelude.{◌≡◌, ◌+◌, ◌^◌, ◌<◌, ◌≤◌, ℕ, Bool, true, false, nat_lt, List, [], ◌++◌, length, Option, Some, None, option_map, IsSome, refl, if◌then◌else◌}
 use Rattle.std.specs.Str.{bytes_eq}
 use Rattle.std.proofs.Common.{◌∙◌, sym, ap, subst, arith}
+use Rattle.std.proofs.lemmas.Bool.Decides.{nat_tests}
 use Rattle.arch_base.specs.Names.{IsName}
 use Rattle.arch_base.specs.declared.config.Config.{Config}
 use Rattle.arch_base.specs.declared.ids.Id20.{Id20}
@@ -10,7 +11,7 @@ use Rattle.git_objects.specs.Objects.{id_of}
 use Rattle.mail_reader.specs.Content.{content_id_of}
 use Rattle.mail_reader.specs.Ids.{own_id}
 use Rattle.mail_reader.specs.Laws.{id_line}
-use Rattle.arch_model.specs.Archives.{Entry, Archive, owner}
+use Rattle.arch_model.specs.Archives.{Entry, Archive, owner, live}
 use Rattle.arch_model.specs.Candidates.{id_with, made_id, with_made, met}
 use Rattle.arch_judge.specs.Judging.{IsKnownBy, IsNewText, IsStored, TakesNewText}
 use Rattle.arch_model.specs.Laws.{TakenAreStorage}
@@ -66,35 +67,42 @@ module _ (config : Config) (index : Index) (count : ℕ) (text : List ℕ) where
   meets_known a i m known is =
       let name : config.name ≡ a.config.name = sym (ap (λ (c : Config). c.name) known.config_is) in
       let id = made_id a.config.name text i in
-      sym (met_known (owner_in index.owners id) (owner a.entries id) (content_id_of text) (known.indexed.owners id)) ∙ (ap (λ (n : List ℕ). asked index n text i) (sym name) ∙ is)
+      sym (met_known (owner_in index.owners id) (owner (live a.entries) id) (content_id_of text) (known.indexed.owners id)) ∙ (ap (λ (n : List ℕ). asked index n text i) (sym name) ∙ is)
 
-  within : (a : Archive) (i : ℕ) → IsKnownBy config index count a.next a → i ≤ count → i ≤ length a.entries
-  within a i known low = omega (arith, known.count_is, low)
+  at_most : (l i : ℕ) → (l < i → ⊥) → i ≤ l
+  at_most l i no_more = by (nat_lt l i) refl where
+    by : (t : Bool) → nat_lt l i ≡ t → i ≤ l
+    by true test = absurd (no_more (grind (arith, nat_tests, test)))
+    by false test = grind (arith, nat_tests, test)
+
+  -- What is skipped is no more than there are live messages.
+  within : (a : Archive) (i : ℕ) → i < 2 ^ 64 → Passed a text i → i ≤ length (live a.entries)
+  within a i small passed = at_most (length (live a.entries)) i (λ over. not-all-passed a text i over (omega (arith, over, small)) passed)
 
   pub begins : PassedIn config index count text 0
   begins a known = passed-none a text
 
   pub goes_on : (i : ℕ) → i ≤ count → i < 2 ^ 64 → PassedIn config index count text i → asked index config.name text i ≡ Other → PassedIn config index count text (i + 1)
-  goes_on i low small passed is a known = passed-more a text i (within a i known low) small (passed a known) (meets_known a i Other known is)
+  goes_on i low small passed is a known = passed-more a text i (within a i small (passed a known)) small (passed a known) (meets_known a i Other known is)
 
   -- What was found is what the made ids decide in each of these archives.
   abbrev pub IsMade : Option Choice → Type 0
   IsMade found = (a : Archive) → IsKnownBy config index count a.next a → found ≡ Some (all_made a text)
 
   pub repeats : (i n : ℕ) → i ≤ count → i < 2 ^ 64 → PassedIn config index count text i → asked index config.name text i ≡ Same n → IsMade (Some (Repeat n))
-  repeats i n low small passed is a known = ap Some (passed-same a text i n (within a i known low) small (passed a known) (meets_known a i (Same n) known is))
+  repeats i n low small passed is a known = ap Some (passed-same a text i n (within a i small (passed a known)) small (passed a known) (meets_known a i (Same n) known is))
 
-  pub takes : (i : ℕ) (choice : Choice) (id : List ℕ) → i ≤ count → PassedIn config index count text i → asked index config.name text i ≡ Free → id ≡ made_id config.name text i
+  pub takes : (i : ℕ) (choice : Choice) (id : List ℕ) → i ≤ count → i < 2 ^ 64 → PassedIn config index count text i → asked index config.name text i ≡ Free → id ≡ made_id config.name text i
       → choice ≡ Take (id_line id ++ text) → IsMade (Some choice)
-  takes i choice id low passed is id_is choice_is a known =
+  takes i choice id low small passed is id_is choice_is a known =
       ap Some
       (choice_is
       ∙ (ap (λ (q : List ℕ). Take (id_line q ++ text)) id_is
-      ∙ (ap (λ (c : Config). Take (with_made c.name text i)) (sym known.config_is) ∙ passed-free a text i (within a i known low) (passed a known) (meets_known a i Free known is))))
+      ∙ (ap (λ (c : Config). Take (with_made c.name text i)) (sym known.config_is) ∙ passed-free a text i (within a i small (passed a known)) (passed a known) (meets_known a i Free known is))))
 
   -- There is always a made id that isn't skipped.
   pub none_left : (i : ℕ) → count < i → count < 2 ^ 64 → PassedIn config index count text i → IsMade None
-  none_left i over small passed a known = let count_is = known.count_is in absurd (not-all-passed a text i (omega (arith, over, count_is)) (omega (arith, small, count_is)) (passed a known))
+  none_left i over small passed a known = let few = known.few in absurd (not-all-passed a text i (omega (arith, over, few)) (omega (arith, small, few)) (passed a known))
 
 -- An own id that the index doesn't have is new.
 new_by : (index : Index) (text own : List ℕ) → own_id text ≡ Some own → owner_in index.owners own ≡ None → (id : List ℕ) → own_id text ≡ Some id → owner_in index.owners id ≡ None

@@ -5,15 +5,10 @@ use Rattle.std.proofs.lemmas.Slice.Eq.{bytes_eq-Decides}
 use Rattle.arch_base.specs.declared.ids.Id20.{Id20}
 use Rattle.mail_reader.specs.Ids.{own_id}
 use Rattle.git_objects.specs.Objects.{blob_id_of}
-use Rattle.arch_model.specs.Archives.{Entry, owner, is_id, blob_number}
-use Rattle.arch_judge.specs.Indexes.{IsIndex, Puts, HasSame, owner_of, owner_in}
+use Rattle.arch_model.specs.Archives.{Entry, live, owner, is_id, blob_number}
+use Rattle.arch_judge.specs.Indexes.{IsIndex, Puts, HasSame, first_found, owner_of, owner_in}
 use Rattle.arch_judge.specs.declared.index.Index.{Index}
 use Rattle.arch_judge.specs.declared.index.Owner.{Owner}
-
--- The first of two options that is Some.
-abbrev pub first_found : {X : Type 0} → Option X → Option X → Option X
-first_found None other = other
-first_found (Some x) other = Some x
 
 found_step : {X : Type 0} (t : Bool) (x : X) (a b all : Option X) → all ≡ first_found a b → (if t then Some x else all) ≡ first_found (if t then Some x else a) b
 found_step true x a b all ih = refl
@@ -34,29 +29,21 @@ put_step f false true x found y is same none = absurd (cc)
 put_step f false false x None y is same none = refl
 put_step f false false x (Some z) y is same none = refl
 
-number_step : (t u : Bool) (n : ℕ) (found : Option ℕ) → t ≡ u → (u ≡ true → found ≡ None) → (if t then Some n else found) ≡ first_found found (if u then Some n else None)
-number_step true true n found same none = rw (none refl) refl
-number_step true false n found same none = absurd (cc)
-number_step false true n found same none = absurd (cc)
-number_step false false n None same none = refl
-number_step false false n (Some z) same none = refl
-
--- An index with one more message is the index of one more entry.
-pub IsIndex-push : (es : List Entry) (e : Entry) (old new : Index) (id : List ℕ) (blob : Id20) (message : Owner) → IsIndex es old → Puts old new id blob message → owner_of e ≡ message → own_id e.text ≡ Some id → owner es id ≡ None
-    → blob ≡ blob_id_of e.text → blob_number es blob.0 ≡ None → IsIndex (es ++ e ∷ []) new
-IsIndex-push es e old new id blob message is puts known own free blob_is unseen = record {
+-- An index with one more message is the index of one more live entry.
+pub IsIndex-push : (es : List Entry) (e : Entry) (old new : Index) (id : List ℕ) (blob : Id20) (message : Owner) → live (es ++ e ∷ []) ≡ live es ++ e ∷ [] → IsIndex es old → Puts old new id blob message → owner_of e ≡ message → own_id e.text ≡ Some id → owner (live es) id ≡ None
+    → blob ≡ blob_id_of e.text → IsIndex (es ++ e ∷ []) new
+IsIndex-push es e old new id blob message grows is puts known own free blob_is = record {
   owners = λ q.
       puts.owners q
       ∙ ap (λ (f : Option Owner). if bytes_eq q id then Some message else f) (is.owners q)
-      ∙ put_step owner_of (bytes_eq q id) (is_id q (own_id e.text)) e (owner es q) message known (sym (ap (is_id q) own))
-      (λ yes. subst (λ (i : List ℕ). owner es i ≡ None) (sym ((bytes_eq-Decides q id).0 (ap (is_id q) (sym own) ∙ yes))) free)
-      ∙ ap (option_map owner_of) (sym (owner-push es e q));
+      ∙ put_step owner_of (bytes_eq q id) (is_id q (own_id e.text)) e (owner (live es) q) message known (sym (ap (is_id q) own))
+      (λ yes. subst (λ (i : List ℕ). owner (live es) i ≡ None) (sym ((bytes_eq-Decides q id).0 (ap (is_id q) (sym own) ∙ yes))) free)
+      ∙ ap (option_map owner_of) (sym (ap (λ (l : List Entry). owner l q) grows ∙ owner-push (live es) e q));
   blobs = λ q.
       puts.blobs q
-      ∙ ap (λ (f : Option ℕ). if bytes_eq q blob.0 then Some message.number else f) (is.blobs q)
-      ∙ ap (λ (n : ℕ). if bytes_eq q blob.0 then Some n else blob_number es q) (sym (ap (λ (o : Owner). o.number) known))
-      ∙ number_step (bytes_eq q blob.0) (bytes_eq q (blob_id_of e.text).0) e.number (blob_number es q) (ap (λ (i : Id20). bytes_eq q i.0) blob_is)
-      (λ yes. subst (λ (i : List ℕ). blob_number es i ≡ None) (sym ((bytes_eq-Decides q blob.0).0 (ap (λ (i : Id20). bytes_eq q i.0) blob_is ∙ yes))) unseen)
+      ∙ ap (λ (f : Option ℕ). first_found f (if bytes_eq q blob.0 then Some message.number else None)) (is.blobs q)
+      ∙ ap (λ (n : ℕ). first_found (blob_number es q) (if bytes_eq q blob.0 then Some n else None)) (sym (ap (λ (o : Owner). o.number) known))
+      ∙ ap (λ (i : Id20). first_found (blob_number es q) (if bytes_eq q i.0 then Some e.number else None)) blob_is
       ∙ sym (blob_number-push es e q);
 }
 
@@ -64,9 +51,9 @@ IsIndex-push es e old new id blob message is puts known own free blob_is unseen 
 pub IsIndex-same : (es : List Entry) (old new : Index) → IsIndex es old → HasSame old new → IsIndex es new
 IsIndex-same es old new is same = record { owners = λ q. same.owners q ∙ is.owners q; blobs = λ q. same.blobs q ∙ is.blobs q }
 
--- If an index has no message with an id, no entry has that own id.
-pub unowned : (es : List Entry) (index : Index) (id : List ℕ) → IsIndex es index → owner_in index.owners id ≡ None → owner es id ≡ None
-unowned es index id is none = empty (owner es id) (sym (is.owners id) ∙ none) where
+-- If an index has no message with an id, no live entry has that own id.
+pub unowned : (es : List Entry) (index : Index) (id : List ℕ) → IsIndex es index → owner_in index.owners id ≡ None → owner (live es) id ≡ None
+unowned es index id is none = empty (owner (live es) id) (sym (is.owners id) ∙ none) where
   empty : (o : Option Entry) → option_map owner_of o ≡ None → o ≡ None
   empty None h = refl
   empty (Some e) h = absurd (cc)

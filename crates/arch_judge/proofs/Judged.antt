@@ -1,29 +1,26 @@
 -- The verdict on a delivery is that of the definition, and a text that is taken may be kept.
-use Rattle.std.specs.Prelude.{◌≡◌, ◌<◌, ◌≤◌, ℕ, Bool, true, false, nat_lt, List, Option, Some, None, IsSome, Result, Ok, refl, if◌then◌else◌}
-use Rattle.std.proofs.Common.{◌∙◌, sym, ap, arith}
+use Rattle.std.specs.Prelude.{◌≡◌, ◌<◌, ◌≤◌, ℕ, Bool, true, false, not, nat_lt, List, Some, None, Result, Ok, refl, if◌then◌else◌}
+use Rattle.std.proofs.Common.{◌∙◌, sym, ap, subst, arith}
+use Rattle.std.specs.Str.{bytes_eq}
 use Rattle.std.proofs.lemmas.Bool.Decides.{nat_tests}
 use Rattle.arch_base.specs.declared.config.Config.{Config}
 use Rattle.arch_base.specs.declared.ids.Id20.{Id20}
 use Rattle.git_objects.specs.Objects.{blob_id_of}
-use Rattle.mail_reader.specs.Ids.{own_id}
 use Rattle.mail_reader.specs.Stored.{stored}
 use Rattle.mail_reader.specs.declared.storing.StoredRefusal.{StoredRefusal}
 use Rattle.arch_model.specs.Archives.{Archive, with_entry, blob_number}
+use Rattle.arch_model.specs.Shelves.{blob_text}
 use Rattle.arch_model.specs.Candidates.{choice_of}
-use Rattle.arch_model.specs.Delivery.{delivered, delivered_form, delivered_choice, delivered_kept, refused, collision, new_epoch}
-use Rattle.arch_judge.specs.Judging.{IsKnownBy, IsNewText}
+use Rattle.arch_model.specs.Delivery.{delivered, delivered_form, delivered_choice, delivered_kept, delivered_new, refused, new_epoch}
+use Rattle.arch_judge.specs.Judging.{IsKnownBy, Compares, unless_same, MayCome, MayBeKept, MayTake, TakesThis}
+use Rattle.arch_judge.specs.declared.judging.Verdict.{Verdict}
+use Rattle.arch_judge.specs.declared.judging.Verdict.TheVariants.{Compare, Refuse, Take as Kept}
 use Rattle.arch_judge.specs.Indexes.{number_in}
 use Rattle.arch_model.specs.declared.answer.Answer.TheVariants as answer
 use Rattle.arch_model.specs.declared.choice.Choice.{Choice}
 use Rattle.arch_model.specs.declared.choice.Choice.TheVariants.{Take}
 use Rattle.arch_judge.specs.declared.index.Index.{Index}
-use Rattle.arch_model.proofs.Owners.{collision-free}
-use Rattle.arch_judge.proofs.Indexes.{unowned}
-
--- The value of an option that is Some.
-there : (o : Option (List ℕ)) → IsSome o → (id : List ℕ) × (o ≡ Some id)
-there None some = absurd (let wrong : false ≡ true = some in cc)
-there (Some id) some = (id, refl)
+use Rattle.arch_model.proofs.Owners.{collision-alone, collision-first}
 
 module _ (a : Archive) (config : Config) (index : Index) (count next : ℕ) (known : IsKnownBy config index count next a) (bytes : List ℕ) where
   module _ (writable : config.mirror ≡ false) where
@@ -36,41 +33,72 @@ module _ (a : Archive) (config : Config) (index : Index) (count next : ℕ) (kno
     pub chosen : (form : List ℕ) (choice : Choice) → stored bytes ≡ Ok form → choice ≡ choice_of a form → (moment : ℕ) → delivered a bytes moment ≡ delivered_choice a moment choice
     chosen form choice is choice_is moment = formed (Ok form) is moment ∙ ap (delivered_choice a moment) (sym choice_is)
 
-    module _ (form text : List ℕ) (blob : Id20) (is : stored bytes ≡ Ok form) (takes : choice_of a form ≡ Take text) (new : IsNewText index text) (blob_is : blob ≡ blob_id_of text) where
-      met_as : (found : Option ℕ) → found ≡ number_in index.blobs blob.0 → collision a.entries text ≡ found
-      met_as found given =
-          let own = there (own_id text) new.storage.id in
-          collision-free a.entries text own.0 own.1 (unowned a.entries index own.0 known.indexed (new.new_id own.0 own.1))
-          ∙ ap (λ (i : Id20). blob_number a.entries i.0) (sym blob_is)
-          ∙ sym (known.indexed.blobs blob.0)
-          ∙ sym given
+    module _ (form text : List ℕ) (blob : Id20) (is : stored bytes ≡ Ok form) (takes : choice_of a form ≡ Take text) (blob_is : blob ≡ blob_id_of text) where
+      -- The text of the first entry with the blob id decides.
+      pub comparing : (n : ℕ) → Some n ≡ number_in index.blobs blob.0 → Compares a bytes text blob n
+      comparing n given =
+          let first : blob_number a.entries blob.0 ≡ Some n = sym (known.indexed.blobs blob.0) ∙ sym given in
+          record {
+            first = first;
+            decides = λ agree kept kept_is moment.
+                chosen form (Take text) is (sym takes) moment
+                ∙ ap (delivered_kept a text moment)
+                (collision-first a.entries text kept n agree (ap (λ (i : Id20). blob_number a.entries i.0) (sym blob_is) ∙ first) (ap (λ (i : Id20). blob_text a.entries i.0) (sym blob_is) ∙ kept_is));
+          }
 
-      kept_as : (found : Option ℕ) → found ≡ number_in index.blobs blob.0 → (moment : ℕ) → delivered a bytes moment ≡ delivered_kept a text moment found
-      kept_as found given moment = chosen form (Take text) is (sym takes) moment ∙ ap (delivered_kept a text moment) (met_as found given)
+      -- Without such an entry only want of numbers can refuse it.
+      pub coming : None ≡ number_in index.blobs blob.0 → (moment : ℕ) → delivered a bytes moment ≡ delivered_new a text moment
+      coming given moment =
+          chosen form (Take text) is (sym takes) moment
+          ∙ ap (delivered_kept a text moment) (collision-alone a.entries text (ap (λ (i : Id20). blob_number a.entries i.0) (sym blob_is) ∙ sym (known.indexed.blobs blob.0) ∙ sym given))
 
-      -- A blob id that a message has collides.
-      pub collides : (n : ℕ) → Some n ≡ number_in index.blobs blob.0 → (moment : ℕ) → delivered a bytes moment ≡ refused a (answer.Collision n)
-      collides n given moment = kept_as (Some n) given moment
+-- The number that is left decides.
+module _ (a : Archive) (config : Config) (next : ℕ) (bytes text : List ℕ) (blob : Id20) (config_is : a.config ≡ config) (next_is : a.next ≡ next) (comes : (moment : ℕ) → delivered a bytes moment ≡ delivered_new a text moment) (blob_is : blob ≡ blob_id_of text) where
+  test_of : nat_lt a.config.max a.next ≡ nat_lt config.max next
+  test_of = ap (λ (c : Config). nat_lt c.max a.next) config_is ∙ ap (nat_lt config.max) next_is
 
-      test_of : nat_lt a.config.max a.next ≡ nat_lt config.max next
-      test_of = ap (λ (c : Config). nat_lt c.max a.next) known.config_is ∙ ap (nat_lt config.max) known.next_is
+  numbered : (t : Bool) → nat_lt config.max next ≡ t → (moment : ℕ)
+      → delivered a bytes moment ≡ (if t then refused a (answer.Full a.config.max) else record { archive = with_entry a (new_epoch a) text moment; answer = answer.Ok a.next (blob_id_of text) })
+  numbered t test moment =
+      comes moment
+      ∙ ap (λ (u : Bool). if u then refused a (answer.Full a.config.max) else record { archive = with_entry a (new_epoch a) text moment; answer = answer.Ok a.next (blob_id_of text) }) (test_of ∙ test)
 
-      numbered : (t : Bool) → nat_lt config.max next ≡ t → None ≡ number_in index.blobs blob.0 → (moment : ℕ)
-          → delivered a bytes moment ≡ (if t then refused a (answer.Full a.config.max) else record { archive = with_entry a (new_epoch a) text moment; answer = answer.Ok a.next (blob_id_of text) })
-      numbered t test given moment =
-          kept_as None given moment
-          ∙ ap (λ (u : Bool). if u then refused a (answer.Full a.config.max) else record { archive = with_entry a (new_epoch a) text moment; answer = answer.Ok a.next (blob_id_of text) }) (test_of ∙ test)
+  -- No number is left.
+  pub filled : config.max < next → (moment : ℕ) → delivered a bytes moment ≡ refused a (answer.Full config.max)
+  filled over moment =
+      let test : nat_lt config.max next ≡ true = grind (arith, nat_tests, over) in
+      numbered true test moment ∙ ap (λ (c : Config). refused a (answer.Full c.max)) config_is
 
-      -- No number is left.
-      pub filled : None ≡ number_in index.blobs blob.0 → config.max < next → (moment : ℕ) → delivered a bytes moment ≡ refused a (answer.Full config.max)
-      filled given over moment =
-          let test : nat_lt config.max next ≡ true = grind (arith, nat_tests, over) in
-          numbered true test given moment ∙ ap (λ (c : Config). refused a (answer.Full c.max)) known.config_is
+  -- Otherwise the text is kept.
+  pub kept : next ≤ config.max → (moment : ℕ) → delivered a bytes moment ≡ record { archive = with_entry a (new_epoch a) text moment; answer = answer.Ok next blob }
+  kept room moment =
+      let test : nat_lt config.max next ≡ false = grind (arith, nat_tests, room) in
+      numbered false test moment
+      ∙ (ap (λ (n : ℕ). record { archive = with_entry a (new_epoch a) text moment; answer = answer.Ok n (blob_id_of text) }) next_is
+      ∙ ap (λ (i : Id20). record { archive = with_entry a (new_epoch a) text moment; answer = answer.Ok next i }) (sym blob_is))
 
-      -- Otherwise the text is kept.
-      pub kept : None ≡ number_in index.blobs blob.0 → next ≤ config.max → (moment : ℕ) → delivered a bytes moment ≡ record { archive = with_entry a (new_epoch a) text moment; answer = answer.Ok next blob }
-      kept given room moment =
-          let test : nat_lt config.max next ≡ false = grind (arith, nat_tests, room) in
-          numbered false test given moment
-          ∙ (ap (λ (n : ℕ). record { archive = with_entry a (new_epoch a) text moment; answer = answer.Ok n (blob_id_of text) }) known.next_is
-          ∙ ap (λ (i : Id20). record { archive = with_entry a (new_epoch a) text moment; answer = answer.Ok next i }) (sym blob_is))
+-- A text that was compared: it is the same, or it collides.
+pub same-comes : (a : Archive) (bytes text kept : List ℕ) (number : ℕ) → ((moment : ℕ) → delivered a bytes moment ≡ delivered_kept a text moment (unless_same text kept number)) → bytes_eq text kept ≡ true → (moment : ℕ) → delivered a bytes moment ≡ delivered_new a text moment
+same-comes a bytes text kept number is same moment = is moment ∙ ap (λ (t : Bool). delivered_kept a text moment (if t then None else Some number)) same
+
+pub other-collides : (a : Archive) (bytes text kept : List ℕ) (number : ℕ) → ((moment : ℕ) → delivered a bytes moment ≡ delivered_kept a text moment (unless_same text kept number)) → bytes_eq text kept ≡ false → (moment : ℕ) → delivered a bytes moment ≡ refused a (answer.Collision number)
+other-collides a bytes text kept number is other moment = is moment ∙ ap (λ (t : Bool). delivered_kept a text moment (if t then None else Some number)) other
+
+-- A text that is taken with a new blob id may be taken.
+pub takes-new : (config : Config) (index : Index) (next : ℕ) (text : List ℕ) (blob : Id20) (v : Verdict) → MayCome config index text blob → number_in index.blobs blob.0 ≡ None → TakesThis config next text blob v → MayTake config index next v
+takes-new config index next text blob (Kept taken named number) may new takes =
+    let kept : MayBeKept config index next text blob number = takes.2 index may in
+    subst (λ (t : List ℕ). MayBeKept config index next t named number × (number_in index.blobs named.0 ≡ None)) (sym takes.0) (subst (λ (b : Id20). MayBeKept config index next text b number × (number_in index.blobs b.0 ≡ None)) (sym takes.1) (kept, new))
+takes-new config index next text blob (Compare other named number) may new takes = absurd takes
+takes-new config index next text blob (Refuse reply) may new takes = takes
+
+-- What is known of an archive is known by its own next number.
+pub known-anew : (config : Config) (index : Index) (count next : ℕ) (a : Archive) → IsKnownBy config index count next a → IsKnownBy config index count a.next a
+known-anew config index count next a known = record { config_is = known.config_is; next_is = refl; few = known.few; indexed = known.indexed }
+
+-- Bytes that don't differ are equal.
+pub equal-text : (x text kept : List ℕ) (t : Bool) → t ≡ not (bytes_eq x kept) → t ≡ false → x ≡ text → bytes_eq text kept ≡ true
+equal-text x text kept t is differs same = ap (λ (b : List ℕ). bytes_eq b kept) (sym same) ∙ yes (bytes_eq x kept) (sym is ∙ differs) where
+  yes : (d : Bool) → not d ≡ false → d ≡ true
+  yes true e = refl
+  yes false e = absurd (let wrong : true ≡ false = e in cc)

@@ -1,4 +1,5 @@
 mod Maps
 pub mod Indexes
+pub mod Endings
 mod Choosing
 mod Judged

@@ -1,5 +1,5 @@
--- An index of messages by their own ids and by their blob ids.
-use Rattle.std.specs.Prelude.{◌≡◌, ℕ, List, Option, Some, None, option_map, if◌then◌else◌}
+-- An index of live messages by their own ids, and of all entries by their blob ids.
+use Rattle.std.specs.Prelude.{◌≡◌, ◌≢◌, ℕ, List, Option, Some, None, option_map, if◌then◌else◌}
 use Rattle.std.specs.Str.{bytes_eq}
 use Rattle.std.specs.Ordering.{nat_cmp}
 use Rattle.std.specs.Cmp.Lexicographic.{slice_cmp}
@@ -7,7 +7,7 @@ use Rattle.std.specs.BTreeMap.{BTreeMap, get_by}
 use Rattle.std.specs.Global.{Vec}
 use Rattle.arch_base.specs.declared.ids.Id20.{Id20}
 use Rattle.mail_reader.specs.Content.{content_id_of}
-use Rattle.arch_model.specs.Archives.{Entry, owner, blob_number}
+use Rattle.arch_model.specs.Archives.{Entry, live, owner, blob_number}
 use Rattle.arch_model.specs.declared.choice.Meeting.{Meeting}
 use Rattle.arch_model.specs.declared.choice.Meeting.TheVariants.{Free, Same, Other}
 use Rattle.arch_judge.specs.declared.index.Index.{Index}
@@ -25,34 +25,48 @@ owner_in owners id = get_by (λ (k : Vec ℕ). slice_cmp nat_cmp id k.items) own
 abbrev pub number_in : BTreeMap (List ℕ) ℕ → List ℕ → Option ℕ
 number_in blobs blob = get_by (λ (k : List ℕ). slice_cmp nat_cmp blob k) blobs
 
--- The index has the entries by their own ids, and their numbers by their blob ids.
+-- The index has the live entries by their own ids, and by each blob id the number of the first entry
+-- that has it, live or not.
 pub record IsIndex (entries : List Entry) (index : Index) : Type 0 where
-  pub owners : (id : List ℕ) → owner_in index.owners id ≡ option_map owner_of (owner entries id)
+  pub owners : (id : List ℕ)
+      → owner_in index.owners id ≡ option_map owner_of (owner (live entries) id)
   pub blobs : (blob : List ℕ) → number_in index.blobs blob ≡ blob_number entries blob
 
--- One id and one blob id were put into the index.
+-- The first of two options that is Some.
+abbrev pub first_found : {X : Type 0} → Option X → Option X → Option X
+first_found None other = other
+first_found (Some x) other = Some x
+
+-- One id was put into the index, and its blob id, if it wasn't there already.
 pub record Puts (old new : Index) (id : List ℕ) (blob : Id20) (message : Owner) : Type 0 where
   pub owners : (q : List ℕ)
       → owner_in new.owners q ≡ (if bytes_eq q id then Some message else owner_in old.owners q)
-  pub blobs : (q : List ℕ) → number_in new.blobs q
-      ≡ (if bytes_eq q blob.0 then Some message.number else number_in old.blobs q)
+  pub blobs : (q : List ℕ) → number_in new.blobs q ≡ first_found (number_in old.blobs q)
+      (if bytes_eq q blob.0 then Some message.number else None)
 
--- An id and a blob id were removed from the index.
-pub record Loses (old new : Index) (id : List ℕ) (blob : Id20) : Type 0 where
+-- An id was removed from the index. Blob ids stay.
+pub record Loses (old new : Index) (id : List ℕ) : Type 0 where
   pub owners : (q : List ℕ)
       → owner_in new.owners q ≡ (if bytes_eq q id then None else owner_in old.owners q)
-  pub blobs : (q : List ℕ)
+  pub blobs : (q : List ℕ) → number_in new.blobs q ≡ number_in old.blobs q
+
+-- A blob id was removed if it was that of a number.
+pub record LosesIfOf (old new : Index) (blob : Id20) (number : ℕ) : Type 0 where
+  pub its : number_in old.blobs blob.0 ≡ Some number → (q : List ℕ)
       → number_in new.blobs q ≡ (if bytes_eq q blob.0 then None else number_in old.blobs q)
+  pub other : number_in old.blobs blob.0 ≢ Some number → (q : List ℕ)
+      → number_in new.blobs q ≡ number_in old.blobs q
 
 -- Two indexes have the same content.
 pub record HasSame (old new : Index) : Type 0 where
   pub owners : (q : List ℕ) → owner_in new.owners q ≡ owner_in old.owners q
   pub blobs : (q : List ℕ) → number_in new.blobs q ≡ number_in old.blobs q
 
--- The index has the content from before a new id and a new blob id were put into it.
-abbrev pub TakesBack : Index → Index → List ℕ → Id20 → Type 0
-TakesBack put new id blob = (old : Index) (message : Owner) → Puts old put id blob message
-    → owner_in old.owners id ≡ None → number_in old.blobs blob.0 ≡ None → HasSame old new
+-- The index has the content from before a message with a new id and a new number was put into it.
+abbrev pub TakesBack : Index → Index → List ℕ → Id20 → ℕ → Type 0
+TakesBack put new id blob number = (old : Index) (message : Owner) → Puts old put id blob message
+    → message.number ≡ number → owner_in old.owners id ≡ None
+    → number_in old.blobs blob.0 ≢ Some number → HasSame old new
 
 -- How a candidate for an id meets the message that has it.
 abbrev pub met_owner : Owner → List ℕ → Meeting

@@ -1,13 +1,16 @@
 -- What the delivery of a message does, before anything is kept.
-use Rattle.std.specs.Prelude.{◌≡◌, ◌≤◌, ℕ, false, List, length, Some, None, Ok}
+use Rattle.std.specs.Prelude.{◌≡◌, ◌≤◌, ℕ, false, List, length, Option, Some, None, Ok, if◌then◌else◌}
+use Rattle.std.specs.Str.{bytes_eq}
 use Rattle.arch_base.specs.declared.config.Config.{Config}
 use Rattle.arch_base.specs.declared.ids.Id20.{Id20}
 use Rattle.mail_reader.specs.StorageTexts.{IsStorageText}
 use Rattle.mail_reader.specs.Stored.{stored}
 use Rattle.mail_reader.specs.Ids.{own_id}
 use Rattle.git_objects.specs.Objects.{blob_id_of}
-use Rattle.arch_model.specs.Archives.{Archive, with_entry}
-use Rattle.arch_model.specs.Delivery.{delivered, refused, new_epoch}
+use Rattle.arch_model.specs.Archives.{Archive, live, blob_number, with_entry}
+use Rattle.arch_model.specs.Delivery.{delivered, delivered_kept, refused, new_epoch}
+use Rattle.arch_model.specs.Shelves.{blob_text}
+use Rattle.arch_model.specs.Validity.{BlobsAgree}
 use Rattle.arch_judge.specs.Indexes.{IsIndex, owner_in, number_in}
 use Rattle.arch_model.specs.declared.answer.Answer.{Answer}
 use Rattle.arch_model.specs.declared.answer.Answer.TheVariants as answer
@@ -15,14 +18,14 @@ use Rattle.arch_model.specs.declared.choice.Choice.{Choice}
 use Rattle.arch_model.specs.declared.choice.Choice.TheVariants as choice
 use Rattle.arch_judge.specs.declared.index.Index.{Index}
 use Rattle.arch_judge.specs.declared.judging.Verdict.{Verdict}
-use Rattle.arch_judge.specs.declared.judging.Verdict.TheVariants.{Take, Refuse}
+use Rattle.arch_judge.specs.declared.judging.Verdict.TheVariants.{Take, Compare, Refuse}
 
--- An archive has these settings, this next number, and `count` messages, which the index has by
--- their ids.
+-- An archive has these settings, this next number, and at most `count` live messages, and the index
+-- is its index.
 pub record IsKnownBy (config : Config) (index : Index) (count next : ℕ) (a : Archive) : Type 0 where
   pub config_is : a.config ≡ config
   pub next_is : a.next ≡ next
-  pub count_is : length a.entries ≡ count
+  pub few : length (live a.entries) ≤ count
   pub indexed : IsIndex a.entries index
 
 -- A refusal is that of the definition, at each moment. `NoMemory` may come at any time, and an
@@ -47,23 +50,39 @@ RefusesBy a bytes (answer.NoText number) = ⊥
 RefusesBy a bytes answer.DiskFault = ⊥
 RefusesBy a bytes (answer.Damaged file offset) = ⊥
 
+-- A text collides with that of a number, unless it is the same.
+abbrev pub unless_same : List ℕ → List ℕ → ℕ → Option ℕ
+unless_same text kept number = if bytes_eq text kept then None else Some number
+
+-- A number is that of the first entry with a blob id, and the text of that entry decides the
+-- delivery.
+pub record Compares (a : Archive) (bytes text : List ℕ) (blob : Id20) (number : ℕ) : Type 0 where
+  pub first : blob_number a.entries blob.0 ≡ Some number
+  pub decides : BlobsAgree a.entries → (kept : List ℕ) → blob_text a.entries blob.0 ≡ Some kept
+      → (moment : ℕ)
+      → delivered a bytes moment ≡ delivered_kept a text moment (unless_same text kept number)
+
 -- The verdict is what the definition says of the delivery, at each moment.
 abbrev pub Judges : Archive → List ℕ → Verdict → Type 0
 Judges a bytes (Take text blob number) = (moment : ℕ) → delivered a bytes moment
     ≡ record { archive = with_entry a (new_epoch a) text moment; answer = answer.Ok number blob }
+Judges a bytes (Compare text blob number) = Compares a bytes text blob number
 Judges a bytes (Refuse reply) = RefusesBy a bytes reply
 
--- The text may be kept: the archive is not a mirror and has a number left, the text is a storage
--- text, and no message has its own id or its blob id.
-pub record MayBeKept (config : Config) (index : Index) (next : ℕ) (text : List ℕ) (blob : Id20)
-    (number : ℕ) : Type 0 where
+-- The text may come: the archive is not a mirror, the text is a storage text, and no live message
+-- has its own id.
+pub record MayCome (config : Config) (index : Index) (text : List ℕ) (blob : Id20) : Type 0 where
   pub writable : config.mirror ≡ false
-  pub number_left : next ≤ config.max
-  pub number_is : number ≡ next
   pub storage : IsStorageText text
   pub blob_is : blob ≡ blob_id_of text
   pub new_id : (id : List ℕ) → own_id text ≡ Some id → owner_in index.owners id ≡ None
-  pub new_blob : number_in index.blobs blob.0 ≡ None
+
+-- The text may be kept: it may come, and the archive has a number left.
+pub record MayBeKept (config : Config) (index : Index) (next : ℕ) (text : List ℕ) (blob : Id20)
+    (number : ℕ) : Type 0 where
+  pub comes : MayCome config index text blob
+  pub number_left : next ≤ config.max
+  pub number_is : number ≡ next
 
 -- The answer is one that may refuse a delivery.
 abbrev pub IsForDelivery : Answer → Type 0
@@ -80,16 +99,34 @@ IsForDelivery (answer.NoText number) = ⊥
 IsForDelivery answer.DiskFault = ⊥
 IsForDelivery (answer.Damaged file offset) = ⊥
 
--- A text that is taken may be kept, and a refusal is for a delivery.
+-- A text that is taken may be kept, and no entry has its blob id. One that is to be compared may
+-- come, and this is the number of its blob id. A refusal is for a delivery.
 abbrev pub MayTake : Config → Index → ℕ → Verdict → Type 0
-MayTake config index next (Take text blob number) = MayBeKept config index next text blob number
+MayTake config index next (Take text blob number) =
+    MayBeKept config index next text blob number × (number_in index.blobs blob.0 ≡ None)
+MayTake config index next (Compare text blob number) =
+    MayCome config index text blob × (number_in index.blobs blob.0 ≡ Some number)
 MayTake config index next (Refuse reply) = IsForDelivery reply
+
+-- This text is taken if it may come, or there is a refusal for a delivery.
+abbrev pub TakesThis : Config → ℕ → List ℕ → Id20 → Verdict → Type 0
+TakesThis config next text blob (Take taken named number) = (taken ≡ text) × (named ≡ blob)
+    × ((index : Index) → MayCome config index text blob
+    → MayBeKept config index next text blob number)
+TakesThis config next text blob (Compare other named number) = ⊥
+TakesThis config next text blob (Refuse reply) = IsForDelivery reply
+
+-- A text is taken only if it is the same as one that was kept.
+abbrev pub TakesSame : List ℕ → List ℕ → Verdict → Type 0
+TakesSame text kept (Take taken named number) = kept ≡ text
+TakesSame text kept (Compare other named number) = ⊥
+TakesSame text kept (Refuse reply) = Unit {0}
 
 -- The text is the storage form of some bytes.
 abbrev pub IsStored : List ℕ → Type 0
 IsStored text = (bytes : List ℕ) × (stored bytes ≡ Ok text)
 
--- The text is a storage text, and no message has its own id.
+-- The text is a storage text, and no live message has its own id.
 pub record IsNewText (index : Index) (text : List ℕ) : Type 0 where
   pub storage : IsStorageText text
   pub new_id : (id : List ℕ) → own_id text ≡ Some id → owner_in index.owners id ≡ None

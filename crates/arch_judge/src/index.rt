@@ -1,6 +1,6 @@
-//! An index of an archive's messages by their own ids and by their blob ids.
-ghost use Rattle.std.specs.Prelude.{◌≡◌, [], OnOk, OnErr, None};
-ghost use Rattle.arch_judge.specs.Indexes.{Puts, Loses, TakesBack, HasSame, met_owner, met_in, owner_in, number_in};
+//! An index of an archive's live messages by their own ids, and of its entries by their blob ids.
+ghost use Rattle.std.specs.Prelude.{◌≡◌, ◌≢◌, [], OnOk, OnErr, Some, None};
+ghost use Rattle.arch_judge.specs.Indexes.{Puts, Loses, LosesIfOf, TakesBack, HasSame, met_owner, met_in, owner_in, number_in};
 
 use arch_base::{NoMemory, ObjectId};
 use arch_model::Meeting;
@@ -29,7 +29,8 @@ impl Owner {
     }
 }
 
-/// An index of messages by their own ids, and of their numbers by their blob ids.
+/// An index of live messages by their own ids, and of the number of the first entry with each blob
+/// id, live or not.
 #[derive(Drop)]
 pub struct Index {
     pub(crate) owners: BTreeMap<Vec<u8>, Owner>,
@@ -48,7 +49,7 @@ impl Index {
         }
     }
 
-    /// Returns the message that has an id.
+    /// Returns the live message that has an id.
     pub fn owner(&self, id: &[u8]) -> Option<Owner>
         ensures { result ≡ owner_in self.now.owners id.now }
     {
@@ -65,17 +66,38 @@ impl Index {
         }
     }
 
-    /// Returns the number of the message with a blob id.
+    /// Returns the number of the first entry with a blob id.
     pub fn number(&self, blob: &ObjectId) -> Option<u32>
         ensures { result ≡ number_in self.now.blobs blob.now.0 }
     {
         self.blobs.get(&blob.0).copied()
     }
 
-    /// Inserts a message with a new blob id.
+    /// Inserts a message. An older entry with its blob id stays the one of that blob id.
     ///
     /// `NoMemory` leaves the index unchanged.
     pub fn insert(&mut self, id: Vec<u8>, blob: ObjectId, owner: Owner) -> Result<(), NoMemory>
+        ensures ok { OnOk result (Puts self.old self.new id.items blob owner) }
+        ensures err { OnErr result (HasSame self.old self.new) }
+    {
+        match self.number(&blob) {
+            Some(_older) => self.insert_id(id, blob, owner),
+            None => self.insert_both(id, blob, owner),
+        }
+    }
+
+    /// Inserts a message whose blob id an older entry has.
+    fn insert_id(&mut self, id: Vec<u8>, blob: ObjectId, owner: Owner) -> Result<(), NoMemory>
+        requires seen { number_in self.old.blobs blob.0 ≢ None }
+        ensures ok { OnOk result (Puts self.old self.new id.items blob owner) }
+        ensures err { OnErr result (HasSame self.old self.new) }
+    {
+        self.owners.insert(id, owner)?;
+        Ok(())
+    }
+
+    /// Inserts a message with a new blob id.
+    fn insert_both(&mut self, id: Vec<u8>, blob: ObjectId, owner: Owner) -> Result<(), NoMemory>
         requires unseen { number_in self.old.blobs blob.0 ≡ None }
         ensures ok { OnOk result (Puts self.old self.new id.items blob owner) }
         ensures err { OnErr result (HasSame self.old self.new) }
@@ -88,25 +110,31 @@ impl Index {
         Ok(())
     }
 
-    /// Inserts a message, and replaces those with its own id and its blob id.
-    ///
-    /// `NoMemory` may leave its blob id alone inserted.
-    pub fn put(&mut self, id: Vec<u8>, blob: ObjectId, owner: Owner) -> Result<(), NoMemory>
-        ensures { OnOk result (Puts self.old self.new id.items blob owner) }
+    /// Takes a message back that was inserted last, with a new id and a new number. This restores
+    /// the index.
+    pub fn take_back(&mut self, id: &[u8], blob: &ObjectId, number: u32)
+        ensures back { TakesBack self.old self.new id.now blob.now number }
     {
-        self.blobs.insert(blob.0, owner.number)?;
-        self.owners.insert(id, owner)?;
-        Ok(())
+        self.remove(id);
+        self.remove_blob(blob, number);
     }
 
-    /// Removes a message.
-    ///
-    /// After an `insert` of an id and a blob id that were both new, this restores the index.
-    pub fn remove(&mut self, id: &[u8], blob: &ObjectId)
-        ensures lost { Loses self.old self.new id.now blob.now }
-        ensures back { TakesBack self.old self.new id.now blob.now }
+    /// Removes a blob id if it is that of a number.
+    fn remove_blob(&mut self, blob: &ObjectId, number: u32)
+        ensures owners { self.new.owners ≡ self.old.owners }
+        ensures blobs { LosesIfOf self.old self.new blob.now number }
+    {
+        if let Some(found) = self.number(blob) {
+            if found == number {
+                let _ = self.blobs.remove(&blob.0);
+            }
+        }
+    }
+
+    /// Removes the message with an id. Its blob id stays.
+    pub fn remove(&mut self, id: &[u8])
+        ensures lost { Loses self.old self.new id.now }
     {
         let _ = self.owners.remove(id);
-        let _ = self.blobs.remove(&blob.0);
     }
 }

@@ -2,9 +2,11 @@
 ghost use Rattle.std.specs.Prelude.{◌≡◌, List, ℕ, Ok, Some, IfOk, IfSome, false, length};
 ghost use Rattle.mail_reader.specs.Content.{content_id_of};
 ghost use Rattle.mail_reader.specs.Stored.{stored as stored_of};
-ghost use Rattle.arch_model.specs.Archives.{Archive};
+ghost use Rattle.git_objects.specs.Objects.{blob_id_of};
+ghost use Rattle.arch_model.specs.Archives.{Archive, live};
+ghost use Rattle.arch_model.specs.Delivery.{delivered, delivered_kept, delivered_new};
 ghost use Rattle.arch_model.specs.Candidates.{choice_of, made_choice};
-ghost use Rattle.arch_judge.specs.Judging.{IsKnownBy, IsNewText, IsStored, Judges, MayTake, TakesNewText};
+ghost use Rattle.arch_judge.specs.Judging.{IsKnownBy, IsNewText, IsStored, Judges, MayTake, TakesNewText, TakesThis, TakesSame, unless_same};
 ghost use Rattle.arch_model.specs.declared.choice.Choice.TheVariants.{Take};
 
 use crate::index::Index;
@@ -18,8 +20,16 @@ use std::alloc::Global;
 /// What the delivery of a message does.
 #[derive(Debug, Drop)]
 pub enum Verdict {
-    /// Keeps this text under this number. No message has its own id or its blob id.
+    /// Keeps this text under this number. No live message has its own id, and no other text has its
+    /// blob id.
     Take {
+        text: Bytes,
+        blob: ObjectId,
+        number: u32,
+    },
+    /// The message with this number, live or not, is the first with the blob id of this text. Whether
+    /// it has the same text decides: see `compared`.
+    Compare {
         text: Bytes,
         blob: ObjectId,
         number: u32,
@@ -30,8 +40,8 @@ pub enum Verdict {
 
 /// Decides what the delivery of a message does.
 ///
-/// The archive has these settings and `count` messages, which the index has by their ids. `next` is
-/// its next number. Refuses with `NoMemory` if an allocation fails.
+/// The archive has these settings and at most `count` live messages, and the index is its index.
+/// `next` is its next number. Refuses with `NoMemory` if an allocation fails.
 pub fn judge(
     alloc: Global,
     config: &Config,
@@ -117,19 +127,19 @@ fn choose_made(
     requires stored { IsStored text.now }
     requires content { content.now ≡ content_id_of text.now }
     ensures choice { (a : Archive) → IsKnownBy config.now index.now count a.next a → IfOk result
-        (λ choice. choice ≡ made_choice a.entries a.config.name text.now 0 (length a.entries)) }
+        (λ choice. choice ≡ made_choice (live a.entries) a.config.name text.now 0 (length (live a.entries))) }
     ensures new { IfOk result (TakesNewText index.now) }
 {
     match first_made(alloc, config, index, count, text, content)? {
         Some(choice) => Ok(choice),
-        // No archive leads here: among n messages one of n + 1 made ids is free.
+        // No archive leads here: among n live messages one of n + 1 made ids is free.
         None => Err(NoMemory),
     }
 }
 
 /// Returns what the first made id that isn't skipped decides.
 ///
-/// `None` if one made id more than there are messages is skipped, which no archive allows.
+/// `None` if one made id more than there are live messages is skipped, which no archive allows.
 fn first_made(
     alloc: Global,
     config: &Config,
@@ -142,7 +152,7 @@ fn first_made(
     requires content { content.now ≡ content_id_of text.now }
     ensures choice { (a : Archive) → IsKnownBy config.now index.now count a.next a
         → IfOk result (λ found.
-        found ≡ Some (made_choice a.entries a.config.name text.now 0 (length a.entries))) }
+        found ≡ Some (made_choice (live a.entries) a.config.name text.now 0 (length (live a.entries)))) }
     ensures new { IfOk result (λ found. IfSome found (TakesNewText index.now)) }
 {
     law_of_taken_texts();
@@ -159,20 +169,30 @@ fn first_made(
     Ok(None)
 }
 
-/// Decides what the delivery of a text does, if no message has its own id.
+/// Decides what the delivery of a text does, if no live message has its own id.
 fn judge_new(config: &Config, index: &Index, next: u32, text: Bytes) -> Verdict
     requires writable { config.now.mirror ≡ false }
     requires new { IsNewText index.now text }
-    ensures judged { (a : Archive) (bytes form : List ℕ)
-        → IsKnownBy config.now index.now (length a.entries) next a → stored_of bytes ≡ Ok form
+    ensures judged { (a : Archive) (bytes form : List ℕ) (count : ℕ)
+        → IsKnownBy config.now index.now count next a → stored_of bytes ≡ Ok form
         → choice_of a form ≡ Take text → Judges a bytes result }
     ensures taken { MayTake config.now index.now next result }
 {
     let blob = blob_id(text.as_slice());
-    // No message has this text, since none has its id.
-    if let Some(number) = index.number(&blob) {
-        return Verdict::Refuse(Answer::Collision(number));
+    match index.number(&blob) {
+        Some(number) => Verdict::Compare { text, blob, number },
+        None => judge_room(config, next, text, blob),
     }
+}
+
+/// Decides what the delivery of a text does, if only want of numbers can refuse it.
+fn judge_room(config: &Config, next: u32, text: Bytes, blob: ObjectId) -> Verdict
+    requires blob { blob ≡ blob_id_of text }
+    ensures judged { (a : Archive) (bytes : List ℕ) → a.config ≡ config.now → a.next ≡ next
+        → ((moment : ℕ) → delivered a bytes moment ≡ delivered_new a text moment)
+        → Judges a bytes result }
+    ensures taken { TakesThis config.now next text blob result }
+{
     if next > config.max {
         return Verdict::Refuse(Answer::Full(config.max));
     }
@@ -181,4 +201,31 @@ fn judge_new(config: &Config, index: &Index, next: u32, text: Bytes) -> Verdict
         blob,
         number: next,
     }
+}
+
+/// Decides what the delivery of a text does after it was compared with a text that was kept, that of
+/// the first message with its blob id.
+pub fn compared(
+    config: &Config,
+    next: u32,
+    text: Bytes,
+    blob: ObjectId,
+    number: u32,
+    kept: &[u8],
+) -> Verdict
+    requires blob { blob ≡ blob_id_of text }
+    // The number of the text that was kept is the one of a collision.
+    ensures judged { (a : Archive) (bytes : List ℕ) → a.config ≡ config.now → a.next ≡ next
+        → ((moment : ℕ) → delivered a bytes moment
+        ≡ delivered_kept a text moment (unless_same text kept.now number))
+        → Judges a bytes result }
+    // A text that is taken is the one that was compared.
+    ensures taken { TakesThis config.now next text blob result }
+    // Another text is never taken.
+    ensures same { TakesSame text kept.now result }
+{
+    if text.as_slice() != kept {
+        return Verdict::Refuse(Answer::Collision(number));
+    }
+    judge_room(config, next, text, blob)
 }

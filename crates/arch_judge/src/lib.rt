@@ -6,4 +6,4 @@ mod judging;
 mod made;
 
 pub use index::{Index, Owner};
-pub use judging::{Verdict, judge};
+pub use judging::{Verdict, compared, judge};

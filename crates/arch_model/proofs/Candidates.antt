@@ -4,7 +4,7 @@ use Rattle.std.specs.Str.{bytes_eq}
 use Rattle.std.proofs.lemmas.Slice.Eq.{bytes_eq-Decides}
 use Rattle.mail_reader.specs.Ids.{own_id}
 use Rattle.mail_reader.specs.Content.{content_id_of}
-use Rattle.arch_model.specs.Archives.{Entry, Archive, owner, is_id}
+use Rattle.arch_model.specs.Archives.{Entry, Archive, owner, is_id, live}
 use Rattle.arch_model.specs.Candidates.{met, made_id, with_made, made_choice, decided}
 use Rattle.arch_model.specs.declared.choice.Meeting.{Meeting}
 use Rattle.arch_model.specs.declared.choice.Meeting.TheVariants.{Free, Same, Other}
@@ -105,63 +105,63 @@ met-other (Some e) content h = refl
 module _ (a : Archive) (text : List ℕ) where
   -- How the made id of a count meets the messages.
   abbrev pub meets : ℕ → Meeting
-  meets i = met (owner a.entries (made_id a.config.name text i)) (content_id_of text)
+  meets i = met (owner (live a.entries) (made_id a.config.name text i)) (content_id_of text)
 
   abbrev pub all_made : Choice
-  all_made = made_choice a.entries a.config.name text 0 (length a.entries)
+  all_made = made_choice (live a.entries) a.config.name text 0 (length (live a.entries))
 
   -- The made ids before this count are skipped.
   abbrev pub Passed : ℕ → Type 0
-  Passed i = ((j : ℕ) → j < i → meets j ≡ Other) × (all_made ≡ made_choice a.entries a.config.name text i (length a.entries - i))
+  Passed i = ((j : ℕ) → j < i → meets j ≡ Other) × (all_made ≡ made_choice (live a.entries) a.config.name text i (length (live a.entries) - i))
 
   pub passed-none : Passed 0
   passed-none =
-      let all : length a.entries ≡ length a.entries - 0 = omega arith in
-      (λ j l. absurd (omega arith), ap (λ (n : ℕ). made_choice a.entries a.config.name text 0 n) all)
+      let all : length (live a.entries) ≡ length (live a.entries) - 0 = omega arith in
+      (λ j l. absurd (omega arith), ap (λ (n : ℕ). made_choice (live a.entries) a.config.name text 0 n) all)
 
-  one_tried : (i : ℕ) → i < length a.entries → made_choice a.entries a.config.name text i (length a.entries - i) ≡ decided (meets i) (with_made a.config.name text i) (made_choice a.entries a.config.name text (i + 1) (length a.entries - (i + 1)))
+  one_tried : (i : ℕ) → i < length (live a.entries) → made_choice (live a.entries) a.config.name text i (length (live a.entries) - i) ≡ decided (meets i) (with_made a.config.name text i) (made_choice (live a.entries) a.config.name text (i + 1) (length (live a.entries) - (i + 1)))
   one_tried i l =
-      let more : length a.entries - i ≡ suc (length a.entries - (i + 1)) = omega arith in
-      ap (λ (n : ℕ). made_choice a.entries a.config.name text i n) more
+      let more : length (live a.entries) - i ≡ suc (length (live a.entries) - (i + 1)) = omega arith in
+      ap (λ (n : ℕ). made_choice (live a.entries) a.config.name text i n) more
 
   -- Among n messages the made id of the count n is free, if all before it are skipped.
-  free-at : (i : ℕ) → i ≡ length a.entries → i < 2 ^ 64 → ((j : ℕ) → j < i → meets j ≡ Other) → meets i ≡ Free
+  free-at : (i : ℕ) → i ≡ length (live a.entries) → i < 2 ^ 64 → ((j : ℕ) → j < i → meets j ≡ Other) → meets i ≡ Free
   free-at i at small others =
-      let none : owner a.entries (made_id a.config.name text (length a.entries)) ≡ None =
-      free-last a.entries (made_id a.config.name text) (λ j k b d e. made-once a.config.name text j k (omega (arith, b, at, small)) (omega (arith, d, at, small)) e)
-      (λ j l. met-other (owner a.entries (made_id a.config.name text j)) (content_id_of text) (others j (omega (arith, l, at)))) in
+      let none : owner (live a.entries) (made_id a.config.name text (length (live a.entries))) ≡ None =
+      free-last (live a.entries) (made_id a.config.name text) (λ j k b d e. made-once a.config.name text j k (omega (arith, b, at, small)) (omega (arith, d, at, small)) e)
+      (λ j l. met-other (owner (live a.entries) (made_id a.config.name text j)) (content_id_of text) (others j (omega (arith, l, at)))) in
       ap meets at ∙ ap (λ (o : Option Entry). met o (content_id_of text)) none
 
-  last-free : (i : ℕ) → i ≡ length a.entries → i < 2 ^ 64 → Passed i → meets i ≡ Free
+  last-free : (i : ℕ) → i ≡ length (live a.entries) → i < 2 ^ 64 → Passed i → meets i ≡ Free
   last-free i at small passed = free-at i at small passed.0
 
   -- So n + 1 of them are never all skipped.
-  pub not-all-passed : (i : ℕ) → length a.entries < i → length a.entries < 2 ^ 64 → Passed i → ⊥
+  pub not-all-passed : (i : ℕ) → length (live a.entries) < i → length (live a.entries) < 2 ^ 64 → Passed i → ⊥
   not-all-passed i over small passed =
-      let free : meets (length a.entries) ≡ Free = free-at (length a.entries) refl small (λ j l. passed.0 j (omega (arith, l, over))) in
-      let wrong : Free ≡ Other = sym free ∙ passed.0 (length a.entries) over in
+      let free : meets (length (live a.entries)) ≡ Free = free-at (length (live a.entries)) refl small (λ j l. passed.0 j (omega (arith, l, over))) in
+      let wrong : Free ≡ Other = sym free ∙ passed.0 (length (live a.entries)) over in
       cc
 
-  decides : (i : ℕ) (m : Meeting) → i < length a.entries → Passed i → meets i ≡ m → all_made ≡ decided m (with_made a.config.name text i) (made_choice a.entries a.config.name text (i + 1) (length a.entries - (i + 1)))
-  decides i m l passed is = passed.1 ∙ one_tried i l ∙ ap (λ (m : Meeting). decided m (with_made a.config.name text i) (made_choice a.entries a.config.name text (i + 1) (length a.entries - (i + 1)))) is
+  decides : (i : ℕ) (m : Meeting) → i < length (live a.entries) → Passed i → meets i ≡ m → all_made ≡ decided m (with_made a.config.name text i) (made_choice (live a.entries) a.config.name text (i + 1) (length (live a.entries) - (i + 1)))
+  decides i m l passed is = passed.1 ∙ one_tried i l ∙ ap (λ (m : Meeting). decided m (with_made a.config.name text i) (made_choice (live a.entries) a.config.name text (i + 1) (length (live a.entries) - (i + 1)))) is
 
   -- A made id that is skipped isn't the last one.
-  pub passed-more : (i : ℕ) → i ≤ length a.entries → i < 2 ^ 64 → Passed i → meets i ≡ Other → Passed (i + 1)
-  passed-more i within small passed other = elim (order_of i (length a.entries) within) [
+  pub passed-more : (i : ℕ) → i ≤ length (live a.entries) → i < 2 ^ 64 → Passed i → meets i ≡ Other → Passed (i + 1)
+  passed-more i within small passed other = elim (order_of i (length (live a.entries)) within) [
     | inl l ↦ (λ j lt. below_or_at j i (λ k. meets k ≡ Other) passed.0 other (omega (arith, lt)), decides i Other l passed other)
     | inr at ↦ absurd (let wrong : Free ≡ Other = sym (last-free i at small passed) ∙ other in cc)
   ]
 
   -- A made id of the same message repeats it.
-  pub passed-same : (i n : ℕ) → i ≤ length a.entries → i < 2 ^ 64 → Passed i → meets i ≡ Same n → Repeat n ≡ all_made
-  passed-same i n within small passed same = elim (order_of i (length a.entries) within) [
+  pub passed-same : (i n : ℕ) → i ≤ length (live a.entries) → i < 2 ^ 64 → Passed i → meets i ≡ Same n → Repeat n ≡ all_made
+  passed-same i n within small passed same = elim (order_of i (length (live a.entries)) within) [
     | inl l ↦ sym (decides i (Same n) l passed same)
     | inr at ↦ absurd (let wrong : Free ≡ Same n = sym (last-free i at small passed) ∙ same in cc)
   ]
 
   -- The first free made id is taken.
-  pub passed-free : (i : ℕ) → i ≤ length a.entries → Passed i → meets i ≡ Free → Take (with_made a.config.name text i) ≡ all_made
-  passed-free i within passed free = elim (order_of i (length a.entries) within) [
+  pub passed-free : (i : ℕ) → i ≤ length (live a.entries) → Passed i → meets i ≡ Free → Take (with_made a.config.name text i) ≡ all_made
+  passed-free i within passed free = elim (order_of i (length (live a.entries)) within) [
     | inl l ↦ sym (decides i Free l passed free)
-    | inr at ↦ (let none : length a.entries - i ≡ 0 = omega (arith, at) in sym (passed.1 ∙ ap (λ (n : ℕ). made_choice a.entries a.config.name text i n) none))
+    | inr at ↦ (let none : length (live a.entries) - i ≡ 0 = omega (arith, at) in sym (passed.1 ∙ ap (λ (n : ℕ). made_choice (live a.entries) a.config.name text i n) none))
   ]

@@ -1,20 +1,22 @@
--- What a delivery gives, which texts and numbers stay, and that its text is shown.
-use Rattle.std.proofs.Common.{◌⊎◌, inl, inr, ◌≡◌, ◌≤◌, ◌==◌, ℕ, Bool, true, false, nat_lt, List, [], ◌∷◌, ◌++◌, Option, Some, None, Result, Ok, Err, refl, subst, arith, if◌then◌else◌}
+-- What a delivery and a removal give, which texts and numbers stay, and that the delivered text is
+-- shown.
+use Rattle.std.proofs.Common.{◌⊎◌, inl, inr, ◌≡◌, ◌≢◌, ◌≤◌, ◌==◌, ℕ, Bool, true, false, nat_lt, List, [], ◌∷◌, ◌++◌, Option, Some, None, Result, Ok, Err, refl, sym, ap, ◌∙◌, subst, arith, if◌then◌else◌}
 use Rattle.std.proofs.lemmas.Bool.Decides.{nat_tests}
 use Rattle.mail_reader.specs.Stored.{stored}
 use Rattle.mail_reader.specs.declared.storing.StoredRefusal.{StoredRefusal}
 use Rattle.mail_reader.specs.declared.storing.StoredRefusal.TheVariants as stored_refusal
 use Rattle.arch_base.specs.declared.ids.Id20.{Id20}
 use Rattle.git_objects.specs.Objects.{blob_id_of}
-use Rattle.arch_model.specs.Archives.{Entry, Archive, text_of, with_entry}
+use Rattle.arch_model.specs.Archives.{Entry, Archive, live, text_of, with_entry, with_deletion, message}
 use Rattle.arch_model.specs.Candidates.{choice_of}
-use Rattle.arch_model.specs.Delivery.{Done, refused, collision, delivered, delivered_kept, delivered_choice, delivered_form, new_epoch}
+use Rattle.arch_model.specs.Delivery.{Done, refused, collision, delivered, delivered_kept, delivered_choice, delivered_form, removed, removed_text, new_epoch}
 use Rattle.arch_model.specs.declared.choice.Choice.{Choice}
 use Rattle.arch_model.specs.declared.choice.Choice.TheVariants.{Take, Repeat}
-use Rattle.arch_model.specs.Laws.{IsNumbered, KeepsNumbers, StaysNumbered, ShowsDelivered}
-use Rattle.arch_model.specs.declared.command.Command.TheVariants.{Deliver}
+use Rattle.arch_model.specs.Laws.{IsNumbered, KeepsNumbers, StaysNumbered, ShowsDelivered, TakesFromView}
+use Rattle.arch_model.specs.declared.command.Command.TheVariants.{Deliver, Remove}
 use Rattle.arch_model.specs.declared.answer.Answer.{Answer}
 use Rattle.arch_model.specs.declared.answer.Answer.TheVariants as named
+use Rattle.arch_model.proofs.LiveEntries.{without, live-message, live-deletion, text-without-other, text-without-own}
 
 -- The result of a delivery: a refusal that leaves the archive unchanged, or one more entry.
 pub data Comes (a : Archive) (bytes : List ℕ) (moment : ℕ) : Done → Type 0 where
@@ -79,9 +81,26 @@ text_of-last : (es : List Entry) (e : Entry) → ((text : List ℕ) → text_of 
 text_of-last [] e none = let same : (e.number == e.number) ≡ true = grind (arith, nat_tests) in rw same refl
 text_of-last (x ∷ es) e none = last_step x e es (x.number == e.number) refl (text_of-last es e) none
 
-keeps_by : (a : Archive) (bytes : List ℕ) (moment n : ℕ) (text : List ℕ) (d : Done) → Comes a bytes moment d → text_of a.entries n ≡ Some text → text_of d.archive.entries n ≡ Some text
+-- The result of a removal: a refusal that leaves the archive unchanged, or one more deletion.
+pub data Ends (a : Archive) (number moment : ℕ) : Done → Type 0 where
+  Still : (answer : Answer) → ((id : Id20) → answer ≡ named.Ok number id → ⊥) → Ends a number moment (refused a answer)
+  Ended : (text : List ℕ) → text_of (live a.entries) number ≡ Some text → Ends a number moment (record { archive = with_deletion a number (new_epoch a) text moment; answer = named.Ok number (blob_id_of text) })
+
+ends_text : (a : Archive) (number moment : ℕ) (found : Option (List ℕ)) → text_of (live a.entries) number ≡ found → Ends a number moment (removed_text a number moment found)
+ends_text a number moment None is = Still (named.NotLive number) (λ id e. cc e)
+ends_text a number moment (Some text) is = Ended text is
+
+ends_mirror : (a : Archive) (number moment : ℕ) (mirror : Bool) → Ends a number moment (if mirror then refused a named.IsMirror else removed_text a number moment (text_of (live a.entries) number))
+ends_mirror a number moment true = Still named.IsMirror (λ id e. cc e)
+ends_mirror a number moment false = ends_text a number moment (text_of (live a.entries) number) refl
+
+pub ends : (a : Archive) (number moment : ℕ) → Ends a number moment (removed a number moment)
+ends a number moment = ends_mirror a number moment a.config.mirror
+
+keeps_by : (a : Archive) (bytes : List ℕ) (moment n : ℕ) (text : List ℕ) (d : Done) → Comes a bytes moment d → text_of (live a.entries) n ≡ Some text → text_of (live d.archive.entries) n ≡ Some text
 keeps_by a bytes moment n text d (Refused answer other) h = h
-keeps_by a bytes moment n text d (Accepted form kept is takes alone room) h = text_of-front a.entries _ n text h
+keeps_by a bytes moment n text d (Accepted form kept is takes alone room) h =
+    subst (λ (l : List Entry). text_of l n ≡ Some text) (sym (live-message a.entries a.next (new_epoch a) kept moment)) (text_of-front (live a.entries) (message a.next (new_epoch a) kept moment ∷ []) n text h)
 
 pub keeps-numbers : KeepsNumbers
 keeps-numbers a bytes moment n text h = keeps_by a bytes moment n text (delivered a bytes moment) (comes a bytes moment) h
@@ -90,14 +109,37 @@ numbered_by : (a : Archive) (bytes : List ℕ) (moment : ℕ) (d : Done) → Com
 numbered_by a bytes moment d (Refused answer other) some h = (some, h)
 numbered_by a bytes moment d (Accepted form kept is takes alone room) some h = (
   omega arith,
-  λ n text found. elim (text_of-either a.entries _ n text found) [ inl before ↦ (let r = h n text before in (r.0, omega (arith, r.1))) | inr last ↦ (omega (arith, last), omega (arith, last)) ],
+  λ n text found. elim (text_of-either (live a.entries) (message a.next (new_epoch a) kept moment) n text (subst (λ (l : List Entry). text_of l n ≡ Some text) (live-message a.entries a.next (new_epoch a) kept moment) found)) [ inl before ↦ (let r = h n text before in (r.0, omega (arith, r.1))) | inr last ↦ (omega (arith, last), omega (arith, last)) ],
 )
+
+-- A number that has a text without another number had it before.
+shown_before : (a : Archive) (number n : ℕ) (text : List ℕ) (t : Bool) → (n == number) ≡ t → text_of (without number (live a.entries)) n ≡ Some text → text_of (live a.entries) n ≡ Some text
+shown_before a number n text true test is =
+    let same : n ≡ number = grind (arith, nat_tests, test) in
+    let none : None ≡ Some text = sym (ap (λ (m : ℕ). text_of (without number (live a.entries)) m) same ∙ text-without-own (live a.entries) number) ∙ is in
+    absurd (cc)
+shown_before a number n text false test is = sym (text-without-other (live a.entries) number n (λ same. (let yes : (n == number) ≡ true = grind (arith, nat_tests, same) in let wrong : true ≡ false = sym yes ∙ test in cc))) ∙ is
+
+ended_numbers : (a : Archive) (number moment : ℕ) (d : Done) → Ends a number moment d → 1 ≤ a.next → IsNumbered a → (1 ≤ d.archive.next) × IsNumbered d.archive
+ended_numbers a number moment d (Still answer other) some h = (some, h)
+ended_numbers a number moment d (Ended text is) some h = (some, λ n shown found. h n shown (shown_before a number n shown (n == number) refl (subst (λ (l : List Entry). text_of l n ≡ Some shown) (live-deletion a.entries number (new_epoch a) text moment) found)))
+
+view_by : (a : Archive) (number moment : ℕ) (d : Done) → Ends a number moment d → ((n : ℕ) → n ≢ number → text_of (live d.archive.entries) n ≡ text_of (live a.entries) n) × ((id : Id20) → d.answer ≡ named.Ok number id → text_of (live d.archive.entries) number ≡ None)
+view_by a number moment d (Still answer other) = (λ n apart. refl, λ id e. absurd (other id e))
+view_by a number moment d (Ended text is) =
+    let now = live-deletion a.entries number (new_epoch a) text moment in
+    (λ n apart. ap (λ (l : List Entry). text_of l n) now ∙ text-without-other (live a.entries) number n apart, λ id e. ap (λ (l : List Entry). text_of l number) now ∙ text-without-own (live a.entries) number)
+
+-- A removal takes its number from view, and leaves all others.
+pub takes-from-view : TakesFromView
+takes-from-view a number moment = view_by a number moment (removed a number moment) (ends a number moment)
 
 pub stays-numbered : StaysNumbered
 stays-numbered a (Deliver bytes) moment some h = numbered_by a bytes.now moment (delivered a bytes.now moment) (comes a bytes.now moment) some h
+stays-numbered a (Remove number) moment some h = ended_numbers a number moment (removed a number moment) (ends a number moment) some h
 
 shows_by : (a : Archive) (bytes : List ℕ) (moment number : ℕ) (id : Id20) (d : Done) → Comes a bytes moment d → IsNumbered a → d.answer ≡ named.Ok number id
-    → (text : List ℕ) × (kept : List ℕ) × (stored bytes ≡ Ok text) × (choice_of a text ≡ Take kept) × (text_of d.archive.entries number ≡ Some kept)
+    → (text : List ℕ) × (kept : List ℕ) × (stored bytes ≡ Ok text) × (choice_of a text ≡ Take kept) × (text_of (live d.archive.entries) number ≡ Some kept)
 shows_by a bytes moment number id d (Refused answer other) h e = absurd (other number id e)
 shows_by a bytes moment number id d (Accepted form kept is takes alone room) h e =
     let same : a.next ≡ number = cc in (
@@ -105,8 +147,9 @@ shows_by a bytes moment number id d (Accepted form kept is takes alone room) h e
       kept,
       is,
       takes,
-      subst (λ n. text_of (a.entries ++ record { number = a.next; epoch = new_epoch a; text = kept; moment = moment } ∷ []) n ≡ Some kept) same
-          (text_of-last a.entries (record { number = a.next; epoch = new_epoch a; text = kept; moment = moment }) (λ text found. omega (arith, (h a.next text found).1))),
+      subst (λ n. text_of (live (with_entry a (new_epoch a) kept moment).entries) n ≡ Some kept) same
+          (ap (λ (l : List Entry). text_of l a.next) (live-message a.entries a.next (new_epoch a) kept moment)
+          ∙ text_of-last (live a.entries) (message a.next (new_epoch a) kept moment) (λ text found. omega (arith, (h a.next text found).1))),
     )
 
 pub shows-delivered : ShowsDelivered

@@ -2,7 +2,7 @@
 use Rattle.std.proofs.Common.{◌⊎◌, inl, inr, ◌≡◌, ◌+◌, ◌^◌, ◌<◌, ℕ, zero, suc, List, length, Option, Some, None, refl, sym, ◌∙◌, ap, subst, arith}
 use Rattle.mail_reader.specs.Ids.{own_id}
 use Rattle.mail_reader.specs.Content.{content_id_of}
-use Rattle.arch_model.specs.Archives.{Entry, Archive, owner}
+use Rattle.arch_model.specs.Archives.{Entry, Archive, owner, live}
 use Rattle.arch_model.specs.Candidates.{met, made_id, with_made, made_choice, choice_from, choice_of, decided}
 use Rattle.arch_model.specs.Laws.{candidate, kept_with, meeting, Decides, IsChosenAt, FirstDecides}
 use Rattle.arch_model.specs.declared.choice.Meeting.{Meeting}
@@ -84,6 +84,6 @@ module _ (a : Archive) (text : List ℕ) where
 
 pub first-decides : FirstDecides
 first-decides a text small =
-    let f = first_with a.entries a.config.name text small (own_id text) in
+    let f = first_with (live a.entries) a.config.name text small (own_id text) in
     let first : (k : ℕ) × IsChosenAt a text k (choice_of a text) = (f.0, (f.1, f.2)) in
     (first, λ k choice is. only a text k first.0 choice (choice_of a text) is first.1)

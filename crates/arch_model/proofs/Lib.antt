@@ -4,9 +4,10 @@ pub mod Deliveries
 pub mod FirstChoice
 pub mod Owners
 pub mod EpochLemmas
+pub mod LiveEntries
 pub mod ValidArchives
 pub mod Keepers
 pub mod Shelving
 mod Following
 mod TakenTexts
-mod Commands
+pub mod Commands

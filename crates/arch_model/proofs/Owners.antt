@@ -5,24 +5,15 @@ use Rattle.std.proofs.lemmas.Slice.Eq.{bytes_eq-Decides}
 use Rattle.mail_reader.specs.Ids.{own_id}
 use Rattle.git_objects.specs.Objects.{blob_id_of}
 use Rattle.arch_model.specs.Archives.{Entry, owner, is_id, blob_number}
+use Rattle.arch_model.specs.Shelves.{blob_text}
+use Rattle.arch_model.specs.Validity.{BlobsAgree}
+use Rattle.std.specs.List.{AllByRecursion}
+use Rattle.arch_base.specs.declared.ids.Id20.{Id20}
 use Rattle.arch_model.specs.Delivery.{collision}
 
 -- A text equals itself.
 pub bytes_eq-refl : (a b : List ℕ) → a ≡ b → bytes_eq a b ≡ true
 bytes_eq-refl a b e = (bytes_eq-Decides a b).1 e
-
-clash_step : (e : Entry) (text : List ℕ) (own found : Option ℕ) (b t : Bool) → t ≡ false → own ≡ found → (if b && not t then Some e.number else own) ≡ (if b then Some e.number else found)
-clash_step e text own found true true other same = absurd (cc)
-clash_step e text own found true false other same = refl
-clash_step e text own found false t other same = same
-
-not_same : (e : Entry) (text id : List ℕ) (t : Bool) → bytes_eq text e.text ≡ t → own_id text ≡ Some id → is_id id (own_id e.text) ≡ false → t ≡ false
-not_same e text id true is own other =
-    let same : text ≡ e.text = (bytes_eq-Decides text e.text).0 is in
-    let yes : is_id id (own_id e.text) ≡ true = ap (is_id id) (sym (ap own_id same) ∙ own) ∙ bytes_eq-refl id id refl in
-    let bad : true ≡ false = sym yes ∙ other in
-    absurd (cc)
-not_same e text id false is own other = refl
 
 abbrev pub FrontFree : Entry → List Entry → List ℕ → Type 0
 FrontFree e es id = (is_id id (own_id e.text) ≡ false) × (owner es id ≡ None)
@@ -31,10 +22,45 @@ pub front_free : (e : Entry) (found : Option Entry) (t : Bool) → (if t then So
 front_free e found true h = absurd (cc)
 front_free e found false h = (refl, h)
 
--- If no entry has a text's own id, each entry with its blob id has another text.
-pub collision-free : (es : List Entry) (text id : List ℕ) → own_id text ≡ Some id → owner es id ≡ None → collision es text ≡ blob_number es (blob_id_of text).0
-collision-free [] text id own free = refl
-collision-free (e ∷ es) text id own free =
-    let f = front_free e (owner es id) (is_id id (own_id e.text)) free in
-    clash_step e text (collision es text) (blob_number es (blob_id_of text).0) (bytes_eq (blob_id_of text).0 (blob_id_of e.text).0) (bytes_eq text e.text)
-    (not_same e text id (bytes_eq text e.text) refl own f.0) (collision-free es text id own f.1)
+-- Without an entry that has the blob id of a text there is no collision.
+alone_step : (b t : Bool) (number : ℕ) (own found : Option ℕ) → (if b then Some number else found) ≡ None → (found ≡ None → own ≡ None) → (if b && not t then Some number else own) ≡ None
+alone_step true t number own found none rest = absurd (cc)
+alone_step false t number own found none rest = rest none
+
+pub collision-alone : (es : List Entry) (text : List ℕ) → blob_number es (blob_id_of text).0 ≡ None → collision es text ≡ None
+collision-alone [] text none = refl
+collision-alone (e ∷ es) text none =
+    alone_step (bytes_eq (blob_id_of text).0 (blob_id_of e.text).0) (bytes_eq text e.text) e.number (collision es text) (blob_number es (blob_id_of text).0) none (collision-alone es text)
+
+-- Where each entry with the blob id of a text has that text, there is no collision.
+same_step : (b t : Bool) (number : ℕ) (own : Option ℕ) → (b ≡ true → t ≡ true) → own ≡ None → (if b && not t then Some number else own) ≡ None
+same_step true true number own same rest = rest
+same_step true false number own same rest = absurd (let wrong : false ≡ true = same refl in cc)
+same_step false t number own same rest = rest
+
+none-clashes : (es : List Entry) (text kept : List ℕ) → text ≡ kept → AllByRecursion (λ (f : Entry). blob_id_of f.text ≡ blob_id_of kept → f.text ≡ kept) es → collision es text ≡ None
+none-clashes [] text kept is all = refl
+none-clashes (e ∷ es) text kept is all =
+    same_step (bytes_eq (blob_id_of text).0 (blob_id_of e.text).0) (bytes_eq text e.text) e.number (collision es text)
+    (λ hit. (let same : blob_id_of text ≡ blob_id_of e.text = id-is (blob_id_of text) (blob_id_of e.text) ((bytes_eq-Decides (blob_id_of text).0 (blob_id_of e.text).0).0 hit) in bytes_eq-refl text e.text (is ∙ sym (all.0 (sym same ∙ ap blob_id_of is))))) (none-clashes es text kept is all.1)
+  where
+    id-is : (i j : Id20) → i.0 ≡ j.0 → i ≡ j
+    id-is i j same = ap (λ (l : List ℕ). let id : Id20 = record { 0 = l } in id) same
+
+-- The first entry with the blob id of a text decides: it has the text, or there is a collision with
+-- it.
+first_step : (b t : Bool) (number n : ℕ) (own found : Option ℕ) (kept text other : List ℕ) (more : Option (List ℕ)) → bytes_eq text other ≡ t → (if b then Some number else found) ≡ Some n → (if b then Some other else more) ≡ Some kept → (b ≡ true → t ≡ true → own ≡ None)
+    → (found ≡ Some n → more ≡ Some kept → own ≡ (if bytes_eq text kept then None else Some n)) → (if b && not t then Some number else own) ≡ (if bytes_eq text kept then None else Some n)
+first_step true true number n own found kept text other more test is kept_is none rest =
+    let same : other ≡ kept = cc in
+    none refl refl ∙ sym (ap (λ (u : Bool). if u then None else Some n) (ap (bytes_eq text) (sym same) ∙ test))
+first_step true false number n own found kept text other more test is kept_is none rest =
+    let same : other ≡ kept = cc in
+    is ∙ sym (ap (λ (u : Bool). if u then None else Some n) (ap (bytes_eq text) (sym same) ∙ test))
+first_step false t number n own found kept text other more test is kept_is none rest = rest is kept_is
+
+pub collision-first : (es : List Entry) (text kept : List ℕ) (n : ℕ) → BlobsAgree es → blob_number es (blob_id_of text).0 ≡ Some n → blob_text es (blob_id_of text).0 ≡ Some kept → collision es text ≡ (if bytes_eq text kept then None else Some n)
+collision-first [] text kept n agree is kept_is = absurd (cc)
+collision-first (e ∷ es) text kept n agree is kept_is =
+    first_step (bytes_eq (blob_id_of text).0 (blob_id_of e.text).0) (bytes_eq text e.text) e.number n (collision es text) (blob_number es (blob_id_of text).0) kept text e.text (blob_text es (blob_id_of text).0) refl is kept_is
+    (λ hit same. none-clashes es text e.text ((bytes_eq-Decides text e.text).0 same) agree.0) (λ more kept_more. collision-first es text kept n agree.1 more kept_more)

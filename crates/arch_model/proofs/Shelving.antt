@@ -1,11 +1,15 @@
 -- What a shelf gives, entry by entry, and calls that only read, one after another.
-use Rattle.std.proofs.Common.{◌≡◌, ◌+◌, ◌≤◌, ◌==◌, ℕ, Bool, true, false, List, [], ◌∷◌, ◌++◌, length, Some, None, Err, refl, sym, ap, ◌∙◌, append_assoc, arith}
+use Rattle.std.proofs.Common.{inl, inr, ◌≡◌, ◌≤◌, ◌==◌, ℕ, Bool, true, false, List, [], ◌∷◌, ◌++◌, length, Option, Some, None, Err, refl, sym, ap, ◌∙◌, append_assoc, arith, if◌then◌else◌}
 use Rattle.std.specs.Str.{bytes_eq}
 use Rattle.std.proofs.lemmas.Bool.Decides.{nat_tests}
 use Rattle.std.proofs.lemmas.List.{append-nil}
 use Rattle.git_objects.specs.Objects.{blob_id_of}
-use Rattle.arch_model.specs.Archives.{Entry, Archive, text_of, blob_number}
-use Rattle.arch_model.specs.Validity.{Rise}
+use Rattle.arch_model.specs.Archives.{Entry, Archive, is_message, live, messages, text_of, blob_number}
+use Rattle.arch_model.specs.Validity.{IsFrom, number_after, Rise, AtEachPlace, EndsLive}
+use Rattle.git_objects.specs.declared.entry_kind.EntryKind.{EntryKind}
+use Rattle.git_objects.specs.declared.entry_kind.EntryKind.TheVariants.{Message, Deletion}
+use Rattle.std.proofs.lemmas.Slice.Eq.{bytes_eq-Decides}
+use Rattle.arch_model.proofs.LiveEntries.{HasText, found-has, live-has}
 use Rattle.arch_model.specs.Standing.{GivesTextIn, GivesEpochIn}
 use Rattle.arch_model.specs.Shelves.{line_after, lines_after, blob_text, GivesBlobIn, AppendsTo, IsUndamaged, ReadingWhy, Stays}
 use Rattle.arch_model.specs.declared.line.EntryLine.{EntryLine}
@@ -65,43 +69,88 @@ pub length-lines_after : (before es : List Entry) → length (lines_after before
 length-lines_after before [] = refl
 length-lines_after before (e ∷ es) = let rest = length-lines_after (before ++ e ∷ []) es in omega (arith, rest)
 
--- Numbers rise from one entry to the next, from this one on.
+-- Numbers rise from one message to the next, from this one on.
 abbrev pub RisesFrom : ℕ → List Entry → Type 0
 RisesFrom number [] = Unit {0}
-RisesFrom number (e ∷ es) = (number ≤ e.number) × RisesFrom (e.number + 1) es
+RisesFrom number (e ∷ es) = IsFrom e.kind number e.number × RisesFrom (number_after e.kind number e.number) es
 
 -- They do in a valid archive.
 pub rises-from : (number epoch : ℕ) (es : List Entry) → Rise number epoch es → RisesFrom number es
 rises-from number epoch [] rise = tt
-rises-from number epoch (e ∷ es) rise = (rise.0, rises-from (e.number + 1) e.epoch es rise.2)
+rises-from number epoch (e ∷ es) rise = (rise.0, rises-from (number_after e.kind number e.number) e.epoch es rise.2)
 
--- The number of the first entry with a blob id has that entry's text, where numbers rise.
+-- Each deletion ends a live message.
+abbrev pub EndAll : List Entry → List Entry → Type 0
+EndAll before es = AtEachPlace (λ (past : List Entry) (e : Entry). EndsLive e.kind past e) before es
+
+-- A text that is there has its blob id there.
+has_step : (t : Bool) (number : ℕ) (more : Option ℕ) → (if t then Some number else more) ≡ None → (t ≡ false) × (more ≡ None)
+has_step true number more none = absurd (cc)
+has_step false number more none = (refl, none)
+
+pub has-blob : (es : List Entry) (text : List ℕ) → HasText text es → blob_number es (blob_id_of text).0 ≡ None → ⊥
+has-blob [] text has none = has
+has-blob (e ∷ es) text (inl is) none =
+    let both = has_step (bytes_eq (blob_id_of text).0 (blob_id_of e.text).0) e.number (blob_number es (blob_id_of text).0) none in
+    let hit : bytes_eq (blob_id_of text).0 (blob_id_of e.text).0 ≡ true = (bytes_eq-Decides (blob_id_of text).0 (blob_id_of e.text).0).1 (ap (λ (t : List ℕ). (blob_id_of t).0) (sym is)) in
+    let wrong : true ≡ false = sym hit ∙ both.0 in
+    absurd (cc)
+has-blob (e ∷ es) text (inr more) none = has-blob es text more (has_step (bytes_eq (blob_id_of text).0 (blob_id_of e.text).0) e.number (blob_number es (blob_id_of text).0) none).1
+
+-- One more entry with another blob id has none either.
+none-push : (es : List Entry) (e : Entry) (blob : List ℕ) → blob_number es blob ≡ None → bytes_eq blob (blob_id_of e.text).0 ≡ false → blob_number (es ++ e ∷ []) blob ≡ None
+none-push [] e blob none other = ap (λ (t : Bool). if t then Some e.number else None) other
+none-push (x ∷ es) e blob none other =
+    let both = has_step (bytes_eq blob (blob_id_of x.text).0) x.number (blob_number es blob) none in
+    ap (λ (t : Bool). if t then Some x.number else blob_number (es ++ e ∷ []) blob) both.0 ∙ none-push es e blob both.1 other
+
+-- The number of the first entry with a blob id is that of a message, which has that entry's text.
 abbrev pub FoundAt : List Entry → List ℕ → ℕ → ℕ → Type 0
-FoundAt es blob number n = (number ≤ n) × ((text : List ℕ) × (text_of es n ≡ Some text) × (blob_text es blob ≡ Some text))
+FoundAt es blob number n = (number ≤ n) × ((text : List ℕ) × (text_of (messages es) n ≡ Some text) × (blob_text es blob ≡ Some text))
 
-blob-step : (t : Bool) (number : ℕ) (e : Entry) (es : List Entry) (blob : List ℕ) (n : ℕ) → bytes_eq blob (blob_id_of e.text).0 ≡ t → RisesFrom number (e ∷ es) → blob_number (e ∷ es) blob ≡ Some n
-    → (blob_number es blob ≡ Some n → FoundAt es blob (e.number + 1) n) → FoundAt (e ∷ es) blob number n
-blob-step true number e es blob n test rise is rest =
-    let some : Some e.number ≡ Some n = rw test at is in
-    let same : e.number ≡ n = cc in
-    let hit : (e.number == n) ≡ true = grind (arith, nat_tests, same) in
-    let first : number ≤ e.number = rise.0 in
-    (omega (arith, same, first), (e.text, rw hit refl, rw test refl))
-blob-step false number e es blob n test rise is rest =
-    let more : blob_number es blob ≡ Some n = rw test at is in
-    let found = rest more in
-    let above : e.number + 1 ≤ n = found.0 in
-    let first : number ≤ e.number = rise.0 in
+-- The first entry with a blob id isn't a deletion, whose text is there before.
+first_kind : (k : EntryKind) (before : List Entry) (e : Entry) (blob : List ℕ) → EndsLive k before e → blob ≡ (blob_id_of e.text).0 → blob_number before blob ≡ None → k ≡ Message
+first_kind Message before e blob ends is none = refl
+first_kind Deletion before e blob ends is none = absurd (has-blob before e.text (live-has before e.text (found-has (live before) e.number e.text ends)) (ap (blob_number before) (sym is) ∙ none))
+
+hit_step : (k : EntryKind) (t : Bool) (e : Entry) (es : List Entry) (n : ℕ) → k ≡ Message → (e.number == n) ≡ t → e.number ≡ n → text_of (if is_message k then e ∷ messages es else messages es) n ≡ Some e.text
+hit_step Message true e es n kind test same = ap (λ (t : Bool). if t then Some e.text else text_of (messages es) n) test
+hit_step Message false e es n kind test same = absurd (let yes : (e.number == n) ≡ true = grind (arith, nat_tests, same) in let wrong : true ≡ false = sym yes ∙ test in cc)
+hit_step Deletion t e es n kind test same = absurd (cc)
+
+low_step : (k : EntryKind) (number own n : ℕ) → k ≡ Message → IsFrom k number own → own ≡ n → number ≤ n
+low_step Message number own n kind low same = omega (arith, low, same)
+low_step Deletion number own n kind low same = absurd (cc)
+
+past_step : (k : EntryKind) (number : ℕ) (e : Entry) (es : List Entry) (n : ℕ) (text : List ℕ) → IsFrom k number e.number → number_after k number e.number ≤ n → text_of (messages es) n ≡ Some text
+    → (number ≤ n) × (text_of (if is_message k then e ∷ messages es else messages es) n ≡ Some text)
+past_step Message number e es n text low above is =
     let other : (e.number == n) ≡ false = grind (arith, nat_tests, above) in
-    (omega (arith, above, first), (found.1.0, rw other found.1.1, rw test found.1.2))
+    (omega (arith, low, above), ap (λ (t : Bool). if t then Some e.text else text_of (messages es) n) other ∙ is)
+past_step Deletion number e es n text low above is = (above, is)
 
-pub blob-found : (number : ℕ) (es : List Entry) (blob : List ℕ) (n : ℕ) → RisesFrom number es → blob_number es blob ≡ Some n → FoundAt es blob number n
-blob-found number [] blob n rise is = absurd (cc)
-blob-found number (e ∷ es) blob n rise is = blob-step (bytes_eq blob (blob_id_of e.text).0) number e es blob n refl rise is (λ more. blob-found (e.number + 1) es blob n rise.1 more)
+blob-step : (t : Bool) (number : ℕ) (before : List Entry) (e : Entry) (es : List Entry) (blob : List ℕ) (n : ℕ) → bytes_eq blob (blob_id_of e.text).0 ≡ t → blob_number before blob ≡ None → EndsLive e.kind before e → RisesFrom number (e ∷ es) → (if t then Some e.number else blob_number es blob) ≡ Some n
+    → (blob_number (before ++ e ∷ []) blob ≡ None → blob_number es blob ≡ Some n → FoundAt es blob (number_after e.kind number e.number) n) → FoundAt (e ∷ es) blob number n
+blob-step true number before e es blob n test none ends rise is rest =
+    let same : e.number ≡ n = cc in
+    let kind = first_kind e.kind before e blob ends ((bytes_eq-Decides blob (blob_id_of e.text).0).0 test) none in
+    (low_step e.kind number e.number n kind rise.0 same, (e.text, hit_step e.kind (e.number == n) e es n kind refl same, ap (λ (u : Bool). if u then Some e.text else blob_text es blob) test))
+blob-step false number before e es blob n test none ends rise is rest =
+    let found = rest (none-push before e blob none test) is in
+    let both = past_step e.kind number e es n found.1.0 rise.0 found.0 found.1.1 in
+    (both.0, (found.1.0, both.1, ap (λ (u : Bool). if u then Some e.text else blob_text es blob) test ∙ found.1.2))
 
--- So the text of that number is the text of the blob id.
-pub blob_found-text : (number : ℕ) (es : List Entry) (blob : List ℕ) (n : ℕ) → RisesFrom number es → blob_number es blob ≡ Some n → text_of es n ≡ blob_text es blob
-blob_found-text number es blob n rise is = let found = blob-found number es blob n rise is in found.1.1 ∙ sym found.1.2
+blob-from : (number : ℕ) (before es : List Entry) (blob : List ℕ) (n : ℕ) → blob_number before blob ≡ None → EndAll before es → RisesFrom number es → blob_number es blob ≡ Some n → FoundAt es blob number n
+blob-from number before [] blob n none ends rise is = absurd (cc)
+blob-from number before (e ∷ es) blob n none ends rise is =
+    blob-step (bytes_eq blob (blob_id_of e.text).0) number before e es blob n refl none ends.0 rise is (λ past more. blob-from (number_after e.kind number e.number) (before ++ e ∷ []) es blob n past ends.1 rise.1 more)
+
+pub blob-found : (number : ℕ) (es : List Entry) (blob : List ℕ) (n : ℕ) → EndAll [] es → RisesFrom number es → blob_number es blob ≡ Some n → FoundAt es blob number n
+blob-found number es blob n ends rise is = blob-from number [] es blob n refl ends rise is
+
+-- So the message of that number has the text of the blob id.
+pub blob_found-text : (number : ℕ) (es : List Entry) (blob : List ℕ) (n : ℕ) → EndAll [] es → RisesFrom number es → blob_number es blob ≡ Some n → text_of (messages es) n ≡ blob_text es blob
+blob_found-text number es blob n ends rise is = let found = blob-found number es blob n ends rise is in found.1.1 ∙ sym found.1.2
 
 -- Where no entry has the blob id there is no such text.
 blob-miss : (t : Bool) (e : Entry) (es : List Entry) (blob : List ℕ) → bytes_eq blob (blob_id_of e.text).0 ≡ t → blob_number (e ∷ es) blob ≡ None → (blob_number es blob ≡ None → blob_text es blob ≡ None) → blob_text (e ∷ es) blob ≡ None

@@ -6,7 +6,7 @@ use Rattle.hex.specs.Hex.{encode_lower}
 use Rattle.mail_reader.specs.Ids.{own_id}
 use Rattle.mail_reader.specs.Content.{content_id_of}
 use Rattle.mail_reader.specs.Laws.{id_line}
-use Rattle.arch_model.specs.Archives.{Entry, Archive, owner}
+use Rattle.arch_model.specs.Archives.{Entry, Archive, owner, live}
 use Rattle.arch_model.specs.declared.choice.Meeting.{Meeting}
 use Rattle.arch_model.specs.declared.choice.Meeting.TheVariants.{Free, Same, Other}
 use Rattle.arch_model.specs.declared.choice.Choice.{Choice}
@@ -58,7 +58,7 @@ choice_from entries name text (Some id) =
     decided (met (owner entries id) (content_id_of text)) text
     (made_choice entries name text 0 (length entries))
 
--- What the candidate ids of a storage text decide in an archive: the text to keep, or the number of
--- a message that is the same.
+-- What the candidate ids of a storage text decide among the live messages of an archive: the text to
+-- keep, or the number of a message that is the same.
 abbrev pub choice_of : Archive → List ℕ → Choice
-choice_of a text = choice_from a.entries a.config.name text (own_id text)
+choice_of a text = choice_from (live a.entries) a.config.name text (own_id text)

@@ -1,4 +1,4 @@
--- What a delivery does to an archive, and its answer.
+-- What a delivery and a removal do to an archive, and their answers.
 use Rattle.std.specs.Prelude.{◌≡◌, ◌+◌, ℕ, Bool, not, ◌&&◌, ◌||◌, ◌==◌, nat_lt, List, [], ◌∷◌, ◌++◌, length, codes, decimal, Option, Some, None, Result, Ok, Err, if◌then◌else◌}
 use Rattle.std.specs.Str.{bytes_eq}
 use Rattle.hex.specs.Hex.{encode_lower}
@@ -10,13 +10,13 @@ use Rattle.disk_model.specs.declared.name.FileKind.{FileKind}
 use Rattle.disk_model.specs.declared.name.FileKind.TheVariants.{Root, Map, Epoch, Cache}
 use Rattle.disk_model.specs.declared.name.FileName.{FileName}
 use Rattle.disk_model.specs.Sizes.{greatest_epoch}
-use Rattle.arch_model.specs.Archives.{Entry, Archive, with_entry, in_epoch}
+use Rattle.arch_model.specs.Archives.{Entry, Archive, with_entry, with_deletion, live, text_of, in_epoch}
 use Rattle.arch_model.specs.Epochs.{epoch_bytes}
 use Rattle.arch_model.specs.Candidates.{choice_of}
 use Rattle.arch_model.specs.declared.choice.Choice.{Choice}
 use Rattle.arch_model.specs.declared.choice.Choice.TheVariants.{Take, Repeat}
 use Rattle.arch_model.specs.declared.command.Command.{Command}
-use Rattle.arch_model.specs.declared.command.Command.TheVariants.{Deliver}
+use Rattle.arch_model.specs.declared.command.Command.TheVariants.{Deliver, Remove}
 use Rattle.arch_model.specs.declared.answer.Answer.{Answer}
 use Rattle.arch_model.specs.declared.answer.Answer.TheVariants as answer
 
@@ -46,7 +46,8 @@ new_epoch a =
 abbrev pub clashes : List ℕ → Entry → Bool
 clashes text e = bytes_eq (blob_id_of text).0 (blob_id_of e.text).0 && not (bytes_eq text e.text)
 
--- The number of the first entry with the blob id of the text and another text, if there is one.
+-- The number of the first entry with the blob id of the text and another text, if there is one. It
+-- may be live or not, and is the least such number, since a deletion comes after its message.
 abbrev pub collision : List Entry → List ℕ → Option ℕ
 collision [] text = None
 collision (e ∷ es) text = if clashes text e then Some e.number else collision es text
@@ -91,9 +92,25 @@ abbrev pub delivered : Archive → List ℕ → ℕ → Done
 delivered a bytes moment =
     if a.config.mirror then refused a answer.IsMirror else delivered_form a moment (stored bytes)
 
+-- The live message with this text is ended, or the number is not live.
+abbrev pub removed_text : Archive → ℕ → ℕ → Option (List ℕ) → Done
+removed_text a number moment None = refused a (answer.NotLive number)
+removed_text a number moment (Some text) = record {
+  archive = with_deletion a number (new_epoch a) text moment;
+  answer = answer.Ok number (blob_id_of text);
+}
+
+-- The removal of a number at a moment. A mirror takes none. A removal writes one more entry, and
+-- takes no number.
+abbrev pub removed : Archive → ℕ → ℕ → Done
+removed a number moment =
+    if a.config.mirror then refused a answer.IsMirror
+    else removed_text a number moment (text_of (live a.entries) number)
+
 -- A command at a moment.
 abbrev pub applied : Archive → Command → ℕ → Done
 applied a (Deliver bytes) moment = delivered a bytes.now moment
+applied a (Remove number) moment = removed a number moment
 
 -- The answer of a call and the archive after it are what is wanted. `NoMemory` leaves the archive
 -- unchanged. An archive without a disk never answers that the disk failed or that a file is

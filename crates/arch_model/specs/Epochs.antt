@@ -2,20 +2,20 @@
 use Rattle.std.specs.Prelude.{◌≡◌, ℕ, List, [], ◌∷◌, ◌++◌, Option, Some, None}
 use Rattle.arch_base.specs.declared.ids.Id20.{Id20}
 use Rattle.arch_model.specs.Archives.{Entry}
-use Rattle.mail_commits.specs.Entries.{message_kind, commit_id, entry_bytes, magic}
+use Rattle.mail_commits.specs.Entries.{commit_id, entry_bytes, magic}
 
--- The bytes of messages in order. The parent of each commit is the commit before it.
+-- The bytes of entries in order. The parent of each commit is the commit before it.
 abbrev pub entries_bytes : Option Id20 → List Entry → List ℕ
 entries_bytes parent [] = []
 entries_bytes parent (entry ∷ entries) =
-    entry_bytes message_kind entry.text entry.moment parent
-    ++ entries_bytes (Some (commit_id message_kind entry.text entry.moment parent)) entries
+    entry_bytes entry.kind entry.text entry.moment parent
+    ++ entries_bytes (Some (commit_id entry.kind entry.text entry.moment parent)) entries
 
--- The id of the last commit of messages, or the parent if there are none.
+-- The id of the last commit of entries, or the parent if there are none.
 abbrev pub last_commit : Option Id20 → List Entry → Option Id20
 last_commit parent [] = parent
 last_commit parent (entry ∷ entries) =
-    last_commit (Some (commit_id message_kind entry.text entry.moment parent)) entries
+    last_commit (Some (commit_id entry.kind entry.text entry.moment parent)) entries
 
 -- The bytes of an epoch: none without an entry, otherwise the magic and the bytes of its entries,
 -- the first of which has no parent.
@@ -29,4 +29,4 @@ abbrev pub EpochGrows : Type 0
 EpochGrows =
     (first : Entry) (entries : List Entry) (entry : Entry)
     → epoch_bytes ((first ∷ entries) ++ entry ∷ []) ≡ epoch_bytes (first ∷ entries)
-    ++ entry_bytes message_kind entry.text entry.moment (last_commit None (first ∷ entries))
+    ++ entry_bytes entry.kind entry.text entry.moment (last_commit None (first ∷ entries))

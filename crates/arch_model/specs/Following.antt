@@ -1,14 +1,14 @@
 -- Archives that follow one another: no number of an archive ever names a second message.
 use Rattle.std.specs.Prelude.{◌≡◌, ◌<◌, ◌≤◌, ℕ, List, Some}
-use Rattle.arch_model.specs.Archives.{Archive, with_entry, text_of}
+use Rattle.arch_model.specs.Archives.{Archive, with_entry, with_deletion, live, messages, text_of}
 use Rattle.arch_model.specs.Validity.{IsArchive}
 
--- `b` follows `a`: its next number isn't less, and the text that it shows under a number below the
--- next of `a` is the one that `a` showed.
+-- `b` follows `a`: its next number isn't less, and each of its messages with a number below the next
+-- of `a`, live or not, is a message of `a` with the same text.
 pub record Follows (a b : Archive) : Type 0 where
   pub next : a.next ≤ b.next
-  pub texts : (n : ℕ) (text : List ℕ) → n < a.next → text_of b.entries n ≡ Some text
-      → text_of a.entries n ≡ Some text
+  pub texts : (n : ℕ) (text : List ℕ) → n < a.next → text_of (messages b.entries) n ≡ Some text
+      → text_of (messages a.entries) n ≡ Some text
 
 -- An archive follows itself.
 abbrev pub FollowsItself : Type 0
@@ -18,12 +18,24 @@ FollowsItself = (a : Archive) → Follows a a
 abbrev pub FollowsThrough : Type 0
 FollowsThrough = (a b c : Archive) → Follows a b → Follows b c → Follows a c
 
--- An archive with one more entry follows the one without it.
+-- An archive with one more message follows the one without it.
 abbrev pub FollowsWithEntry : Type 0
 FollowsWithEntry = (a : Archive) (epoch : ℕ) (text : List ℕ) (moment : ℕ)
     → Follows a (with_entry a epoch text moment)
 
--- A number names the same text in an archive and in one that follows it, if both show a text.
+-- An archive with one more deletion follows the one without it.
+abbrev pub FollowsWithDeletion : Type 0
+FollowsWithDeletion = (a : Archive) (number epoch : ℕ) (text : List ℕ) (moment : ℕ)
+    → Follows a (with_deletion a number epoch text moment)
+
+-- A number names the same text in an archive and in one that follows it, if both have a message with
+-- it.
 abbrev pub NumbersStay : Type 0
 NumbersStay = (a b : Archive) → IsArchive a → Follows a b → (n : ℕ) (old new : List ℕ)
-    → text_of a.entries n ≡ Some old → text_of b.entries n ≡ Some new → new ≡ old
+    → text_of (messages a.entries) n ≡ Some old → text_of (messages b.entries) n ≡ Some new
+    → new ≡ old
+
+-- A number that is shown in a valid archive and in one that follows it shows the same text.
+abbrev pub ShownStay : Type 0
+ShownStay = (a b : Archive) → IsArchive a → IsArchive b → Follows a b → (n : ℕ) (old new : List ℕ)
+    → text_of (live a.entries) n ≡ Some old → text_of (live b.entries) n ≡ Some new → new ≡ old

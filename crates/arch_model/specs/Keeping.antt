@@ -14,7 +14,7 @@ use Rattle.arch_model.specs.Standing.{Standing, standing, IsFound}
 use Rattle.arch_model.specs.declared.choice.Choice.{Choice}
 use Rattle.arch_model.specs.declared.choice.Choice.TheVariants.{Take, Repeat}
 use Rattle.arch_model.specs.declared.command.Command.{Command}
-use Rattle.arch_model.specs.declared.command.Command.TheVariants.{Deliver}
+use Rattle.arch_model.specs.declared.command.Command.TheVariants.{Deliver, Remove}
 use Rattle.arch_model.specs.declared.answer.Answer.{Answer}
 use Rattle.arch_model.specs.declared.answer.Answer.TheVariants as answer
 use Rattle.arch_model.specs.declared.opening.OpenRefusal.{OpenRefusal}
@@ -199,6 +199,7 @@ abbrev pub form_known : Archive → Result (List ℕ) StoredRefusal → Bool
 form_known a (Ok text) = keeps_known a.entries (choice_of a text)
 form_known a (Err why) = false
 
--- An entry has the blob id of the new text of a command.
+-- An entry has the blob id of the text of a command: the new text, or the one that is removed.
 abbrev pub text_known : Archive → Command → Bool
 text_known a (Deliver bytes) = form_known a (stored bytes.now)
+text_known a (Remove number) = true

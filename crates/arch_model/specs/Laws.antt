@@ -1,14 +1,14 @@
--- The laws of deliveries.
-use Rattle.std.specs.Prelude.{◌≡◌, ◌<◌, ◌≤◌, ◌^◌, ℕ, zero, suc, List, Option, Some, None, IsSome, Ok, length}
+-- The laws of deliveries and removals.
+use Rattle.std.specs.Prelude.{◌≡◌, ◌≢◌, ◌<◌, ◌≤◌, ◌^◌, ℕ, zero, suc, List, Option, Some, None, IsSome, Ok, length}
 use Rattle.arch_base.specs.declared.ids.Id20.{Id20}
 use Rattle.arch_base.specs.Names.{IsName}
 use Rattle.mail_reader.specs.StorageTexts.{IsStorageText}
 use Rattle.mail_reader.specs.Stored.{stored}
 use Rattle.mail_reader.specs.Ids.{own_id}
 use Rattle.mail_reader.specs.Content.{content_id_of}
-use Rattle.arch_model.specs.Archives.{Archive, owner, text_of}
+use Rattle.arch_model.specs.Archives.{Archive, owner, live, text_of}
 use Rattle.arch_model.specs.Candidates.{made_id, with_made, met, choice_of}
-use Rattle.arch_model.specs.Delivery.{delivered, applied}
+use Rattle.arch_model.specs.Delivery.{delivered, removed, applied}
 use Rattle.arch_model.specs.Following.{Follows}
 use Rattle.arch_model.specs.Validity.{IsArchive}
 use Rattle.arch_base.specs.Moments.{last_moment}
@@ -19,17 +19,28 @@ use Rattle.arch_model.specs.declared.choice.Choice.{Choice}
 use Rattle.arch_model.specs.declared.choice.Choice.TheVariants.{Take, Repeat}
 use Rattle.arch_model.specs.declared.command.Command.{Command}
 
--- Each number that has a text is at least 1 and below the next one.
+-- Each live number is at least 1 and below the next one.
 abbrev pub IsNumbered : Archive → Type 0
-IsNumbered a = (n : ℕ) (text : List ℕ) → text_of a.entries n ≡ Some text → (1 ≤ n) × (n < a.next)
+IsNumbered a = (n : ℕ) (text : List ℕ) → text_of (live a.entries) n ≡ Some text
+    → (1 ≤ n) × (n < a.next)
 
 -- A delivery leaves each number with its text.
 abbrev pub KeepsNumbers : Type 0
 KeepsNumbers =
-    (a : Archive) (bytes : List ℕ) (moment n : ℕ) (text : List ℕ) → text_of a.entries n ≡ Some text
-    → text_of (delivered a bytes moment).archive.entries n ≡ Some text
+    (a : Archive) (bytes : List ℕ) (moment n : ℕ) (text : List ℕ)
+    → text_of (live a.entries) n ≡ Some text
+    → text_of (live (delivered a bytes moment).archive.entries) n ≡ Some text
 
--- A command leaves each number that has a text below the next one.
+-- A removal leaves each other number with its text, or without one. If it is accepted, its own
+-- number has none.
+abbrev pub TakesFromView : Type 0
+TakesFromView = (a : Archive) (number moment : ℕ)
+    → ((n : ℕ) → n ≢ number
+    → text_of (live (removed a number moment).archive.entries) n ≡ text_of (live a.entries) n)
+    × ((id : Id20) → (removed a number moment).answer ≡ answer.Ok number id
+    → text_of (live (removed a number moment).archive.entries) number ≡ None)
+
+-- A command leaves each live number below the next one.
 abbrev pub StaysNumbered : Type 0
 StaysNumbered = (a : Archive) (command : Command) (moment : ℕ) → 1 ≤ a.next → IsNumbered a
     → (1 ≤ (applied a command moment).archive.next) × IsNumbered (applied a command moment).archive
@@ -60,7 +71,7 @@ ShowsDelivered =
     (a : Archive) (bytes : List ℕ) (moment number : ℕ) (id : Id20) → IsNumbered a
     → (delivered a bytes moment).answer ≡ answer.Ok number id →
     (text : List ℕ) × (kept : List ℕ) × (stored bytes ≡ Ok text) × (choice_of a text ≡ Take kept)
-    × (text_of (delivered a bytes moment).archive.entries number ≡ Some kept)
+    × (text_of (live (delivered a bytes moment).archive.entries) number ≡ Some kept)
 
 -- The candidate ids of a text in order: its own id, if it has one, and then the made ids.
 abbrev pub candidate : List ℕ → List ℕ → Option (List ℕ) → ℕ → List ℕ
@@ -74,10 +85,10 @@ kept_with name text None k = with_made name text k
 kept_with name text (Some id) zero = text
 kept_with name text (Some id) (suc k) = with_made name text k
 
--- How the k-th candidate meets the messages of an archive.
+-- How the k-th candidate meets the live messages of an archive.
 abbrev pub meeting : Archive → List ℕ → ℕ → Meeting
 meeting a text k =
-    met (owner a.entries (candidate a.config.name text (own_id text) k)) (content_id_of text)
+    met (owner (live a.entries) (candidate a.config.name text (own_id text) k)) (content_id_of text)
 
 -- What a candidate that isn't skipped decides.
 abbrev pub Decides : Meeting → List ℕ → Choice → Type 0
@@ -91,10 +102,10 @@ IsChosenAt a text k choice =
     ((j : ℕ) → j < k → meeting a text j ≡ Other)
     × Decides (meeting a text k) (kept_with a.config.name text (own_id text) k) choice
 
--- Among fewer than 2^63 entries some candidate decides on the choice, and no candidate after
+-- Among fewer than 2^63 live messages some candidate decides on the choice, and no candidate after
 -- skipped ones decides otherwise.
 abbrev pub FirstDecides : Type 0
 FirstDecides =
-    (a : Archive) (text : List ℕ) → length a.entries < 2 ^ 63
+    (a : Archive) (text : List ℕ) → length (live a.entries) < 2 ^ 63
     → ((k : ℕ) × IsChosenAt a text k (choice_of a text))
     × ((k : ℕ) (choice : Choice) → IsChosenAt a text k choice → choice ≡ choice_of a text)

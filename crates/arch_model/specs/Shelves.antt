@@ -4,14 +4,14 @@ use Rattle.std.specs.List.{filter}
 use Rattle.std.specs.Str.{bytes_eq}
 use Rattle.arch_base.specs.Counts.{Rose}
 use Rattle.git_objects.specs.Objects.{blob_id_of}
-use Rattle.mail_commits.specs.Entries.{commit_id, message_kind}
+use Rattle.mail_commits.specs.Entries.{commit_id}
 use Rattle.arch_model.specs.Archives.{Entry, Archive, text_of, in_epoch}
 use Rattle.arch_model.specs.Epochs.{last_commit}
 use Rattle.arch_model.specs.declared.line.EntryLine.{EntryLine}
 use Rattle.arch_model.specs.declared.text_refusal.TextRefusal.{TextRefusal}
 use Rattle.arch_model.specs.declared.text_refusal.TextRefusal.TheVariants as refusal
 
--- The greatest number of a message that is at most `n`, or none.
+-- The greatest number among live entries that is at most `n`, or none.
 abbrev pub IsGreatestLive : List Entry → ℕ → Option ℕ → Type 0
 IsGreatestLive entries n None = (m : ℕ) → m ≤ n → text_of entries m ≡ None
 IsGreatestLive entries n (Some found) = (found ≤ n) × (is_some (text_of entries found) ≡ true)
@@ -21,20 +21,20 @@ IsGreatestLive entries n (Some found) = (found ≤ n) × (is_some (text_of entri
 abbrev pub is_between : ℕ → ℕ → Entry → Bool
 is_between low high e = nat_le low e.number && nat_le e.number high
 
--- How many messages have a number from `low` to `high`.
+-- How many live entries have a number from `low` to `high`.
 abbrev pub live_between : List Entry → ℕ → ℕ → ℕ
 live_between entries low high = length (filter (is_between low high) entries)
 
 -- An entry after others, without its text. The parent of its commit is the last commit of its epoch.
 abbrev pub line_after : List Entry → Entry → EntryLine
 line_after before e = record {
-  kind = message_kind;
+  kind = e.kind;
   number = e.number;
   epoch = e.epoch;
   secs = e.moment;
   blob = blob_id_of e.text;
   size = length e.text;
-  commit = commit_id message_kind e.text e.moment (last_commit None (in_epoch before e.epoch));
+  commit = commit_id e.kind e.text e.moment (last_commit None (in_epoch before e.epoch));
 }
 
 -- Entries after others, without their texts.

@@ -26,14 +26,14 @@ with_doubt a (Some b) = Some a ∷ Some b ∷ []
 abbrev pub one_of : Standing → List (Option Archive)
 one_of s = with_doubt s.archive s.doubt
 
--- The least number of a message that is at least `n`, or none. Each entry has a message until
--- messages can be removed.
+-- The least number among live entries that is at least `n`, or none.
 abbrev pub IsLeastLive : List Entry → ℕ → Option ℕ → Type 0
 IsLeastLive entries n None = (m : ℕ) → n ≤ m → text_of entries m ≡ None
 IsLeastLive entries n (Some found) = (n ≤ found) × (is_some (text_of entries found) ≡ true)
     × ((m : ℕ) → n ≤ m → m < found → text_of entries m ≡ None)
 
--- The result of reading the text of a number: the text is appended, and no damage is found.
+-- The result of reading the text of a number among live entries: the text is appended, and no damage
+-- is found.
 abbrev pub GivesTextIn : List Entry → ℕ → List ℕ → List ℕ → Result Unit TextRefusal → Type 0
 GivesTextIn entries n old new (Ok _) = (text : List ℕ) × (text_of entries n ≡ Some text)
     × (new ≡ old ++ text)

@@ -9,7 +9,7 @@ use disk_model::FileName;
 /// the archive unchanged.
 #[derive(Clone, Copy, Debug, PartialEq, Eq, Drop)]
 pub enum Answer {
-    /// The message was kept with this number, and its text has this blob id.
+    /// The message was kept with this number, or it was removed. Its text has this blob id.
     Ok {
         number: u32,
         id: ObjectId,

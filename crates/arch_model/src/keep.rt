@@ -57,8 +57,8 @@ pub trait Keep: Shelf {
     /// an allocation fails, or `DiskFault` if the disk failed and the count of faults rose. Any other
     /// answer leaves the count. A refusal to reopen leaves all as it was. After any other `DiskFault`
     /// the command is in doubt. A crash leaves an archive of the standing before the call or of the
-    /// one after it. A ready keeper reads the disk at most once, and not at all if the command brings
-    /// no text or one with a blob id that no entry has.
+    /// one after it. A ready keeper reads the disk at most once, and not at all at a delivery of no
+    /// text or of one with a blob id that no entry has.
     fn command(&mut self, command: &Command<'_>, moment: u64) -> Answer
         requires moment { moment ≤ last_moment }
         ensures done { (s : Standing) → Fits Self.holds Self.ready leaves self.old s

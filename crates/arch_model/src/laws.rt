@@ -1,20 +1,22 @@
 //! The laws of commands, for every archive, message and moment, of archives that follow one another,
 //! and of epochs that grow.
 ghost use Rattle.arch_model.specs.Epochs.{EpochGrows};
-ghost use Rattle.arch_model.specs.Following.{FollowsItself, FollowsThrough, FollowsWithEntry, NumbersStay};
-ghost use Rattle.arch_model.specs.Laws.{CommandFollows, FirstDecides, KeepsNumbers, KeepsValid, StaysNumbered, ShowsDelivered, TakenAreStorage};
+ghost use Rattle.arch_model.specs.Following.{FollowsItself, FollowsThrough, FollowsWithEntry, FollowsWithDeletion, NumbersStay, ShownStay};
+ghost use Rattle.arch_model.specs.Laws.{CommandFollows, FirstDecides, KeepsNumbers, KeepsValid, StaysNumbered, ShowsDelivered, TakenAreStorage, TakesFromView};
 
 use mail_reader::{field_in_front, forms_are_short, id_line_is_kept, stored_once};
 
-/// Shows that a delivery leaves each number with its text.
+/// Shows that a delivery leaves each live number with its text, and that a removal leaves each other
+/// number as it was.
 pub fn numbers_keep_their_texts()
-    ensures { KeepsNumbers }
+    ensures delivered { KeepsNumbers }
+    ensures removed { TakesFromView }
 {}
 
-/// Shows that a command leaves each number that has a text below the next number.
+/// Shows that a command leaves each live number below the next number.
 ///
-/// If the next number is at least 1, and each number that has a text is at least 1 and below it, a
-/// command leaves this so.
+/// If the next number is at least 1, and each live number is at least 1 and below it, a command
+/// leaves this so.
 pub fn numbers_stay_below_the_next()
     ensures { StaysNumbered }
 {}
@@ -27,21 +29,23 @@ pub fn delivered_is_shown()
 
 /// Shows that the first candidate id that isn't skipped decides, and that there is always one.
 ///
-/// Fewer than 2^63 messages leave a made id free.
+/// Fewer than 2^63 live messages leave a made id free.
 pub fn first_candidate_decides()
     ensures { FirstDecides }
 {}
 
 /// Shows that no number of an archive ever names a second message.
 ///
-/// An archive with one more entry follows. What follows shows under an old number the same text, or
-/// none.
-#[tactic(auto, using(crate::proofs::Following::follows_itself, crate::proofs::Following::follows_through, crate::proofs::Following::numbers_stay))]
+/// An archive with one more message follows, and so does one with one more deletion. What follows has
+/// under an old number the same text, or none, and shows the same text, or none.
+#[tactic(auto, using(crate::proofs::Following::follows_itself, crate::proofs::Following::follows_through))]
 pub fn law_of_numbers()
     ensures itself { FollowsItself }
     ensures through { FollowsThrough }
     ensures with_entry { FollowsWithEntry }
+    ensures with_deletion { FollowsWithDeletion }
     ensures stay { NumbersStay }
+    ensures shown { ShownStay }
 {}
 
 /// Shows that a stored text with an own id is a storage text, and so is a stored text with a made

@@ -5,9 +5,9 @@ use git_objects::EntryKind;
 /// An entry of an archive without its text.
 #[derive(Clone, Copy, Debug, Drop, PartialEq, Eq)]
 pub struct EntryLine {
-    /// What it is: a message.
+    /// What it is: a message, or the deletion of one.
     pub kind: EntryKind,
-    /// The number of the message.
+    /// The number of the message that it is or ends.
     pub number: u32,
     /// The number of its epoch.
     pub epoch: u32,

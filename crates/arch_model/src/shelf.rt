@@ -1,6 +1,6 @@
 //! The trait of shelves: values that give the texts of one archive.
 ghost use Rattle.std.specs.Prelude.{◌≡◌, ℕ, Bool, true, OnErr, is_some};
-ghost use Rattle.arch_model.specs.Archives.{Archive, text_of};
+ghost use Rattle.arch_model.specs.Archives.{Archive, live, text_of};
 ghost use Rattle.arch_model.specs.Shelves.{IsGreatestLive, live_between, line_at, GivesBlobIn, AppendsTo, Stays, ReadCause, ReadsOnce};
 ghost use Rattle.arch_model.specs.Standing.{IsLeastLive, GivesTextIn, KeepsUnlessFound};
 
@@ -40,27 +40,27 @@ pub trait Shelf {
         requires ready { ready self.now ≡ true }
         ensures { (a : Archive) → holds self.now a → result ≡ a.next };
 
-    /// Returns the least number of a message that is at least this one, or `None` if there is none.
+    /// Returns the least number of a live message that is at least this one, or `None` if there is none.
     fn live_from(&self, n: u32) -> Option<u32>
         requires ready { ready self.now ≡ true }
-        ensures { (a : Archive) → holds self.now a → IsLeastLive a.entries n result };
+        ensures { (a : Archive) → holds self.now a → IsLeastLive (live a.entries) n result };
 
-    /// Returns the greatest number of a message that is at most this one, or `None` if there is none.
+    /// Returns the greatest number of a live message that is at most this one, or `None` if there is none.
     fn live_to(&self, n: u32) -> Option<u32>
         requires ready { ready self.now ≡ true }
-        ensures { (a : Archive) → holds self.now a → IsGreatestLive a.entries n result };
+        ensures { (a : Archive) → holds self.now a → IsGreatestLive (live a.entries) n result };
 
-    /// Returns how many messages have a number from `low` to `high`.
+    /// Returns how many live messages have a number from `low` to `high`.
     fn live_count(&self, low: u32, high: u32) -> u64
         requires ready { ready self.now ≡ true }
-        ensures { (a : Archive) → holds self.now a → result ≡ live_between a.entries low high };
+        ensures { (a : Archive) → holds self.now a → result ≡ live_between (live a.entries) low high };
 
     /// Returns the entry at an index, from 0, without its text, or `None` if there are not so many.
     fn entry(&self, index: u64) -> Option<EntryLine>
         requires ready { ready self.now ≡ true }
         ensures { (a : Archive) → holds self.now a → result ≡ line_at a.entries index };
 
-    /// Appends the text of a message. Reads the disk at most once.
+    /// Appends the text of a live message. Reads the disk at most once.
     ///
     /// `DiskFault` if the disk failed, and the count of faults rose; any other result leaves the
     /// count. `NoMemory` if an allocation fails. `Damaged` if the bytes that were read have another
@@ -68,17 +68,17 @@ pub trait Shelf {
     /// `into` unchanged.
     fn text(&mut self, n: u32, into: &mut Bytes) -> Result<(), TextRefusal>
         requires ready { ready self.old ≡ true }
-        requires live { (a : Archive) → holds self.old a → is_some (text_of a.entries n) ≡ true }
+        requires live { (a : Archive) → holds self.old a → is_some (text_of (live a.entries) n) ≡ true }
         ensures text { (a : Archive) → holds self.old a
-            → GivesTextIn a.entries n into.old into.new result }
+            → GivesTextIn (live a.entries) n into.old into.new result }
         ensures refused { OnErr result (into.new ≡ into.old) }
         ensures appends { AppendsTo into.old into.new }
         ensures shelf { Stays holds ready alike faults self.old self.new }
         ensures cause { ReadCause (faults self.old) (faults self.new) result }
         ensures reads { ReadsOnce (reads self.old) (reads self.new) };
 
-    /// Appends the text of an entry with this blob id, and returns whether an entry has it. Reads
-    /// the disk at most once.
+    /// Appends the text of an entry with this blob id, live or not, and returns whether an entry has
+    /// it. Reads the disk at most once.
     ///
     /// The refusals are those of `text`. Each of them, and a blob id that no entry has, leave `into`
     /// unchanged.
@@ -99,10 +99,10 @@ pub trait Shelf {
     ghost alike_joined: { (s t u : Self) → alike s t → alike t u → alike s u };
 }
 
-/// Returns whether a number has a text.
+/// Returns whether a number is live.
 pub fn is_live<S: Shelf>(n: u32, shelf: &S) -> bool
     requires { S.ready shelf.now ≡ true }
-    ensures { (a : Archive) → S.holds shelf.now a → is_some (text_of a.entries n) ≡ result }
+    ensures { (a : Archive) → S.holds shelf.now a → is_some (text_of (live a.entries) n) ≡ result }
 {
     match shelf.live_from(n) {
         Some(found) => found == n,

@@ -5,7 +5,7 @@ use Rattle.std.proofs.lemmas.Bool.{false≢true}
 use Rattle.arch_base.specs.declared.config.Config.{Config}
 use Rattle.disk_model.specs.Disk.{Files, Content, Image, WhereTold}
 use Rattle.edge_io.specs.Coming.{IsFirst}
-use Rattle.arch_model.specs.Archives.{Archive, empty_archive, text_of}
+use Rattle.arch_model.specs.Archives.{Archive, empty_archive, live, text_of}
 use Rattle.arch_model.specs.Delivery.{Done, delivered}
 use Rattle.arch_model.specs.Keeping.{Settles, Comes, Obeys, Doubts}
 use Rattle.arch_model.specs.Laws.{KeepsNumbers}
@@ -218,10 +218,10 @@ done-code exit.Script is = absurd (omega (arith, is))
 
 -- Numbers keep their texts on the way.
 goes-by : KeepsNumbers → (i : Edges) (a b : Archive) → FromBy i a b → Goes i a b
-goes-by keeps i a b (inl same) = record { from = inl same; texts = λ n text is. subst (λ (x : Archive). text_of x.entries n ≡ Some text) (sym same) is }
+goes-by keeps i a b (inl same) = record { from = inl same; texts = λ n text is. subst (λ (x : Archive). text_of (live x.entries) n ≡ Some text) (sym same) is }
 goes-by keeps i a b (inr more) = record {
   from = inr more;
-  texts = λ n text is. subst (λ (x : Archive). text_of x.entries n ≡ Some text) (sym more.is) (keeps a (message_of more.input) more.at n text is);
+  texts = λ n text is. subst (λ (x : Archive). text_of (live x.entries) n ≡ Some text) (sym more.is) (keeps a (message_of more.input) more.at n text is);
 }
 
 -- The three runs.

@@ -4,7 +4,7 @@ use Rattle.arch_base.specs.declared.config.Config.{Config}
 use Rattle.disk_model.specs.Disk.{Files, Content, Image}
 use Rattle.edge_io.specs.Coming.{IsFirst}
 use Rattle.edge_io.specs.Scripts.{Arrival}
-use Rattle.arch_model.specs.Archives.{Archive, empty_archive, text_of}
+use Rattle.arch_model.specs.Archives.{Archive, empty_archive, live, text_of}
 use Rattle.arch_model.specs.Delivery.{delivered}
 use Rattle.epoch_store.specs.Recovery.{Recovers}
 use Rattle.archive_cli.specs.declared.words.Job.TheVariants.{Init, Deliver}
@@ -29,8 +29,8 @@ pub record WithMessage (i : Edges) (old new : Archive) : Type 0 where
 -- The archive is the same, or has the message, and no number has another text than it had.
 pub record Goes (i : Edges) (old new : Archive) : Type 0 where
   pub from : (new ≡ old) ⊎ WithMessage i old new
-  pub texts : (n : ℕ) (text : List ℕ) → text_of old.entries n ≡ Some text
-      → text_of new.entries n ≡ Some text
+  pub texts : (n : ℕ) (text : List ℕ) → text_of (live old.entries) n ≡ Some text
+      → text_of (live new.entries) n ≡ Some text
 
 -- Files stand for an archive that two deliveries in order make of one without messages, which was
 -- made with these words.

@@ -1,15 +1,28 @@
 -- The answers to a command on an archive on a disk, and what the disk then holds.
-use Rattle.std.specs.Prelude.{◌≡◌, ◌+◌, ◌-◌, ◌<◌, ◌^◌, ℕ, List, Option}
+use Rattle.std.specs.Prelude.{◌≡◌, ◌≢◌, ◌==◌, ◌&&◌, ◌+◌, ◌-◌, ◌<◌, ◌^◌, ℕ, List, Option, Some, None}
 use Rattle.arch_base.specs.Counts.{RoseIf}
-use Rattle.disk_model.specs.Disk.{Files, Content, WhereTold, LeavesOnly}
+use Rattle.disk_model.specs.Disk.{Files, Content, WhereTold, LeavesOnly, Told, Unchanged, Image}
+use Rattle.std.specs.List.{AllByRecursion, find}
+use Rattle.arch_base.specs.declared.ids.Id20.{Id20}
+use Rattle.mail_reader.specs.StorageTexts.{IsStorageText}
+use Rattle.mail_reader.specs.Ids.{own_id}
+use Rattle.git_objects.specs.Objects.{blob_id_of}
+use Rattle.arch_model.specs.declared.text_refusal.TextRefusal.{TextRefusal}
+use Rattle.arch_model.specs.declared.text_refusal.TextRefusal.TheVariants as unread
+use Rattle.arch_judge.specs.Judging.{Judges}
+use Rattle.arch_judge.specs.declared.judging.Verdict.{Verdict}
+use Rattle.arch_judge.specs.declared.judging.Verdict.TheVariants.{Take, Compare, Refuse}
+use Rattle.epoch_store.specs.declared.entries.StoredEntry.{StoredEntry}
+use Rattle.epoch_store.specs.Files.{epoch_file_of}
+use Rattle.arch_model.specs.Shelves.{ReadsOnce}
 use Rattle.disk_model.specs.Synced.{IsSettled}
-use Rattle.arch_model.specs.Archives.{Archive}
-use Rattle.arch_model.specs.Delivery.{Done}
+use Rattle.arch_model.specs.Archives.{Archive, is_message}
+use Rattle.arch_model.specs.Delivery.{Done, collision}
 use Rattle.arch_model.specs.declared.answer.Answer.{Answer}
 use Rattle.arch_model.specs.declared.answer.Answer.TheVariants as answer
 use Rattle.epoch_file.specs.declared.refusal.StoreRefusal.{StoreRefusal}
 use Rattle.epoch_file.specs.declared.refusal.StoreRefusal.TheVariants as refusal
-use Rattle.epoch_store.specs.Stores.{View, IsStoreWith, HasSizes, RecoversEitherWith, GoesOn}
+use Rattle.epoch_store.specs.Stores.{View, live_kept, IsStoreWith, HasSizes, RecoversEitherWith, GoesOn}
 
 -- The definition's answer was given, and the disk is the own one of a store that keeps the
 -- definition's archive, with a cache of these bytes.
@@ -35,7 +48,8 @@ DoneBy v cache a wanted (answer.Full max) content = IsDone v cache wanted (answe
 DoneBy v cache a wanted (answer.Collision number) content =
     IsDone v cache wanted (answer.Collision number) content
 DoneBy v cache a wanted answer.IsMirror content = IsDone v cache wanted answer.IsMirror content
-DoneBy v cache a wanted (answer.NotLive number) content = ⊥
+DoneBy v cache a wanted (answer.NotLive number) content =
+    IsDone v cache wanted (answer.NotLive number) content
 DoneBy v cache a wanted (answer.NoText number) content = ⊥
 DoneBy v cache a wanted (answer.Damaged file offset) content = ⊥
 
@@ -84,8 +98,7 @@ UnlessFault answer.IsMirror P = P
 UnlessFault (answer.Damaged file offset) P = P
 UnlessFault answer.NoMemory P = P
 
--- The answers to a command. As long as no command removes, purges or edits, no number is refused,
--- and no text is read that could be damaged.
+-- The answers to a command. As long as no command purges or edits, no number is without a text.
 abbrev pub IsForCommand : Answer → Type 0
 IsForCommand (answer.Ok number id) = Unit {0}
 IsForCommand (answer.Duplicate number) = Unit {0}
@@ -96,9 +109,9 @@ IsForCommand (answer.Collision number) = Unit {0}
 IsForCommand answer.IsMirror = Unit {0}
 IsForCommand answer.DiskFault = Unit {0}
 IsForCommand answer.NoMemory = Unit {0}
-IsForCommand (answer.NotLive number) = ⊥
+IsForCommand (answer.NotLive number) = Unit {0}
 IsForCommand (answer.NoText number) = ⊥
-IsForCommand (answer.Damaged file offset) = ⊥
+IsForCommand (answer.Damaged file offset) = Unit {0}
 
 -- The answer for an error of the store.
 abbrev pub refusal_answer : StoreRefusal → Answer
@@ -106,12 +119,66 @@ refusal_answer refusal.DiskFault = answer.DiskFault
 refusal_answer refusal.NoMemory = answer.NoMemory
 refusal_answer (refusal.Damaged file offset) = answer.Damaged file offset
 
+-- The place that is damaged where the text of a number is: the file of its message's epoch, and the
+-- offset of the entry there.
+abbrev pub damaged_place : View → Option StoredEntry → Answer
+damaged_place v None = answer.NoMemory
+damaged_place v (Some e) = answer.Damaged (epoch_file_of v.root e.epoch) e.seen.at
+
+-- The message of a number among the entries that are kept, live or not.
+abbrev pub message_kept : View → ℕ → Option StoredEntry
+message_kept v number =
+    find (λ (e : StoredEntry). is_message e.seen.kind && e.number == number) v.entries
+
+-- The answer where the text of a number wasn't read.
+abbrev pub unread_answer : View → ℕ → TextRefusal → Answer
+unread_answer v number unread.DiskFault = answer.DiskFault
+unread_answer v number (unread.Damaged named found) = damaged_place v (message_kept v number)
+unread_answer v number unread.NoMemory = answer.NoMemory
+
+-- The message of a number has the own id of a text.
+abbrev pub IsNamed : View → ℕ → List ℕ → Type 0
+IsNamed v number text = (e : StoredEntry) × (message_kept v number ≡ Some e)
+    × (own_id text ≡ Some e.seen.id)
+
+-- A text may come to what is kept: the archive is no mirror, the text is a storage text, and no live
+-- message has its own id.
+pub record MayComeTo (v : View) (text : List ℕ) (blob : Id20) : Type 0 where
+  pub writable : v.root.config.mirror ≡ false
+  pub storage : IsStorageText text
+  pub blob_is : blob ≡ blob_id_of text
+  pub id : AllByRecursion (λ (e : StoredEntry). own_id text ≢ Some e.seen.id) (live_kept v.entries)
+
+-- The verdict is that a read failed.
+abbrev pub IsFaultRead : Verdict → Type 0
+IsFaultRead (Take text blob number) = ⊥
+IsFaultRead (Compare text blob number) = ⊥
+IsFaultRead (Refuse reply) = reply ≡ answer.DiskFault
+
+-- The verdict is what the definition says of the delivery, unless a read failed.
+abbrev pub JudgesRead : Archive → List ℕ → Verdict → Type 0
+JudgesRead a bytes (Refuse answer.DiskFault) = Unit {0}
+JudgesRead a bytes verdict = Judges a bytes verdict
+
+-- No other text has the blob id of a text that is taken.
+abbrev pub IsAlone : Archive → Verdict → Type 0
+IsAlone a (Take text blob number) = collision a.entries text ≡ None
+IsAlone a (Compare text blob number) = Unit {0}
+IsAlone a (Refuse reply) = Unit {0}
+
+-- The disk was read, and nothing else: its content is the same, and a crash leaves what it might have
+-- left before.
+pub record OnlyLooks {D : Type 0} (content : D → Option Content) (moment : D → ℕ)
+    (left_since : D → ℕ → Files → Type 0) (old new : D) : Type 0 where
+  pub same : Told Unchanged (content old) (content new)
+  pub any_moment : LeavesOnly moment left_since old new (Image (content old))
+
 -- What a command promises, by its answer and the archive after it, of each archive before it. While
 -- the root's sequence can be raised, at each moment a crash leaves the archive before the command or
 -- the one after it, and the answer and the disk then are the wanted ones. After `Ok` all that reads
 -- give is on the disk, and the root, in the other slot, goes on from the one before. Any other
--- answer leaves what is kept in memory, and, but for a fault, the disk. The command fails only if
--- the count of faults rose, and reads nothing.
+-- answer leaves what is kept in memory, and, but for a fault, the content of the disk. The command
+-- fails only if the count of faults rose, and reads at most once.
 pub record TakesCommand {D : Type 0} (content : D → Option Content) (moment : D → ℕ)
     (left_since : D → ℕ → Files → Type 0) (faults reads : D → ℕ) (old new : D)
     (before after : View) (wanted : Archive → Done) (reply : Answer) : Type 0 where
@@ -125,8 +192,8 @@ pub record TakesCommand {D : Type 0} (content : D → Option Content) (moment : 
   pub goes_on : OnDone reply (GoesOn before.root after.root)
   pub slot : OnDone reply (after.slot ≡ 1 - before.slot)
   pub same : OnRefusal reply (after ≡ before)
-  pub untouched : OnRefusal reply (UnlessFault reply (new ≡ old))
+  pub untouched : OnRefusal reply (UnlessFault reply (OnlyLooks content moment left_since old new))
   pub sizes : UnlessFault reply (WhereTold (HasSizes after) (content new))
   pub cause : RoseIf (reply ≡ answer.DiskFault) (faults old) (faults new)
   pub never_damaged : IsForCommand reply
-  pub count : reads new ≡ reads old
+  pub count : ReadsOnce (reads old) (reads new)

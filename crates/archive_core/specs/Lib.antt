@@ -4,3 +4,4 @@ pub mod Openings
 pub mod Numbers
 pub mod Engines
 pub mod HandedBack
+pub mod Placing

@@ -1,17 +1,33 @@
 -- The numbers of the entries that a store keeps.
-use Rattle.std.specs.Prelude.{◌≡◌, ◌≢◌, ◌<◌, ◌≤◌, ℕ, Bool, true, ◌==◌, List, slice_get, Option, Some, None, Result, Ok, Err}
+use Rattle.std.specs.Prelude.{◌≡◌, ◌≢◌, ◌<◌, ◌≤◌, ℕ, Bool, true, ◌&&◌, ◌==◌, List, slice_get, Option, Some, None, Result, Ok, Err}
 use Rattle.std.specs.List.{list_any}
 use Rattle.std.specs.List.Sorted.{IsNonDecreasingBy}
 use Rattle.arch_model.specs.declared.text_refusal.TextRefusal.{TextRefusal}
 use Rattle.arch_model.specs.declared.text_refusal.TextRefusal.TheVariants as reading
+use Rattle.arch_model.specs.Archives.{is_message}
 use Rattle.epoch_store.specs.Reads.{GivesText}
+use Rattle.epoch_store.specs.Stores.{live_kept}
 use Rattle.epoch_store.specs.declared.entries.StoredEntry.{StoredEntry}
 
 -- Whether an entry has this number.
 abbrev pub has_number : List StoredEntry → ℕ → Bool
 has_number entries n = list_any (λ (e : StoredEntry). e.number == n) entries
 
--- A number that was found is that of an entry.
+-- Whether a live one of the entries has this number.
+abbrev pub has_live : List StoredEntry → ℕ → Bool
+has_live entries n = has_number (live_kept entries) n
+
+-- Whether a message among the entries, live or not, has this number.
+abbrev pub has_message_number : List StoredEntry → ℕ → Bool
+has_message_number entries n =
+    list_any (λ (e : StoredEntry). is_message e.seen.kind && e.number == n) entries
+
+-- The entry at this index is the message of this number.
+abbrev pub IsMessageAt : List StoredEntry → ℕ → ℕ → Type 0
+IsMessageAt entries n index = (e : StoredEntry) × (slice_get entries index ≡ Some e)
+    × (e.number ≡ n) × (is_message e.seen.kind ≡ true)
+
+-- A number that was found is one of these.
 abbrev pub IsKnownLive : (ℕ → Bool) → Option ℕ → Type 0
 IsKnownLive live None = Unit {0}
 IsKnownLive live (Some n) = live n ≡ true

@@ -1,12 +1,14 @@
 //! An archive on a disk that is handed in. Each of its commands has the result of the definition.
-ghost use Rattle.std.specs.Prelude.{◌≡◌, ◌≤◌, ◌<◌, ◌+◌, ◌-◌, ◌^◌, ℕ, length, Err, OnOk, OnErr, List};
+ghost use Rattle.std.specs.Prelude.{true, false, Some, None, ◌≡◌, ◌≤◌, ◌<◌, ◌+◌, ◌-◌, ◌^◌, ℕ, length, Err, OnOk, OnErr, List};
 ghost use Rattle.arch_base.specs.Configs.{IsConfig};
 ghost use Rattle.arch_base.specs.Counts.{RoseIf};
 ghost use Rattle.disk_model.specs.Disk.{WhereTold, LeavesOnly};
 ghost use Rattle.disk_model.specs.Synced.{IsSettled};
-ghost use Rattle.arch_model.specs.Archives.{Archive, with_entry};
-ghost use Rattle.arch_model.specs.Delivery.{applied, delivered, new_epoch};
-ghost use Rattle.arch_judge.specs.Judging.{Judges};
+ghost use Rattle.arch_model.specs.Archives.{Archive, with_entry, live, text_of};
+ghost use Rattle.arch_model.specs.Delivery.{applied, delivered, removed, collision, new_epoch};
+ghost use Rattle.arch_model.specs.Shelves.{ReadsOnce};
+ghost use Rattle.arch_judge.specs.Judging.{Compares};
+ghost use Rattle.archive_core.specs.Numbers.{has_live};
 ghost use Rattle.epoch_file.specs.declared.refusal.StoreRefusal.{StoreRefusal};
 ghost use Rattle.archive_core.specs.Kept.{MayGoIn, TakesWhatMay};
 ghost use Rattle.arch_model.specs.declared.answer.Answer.{Answer};
@@ -14,16 +16,19 @@ ghost use Rattle.arch_base.specs.Moments.{last_moment};
 ghost use Rattle.archive_core.specs.Openings.{RefusesKindly};
 ghost use Rattle.epoch_store.specs.Promises.{MakesArchive, OpensArchive};
 ghost use Rattle.epoch_store.specs.Stores.{IsStoreWith, Keeps, HasSizes, RecoversEitherWith, SeesNoDamage, GoesOn};
-ghost use Rattle.archive_core.specs.Commands.{DoneBy, OnDone, OnRefusal, UnlessFault, IsForCommand, TakesCommand, refusal_answer};
+ghost use Rattle.archive_core.specs.Commands.{DoneBy, OnDone, OnRefusal, UnlessFault, OnlyLooks, IsForCommand, IsFaultRead, JudgesRead, IsAlone, TakesCommand, refusal_answer, unread_answer, damaged_place, message_kept, IsNamed, MayComeTo};
 
 use crate::entries::index_of;
-use crate::texts::{put_text, take_text};
-use arch_base::{Config, NoMemory, ObjectId};
-use arch_judge::{Index, Verdict, judge};
-use arch_model::{Answer, Command, OpenRefusal};
+use crate::placing::{MessagePlace, end_place, places_of};
+use crate::texts::{end_text, put_text, take_text};
+use arch_base::{Bytes, Config, NoMemory, ObjectId};
+use arch_judge::{Index, Verdict, compared, judge};
+use arch_model::{Answer, Command, OpenRefusal, TextRefusal};
 use disk_model::Disk;
 use epoch_file::StoreRefusal;
 use epoch_store::{InitRefusal, Store, law_of_stores};
+use git_objects::blob_id;
+use mail_reader::own_id;
 use std::alloc::Global;
 use std::marker::Model;
 
@@ -35,17 +40,21 @@ pub struct DiskArchive {
     alloc: Global,
     pub(crate) store: Store,
     pub(crate) index: Index,
+    pub(crate) places: Vec<MessagePlace>,
 }
 
 impl Model for DiskArchive {
     ghost use Rattle.epoch_store.specs.Stores.{View};
+    ghost use Rattle.std.specs.Prelude.{◌≡◌};
     ghost use Rattle.archive_core.specs.Kept.{IndexesStored};
+    ghost use Rattle.archive_core.specs.Placing.{message_places};
 
     ghost Value = { View };
 
     ghost view = { λ s. s.store };
 
-    ghost invariant = { λ s. IndexesStored s.store.entries s.index };
+    ghost invariant = { λ s. IndexesStored s.store.entries s.index
+        × (s.places.items ≡ message_places 0 s.store.entries) };
 }
 
 impl DiskArchive {
@@ -72,6 +81,7 @@ impl DiskArchive {
             alloc,
             store,
             index: Index::new(alloc),
+            places: Vec::new(alloc),
         })
     }
 
@@ -97,21 +107,26 @@ impl DiskArchive {
             Ok(store) => store,
             Err(refusal) => return Err(refusal),
         };
-        match index_of(alloc, store.stored()) {
-            Ok(index) => Ok(DiskArchive {
-                alloc,
-                store,
-                index,
-            }),
-            Err(NoMemory) => Err(OpenRefusal::NoMemory),
-        }
+        let Ok(index) = index_of(alloc, store.stored()) else {
+            return Err(OpenRefusal::NoMemory);
+        };
+        let Ok(places) = places_of(alloc, store.stored()) else {
+            return Err(OpenRefusal::NoMemory);
+        };
+        Ok(DiskArchive {
+            alloc,
+            store,
+            index,
+            places,
+        })
     }
 
     /// Takes a command at a moment, in seconds since 1970.
     ///
     /// `Deliver`: the message takes the next number, or is refused by the first cause of these: a
     /// mirror, no field, too many bytes, the same message, another text with its blob id, and no
-    /// number left. A refusal leaves all as it was.
+    /// number left. `Remove`: the message with a number is ended, or the archive is a mirror, or the
+    /// number is not live. A refusal leaves all as it was.
     ///
     /// At each moment a crash leaves the archive before the command or the one after it, and after
     /// `Ok` the latter. `DiskFault` comes only if the disk's count of faults rose: one of the two
@@ -125,6 +140,7 @@ impl DiskArchive {
     {
         match command {
             Command::Deliver(bytes) => self.deliver(disk, bytes, moment),
+            Command::Remove(number) => self.remove(disk, *number, moment),
         }
     }
 
@@ -145,15 +161,17 @@ impl DiskArchive {
         ensures goes_on { OnDone result (GoesOn self.old.root self.new.root) }
         ensures slot { OnDone result (self.new.slot ≡ 1 - self.old.slot) }
         ensures same { OnRefusal result (self.new ≡ self.old) }
-        ensures untouched { OnRefusal result (UnlessFault result (disk.new ≡ disk.old)) }
+        ensures untouched { OnRefusal result (UnlessFault result (OnlyLooks D.content D.moment D.left_since disk.old disk.new)) }
         ensures sizes { UnlessFault result (WhereTold (HasSizes self.new) (D.content disk.new)) }
         ensures cause { RoseIf (result ≡ Answer.DiskFault) (D.faults disk.old) (D.faults disk.new) }
         ensures never_damaged { IsForCommand result }
-        ensures count { D.reads disk.new ≡ D.reads disk.old }
+        ensures count { ReadsOnce (D.reads disk.old) (D.reads disk.new) }
     {
         law_of_stores();
-        match self.verdict(bytes) {
+        match self.verdict(disk, bytes) {
             Verdict::Refuse(answer) => answer,
+            // The texts were compared before.
+            Verdict::Compare { .. } => Answer::NoMemory,
             Verdict::Take { text, blob, number } => {
                 match self.keep(disk, text.as_slice(), blob, moment) {
                     Ok(()) => Answer::Ok { number, id: blob },
@@ -163,19 +181,160 @@ impl DiskArchive {
         }
     }
 
-    /// Returns the verdict on the delivery of a message.
-    fn verdict(&self, bytes: &[u8]) -> Verdict
-        ensures judged { (a : Archive) → Keeps self.now a → Judges a bytes.now result }
+    /// Returns the verdict on the delivery of a message, where texts are compared. Reads at most once.
+    fn verdict<D: Disk>(&self, disk: &mut D, bytes: &[u8]) -> Verdict
+        ensures judged { (a : Archive) (cache : List ℕ)
+            → IsStoreWith self.now cache a (D.content disk.old) → JudgesRead a bytes.now result }
+        ensures alone { (a : Archive) (cache : List ℕ)
+            → IsStoreWith self.now cache a (D.content disk.old) → IsAlone a result }
         ensures taken { TakesWhatMay self.now result }
+        ensures looks { OnlyLooks D.content D.moment D.left_since disk.old disk.new }
+        ensures cause { RoseIf (IsFaultRead result) (D.faults disk.old) (D.faults disk.new) }
+        ensures count { ReadsOnce (D.reads disk.old) (D.reads disk.new) }
     {
-        judge(
-            self.alloc,
-            self.store.config(),
-            &self.index,
-            self.store.stored().len(),
-            self.store.next_number(),
-            bytes,
-        )
+        let count = self.store.stored().len();
+        let next = self.store.next_number();
+        match judge(self.alloc, self.store.config(), &self.index, count, next, bytes) {
+            Verdict::Refuse(answer) => Verdict::Refuse(answer),
+            Verdict::Take { text, blob, number } => Verdict::Take { text, blob, number },
+            Verdict::Compare { text, blob, number } => self.compare(disk, text, blob, number),
+        }
+    }
+
+    /// Returns the verdict on the delivery of a text whose blob id the message with a number has.
+    fn compare<D: Disk>(
+        &self,
+        disk: &mut D,
+        text: Bytes,
+        blob: ObjectId,
+        number: u32,
+    ) -> Verdict
+        requires may { MayComeTo self.now text blob }
+        ensures judged { (a : Archive) (bytes : List ℕ) (cache : List ℕ)
+            → IsStoreWith self.now cache a (D.content disk.old)
+            → Compares a bytes text blob number → JudgesRead a bytes result }
+        ensures alone { (a : Archive) (cache : List ℕ)
+            → IsStoreWith self.now cache a (D.content disk.old) → IsAlone a result }
+        ensures taken { TakesWhatMay self.now result }
+        ensures looks { OnlyLooks D.content D.moment D.left_since disk.old disk.new }
+        ensures cause { RoseIf (IsFaultRead result) (D.faults disk.old) (D.faults disk.new) }
+        ensures count { ReadsOnce (D.reads disk.old) (D.reads disk.new) }
+    {
+        let next = self.store.next_number();
+        let mut kept = Bytes::new(self.alloc);
+        match self.blob(disk, &blob, &mut kept) {
+            Ok(true) => compared(self.config(), next, text, blob, number, kept.as_slice()),
+            // The index has the blob id.
+            Ok(false) => Verdict::Refuse(Answer::NoMemory),
+            Err(refusal) => Verdict::Refuse(self.unread(number, &refusal)),
+        }
+    }
+
+    /// Returns the answer where the text of a number wasn't read.
+    fn unread(&self, number: u32, refusal: &TextRefusal) -> Answer
+        ensures { result ≡ unread_answer self.now number refusal.now }
+    {
+        match refusal {
+            TextRefusal::DiskFault => Answer::DiskFault,
+            TextRefusal::NoMemory => Answer::NoMemory,
+            TextRefusal::Damaged { .. } => self.damaged(number),
+        }
+    }
+
+    /// Returns the answer that the entry of a number's message is damaged.
+    fn damaged(&self, number: u32) -> Answer
+        ensures { result ≡ damaged_place self.now (message_kept self.now number) }
+    {
+        match self.message_index(number) {
+            None => Answer::NoMemory,
+            Some(index) => match self.store.place(index) {
+                None => Answer::NoMemory,
+                Some((file, at)) => Answer::Damaged { file, at },
+            },
+        }
+    }
+
+    /// Returns whether the message with a number has the own id of a text.
+    fn is_named(&self, number: u32, text: &[u8]) -> bool
+        ensures { result ≡ true → IsNamed self.now number text.now }
+    {
+        match (self.message_index(number), own_id(text)) {
+            (Some(index), Some(id)) => self.store.stored()[index as usize].seen.id.as_slice() == id,
+            _ => false,
+        }
+    }
+
+    /// Removes a message, or refuses. Reads at most once.
+    fn remove<D: Disk>(&mut self, disk: &mut D, number: u32, moment: u64) -> Answer
+        requires moment { moment ≤ last_moment }
+        requires sizes { WhereTold (HasSizes self.old) (D.content disk.old) }
+        ensures taken { TakesCommand D.content D.moment D.left_since D.faults D.reads disk.old
+            disk.new self.old self.new (λ a. removed a number moment) result }
+    {
+        law_of_stores();
+        if self.config().mirror {
+            return Answer::IsMirror;
+        }
+        if !self.has_text(number) {
+            return Answer::NotLive(number);
+        }
+        let mut text = Bytes::new(self.alloc);
+        match self.text(disk, number, &mut text) {
+            Ok(()) => self.end_message(disk, number, text.as_slice(), moment),
+            Err(refusal) => self.unread(number, &refusal),
+        }
+    }
+
+    /// Ends the live message with a number, whose text is this one, as it was read.
+    ///
+    /// `Damaged` if the text lacks the own id of the message, which never happens on the disk of an
+    /// archive.
+    fn end_message<D: Disk>(
+        &mut self,
+        disk: &mut D,
+        number: u32,
+        text: &[u8],
+        moment: u64,
+    ) -> Answer
+        requires moment { moment ≤ last_moment }
+        requires writable { self.old.root.config.mirror ≡ false }
+        requires live { has_live self.old.entries number ≡ true }
+        requires sizes { WhereTold (HasSizes self.old) (D.content disk.old) }
+        ensures any_moment { (a : Archive) (cache : List ℕ)
+            → IsStoreWith self.old cache a (D.content disk.old)
+            → self.old.root.sequence + 1 < 2 ^ 64
+            → text_of (live a.entries) number ≡ Some text.now
+            → LeavesOnly D.moment D.left_since disk.old disk.new
+            (RecoversEitherWith cache a (removed a number moment).archive) }
+        ensures done { (a : Archive) (cache : List ℕ)
+            → IsStoreWith self.old cache a (D.content disk.old)
+            → self.old.root.sequence + 1 < 2 ^ 64
+            → text_of (live a.entries) number ≡ Some text.now
+            → DoneBy self.new cache a (removed a number moment) result (D.content disk.new) }
+        ensures settled { OnDone result (WhereTold IsSettled (D.content disk.new)) }
+        ensures goes_on { OnDone result (GoesOn self.old.root self.new.root) }
+        ensures slot { OnDone result (self.new.slot ≡ 1 - self.old.slot) }
+        ensures same { OnRefusal result (self.new ≡ self.old) }
+        ensures untouched { OnRefusal result (UnlessFault result (disk.new ≡ disk.old)) }
+        ensures sizes { UnlessFault result (WhereTold (HasSizes self.new) (D.content disk.new)) }
+        ensures cause { RoseIf (result ≡ Answer.DiskFault) (D.faults disk.old) (D.faults disk.new) }
+        ensures for_command { IsForCommand result }
+        ensures count { D.reads disk.new ≡ D.reads disk.old }
+    {
+        if !self.is_named(number, text) {
+            return self.damaged(number);
+        }
+        match self.store.remove_entry(self.alloc, disk, number, text, moment) {
+            Ok(()) => {
+                end_text(&mut self.index, text);
+                end_place(&mut self.places, number);
+                Answer::Ok {
+                    number,
+                    id: blob_id(text),
+                }
+            }
+            Err(refusal) => answer_of(&refusal),
+        }
     }
 
     /// Appends a message: its text takes the next number, at a moment in seconds since 1970.
@@ -193,12 +352,12 @@ impl DiskArchive {
         requires sizes { WhereTold (HasSizes self.old) (D.content disk.old) }
         ensures any_moment { (a : Archive) (cache : List ℕ)
             → IsStoreWith self.old cache a (D.content disk.old)
-            → self.old.root.sequence + 1 < 2 ^ 64
+            → self.old.root.sequence + 1 < 2 ^ 64 → collision a.entries text.now ≡ None
             → LeavesOnly D.moment D.left_since disk.old disk.new
             (RecoversEitherWith cache a (with_entry a (new_epoch a) text.now moment)) }
         ensures done { (a : Archive) (cache : List ℕ)
             → IsStoreWith self.old cache a (D.content disk.old)
-            → self.old.root.sequence + 1 < 2 ^ 64
+            → self.old.root.sequence + 1 < 2 ^ 64 → collision a.entries text.now ≡ None
             → OnOk result (IsStoreWith self.new cache (with_entry a (new_epoch a) text.now moment)
             (D.content disk.new)) }
         ensures settled { OnOk result (WhereTold IsSettled (D.content disk.new)) }
@@ -214,12 +373,22 @@ impl DiskArchive {
     {
         law_of_stores();
         let number = self.store.next_number();
+        let entry = self.store.stored().len();
+        let Ok(()) = self.places.reserve(1) else {
+            return Err(StoreRefusal::NoMemory);
+        };
         put_text(self.alloc, &mut self.index, text, blob, number)?;
         if let Err(refusal) = self.store.deliver_entry(self.alloc, disk, text, moment) {
             // The index is as it was before.
-            take_text(&mut self.index, text, &blob);
+            take_text(&mut self.index, text, &blob, number);
             return Err(refusal);
         }
+        // There is room for it.
+        let _ = self.places.push(MessagePlace {
+            number,
+            entry,
+            live: true,
+        });
         Ok(())
     }
 
@@ -230,12 +399,12 @@ impl DiskArchive {
         self.store.stored().len() as u64
     }
 
-    /// Returns how many numbers have a message. Until messages are removed each entry has one.
+    /// Returns how many numbers have a live message.
     pub fn live_count(&self) -> u32
-        ensures { (a : Archive) → Keeps self.now a → result ≡ length a.entries }
+        ensures { (a : Archive) → Keeps self.now a → result ≡ length (live a.entries) }
     {
-        // There are no more entries than numbers.
-        self.store.stored().len().min(u32::MAX as usize) as u32
+        // There are no more messages than numbers.
+        self.live_between(0, u32::MAX).min(u64::from(u32::MAX)) as u32
     }
 
     /// Returns the number of the next message.

@@ -1,11 +1,12 @@
 //! The index of the entries that an opened store keeps.
 ghost use Rattle.std.specs.Prelude.{IfOk, OnOk};
 ghost use Rattle.arch_judge.specs.Indexes.{Puts};
-ghost use Rattle.archive_core.specs.Kept.{IndexesStored, owner_kept};
+ghost use Rattle.archive_core.specs.Kept.{IndexesStored, Takes, owner_kept};
 
 use arch_base::NoMemory;
 use arch_judge::{Index, Owner};
 use epoch_store::StoredEntry;
+use git_objects::EntryKind;
 use std::alloc::Global;
 
 /// Returns the index of entries.
@@ -13,14 +14,26 @@ pub(crate) fn index_of(alloc: Global, entries: &[StoredEntry]) -> Result<Index, 
     ensures { IfOk result (λ index. IndexesStored entries.now index) }
 {
     let mut index = Index::new(alloc);
-    // From the last to the first, so that the first entry of an id is the one that is found.
-    for i in (0..entries.len()).rev() {
-        put_entry(alloc, &mut index, &entries[i])?;
+    for entry in entries {
+        take_entry(alloc, &mut index, entry)?;
     }
     Ok(index)
 }
 
-/// Adds an entry to an index. It replaces those with its ids.
+/// Adds a message to an index, or removes the own id of a message that an entry ends.
+fn take_entry(alloc: Global, index: &mut Index, entry: &StoredEntry) -> Result<(), NoMemory>
+    ensures { OnOk result (Takes index.old index.new entry.now) }
+{
+    match entry.seen.kind {
+        EntryKind::Message => put_entry(alloc, index, entry),
+        EntryKind::Deletion => {
+            index.remove(entry.seen.id.as_slice());
+            Ok(())
+        }
+    }
+}
+
+/// Adds a message to an index. An older entry with its blob id stays.
 fn put_entry(alloc: Global, index: &mut Index, entry: &StoredEntry) -> Result<(), NoMemory>
     ensures { OnOk result (Puts index.old index.new entry.now.seen.id entry.now.seen.blob
         (owner_kept entry.now)) }
@@ -30,5 +43,5 @@ fn put_entry(alloc: Global, index: &mut Index, entry: &StoredEntry) -> Result<()
         number: entry.number,
         content: entry.seen.content,
     };
-    index.put(id, entry.seen.blob, owner)
+    index.insert(id, entry.seen.blob, owner)
 }

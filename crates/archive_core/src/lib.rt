@@ -5,6 +5,7 @@ mod archive;
 mod engine;
 mod entries;
 mod not_made;
+mod placing;
 mod reading;
 mod texts;
 

@@ -2,20 +2,21 @@
 ghost use Rattle.std.specs.Prelude.{◌≡◌, ◌≤◌, ◌<◌, ◌+◌, ◌^◌, ◌↔◌, ◌&&◌, ℕ, List, nat_le, true, length, count_by, Err, IsTrue, IsSome, IfSome, OnErr, is_some};
 ghost use Rattle.arch_base.specs.Counts.{RoseIf};
 ghost use Rattle.disk_model.specs.Disk.{Image, Told, Unchanged, LeavesOnly};
-ghost use Rattle.arch_model.specs.Archives.{Archive, in_epoch, text_of, blob_number};
+ghost use Rattle.arch_model.specs.Archives.{Archive, live, in_epoch, text_of, blob_number};
 ghost use Rattle.arch_model.specs.Shelves.{IsGreatestLive, live_between, line_at, GivesBlobIn, AppendsTo};
 ghost use Rattle.arch_model.specs.Standing.{IsLeastLive, GivesTextIn, GivesEpochIn, KeepsUnlessFound};
 ghost use Rattle.arch_model.specs.declared.text_refusal.TextRefusal.{TextRefusal};
 ghost use Rattle.epoch_store.specs.Reads.{AnswersQuietly};
 ghost use Rattle.epoch_store.specs.Stores.{IsStoreWith, Keeps};
-ghost use Rattle.archive_core.specs.Numbers.{has_number, IsKnownLive, NumbersRise, IsNumberAt, IsCountBelow, IsCountUpTo, GivesTextKept, TellsOther};
-ghost use Rattle.epoch_store.specs.declared.entries.StoredEntry.{StoredEntry};
+ghost use Rattle.archive_core.specs.Numbers.{has_live, has_message_number, IsKnownLive, IsMessageAt, GivesTextKept, TellsOther};
+ghost use Rattle.archive_core.specs.Placing.{live_place, PlacesRise, IsLeastPlace, IsGreatestPlace};
+ghost use Rattle.archive_core.specs.declared.placing.MessagePlace.{MessagePlace};
 
 use crate::archive::DiskArchive;
+use crate::placing::{MessagePlace, place_index};
 use arch_base::{Bytes, ObjectId};
 use arch_model::{EntryLine, TextRefusal};
 use disk_model::Disk;
-use epoch_store::StoredEntry;
 
 impl DiskArchive {
     /// Returns whether there can be another root: the current one's sequence isn't the last.
@@ -25,38 +26,37 @@ impl DiskArchive {
         self.store.sequence() < u64::MAX
     }
 
-    /// Returns the least number of a message that is at least `n`, or `None` if there is none.
+    /// Returns the least number of a live message that is at least `n`, or `None` if there is none.
     pub fn live_from(&self, n: u32) -> Option<u32>
-        ensures known { IsKnownLive (has_number self.now.entries) result }
-        ensures number { (a : Archive) → Keeps self.now a → IsLeastLive a.entries n result }
+        ensures known { IsKnownLive (has_live self.now.entries) result }
+        ensures number { (a : Archive) → Keeps self.now a → IsLeastLive (live a.entries) n result }
     {
-        let entries = self.store.stored();
-        match entries.get(count_below(entries, n)) {
-            None => None,
-            Some(entry) => Some(entry.number),
-        }
+        live_from(self.places.as_slice(), n)
     }
 
-    /// Returns the greatest number of a message that is at most `n`, or `None` if there is none.
+    /// Returns the greatest number of a live message that is at most `n`, or `None` if there is none.
     pub fn live_to(&self, n: u32) -> Option<u32>
-        ensures { (a : Archive) → Keeps self.now a → IsGreatestLive a.entries n result }
+        ensures { (a : Archive) → Keeps self.now a → IsGreatestLive (live a.entries) n result }
     {
-        let entries = self.store.stored();
-        let count = count_up_to(entries, n);
-        if count == 0 {
-            return None;
-        }
-        match entries.get(count - 1) {
-            None => None,
-            Some(entry) => Some(entry.number),
-        }
+        live_to(self.places.as_slice(), n)
     }
 
-    /// Returns how many messages have a number from `low` to `high`.
+    /// Returns how many live messages have a number from `low` to `high`.
     pub fn live_between(&self, low: u32, high: u32) -> u64
-        ensures { (a : Archive) → Keeps self.now a → result ≡ live_between a.entries low high }
+        ensures { (a : Archive) → Keeps self.now a
+            → result ≡ live_between (live a.entries) low high }
     {
-        count_between(self.store.stored(), low, high)
+        count_between(self.places.as_slice(), low, high)
+    }
+
+    /// Returns the index of the entry of a number's message, live or not, or `None` if there is none.
+    pub(crate) fn message_index(&self, n: u32) -> Option<u64>
+        ensures { IfSome result (IsMessageAt self.now.entries n) }
+    {
+        match place_index(self.places.as_slice(), n) {
+            None => None,
+            Some(at) => Some(self.places[at].entry as u64),
+        }
     }
 
     /// Returns the entry at an index, from 0, without its text, or `None` if there are not so many.
@@ -66,11 +66,11 @@ impl DiskArchive {
         self.store.entry(index)
     }
 
-    /// Returns whether a number has a text.
+    /// Returns whether a number is live.
     pub fn has_text(&self, n: u32) -> bool
-        ensures known { result ≡ true → has_number self.now.entries n ≡ true }
+        ensures known { result ≡ true → has_live self.now.entries n ≡ true }
         ensures text { (a : Archive) → Keeps self.now a
-            → is_some (text_of a.entries n) ≡ result }
+            → is_some (text_of (live a.entries) n) ≡ result }
     {
         match self.live_from(n) {
             Some(found) => found == n,
@@ -85,10 +85,10 @@ impl DiskArchive {
     /// `DiskFault` comes only if the disk's count of faults rose, and `NoMemory` only if memory
     /// runs out. An error leaves the bytes unchanged.
     pub fn text<D: Disk>(&self, disk: &mut D, n: u32, into: &mut Bytes) -> Result<(), TextRefusal>
-        requires live { has_number self.now.entries n ≡ true }
+        requires live { has_live self.now.entries n ≡ true }
         ensures text { (a : Archive) (cache : List ℕ)
             → IsStoreWith self.now cache a (D.content disk.old)
-            → GivesTextIn a.entries n into.old into.new result }
+            → GivesTextIn (live a.entries) n into.old into.new result }
         ensures kept { GivesTextKept self.now.entries n into.old into.new result }
         ensures refused { OnErr result (into.new ≡ into.old) }
         ensures same { Told Unchanged (D.content disk.old) (D.content disk.new) }
@@ -99,8 +99,8 @@ impl DiskArchive {
         ensures fewest { D.reads disk.old ≤ D.reads disk.new }
         ensures count { D.reads disk.new ≤ D.reads disk.old + 1 }
     {
-        match entry_index(self.store.stored(), n) {
-            // Numbers rise, so the index of a number that is there is found.
+        match self.message_index(n) {
+            // Numbers of messages rise, so the place of one that is there is found.
             None => Err(TextRefusal::NoMemory),
             Some(index) => self.store.text(disk, index, into),
         }
@@ -133,15 +133,19 @@ impl DiskArchive {
         let Some(number) = self.number_of(id) else {
             return Ok(false);
         };
-        match self.text(disk, number, into) {
-            Ok(()) => Ok(true),
-            Err(refusal) => Err(refusal),
+        match self.message_index(number) {
+            // Numbers of messages rise, so the place of one that is there is found.
+            None => Err(TextRefusal::NoMemory),
+            Some(index) => match self.store.text(disk, index, into) {
+                Ok(()) => Ok(true),
+                Err(refusal) => Err(refusal),
+            },
         }
     }
 
     /// Returns the number of the first entry with a blob id.
     fn number_of(&self, id: &ObjectId) -> Option<u32>
-        ensures known { IsKnownLive (has_number self.now.entries) result }
+        ensures known { IsKnownLive (has_message_number self.now.entries) result }
         ensures number { (a : Archive) → Keeps self.now a
             → result ≡ blob_number a.entries id.now.0 }
     {
@@ -177,46 +181,41 @@ impl DiskArchive {
     }
 }
 
-/// Returns how many entries at the front have a number below `n`.
-fn count_below(entries: &[StoredEntry], n: u32) -> usize
-    ensures bound { result ≤ length entries.now }
-    ensures count { NumbersRise entries.now → IsCountBelow entries.now n result }
+/// Returns the least live number from `n` on, or `None` if there is none.
+fn live_from(places: &[MessagePlace], n: u32) -> Option<u32>
+    ensures known { IsKnownLive (live_place places.now) result }
+    ensures least { PlacesRise places.now → IsLeastPlace places.now n result }
 {
-    entries.partition_point(|entry| entry.number < n)
-}
-
-/// Returns the index, from 0, of the entry with a number.
-fn entry_index(entries: &[StoredEntry], n: u32) -> Option<u64>
-    ensures index { IfSome result (IsNumberAt entries.now n) }
-    ensures found { NumbersRise entries.now → has_number entries.now n ≡ true → IsSome result }
-{
-    let index = count_below(entries, n);
-    match entries.get(index) {
-        None => None,
-        Some(entry) => {
-            if entry.number != n {
-                return None;
-            }
-            Some(index as u64)
+    let first = places.partition_point(|place| place.number < n);
+    for index in first..places.len() {
+        if places[index].live {
+            return Some(places[index].number);
         }
     }
+    None
 }
 
-/// Returns how many entries at the front have a number of at most `n`.
-fn count_up_to(entries: &[StoredEntry], n: u32) -> usize
-    ensures bound { result ≤ length entries.now }
-    ensures count { NumbersRise entries.now → IsCountUpTo entries.now n result }
+/// Returns the greatest live number up to `n`, or `None` if there is none.
+fn live_to(places: &[MessagePlace], n: u32) -> Option<u32>
+    ensures known { IsKnownLive (live_place places.now) result }
+    ensures greatest { PlacesRise places.now → IsGreatestPlace places.now n result }
 {
-    entries.partition_point(|entry| entry.number <= n)
+    let count = places.partition_point(|place| place.number <= n);
+    for index in (0..count).rev() {
+        if places[index].live {
+            return Some(places[index].number);
+        }
+    }
+    None
 }
 
-/// Returns how many entries have a number from `low` to `high`.
-fn count_between(entries: &[StoredEntry], low: u32, high: u32) -> u64
-    ensures { result
-        ≡ count_by (λ (e : StoredEntry). nat_le low e.number && nat_le e.number high) entries.now }
+/// Returns how many live places have a number from `low` to `high`.
+fn count_between(places: &[MessagePlace], low: u32, high: u32) -> u64
+    ensures { result ≡ count_by (λ (p : MessagePlace).
+        p.live && (nat_le low p.number && nat_le p.number high)) places.now }
 {
-    entries
+    places
         .iter()
-        .filter(|entry| low <= entry.number && entry.number <= high)
+        .filter(|place| place.live && low <= place.number && place.number <= high)
         .count() as u64
 }

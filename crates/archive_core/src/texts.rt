@@ -1,15 +1,16 @@
 //! Adds the own id and the blob id of a text to an index, and removes them.
-ghost use Rattle.std.specs.Prelude.{◌≡◌, IsSome, Some, None, IfOk, OnOk, OnErr};
+ghost use Rattle.std.specs.Prelude.{◌≡◌, IsSome, Some, IfOk, OnOk, OnErr};
 ghost use Rattle.mail_reader.specs.Ids.{own_id as own_id_in};
-ghost use Rattle.arch_judge.specs.Indexes.{HasSame, number_in};
-ghost use Rattle.archive_core.specs.Kept.{PutsText, TakesBackText};
+ghost use Rattle.arch_judge.specs.Indexes.{HasSame};
+ghost use Rattle.archive_core.specs.Kept.{PutsText, TakesBackText, LosesText};
 
 use arch_base::{NoMemory, ObjectId};
 use arch_judge::{Index, Owner};
 use mail_reader::{content_id, own_id};
 use std::alloc::Global;
 
-/// Adds a text with a new blob id to an index. An error leaves the index unchanged.
+/// Adds a text to an index. An older entry with its blob id stays. An error leaves the index
+/// unchanged.
 pub(crate) fn put_text(
     alloc: Global,
     index: &mut Index,
@@ -18,7 +19,6 @@ pub(crate) fn put_text(
     number: u32,
 ) -> Result<(), NoMemory>
     requires own { IsSome (own_id_in text.now) }
-    requires unseen { number_in index.old.blobs blob.0 ≡ None }
     ensures ok { OnOk result (PutsText index.old index.new text.now blob number) }
     ensures err { OnErr result (HasSame index.old index.new) }
 {
@@ -30,12 +30,21 @@ pub(crate) fn put_text(
     index.insert(id, blob, owner)
 }
 
-/// Removes a text from an index.
-pub(crate) fn take_text(index: &mut Index, text: &[u8], blob: &ObjectId)
-    ensures { TakesBackText index.old index.new text.now blob.now }
+/// Takes a text back from an index, which was added last, with a new own id and a new number.
+pub(crate) fn take_text(index: &mut Index, text: &[u8], blob: &ObjectId, number: u32)
+    ensures { TakesBackText index.old index.new text.now blob.now number }
 {
     if let Some(id) = own_id(text) {
-        index.remove(id, blob);
+        index.take_back(id, blob, number);
+    }
+}
+
+/// Removes the own id of a text from an index. Its blob id stays.
+pub(crate) fn end_text(index: &mut Index, text: &[u8])
+    ensures { LosesText index.old index.new text.now }
+{
+    if let Some(id) = own_id(text) {
+        index.remove(id);
     }
 }
 

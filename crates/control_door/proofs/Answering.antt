@@ -6,7 +6,7 @@ use Rattle.line_door.specs.Making.{closes}
 use Rattle.edge_io.specs.Phrases.{Says}
 use Rattle.edge_io.specs.declared.sink.SinkFault.{SinkFault}
 use Rattle.line_door.proofs.Acting.{acts-by_held, acts-closing, acts-silent}
-use Rattle.arch_model.specs.Archives.{Archive, text_of}
+use Rattle.arch_model.specs.Archives.{Archive, live, text_of}
 use Rattle.arch_model.specs.Delivery.{delivered, answer_line}
 use Rattle.arch_model.specs.Keeping.{Moves, OnlyRead, Comes, AnswerCause}
 use Rattle.arch_model.specs.Shelves.{IsUndamaged, ReadingWhy}
@@ -28,16 +28,16 @@ use Rattle.control_door.proofs.Holding.{turn-went, turn-opened}
 -- Acts at requests that change no archive.
 
 -- A text is said.
-pub acts-shown : (moment : ℕ) (s : Standing) (number : ℕ) (text rest : List ℕ) (i j : Outside) (sent : Result Unit SinkFault) → text_of s.archive.entries number ≡ Some text → j.disk ≡ i.disk → Says (shown 0 (Some text)) i.out i.lost j.out j.lost sent
+pub acts-shown : (moment : ℕ) (s : Standing) (number : ℕ) (text rest : List ℕ) (i j : Outside) (sent : Result Unit SinkFault) → text_of (live s.archive.entries) number ≡ Some text → j.disk ≡ i.disk → Says (shown 0 (Some text)) i.out i.lost j.out j.lost sent
     → Acts (said_to moment s (Shows number) rest) i (held_if (is_ok sent) (waiting rest false)) s j
 acts-shown moment s number text rest i j sent is kept words =
     acts-by_held (said_to moment s (Shows number) rest) Plain (goes_on rest (shown number (Some text)) s) i j (waiting rest false) s sent (rw is refl) refl kept (omega (arith, kept)) words refl
 
 -- A number without a text.
-pub acts-hidden : (moment : ℕ) (s : Standing) (number : ℕ) (rest : List ℕ) (i j : Outside) (sent : Result Unit SinkFault) → is_some (text_of s.archive.entries number) ≡ false → j.disk ≡ i.disk → Says (shown number None) i.out i.lost j.out j.lost sent
+pub acts-hidden : (moment : ℕ) (s : Standing) (number : ℕ) (rest : List ℕ) (i j : Outside) (sent : Result Unit SinkFault) → is_some (text_of (live s.archive.entries) number) ≡ false → j.disk ≡ i.disk → Says (shown number None) i.out i.lost j.out j.lost sent
     → Acts (said_to moment s (Shows number) rest) i (held_if (is_ok sent) (waiting rest false)) s j
 acts-hidden moment s number rest i j sent none kept words =
-    acts-by_held (said_to moment s (Shows number) rest) Plain (goes_on rest (shown number None) s) i j (waiting rest false) s sent (rw (none_of (text_of s.archive.entries number) none) refl) refl kept (omega (arith, kept)) words refl
+    acts-by_held (said_to moment s (Shows number) rest) Plain (goes_on rest (shown number None) s) i j (waiting rest false) s sent (rw (none_of (text_of (live s.archive.entries) number) none) refl) refl kept (omega (arith, kept)) words refl
   where
     none_of : (text : Option (List ℕ)) → is_some text ≡ false → text ≡ None
     none_of None h = refl

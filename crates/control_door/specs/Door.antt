@@ -5,7 +5,7 @@ use Rattle.line_door.specs.Acts.{Said, Way}
 use Rattle.line_door.specs.Making.{says, closes, in_ways}
 use Rattle.line_door.specs.Plain.{silent}
 use Rattle.disk_model.specs.Sizes.{epoch_count}
-use Rattle.arch_model.specs.Archives.{Entry, text_of, in_epoch}
+use Rattle.arch_model.specs.Archives.{Entry, live, text_of, in_epoch}
 use Rattle.arch_model.specs.Epochs.{epoch_bytes}
 use Rattle.arch_model.specs.Delivery.{Done, delivered, answer_line}
 use Rattle.arch_model.specs.Standing.{Standing, standing}
@@ -68,7 +68,7 @@ delivers done rest = goes_on rest (whole_line (answer_line done.answer)) (standi
 abbrev pub answered : ℕ → Standing → Request → List ℕ → Says
 answered moment s (Delivers message) rest = delivers (delivered s.archive message moment) rest
 answered moment s (Shows number) rest =
-    goes_on rest (shown number (text_of s.archive.entries number)) s
+    goes_on rest (shown number (text_of (live s.archive.entries) number)) s
 answered moment s Lists rest = goes_on rest (epochs_words s.archive.entries) s
 answered moment s Quits rest = closes s []
 answered moment s Mistakes rest = goes_on rest bad_word s

@@ -5,7 +5,7 @@ use Rattle.std.specs.List.{AllByRecursion, filter}
 use Rattle.disk_model.specs.Disk.{Files, bytes_of}
 use Rattle.disk_model.specs.Sizes.{epoch_count}
 use Rattle.git_objects.specs.Objects.{blob_id_of}
-use Rattle.arch_model.specs.Archives.{Entry, in_epoch}
+use Rattle.arch_model.specs.Archives.{Entry, in_epoch, messages as delivered}
 use Rattle.mail_commits.specs.Entries.{magic}
 use Rattle.arch_model.specs.Epochs.{epoch_bytes, entries_bytes, last_commit}
 use Rattle.number_map.specs.declared.line.Record.{Record}
@@ -15,7 +15,7 @@ use Rattle.root_slots.specs.declared.root.Root.{Root}
 use Rattle.root_slots.specs.Valid.{no_place}
 use Rattle.root_change.specs.Texts.{Fronts}
 use Rattle.epoch_store.specs.Files.{epoch_file_of}
-use Rattle.arch_model.specs.Validity.{IsEntry, Rise, IdsDiffer, BlobsAgree}
+use Rattle.arch_model.specs.Validity.{IsEntry, Rise, AtEachPlace, EndsLive, LiveDiffer, BlobsAgree}
 use Rattle.epoch_store.specs.Stores.{in_file}
 
 -- Whether the number of a record has a message.
@@ -30,14 +30,16 @@ messages rs = filter has_message rs
 abbrev pub record_of : Entry → Record
 record_of e = record { number = e.number; epoch = e.epoch; blob = blob_id_of e.text }
 
--- These may be an archive's entries, and their records are the first of a map's that have a
--- message, followed by the others.
+-- These may be an archive's entries: numbers rise, each deletion ends a live message, the ids of live
+-- messages differ at each place, and each blob id has one text. The records of their messages are
+-- the first of a map's that have a message, followed by the others.
 pub record AreFirst (rs after : List Record) (entries : List Entry) : Type 0 where
   pub valid : AllByRecursion IsEntry entries
   pub order : Rise 1 0 entries
-  pub ids : IdsDiffer entries
+  pub ends : AtEachPlace (λ (before : List Entry) (e : Entry). EndsLive e.kind before e) [] entries
+  pub ids : AtEachPlace LiveDiffer [] entries
   pub blobs : BlobsAgree entries
-  pub records : messages rs ≡ map record_of entries ++ after
+  pub records : messages rs ≡ map record_of (delivered entries) ++ after
 
 -- The length of an epoch that a root names.
 abbrev pub named_length : Root → ℕ → ℕ
@@ -106,7 +108,8 @@ pub record LacksLast (root : Root) (files : Files) (rs : List Record) (epoch off
   pub offset_is : offset ≡ named_length root epoch
 
 -- An epoch is the first one that is damaged, at this offset: 0, or that of the first entry that
--- isn't there or isn't the next one of the map. If all epochs are whole, it is the end of the one
+-- isn't there or can't be the next one: a message that the map doesn't have next, or whose own id is
+-- live, a deletion of what isn't live, or another text of an older blob id. If all epochs are whole, it is the end of the one
 -- that should have the map's next message.
 abbrev pub IsFirstDamage : Root → Files → List Record → ℕ → ℕ → Type 0
 IsFirstDamage root files rs epoch offset =

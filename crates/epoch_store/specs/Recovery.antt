@@ -5,7 +5,7 @@ use Rattle.disk_model.specs.declared.name.FileKind.TheVariants as kind
 use Rattle.disk_model.specs.Disk.{Files}
 use Rattle.disk_model.specs.Sizes.{epoch_count}
 use Rattle.git_objects.specs.Objects.{blob_id_of}
-use Rattle.arch_model.specs.Archives.{Entry, Archive, in_epoch}
+use Rattle.arch_model.specs.Archives.{Entry, Archive, messages, in_epoch}
 use Rattle.arch_model.specs.Epochs.{epoch_bytes}
 use Rattle.number_map.specs.declared.line.Record.{Record}
 use Rattle.number_map.specs.Records.{record_bytes}
@@ -17,7 +17,7 @@ use Rattle.root_change.specs.Texts.{StandsFor, IsExact}
 use Rattle.root_change.specs.Parts.{Parts, texts_of}
 use Rattle.arch_model.specs.Validity.{IsArchive}
 
--- The entry of a number, if it has one.
+-- The first of some entries with a number, if there is one.
 abbrev pub entry_of : List Entry → ℕ → Option Entry
 entry_of [] n = None
 entry_of (e ∷ es) n = if e.number == n then Some e else entry_of es n
@@ -33,9 +33,9 @@ records_from entries n zero = []
 records_from entries n (suc count) =
     record_for n (entry_of entries n) ∷ records_from entries (n + 1) count
 
--- The records of an archive: one for each number below the next one.
+-- The records of an archive: one for each number below the next one, of its message, live or not.
 abbrev pub records_of : Archive → List Record
-records_of a = records_from a.entries 1 (a.next - 1)
+records_of a = records_from (messages a.entries) 1 (a.next - 1)
 
 -- The bytes of the map of an archive.
 abbrev pub map_bytes : Archive → List ℕ

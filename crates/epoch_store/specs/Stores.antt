@@ -1,16 +1,16 @@
 -- What a store keeps in memory of an archive, and which disk is its own.
-use Rattle.std.specs.Prelude.{◌-◌, ◌^◌, min, set, slice_get, ◌≡◌, ◌≢◌, ◌⊎◌, ◌+◌, ◌<◌, ◌≤◌, ◌==◌, ℕ, false, List, [], ◌∷◌, ◌++◌, length, get_or, Option, Some, None, if◌then◌else◌, Result, Ok, Err}
-use Rattle.std.specs.List.{AllByRecursion}
+use Rattle.std.specs.Prelude.{◌-◌, ◌^◌, min, set, slice_get, Bool, not, ◌&&◌, ◌||◌, ◌≡◌, ◌≢◌, ◌⊎◌, ◌+◌, ◌<◌, ◌≤◌, ◌==◌, ℕ, false, List, [], ◌∷◌, ◌++◌, length, get_or, Option, Some, None, if◌then◌else◌, Result, Ok, Err}
+use Rattle.std.specs.List.{AllByRecursion, Contains}
 use Rattle.arch_base.specs.declared.ids.Id20.{Id20}
 use Rattle.disk_model.specs.Disk.{Files, Content, bytes_of}
 use Rattle.disk_model.specs.Sizes.{epoch_count, greatest_epoch, record_size}
 use Rattle.mail_reader.specs.StorageTexts.{IsStorageText}
 use Rattle.mail_reader.specs.Ids.{own_id}
 use Rattle.git_objects.specs.Objects.{blob_id_of}
-use Rattle.arch_model.specs.Archives.{Entry, Archive, with_entry, in_epoch}
-use Rattle.arch_model.specs.Delivery.{last_epoch, new_epoch}
+use Rattle.arch_model.specs.Archives.{Entry, Archive, message, deletion, is_message, with_entry, with_deletion, live, text_of, in_epoch}
+use Rattle.arch_model.specs.Delivery.{last_epoch, new_epoch, collision}
 use Rattle.arch_model.specs.Epochs.{entries_bytes, last_commit}
-use Rattle.mail_commits.specs.Entries.{message_kind}
+use Rattle.git_objects.specs.declared.entry_kind.EntryKind.TheVariants.{Message, Deletion}
 use Rattle.epoch_file.specs.declared.entry.NewEntry.{NewEntry}
 use Rattle.epoch_file.specs.Entries.{EpochEntry}
 use Rattle.epoch_file.specs.Walking.{seen_at}
@@ -37,7 +37,7 @@ pub record View : Type 0 where
 
 -- An entry as it is in its epoch's file.
 abbrev pub in_file : Entry → EpochEntry
-in_file e = record { kind = message_kind; text = e.text; moment = e.moment }
+in_file e = record { kind = e.kind; text = e.text; moment = e.moment }
 
 -- What is kept of an entry after others: its offset follows the epoch's first eight bytes and the
 -- other entries of its epoch.
@@ -95,14 +95,35 @@ pub record HasSizes (v : View) (k : Content) : Type 0 where
   pub epochs_long : (e : ℕ) → e < epoch_count → (get_or v.root.epochs e no_place).length
       ≤ length (bytes_of (k (epoch_file_of v.root e)).seen)
 
--- A new text would be accepted: the archive is no mirror and has a number left, the text is a
--- storage text, and no entry has its own id or its blob id.
+-- One of the entries that are kept is the deletion of a number.
+abbrev pub is_ended_in : List StoredEntry → ℕ → Bool
+is_ended_in [] n = false
+is_ended_in (e ∷ es) n = (not (is_message e.seen.kind) && e.number == n) || is_ended_in es n
+
+-- The live ones of the entries that are kept: the messages that no later entry ends.
+abbrev pub live_kept : List StoredEntry → List StoredEntry
+live_kept [] = []
+live_kept (e ∷ es) =
+    if is_message e.seen.kind && not (is_ended_in es e.number) then e ∷ live_kept es
+    else live_kept es
+
+-- A new text would be accepted by what is kept: the archive is no mirror and has a number left, the
+-- text is a storage text, and no live message has its own id.
 pub record Accepts (v : View) (text : List ℕ) : Type 0 where
   pub writable : v.root.config.mirror ≡ false
   pub number_left : v.root.next ≤ v.root.config.max
   pub storage : IsStorageText text
-  pub id : AllByRecursion (λ (e : StoredEntry). own_id text ≢ Some e.seen.id) v.entries
-  pub blob : AllByRecursion (λ (e : StoredEntry). blob_id_of text ≢ e.seen.blob) v.entries
+  pub id : AllByRecursion (λ (e : StoredEntry). own_id text ≢ Some e.seen.id) (live_kept v.entries)
+
+-- A removal would be accepted by what is kept: the archive is no mirror, and a live entry has the
+-- number, and the own id and the blob id of the text.
+pub record MayEnd (v : View) (number : ℕ) (text : List ℕ) : Type 0 where
+  pub writable : v.root.config.mirror ≡ false
+  pub entry : StoredEntry
+  pub is_live : Contains (live_kept v.entries) entry
+  pub number_is : entry.number ≡ number
+  pub id : own_id text ≡ Some entry.seen.id
+  pub blob : blob_id_of text ≡ entry.seen.blob
 
 -- The entries of a store are in epochs 0 to 63.
 abbrev pub InEpochs : List StoredEntry → Type 0
@@ -127,7 +148,18 @@ pub record IsNextPlace (root : Root) (a : Archive) (new_gen : ℕ) (p : NextPlac
 abbrev pub next_sequence : ℕ → ℕ
 next_sequence n = min (n + 1) (2 ^ 64 - 1)
 
--- The root after one more entry: the epoch's file ends here, and the map has one more record.
+-- The root after a deletion: the epoch's file ends here, and the map stays.
+abbrev pub root_ended : Root → NextPlace → ℕ → Root
+root_ended root p end_ = record {
+  config = root.config;
+  sequence = next_sequence root.sequence;
+  next = root.next;
+  map = root.map;
+  epochs = set root.epochs p.epoch (record { gen_ = p.gen_; length = end_ });
+  cache = root.cache;
+}
+
+-- The root after one more message: the epoch's file ends here, and the map has one more record.
 abbrev pub root_after : Root → NextPlace → ℕ → Root
 root_after root p end_ = record {
   config = root.config;
@@ -150,43 +182,81 @@ place_of root epoch parent = record {
 
 -- A new entry is a message after the last commit of its epoch.
 pub record IsMessage (p : NextPlace) (entry : NewEntry) : Type 0 where
-  pub kind : entry.kind ≡ message_kind
+  pub kind : entry.kind ≡ Message
   pub parent : entry.parent ≡ p.parent
 
--- This place is that of the next entry of the archive, its text would be accepted, and there is a
--- next root.
+-- A new entry is a deletion after the last commit of its epoch.
+pub record IsDeletion (p : NextPlace) (entry : NewEntry) : Type 0 where
+  pub kind : entry.kind ≡ Deletion
+  pub parent : entry.parent ≡ p.parent
+
+-- This place is that of the next entry of the archive, its text would be accepted and no other text
+-- has its blob id, and there is a next root.
 pub record GoesNext (v : View) (a : Archive) (p : NextPlace) (entry : NewEntry) : Type 0 where
   pub place : IsNextPlace v.root a (next_sequence v.root.sequence) p
   pub accepts : Accepts v entry.text.now
+  pub alone : collision a.entries entry.text.now ≡ None
+  pub room : v.root.sequence + 1 < 2 ^ 64
+
+-- This place is that of the next entry of the archive, the removal of a number would be accepted and
+-- this is its text, and there is a next root.
+pub record EndsNext (v : View) (a : Archive) (p : NextPlace) (number : ℕ) (entry : NewEntry)
+    : Type 0 where
+  pub place : IsNextPlace v.root a (next_sequence v.root.sequence) p
+  pub may : MayEnd v number entry.text.now
+  pub shown : text_of (live a.entries) number ≡ Some entry.text.now
   pub room : v.root.sequence + 1 < 2 ^ 64
 
 -- The archive with a new entry as a message.
 abbrev pub with_message : Archive → NextPlace → NewEntry → Archive
 with_message a p entry = with_entry a p.epoch entry.text.now entry.moment
 
--- What the store keeps after a new entry.
+-- The archive with a new entry as the deletion of a number.
+abbrev pub with_ending : Archive → NextPlace → ℕ → NewEntry → Archive
+with_ending a p number entry = with_deletion a number p.epoch entry.text.now entry.moment
+
+-- What the store keeps after a new message.
 abbrev pub view_after : View → Archive → Root → NextPlace → NewEntry → View
 view_after v a root p entry = record {
   root = root;
   slot = 1 - v.slot;
-  entries = v.entries ++ stored_at a.entries (record {
-    number = a.next;
-    epoch = p.epoch;
-    text = entry.text.now;
-    moment = entry.moment;
-  }) ∷ [];
+  entries = v.entries
+      ++ stored_at a.entries (message a.next p.epoch entry.text.now entry.moment) ∷ [];
 }
 
--- One more entry follows those that were kept. It has the next number and the ids of a text. The
--- next number is one more, and the settings stay.
+-- What the store keeps after the deletion of a number.
+abbrev pub view_ended : View → Archive → Root → NextPlace → ℕ → NewEntry → View
+view_ended v a root p number entry = record {
+  root = root;
+  slot = 1 - v.slot;
+  entries = v.entries
+      ++ stored_at a.entries (deletion number p.epoch entry.text.now entry.moment) ∷ [];
+}
+
+-- One more message follows the entries that were kept. It has the next number and the ids of a text.
+-- The next number is one more, and the settings stay.
 pub record AddsEntry (old new : View) (text : List ℕ) : Type 0 where
   pub entry : StoredEntry
   pub entries : new.entries ≡ old.entries ++ entry ∷ []
+  pub kind : entry.seen.kind ≡ Message
   pub number : entry.number ≡ old.root.next
   pub id : own_id text ≡ Some entry.seen.id
   pub blob : entry.seen.blob ≡ blob_id_of text
   pub content : entry.seen.content ≡ content_id_of text
   pub next : new.root.next ≡ old.root.next + 1
+  pub config : new.root.config ≡ old.root.config
+
+-- The deletion of a number follows the entries that were kept. It has the ids of a text. The next
+-- number and the settings stay.
+pub record EndsEntry (old new : View) (number : ℕ) (text : List ℕ) : Type 0 where
+  pub entry : StoredEntry
+  pub entries : new.entries ≡ old.entries ++ entry ∷ []
+  pub kind : entry.seen.kind ≡ Deletion
+  pub number_is : entry.number ≡ number
+  pub id : own_id text ≡ Some entry.seen.id
+  pub blob : entry.seen.blob ≡ blob_id_of text
+  pub content : entry.seen.content ≡ content_id_of text
+  pub next : new.root.next ≡ old.root.next
   pub config : new.root.config ≡ old.root.config
 
 -- A call that doesn't read never returns `Damaged`.

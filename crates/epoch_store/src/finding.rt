@@ -1,7 +1,7 @@
 //! Reads an archive's files, from the root to the last epoch. Changes nothing.
 ghost use Rattle.std.specs.Prelude.{◌≡◌, ◌≢◌, ◌+◌, ◌<◌, ◌≤◌, Err, IfOk, get_or};
 ghost use Rattle.arch_base.specs.Counts.{Rose, RoseIf};
-ghost use Rattle.disk_model.specs.Disk.{Files, Image, Told, WhereTold, Unchanged, LeavesOnly};
+ghost use Rattle.disk_model.specs.Disk.{Image, Told, WhereTold, Unchanged, LeavesOnly};
 ghost use Rattle.disk_model.specs.Sizes.{epoch_count, greatest_epoch};
 ghost use Rattle.arch_model.specs.declared.opening.OpenRefusal.{OpenRefusal};
 ghost use Rattle.epoch_file.specs.Runs.{OnlyReads};
@@ -105,16 +105,27 @@ fn find_records<D: Disk>(alloc: Global, disk: &mut D, root: &Root) -> Result<Rec
 /// Joins the entries of an epoch to others.
 ///
 /// `Damaged` has the offset of the first entry that can't be joined.
-fn take(root: &Root, epoch: u32, joining: Joining, seen: SeenList) -> Result<Joining, OpenRefusal>
+fn take<D: Disk>(
+    alloc: Global,
+    disk: &mut D,
+    root: &Root,
+    epoch: u32,
+    joining: Joining,
+    seen: SeenList,
+) -> Result<Joining, OpenRefusal>
     requires small { epoch ≤ greatest_epoch }
     requires before { AreBefore epoch joining.entries }
-    ensures taken { (files : Files) → ReadsSeen root.now epoch joining seen result files }
+    ensures taken { WhereTold (λ k.
+        ReadsSeen root.now epoch joining seen result (as_read k)) (D.content disk.old) }
     ensures below { IfOk result (λ joined. AreBefore (epoch + 1) joined.entries) }
-    ensures no_fault { result ≢ Err OpenRefusal.DiskFault }
+    ensures reads { OnlyReads D.content D.moment D.left_since D.faults disk.old disk.new }
+    ensures fault { result ≡ Err OpenRefusal.DiskFault
+        → Rose (D.faults disk.old) (D.faults disk.new) }
 {
     law_of_entries();
-    match joining.take_epoch(epoch, seen) {
+    match joining.take_epoch(alloc, disk, root, epoch, seen) {
         Ok(next) => Ok(next),
+        Err(JoinRefusal::DiskFault) => Err(OpenRefusal::DiskFault),
         Err(JoinRefusal::NoMemory) => Err(OpenRefusal::NoMemory),
         Err(JoinRefusal::Damaged { at }) => Err(OpenRefusal::Damaged {
             file: named_file(root, epoch),
@@ -127,18 +138,29 @@ fn take(root: &Root, epoch: u32, joining: Joining, seen: SeenList) -> Result<Joi
 ///
 /// `Damaged` has the offset of the first of these entries that can't be joined to others, or `at`
 /// if all can.
-fn stop_in(root: &Root, epoch: u32, joining: Joining, at: u64, seen: SeenList) -> OpenRefusal
+fn stop_in<D: Disk>(
+    alloc: Global,
+    disk: &mut D,
+    root: &Root,
+    epoch: u32,
+    joining: Joining,
+    at: u64,
+    seen: SeenList,
+) -> OpenRefusal
     requires small { epoch ≤ greatest_epoch }
     requires past { 8 < at }
     requires before { AreBefore epoch joining.entries }
-    ensures stops { (files : Files) → StopsSeen root.now epoch joining at seen result files }
-    ensures no_fault { result ≢ OpenRefusal.DiskFault }
+    ensures stops { WhereTold (λ k.
+        StopsSeen root.now epoch joining at seen result (as_read k)) (D.content disk.old) }
+    ensures reads { OnlyReads D.content D.moment D.left_since D.faults disk.old disk.new }
+    ensures fault { result ≡ OpenRefusal.DiskFault → Rose (D.faults disk.old) (D.faults disk.new) }
 {
     law_of_entries();
     law_of_epochs();
     let file = named_file(root, epoch);
-    match joining.take_epoch(epoch, seen) {
+    match joining.take_epoch(alloc, disk, root, epoch, seen) {
         Ok(_joined) => return OpenRefusal::Damaged { file, at },
+        Err(JoinRefusal::DiskFault) => return OpenRefusal::DiskFault,
         Err(JoinRefusal::NoMemory) => return OpenRefusal::NoMemory,
         Err(JoinRefusal::Damaged { at: first }) => return OpenRefusal::Damaged { file, at: first },
     }
@@ -170,7 +192,7 @@ fn stop_at<D: Disk>(
         return OpenRefusal::Damaged { file, at };
     }
     match epoch_file::walk(alloc, disk, file, at) {
-        Ok(seen) => stop_in(root, epoch, joining, at, seen),
+        Ok(seen) => stop_in(alloc, disk, root, epoch, joining, at, seen),
         // The bytes before the offset are an epoch.
         Err(WalkRefusal::Damaged { at: _ }) => OpenRefusal::Damaged { file, at },
         Err(WalkRefusal::DiskFault) => OpenRefusal::DiskFault,
@@ -203,7 +225,7 @@ fn join_epoch<D: Disk>(
         return Ok(joining);
     }
     match epoch_file::walk(alloc, disk, named_file(root, epoch), length) {
-        Ok(seen) => take(root, epoch, joining, seen),
+        Ok(seen) => take(alloc, disk, root, epoch, joining, seen),
         Err(WalkRefusal::Damaged { at }) => Err(stop_at(alloc, disk, root, epoch, joining, at)),
         Err(WalkRefusal::DiskFault) => Err(OpenRefusal::DiskFault),
         Err(WalkRefusal::NoMemory) => Err(OpenRefusal::NoMemory),

@@ -1,38 +1,52 @@
 //! Joins the entries of the epochs to the records of the map.
-ghost use Rattle.std.specs.Prelude.{◌≡◌, ◌+◌, ◌<◌, ◌≤◌, [], IfOk, IfErr};
+ghost use Rattle.std.specs.Prelude.{◌≡◌, ◌≢◌, ◌+◌, ◌<◌, ◌≤◌, ◌++◌, ◌∷◌, ℕ, List, [], true, Err, IfOk, IfErr};
+ghost use Rattle.arch_base.specs.Counts.{Rose};
+ghost use Rattle.disk_model.specs.Disk.{WhereTold, bytes_of};
 ghost use Rattle.disk_model.specs.Sizes.{epoch_count, greatest_epoch};
 ghost use Rattle.epoch_store.specs.Damage.{messages};
-ghost use Rattle.epoch_store.specs.Joined.{Wants, JoinsOne, AreBefore, TakesEpoch, Finishes};
+ghost use Rattle.git_objects.specs.declared.entry_kind.EntryKind.TheVariants.{Message, Deletion};
+ghost use Rattle.epoch_file.specs.Runs.{OnlyReads};
+ghost use Rattle.epoch_store.specs.Files.{as_read, epoch_file_of};
+ghost use Rattle.epoch_store.specs.Joined.{Wants, JoinsOne, AreBefore, ComparesText, JoinsByText, TakesEpoch, Finishes, TextIn, entry_seen};
+ghost use Rattle.epoch_store.specs.declared.known.JoinRefusal.{JoinRefusal};
 
 use crate::entries::StoredEntry;
-use crate::known::{JoinRefusal, Known, Unmatched, add_blob, add_id, known_of_none};
+use crate::known::{JoinRefusal, Known, Unmatched, add_first, add_id, add_number, known_of_none};
+use crate::reads::read_text;
 use arch_base::NoMemory;
-use disk_model::EPOCHS;
+use arch_model::TextRefusal;
+use disk_model::{Disk, EPOCHS};
 use epoch_file::{Seen, SeenList};
 use git_objects::EntryKind;
 use number_map::{Record, Records};
+use root_change::epoch_file;
+use root_slots::Root;
 use std::alloc::{AllocError, Global};
 use std::marker::Model;
 
 /// The records of a map that have a message, and the entries so far.
 ///
-/// These are the entries of the first records, in order, each with an own id and a blob id that no
-/// other has.
+/// The messages among these are those of the first records, in order. The own ids of live entries
+/// differ, each deletion ends a live entry, and each blob id has one text.
 #[derive(Drop)]
 pub(crate) struct Joining {
     records: Vec<Record>,
     known: Known,
     entries: Vec<StoredEntry>,
+    /// How many of the entries are messages.
+    count: usize,
 }
 
 impl Model for Joining {
-    ghost use Rattle.epoch_store.specs.Joined.{Joined, AreKnown, HaveEpochs};
+    ghost use Rattle.std.specs.Prelude.{◌≡◌};
+    ghost use Rattle.epoch_store.specs.Joined.{Joined, AreKnown, HaveEpochs, message_count};
 
     ghost Value = { Joined };
 
     ghost view = { λ j. record { records = j.records.items; entries = j.entries.items } };
 
-    ghost invariant = { λ j. AreKnown j.entries.items j.known × HaveEpochs j.records.items };
+    ghost invariant = { λ j. AreKnown j.entries.items j.known × HaveEpochs j.records.items
+        × (j.count ≡ message_count j.entries.items) };
 }
 
 /// Returns the records that have a message.
@@ -58,6 +72,7 @@ impl Joining {
             records,
             known: known_of_none(alloc),
             entries: Vec::new(alloc),
+            count: 0,
         })
     }
 
@@ -68,7 +83,7 @@ impl Joining {
         let EntryKind::Message = seen.kind else {
             return None;
         };
-        let record = self.records.get(self.entries.len())?;
+        let record = self.records.get(self.count)?;
         if record.epoch != epoch {
             return None;
         }
@@ -78,11 +93,12 @@ impl Joining {
         Some(record.number)
     }
 
-    /// Joins one more entry.
+    /// Joins one more message.
     ///
-    /// `Damaged` has the entry's offset if it isn't the next record's or lacks ids of its own.
-    fn take_one(self, epoch: u32, seen: Seen) -> Result<Joining, JoinRefusal>
-        ensures { JoinsOne self epoch seen result }
+    /// `Damaged` has the entry's offset if it isn't the next record's, or if its own id is live.
+    fn take_message(self, epoch: u32, seen: Seen) -> Result<Joining, JoinRefusal>
+        requires { seen.kind ≡ Message }
+        ensures { JoinsOne self epoch seen true result }
     {
         let at = seen.at;
         let Some(number) = self.wanted(epoch, &seen) else {
@@ -91,48 +107,146 @@ impl Joining {
         let Joining {
             records,
             mut known,
-            mut entries,
+            entries,
+            count,
         } = self;
         let alloc = *entries.allocator();
         if !add_id(alloc, &mut known.ids, &seen.id)? {
             return Err(JoinRefusal::Damaged { at });
         }
-        if !add_blob(&mut known.blobs, &seen.blob)? {
-            return Err(JoinRefusal::Damaged { at });
-        }
-        if entries
-            .push(StoredEntry {
-                number,
-                epoch,
-                seen,
-            })
-            .is_err()
-        {
-            return Err(JoinRefusal::NoMemory);
-        }
+        add_number(&mut known.numbers, &seen.blob, number)?;
+        add_first(&mut known.firsts, &seen.blob, entries.len())?;
+        let entries = with_entry(entries, number, epoch, seen)?;
         Ok(Joining {
             records,
             known,
             entries,
+            count: count + 1,
         })
+    }
+
+    /// Joins one more deletion.
+    ///
+    /// `Damaged` has the entry's offset if no live entry has its blob id.
+    fn take_deletion(self, epoch: u32, seen: Seen) -> Result<Joining, JoinRefusal>
+        requires { seen.kind ≡ Deletion }
+        ensures { JoinsOne self epoch seen true result }
+    {
+        let at = seen.at;
+        let Joining {
+            records,
+            mut known,
+            entries,
+            count,
+        } = self;
+        let Some(number) = known.numbers.remove(&seen.blob.0) else {
+            return Err(JoinRefusal::Damaged { at });
+        };
+        let _ = known.ids.remove(seen.id.as_slice());
+        let entries = with_entry(entries, number, epoch, seen)?;
+        Ok(Joining {
+            records,
+            known,
+            entries,
+            count,
+        })
+    }
+
+    /// Joins one more entry, if an older one with its blob id has the same text.
+    ///
+    /// `Damaged` has the entry's offset if it hasn't, or if the entry can't be the next.
+    fn take_one(self, epoch: u32, seen: Seen, same: bool) -> Result<Joining, JoinRefusal>
+        ensures { JoinsOne self epoch seen same result }
+    {
+        if !same {
+            return Err(JoinRefusal::Damaged { at: seen.at });
+        }
+        match seen.kind {
+            EntryKind::Message => self.take_message(epoch, seen),
+            EntryKind::Deletion => self.take_deletion(epoch, seen),
+        }
+    }
+
+    /// Returns whether the first entry with the blob id of an entry, if there is one, has the same
+    /// text. Both texts are read.
+    fn has_same<D: Disk>(
+        &self,
+        alloc: Global,
+        disk: &mut D,
+        root: &Root,
+        epoch: u32,
+        seen: &Seen,
+    ) -> Result<bool, JoinRefusal>
+        requires small { epoch ≤ greatest_epoch }
+        ensures compared { WhereTold (λ k.
+            ComparesText root.now self.now epoch seen.now result (as_read k)) (D.content disk.old) }
+        ensures reads { OnlyReads D.content D.moment D.left_since D.faults disk.old disk.new }
+        ensures fault { result ≡ Err JoinRefusal.DiskFault
+            → Rose (D.faults disk.old) (D.faults disk.new) }
+    {
+        let Some(first) = self.known.firsts.get(&seen.blob.0) else {
+            return Ok(true);
+        };
+        let Some(older) = self.entries.get(*first) else {
+            return Ok(true);
+        };
+        let old = seen_text(alloc, disk, root, older.epoch, &older.seen)?;
+        let new = seen_text(alloc, disk, root, epoch, seen)?;
+        Ok(old.as_slice() == new.as_slice())
+    }
+
+    /// Joins the next entry of an epoch's file.
+    fn join_next<D: Disk>(
+        self,
+        alloc: Global,
+        disk: &mut D,
+        root: &Root,
+        epoch: u32,
+        seen: Seen,
+    ) -> Result<Joining, JoinRefusal>
+        requires small { epoch ≤ greatest_epoch }
+        ensures joined { WhereTold (λ k.
+            JoinsByText root.now self epoch seen result (as_read k)) (D.content disk.old) }
+        ensures below { (most : ℕ) → AreBefore most self.entries → epoch < most
+            → IfOk result (λ joining. AreBefore most joining.entries) }
+        ensures reads { OnlyReads D.content D.moment D.left_since D.faults disk.old disk.new }
+        ensures fault { result ≡ Err JoinRefusal.DiskFault
+            → Rose (D.faults disk.old) (D.faults disk.new) }
+    {
+        match self.has_same(alloc, disk, root, epoch, &seen) {
+            Ok(same) => self.take_one(epoch, seen, same),
+            Err(refusal) => Err(refusal),
+        }
     }
 
     /// Joins the entries of an epoch's file, in order.
     ///
     /// Epochs are taken one after the other, each at most once.
     ///
-    /// `Damaged` comes exactly if an entry isn't the message of the map's next record, or has the
-    /// own id or the blob id of an earlier one; it has the offset of the first such entry.
-    /// `NoMemory` comes only if memory runs out. An error drops everything.
-    pub(crate) fn take_epoch(self, epoch: u32, seen: SeenList) -> Result<Joining, JoinRefusal>
+    /// `Damaged` comes exactly if an entry can't be the next: a message that isn't that of the map's
+    /// next record or whose own id is live, a deletion of what isn't live, or another text of an
+    /// older blob id. It has the offset of the first such entry. `DiskFault` comes only if the disk's
+    /// count of faults rose, and `NoMemory` only if memory runs out. An error drops everything.
+    pub(crate) fn take_epoch<D: Disk>(
+        self,
+        alloc: Global,
+        disk: &mut D,
+        root: &Root,
+        epoch: u32,
+        seen: SeenList,
+    ) -> Result<Joining, JoinRefusal>
         requires small { epoch ≤ greatest_epoch }
         requires before { AreBefore epoch self.entries }
-        ensures taken { TakesEpoch self epoch seen result }
+        ensures taken { WhereTold (λ k.
+            TakesEpoch root.now self epoch seen result (as_read k)) (D.content disk.old) }
         ensures below { IfOk result (λ joining. AreBefore (epoch + 1) joining.entries) }
+        ensures reads { OnlyReads D.content D.moment D.left_since D.faults disk.old disk.new }
+        ensures fault { result ≡ Err JoinRefusal.DiskFault
+            → Rose (D.faults disk.old) (D.faults disk.new) }
     {
         let mut joining = self;
         for entry in seen.into_vec() {
-            match joining.take_one(epoch, entry) {
+            match joining.join_next(alloc, disk, root, epoch, entry) {
                 Err(refusal) => return Err(refusal),
                 Ok(next) => joining = next,
             }
@@ -152,12 +266,60 @@ impl Joining {
             records,
             known: _,
             entries,
+            count,
         } = self;
-        match records.get(entries.len()) {
+        match records.get(count) {
             None => Ok(entries),
             Some(record) => Err(Unmatched {
                 epoch: record.epoch,
             }),
         }
+    }
+}
+
+/// Appends an entry without its text.
+fn with_entry(
+    entries: Vec<StoredEntry>,
+    number: u32,
+    epoch: u32,
+    seen: Seen,
+) -> Result<Vec<StoredEntry>, NoMemory>
+    ensures { IfOk result (λ more. more.items ≡ entries.items ++ entry_seen number epoch seen ∷ []) }
+{
+    let mut entries = entries;
+    entries.push(StoredEntry {
+        number,
+        epoch,
+        seen,
+    })?;
+    Ok(entries)
+}
+
+/// Reads the text of an entry of an epoch.
+fn seen_text<D: Disk>(
+    alloc: Global,
+    disk: &mut D,
+    root: &Root,
+    epoch: u32,
+    seen: &Seen,
+) -> Result<Vec<u8>, JoinRefusal>
+    ensures text { IfOk result (λ text. WhereTold (λ k. (read : List ℕ)
+        → TextIn (bytes_of (as_read k (epoch_file_of root.now epoch))) seen.now read
+        → text.items ≡ read) (D.content disk.old)) }
+    ensures never { (at : ℕ) → result ≢ Err (JoinRefusal.Damaged at) }
+    ensures reads { OnlyReads D.content D.moment D.left_since D.faults disk.old disk.new }
+    ensures fault { result ≡ Err JoinRefusal.DiskFault
+        → Rose (D.faults disk.old) (D.faults disk.new) }
+{
+    let gen_ = match root.epochs.get(epoch as usize) {
+        Some(place) => place.gen_,
+        None => 0,
+    };
+    match read_text(alloc, disk, epoch_file(epoch, gen_), seen.text_at, seen.size) {
+        Ok(text) => Ok(text),
+        Err(TextRefusal::DiskFault) => Err(JoinRefusal::DiskFault),
+        // A read finds no damage.
+        Err(TextRefusal::Damaged { .. }) => Err(JoinRefusal::NoMemory),
+        Err(TextRefusal::NoMemory) => Err(JoinRefusal::NoMemory),
     }
 }

@@ -1,10 +1,11 @@
-//! The own ids and the blob ids of the entries of an archive that is being opened.
-ghost use Rattle.std.specs.Prelude.{◌≡◌, [], IfOk};
-ghost use Rattle.epoch_store.specs.Joined.{AddsOne, id_in, blob_in};
+//! What is known of the entries of an archive that is being opened.
+ghost use Rattle.std.specs.Prelude.{◌≡◌, ℕ, List, [], Some, None, IfOk, OnOk, if◌then◌else◌};
+ghost use Rattle.std.specs.Str.{bytes_eq};
+ghost use Rattle.epoch_store.specs.Joined.{AddsOne, id_in, value_in, first_of};
 
 use arch_base::{Bytes, NoMemory, ObjectId};
 use std::alloc::Global;
-use std::collections::BTreeSet;
+use std::collections::{BTreeMap, BTreeSet};
 use thiserror::Error;
 
 /// Why the entries of an epoch weren't joined to the records of the map.
@@ -13,7 +14,10 @@ pub(crate) enum JoinRefusal {
     /// A call ran out of memory.
     #[error("out of memory")]
     NoMemory,
-    /// An entry isn't the next one of the map, or lacks ids of its own.
+    /// The disk failed while a text was read.
+    #[error("the disk failed")]
+    DiskFault,
+    /// An entry can't be the next one.
     #[error("the entry at {at} does not belong there")]
     Damaged {
         /// The offset of the entry in its epoch's file, in bytes.
@@ -40,21 +44,27 @@ pub(crate) struct Unmatched {
     pub epoch: u32,
 }
 
-/// The own ids and the blob ids of entries.
+/// What is known of the entries so far.
 #[derive(Drop)]
 pub(crate) struct Known {
+    /// The own ids of live entries.
     pub(crate) ids: BTreeSet<Vec<u8>>,
-    pub(crate) blobs: BTreeSet<[u8; 20]>,
+    /// The numbers of live entries by their blob ids.
+    pub(crate) numbers: BTreeMap<[u8; 20], u32>,
+    /// The index of the first entry with each blob id.
+    pub(crate) firsts: BTreeMap<[u8; 20], usize>,
 }
 
-/// Creates empty sets of ids.
+/// Returns what is known of no entries.
 pub(crate) fn known_of_none(alloc: Global) -> Known
     ensures ids { result.ids.keys ≡ [] }
-    ensures blobs { result.blobs.keys ≡ [] }
+    ensures numbers { result.numbers.entries ≡ [] }
+    ensures firsts { result.firsts.entries ≡ [] }
 {
     Known {
         ids: BTreeSet::new(alloc),
-        blobs: BTreeSet::new(alloc),
+        numbers: BTreeMap::new(alloc),
+        firsts: BTreeMap::new(alloc),
     }
 }
 
@@ -70,9 +80,30 @@ pub(crate) fn add_id(
     Ok(ids.insert(key)?)
 }
 
-/// Adds a blob id, and returns whether it is new.
-pub(crate) fn add_blob(blobs: &mut BTreeSet<[u8; 20]>, blob: &ObjectId) -> Result<bool, NoMemory>
-    ensures { IfOk result (AddsOne (blob_in blobs.old) (blob_in blobs.new) blob.now.0) }
+/// Makes a number that of the live entry with a blob id.
+pub(crate) fn add_number(
+    numbers: &mut BTreeMap<[u8; 20], u32>,
+    blob: &ObjectId,
+    number: u32,
+) -> Result<(), NoMemory>
+    ensures { OnOk result ((q : List ℕ) → value_in numbers.new q
+        ≡ (if bytes_eq q blob.now.0 then Some number else value_in numbers.old q)) }
 {
-    Ok(blobs.insert(blob.0)?)
+    numbers.insert(blob.0, number)?;
+    Ok(())
+}
+
+/// Makes an index that of the first entry with a blob id, unless there is an older one.
+pub(crate) fn add_first(
+    firsts: &mut BTreeMap<[u8; 20], usize>,
+    blob: &ObjectId,
+    index: usize,
+) -> Result<(), NoMemory>
+    ensures { OnOk result ((q : List ℕ) → value_in firsts.new q ≡ first_of (value_in firsts.old q)
+        (if bytes_eq q blob.now.0 then Some index else None)) }
+{
+    if firsts.get(&blob.0).is_none() {
+        firsts.insert(blob.0, index)?;
+    }
+    Ok(())
 }

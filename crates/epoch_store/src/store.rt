@@ -1,5 +1,5 @@
 //! The archive on a disk, as it is kept in memory.
-ghost use Rattle.std.specs.Prelude.{◌≡◌, ◌≤◌, ◌<◌, ◌+◌, ◌-◌, ◌^◌, ℕ, List, [], Err, Some, IsSome, IfOk, OnOk, OnErr, ◌==◌, if◌then◌else◌, decimal, length};
+ghost use Rattle.std.specs.Prelude.{◌≡◌, ◌≤◌, ◌<◌, ◌+◌, ◌-◌, ◌^◌, ℕ, List, [], Err, Some, None, IsSome, IfOk, OnOk, OnErr, ◌==◌, if◌then◌else◌, decimal, length};
 ghost use Rattle.arch_base.specs.Counts.{RoseIf};
 ghost use Rattle.disk_model.specs.Disk.{WhereTold, LeavesOnly};
 ghost use Rattle.disk_model.specs.Sizes.{greatest_epoch, epoch_count};
@@ -7,15 +7,15 @@ ghost use Rattle.disk_model.specs.Synced.{IsSettled};
 ghost use Rattle.mail_reader.specs.Ids.{own_id as own_id_in};
 ghost use Rattle.mail_reader.specs.Content.{content_id_of};
 ghost use Rattle.git_objects.specs.Objects.{blob_id_of};
-ghost use Rattle.arch_model.specs.Archives.{Archive, with_entry, empty_archive};
-ghost use Rattle.arch_model.specs.Delivery.{new_epoch};
+ghost use Rattle.arch_model.specs.Archives.{Archive, with_entry, with_deletion, live, text_of, empty_archive};
+ghost use Rattle.arch_model.specs.Delivery.{new_epoch, collision};
 ghost use Rattle.arch_base.specs.Moments.{last_moment};
 ghost use Rattle.epoch_file.specs.Appending.{written_of};
 ghost use Rattle.root_slots.specs.Valid.{IsRoot};
 ghost use Rattle.arch_base.specs.Configs.{IsConfig};
 ghost use Rattle.epoch_store.specs.First.{MakingLeaves, MakingAnswers, RefusesToMake};
 ghost use Rattle.epoch_store.specs.declared.refusal.InitRefusal.{InitRefusal};
-ghost use Rattle.epoch_store.specs.Stores.{IsDiskOf, IsStoreWith, Keeps, IsEnd, IsNextPlace, next_sequence, place_of, root_after, RecoversEitherWith, HasSizes, GoesOn, Accepts, IsMessage, GoesNext, with_message, view_after, stored_at, AddsEntry, SeesNoDamage};
+ghost use Rattle.epoch_store.specs.Stores.{IsDiskOf, IsStoreWith, Keeps, IsEnd, IsNextPlace, next_sequence, place_of, root_after, RecoversEitherWith, HasSizes, GoesOn, Accepts, MayEnd, IsMessage, IsDeletion, GoesNext, EndsNext, with_message, with_ending, view_after, view_ended, root_ended, stored_at, AddsEntry, EndsEntry, SeesNoDamage};
 
 use crate::entries::StoredEntry;
 use crate::first::{all_names, first_root, make, no_archive};
@@ -170,7 +170,26 @@ impl Store {
         root
     }
 
-    /// Appends an entry and its record, and replaces the root by the one that names them.
+    /// Returns the root after a deletion; the file of its epoch then ends at `end`.
+    fn ended_root(&self, place: &NextPlace, end: u64) -> Root
+        requires small { place.now.epoch ≤ greatest_epoch }
+        requires place { place.now ≡ place_of self.now.root place.now.epoch place.now.parent }
+        requires some { 0 < end }
+        ensures root { result ≡ root_ended self.now.root place.now end }
+        ensures valid { IsRoot result }
+        ensures goes_on { GoesOn self.now.root result }
+        ensures count { length self.now.root.epochs ≡ epoch_count }
+    {
+        let mut root = self.root.copy();
+        root.sequence = root.sequence.saturating_add(1);
+        root.epochs[place.epoch as usize] = Place {
+            gen_: place.gen_,
+            length: end,
+        };
+        root
+    }
+
+    /// Appends a message and its record, and replaces the root by the one that names them.
     fn write_entry<D: Disk>(
         &self,
         alloc: Global,
@@ -226,27 +245,81 @@ impl Store {
         Ok((root, written))
     }
 
+    /// Appends the deletion of a number, and replaces the root by the one that names it.
+    fn write_deletion<D: Disk>(
+        &self,
+        alloc: Global,
+        disk: &mut D,
+        place: &NextPlace,
+        number: u32,
+        entry: &NewEntry<'_>,
+    ) -> Result<(Root, Written), StoreRefusal>
+        requires small { place.now.epoch ≤ greatest_epoch }
+        requires place { place.now ≡ place_of self.now.root place.now.epoch place.now.parent }
+        requires short { place.now.length < 2 ^ 62 }
+        requires sizes { WhereTold (HasSizes self.now) (D.content disk.old) }
+        requires entry { IsDeletion place.now entry.now }
+        requires moment { entry.now.moment ≤ last_moment }
+        ensures any_moment { (a : Archive) (cache : List ℕ)
+            → IsStoreWith self.now cache a (D.content disk.old)
+            → EndsNext self.now a place.now number entry.now
+            → LeavesOnly D.moment D.left_since disk.old disk.new
+            (RecoversEitherWith cache a (with_ending a place.now number entry.now)) }
+        ensures done { (a : Archive) (cache : List ℕ)
+            → IsStoreWith self.now cache a (D.content disk.old)
+            → EndsNext self.now a place.now number entry.now
+            → IfOk result (λ made.
+            IsStoreWith (view_ended self.now a made.0 place.now number entry.now)
+            cache (with_ending a place.now number entry.now) (D.content disk.new)) }
+        ensures settled { OnOk result (WhereTold IsSettled (D.content disk.new)) }
+        ensures sizes { IfOk result (λ made. WhereTold (HasSizes (record {
+          root = made.0;
+          slot = 1 - self.now.slot;
+          entries = self.now.entries;
+        })) (D.content disk.new)) }
+        ensures root { IfOk result (λ made. made.0 ≡ root_ended self.now.root place.now made.1.end) }
+        ensures written { IfOk result (λ made. made.1 ≡ written_of place.now.length entry.now) }
+        ensures valid { IfOk result (λ made. IsRoot made.0) }
+        ensures goes_on { IfOk result (λ made. GoesOn self.now.root made.0) }
+        ensures refused { result ≡ Err StoreRefusal.NoMemory → disk.new ≡ disk.old }
+        ensures undamaged { SeesNoDamage result }
+        ensures cause { RoseIf (result ≡ Err StoreRefusal.DiskFault) (D.faults disk.old)
+            (D.faults disk.new) }
+        ensures count { D.reads disk.new ≡ D.reads disk.old }
+    {
+        let epoch = epoch_file(place.epoch, place.gen_);
+        let written = append_entry(alloc, disk, epoch, place.length, entry)?;
+        let root = self.ended_root(place, written.end);
+        let other = self.slot.other();
+        replace_root(disk, other, &self.root, &root)?;
+        let made = (root, written);
+        Ok(made)
+    }
+
     /// Returns what is kept of a new entry that was written.
     fn new_entry(
         &self,
         place: &NextPlace,
+        number: u32,
         entry: &NewEntry<'_>,
         written: &Written,
         id: Bytes,
     ) -> StoredEntry
         requires written { written.now ≡ written_of place.now.length entry.now }
         requires short { place.now.length < 2 ^ 62 }
-        requires entry { IsMessage place.now entry.now }
+        requires parent { entry.now.parent ≡ place.now.parent }
         requires id { own_id_in entry.now.text.now ≡ Some id }
         ensures epoch { result.epoch ≡ place.now.epoch }
-        ensures number { result.number ≡ self.now.root.next }
+        ensures number { result.number ≡ number }
+        ensures kind { result.seen.kind ≡ entry.now.kind }
         ensures id { result.seen.id ≡ id }
         ensures blob { result.seen.blob ≡ blob_id_of entry.now.text.now }
         ensures content { result.seen.content ≡ content_id_of entry.now.text.now }
         ensures stored { (a : Archive) → Keeps self.now a
             → IsNextPlace self.now.root a (next_sequence self.now.root.sequence) place.now
             → result ≡ stored_at a.entries (record {
-              number = a.next;
+              kind = entry.now.kind;
+              number = number;
               epoch = place.now.epoch;
               text = entry.now.text.now;
               moment = entry.now.moment;
@@ -254,7 +327,7 @@ impl Store {
     {
         let at = entry_offset(place.length);
         StoredEntry {
-            number: self.root.next,
+            number,
             epoch: place.epoch,
             seen: Seen {
                 kind: entry.kind,
@@ -288,12 +361,12 @@ impl Store {
         requires sizes { WhereTold (HasSizes self.old) (D.content disk.old) }
         ensures any_moment { (a : Archive) (cache : List ℕ)
             → IsStoreWith self.old cache a (D.content disk.old)
-            → self.old.root.sequence + 1 < 2 ^ 64
+            → self.old.root.sequence + 1 < 2 ^ 64 → collision a.entries text.now ≡ None
             → LeavesOnly D.moment D.left_since disk.old disk.new
             (RecoversEitherWith cache a (with_entry a (new_epoch a) text.now moment)) }
         ensures done { (a : Archive) (cache : List ℕ)
             → IsStoreWith self.old cache a (D.content disk.old)
-            → self.old.root.sequence + 1 < 2 ^ 64
+            → self.old.root.sequence + 1 < 2 ^ 64 → collision a.entries text.now ≡ None
             → OnOk result (IsStoreWith self.new cache (with_entry a (new_epoch a) text.now moment)
             (D.content disk.new)) }
         ensures settled { OnOk result (WhereTold IsSettled (D.content disk.new)) }
@@ -326,7 +399,76 @@ impl Store {
             parent: place.parent,
         };
         let (root, written) = self.write_entry(alloc, disk, &place, &entry)?;
-        let stored = self.new_entry(&place, &entry, &written, id);
+        let stored = self.new_entry(&place, self.root.next, &entry, &written, id);
+        // There is room for it.
+        let _ = self.entries.push(stored);
+        self.root = root;
+        self.slot = self.slot.other();
+        Ok(())
+    }
+
+    /// Appends the deletion of a live message, which has this number and text, at a moment in
+    /// seconds since 1970.
+    ///
+    /// No number is taken, and no record is written. At each moment a crash leaves the archive before
+    /// or the one with the deletion, and after `Ok` the latter. `DiskFault` comes only if the disk's
+    /// count of faults rose: one of the two archives is then there, and the store has to be reopened.
+    /// `NoMemory` comes only if memory runs out, or if the epoch's file has 2^62 bytes or more; then
+    /// nothing was done.
+    pub fn remove_entry<D: Disk>(
+        &mut self,
+        alloc: Global,
+        disk: &mut D,
+        number: u32,
+        text: &[u8],
+        moment: u64,
+    ) -> Result<(), StoreRefusal>
+        requires may { MayEnd self.old number text.now }
+        requires moment { moment ≤ last_moment }
+        requires sizes { WhereTold (HasSizes self.old) (D.content disk.old) }
+        ensures any_moment { (a : Archive) (cache : List ℕ)
+            → IsStoreWith self.old cache a (D.content disk.old)
+            → self.old.root.sequence + 1 < 2 ^ 64
+            → text_of (live a.entries) number ≡ Some text.now
+            → LeavesOnly D.moment D.left_since disk.old disk.new
+            (RecoversEitherWith cache a (with_deletion a number (new_epoch a) text.now moment)) }
+        ensures done { (a : Archive) (cache : List ℕ)
+            → IsStoreWith self.old cache a (D.content disk.old)
+            → self.old.root.sequence + 1 < 2 ^ 64
+            → text_of (live a.entries) number ≡ Some text.now
+            → OnOk result (IsStoreWith self.new cache
+            (with_deletion a number (new_epoch a) text.now moment) (D.content disk.new)) }
+        ensures settled { OnOk result (WhereTold IsSettled (D.content disk.new)) }
+        ensures sizes { OnOk result (WhereTold (HasSizes self.new) (D.content disk.new)) }
+        ensures sequence { OnOk result (self.new.root.sequence
+            ≡ next_sequence self.old.root.sequence) }
+        // The root is committed to the other slot, and each file is where the formats have it.
+        ensures goes_on { OnOk result (GoesOn self.old.root self.new.root) }
+        ensures slot { OnOk result (self.new.slot ≡ 1 - self.old.slot) }
+        ensures ended { OnOk result (EndsEntry self.old self.new number text.now) }
+        ensures same { OnErr result (self.new ≡ self.old) }
+        ensures refused { result ≡ Err StoreRefusal.NoMemory → disk.new ≡ disk.old }
+        ensures undamaged { SeesNoDamage result }
+        ensures cause { RoseIf (result ≡ Err StoreRefusal.DiskFault) (D.faults disk.old)
+            (D.faults disk.new) }
+        ensures count { D.reads disk.new ≡ D.reads disk.old }
+    {
+        let place = self.next_place();
+        if place.length >= MOST {
+            return Err(StoreRefusal::NoMemory);
+        }
+        let id = own_id_of(alloc, text)?;
+        let Ok(()) = self.entries.reserve(1) else {
+            return Err(StoreRefusal::NoMemory);
+        };
+        let entry = NewEntry {
+            kind: EntryKind::Deletion,
+            text,
+            moment,
+            parent: place.parent,
+        };
+        let (root, written) = self.write_deletion(alloc, disk, &place, number, &entry)?;
+        let stored = self.new_entry(&place, number, &entry, &written, id);
         // There is room for it.
         let _ = self.entries.push(stored);
         self.root = root;

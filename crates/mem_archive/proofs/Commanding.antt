@@ -1,7 +1,7 @@
 -- The archive in memory as a keeper of itself.
 use Rattle.std.proofs.Common.{◌≡◌, ℕ, Bool, true, List, ◌++◌, Option, Some, None, is_some, Ok, inl, inr, refl, sym, ap, subst, ◌∙◌}
 use Rattle.std.specs.List.{Contains}
-use Rattle.arch_model.specs.Archives.{Archive, text_of}
+use Rattle.arch_model.specs.Archives.{Archive, live, text_of}
 use Rattle.arch_model.specs.Delivery.{Done, Delivers}
 use Rattle.arch_model.specs.Standing.{Standing, standing, GivesTextIn}
 use Rattle.arch_model.specs.Keeping.{Fits, Moves, Settles, Comes, StaysReady, AnswerCause}
@@ -96,14 +96,14 @@ never-fails m n d answer.DiskFault never = absurd never
 never-fails m n d (answer.Damaged file at) never = absurd never
 
 -- A live number has a text.
-hidden-text : (m a : Archive) (n : ℕ) (old : List ℕ) → a ≡ m → None ≡ text_of m.entries n → is_some (text_of a.entries n) ≡ true → GivesTextIn a.entries n old old (Ok tt)
-hidden-text m a n old same none live =
-    let is : text_of a.entries n ≡ None = ap (λ (x : Archive). text_of x.entries n) same ∙ sym none in
-    let never : is_some {T = List ℕ} None ≡ true = sym (ap is_some is) ∙ live in
+hidden-text : (m a : Archive) (n : ℕ) (old : List ℕ) → a ≡ m → None ≡ text_of (live m.entries) n → is_some (text_of (live a.entries) n) ≡ true → GivesTextIn (live a.entries) n old old (Ok tt)
+hidden-text m a n old same none shown =
+    let is : text_of (live a.entries) n ≡ None = ap (λ (x : Archive). text_of (live x.entries) n) same ∙ sym none in
+    let never : is_some {T = List ℕ} None ≡ true = sym (ap is_some is) ∙ shown in
     absurd (cc)
 
-pub text-none : (m : Archive) (n : ℕ) (old : List ℕ) → None ≡ text_of m.entries n → ((a : Archive) → a ≡ m → is_some (text_of a.entries n) ≡ true) → (a : Archive) → a ≡ m → GivesTextIn a.entries n old old (Ok tt)
-text-none m n old none live a same = hidden-text m a n old same none (live a same)
+pub text-none : (m : Archive) (n : ℕ) (old : List ℕ) → None ≡ text_of (live m.entries) n → ((a : Archive) → a ≡ m → is_some (text_of (live a.entries) n) ≡ true) → (a : Archive) → a ≡ m → GivesTextIn (live a.entries) n old old (Ok tt)
+text-none m n old none shown a same = hidden-text m a n old same none (shown a same)
 
-pub text-some : (m : Archive) (n : ℕ) (old new text : List ℕ) → Some text ≡ text_of m.entries n → new ≡ old ++ text → (a : Archive) → a ≡ m → GivesTextIn a.entries n old new (Ok tt)
-text-some m n old new text some is a same = (text, ap (λ (x : Archive). text_of x.entries n) same ∙ sym some, is)
+pub text-some : (m : Archive) (n : ℕ) (old new text : List ℕ) → Some text ≡ text_of (live m.entries) n → new ≡ old ++ text → (a : Archive) → a ≡ m → GivesTextIn (live a.entries) n old new (Ok tt)
+text-some m n old new text some is a same = (text, ap (λ (x : Archive). text_of (live x.entries) n) same ∙ sym some, is)

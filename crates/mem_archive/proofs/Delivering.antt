@@ -1,28 +1,109 @@
--- What an archive in memory tells a verdict, and the answer that a refusal gives.
-use Rattle.std.specs.Prelude.{◌≡◌, ℕ, List, length, refl}
-use Rattle.std.proofs.Common.{◌∙◌, sym, ap, subst}
+-- What an archive in memory tells a verdict, what a verdict allows, and the answers to commands.
+use Rattle.std.specs.Prelude.{◌≡◌, ◌+◌, ◌≤◌, ℕ, Bool, true, false, List, length, Option, Some, None, IsSome, refl, if◌then◌else◌}
+use Rattle.std.proofs.Common.{◌∙◌, sym, ap, subst, arith}
 use Rattle.arch_base.specs.declared.config.Config.{Config}
-use Rattle.arch_model.specs.Archives.{Archive}
-use Rattle.arch_model.specs.Delivery.{Delivers, delivered}
-use Rattle.arch_judge.specs.Judging.{IsKnownBy, RefusesBy}
-use Rattle.arch_judge.specs.Indexes.{IsIndex}
-use Rattle.mem_archive.specs.Memory.{IsKept, archive_of}
+use Rattle.arch_base.specs.declared.ids.Id20.{Id20}
+use Rattle.mail_reader.specs.Ids.{own_id}
+use Rattle.git_objects.specs.Objects.{blob_id_of}
+use Rattle.arch_model.specs.Archives.{Archive, live, messages, text_of, owner, blob_number, with_deletion, IsFree}
+use Rattle.arch_model.specs.Delivery.{Delivers, delivered, delivered_kept, removed, removed_text, refused, collision, new_epoch}
+use Rattle.arch_model.specs.Shelves.{blob_text}
+use Rattle.arch_model.specs.Validity.{BlobsAgree}
+use Rattle.arch_model.proofs.Owners.{bytes_eq-refl, collision-alone, collision-first}
+use Rattle.arch_judge.specs.Judging.{IsKnownBy, RefusesBy, Compares, unless_same, MayCome, MayBeKept, TakesThis, TakesSame}
+use Rattle.arch_judge.specs.Indexes.{number_in}
+use Rattle.arch_judge.specs.declared.judging.Verdict.{Verdict}
+use Rattle.arch_judge.specs.declared.judging.Verdict.TheVariants.{Take, Compare, Refuse}
+use Rattle.arch_judge.proofs.Indexes.{unowned}
+use Rattle.arch_judge.proofs.Endings.{live-few}
+use Rattle.mem_archive.specs.Memory.{IsKept, MayKeep, archive_of, entries_of}
 use Rattle.arch_model.specs.Standing.{IsUntouched}
 use Rattle.arch_model.specs.declared.answer.Answer.{Answer}
 use Rattle.arch_model.specs.declared.answer.Answer.TheVariants as answer
 use Rattle.arch_judge.specs.declared.index.Index.{Index}
 use Rattle.mem_archive.specs.declared.kept.End.{End}
 use Rattle.mem_archive.specs.declared.kept.Kept.{Kept}
-use Rattle.mem_archive.proofs.Keeping.{length-entries_from}
+use Rattle.mem_archive.specs.declared.kept.Place.{Place}
+use Rattle.mem_archive.proofs.Lines.{length-entries_of, blob_in-some}
 
--- What an archive in memory keeps tells its settings, messages and next number.
-pub kept_known : (config : Config) (ks : List Kept) (index : Index) (end_ : End) (a : Archive) (count next : ℕ) → archive_of config ks ≡ a → IsKept config ks index end_ → count ≡ length ks → next ≡ a.next → IsKnownBy config index count next a
-kept_known config ks index end_ a count next is holds count_is next_is = record {
-  config_is = sym (ap (λ (b : Archive). b.config) is);
-  next_is = sym next_is;
-  count_is = sym (ap (λ (b : Archive). length b.entries) is) ∙ (length-entries_from 1 ks ∙ sym count_is);
-  indexed = subst (λ (b : Archive). IsIndex b.entries index) is holds.indexed;
-}
+some-of : {X : Type 0} (o : Option X) → IsSome o → (x : X) × (o ≡ Some x)
+some-of None some = absurd (let wrong : false ≡ true = some in cc)
+some-of (Some x) some = (x, refl)
+
+module _ (config : Config) (ks : List Kept) (places : List Place) (index : Index) (end_ : End) (a : Archive) (is : archive_of config ks places ≡ a) (kept : IsKept config ks places index end_) where
+  config_is : a.config ≡ config
+  config_is = sym (ap (λ (b : Archive). b.config) is)
+
+  -- What an archive in memory keeps tells its settings, messages and next number.
+  pub kept_known : (count next : ℕ) → count ≡ length ks → next ≡ a.next → IsKnownBy config index count next a
+  kept_known count next count_is next_is =
+      let few : length (live (entries_of ks)) ≤ length (entries_of ks) = live-few (entries_of ks) in
+      let size : length (entries_of ks) ≡ length ks = length-entries_of ks in
+      let most : length (live (entries_of ks)) ≤ count = omega (arith, few, size, count_is) in
+      let here : IsKnownBy config index count (length places + 1) (archive_of config ks places) = record { config_is = refl; next_is = refl; few = most; indexed = kept.indexed } in
+      subst (λ (n : ℕ). IsKnownBy config index count n a) (sym next_is) (subst (λ (b : Archive). IsKnownBy config index count b.next b) is here)
+
+  module _ (text : List ℕ) (blob : Id20) (comes : MayCome config index text blob) where
+    -- No live message has the own id of a text that may come.
+    pub free-text : IsFree (live a.entries) text
+    free-text =
+        let own = some-of (own_id text) comes.storage.id in
+        (own.0, own.1, ap (λ (b : Archive). owner (live b.entries) own.0) (sym is) ∙ unowned (entries_of ks) index own.0 kept.indexed (comes.new_id own.0 own.1))
+
+    named : blob_number a.entries (blob_id_of text).0 ≡ number_in index.blobs blob.0
+    named = ap (λ (i : Id20). blob_number a.entries i.0) (sym comes.blob_is) ∙ ap (λ (b : Archive). blob_number b.entries blob.0) (sym is) ∙ sym (kept.indexed.blobs blob.0)
+
+    module _ (next : ℕ) (next_is : next ≡ a.next) where
+      room : (number : ℕ) → MayBeKept config index next text blob number → a.next ≤ a.config.max
+      room number may =
+          let left : next ≤ config.max = may.number_left in
+          let most : a.config.max ≡ config.max = ap (λ (c : Config). c.max) config_is in
+          omega (arith, left, most, next_is)
+
+      -- A text with a new blob id may be kept.
+      pub keep-new : (number : ℕ) → MayBeKept config index next text blob number → number_in index.blobs blob.0 ≡ None → MayKeep a (Take text blob number)
+      keep-new number may new = (free-text, comes.blob_is, collision-alone a.entries text (named ∙ new), room number may, may.number_is ∙ next_is)
+
+      -- So may one that was compared with the same text.
+      pub keep-same : (number : ℕ) (found : ℕ) → MayBeKept config index next text blob number → number_in index.blobs blob.0 ≡ Some found → blob_text a.entries (blob_id_of text).0 ≡ Some text → MayKeep a (Take text blob number)
+      keep-same number found may first text_is =
+          let agree = subst (λ (b : Archive). collision b.entries text ≡ None) is
+          (collision-first (entries_of ks) text text found kept.blobs (ap (λ (b : Archive). blob_number b.entries (blob_id_of text).0) is ∙ named ∙ first) (ap (λ (b : Archive). blob_text b.entries (blob_id_of text).0) is ∙ text_is)
+          ∙ ap (λ (t : Bool). if t then None else Some found) (bytes_eq-refl text text refl)) in
+          (free-text, comes.blob_is, agree, room number may, may.number_is ∙ next_is)
+
+      -- What a comparison decides.
+      pub compared-keeps : (found : ℕ) (held : List ℕ) (v : Verdict) → number_in index.blobs blob.0 ≡ Some found → blob_text a.entries blob.0 ≡ Some held → TakesThis config next text blob v → TakesSame text held v → MayKeep a v
+      compared-keeps found held (Take taken other number) first held_is takes same =
+          let text_is : blob_text a.entries (blob_id_of text).0 ≡ Some text = ap (λ (i : Id20). blob_text a.entries i.0) (sym comes.blob_is) ∙ held_is ∙ ap Some same in
+          let keeps : MayKeep a (Take text blob number) = keep-same number found (takes.2 index comes) first text_is in
+          subst (λ (t : List ℕ). MayKeep a (Take t other number)) (sym takes.0) (subst (λ (i : Id20). MayKeep a (Take text i number)) (sym takes.1) keeps)
+      compared-keeps found held (Compare other name number) first held_is takes same = absurd takes
+      compared-keeps found held (Refuse reply) first held_is takes same = tt
+
+  -- The text that is compared is that of the first entry with the blob id.
+  pub compared-with : (blob : Id20) (found : ℕ) (held : List ℕ) → number_in index.blobs blob.0 ≡ Some found → Some held ≡ text_of (messages a.entries) found → blob_text a.entries blob.0 ≡ Some held
+  compared-with blob found held first held_is = sym (blob_in-some config ks places index end_ a is kept blob.0 found (Some held) (sym first) held_is)
+
+  pub compared-decides : (bytes text : List ℕ) (blob : Id20) (found : ℕ) (held : List ℕ) → Compares a bytes text blob found → blob_text a.entries blob.0 ≡ Some held → (moment : ℕ) → delivered a bytes moment ≡ delivered_kept a text moment (unless_same text held found)
+  compared-decides bytes text blob found held compares held_is moment = compares.decides (subst (λ (b : Archive). BlobsAgree b.entries) is kept.blobs) held held_is moment
+
+-- The answers to a removal.
+pub removed-mirror : (a : Archive) (number moment : ℕ) → a.config.mirror ≡ true → removed a number moment ≡ record { archive = a; answer = answer.IsMirror }
+removed-mirror a number moment mirror = ap (λ (t : Bool). if t then refused a answer.IsMirror else removed_text a number moment (text_of (live a.entries) number)) mirror
+
+by_text : (a : Archive) (number moment : ℕ) (found : Option (List ℕ)) → a.config.mirror ≡ false → text_of (live a.entries) number ≡ found → removed a number moment ≡ removed_text a number moment found
+by_text a number moment found writable is = ap (λ (t : Bool). if t then refused a answer.IsMirror else removed_text a number moment (text_of (live a.entries) number)) writable ∙ ap (removed_text a number moment) is
+
+pub removed-none : (a : Archive) (number moment : ℕ) → a.config.mirror ≡ false → text_of (live a.entries) number ≡ None → removed a number moment ≡ record { archive = a; answer = answer.NotLive number }
+removed-none a number moment writable none = by_text a number moment None writable none
+
+pub removed-some : (a new : Archive) (number moment : ℕ) (text read : List ℕ) (id : Id20) → a.config.mirror ≡ false → text_of (live a.entries) number ≡ Some text → id ≡ blob_id_of read → read ≡ text → new ≡ with_deletion a number (new_epoch a) text moment
+    → removed a number moment ≡ record { archive = new; answer = answer.Ok number id }
+removed-some a new number moment text read id writable is id_is read_is new_is =
+    by_text a number moment (Some text) writable is
+    ∙ ap (λ (b : Archive). record { archive = b; answer = answer.Ok number (blob_id_of text) }) (sym new_is)
+    ∙ ap (λ (i : Id20). record { archive = new; answer = answer.Ok number i }) (sym (id_is ∙ ap blob_id_of read_is))
 
 -- A refusal is delivered as it is.
 pub refuses : (a : Archive) (bytes : List ℕ) (moment : ℕ) (reply : Answer) → RefusesBy a bytes reply → Delivers a reply a (delivered a bytes moment)

@@ -7,23 +7,23 @@ use Rattle.arch_base.specs.declared.ids.Id20.{Id20}
 use Rattle.arch_model.specs.Archives.{Entry, Archive, in_epoch}
 use Rattle.arch_model.specs.Delivery.{last_epoch, greater, takes_more, new_epoch}
 use Rattle.arch_model.specs.Epochs.{epoch_bytes, entries_bytes, last_commit}
-use Rattle.mail_commits.specs.Entries.{entry_bytes, commit_id, magic, message_kind}
+use Rattle.mail_commits.specs.Entries.{entry_bytes, commit_id, magic}
 use Rattle.mem_archive.specs.Memory.{IsEnd, end_for_new, end_after, front_bytes}
 use Rattle.mem_archive.specs.declared.kept.End.{End}
 use Rattle.arch_model.proofs.EpochLemmas.{entries_bytes-push, last_commit-push}
 
 front_some : (id : Id20) (es : List Entry) → front_bytes (last_commit (Some id) es) ≡ []
 front_some id [] = refl
-front_some id (e ∷ es) = front_some (commit_id message_kind e.text e.moment (Some id)) es
+front_some id (e ∷ es) = front_some (commit_id e.kind e.text e.moment (Some id)) es
 
 -- The bytes of an epoch with one more entry.
-pub epoch_bytes-after : (es : List Entry) (e : Entry) → epoch_bytes (es ++ e ∷ []) ≡ epoch_bytes es ++ (front_bytes (last_commit None es) ++ entry_bytes message_kind e.text e.moment (last_commit None es))
-epoch_bytes-after [] e = ap (λ bs. magic ++ bs) (append-nil (entry_bytes message_kind e.text e.moment None))
+pub epoch_bytes-after : (es : List Entry) (e : Entry) → epoch_bytes (es ++ e ∷ []) ≡ epoch_bytes es ++ (front_bytes (last_commit None es) ++ entry_bytes e.kind e.text e.moment (last_commit None es))
+epoch_bytes-after [] e = ap (λ bs. magic ++ bs) (append-nil (entry_bytes e.kind e.text e.moment None))
 epoch_bytes-after (x ∷ es) e =
-    let p : Option Id20 = Some (commit_id message_kind x.text x.moment None) in
+    let p : Option Id20 = Some (commit_id x.kind x.text x.moment None) in
     ap (λ bs. magic ++ bs) (entries_bytes-push None (x ∷ es) e)
-    ∙ sym (append_assoc magic (entries_bytes None (x ∷ es)) (entry_bytes message_kind e.text e.moment (last_commit None (x ∷ es))))
-    ∙ ap (λ bs. (magic ++ entries_bytes None (x ∷ es)) ++ (bs ++ entry_bytes message_kind e.text e.moment (last_commit None (x ∷ es)))) (sym (front_some (commit_id message_kind x.text x.moment None) es))
+    ∙ sym (append_assoc magic (entries_bytes None (x ∷ es)) (entry_bytes e.kind e.text e.moment (last_commit None (x ∷ es))))
+    ∙ ap (λ bs. (magic ++ entries_bytes None (x ∷ es)) ++ (bs ++ entry_bytes e.kind e.text e.moment (last_commit None (x ∷ es)))) (sym (front_some (commit_id x.kind x.text x.moment None) es))
 
 one_in : (e : Entry) (k : ℕ) (t : Bool) → (if t then e ∷ in_epoch [] k else in_epoch [] k) ≡ (if t then e ∷ [] else [])
 one_in e k true = refl
@@ -69,16 +69,16 @@ last_epoch-push (x ∷ es) e h =
     ap (greater x.epoch) (last_epoch-push es e (omega (arith, low.1))) ∙ greater_end x.epoch e.epoch (omega (arith, low.0))
 
 -- The end after one more entry in its epoch.
-pub IsEnd-push : (limit : ℕ) (es : List Entry) (e : Entry) (end_ : End) → IsEnd limit es end_ → e.epoch ≡ end_.epoch → IsEnd limit (es ++ e ∷ []) (end_after end_ e.text e.moment)
+pub IsEnd-push : (limit : ℕ) (es : List Entry) (e : Entry) (end_ : End) → IsEnd limit es end_ → e.epoch ≡ end_.epoch → IsEnd limit (es ++ e ∷ []) (end_after end_ e.kind e.text e.moment)
 IsEnd-push limit es e end_ is at =
     let here : List Entry = in_epoch es end_.epoch in
     let more : in_epoch (es ++ e ∷ []) end_.epoch ≡ here ++ e ∷ [] = in_epoch-at es e end_.epoch at in
-    let added : List ℕ = front_bytes end_.parent ++ entry_bytes message_kind e.text e.moment end_.parent in
+    let added : List ℕ = front_bytes end_.parent ++ entry_bytes e.kind e.text e.moment end_.parent in
     let bytes : epoch_bytes (in_epoch (es ++ e ∷ []) end_.epoch) ≡ epoch_bytes here ++ added =
-    ap epoch_bytes more ∙ epoch_bytes-after here e ∙ ap (λ (p : Option Id20). epoch_bytes here ++ (front_bytes p ++ entry_bytes message_kind e.text e.moment p)) (sym is.parent) in
+    ap epoch_bytes more ∙ epoch_bytes-after here e ∙ ap (λ (p : Option Id20). epoch_bytes here ++ (front_bytes p ++ entry_bytes e.kind e.text e.moment p)) (sym is.parent) in
     record {
       room = omega (arith, is.room, ap length bytes, length-append (epoch_bytes here) added);
-      parent = sym (ap (last_commit None) more ∙ last_commit-push None here e ∙ ap (λ (p : Option Id20). Some (commit_id message_kind e.text e.moment p)) (sym is.parent));
+      parent = sym (ap (last_commit None) more ∙ last_commit-push None here e ∙ ap (λ (p : Option Id20). Some (commit_id e.kind e.text e.moment p)) (sym is.parent));
       small = is.small;
     }
 

@@ -5,18 +5,19 @@ use Rattle.arch_base.specs.declared.config.Config.{Config}
 use Rattle.arch_base.specs.declared.ids.Id20.{Id20}
 use Rattle.arch_model.specs.Archives.{Entry, Archive, in_epoch, has_entry}
 use Rattle.arch_model.specs.Epochs.{epoch_bytes, last_commit}
-use Rattle.mail_commits.specs.Entries.{entry_bytes, commit_id, message_kind}
-use Rattle.mem_archive.specs.Memory.{archive_of, entries_from, front_bytes}
+use Rattle.mail_commits.specs.Entries.{entry_bytes, commit_id}
+use Rattle.mem_archive.specs.Memory.{archive_of, entry_of, entries_of, front_bytes}
 use Rattle.mem_archive.specs.declared.kept.Kept.{Kept}
+use Rattle.mem_archive.specs.declared.kept.Place.{Place}
 use Rattle.arch_model.proofs.EpochLemmas.{last_commit-push}
 use Rattle.mem_archive.proofs.Ends.{epoch_bytes-after, in_epoch-at, in_epoch-else}
-use Rattle.mem_archive.proofs.Keeping.{entries_from-push}
+use Rattle.mem_archive.proofs.Lines.{entries_of-push}
 
--- The entries of an epoch among the first `i` messages.
+-- The entries of an epoch among the first `i` entries.
 abbrev pub of_first : List Kept → ℕ → ℕ → List Entry
-of_first items i epoch = in_epoch (entries_from 1 (take i items)) epoch
+of_first items i epoch = in_epoch (entries_of (take i items)) epoch
 
--- The bytes of an epoch's entries among the first `i` messages are appended, and the last commit is
+-- The bytes of an epoch's entries among the first `i` ones are appended, and the last commit is
 -- known.
 abbrev pub HasPushed : List Kept → ℕ → List ℕ → ℕ → List ℕ → Option Id20 → Type 0
 HasPushed items epoch old i into parent = (into ≡ old ++ epoch_bytes (of_first items i epoch)) × (parent ≡ last_commit None (of_first items i epoch))
@@ -28,34 +29,34 @@ pub pushed-none : (items : List Kept) (epoch : ℕ) (old : List ℕ) → HasPush
 pushed-none items epoch old = (sym (append-nil old), refl)
 
 pub pushed-one : (items : List Kept) (epoch : ℕ) (old : List ℕ) (i : ℕ) (k : Kept) (into : List ℕ) (parent : Option Id20) → i < length items → k ≡ get_or items i k → k.epoch ≡ epoch → HasPushed items epoch old i into parent
-    → HasPushed items epoch old (i + 1) (into ++ (front_bytes parent ++ entry_bytes message_kind k.text k.moment parent)) (Some (commit_id message_kind k.text k.moment parent))
+    → HasPushed items epoch old (i + 1) (into ++ (front_bytes parent ++ entry_bytes k.kind k.text k.moment parent)) (Some (commit_id k.kind k.text k.moment parent))
 pushed-one items epoch old i k into parent l is at has =
     let here : List Entry = of_first items i epoch in
-    let e : Entry = record { number = 1 + length (take i items); epoch = k.epoch; text = k.text; moment = k.moment } in
-    let more : of_first items (i + 1) epoch ≡ here ++ e ∷ [] = ap (λ (ks : List Kept). in_epoch (entries_from 1 ks) epoch) (take-one items i k l is) ∙ ap (λ (es : List Entry). in_epoch es epoch) (entries_from-push 1 (take i items) k) ∙ in_epoch-at (entries_from 1 (take i items)) e epoch at in (
-      ap (λ (bs : List ℕ). bs ++ (front_bytes parent ++ entry_bytes message_kind k.text k.moment parent)) has.0
-          ∙ append_assoc old (epoch_bytes here) (front_bytes parent ++ entry_bytes message_kind k.text k.moment parent)
-          ∙ ap (λ (p : Option Id20). old ++ (epoch_bytes here ++ (front_bytes p ++ entry_bytes message_kind k.text k.moment p))) has.1
+    let e : Entry = entry_of k in
+    let more : of_first items (i + 1) epoch ≡ here ++ e ∷ [] = ap (λ (ks : List Kept). in_epoch (entries_of ks) epoch) (take-one items i k l is) ∙ ap (λ (es : List Entry). in_epoch es epoch) (entries_of-push (take i items) k) ∙ in_epoch-at (entries_of (take i items)) e epoch at in (
+      ap (λ (bs : List ℕ). bs ++ (front_bytes parent ++ entry_bytes k.kind k.text k.moment parent)) has.0
+          ∙ append_assoc old (epoch_bytes here) (front_bytes parent ++ entry_bytes k.kind k.text k.moment parent)
+          ∙ ap (λ (p : Option Id20). old ++ (epoch_bytes here ++ (front_bytes p ++ entry_bytes k.kind k.text k.moment p))) has.1
           ∙ ap (λ (bs : List ℕ). old ++ bs) (sym (epoch_bytes-after here e))
           ∙ ap (λ (es : List Entry). old ++ epoch_bytes es) (sym more),
-      ap (λ (p : Option Id20). Some (commit_id message_kind k.text k.moment p)) has.1 ∙ sym (last_commit-push None here e) ∙ ap (last_commit None) (sym more),
+      ap (λ (p : Option Id20). Some (commit_id k.kind k.text k.moment p)) has.1 ∙ sym (last_commit-push None here e) ∙ ap (last_commit None) (sym more),
     )
 
 pub pushed-else : (items : List Kept) (epoch : ℕ) (old : List ℕ) (i : ℕ) (k : Kept) (into : List ℕ) (parent : Option Id20) → i < length items → k ≡ get_or items i k → (k.epoch == epoch) ≡ false → HasPushed items epoch old i into parent
     → HasPushed items epoch old (i + 1) into parent
 pushed-else items epoch old i k into parent l is other has =
-    let e : Entry = record { number = 1 + length (take i items); epoch = k.epoch; text = k.text; moment = k.moment } in
-    let more : of_first items (i + 1) epoch ≡ of_first items i epoch = ap (λ (ks : List Kept). in_epoch (entries_from 1 ks) epoch) (take-one items i k l is) ∙ ap (λ (es : List Entry). in_epoch es epoch) (entries_from-push 1 (take i items) k) ∙ in_epoch-else (entries_from 1 (take i items)) e epoch other in
+    let e : Entry = entry_of k in
+    let more : of_first items (i + 1) epoch ≡ of_first items i epoch = ap (λ (ks : List Kept). in_epoch (entries_of ks) epoch) (take-one items i k l is) ∙ ap (λ (es : List Entry). in_epoch es epoch) (entries_of-push (take i items) k) ∙ in_epoch-else (entries_of (take i items)) e epoch other in
     (has.0 ∙ ap (λ (es : List Entry). old ++ epoch_bytes es) (sym more), has.1 ∙ ap (last_commit None) (sym more))
 
 some_of : (id : Id20) (es : List Entry) → is_some (last_commit (Some id) es) ≡ true
 some_of id [] = refl
-some_of id (e ∷ es) = some_of (commit_id message_kind e.text e.moment (Some id)) es
+some_of id (e ∷ es) = some_of (commit_id e.kind e.text e.moment (Some id)) es
 
 -- There is a last commit if there is an entry.
 pub last_commit-some : (es : List Entry) → is_some (last_commit None es) ≡ has_entry es
 last_commit-some [] = refl
-last_commit-some (e ∷ es) = some_of (commit_id message_kind e.text e.moment None) es
+last_commit-some (e ∷ es) = some_of (commit_id e.kind e.text e.moment None) es
 
 take-whole : (items : List Kept) (i : ℕ) → length items ≤ i → take i items ≡ items
 take-whole [] i l = take_nil i where
@@ -66,8 +67,8 @@ take-whole (x ∷ items) zero l = absurd (omega arith)
 take-whole (x ∷ items) (suc i) l = ap (λ ks. x ∷ ks) (take-whole items i (omega arith))
 
 -- All entries are appended.
-pub pushed-all : (a : Archive) (config : Config) (items : List Kept) (epoch : ℕ) (old : List ℕ) (i : ℕ) (into : List ℕ) (parent : Option Id20) → archive_of config items ≡ a → length items ≤ i → HasPushed items epoch old i into parent
+pub pushed-all : (a : Archive) (config : Config) (items : List Kept) (places : List Place) (epoch : ℕ) (old : List ℕ) (i : ℕ) (into : List ℕ) (parent : Option Id20) → archive_of config items places ≡ a → length items ≤ i → HasPushed items epoch old i into parent
     → (into ≡ old ++ epoch_bytes (in_epoch a.entries epoch)) × (is_some parent ≡ has_entry (in_epoch a.entries epoch))
-pushed-all a config items epoch old i into parent is whole has =
-    let all : of_first items i epoch ≡ in_epoch a.entries epoch = ap (λ (ks : List Kept). in_epoch (entries_from 1 ks) epoch) (take-whole items i whole) ∙ ap (λ (b : Archive). in_epoch b.entries epoch) is in
+pushed-all a config items places epoch old i into parent is whole has =
+    let all : of_first items i epoch ≡ in_epoch a.entries epoch = ap (λ (ks : List Kept). in_epoch (entries_of ks) epoch) (take-whole items i whole) ∙ ap (λ (b : Archive). in_epoch b.entries epoch) is in
     (has.0 ∙ ap (λ (es : List Entry). old ++ epoch_bytes es) all, ap is_some has.1 ∙ ap (λ (es : List Entry). is_some (last_commit None es)) all ∙ last_commit-some (in_epoch a.entries epoch))

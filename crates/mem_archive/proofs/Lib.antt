@@ -1,5 +1,6 @@
-mod Numbers
 mod Lines
+mod Places
+mod Numbers
 mod Ends
 mod Keeping
 mod EpochSteps

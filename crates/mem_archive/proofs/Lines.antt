@@ -1,64 +1,64 @@
--- Kept messages without their texts, and their texts by blob ids.
-use Rattle.std.proofs.Common.{◌≡◌, ◌+◌, ◌<◌, ◌≤◌, ℕ, zero, suc, List, [], ◌∷◌, ◌++◌, length, get_or, slice_get, Option, Some, None, refl, sym, ap, subst, ◌∙◌, arith}
+-- Kept entries without their texts, and their texts by blob ids.
+use Rattle.std.proofs.Common.{◌≡◌, ◌<◌, ◌≤◌, ℕ, zero, suc, List, [], ◌∷◌, ◌++◌, length, get_or, slice_get, Option, Some, None, refl, sym, ap, ◌∙◌, arith}
 use Rattle.arch_base.specs.declared.config.Config.{Config}
-use Rattle.arch_model.specs.Archives.{Archive, text_of, blob_number}
-use Rattle.arch_model.specs.Shelves.{lines_after, line_at, blob_text}
+use Rattle.arch_model.specs.Archives.{Archive, Entry, messages, text_of, blob_number}
+use Rattle.arch_model.specs.Shelves.{line_at, blob_text}
 use Rattle.arch_model.specs.declared.line.EntryLine.{EntryLine}
-use Rattle.arch_model.proofs.Shelving.{RisesFrom, blob_found-text, blob-none}
-use Rattle.arch_judge.specs.Indexes.{IsIndex, number_in}
+use Rattle.arch_model.proofs.Shelving.{rises-from, blob_found-text, blob-none}
+use Rattle.arch_judge.specs.Indexes.{number_in}
 use Rattle.arch_judge.specs.declared.index.Index.{Index}
-use Rattle.mem_archive.specs.Memory.{archive_of, entries_from, line_of, lines_from}
+use Rattle.mem_archive.specs.Memory.{archive_of, entry_of, entries_of, line_of, lines_of, IsKept}
+use Rattle.mem_archive.specs.declared.kept.End.{End}
 use Rattle.mem_archive.specs.declared.kept.Kept.{Kept}
+use Rattle.mem_archive.specs.declared.kept.Place.{Place}
 
--- One more message.
-pub lines_from-push : (n : ℕ) (ks : List Kept) (k : Kept) → lines_from n (ks ++ k ∷ []) ≡ lines_from n ks ++ line_of (n + length ks) k ∷ []
-lines_from-push n [] k = let same : n ≡ n + 0 = omega arith in ap (λ (m : ℕ). line_of m k ∷ []) same
-lines_from-push n (x ∷ ks) k =
-    let same : n + 1 + length ks ≡ n + length (x ∷ ks) = omega arith in
-    ap (λ (ls : List EntryLine). line_of n x ∷ ls) (lines_from-push (n + 1) ks k ∙ ap (λ (m : ℕ). lines_from (n + 1) ks ++ line_of m k ∷ []) same)
+-- One more entry.
+pub entries_of-push : (ks : List Kept) (k : Kept) → entries_of (ks ++ k ∷ []) ≡ entries_of ks ++ entry_of k ∷ []
+entries_of-push [] k = refl
+entries_of-push (x ∷ ks) k = ap (λ (es : List Entry). entry_of x ∷ es) (entries_of-push ks k)
 
--- The message at an index.
-lines_from-at : (n i : ℕ) (ks : List Kept) (k : Kept) → i < length ks → k ≡ get_or ks i k → slice_get (lines_from n ks) i ≡ Some (line_of (n + i) k)
-lines_from-at n i [] k h at = absurd (omega arith)
-lines_from-at n zero (x ∷ ks) k h at = let same : n ≡ n + 0 = omega arith in ap (λ (y : Kept). Some (line_of n y)) (sym at) ∙ ap (λ (m : ℕ). Some (line_of m k)) same
-lines_from-at n (suc i) (x ∷ ks) k h at = let same : n + 1 + i ≡ n + suc i = omega arith in lines_from-at (n + 1) i ks k (omega arith) at ∙ ap (λ (m : ℕ). Some (line_of m k)) same
+pub length-entries_of : (ks : List Kept) → length (entries_of ks) ≡ length ks
+length-entries_of [] = refl
+length-entries_of (k ∷ ks) = let rest = length-entries_of ks in omega (arith, rest)
+
+pub lines_of-push : (ks : List Kept) (k : Kept) → lines_of (ks ++ k ∷ []) ≡ lines_of ks ++ line_of k ∷ []
+lines_of-push [] k = refl
+lines_of-push (x ∷ ks) k = ap (λ (ls : List EntryLine). line_of x ∷ ls) (lines_of-push ks k)
+
+-- The entry at an index.
+lines_of-at : (i : ℕ) (ks : List Kept) (k : Kept) → i < length ks → k ≡ get_or ks i k → slice_get (lines_of ks) i ≡ Some (line_of k)
+lines_of-at i [] k h at = absurd (omega arith)
+lines_of-at zero (x ∷ ks) k h at = ap (λ (y : Kept). Some (line_of y)) (sym at)
+lines_of-at (suc i) (x ∷ ks) k h at = lines_of-at i ks k (omega arith) at
 
 -- There is none past the last.
-lines_from-past : (n i : ℕ) (ks : List Kept) → length ks ≤ i → slice_get (lines_from n ks) i ≡ None
-lines_from-past n i [] h = refl
-lines_from-past n zero (x ∷ ks) h = absurd (omega arith)
-lines_from-past n (suc i) (x ∷ ks) h = lines_from-past (n + 1) i ks (omega arith)
+lines_of-past : (i : ℕ) (ks : List Kept) → length ks ≤ i → slice_get (lines_of ks) i ≡ None
+lines_of-past i [] h = refl
+lines_of-past zero (x ∷ ks) h = absurd (omega arith)
+lines_of-past (suc i) (x ∷ ks) h = lines_of-past i ks (omega arith)
 
--- Numbers rise.
-pub entries-rise : (n : ℕ) (ks : List Kept) → RisesFrom n (entries_from n ks)
-entries-rise n [] = tt
-entries-rise n (k ∷ ks) = (omega arith, entries-rise (n + 1) ks)
+module _ (config : Config) (ks : List Kept) (places : List Place) (index : Index) (end_ : End) (a : Archive) (is : archive_of config ks places ≡ a) (kept : IsKept config ks places index end_) where
+  same_lines : (i : ℕ) → slice_get (lines_of ks) i ≡ line_at a.entries i
+  same_lines i = ap (λ (ls : List EntryLine). slice_get ls i) kept.lines ∙ ap (λ (b : Archive). line_at b.entries i) is
 
-module _ (config : Config) (ks : List Kept) (a : Archive) (is : archive_of config ks ≡ a) where
-  module _ (lines : lines_from 1 ks ≡ lines_after [] (entries_from 1 ks)) where
-    same_lines : (i : ℕ) → slice_get (lines_from 1 ks) i ≡ line_at a.entries i
-    same_lines i = ap (λ (ls : List EntryLine). slice_get ls i) lines ∙ ap (λ (b : Archive). line_at b.entries i) is
+  -- The entry at an index.
+  pub line_in-at : (i : ℕ) (k : Kept) → i < length ks → k ≡ get_or ks i k → Some (line_of k) ≡ line_at a.entries i
+  line_in-at i k h at = sym (lines_of-at i ks k h at) ∙ same_lines i
 
-    -- The entry at an index.
-    pub line_in-at : (i : ℕ) (number : ℕ) (k : Kept) → number ≡ i + 1 → i < length ks → k ≡ get_or ks i k → Some (line_of number k) ≡ line_at a.entries i
-    line_in-at i number k number_is h at =
-        let same : number ≡ 1 + i = omega (arith, number_is) in
-        ap (λ (m : ℕ). Some (line_of m k)) same ∙ sym (lines_from-at 1 i ks k h at) ∙ same_lines i
+  pub line_in-past : (i : ℕ) → length ks ≤ i → None ≡ line_at a.entries i
+  line_in-past i h = sym (lines_of-past i ks h) ∙ same_lines i
 
-    pub line_in-past : (i : ℕ) → length ks ≤ i → None ≡ line_at a.entries i
-    line_in-past i h = sym (lines_from-past 1 i ks h) ∙ same_lines i
+  numbered : (blob : List ℕ) → number_in index.blobs blob ≡ blob_number (entries_of ks) blob
+  numbered blob = kept.indexed.blobs blob
 
-  module _ (index : Index) (indexed : IsIndex (entries_from 1 ks) index) where
-    numbered : (blob : List ℕ) → number_in index.blobs blob ≡ blob_number a.entries blob
-    numbered blob = indexed.blobs blob ∙ ap (λ (b : Archive). blob_number b.entries blob) is
+  -- No entry has the blob id.
+  pub blob_in-none : (blob : List ℕ) → None ≡ number_in index.blobs blob → None ≡ blob_text a.entries blob
+  blob_in-none blob none = sym (blob-none (entries_of ks) blob (sym (numbered blob) ∙ sym none)) ∙ ap (λ (b : Archive). blob_text b.entries blob) is
 
-    rising : RisesFrom 1 a.entries
-    rising = subst (λ (b : Archive). RisesFrom 1 b.entries) is (entries-rise 1 ks)
-
-    -- No message has the blob id.
-    pub blob_in-none : (blob : List ℕ) → None ≡ number_in index.blobs blob → None ≡ blob_text a.entries blob
-    blob_in-none blob none = sym (blob-none a.entries blob (sym (numbered blob) ∙ sym none))
-
-    -- The message with this number has it, and its text is the one.
-    pub blob_in-some : (blob : List ℕ) (n : ℕ) (shown : Option (List ℕ)) → Some n ≡ number_in index.blobs blob → shown ≡ text_of a.entries n → shown ≡ blob_text a.entries blob
-    blob_in-some blob n shown some shown_is = shown_is ∙ blob_found-text 1 a.entries blob n rising (sym (numbered blob) ∙ sym some)
+  -- The message with this number is the first that has it, and its text is the one.
+  pub blob_in-some : (blob : List ℕ) (n : ℕ) (found : Option (List ℕ)) → Some n ≡ number_in index.blobs blob → found ≡ text_of (messages a.entries) n → found ≡ blob_text a.entries blob
+  blob_in-some blob n found some found_is =
+      found_is
+      ∙ sym (ap (λ (b : Archive). text_of (messages b.entries) n) is)
+      ∙ blob_found-text 1 (entries_of ks) blob n kept.deletions (rises-from 1 0 (entries_of ks) kept.order) (sym (numbered blob) ∙ sym some)
+      ∙ ap (λ (b : Archive). blob_text b.entries blob) is

@@ -1,33 +1,49 @@
 -- What the archive in memory holds.
-use Rattle.std.specs.Prelude.{◌≡◌, ◌+◌, ◌-◌, ◌≤◌, ◌==◌, ◌||◌, nat_lt, ℕ, take, Bool, Result, Ok, Err, List, [], ◌∷◌, ◌++◌, length, Option, Some, None, if◌then◌else◌}
+use Rattle.std.specs.Prelude.{◌≡◌, ◌≢◌, zero, suc, true, false, ◌&&◌, nat_le, option_map, ◌+◌, ◌-◌, ◌<◌, ◌≤◌, slice_get, ◌==◌, ◌||◌, nat_lt, ℕ, take, Bool, Result, Ok, Err, List, [], ◌∷◌, ◌++◌, length, Option, Some, None, IsSome, if◌then◌else◌}
 use Rattle.arch_base.specs.Configs.{IsConfig}
 use Rattle.arch_base.specs.declared.config.Config.{Config}
 use Rattle.arch_base.specs.declared.ids.Id20.{Id20}
 use Rattle.disk_model.specs.Sizes.{greatest_epoch}
-use Rattle.arch_model.specs.Archives.{Entry, Archive, in_epoch, has_entry}
-use Rattle.arch_model.specs.Delivery.{last_epoch}
+use Rattle.arch_model.specs.Archives.{Entry, Archive, live, messages, text_of, in_epoch, has_entry, IsFree}
+use Rattle.arch_model.specs.Validity.{Rise, AtEachPlace, EndsLive, IdsDiffer, BlobsAgree}
+use Rattle.std.specs.List.{AllByRecursion}
+use Rattle.arch_model.specs.Delivery.{last_epoch, collision}
 use Rattle.arch_model.specs.Epochs.{epoch_bytes, last_commit}
 use Rattle.arch_model.specs.Shelves.{lines_after}
 use Rattle.arch_model.specs.declared.line.EntryLine.{EntryLine}
 use Rattle.git_objects.specs.Objects.{blob_id_of}
-use Rattle.mail_commits.specs.Entries.{commit_id, entry_bytes, magic, message_kind}
+use Rattle.mail_reader.specs.Ids.{own_id}
+use Rattle.mail_commits.specs.Entries.{commit_id, entry_bytes, magic}
+use Rattle.git_objects.specs.declared.entry_kind.EntryKind.{EntryKind}
 use Rattle.mem_archive.specs.declared.kept.Kept.{Kept}
+use Rattle.mem_archive.specs.declared.kept.Place.{Place}
 use Rattle.mem_archive.specs.declared.kept.End.{End}
 use Rattle.arch_base.specs.declared.sequence.NoMemory.{NoMemory}
 use Rattle.arch_judge.specs.Indexes.{IsIndex}
 use Rattle.arch_judge.specs.declared.index.Index.{Index}
+use Rattle.arch_judge.specs.declared.judging.Verdict.{Verdict}
+use Rattle.arch_judge.specs.declared.judging.Verdict.TheVariants.{Take, Compare, Refuse}
 
--- The entries of kept messages, the first of which has this number.
-abbrev pub entries_from : ℕ → List Kept → List Entry
-entries_from n [] = []
-entries_from n (k ∷ ks) = record { number = n; epoch = k.epoch; text = k.text; moment = k.moment }
-    ∷ entries_from (n + 1) ks
+-- The entry that is kept so.
+abbrev pub entry_of : Kept → Entry
+entry_of k = record {
+  kind = k.kind;
+  number = k.number;
+  epoch = k.epoch;
+  text = k.text;
+  moment = k.moment;
+}
 
--- A kept message with this number, without its text.
-abbrev pub line_of : ℕ → Kept → EntryLine
-line_of n k = record {
-  kind = message_kind;
-  number = n;
+-- The entries that are kept so.
+abbrev pub entries_of : List Kept → List Entry
+entries_of [] = []
+entries_of (k ∷ ks) = entry_of k ∷ entries_of ks
+
+-- A kept entry without its text.
+abbrev pub line_of : Kept → EntryLine
+line_of k = record {
+  kind = k.kind;
+  number = k.number;
   epoch = k.epoch;
   secs = k.moment;
   blob = blob_id_of k.text;
@@ -35,15 +51,97 @@ line_of n k = record {
   commit = k.commit;
 }
 
--- Kept messages without their texts, the first of which has this number.
-abbrev pub lines_from : ℕ → List Kept → List EntryLine
-lines_from n [] = []
-lines_from n (k ∷ ks) = line_of n k ∷ lines_from (n + 1) ks
+-- Kept entries without their texts.
+abbrev pub lines_of : List Kept → List EntryLine
+lines_of [] = []
+lines_of (k ∷ ks) = line_of k ∷ lines_of ks
 
--- The archive of kept messages.
-abbrev pub archive_of : Config → List Kept → Archive
-archive_of config kept =
-    record { config = config; entries = entries_from 1 kept; next = length kept + 1 }
+-- The archive of kept entries, whose messages have the places of the numbers from 1 on.
+abbrev pub archive_of : Config → List Kept → List Place → Archive
+archive_of config kept places =
+    record { config = config; entries = entries_of kept; next = length places + 1 }
+
+-- The place of a number, from 1 on.
+abbrev pub place_in : List Place → ℕ → Option Place
+place_in places zero = None
+place_in places (suc index) = slice_get places index
+
+-- The text of the kept entry at an index.
+abbrev pub text_in : List Kept → ℕ → Option (List ℕ)
+text_in kept index = option_map (λ (k : Kept). k.text) (slice_get kept index)
+
+-- The text at a place, if it is live.
+abbrev pub shown_in : List Kept → Option Place → Option (List ℕ)
+shown_in kept None = None
+shown_in kept (Some place) = if place.live then text_in kept place.entry else None
+
+-- The text at a place, live or not.
+abbrev pub once_in : List Kept → Option Place → Option (List ℕ)
+once_in kept None = None
+once_in kept (Some place) = text_in kept place.entry
+
+-- The place, if there is one, is live.
+abbrev pub is_live_place : Option Place → Bool
+is_live_place None = false
+is_live_place (Some place) = place.live
+
+-- The place of a number is live.
+abbrev pub live_at : List Place → ℕ → Bool
+live_at places number = is_live_place (place_in places number)
+
+-- The least number from one on whose place is live, or none.
+abbrev pub IsLeastAt : List Place → ℕ → Option ℕ → Type 0
+IsLeastAt places n None = (m : ℕ) → n ≤ m → live_at places m ≡ false
+IsLeastAt places n (Some found) = (n ≤ found) × (live_at places found ≡ true)
+    × ((m : ℕ) → n ≤ m → m < found → live_at places m ≡ false)
+
+-- The greatest number up to one whose place is live, or none.
+abbrev pub IsGreatestAt : List Place → ℕ → Option ℕ → Type 0
+IsGreatestAt places n None = (m : ℕ) → m ≤ n → live_at places m ≡ false
+IsGreatestAt places n (Some found) = (found ≤ n) × (live_at places found ≡ true)
+    × ((m : ℕ) → found < m → m ≤ n → live_at places m ≡ false)
+
+-- How many of the places of the numbers from `n` on are live, of those between two numbers.
+abbrev pub count_from : ℕ → ℕ → ℕ → List Place → ℕ
+count_from n low high [] = 0
+count_from n low high (place ∷ places) =
+    if place.live && (nat_le low n && nat_le n high) then suc (count_from (n + 1) low high places)
+    else count_from (n + 1) low high places
+
+-- The place has the index of a number's message, and tells whether the number is live.
+pub record IsPlace (kept : List Kept) (number : ℕ) (place : Place) : Type 0 where
+  pub text : List ℕ
+  pub is_there : text_in kept place.entry ≡ Some text
+  pub once : text_of (messages (entries_of kept)) number ≡ Some text
+  pub shown : text_of (live (entries_of kept)) number ≡ (if place.live then Some text else None)
+
+-- Each number from 1 on has its place.
+abbrev pub ArePlaces : List Kept → List Place → Type 0
+ArePlaces kept places =
+    (i : ℕ) (place : Place) → slice_get places i ≡ Some place → IsPlace kept (i + 1) place
+
+-- The place at an index is no longer live, and each other place stays.
+pub record Hides (old new : List Place) (at : ℕ) : Type 0 where
+  pub size : length new ≡ length old
+  pub here : (place : Place) → slice_get old at ≡ Some place
+      → slice_get new at ≡ Some (record { entry = place.entry; live = false })
+  pub kept : (i : ℕ) → i ≢ at → slice_get new i ≡ slice_get old i
+
+-- The number of an entry is at least one and at most so many.
+abbrev pub IsUpTo : ℕ → Entry → Type 0
+IsUpTo most e = (1 ≤ e.number) × (e.number < most + 1)
+
+-- The text of an entry has an own id (RFC 5322, section 3.6.4).
+abbrev pub HasId : Entry → Type 0
+HasId e = IsSome (own_id e.text)
+
+-- What may be kept: no live message has the text's own id, no other text has its blob id, and a
+-- number is left. A text is never still to be compared.
+abbrev pub MayKeep : Archive → Verdict → Type 0
+MayKeep a (Take text blob number) = IsFree (live a.entries) text × (blob ≡ blob_id_of text)
+    × (collision a.entries text ≡ None) × (a.next ≤ a.config.max) × (number ≡ a.next)
+MayKeep a (Compare text blob number) = ⊥
+MayKeep a (Refuse reply) = Unit {0}
 
 -- The end holds the room and the last commit of its epoch.
 pub record IsEnd (limit : ℕ) (entries : List Entry) (end_ : End) : Type 0 where
@@ -51,15 +149,26 @@ pub record IsEnd (limit : ℕ) (entries : List Entry) (end_ : End) : Type 0 wher
   pub parent : end_.parent ≡ last_commit None (in_epoch entries end_.epoch)
   pub small : end_.epoch ≤ greatest_epoch
 
--- What is kept is sound: the settings are valid, no number is above the greatest, the index has the
--- messages, each has the id of its commit, and the end is that of the last epoch.
-pub record IsKept (config : Config) (kept : List Kept) (index : Index) (end_ : End) : Type 0 where
+-- What is kept is sound: the settings are valid, no number is above the greatest, each has its
+-- place, numbers are from 1 to the last and rise, deletions end live messages, each text has an own
+-- id, live ids differ, each blob id has one text, the index is that of the entries, each has the id
+-- of its commit, and the end is that of the last epoch.
+pub record IsKept (config : Config) (kept : List Kept) (places : List Place) (index : Index)
+    (end_ : End) : Type 0 where
   pub settings : IsConfig config
-  pub numbers : length kept ≤ config.max
-  pub indexed : IsIndex (entries_from 1 kept) index
-  pub lines : lines_from 1 kept ≡ lines_after [] (entries_from 1 kept)
-  pub last : end_.epoch ≡ last_epoch (entries_from 1 kept)
-  pub ends : IsEnd config.limit (entries_from 1 kept) end_
+  pub numbers : length places ≤ config.max
+  pub placed : ArePlaces kept places
+  pub numbered : AllByRecursion (IsUpTo (length places)) (entries_of kept)
+  pub order : Rise 1 0 (entries_of kept)
+  pub deletions : AtEachPlace (λ (before : List Entry) (e : Entry). EndsLive e.kind before e) []
+      (entries_of kept)
+  pub ids : IdsDiffer (live (entries_of kept))
+  pub blobs : BlobsAgree (entries_of kept)
+  pub named : AllByRecursion HasId (entries_of kept)
+  pub indexed : IsIndex (entries_of kept) index
+  pub lines : lines_of kept ≡ lines_after [] (entries_of kept)
+  pub last : end_.epoch ≡ last_epoch (entries_of kept)
+  pub ends : IsEnd config.limit (entries_of kept) end_
 
 -- The bytes before those of an entry: an epoch's first bytes, if the entry has no parent.
 abbrev pub front_bytes : Option Id20 → List ℕ
@@ -76,12 +185,11 @@ abbrev pub end_for_new : ℕ → End → End
 end_for_new limit end_ = end_by_room end_.room limit end_
 
 -- The end after one more entry.
-abbrev pub end_after : End → List ℕ → ℕ → End
-end_after end_ text moment = record {
+abbrev pub end_after : End → EntryKind → List ℕ → ℕ → End
+end_after end_ kind text moment = record {
   epoch = end_.epoch;
-  room = end_.room
-      - length (front_bytes end_.parent ++ entry_bytes message_kind text moment end_.parent);
-  parent = Some (commit_id message_kind text moment end_.parent);
+  room = end_.room - length (front_bytes end_.parent ++ entry_bytes kind text moment end_.parent);
+  parent = Some (commit_id kind text moment end_.parent);
 }
 
 -- The new bytes start with the old ones.

@@ -1,7 +1,7 @@
-//! What the archive in memory keeps of each message, and of its last epoch.
+//! What the archive in memory keeps of each entry, and of its last epoch.
 ghost use Rattle.std.specs.Prelude.{◌≡◌, ◌+◌, ◌-◌, ◌++◌, ◌≤◌, IfOk, OnOk, OnErr, is_ok, if◌then◌else◌};
 ghost use Rattle.disk_model.specs.Sizes.{greatest_epoch};
-ghost use Rattle.mail_commits.specs.Entries.{commit_id, entry_bytes, message_kind};
+ghost use Rattle.mail_commits.specs.Entries.{commit_id, entry_bytes};
 ghost use Rattle.mem_archive.specs.Memory.{line_of, front_bytes, end_for_new, end_by_room, end_after, Grows};
 
 use arch_base::{Bytes, NoMemory, ObjectId};
@@ -11,27 +11,31 @@ use git_objects::{EntryKind, blob_id};
 use mail_commits::{MAGIC, push_entry};
 use std::alloc::Global;
 
-/// A message as the archive in memory keeps it.
+/// An entry as the archive in memory keeps it.
 #[derive(Drop)]
 pub(crate) struct Kept {
+    /// What it is.
+    pub(crate) kind: EntryKind,
+    /// The number of the message that it is or ends.
+    pub(crate) number: u32,
     /// The number of its epoch.
     pub(crate) epoch: u32,
     /// Its text.
     pub(crate) text: Bytes,
-    /// The moment of its delivery, in seconds since 1970 UTC.
+    /// The moment of the delivery or of the removal, in seconds since 1970 UTC.
     pub(crate) moment: u64,
     /// The id of its commit.
     pub(crate) commit: ObjectId,
 }
 
 impl Kept {
-    /// Returns the message without its text, if this is its number.
-    pub(crate) fn line(&self, number: u32) -> EntryLine
-        ensures { result ≡ line_of number self.now }
+    /// Returns the entry without its text.
+    pub(crate) fn line(&self) -> EntryLine
+        ensures { result ≡ line_of self.now }
     {
         EntryLine {
-            kind: EntryKind::Message,
-            number,
+            kind: self.kind,
+            number: self.number,
             epoch: self.epoch,
             secs: self.moment,
             blob: blob_id(self.text.as_slice()),
@@ -39,6 +43,15 @@ impl Kept {
             commit: self.commit,
         }
     }
+}
+
+/// Where the message of a number is kept.
+#[derive(Clone, Copy, Drop)]
+pub(crate) struct Place {
+    /// The index of its entry.
+    pub(crate) entry: usize,
+    /// Whether it is live.
+    pub(crate) live: bool,
 }
 
 /// The end of an archive, to which the next entry is appended.
@@ -59,14 +72,16 @@ impl End {
         self,
         alloc: Global,
         limit: u64,
+        kind: EntryKind,
         text: &[u8],
         moment: u64,
     ) -> Result<End, NoMemory>
         requires { self.epoch ≤ greatest_epoch }
-        ensures { IfOk result (λ made. made ≡ end_after (end_for_new limit self) text.now moment) }
+        ensures { IfOk result (λ made.
+            made ≡ end_after (end_for_new limit self) kind text.now moment) }
     {
         let room = self.room;
-        self.for_new(room, limit).after(alloc, text, moment)
+        self.for_new(room, limit).after(alloc, kind, text, moment)
     }
 
     /// Returns the end to which a new entry is appended, if the last epoch has `room` bytes left.
@@ -89,11 +104,17 @@ impl End {
     }
 
     /// Returns the end after one more entry.
-    fn after(self, alloc: Global, text: &[u8], moment: u64) -> Result<End, NoMemory>
-        ensures { IfOk result (λ made. made ≡ end_after self text.now moment) }
+    fn after(
+        self,
+        alloc: Global,
+        kind: EntryKind,
+        text: &[u8],
+        moment: u64,
+    ) -> Result<End, NoMemory>
+        ensures { IfOk result (λ made. made ≡ end_after self kind text.now moment) }
     {
         let mut bytes = Bytes::new(alloc);
-        let commit = push_after(alloc, text, moment, self.parent, &mut bytes)?;
+        let commit = push_after(alloc, kind, text, moment, self.parent, &mut bytes)?;
         Ok(End {
             epoch: self.epoch,
             room: self.room.saturating_sub(bytes.as_slice().len() as u64),
@@ -108,18 +129,19 @@ impl End {
 /// part appended.
 pub(crate) fn push_after(
     alloc: Global,
+    kind: EntryKind,
     text: &[u8],
     moment: u64,
     parent: Option<ObjectId>,
     into: &mut Bytes,
 ) -> Result<ObjectId, NoMemory>
-    ensures id { IfOk result (λ id. id ≡ commit_id message_kind text.now moment parent) }
+    ensures id { IfOk result (λ id. id ≡ commit_id kind text.now moment parent) }
     ensures ok { OnOk result (into.new
-        ≡ into.old ++ (front_bytes parent ++ entry_bytes message_kind text.now moment parent)) }
+        ≡ into.old ++ (front_bytes parent ++ entry_bytes kind text.now moment parent)) }
     ensures err { OnErr result (Grows into.old into.new) }
 {
     push_front(parent, into)?;
-    let ids = push_entry(alloc, EntryKind::Message, text, moment, parent, into)?;
+    let ids = push_entry(alloc, kind, text, moment, parent, into)?;
     Ok(ids.commit)
 }
 

@@ -4,5 +4,6 @@
 mod kept;
 mod memory;
 mod memory_keep;
+mod placing;
 
 pub use memory::MemArchive;

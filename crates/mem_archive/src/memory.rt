@@ -1,21 +1,24 @@
 //! A plain archive in memory, which does what the definitions say, call by call.
-ghost use Rattle.std.specs.Prelude.{◌≡◌, ◌++◌, ◌≤◌, take, option_copied, IfOk, OnOk, OnErr, IsSome, Some, None};
+ghost use Rattle.std.specs.Prelude.{◌≡◌, ◌++◌, ◌≤◌, false, option_copied, IfOk, OnOk, OnErr, IsSome, Some, None};
 ghost use Rattle.arch_base.specs.Configs.{IsConfig};
 ghost use Rattle.mail_reader.specs.Content.{content_id_of};
 ghost use Rattle.mail_reader.specs.Ids.{own_id as own_id_of};
 ghost use Rattle.git_objects.specs.Objects.{blob_id_of};
-ghost use Rattle.arch_model.specs.Archives.{empty_archive, with_entry, text_of, in_epoch, IsFree, blob_number, has_entry};
-ghost use Rattle.arch_model.specs.Delivery.{Delivers, applied, delivered, new_epoch};
+ghost use Rattle.arch_model.specs.Archives.{empty_archive, with_entry, with_deletion, live, messages, text_of, in_epoch, IsFree, has_entry};
+ghost use Rattle.arch_model.specs.Delivery.{Delivers, applied, delivered, removed, collision, new_epoch};
+ghost use Rattle.arch_judge.specs.Judging.{Judges};
 ghost use Rattle.arch_model.specs.Epochs.{epoch_bytes};
-ghost use Rattle.mem_archive.specs.Memory.{GivesEpoch, Grows};
+ghost use Rattle.mem_archive.specs.Memory.{GivesEpoch, Grows, MayKeep};
 ghost use Rattle.arch_model.specs.Shelves.{IsGreatestLive, live_between, line_at, blob_text};
 ghost use Rattle.arch_model.specs.Standing.{IsLeastLive, IsUntouched};
 ghost use Rattle.arch_model.specs.declared.answer.Answer.{Answer};
 
-use crate::kept::{End, Kept, push_after};
+use crate::kept::{End, Kept, Place, push_after};
+use crate::placing::{count_live, greatest_live, hide, least_live, once_at, place_of, shown_at};
 use arch_base::{Bytes, Config, NoMemory, ObjectId};
-use arch_judge::{Index, Owner, Verdict, judge};
+use arch_judge::{Index, Owner, Verdict, compared, judge};
 use arch_model::{Answer, Command, EntryLine};
+use git_objects::{EntryKind, blob_id};
 use mail_reader::{content_id, own_id};
 use std::alloc::Global;
 use std::marker::Model;
@@ -26,6 +29,7 @@ pub struct MemArchive {
     alloc: Global,
     config: Config,
     kept: Vec<Kept>,
+    places: Vec<Place>,
     index: Index,
     end: End,
 }
@@ -36,9 +40,9 @@ impl Model for MemArchive {
 
     ghost Value = { Archive };
 
-    ghost view = { λ m. archive_of m.config m.kept.items };
+    ghost view = { λ m. archive_of m.config m.kept.items m.places.items };
 
-    ghost invariant = { λ m. IsKept m.config m.kept.items m.index m.end };
+    ghost invariant = { λ m. IsKept m.config m.kept.items m.places.items m.index m.end };
 }
 
 impl MemArchive {
@@ -52,6 +56,7 @@ impl MemArchive {
             alloc,
             config,
             kept: Vec::new(alloc),
+            places: Vec::new(alloc),
             index: Index::new(alloc),
             end: End {
                 epoch: 0,
@@ -61,47 +66,43 @@ impl MemArchive {
         }
     }
 
-    /// Returns the text of the message with a number, or `None` if there is none.
+    /// Returns the text of the live message with a number, or `None` if there is none.
     pub fn text(&self, number: u32) -> Option<&[u8]>
-        ensures { option_copied result ≡ text_of self.now.entries number }
+        ensures { option_copied result ≡ text_of (live self.now.entries) number }
     {
-        let kept = self.kept.as_slice();
-        if number == 0 {
-            return None;
-        }
-        match kept.get(number as usize - 1) {
-            None => None,
-            Some(kept) => Some(kept.text.as_slice()),
-        }
+        let found = place_of(self.places.as_slice(), number);
+        shown_at(self.kept.as_slice(), found)
     }
 
-    /// Returns the least number of a message that is at least this one, or `None` if there is none.
+    /// Returns the text of the message with a number, live or not, or `None` if there is none.
+    fn text_once(&self, number: u32) -> Option<&[u8]>
+        ensures { option_copied result ≡ text_of (messages self.now.entries) number }
+    {
+        let found = place_of(self.places.as_slice(), number);
+        once_at(self.kept.as_slice(), found)
+    }
+
+    /// Returns the least number of a live message that is at least this one, or `None` if there is
+    /// none.
     pub fn number_from(&self, number: u32) -> Option<u32>
-        ensures { IsLeastLive self.now.entries number result }
+        ensures { IsLeastLive (live self.now.entries) number result }
     {
-        let least = number.max(1);
-        if least as usize <= self.kept.as_slice().len() {
-            Some(least)
-        } else {
-            None
-        }
+        least_live(self.places.as_slice(), number)
     }
 
-    /// Returns the greatest number of a message that is at most this one, or `None` if there is none.
+    /// Returns the greatest number of a live message that is at most this one, or `None` if there is
+    /// none.
     pub(crate) fn number_to(&self, number: u32) -> Option<u32>
-        ensures { IsGreatestLive self.now.entries number result }
+        ensures { IsGreatestLive (live self.now.entries) number result }
     {
-        let greatest = number.min(self.kept.len() as u32);
-        if greatest > 0 { Some(greatest) } else { None }
+        greatest_live(self.places.as_slice(), number)
     }
 
-    /// Returns how many messages have a number from `low` to `high`.
+    /// Returns how many live messages have a number from `low` to `high`.
     pub(crate) fn count_between(&self, low: u32, high: u32) -> u64
-        ensures { result ≡ live_between self.now.entries low high }
+        ensures { result ≡ live_between (live self.now.entries) low high }
     {
-        let first = u64::from(low.max(1));
-        let past = (u64::from(high) + 1).min(self.kept.len() as u64 + 1);
-        past.saturating_sub(first)
+        count_live(self.places.as_slice(), low, high)
     }
 
     /// Returns the entry at an index, from 0, without its text, or `None` if there are not so many.
@@ -110,17 +111,17 @@ impl MemArchive {
     {
         match self.kept.as_slice().get(index as usize) {
             None => None,
-            Some(kept) => Some(kept.line((index + 1) as u32)),
+            Some(kept) => Some(kept.line()),
         }
     }
 
-    /// Returns the text of the messages with this blob id, or `None` if there is none.
+    /// Returns the text of the entries with this blob id, or `None` if there is none.
     pub(crate) fn text_of_blob(&self, blob: &ObjectId) -> Option<&[u8]>
         ensures { option_copied result ≡ blob_text self.now.entries blob.now.0 }
     {
         match self.index.number(blob) {
             None => None,
-            Some(number) => self.text(number),
+            Some(number) => self.text_once(number),
         }
     }
 
@@ -161,6 +162,7 @@ impl MemArchive {
             if kept.epoch == epoch {
                 parent = Some(push_after(
                     self.alloc,
+                    kept.kind,
                     kept.text.as_slice(),
                     kept.moment,
                     parent,
@@ -175,14 +177,16 @@ impl MemArchive {
     ///
     /// `Deliver` keeps the message under the next number, or refuses it. The first cause decides:
     /// the archive is a mirror, the message has no field, it has too many bytes, it is there
-    /// already, another text has its blob id, no number is left. A refusal, and `NoMemory`, leave
-    /// the archive unchanged.
+    /// already, another text has its blob id, no number is left. `Remove` ends the message with a
+    /// number, or refuses: the archive is a mirror, or the number is not live. A refusal, and
+    /// `NoMemory`, leave the archive unchanged.
     pub fn command(&mut self, command: &Command<'_>, moment: u64) -> Answer
         ensures done { Delivers self.old result self.new (applied self.old command.now moment) }
         ensures untouched { IsUntouched result self.old self.new }
     {
         match command {
             Command::Deliver(bytes) => self.deliver(bytes, moment),
+            Command::Remove(number) => self.remove(*number, moment),
         }
     }
 
@@ -191,19 +195,36 @@ impl MemArchive {
         ensures done { Delivers self.old result self.new (delivered self.old bytes.now moment) }
         ensures untouched { IsUntouched result self.old self.new }
     {
+        match self.verdict(bytes) {
+            Verdict::Refuse(answer) => answer,
+            Verdict::Take { text, blob, number } => self.take(text, blob, number, moment),
+            // The texts were compared before.
+            Verdict::Compare { .. } => Answer::NoMemory,
+        }
+    }
+
+    /// Returns the verdict on the delivery of a message, where texts are compared.
+    fn verdict(&self, bytes: &[u8]) -> Verdict
+        ensures judged { Judges self.now bytes.now result }
+        ensures taken { MayKeep self.now result }
+    {
         let count = self.kept.len();
         let next = self.next();
         match judge(self.alloc, &self.config, &self.index, count, next, bytes) {
-            Verdict::Refuse(answer) => answer,
-            Verdict::Take { text, blob, number } => self.take(text, blob, number, moment),
+            Verdict::Refuse(answer) => Verdict::Refuse(answer),
+            Verdict::Take { text, blob, number } => Verdict::Take { text, blob, number },
+            Verdict::Compare { text, blob, number } => match self.text_once(number) {
+                None => Verdict::Refuse(Answer::NoMemory),
+                Some(kept) => compared(&self.config, next, text, blob, number, kept),
+            },
         }
     }
 
     /// Keeps a message under the next number, and answers with that number.
     fn take(&mut self, text: Bytes, blob: ObjectId, number: u32, moment: u64) -> Answer
-        requires free { IsFree self.old.entries text }
+        requires free { IsFree (live self.old.entries) text }
         requires blob { blob ≡ blob_id_of text }
-        requires unseen { blob_number self.old.entries blob.0 ≡ None }
+        requires alone { collision self.old.entries text ≡ None }
         requires room { self.old.next ≤ self.old.config.max }
         ensures done { Delivers self.old result self.new (record {
           archive = with_entry self.old
@@ -218,11 +239,81 @@ impl MemArchive {
         }
     }
 
+    /// Removes a message, or refuses.
+    fn remove(&mut self, number: u32, moment: u64) -> Answer
+        ensures done { Delivers self.old result self.new (removed self.old number moment) }
+        ensures untouched { IsUntouched result self.old self.new }
+    {
+        if self.config.mirror {
+            return Answer::IsMirror;
+        }
+        match self.text_copy(number) {
+            Err(NoMemory) => Answer::NoMemory,
+            Ok(None) => Answer::NotLive(number),
+            Ok(Some(text)) => self.end_message(number, text, moment),
+        }
+    }
+
+    /// Returns a copy of the text of a live message, or `None` if the number is not live.
+    fn text_copy(&self, number: u32) -> Result<Option<Bytes>, NoMemory>
+        ensures { IfOk result (λ found. found ≡ text_of (live self.now.entries) number) }
+    {
+        match self.text(number) {
+            None => Ok(None),
+            Some(text) => {
+                let mut copy = Bytes::new(self.alloc);
+                copy.push_slice(text)?;
+                Ok(Some(copy))
+            }
+        }
+    }
+
+    /// Ends the live message with a number and a text, and answers with the number.
+    fn end_message(&mut self, number: u32, text: Bytes, moment: u64) -> Answer
+        requires writable { self.old.config.mirror ≡ false }
+        requires live { text_of (live self.old.entries) number ≡ Some text }
+        ensures done { Delivers self.old result self.new (removed self.old number moment) }
+        ensures untouched { IsUntouched result self.old self.new }
+    {
+        let id = blob_id(text.as_slice());
+        match self.push_deletion(number, text, moment) {
+            Ok(()) => Answer::Ok { number, id },
+            Err(NoMemory) => Answer::NoMemory,
+        }
+    }
+
+    /// Appends the deletion of a live message.
+    ///
+    /// `NoMemory` leaves the archive unchanged.
+    fn push_deletion(&mut self, number: u32, text: Bytes, moment: u64) -> Result<(), NoMemory>
+        requires live { text_of (live self.old.entries) number ≡ Some text }
+        ensures ok { OnOk result (self.new
+            ≡ with_deletion self.old number (new_epoch self.old) text moment) }
+        ensures err { OnErr result (self.new ≡ self.old) }
+    {
+        let kind = EntryKind::Deletion;
+        let end = self.end.with(self.alloc, self.config.limit, kind, text.as_slice(), moment)?;
+        let commit = end.parent.unwrap();
+        let id = own_id_bytes(self.alloc, text.as_slice())?;
+        self.kept.push(Kept {
+            kind,
+            number,
+            epoch: end.epoch,
+            text,
+            moment,
+            commit,
+        })?;
+        self.index.remove(id.as_slice());
+        hide(&mut self.places, number as usize - 1);
+        self.end = end;
+        Ok(())
+    }
+
     /// Returns the number of the next message.
     pub(crate) fn next(&self) -> u32
         ensures { result ≡ self.now.next }
     {
-        self.kept.len() as u32 + 1
+        self.places.len() as u32 + 1
     }
 
     /// Returns the index entry of the next message, if this is its text.
@@ -239,20 +330,23 @@ impl MemArchive {
     ///
     /// `NoMemory` leaves the archive unchanged.
     fn keep(&mut self, text: Bytes, blob: ObjectId, moment: u64) -> Result<(), NoMemory>
-        requires free { IsFree self.old.entries text }
+        requires free { IsFree (live self.old.entries) text }
         requires blob { blob ≡ blob_id_of text }
-        requires unseen { blob_number self.old.entries blob.0 ≡ None }
+        requires alone { collision self.old.entries text ≡ None }
         requires room { self.old.next ≤ self.old.config.max }
         ensures ok { OnOk result (self.new ≡ with_entry self.old (new_epoch self.old) text moment) }
         ensures err { OnErr result (self.new ≡ self.old) }
     {
-        let end = self
-            .end
-            .with(self.alloc, self.config.limit, text.as_slice(), moment)?;
+        let kind = EntryKind::Message;
+        let end = self.end.with(self.alloc, self.config.limit, kind, text.as_slice(), moment)?;
         let commit = end.parent.unwrap();
         let id = own_id_bytes(self.alloc, text.as_slice())?;
         let owner = self.owner_of(text.as_slice());
+        let entry = self.kept.len();
+        self.places.reserve(1)?;
         self.kept.push(Kept {
+            kind,
+            number: owner.number,
             epoch: end.epoch,
             text,
             moment,
@@ -262,6 +356,7 @@ impl MemArchive {
             let _ = self.kept.pop();
             return Err(NoMemory);
         }
+        self.places.push(Place { entry, live: true })?;
         self.end = end;
         Ok(())
     }

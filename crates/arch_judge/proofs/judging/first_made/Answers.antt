@@ -7,7 +7,7 @@ use Rattle.arch_judge.proofs.judging.first_made.Goals.{else-loop-tried-test, the
 pub returns-in-Free-clause-choice : goal.returns-in-Free-clause-choice
 returns-in-Free-clause-choice c =
     let made = asks_made c.args.index.now c.in_ok-id.id c.as_slice.result.now c.hex_of-digits.result c.as_slice-name.result.now c.args.text.now c.args.config.now.name c.args.content.now c.loop-tried.tried c.object_id.result Free c.in_ok-id.ensures c.hex_of-digits.ensures c.object_id.ensures.value c.as_slice-name.ensures.value c.as_slice.ensures c.in-Free.ensures c.requires.content in
-    takes c.args.config.now c.args.index.now c.args.count c.args.text.now c.loop-tried.tried c.in_ok-with_id-in-Free.field-0 c.as_slice-in-Free.result.now (omega arith) c.loop-tried.invariant made.1 (c.as_slice-in-Free.ensures ∙ made.0) c.in_ok-with_id-in-Free.ensures
+    takes c.args.config.now c.args.index.now c.args.count c.args.text.now c.loop-tried.tried c.in_ok-with_id-in-Free.field-0 c.as_slice-in-Free.result.now (omega arith) (omega arith) c.loop-tried.invariant made.1 (c.as_slice-in-Free.ensures ∙ made.0) c.in_ok-with_id-in-Free.ensures
 
 pub returns-in-Free-clause-new : goal.returns-in-Free-clause-new
 returns-in-Free-clause-new c =

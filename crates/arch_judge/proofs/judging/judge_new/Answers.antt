@@ -1,22 +1,23 @@
-use Rattle.std.proofs.Common.{◌≡◌, ◌∙◌, length, ap, sym}
+use Rattle.std.proofs.Common.{◌≡◌, ◌∙◌, ap, sym}
 use Rattle.git_objects.specs.Objects.{blob_id_of}
-use Rattle.arch_judge.proofs.Judged.{collides, filled, kept}
+use Rattle.arch_judge.proofs.Judged.{comparing, coming, takes-new}
 use Rattle.arch_judge.proofs.judging.judge_new.Goals as goal
 
 pub returns-in-Some-clause-judged : goal.returns-in-Some-clause-judged
 returns-in-Some-clause-judged c =
-    λ a bytes form known is takes. (
+    λ a bytes form count known is takes. (
     let blob : c.blob_id-blob.result ≡ blob_id_of c.args.text = c.blob_id-blob.ensures.value ∙ ap blob_id_of c.as_slice.ensures in
-    collides a c.args.config.now c.args.index.now (length a.entries) c.args.next known bytes c.requires.writable form c.args.text c.blob_id-blob.result is takes c.requires.new blob c.in-Some.number c.in-Some.ensures)
+    comparing a c.args.config.now c.args.index.now count c.args.next known bytes c.requires.writable form c.args.text c.blob_id-blob.result is takes blob c.in-Some.number c.in-Some.ensures)
 
-pub returns-then-next-config-clause-judged : goal.returns-then-next-config-clause-judged
-returns-then-next-config-clause-judged c =
-    λ a bytes form known is takes. (
+pub returns-in-None-clause-judged : goal.returns-in-None-clause-judged
+returns-in-None-clause-judged c =
+    λ a bytes form count known is takes. (
     let blob : c.blob_id-blob.result ≡ blob_id_of c.args.text = c.blob_id-blob.ensures.value ∙ ap blob_id_of c.as_slice.ensures in
-    filled a c.args.config.now c.args.index.now (length a.entries) c.args.next known bytes c.requires.writable form c.args.text c.blob_id-blob.result is takes c.requires.new blob (sym c.in_default.is ∙ c.number.ensures) c.if-next-config.true)
+    c.judge_room.ensures.judged a bytes known.config_is known.next_is
+    (coming a c.args.config.now c.args.index.now count c.args.next known bytes c.requires.writable form c.args.text c.blob_id-blob.result is takes blob c.in-None.ensures))
 
-pub returns-clause-judged : goal.returns-clause-judged
-returns-clause-judged c =
-    λ a bytes form known is takes. (
+pub returns-in-None-clause-taken : goal.returns-in-None-clause-taken
+returns-in-None-clause-taken c =
     let blob : c.blob_id-blob.result ≡ blob_id_of c.args.text = c.blob_id-blob.ensures.value ∙ ap blob_id_of c.as_slice.ensures in
-    kept a c.args.config.now c.args.index.now (length a.entries) c.args.next known bytes c.requires.writable form c.args.text c.blob_id-blob.result is takes c.requires.new blob (sym c.in_default.is ∙ c.number.ensures) c.if-next-config.false)
+    takes-new c.args.config.now c.args.index.now c.args.next c.args.text c.blob_id-blob.result c.judge_room.result
+    (record { writable = c.requires.writable; storage = c.requires.new.storage; blob_is = blob; new_id = c.requires.new.new_id }) (sym c.in-None.ensures) c.judge_room.ensures.taken

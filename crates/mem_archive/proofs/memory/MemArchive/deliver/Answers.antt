@@ -1,22 +1,19 @@
-use Rattle.std.proofs.Common.{◌≡◌, length, sym, subst, arith}
+use Rattle.std.proofs.Common.{sym, subst}
 use Rattle.arch_model.specs.Delivery.{Done, Delivers}
-use Rattle.arch_judge.specs.Judging.{IsKnownBy}
-use Rattle.mem_archive.proofs.Delivering.{kept_known, refuses, untouched-same}
+use Rattle.mem_archive.proofs.Delivering.{refuses, untouched-same}
 use Rattle.mem_archive.proofs.memory.MemArchive.deliver.Goals as goal
 
 pub returns-in-Refuse : goal.returns-in-Refuse
-returns-in-Refuse c =
-    let len : c.len-count.result ≡ length c.self.inside.kept.items = omega (arith, c.len-count.ensures, c.self.inside.kept.ok) in
-    let known : IsKnownBy c.self.inside.config c.self.inside.index c.len-count.result c.next-next.result c.args.self.now =
-    kept_known c.self.inside.config c.self.inside.kept.items c.self.inside.index c.self.inside.end c.args.self.now c.len-count.result c.next-next.result c.self.view_is c.self.invariant len c.next-next.ensures in
-    record { done = refuses c.args.self.now c.args.bytes.now c.args.moment c.in-Refuse.answer (c.in-Refuse.ensures.judged c.args.self.now known); untouched = untouched-same c.in-Refuse.answer c.args.self.now }
+returns-in-Refuse c = record {
+  done = refuses c.args.self.now c.args.bytes.now c.args.moment c.in-Refuse.answer c.in-Refuse.ensures.judged;
+  untouched = untouched-same c.in-Refuse.answer c.args.self.now;
+}
+
+pub take-requires : goal.take-requires
+take-requires c = let may = c.in-Take.ensures.taken in record { free = may.0; blob = may.1; alone = may.2; room = may.3 }
 
 pub returns-in-Take : goal.returns-in-Take
-returns-in-Take c =
-    let len : c.len-count.result ≡ length c.self.inside.kept.items = omega (arith, c.len-count.ensures, c.self.inside.kept.ok) in
-    let known : IsKnownBy c.self.inside.config c.self.inside.index c.len-count.result c.next-next.result c.args.self.now =
-    kept_known c.self.inside.config c.self.inside.kept.items c.self.inside.index c.self.inside.end c.args.self.now c.len-count.result c.next-next.result c.self.view_is c.self.invariant len c.next-next.ensures in
-    record {
-      done = subst (λ (d : Done). Delivers c.args.self.now c.take.result c.take.new.self d) (sym (c.in-Take.ensures.judged c.args.self.now known c.args.moment)) c.take.ensures.done;
-      untouched = c.take.ensures.untouched;
-    }
+returns-in-Take c = record {
+  done = subst (λ (d : Done). Delivers c.args.self.now c.take.result c.take.new.self d) (sym (c.in-Take.ensures.judged c.args.moment)) c.take.ensures.done;
+  untouched = c.take.ensures.untouched;
+}

@@ -1,13 +1,13 @@
-use Rattle.std.proofs.Common.{length, ap, arith}
-use Rattle.mem_archive.proofs.Numbers.{live_in-at, live_in-past}
+use Rattle.std.proofs.Common.{◌≡◌, ◌≤◌, length, ap, arith}
+use Rattle.mem_archive.proofs.Numbers.{least-is}
 use Rattle.mem_archive.proofs.memory.MemArchive.number_from.Goals as goal
 
-pub returns-then-least-as_slice : goal.returns-then-least-as_slice
-returns-then-least-as_slice c =
-    let count = ap length c.as_slice.ensures.value in
-    live_in-at _ _ _ c.self.view_is _ _ c.max-least.ensures (omega (arith, count, c.if-least-as_slice.true))
+pub least_live-requires : goal.least_live-requires
+least_live-requires c =
+    let few : length c.self.inside.places.items ≤ c.self.inside.config.max = c.self.invariant.numbers in
+    let high : c.self.inside.config.max ≤ 2147483647 = c.self.invariant.settings.max_high in
+    let count : length c.as_slice.result.now ≡ length c.self.inside.places.items = ap length c.as_slice.ensures.value in
+    omega (arith, few, high, count)
 
-pub returns-else-least-as_slice : goal.returns-else-least-as_slice
-returns-else-least-as_slice c =
-    let count = ap length c.as_slice.ensures.value in
-    live_in-past _ _ _ c.self.view_is _ _ c.max-least.ensures (omega (arith, count, c.if-least-as_slice.false))
+pub returns : goal.returns
+returns c = least-is c.self.inside.config c.self.inside.kept.items c.self.inside.places.items c.self.inside.index c.self.inside.end c.args.self.now c.self.view_is c.self.invariant c.as_slice.result.now c.args.number c.least_live.result c.as_slice.ensures.value c.least_live.ensures

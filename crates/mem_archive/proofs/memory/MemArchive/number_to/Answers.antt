@@ -1,13 +1,13 @@
-use Rattle.std.proofs.Common.{◌≡◌, length, min, ◌∙◌, ap, arith}
-use Rattle.mem_archive.proofs.Numbers.{live_to-at, live_to-none}
+use Rattle.std.proofs.Common.{◌≡◌, ◌≤◌, length, ap, arith}
+use Rattle.mem_archive.proofs.Numbers.{greatest-is}
 use Rattle.mem_archive.proofs.memory.MemArchive.number_to.Goals as goal
 
-pub returns-then-greatest-gt0 : goal.returns-then-greatest-gt0
-returns-then-greatest-gt0 c =
-    let len : c.len.result ≡ length c.self.inside.kept.items = omega (arith, c.len.ensures, c.self.inside.kept.ok) in
-    live_to-at c.self.inside.config c.self.inside.kept.items c.args.self.now c.self.view_is c.args.number c.min-greatest.result (c.min-greatest.ensures ∙ ap (min c.args.number) len) c.if-greatest-gt0.true
+pub greatest_live-requires : goal.greatest_live-requires
+greatest_live-requires c =
+    let few : length c.self.inside.places.items ≤ c.self.inside.config.max = c.self.invariant.numbers in
+    let high : c.self.inside.config.max ≤ 2147483647 = c.self.invariant.settings.max_high in
+    let count : length c.as_slice.result.now ≡ length c.self.inside.places.items = ap length c.as_slice.ensures.value in
+    omega (arith, few, high, count)
 
-pub returns-else-greatest-gt0 : goal.returns-else-greatest-gt0
-returns-else-greatest-gt0 c =
-    let len : c.len.result ≡ length c.self.inside.kept.items = omega (arith, c.len.ensures, c.self.inside.kept.ok) in
-    live_to-none c.self.inside.config c.self.inside.kept.items c.args.self.now c.self.view_is c.args.number c.min-greatest.result (c.min-greatest.ensures ∙ ap (min c.args.number) len) c.if-greatest-gt0.false
+pub returns : goal.returns
+returns c = greatest-is c.self.inside.config c.self.inside.kept.items c.self.inside.places.items c.self.inside.index c.self.inside.end c.args.self.now c.self.view_is c.self.invariant c.as_slice.result.now c.args.number c.greatest_live.result c.as_slice.ensures.value c.greatest_live.ensures

@@ -1,11 +1,14 @@
-use Rattle.std.proofs.Common.{ℕ, List, ap}
+use Rattle.std.proofs.Common.{◌≡◌, ◌∙◌, sym, subst, None, ℕ, List, ap}
+use Rattle.std.specs.Str.{bytes_eq}
 use Rattle.std.specs.Global.{Vec}
 use Rattle.std.specs.Map.{lookup}
 use Rattle.std.specs.BTreeMap.{is_at}
 use Rattle.std.specs.Cmp.Lexicographic.{slice_cmp}
 use Rattle.std.specs.Ordering.{nat_cmp}
-use Rattle.arch_judge.proofs.Maps.{found_after, taken_back}
-use Rattle.arch_judge.proofs.index.Index.insert.Goals as goal
+use Rattle.std.proofs.lemmas.Slice.Eq.{bytes_eq-Decides}
+use Rattle.arch_judge.specs.Indexes.{number_in}
+use Rattle.arch_judge.proofs.Maps.{found_after, taken_back, fresh_put}
+use Rattle.arch_judge.proofs.index.Index.insert_both.Goals as goal
 
 pub returns-in-Err-clause-err : goal.returns-in-Err-clause-err
 returns-in-Err-clause-err c = record {
@@ -16,5 +19,7 @@ returns-in-Err-clause-err c = record {
 pub returns-clause-ok : goal.returns-clause-ok
 returns-clause-ok c = record {
   owners = λ q. found_after (λ (k : Vec ℕ). k.items) q c.args.id c.args.owner c.args.self.now.owners.entries c.insert-2.new.self.entries c.in_default.ensures.entries;
-  blobs = λ q. found_after (λ (k : List ℕ). k) q c.args.blob.0 c.args.owner.number c.args.self.now.blobs.entries c.insert.new.self.entries c.in_ok-insert.ensures.entries;
+  blobs = λ q.
+      found_after (λ (k : List ℕ). k) q c.args.blob.0 c.args.owner.number c.args.self.now.blobs.entries c.insert.new.self.entries c.in_ok-insert.ensures.entries
+      ∙ fresh_put (bytes_eq q c.args.blob.0) c.args.owner.number (number_in c.args.self.now.blobs q) (λ yes. subst (λ (b : List ℕ). number_in c.args.self.now.blobs b ≡ None) (sym ((bytes_eq-Decides q c.args.blob.0).0 yes)) c.requires.unseen);
 }
