@@ -1,5 +1,5 @@
 -- Own ids, blob ids and numbers of live entries, which are known when one more entry is joined.
-use Rattle.std.specs.Prelude.{◌≡◌, ◌≢◌, ◌+◌, ◌<◌, ◌≤◌, ◌==◌, ◌&&◌, ◌||◌, ◌×◌, ℕ, suc, Bool, true, false, not, cond, List, [], ◌∷◌, ◌++◌, length, option_map, unwrap_or, Option, Some, None, if◌then◌else◌, IsSome, refl}
+use Rattle.std.specs.Prelude.{◌≡◌, ◌≢◌, ◌+◌, ◌<◌, ◌≤◌, ◌==◌, ◌&&◌, ◌||◌, ℕ, suc, Bool, true, false, not, cond, List, [], ◌∷◌, ◌++◌, length, option_map, unwrap_or, Option, Some, None, if◌then◌else◌, IsSome, refl}
 use Rattle.std.specs.List.{AllByRecursion, filter, list_any}
 use Rattle.std.specs.Str.{bytes_eq}
 use Rattle.std.proofs.Common.{◌∙◌, sym, ap, subst, inl, inr, arith}
@@ -208,45 +208,45 @@ same_by m n is = grind (arith, nat_tests, is)
 -- What holds of all numbers holds of one that is found.
 pub found_all : (P : ℕ → Type 0) (es : List Entry) (n : ℕ) (text : List ℕ) → AllByRecursion (λ (e : Entry). P e.number) es → text_of es n ≡ Some text → P n
 found_all P [] n text all is = absurd (let wrong : None ≡ Some text = is in cc)
-found_all P (e ∷ es) n text all is = by (e.number == n) refl is where
-  by : (t : Bool) → (e.number == n) ≡ t → (if t then Some e.text else text_of es n) ≡ Some text → P n
-  by true test found = subst P (same_by e.number n test) all.0
-  by false test found = found_all P es n text all.1 found
+found_all P (e ∷ es) n text all is = by (e.number == n) refl (found_all P es n text all.1) is where
+  by : (t : Bool) → (e.number == n) ≡ t → (text_of es n ≡ Some text → P n) → (if t then Some e.text else text_of es n) ≡ Some text → P n
+  by true test rest found = subst P (same_by e.number n test) all.0
+  by false test rest found = rest found
 
 found_least : (es : List Entry) (low n : ℕ) (text : List ℕ) → Ascends low es → text_of es n ≡ Some text → low ≤ n
 found_least [] low n text up is = absurd (let wrong : None ≡ Some text = is in cc)
-found_least (e ∷ es) low n text up is = by (e.number == n) refl is where
-  by : (t : Bool) → (e.number == n) ≡ t → (if t then Some e.text else text_of es n) ≡ Some text → low ≤ n
-  by true test found = subst (λ (m : ℕ). low ≤ m) (same_by e.number n test) up.0
-  by false test found = let more = found_least es (e.number + 1) n text up.1 found in let from = up.0 in omega (arith, more, from)
+found_least (e ∷ es) low n text up is = by (e.number == n) refl (found_least es (e.number + 1) n text up.1) is where
+  by : (t : Bool) → (e.number == n) ≡ t → (text_of es n ≡ Some text → e.number + 1 ≤ n) → (if t then Some e.text else text_of es n) ≡ Some text → low ≤ n
+  by true test rest found = subst (λ (m : ℕ). low ≤ m) (same_by e.number n test) up.0
+  by false test rest found = let more = rest found in let from = up.0 in omega (arith, more, from)
 
 -- The number of a blob id is that of the text.
 pub found_text : (es : List Entry) (low n : ℕ) (text : List ℕ) → Ascends low es → Agrees text es → blob_number es (blob_id_of text).0 ≡ Some n → text_of es n ≡ Some text
 found_text [] low n text up agree is = absurd (let wrong : None ≡ Some n = is in cc)
-found_text (e ∷ es) low n text up agree is = by (bytes_eq (blob_id_of text).0 (blob_id_of e.text).0) refl is where
-  by : (t : Bool) → bytes_eq (blob_id_of text).0 (blob_id_of e.text).0 ≡ t → (if t then Some e.number else blob_number es (blob_id_of text).0) ≡ Some n → text_of (e ∷ es) n ≡ Some text
-  by true test found =
+found_text (e ∷ es) low n text up agree is = by (bytes_eq (blob_id_of text).0 (blob_id_of e.text).0) refl (found_text es (e.number + 1) n text up.1 agree.1) is where
+  by : (t : Bool) → bytes_eq (blob_id_of text).0 (blob_id_of e.text).0 ≡ t → (blob_number es (blob_id_of text).0 ≡ Some n → text_of es n ≡ Some text) → (if t then Some e.number else blob_number es (blob_id_of text).0) ≡ Some n → text_of (e ∷ es) n ≡ Some text
+  by true test rest found =
       let number : e.number ≡ n = ap (λ (o : Option ℕ). unwrap_or o n) found in
       rw (same_test e.number n number) (ap Some (sym (agree.0 (blob_same (blob_id_of text) (blob_id_of e.text) test))))
-  by false test found =
-      let later = found_text es (e.number + 1) n text up.1 agree.1 found in
+  by false test rest found =
+      let later = rest found in
       let least = found_least es (e.number + 1) n text up.1 later in
       rw (other_test e.number n (λ is. absurd (omega (arith, is, least)))) later
 
 pub found_number : (es : List Entry) (n : ℕ) (text : List ℕ) → IdsDiffer es → Agrees text es → text_of es n ≡ Some text → blob_number es (blob_id_of text).0 ≡ Some n
 found_number [] n text differ agree is = absurd (let wrong : None ≡ Some text = is in cc)
-found_number (e ∷ es) n text differ agree is = by (bytes_eq (blob_id_of text).0 (blob_id_of e.text).0) (e.number == n) refl refl is where
+found_number (e ∷ es) n text differ agree is = by (bytes_eq (blob_id_of text).0 (blob_id_of e.text).0) (e.number == n) refl refl (found_number es n text differ.1 agree.1) is where
   apart : text ≡ e.text → text_of es n ≡ Some text → ⊥
   apart same found = all-text (λ (t : List ℕ). own_id t ≢ own_id e.text) es text differ.0 (found-has es n text found) (ap own_id same)
 
-  by : (t u : Bool) → bytes_eq (blob_id_of text).0 (blob_id_of e.text).0 ≡ t → (e.number == n) ≡ u → (if u then Some e.text else text_of es n) ≡ Some text → (if t then Some e.number else blob_number es (blob_id_of text).0) ≡ Some n
-  by true true test same found = ap Some (same_by e.number n same)
-  by true false test same found = absurd (apart (agree.0 (blob_same (blob_id_of text) (blob_id_of e.text) test)) found)
-  by false true test same found =
+  by : (t u : Bool) → bytes_eq (blob_id_of text).0 (blob_id_of e.text).0 ≡ t → (e.number == n) ≡ u → (text_of es n ≡ Some text → blob_number es (blob_id_of text).0 ≡ Some n) → (if u then Some e.text else text_of es n) ≡ Some text → (if t then Some e.number else blob_number es (blob_id_of text).0) ≡ Some n
+  by true true test same rest found = ap Some (same_by e.number n same)
+  by true false test same rest found = absurd (apart (agree.0 (blob_same (blob_id_of text) (blob_id_of e.text) test)) found)
+  by false true test same rest found =
       let text_is : e.text ≡ text = ap (λ (o : Option (List ℕ)). unwrap_or o text) found in
       let yes_it = bytes_yes (blob_id_of text).0 (blob_id_of e.text).0 (ap (λ (t : List ℕ). (blob_id_of t).0) (sym text_is)) in
       absurd (let wrong : true ≡ false = sym yes_it ∙ test in cc)
-  by false false test same found = found_number es n text differ.1 agree.1 found
+  by false false test same rest found = rest found
 
 -- No entry has a number below all.
 without_none : (es : List Entry) (low n : ℕ) → Ascends low es → n < low → without n es ≡ es
@@ -258,7 +258,7 @@ without_none (e ∷ es) low n up less =
 -- The own ids without the one entry that has a number and a text.
 pub own_without : (es : List Entry) (low n : ℕ) (text q : List ℕ) → Ascends low es → IdsDiffer es → AllByRecursion IsEntry es → text_of es n ≡ Some text → has_own (without n es) q ≡ (not (bytes_eq q (own_of text)) && has_own es q)
 own_without [] low n text q up differ valid is = absurd (let wrong : None ≡ Some text = is in cc)
-own_without (e ∷ es) low n text q up differ valid is = by (e.number == n) refl is where
+own_without (e ∷ es) low n text q up differ valid is = by (e.number == n) refl (own_without es (e.number + 1) n text q up.1 differ.1 valid.1) is where
   hit : (b : Bool) → bytes_eq q (own_of text) ≡ b → e.text ≡ text → has_own es q ≡ (not b && (b || has_own es q))
   hit false test same = refl
   hit true test same =
@@ -280,18 +280,18 @@ own_without (e ∷ es) low n text q up differ valid is = by (e.number == n) refl
       texts [] all = tt
       texts (f ∷ fs) all = (all.0.text, texts fs all.1)
 
-  by : (t : Bool) → (e.number == n) ≡ t → (if t then Some e.text else text_of es n) ≡ Some text → has_own (if t then without n es else e ∷ without n es) q ≡ (not (bytes_eq q (own_of text)) && has_own (e ∷ es) q)
-  by true test found =
+  by : (t : Bool) → (e.number == n) ≡ t → (text_of es n ≡ Some text → has_own (without n es) q ≡ (not (bytes_eq q (own_of text)) && has_own es q)) → (if t then Some e.text else text_of es n) ≡ Some text → has_own (if t then without n es else e ∷ without n es) q ≡ (not (bytes_eq q (own_of text)) && has_own (e ∷ es) q)
+  by true test rest found =
       let same : e.text ≡ text = ap (λ (o : Option (List ℕ)). unwrap_or o text) found in
       let number = same_by e.number n test in
       ap (λ (l : List Entry). has_own l q) (without_none es (e.number + 1) n up.1 (omega (arith, number)))
       ∙ (hit (bytes_eq q (own_of text)) refl same ∙ ap (λ (t : List ℕ). not (bytes_eq q (own_of text)) && (bytes_eq q (own_of t) || has_own es q)) (sym same))
-  by false test found = miss (bytes_eq q (own_of text)) (bytes_eq q (own_of e.text)) refl refl found (own_without es (e.number + 1) n text q up.1 differ.1 valid.1 found)
+  by false test rest found = miss (bytes_eq q (own_of text)) (bytes_eq q (own_of e.text)) refl refl found (rest found)
 
 -- The numbers without it.
 pub number_without : (es : List Entry) (low n : ℕ) (text q : List ℕ) → Ascends low es → IdsDiffer es → Agrees text es → text_of es n ≡ Some text → blob_number (without n es) q ≡ (if bytes_eq q (blob_id_of text).0 then None else blob_number es q)
 number_without [] low n text q up differ agree is = absurd (let wrong : None ≡ Some text = is in cc)
-number_without (e ∷ es) low n text q up differ agree is = by (e.number == n) refl is where
+number_without (e ∷ es) low n text q up differ agree is = by (e.number == n) refl (number_without es (e.number + 1) n text q up.1 differ.1 agree.1) is where
   hit : (b : Bool) → bytes_eq q (blob_id_of text).0 ≡ b → e.text ≡ text → blob_number es q ≡ (if b then None else (if b then Some e.number else blob_number es q))
   hit false test same = refl
   hit true test same = ap (blob_number es) (bytes_same q (blob_id_of text).0 test) ∙ no_number es text agree.1 (turned es e text same differ.0)
@@ -305,13 +305,13 @@ number_without (e ∷ es) low n text q up differ agree is = by (e.number == n) r
       let same : bytes_eq (blob_id_of text).0 (blob_id_of e.text).0 ≡ true = bytes_yes (blob_id_of text).0 (blob_id_of e.text).0 (sym (bytes_same q (blob_id_of text).0 one) ∙ bytes_same q (blob_id_of e.text).0 two) in
       absurd (all-text (λ (t : List ℕ). own_id t ≢ own_id e.text) es text differ.0 (found-has es n text found) (ap own_id (agree.0 (blob_same (blob_id_of text) (blob_id_of e.text) same))))
 
-  by : (t : Bool) → (e.number == n) ≡ t → (if t then Some e.text else text_of es n) ≡ Some text → blob_number (if t then without n es else e ∷ without n es) q ≡ (if bytes_eq q (blob_id_of text).0 then None else blob_number (e ∷ es) q)
-  by true test found =
+  by : (t : Bool) → (e.number == n) ≡ t → (text_of es n ≡ Some text → blob_number (without n es) q ≡ (if bytes_eq q (blob_id_of text).0 then None else blob_number es q)) → (if t then Some e.text else text_of es n) ≡ Some text → blob_number (if t then without n es else e ∷ without n es) q ≡ (if bytes_eq q (blob_id_of text).0 then None else blob_number (e ∷ es) q)
+  by true test rest found =
       let same : e.text ≡ text = ap (λ (o : Option (List ℕ)). unwrap_or o text) found in
       let number = same_by e.number n test in
       ap (λ (l : List Entry). blob_number l q) (without_none es (e.number + 1) n up.1 (omega (arith, number)))
       ∙ (hit (bytes_eq q (blob_id_of text).0) refl same ∙ ap (λ (t : List ℕ). if bytes_eq q (blob_id_of text).0 then None else (if bytes_eq q (blob_id_of t).0 then Some e.number else blob_number es q)) (sym same))
-  by false test found = miss (bytes_eq q (blob_id_of text).0) (bytes_eq q (blob_id_of e.text).0) refl refl found (number_without es (e.number + 1) n text q up.1 differ.1 agree.1 found)
+  by false test rest found = miss (bytes_eq q (blob_id_of text).0) (bytes_eq q (blob_id_of e.text).0) refl refl found (rest found)
 
 -- What holds of the numbers of messages holds of those of deletions, which end them.
 ending_step : (P : ℕ → Type 0) (k : EntryKind) (before : List Entry) (e : Entry) (es : List Entry) → e.kind ≡ k → AllByRecursion (λ (f : Entry). P f.number) before → Ending before e → AllByRecursion (λ (f : Entry). P f.number) (if is_message k then e ∷ es else es)

@@ -2,10 +2,10 @@
 use Rattle.std.proofs.Common.{◌≡◌, ℕ, Bool, true, false, cond, ◌||◌, ◌&&◌, not, List, [], ◌∷◌, Option, Some, None, if◌then◌else◌, refl, sym, ◌∙◌, ap}
 use Rattle.std.specs.Global.{Vec}
 use Rattle.std.specs.BTreeMap.{BTreeMap, get, is_at, UpdatesBy}
-use Rattle.std.specs.Set.{KeepsOthers, remove_key}
+use Rattle.std.specs.Set.{KeepsOthers}
 use Rattle.std.specs.Str.{bytes_eq}
 use Rattle.std.specs.List.{list_any}
-use Rattle.std.specs.Ordering.{nat_cmp, is_eq, match_ordering}
+use Rattle.std.specs.Ordering.{nat_cmp, is_eq, eq_by_cmp, match_ordering}
 use Rattle.std.specs.declared.cmp.Ordering.{Ordering}
 use Rattle.std.specs.declared.cmp.Ordering.TheVariants.{Less, Equal, Greater}
 use Rattle.std.specs.Cmp.Lexicographic.{slice_cmp}
@@ -97,3 +97,26 @@ value_kept {X} m blob x y some q = by (bytes_eq q blob) refl where
   by : (t : Bool) → bytes_eq q blob ≡ t → value_in m q ≡ first_of (value_in m q) (if t then Some x else None)
   by true is = let found : value_in m q ≡ Some y = ap (value_in m) ((bytes_eq-Decides q blob).0 is) ∙ some in found ∙ sym (ap (λ (o : Option X). first_of o (Some x)) found)
   by false is = or_none (value_in m q)
+
+-- A set without an own id.
+id_left : (q id : List ℕ) (old new : List (Vec ℕ)) → list_any (λ (k : Vec ℕ). is_eq (slice_cmp nat_cmp id k.items)) new ≡ false
+    → KeepsOthers (eq_by_cmp (λ (a b : Vec ℕ). slice_cmp nat_cmp a.items b.items)) (λ (k : Vec ℕ). is_eq (slice_cmp nat_cmp id k.items)) old new
+    → list_any (λ (k : Vec ℕ). bytes_eq q k.items) new ≡ (not (bytes_eq q id) && list_any (λ (k : Vec ℕ). bytes_eq q k.items) old)
+unfolding Rattle.std.specs.Set.KeepsOthers
+id_left q id old new gone others = by (bytes_eq q id) refl where
+  other : (k : Vec ℕ) → bytes_eq q id ≡ false → is_eq (slice_cmp nat_cmp id k.items) ≡ true → bytes_eq q k.items ≡ false
+  other k no_way is = let same : id ≡ k.items = (bytes_eq-Decides id k.items).0 (sym (is_eq-slice_cmp id k.items) ∙ is) in ap (bytes_eq q) (sym same) ∙ no_way
+
+  by : (t : Bool) → bytes_eq q id ≡ t → list_any (λ (k : Vec ℕ). bytes_eq q k.items) new ≡ (not t && list_any (λ (k : Vec ℕ). bytes_eq q k.items) old)
+  by true is =
+      let same : q ≡ id = (bytes_eq-Decides q id).0 is in
+      ap (λ (b : List ℕ). list_any (λ (k : Vec ℕ). bytes_eq b k.items) new) same
+      ∙ (sym (any_same (λ (k : Vec ℕ). is_eq (slice_cmp nat_cmp id k.items)) (λ (k : Vec ℕ). bytes_eq id k.items) (λ k. is_eq-slice_cmp id k.items) new) ∙ gone)
+  by false is = others (λ (k : Vec ℕ). bytes_eq q k.items)
+      (λ x y one. let same : q ≡ x.items = (bytes_eq-Decides q x.items).0 one in ap (λ (b : List ℕ). bytes_eq b y.items) same ∙ sym (is_eq-slice_cmp x.items y.items))
+      (λ k one. other k is one)
+
+pub id_dropped : (id : List ℕ) (old new : List (Vec ℕ)) → list_any (λ (k : Vec ℕ). is_eq (slice_cmp nat_cmp id k.items)) new ≡ false
+    → KeepsOthers (eq_by_cmp (λ (a b : Vec ℕ). slice_cmp nat_cmp a.items b.items)) (λ (k : Vec ℕ). is_eq (slice_cmp nat_cmp id k.items)) old new
+    → (q : List ℕ) → list_any (λ (k : Vec ℕ). bytes_eq q k.items) new ≡ (not (bytes_eq q id) && list_any (λ (k : Vec ℕ). bytes_eq q k.items) old)
+id_dropped id old new gone others q = id_left q id old new gone others

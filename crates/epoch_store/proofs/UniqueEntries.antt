@@ -1,5 +1,5 @@
 -- The records of an archive and the texts of its epochs determine its entries.
-use Rattle.std.specs.Prelude.{◌≡◌, ◌≢◌, ◌+◌, ◌<◌, ◌≤◌, ◌==◌, ◌^◌, ◌×◌, ℕ, Bool, true, false, List, [], ◌∷◌, ◌++◌, length, map, Option, Some, None, refl}
+use Rattle.std.specs.Prelude.{◌≡◌, ◌≢◌, ◌+◌, ◌<◌, ◌≤◌, ◌==◌, ◌^◌, ℕ, Bool, true, false, List, [], ◌∷◌, ◌++◌, length, map, Option, Some, None, if◌then◌else◌, refl}
 use Rattle.std.specs.List.{AllByRecursion}
 use Rattle.std.proofs.Common.{◌∙◌, sym, ap, subst, inl, inr, arith, append_assoc, length-append}
 use Rattle.std.proofs.lemmas.List.{append-nil}
@@ -88,27 +88,27 @@ pub cut : (all xs : List Entry) (rest : ℕ → List EpochEntry) (top low high :
 cut all [] rest top low high valid small below up also files none = record { front = []; back = all; is = refl; same = tt; files = files }
 cut [] (x ∷ xs) rest top low high valid small below up also files none =
     absurd (let wrong : [] ≡ in_file x ∷ (filed xs x.epoch ++ rest x.epoch) = files x.epoch small.0 ∙ ap (λ (l : List EpochEntry). l ++ rest x.epoch) (filed_here x xs x.epoch refl) in cc)
-cut (a ∷ as) (x ∷ xs) rest top low high valid small below up also files none =
+cut (a ∷ bs) (x ∷ xs) rest top low high valid small below up also files none =
     let few = valid.0.epoch in
-    let least : a.epoch ≤ x.epoch = first_epoch (a ∷ as) a.epoch x.epoch (in_file x) (filed xs x.epoch ++ rest x.epoch) (omega arith, up.1) (files x.epoch small.0 ∙ ap (λ (l : List EpochEntry). l ++ rest x.epoch) (filed_here x xs x.epoch refl)) in
+    let least : a.epoch ≤ x.epoch = first_epoch (a ∷ bs) a.epoch x.epoch (in_file x) (filed xs x.epoch ++ rest x.epoch) (omega arith, up.1) (files x.epoch small.0 ∙ ap (λ (l : List EpochEntry). l ++ rest x.epoch) (filed_here x xs x.epoch refl)) in
     let most : x.epoch ≤ a.epoch = elim (cases_lt a.epoch x.epoch) [
       | inl less ↦ absurd (
           let highest = below.0 in
           let no_more : rest a.epoch ≡ [] = none a.epoch (omega (arith, less, highest)) (omega (arith, few)) in
           let nothing : filed (x ∷ xs) a.epoch ≡ [] = none_under (x ∷ xs) x.epoch a.epoch (omega arith, also.1) less in
-          let wrong : in_file a ∷ filed as a.epoch ≡ [] = sym (filed_here a as a.epoch refl) ∙ (files a.epoch (omega (arith, few)) ∙ ((λ i. nothing i ++ rest a.epoch) ∙ no_more)) in
+          let wrong : in_file a ∷ filed bs a.epoch ≡ [] = sym (filed_here a bs a.epoch refl) ∙ (files a.epoch (omega (arith, few)) ∙ ((λ i. nothing i ++ rest a.epoch) ∙ no_more)) in
           cc)
       | inr more ↦ more
     ] in
     let epoch : a.epoch ≡ x.epoch = omega (arith, least, most) in
-    let both : in_file a ∷ filed as x.epoch ≡ in_file x ∷ (filed xs x.epoch ++ rest x.epoch) = sym (filed_here a as x.epoch epoch) ∙ (files x.epoch small.0 ∙ ap (λ (l : List EpochEntry). l ++ rest x.epoch) (filed_here x xs x.epoch refl)) in
+    let both : in_file a ∷ filed bs x.epoch ≡ in_file x ∷ (filed xs x.epoch ++ rest x.epoch) = sym (filed_here a bs x.epoch epoch) ∙ (files x.epoch small.0 ∙ ap (λ (l : List EpochEntry). l ++ rest x.epoch) (filed_here x xs x.epoch refl)) in
     let file : in_file a ≡ in_file x = cc in
-    let here : filed as x.epoch ≡ filed xs x.epoch ++ rest x.epoch = cc in
-    let later : (d : ℕ) → d < 64 → filed as d ≡ filed xs d ++ rest d = (λ d less. elim (equal_or_not x.epoch d) [
-      | inl is ↦ subst (λ (n : ℕ). filed as n ≡ filed xs n ++ rest n) is here
-      | inr apart ↦ sym (filed_there a as d (λ is. apart (sym epoch ∙ is))) ∙ (files d less ∙ ap (λ (l : List EpochEntry). l ++ rest d) (filed_there x xs d apart))
+    let here : filed bs x.epoch ≡ filed xs x.epoch ++ rest x.epoch = cc in
+    let later : (d : ℕ) → d < 64 → filed bs d ≡ filed xs d ++ rest d = (λ d less. elim (equal_or_not x.epoch d) [
+      | inl is ↦ subst (λ (n : ℕ). filed bs n ≡ filed xs n ++ rest n) is here
+      | inr apart ↦ sym (filed_there a bs d (λ is. apart (sym epoch ∙ is))) ∙ (files d less ∙ ap (λ (l : List EpochEntry). l ++ rest d) (filed_there x xs d apart))
     ]) in
-    let next = cut as xs rest top a.epoch x.epoch valid.1 small.1 below.1 up.1 also.1 later none in
+    let next = cut bs xs rest top a.epoch x.epoch valid.1 small.1 below.1 up.1 also.1 later none in
     record { front = a ∷ next.front; back = next.back; is = ap (λ (l : List Entry). a ∷ l) next.is; same = (epoch, file, next.same); files = next.files }
 
 -- Entries of which no epoch has one are none.
@@ -149,23 +149,23 @@ abbrev pub Ending : List Entry → Entry → Type 0
 Ending before e = EndsLive e.kind before e
 
 -- What the next number of a message is, and what records follow.
-record SameNumber (a x : Entry) (as xs : List Entry) (p q : List Record) : Type 0 where
+record SameNumber (a x : Entry) (bs xs : List Entry) (p q : List Record) : Type 0 where
   number : a.number ≡ x.number
-  records : map record_of (messages as) ++ p ≡ map record_of (messages xs) ++ q
+  records : map record_of (messages bs) ++ p ≡ map record_of (messages xs) ++ q
 
-same_number : (k : EntryKind) (before : List Entry) (a x : Entry) (as xs : List Entry) (p q : List Record) → a.kind ≡ k → x.kind ≡ k → a.text ≡ x.text → IdsDiffer (live before) → Ending before a → Ending before x
-    → map record_of (messages (a ∷ as)) ++ p ≡ map record_of (messages (x ∷ xs)) ++ q → SameNumber a x as xs p q
-same_number Message before a x as xs p q one two text differ ends also is =
-    let both : record_of a ∷ (map record_of (messages as) ++ p) ≡ record_of x ∷ (map record_of (messages xs) ++ q) =
-    ap (λ (l : List Entry). map record_of l ++ p) (sym (messages_here a as one)) ∙ (is ∙ ap (λ (l : List Entry). map record_of l ++ q) (messages_here x xs two)) in
+same_number : (k : EntryKind) (before : List Entry) (a x : Entry) (bs xs : List Entry) (p q : List Record) → a.kind ≡ k → x.kind ≡ k → a.text ≡ x.text → IdsDiffer (live before) → Ending before a → Ending before x
+    → map record_of (messages (a ∷ bs)) ++ p ≡ map record_of (messages (x ∷ xs)) ++ q → SameNumber a x bs xs p q
+same_number Message before a x bs xs p q one two text differ ends also is =
+    let both : record_of a ∷ (map record_of (messages bs) ++ p) ≡ record_of x ∷ (map record_of (messages xs) ++ q) =
+    ap (λ (l : List Entry). map record_of l ++ p) (sym (messages_here a bs one)) ∙ (is ∙ ap (λ (l : List Entry). map record_of l ++ q) (messages_here x xs two)) in
     let head : record_of a ≡ record_of x = cc in
     record { number = ap (λ (r : Record). r.number) head; records = cc }
-same_number Deletion before a x as xs p q one two text differ ends also is =
+same_number Deletion before a x bs xs p q one two text differ ends also is =
     let first : text_of (live before) a.number ≡ Some a.text = subst (λ (k : EntryKind). EndsLive k before a) one ends in
     let second : text_of (live before) x.number ≡ Some x.text = subst (λ (k : EntryKind). EndsLive k before x) two also in
     record {
       number = one_number (live before) a.number x.number x.text differ (first ∙ ap Some text) second;
-      records = ap (λ (l : List Entry). map record_of l ++ p) (sym (messages_there a as one)) ∙ (is ∙ ap (λ (l : List Entry). map record_of l ++ q) (messages_there x xs two));
+      records = ap (λ (l : List Entry). map record_of l ++ p) (sym (messages_there a bs one)) ∙ (is ∙ ap (λ (l : List Entry). map record_of l ++ q) (messages_there x xs two));
     }
 
 -- Entries with equal numbers, epochs and file entries are equal.
@@ -177,12 +177,12 @@ pub same_entries : (before front xs : List Entry) (p q : List Record) → SamePl
     → map record_of (messages front) ++ p ≡ map record_of (messages xs) ++ q → front ≡ xs
 same_entries before [] [] p q places differ ends also ids is = refl
 same_entries before [] (x ∷ xs) p q places differ ends also ids is = absurd places
-same_entries before (a ∷ as) [] p q places differ ends also ids is = absurd places
-same_entries before (a ∷ as) (x ∷ xs) p q places differ ends also ids is =
+same_entries before (a ∷ bs) [] p q places differ ends also ids is = absurd places
+same_entries before (a ∷ bs) (x ∷ xs) p q places differ ends also ids is =
     let file : in_file a ≡ in_file x = places.1 in
-    let same = same_number x.kind before a x as xs p q (ap (λ (f : EpochEntry). f.kind) file) refl (ap (λ (f : EpochEntry). f.text) file) differ ends.0 also.0 is in
+    let same = same_number x.kind before a x bs xs p q (ap (λ (f : EpochEntry). f.kind) file) refl (ap (λ (f : EpochEntry). f.text) file) differ ends.0 also.0 is in
     let first : a ≡ x = entry_is a x same.number places.0 file in
-    let rest = same_entries (before ++ a ∷ []) as xs p q places.2 ids.0 ends.1 (subst (λ (e : Entry). AtEachPlace Ending (before ++ e ∷ []) xs) (sym first) also.1) ids.1 same.records in
+    let rest = same_entries (before ++ a ∷ []) bs xs p q places.2 ids.0 ends.1 (subst (λ (e : Entry). AtEachPlace Ending (before ++ e ∷ []) xs) (sym first) also.1) ids.1 same.records in
     λ i. first i ∷ rest i
 
 -- Two lists of entries are equal if the records of their messages and the files of their epochs are.
