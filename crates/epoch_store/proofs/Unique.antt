@@ -2,7 +2,7 @@
 use Rattle.std.specs.Prelude.{◌≡◌, ◌^◌, ◌-◌, ◌*◌, ◌<◌, ℕ, List, length, Some, None, refl}
 use Rattle.std.proofs.Common.{◌∙◌, sym, ap, subst, arith}
 use Rattle.disk_model.specs.Disk.{Files}
-use Rattle.arch_model.specs.Archives.{Archive, messages}
+use Rattle.arch_model.specs.Archives.{Archive}
 use Rattle.epoch_file.specs.Entries.{EpochsDiffer}
 use Rattle.number_map.specs.Laws.{RecordsDiffer}
 use Rattle.root_slots.specs.declared.root.Root.{Root}

@@ -184,6 +184,7 @@ impl Joining {
         ensures reads { OnlyReads D.content D.moment D.left_since D.faults disk.old disk.new }
         ensures fault { result ≡ Err JoinRefusal.DiskFault
             → Rose (D.faults disk.old) (D.faults disk.new) }
+        ensures steady { result ≢ Err JoinRefusal.DiskFault → D.faults disk.new ≡ D.faults disk.old }
     {
         let Some(first) = self.known.firsts.get(&seen.blob.0) else {
             return Ok(true);
@@ -213,6 +214,7 @@ impl Joining {
         ensures reads { OnlyReads D.content D.moment D.left_since D.faults disk.old disk.new }
         ensures fault { result ≡ Err JoinRefusal.DiskFault
             → Rose (D.faults disk.old) (D.faults disk.new) }
+        ensures steady { result ≢ Err JoinRefusal.DiskFault → D.faults disk.new ≡ D.faults disk.old }
     {
         match self.has_same(alloc, disk, root, epoch, &seen) {
             Ok(same) => self.take_one(epoch, seen, same),
@@ -244,6 +246,7 @@ impl Joining {
         ensures reads { OnlyReads D.content D.moment D.left_since D.faults disk.old disk.new }
         ensures fault { result ≡ Err JoinRefusal.DiskFault
             → Rose (D.faults disk.old) (D.faults disk.new) }
+        ensures steady { result ≢ Err JoinRefusal.DiskFault → D.faults disk.new ≡ D.faults disk.old }
     {
         let mut joining = self;
         for entry in seen.into_vec() {
@@ -311,6 +314,7 @@ fn seen_text<D: Disk>(
     ensures reads { OnlyReads D.content D.moment D.left_since D.faults disk.old disk.new }
     ensures fault { result ≡ Err JoinRefusal.DiskFault
         → Rose (D.faults disk.old) (D.faults disk.new) }
+    ensures steady { result ≢ Err JoinRefusal.DiskFault → D.faults disk.new ≡ D.faults disk.old }
 {
     let gen_ = match root.epochs.get(epoch as usize) {
         Some(place) => place.gen_,
