@@ -1,13 +1,13 @@
 -- What is known of entries with one more that was joined.
-use Rattle.std.specs.Prelude.{◌≡◌, ◌+◌, ◌&&◌, ◌||◌, ℕ, suc, Bool, true, false, not, List, [], ◌∷◌, ◌++◌, length, option_map, Option, Some, None, if◌then◌else◌, refl}
-use Rattle.std.specs.List.{AllByRecursion}
+use Rattle.std.specs.Prelude.{◌≡◌, ◌+◌, ◌&&◌, ◌||◌, ℕ, suc, Bool, true, false, not, cond, List, [], ◌∷◌, ◌++◌, length, option_map, Option, Some, None, if◌then◌else◌, refl}
+use Rattle.std.specs.List.{AllByRecursion, filter}
 use Rattle.std.specs.Str.{bytes_eq}
 use Rattle.std.proofs.Common.{◌∙◌, sym, ap, subst, inl, inr, arith, length-append}
 use Rattle.arch_base.specs.declared.ids.Id20.{Id20}
 use Rattle.git_objects.specs.Objects.{blob_id_of}
 use Rattle.git_objects.specs.declared.entry_kind.EntryKind.{EntryKind}
 use Rattle.git_objects.specs.declared.entry_kind.EntryKind.TheVariants.{Message, Deletion}
-use Rattle.arch_model.specs.Archives.{Entry, live, text_of, blob_number}
+use Rattle.arch_model.specs.Archives.{Entry, is_message, live, text_of, blob_number}
 use Rattle.arch_model.specs.Validity.{IsEntry}
 use Rattle.arch_model.proofs.LiveEntries.{ids-now, live-all, HasText, found-has, live-has}
 use Rattle.number_map.specs.declared.line.Record.{Record}
@@ -16,7 +16,7 @@ use Rattle.epoch_store.specs.declared.entries.StoredEntry.{StoredEntry}
 use Rattle.epoch_store.specs.declared.known.Known.{Known}
 use Rattle.epoch_store.specs.Stores.{stored_at, stored_after, live_kept}
 use Rattle.epoch_store.specs.Damage.{AreFirst}
-use Rattle.epoch_store.specs.Joined.{Joined, Holds, Held, message_count, id_in, value_in, first_of, has_id, number_of, first_index, AreKnown, entry_seen, with_seen, JoinsNext, IsWanted}
+use Rattle.epoch_store.specs.Joined.{Joined, Holds, Held, message_count, id_in, value_in, first_of, has_id, number_of, first_index, AreKnown, entry_seen, with_seen}
 use Rattle.epoch_store.proofs.Growing.{stored_more}
 use Rattle.epoch_store.proofs.KnownLive.{own_of, has_own, first_at, kept_ids, kept_numbers, kept_firsts, no_number, own_push, number_new, first_push, own_without, number_without, live_ascends, bytes_same, bytes_yes}
 use Rattle.epoch_store.proofs.Firsts.{FitsKind, with_record, first_less, fits_last, blobs_last, live_more, live_less, stored_count}
@@ -117,17 +117,21 @@ message_known v epoch number s old new kind before ids numbers firsts = λ rs af
           ∙ (sym (first_push front last q) ∙ ap (λ (l : List Entry). first_at l q) (sym p.last.is)));
     })
 
+-- An index isn't none.
+of_none : {k : ℕ} → Some k ≡ None → ⊥
+of_none {k} is = let wrong : None ≡ Some k = sym is in cc
+
 -- A text that is there has a first entry.
 first_some : (es : List Entry) (text : List ℕ) → HasText text es → first_at es (blob_id_of text).0 ≡ None → ⊥
 first_some [] text has none = has
 first_some (e ∷ es) text (inl is) none =
     let yes_it : bytes_eq (blob_id_of text).0 (blob_id_of e.text).0 ≡ true = bytes_yes (blob_id_of text).0 (blob_id_of e.text).0 (ap (λ (t : List ℕ). (blob_id_of t).0) (sym is)) in
     let found : (if true then Some 0 else option_map suc (first_at es (blob_id_of text).0)) ≡ None = ap (λ (t : Bool). if t then Some 0 else option_map suc (first_at es (blob_id_of text).0)) (sym yes_it) ∙ none in
-    let wrong : Some 0 ≡ None = found in cc
+    of_none found
 first_some (e ∷ es) text (inr more) none = by (bytes_eq (blob_id_of text).0 (blob_id_of e.text).0) (first_at es (blob_id_of text).0) refl none (first_some es text more) where
   by : (t : Bool) (o : Option ℕ) → first_at es (blob_id_of text).0 ≡ o → (if t then Some 0 else option_map suc o) ≡ None → (first_at es (blob_id_of text).0 ≡ None → ⊥) → ⊥
-  by true o rest is no_way = let wrong : Some 0 ≡ None = is in cc
-  by false (Some k) rest is no_way = let wrong : Some (suc k) ≡ None = is in cc
+  by true o rest is no_way = of_none is
+  by false (Some k) rest is no_way = of_none is
   by false None rest is no_way = no_way rest
 
 -- What is known of a deletion is known then.
@@ -161,51 +165,20 @@ deletion_known v epoch number s old new kind before ids numbers firsts = λ rs a
     by false test None found = refl
     by true test None found = absurd (first_some front last.text has (ap (first_at front) (sym (bytes_same q (blob_id_of last.text).0 test)) ∙ found))
 
--- A message whose id is known can't join, and one that isn't the next can't.
-pub id_taken : (v : Joined) (epoch : ℕ) (s : Seen) (old : Known) (t : Bool) → s.kind ≡ Message → Held v (AreKnown v.entries old) → t ≡ not (id_in old.ids s.id) → t ≡ false → Held v ((number : ℕ) → JoinsNext v epoch s true number → ⊥)
-id_taken v epoch s old t kind before is no_way = λ rs after es holds number joins. elim joins.1 [
-  | inl m ↦ (let had : id_in old.ids s.id ≡ false = (before rs after es holds).ids s.id ∙ m.id in let wrong : false ≡ true = sym no_way ∙ (is ∙ ap not had) in cc)
-  | inr d ↦ (let wrong : Message ≡ Deletion = sym kind ∙ d.deletion in other_kind wrong)
-] where
-  is_one : EntryKind → Bool
-  is_one Message = true
-  is_one Deletion = false
+-- How many messages there are with one more entry of either kind.
+count_by : (k : EntryKind) (xs : List StoredEntry) (t : StoredEntry) → t.seen.kind ≡ k → message_count (xs ++ t ∷ []) ≡ (if is_message k then message_count xs + 1 else message_count xs)
+count_by k [] t is = one k is where
+  one : (j : EntryKind) → t.seen.kind ≡ j → message_count (t ∷ []) ≡ (if is_message j then 1 else 0)
+  one Message kind = rw kind refl
+  one Deletion kind = rw kind refl
+count_by k (x ∷ xs) t is = by (is_message x.seen.kind) (is_message k) (filter (λ (e : StoredEntry). is_message e.seen.kind) (xs ++ t ∷ [])) (filter (λ (e : StoredEntry). is_message e.seen.kind) xs) (count_by k xs t is) where
+  by : (b c : Bool) (ys zs : List StoredEntry) → length ys ≡ (if c then length zs + 1 else length zs) → length (cond b (x ∷ ys) ys) ≡ (if c then length (cond b (x ∷ zs) zs) + 1 else length (cond b (x ∷ zs) zs))
+  by true true ys zs more = omega (arith, more)
+  by true false ys zs more = omega (arith, more)
+  by false c ys zs more = more
 
-  other_kind : Message ≡ Deletion → ⊥
-  other_kind is = let wrong : true ≡ false = ap is_one is in cc
+pub count_message : (xs : List StoredEntry) (t : StoredEntry) → t.seen.kind ≡ Message → message_count (xs ++ t ∷ []) ≡ message_count xs + 1
+count_message xs t is = count_by Message xs t is
 
-pub not_wanted : (v : Joined) (epoch : ℕ) (s : Seen) → s.kind ≡ Message → ((number : ℕ) → IsWanted v epoch s number → ⊥) → Held v ((number : ℕ) → JoinsNext v epoch s true number → ⊥)
-not_wanted v epoch s kind none = λ rs after es holds number joins. elim joins.1 [
-  | inl m ↦ none number m.wanted
-  | inr d ↦ (let wrong : Message ≡ Deletion = sym kind ∙ d.deletion in other_kind wrong)
-] where
-  is_one : EntryKind → Bool
-  is_one Message = true
-  is_one Deletion = false
-
-  other_kind : Message ≡ Deletion → ⊥
-  other_kind is = let wrong : true ≡ false = ap is_one is in cc
-
--- A message that is the next one and whose id is new joins.
-pub message_joins : (v : Joined) (epoch number : ℕ) (s : Seen) (old : Known) (t : Bool) → Held v (AreKnown v.entries old) → IsWanted v epoch s number → t ≡ not (id_in old.ids s.id) → t ≡ true → Held v (JoinsNext v epoch s true number)
-message_joins v epoch number s old t before wanted is yes_it = λ rs after es holds.
-    (refl, inl (record { wanted = wanted; id = sym ((before rs after es holds).ids s.id) ∙ not_so (id_in old.ids s.id) (sym is ∙ yes_it) })) where
-  not_so : (b : Bool) → not b ≡ true → b ≡ false
-  not_so true e = absurd (let wrong : false ≡ true = e in cc)
-  not_so false e = refl
-
--- A deletion joins with the number of its blob id, and can't if it has none.
-pub deletion_joins : (v : Joined) (epoch number : ℕ) (s : Seen) (old : Known) → Held v (AreKnown v.entries old) → s.kind ≡ Deletion → value_in old.numbers s.blob.0 ≡ Some number → Held v (JoinsNext v epoch s true number)
-deletion_joins v epoch number s old before kind is = λ rs after es holds. (refl, inr (record { deletion = kind; live = sym ((before rs after es holds).numbers s.blob.0) ∙ is }))
-
-pub ends_none : (v : Joined) (epoch : ℕ) (s : Seen) (old : Known) → Held v (AreKnown v.entries old) → s.kind ≡ Deletion → value_in old.numbers s.blob.0 ≡ None → Held v ((number : ℕ) → JoinsNext v epoch s true number → ⊥)
-ends_none v epoch s old before kind is = λ rs after es holds number joins. elim joins.1 [
-  | inl m ↦ (let wrong : Message ≡ Deletion = sym m.wanted.message ∙ kind in other_kind wrong)
-  | inr d ↦ (let wrong : None ≡ Some number = sym is ∙ ((before rs after es holds).numbers s.blob.0 ∙ d.live) in cc)
-] where
-  is_one : EntryKind → Bool
-  is_one Message = true
-  is_one Deletion = false
-
-  other_kind : Message ≡ Deletion → ⊥
-  other_kind is = let wrong : true ≡ false = ap is_one is in cc
+pub count_deletion : (xs : List StoredEntry) (t : StoredEntry) → t.seen.kind ≡ Deletion → message_count (xs ++ t ∷ []) ≡ message_count xs
+count_deletion xs t is = count_by Deletion xs t is
