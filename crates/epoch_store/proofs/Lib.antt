@@ -30,3 +30,4 @@ mod Recovered
 mod Reopening
 mod WholeEpochs
 mod Settles
+mod Comparing
