@@ -67,7 +67,9 @@ returns-clause-done g c = λ a cache store room alone.
     let goes = goes_next v w cache a p e k0 has room c.requires.accepts alone in
     let root = c.in_ok-root.root in
     let stored = c.new_entry-stored.result in
-    let kept = c.new_entry-stored.ensures.stored a (store_keeps w cache a k0 has.owns) (subst (λ (u : View). IsNextPlace u.root a (next_sequence u.root.sequence) p) has.same has.next) in
+    let keeps = store_keeps w cache a k0 has.owns in
+    let kept : stored ≡ stored_at a.entries (message a.next p.epoch text moment) =
+    c.new_entry-stored.ensures.stored a keeps (subst (λ (u : View). IsNextPlace u.root a (next_sequence u.root.sequence) p) has.same has.next) ∙ ap (λ (n : ℕ). stored_at a.entries (message n p.epoch text moment)) keeps.names.next in
     let full = c.in-Ok.ensures.ok in
     let more = pushed (is_ok c.push.result) c.reserve.new.self.items c.push.new.self.items stored c.push.ensures.items (c.push.ensures.succeeds (omega (arith, full))) in
     let entries : List StoredEntry = w.entries ++ stored_at a.entries (message a.next p.epoch text moment) ∷ [] in
