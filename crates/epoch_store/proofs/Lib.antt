@@ -7,6 +7,7 @@ mod Delivering
 mod EntryWriting
 mod Mapped
 mod Sets
+mod KnownLive
 mod Firsts
 mod Joins
 mod Kept
