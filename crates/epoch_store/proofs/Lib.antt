@@ -10,6 +10,7 @@ mod Sets
 mod KnownLive
 mod Firsts
 mod Joins
+mod Knowing
 mod Kept
 pub mod UniqueRoots
 mod UniqueEntries
