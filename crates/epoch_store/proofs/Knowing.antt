@@ -158,12 +158,12 @@ deletion_known v epoch number s old new kind before ids numbers firsts = λ rs a
       numbers = λ q. numbers q ∙ ((λ i. if bytes_eq q (blob i).0 then None else was.numbers q i) ∙ (sym (number_without (live front) 1 last.number last.text q up differ agree shown) ∙ ap (λ (l : List Entry). blob_number l q) (sym lives)));
       firsts = λ q. firsts q ∙ (was.firsts q ∙ (stays front last q there ∙ (sym (first_push front last q) ∙ ap (λ (l : List Entry). first_at l q) (sym p.last.is))));
     }) where
-  stays : (front : List Entry) (last : Entry) (q : List ℕ) → HasText last.text front → first_at front q ≡ first_of (first_at front q) (if bytes_eq q (blob_id_of last.text).0 then Some (length front) else None)
-  stays front last q has = by (bytes_eq q (blob_id_of last.text).0) refl (first_at front q) refl where
-    by : (t : Bool) → bytes_eq q (blob_id_of last.text).0 ≡ t → (o : Option ℕ) → first_at front q ≡ o → o ≡ first_of o (if t then Some (length front) else None)
-    by t test (Some k) found = refl
-    by false test None found = refl
-    by true test None found = absurd (first_some front last.text has (ap (first_at front) (sym (bytes_same q (blob_id_of last.text).0 test)) ∙ found))
+      stays : (front : List Entry) (last : Entry) (q : List ℕ) → HasText last.text front → first_at front q ≡ first_of (first_at front q) (if bytes_eq q (blob_id_of last.text).0 then Some (length front) else None)
+      stays front last q has = by (bytes_eq q (blob_id_of last.text).0) refl (first_at front q) refl where
+        by : (t : Bool) → bytes_eq q (blob_id_of last.text).0 ≡ t → (o : Option ℕ) → first_at front q ≡ o → o ≡ first_of o (if t then Some (length front) else None)
+        by t test (Some k) found = refl
+        by false test None found = refl
+        by true test None found = absurd (first_some front last.text has (ap (first_at front) (sym (bytes_same q (blob_id_of last.text).0 test)) ∙ found))
 
 -- How many messages there are with one more entry of either kind.
 count_by : (k : EntryKind) (xs : List StoredEntry) (t : StoredEntry) → t.seen.kind ≡ k → message_count (xs ++ t ∷ []) ≡ (if is_message k then message_count xs + 1 else message_count xs)
