@@ -1,12 +1,16 @@
 mod Parted
 mod Growing
 mod Ends
+mod Lengthened
+pub mod LiveKept
 mod Delivering
 mod EntryWriting
 mod Mapped
 mod Sets
+mod KnownLive
 mod Firsts
 mod Joins
+mod Knowing
 mod Kept
 pub mod UniqueRoots
 mod UniqueEntries
@@ -26,3 +30,4 @@ mod Recovered
 mod Reopening
 mod WholeEpochs
 mod Settles
+mod Comparing
