@@ -1,5 +1,5 @@
 -- What follows for whoever calls a keeper.
-use Rattle.std.proofs.Common.{◌≡◌, ◌≤◌, ℕ, Bool, true, false, List, [], ◌∷◌, ◌++◌, Option, Some, None, inl, inr, refl, sym, ap, subst, ◌∙◌, arith}
+use Rattle.std.proofs.Common.{◌≡◌, ℕ, Bool, true, false, List, [], ◌∷◌, ◌++◌, Option, Some, None, inl, inr, refl, sym, ap, subst, ◌∙◌, arith}
 use Rattle.std.specs.List.{Contains}
 use Rattle.std.proofs.lemmas.Bool.{false≢true}
 use Rattle.arch_model.specs.Archives.{Archive}
@@ -131,18 +131,18 @@ unopened-ready opening.NoArchive = refl
 unopened-ready (opening.Damaged file at) = refl
 
 pub unopened-cause : (before now : ℕ) (why : OpenRefusal) → OpeningWhy before now why → AnswerCause before now (opening_answer why)
-unopened-cause before now opening.DiskFault cause = cause
+unopened-cause before now opening.DiskFault rose = rose
 unopened-cause before now opening.NoMemory kept = kept
-unopened-cause before now opening.NoArchive cause = tt
-unopened-cause before now (opening.Damaged file at) cause = tt
+unopened-cause before now opening.NoArchive kept = kept
+unopened-cause before now (opening.Damaged file at) kept = kept
 
 -- A cause in the last of several calls is one in all of them, if the calls before it met no fault.
 pub cause-earlier : (before mid now : ℕ) (e : Ending) → mid ≡ before → CauseBy mid now e → CauseBy before now e
-cause-earlier before mid now Accepts same cause = tt
-cause-earlier before mid now Refuses same cause = tt
+cause-earlier before mid now Accepts same kept = kept ∙ same
+cause-earlier before mid now Refuses same kept = kept ∙ same
 cause-earlier before mid now Starves same kept = kept ∙ same
 cause-earlier before mid now Fails same rose = omega (arith, same, rose)
-cause-earlier before mid now Breaks same cause = tt
+cause-earlier before mid now Breaks same kept = kept ∙ same
 
 -- A keeper that tells nothing fits no standing.
 pub untold-fits : {K : Type 0} (ready : K → Bool) (k : K) (s : Standing) → Fits HoldsNone ready LeavesUntold k s → ⊥

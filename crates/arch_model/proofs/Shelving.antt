@@ -55,7 +55,7 @@ stays-same holds ready alike faults same s at_hand = record { same = same s; kep
 -- A cause in the last of several calls is one in all of them, if the calls before it met no fault.
 pub why-earlier : (before mid now : ℕ) (why : TextRefusal) → mid ≡ before → ReadingWhy mid now why → ReadingWhy before now why
 why-earlier before mid now refusal.DiskFault same rose = omega (arith, same, rose)
-why-earlier before mid now (refusal.Damaged named found) same other = other
+why-earlier before mid now (refusal.Damaged named found) same cause = (cause.0, cause.1 ∙ same)
 why-earlier before mid now refusal.NoMemory same kept = kept ∙ same
 
 -- The lines of entries with one more.
@@ -88,7 +88,7 @@ has_step : (t : Bool) (number : ℕ) (more : Option ℕ) → (if t then Some num
 has_step true number more none = absurd (cc)
 has_step false number more none = (refl, none)
 
-has-blob : (es : List Entry) (text : List ℕ) → HasText text es → blob_number es (blob_id_of text).0 ≡ None → ⊥
+pub has-blob : (es : List Entry) (text : List ℕ) → HasText text es → blob_number es (blob_id_of text).0 ≡ None → ⊥
 has-blob [] text has none = has
 has-blob (e ∷ es) text (inl is) none =
     let both = has_step (bytes_eq (blob_id_of text).0 (blob_id_of e.text).0) e.number (blob_number es (blob_id_of text).0) none in
