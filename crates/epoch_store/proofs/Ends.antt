@@ -8,12 +8,12 @@ use Rattle.arch_base.specs.declared.ids.Id20.{Id20}
 use Rattle.arch_model.specs.Archives.{Entry, Archive, in_epoch}
 use Rattle.arch_model.specs.Delivery.{greater, last_epoch, takes_more, new_epoch}
 use Rattle.arch_model.specs.Epochs.{last_commit}
-use Rattle.mail_commits.specs.Entries.{message_kind, commit_id}
+use Rattle.mail_commits.specs.Entries.{commit_id}
 use Rattle.arch_base.specs.declared.config.Config.{Config}
 use Rattle.root_slots.specs.Valid.{no_place}
 use Rattle.epoch_store.specs.declared.entries.StoredEntry.{StoredEntry}
 use Rattle.epoch_store.specs.declared.next.End.{End}
-use Rattle.arch_model.specs.Validity.{Rise}
+use Rattle.arch_model.specs.Validity.{Rise, number_after}
 use Rattle.arch_model.proofs.ValidArchives.{none_later, all_weaker}
 use Rattle.epoch_store.specs.Recovery.{bytes_in}
 use Rattle.epoch_store.specs.Stores.{View, Keeps, IsEnd, IsNextPlace, next_sequence, place_of, stored_at, stored_after}
@@ -43,7 +43,7 @@ greater_first m n less = grind (arith, nat_tests)
 pub last_is_greatest : (number epoch : ℕ) (es : List Entry) (e : Entry) → Rise number epoch (es ++ e ∷ []) → (last_epoch (es ++ e ∷ []) ≡ e.epoch) × (epoch ≤ e.epoch)
 last_is_greatest number epoch [] e rise = (greater_first e.epoch 0 (omega arith), rise.1)
 last_is_greatest number epoch (f ∷ es) e rise =
-    let rest = last_is_greatest (f.number + 1) f.epoch es e rise.2 in
+    let rest = last_is_greatest (number_after f.kind number f.number) f.epoch es e rise.2 in
     let low = rise.1 in
     (ap (greater f.epoch) rest.0 ∙ greater_second f.epoch e.epoch rest.1, omega (arith, low, rest.1))
 
@@ -56,9 +56,9 @@ none_in (e ∷ es) epoch below =
     rw test (none_in es epoch below.1)
 
 -- The last commit of entries with one appended.
-pub last_commit_is : (parent : Option Id20) (es : List Entry) (e : Entry) → last_commit parent (es ++ e ∷ []) ≡ Some (commit_id message_kind e.text e.moment (last_commit parent es))
+pub last_commit_is : (parent : Option Id20) (es : List Entry) (e : Entry) → last_commit parent (es ++ e ∷ []) ≡ Some (commit_id e.kind e.text e.moment (last_commit parent es))
 last_commit_is parent [] e = refl
-last_commit_is parent (f ∷ es) e = last_commit_is (Some (commit_id message_kind f.text f.moment parent)) es e
+last_commit_is parent (f ∷ es) e = last_commit_is (Some (commit_id f.kind f.text f.moment parent)) es e
 
 -- The last item of a list.
 last_item : {X : Type 0} (xs : List X) (x : X) → slice_get (xs ++ x ∷ []) (length (xs ++ x ∷ []) - 1) ≡ Some x

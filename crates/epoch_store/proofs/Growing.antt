@@ -7,9 +7,10 @@ use Rattle.std.proofs.lemmas.List.Elements.{filter-append}
 use Rattle.std.proofs.lemmas.Grind.{flat_map-append}
 use Rattle.std.proofs.lemmas.Bool.Decides.{nat_tests}
 use Rattle.arch_base.specs.declared.ids.Id20.{Id20}
-use Rattle.arch_model.specs.Archives.{Entry, Archive, in_epoch}
+use Rattle.arch_model.specs.Archives.{Entry, Archive, message, deletion, messages, in_epoch}
+use Rattle.arch_model.proofs.LiveEntries.{messages-message, messages-deletion, messages-all}
 use Rattle.arch_model.specs.Epochs.{epoch_bytes, entries_bytes, last_commit}
-use Rattle.mail_commits.specs.Entries.{magic, message_kind, entry_bytes, commit_id}
+use Rattle.mail_commits.specs.Entries.{magic, entry_bytes, commit_id}
 use Rattle.number_map.specs.declared.line.Record.{Record}
 use Rattle.number_map.specs.Records.{record_bytes}
 use Rattle.epoch_file.specs.Entries.{bytes_after}
@@ -58,20 +59,27 @@ records_more es n (suc count) =
     ap (λ (rs : List Record). record_for n (entry_of es n) ∷ rs)
     (records_more es (n + 1) count ∙ ap (λ (m : ℕ). records_from es (n + 1) count ++ record_for m (entry_of es m) ∷ []) (let is : n + 1 + count ≡ n + suc count = omega arith in is))
 
--- An entry of the next number is one more record.
-pub map_grows : (a : Archive) (new : Entry) → 1 ≤ a.next → new.number ≡ a.next → AllByRecursion (λ (e : Entry). e.number < a.next) a.entries
-    → flat_map record_bytes (records_from (a.entries ++ new ∷ []) 1 (a.next + 1 - 1)) ≡ map_bytes a ++ record_bytes (record_for a.next (Some new))
-map_grows a new least number below =
+-- A message of the next number is one more record.
+pub map_grows : (a : Archive) (epoch : ℕ) (text : List ℕ) (moment : ℕ) → 1 ≤ a.next → AllByRecursion (λ (e : Entry). e.number < a.next) a.entries
+    → flat_map record_bytes (records_from (messages (a.entries ++ message a.next epoch text moment ∷ [])) 1 (a.next + 1 - 1)) ≡ map_bytes a ++ record_bytes (record_for a.next (Some (message a.next epoch text moment)))
+map_grows a epoch text moment least below =
+    let new : Entry = message a.next epoch text moment in
+    let old = messages a.entries in
     let count : a.next + 1 - 1 ≡ suc (a.next - 1) = omega (arith, least) in
     let last : 1 + (a.next - 1) ≡ a.next = omega (arith, least) in
-    let all = a.entries ++ new ∷ [] in
-    let found : entry_of all a.next ≡ Some new = subst (λ (n : ℕ). entry_of all n ≡ Some new) number (entry_new a.entries new (subst (λ (n : ℕ). AllByRecursion (λ (e : Entry). e.number < n) a.entries) (sym number) below)) in
+    let all = old ++ new ∷ [] in
+    let found : entry_of all a.next ≡ Some new = entry_new old new (messages-all (λ (e : Entry). e.number < a.next) a.entries below) in
     let records : records_from all 1 (a.next + 1 - 1) ≡ records_of a ++ record_for a.next (Some new) ∷ [] =
     ap (records_from all 1) count
     ∙ (records_more all 1 (a.next - 1)
-    ∙ (ap (λ (rs : List Record). rs ++ record_for (1 + (a.next - 1)) (entry_of all (1 + (a.next - 1))) ∷ []) (records_kept a.entries new 1 (a.next - 1) (omega (arith, least, number)))
+    ∙ (ap (λ (rs : List Record). rs ++ record_for (1 + (a.next - 1)) (entry_of all (1 + (a.next - 1))) ∷ []) (records_kept old new 1 (a.next - 1) (omega (arith, least)))
     ∙ (ap (λ (n : ℕ). records_of a ++ record_for n (entry_of all n) ∷ []) last ∙ ap (λ (e : Option Entry). records_of a ++ record_for a.next e ∷ []) found))) in
-    ap (flat_map record_bytes) records ∙ (flat_map-append record_bytes (records_of a) (record_for a.next (Some new) ∷ []) ∙ ap (λ (b : List ℕ). map_bytes a ++ b) (append-nil (record_bytes (record_for a.next (Some new)))))
+    ap (λ (es : List Entry). flat_map record_bytes (records_from es 1 (a.next + 1 - 1))) (messages-message a.entries a.next epoch text moment)
+    ∙ (ap (flat_map record_bytes) records ∙ (flat_map-append record_bytes (records_of a) (record_for a.next (Some new) ∷ []) ∙ ap (λ (b : List ℕ). map_bytes a ++ b) (append-nil (record_bytes (record_for a.next (Some new))))))
+
+-- A deletion leaves the records.
+pub map_stays : (a : Archive) (number epoch : ℕ) (text : List ℕ) (moment : ℕ) → flat_map record_bytes (records_from (messages (a.entries ++ deletion number epoch text moment ∷ [])) 1 (a.next - 1)) ≡ map_bytes a
+map_stays a number epoch text moment = ap (λ (es : List Entry). flat_map record_bytes (records_from es 1 (a.next - 1))) (messages-deletion a.entries number epoch text moment)
 
 -- The entries of an epoch and one more of it, or of another one.
 pub in_epoch-here : (es : List Entry) (new : Entry) (epoch : ℕ) → new.epoch ≡ epoch → in_epoch (es ++ new ∷ []) epoch ≡ in_epoch es epoch ++ new ∷ []
@@ -84,9 +92,9 @@ in_epoch-other es new epoch apart = filter-append (λ (e : Entry). e.epoch == ep
 entries_more : (parent : Option Id20) (es : List Entry) (new : Entry) → entries_bytes parent (es ++ new ∷ []) ≡ entries_bytes parent es ++ bytes_after (last_commit parent es) (in_file new)
 entries_more parent [] new = append-nil (bytes_after parent (in_file new))
 entries_more parent (e ∷ es) new =
-    let next : Option Id20 = Some (commit_id message_kind e.text e.moment parent) in
-    ap (λ (b : List ℕ). entry_bytes message_kind e.text e.moment parent ++ b) (entries_more next es new)
-    ∙ sym (append_assoc (entry_bytes message_kind e.text e.moment parent) (entries_bytes next es) (bytes_after (last_commit next es) (in_file new)))
+    let next : Option Id20 = Some (commit_id e.kind e.text e.moment parent) in
+    ap (λ (b : List ℕ). entry_bytes e.kind e.text e.moment parent ++ b) (entries_more next es new)
+    ∙ sym (append_assoc (entry_bytes e.kind e.text e.moment parent) (entries_bytes next es) (bytes_after (last_commit next es) (in_file new)))
 
 -- The bytes of an epoch with one more entry.
 epoch_more : (es : List Entry) (new : Entry) → epoch_bytes (es ++ new ∷ []) ≡ epoch_bytes es ++ (front_at (length (epoch_bytes es)) ++ bytes_after (last_commit None es) (in_file new))

@@ -34,7 +34,7 @@ use Rattle.epoch_store.proofs.Making.{first_is_root}
 
 -- An archive without entries is valid.
 pub empty_valid : (config : Config) → IsName config.name → IsConfig config → IsArchive (empty_archive config)
-empty_valid config name valid = record { name = name; config = valid; next_least = omega arith; next_most = omega arith; entries = tt; below = tt; order = tt; ids = tt; blobs = tt }
+empty_valid config name valid = record { name = name; config = valid; next_least = omega arith; next_most = omega arith; entries = tt; below = tt; order = tt; ends = tt; ids = tt; blobs = tt }
 
 -- All places of the first root are empty.
 first_place : (config : Config) (e : ℕ) → e < 64 → get_or (first_root_of config).epochs e no_place ≡ no_place

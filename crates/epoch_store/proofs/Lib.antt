@@ -1,6 +1,8 @@
 mod Parted
 mod Growing
 mod Ends
+mod Lengthened
+pub mod LiveKept
 mod Delivering
 mod EntryWriting
 mod Mapped

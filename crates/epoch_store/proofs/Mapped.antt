@@ -6,7 +6,8 @@ use Rattle.std.proofs.lemmas.Grind.{common_steps}
 use Rattle.arch_base.specs.Ids.{IsId}
 use Rattle.git_objects.specs.Objects.{blob_spelling}
 use Rattle.git_objects.proofs.ObjectIds.{IsId-id_of}
-use Rattle.arch_model.specs.Archives.{Entry, Archive}
+use Rattle.arch_model.specs.Archives.{Entry, Archive, messages}
+use Rattle.arch_model.proofs.LiveEntries.{messages-all}
 use Rattle.number_map.specs.Records.{IsRecord, AreRecordsFrom}
 use Rattle.number_map.specs.Sizes.{records_length}
 use Rattle.arch_model.specs.Validity.{IsEntry, IsArchive}
@@ -40,6 +41,13 @@ pub records_count : (es : List Entry) (n count : ℕ) → length (records_from e
 records_count es n zero = refl
 records_count es n (suc count) = let rest = records_count es (n + 1) count in omega (arith, rest)
 
+-- The records of an archive are valid, and as many as there are numbers below the next one.
+pub records_valid : (a : Archive) → IsArchive a → AreRecordsFrom 1 (records_of a)
+records_valid a valid = records_are_valid (messages a.entries) 1 (a.next - 1) (messages-all IsEntry a.entries valid.entries)
+
+pub records_few : (a : Archive) → length (records_of a) ≡ a.next - 1
+records_few a = records_count (messages a.entries) 1 (a.next - 1)
+
 -- The map has 28 bytes for each number.
 pub map_length : (a : Archive) → IsArchive a → length (map_bytes a) ≡ 28 * (a.next - 1)
-map_length a valid = records_length 1 (records_of a) (records_are_valid a.entries 1 (a.next - 1) valid.entries) ∙ ap (λ (n : ℕ). 28 * n) (records_count a.entries 1 (a.next - 1))
+map_length a valid = records_length 1 (records_of a) (records_valid a valid) ∙ ap (λ (n : ℕ). 28 * n) (records_few a)

@@ -5,13 +5,14 @@ use Rattle.std.proofs.Math.Seq.{take-append_seam}
 use Rattle.std.proofs.lemmas.List.{append-nil, append_cancel_left, length-take, take-append-drop, nil_from_length}
 use Rattle.std.specs.Global.{Vec}
 use Rattle.arch_base.specs.declared.ids.Id20.{Id20}
-use Rattle.disk_model.specs.Disk.{Files, bytes_of}
+use Rattle.disk_model.specs.Disk.{File, Files, bytes_of}
 use Rattle.mail_commits.specs.Entries.{magic}
 use Rattle.number_map.specs.declared.line.Record.{Record}
 use Rattle.epoch_file.specs.declared.entry.Seen.{Seen}
 use Rattle.epoch_file.specs.Entries.{EntriesDiffer, EpochEntry, AreEpochEntries, bytes_after, commit_after, chain, last_of, epoch_of, EpochsDiffer}
 use Rattle.epoch_file.specs.Walking.{IsEpoch, EndsEarly, IsDamagedAt}
 use Rattle.root_slots.specs.declared.root.Root.{Root}
+use Rattle.root_change.specs.Texts.{Fronts}
 use Rattle.epoch_store.specs.Files.{epoch_file_of}
 use Rattle.epoch_store.specs.declared.entries.StoredEntry.{StoredEntry}
 use Rattle.epoch_store.specs.declared.known.JoinRefusal.TheVariants.{Damaged}
@@ -19,19 +20,23 @@ use Rattle.epoch_store.specs.declared.known.Unmatched.{Unmatched}
 use Rattle.epoch_store.specs.Damage.{messages, AreFirst, named_length, IsFirstDamage}
 use Rattle.epoch_store.specs.Joined.{Joined, AreJoined, TakesEpoch, Finishes}
 use Rattle.epoch_store.specs.Openings.{HasMap, IsReadUpTo, AreRead}
-use Rattle.epoch_store.proofs.Opening.{walked_whole, empty_whole, early_next, stops_next, entry_some, valid_after}
+use Rattle.epoch_store.proofs.Opening.{fronts_by, walked_whole, empty_whole, early_next, stops_next, entry_some, valid_after}
 use Rattle.epoch_store.proofs.Undamaged.{prefix_of}
 
 -- The bytes of an epoch's file.
 abbrev bytes_at : Root → Files → ℕ → List ℕ
 bytes_at root files epoch = bytes_of (files (epoch_file_of root epoch))
 
+-- The bytes that a walk read are at the front of the file.
+walked_fronts : (n : ℕ) (file : File) (seen : List Seen) → (walked : IsEpoch n (bytes_of file) seen) → Fronts (epoch_of walked.entries) file
+walked_fronts n file seen walked = fronts_by n (epoch_of walked.entries) file walked.spelled walked.whole
+
 -- Nothing is read yet.
 pub read_none : (root : Root) (files : Files) (rs : List Record) (v : Joined) → HasMap root files rs → v.records ≡ messages rs → v.entries ≡ [] → IsReadUpTo root files rs 0 v
 read_none root files rs v has records entries = record {
   entries = [];
   after = messages rs;
-  holds = record { numbered = has.begins.valid; records = records; entries_are = entries; first = record { valid = tt; order = tt; ids = tt; blobs = tt; records = refl } };
+  holds = record { numbered = has.begins.valid; records = records; entries_are = entries; first = record { valid = tt; order = tt; ends = tt; ids = tt; blobs = tt; records = refl } };
   whole = record { below = tt; lengths = λ e less. absurd (omega (arith, less)); fronts = λ e less. absurd (omega (arith, less)) };
 }
 
@@ -40,20 +45,20 @@ pub read_empty : (root : Root) (files : Files) (rs : List Record) (epoch : ℕ) 
 read_empty root files rs epoch v up none = record { entries = up.entries; after = up.after; holds = up.holds; whole = empty_whole root files epoch up.entries up.whole none }
 
 -- An epoch that a walk read and whose entries were all joined is read.
-pub read_more : (root : Root) (files : Files) (rs : List Record) (epoch : ℕ) (old new : Joined) (seen : List Seen) → IsReadUpTo root files rs epoch old → IsEpoch (named_length root epoch) (bytes_at root files epoch) seen → TakesEpoch old epoch seen (Ok new)
+pub read_more : (root : Root) (files : Files) (rs : List Record) (epoch : ℕ) (old new : Joined) (seen : List Seen) → IsReadUpTo root files rs epoch old → IsEpoch (named_length root epoch) (bytes_at root files epoch) seen → TakesEpoch root old epoch seen (Ok new) files
     → IsReadUpTo root files rs (epoch + 1) new
 read_more root files rs epoch old new seen up walked takes =
-    let joined : AreJoined new rs up.entries epoch walked.entries = takes rs up.after up.entries walked.entries up.holds walked.valid walked.is in
+    let joined : AreJoined new rs up.entries epoch walked.entries = takes rs up.after up.entries walked.entries up.holds up.whole (walked_fronts (named_length root epoch) (files (epoch_file_of root epoch)) seen walked) walked.valid walked.is in
     record { entries = up.entries ++ joined.more; after = joined.after; holds = joined.holds; whole = walked_whole root files epoch up.entries rs new seen up.whole walked joined }
 
 -- An epoch whose entries could not all be joined is damaged.
 pub read_stopped : EntriesDiffer → (root : Root) (files : Files) (rs : List Record) (epoch offset : ℕ) (old : Joined) (seen : List Seen) → named_length root epoch < 2 ^ 64 → epoch < 64 → IsReadUpTo root files rs epoch old
-    → IsEpoch (named_length root epoch) (bytes_at root files epoch) seen → TakesEpoch old epoch seen (Err (Damaged offset)) → IsFirstDamage root files rs epoch offset
+    → IsEpoch (named_length root epoch) (bytes_at root files epoch) seen → TakesEpoch root old epoch seen (Err (Damaged offset)) files → IsFirstDamage root files rs epoch offset
 read_stopped differ root files rs epoch offset old seen short less up walked takes =
     inr (inl (
       less,
       stops_next differ root files epoch offset up.entries rs walked.entries [] short up.whole walked.valid (walked.spelled ∙ sym (append-nil (epoch_of walked.entries)))
-          (takes rs up.after up.entries walked.entries up.holds walked.valid walked.is),
+          (takes rs up.after up.entries walked.entries up.holds up.whole (walked_fronts (named_length root epoch) (files (epoch_file_of root epoch)) seen walked) walked.valid walked.is),
     ))
 
 -- Entries without bytes are none.
@@ -96,17 +101,17 @@ again differ n offset bytes seen short ends walked =
 
 -- An epoch in which a walk ended later is damaged there if all entries up to there were joined.
 pub read_left : EpochsDiffer → (root : Root) (files : Files) (rs : List Record) (epoch offset : ℕ) (old new : Joined) (seen : List Seen) → named_length root epoch < 2 ^ 64 → epoch < 64 → 8 < offset → IsReadUpTo root files rs epoch old
-    → IsDamagedAt (named_length root epoch) (bytes_at root files epoch) offset → IsEpoch offset (bytes_at root files epoch) seen → TakesEpoch old epoch seen (Ok new) → IsFirstDamage root files rs epoch offset
+    → IsDamagedAt (named_length root epoch) (bytes_at root files epoch) offset → IsEpoch offset (bytes_at root files epoch) seen → TakesEpoch root old epoch seen (Ok new) files → IsFirstDamage root files rs epoch offset
 read_left differ root files rs epoch offset old new seen short less high up (inl lacks) walked takes = absurd (let zero_is = lacks.0 in omega (arith, zero_is, high))
 read_left differ root files rs epoch offset old new seen short less high up (inr ends) walked takes =
-    let joined : AreJoined new rs up.entries epoch walked.entries = takes rs up.after up.entries walked.entries up.holds walked.valid walked.is in
+    let joined : AreJoined new rs up.entries epoch walked.entries = takes rs up.after up.entries walked.entries up.holds up.whole (walked_fronts offset (files (epoch_file_of root epoch)) seen walked) walked.valid walked.is in
     let within = left_within (named_length root epoch) offset (bytes_at root files epoch) ends in
     let same = again differ (named_length root epoch) offset (bytes_at root files epoch) seen (omega (arith, within, short)) ends walked in
     inr (inl (less, early_next root files epoch offset up.entries joined.more rs joined.after up.whole joined.stand joined.holds.first ends (same ∙ joined.are)))
 
 -- Otherwise it is damaged before, at the first that could not be joined.
 pub read_left_stopped : EntriesDiffer → EpochsDiffer → (root : Root) (files : Files) (rs : List Record) (epoch left offset : ℕ) (old : Joined) (seen : List Seen) → named_length root epoch < 2 ^ 64 → epoch < 64 → 8 < left → IsReadUpTo root files rs epoch old
-    → IsDamagedAt (named_length root epoch) (bytes_at root files epoch) left → IsEpoch left (bytes_at root files epoch) seen → TakesEpoch old epoch seen (Err (Damaged offset)) → IsFirstDamage root files rs epoch offset
+    → IsDamagedAt (named_length root epoch) (bytes_at root files epoch) left → IsEpoch left (bytes_at root files epoch) seen → TakesEpoch root old epoch seen (Err (Damaged offset)) files → IsFirstDamage root files rs epoch offset
 read_left_stopped entry differ root files rs epoch left offset old seen short less high up (inl lacks) walked takes = absurd (let zero_is = lacks.0 in omega (arith, zero_is, high))
 read_left_stopped entry differ root files rs epoch left offset old seen short less high up (inr ends) walked takes =
     let within = left_within (named_length root epoch) left (bytes_at root files epoch) ends in
@@ -114,7 +119,7 @@ read_left_stopped entry differ root files rs epoch left offset old seen short le
     inr (inl (
       less,
       stops_next entry root files epoch offset up.entries rs walked.entries ends.rest short up.whole walked.valid (ends.spelled ∙ ap (λ (es : List EpochEntry). epoch_of es ++ ends.rest) same)
-          (takes rs up.after up.entries walked.entries up.holds walked.valid walked.is),
+          (takes rs up.after up.entries walked.entries up.holds up.whole (walked_fronts left (files (epoch_file_of root epoch)) seen walked) walked.valid walked.is),
     ))
 
 -- A walk up to the offset at which a walk ended isn't damaged.

@@ -7,7 +7,7 @@ use Rattle.epoch_file.specs.Entries.{EntriesDiffer, EpochsDiffer}
 use Rattle.epoch_store.specs.Files.{map_file_of}
 use Rattle.epoch_store.specs.Recovery.{records_of}
 use Rattle.epoch_store.specs.Openings.{RecoversMap, RecoversUndamaged}
-use Rattle.epoch_store.proofs.Mapped.{records_are_valid, records_count, map_length}
+use Rattle.epoch_store.proofs.Mapped.{records_valid, records_few, map_length}
 use Rattle.epoch_store.proofs.Parted.{parts_front}
 use Rattle.epoch_store.proofs.Opened.{recovers_opened}
 use Rattle.epoch_store.proofs.Undamaged.{opened_undamaged}
@@ -16,14 +16,14 @@ use Rattle.epoch_store.proofs.Undamaged.{opened_undamaged}
 pub recovers_map : RecoversMap
 recovers_map root files a cache recovers =
     let valid = recovers.valid in
-    let count : length (records_of a) ≡ a.next - 1 = records_count a.entries 1 (a.next - 1) in
+    let count : length (records_of a) ≡ a.next - 1 = records_few a in
     record {
       is_root = recovers.names.is_root;
       fits = recovers.names.fits;
       current = recovers.stands.current;
       count = count ∙ ap (λ (n : ℕ). n - 1) (sym recovers.names.next);
       begins = record {
-        valid = records_are_valid a.entries 1 (a.next - 1) valid.entries;
+        valid = records_valid a valid;
         spelled = ap (λ (n : ℕ). take n (bytes_of (files (map_file_of root)))) (ap (λ (n : ℕ). 28 * n) count ∙ sym (map_length a valid)) ∙ (parts_front root cache files a recovers).map_front.front;
       };
     }

@@ -14,7 +14,7 @@ use Rattle.git_objects.specs.declared.entry_kind.EntryKind.{EntryKind}
 use Rattle.git_objects.specs.Objects.{blob_id_of}
 use Rattle.arch_model.specs.Archives.{Entry, Archive, in_epoch}
 use Rattle.arch_model.specs.Epochs.{epoch_bytes, entries_bytes, last_commit}
-use Rattle.mail_commits.specs.Entries.{entry_bytes, tree_of, commit_text, magic, message_kind, commit_id}
+use Rattle.mail_commits.specs.Entries.{entry_bytes, tree_of, commit_text, magic, commit_id}
 use Rattle.epoch_file.specs.Entries.{bytes_after}
 use Rattle.epoch_file.specs.Walking.{blob_front}
 use Rattle.epoch_store.specs.declared.entries.StoredEntry.{StoredEntry}
@@ -107,12 +107,12 @@ divided_reads bytes offset text d =
 
 -- The bytes of entries with one among them.
 entries_split : (parent : Option Id20) (xs : List Entry) (e : Entry) (ys : List Entry)
-    → entries_bytes parent (xs ++ e ∷ ys) ≡ entries_bytes parent xs ++ (bytes_after (last_commit parent xs) (in_file e) ++ entries_bytes (Some (commit_id message_kind e.text e.moment (last_commit parent xs))) ys)
+    → entries_bytes parent (xs ++ e ∷ ys) ≡ entries_bytes parent xs ++ (bytes_after (last_commit parent xs) (in_file e) ++ entries_bytes (Some (commit_id e.kind e.text e.moment (last_commit parent xs))) ys)
 entries_split parent [] e ys = refl
 entries_split parent (x ∷ xs) e ys =
-    let next : Option Id20 = Some (commit_id message_kind x.text x.moment parent) in
-    ap (λ (b : List ℕ). entry_bytes message_kind x.text x.moment parent ++ b) (entries_split next xs e ys)
-    ∙ sym (append_assoc (entry_bytes message_kind x.text x.moment parent) (entries_bytes next xs) (bytes_after (last_commit next xs) (in_file e) ++ entries_bytes (Some (commit_id message_kind e.text e.moment (last_commit next xs))) ys))
+    let next : Option Id20 = Some (commit_id x.kind x.text x.moment parent) in
+    ap (λ (b : List ℕ). entry_bytes x.kind x.text x.moment parent ++ b) (entries_split next xs e ys)
+    ∙ sym (append_assoc (entry_bytes x.kind x.text x.moment parent) (entries_bytes next xs) (bytes_after (last_commit next xs) (in_file e) ++ entries_bytes (Some (commit_id e.kind e.text e.moment (last_commit next xs))) ys))
 
 epoch_split : (xs : List Entry) (e : Entry) (ys : List Entry) → epoch_bytes (xs ++ e ∷ ys) ≡ magic ++ entries_bytes None (xs ++ e ∷ ys)
 epoch_split [] e ys = refl
@@ -140,9 +140,9 @@ entry_text kind text moment parent = sized_text (decimal (length text)) text (tr
 epoch_text : (xs : List Entry) (e : Entry) (ys : List Entry) → Divided (epoch_bytes (xs ++ e ∷ ys)) (8 + length (entries_bytes None xs) + blob_front e.text) e.text
 epoch_text xs e ys =
     let parent = last_commit None xs in
-    let rest = entries_bytes (Some (commit_id message_kind e.text e.moment parent)) ys in
+    let rest = entries_bytes (Some (commit_id e.kind e.text e.moment parent)) ys in
     let all = entries_bytes None xs ++ (bytes_after parent (in_file e) ++ rest) in
-    let here = divided_before (bytes_after parent (in_file e)) rest (blob_front e.text) e.text (entry_text message_kind e.text e.moment parent) in
+    let here = divided_before (bytes_after parent (in_file e)) rest (blob_front e.text) e.text (entry_text e.kind e.text e.moment parent) in
     let after = divided_after (entries_bytes None xs) (bytes_after parent (in_file e) ++ rest) (blob_front e.text) e.text here in
     let whole : Divided (magic ++ all) (length magic + (length (entries_bytes None xs) + blob_front e.text)) e.text = divided_after magic all (length (entries_bytes None xs) + blob_front e.text) e.text after in
     let offset : length magic + (length (entries_bytes None xs) + blob_front e.text) ≡ 8 + length (entries_bytes None xs) + blob_front e.text = omega arith in

@@ -1,13 +1,13 @@
 -- What a store keeps in memory of an archive, and which disk is its own.
 use Rattle.std.specs.Prelude.{◌-◌, ◌^◌, min, set, slice_get, Bool, not, ◌&&◌, ◌||◌, ◌≡◌, ◌≢◌, ◌⊎◌, ◌+◌, ◌<◌, ◌≤◌, ◌==◌, ℕ, false, List, [], ◌∷◌, ◌++◌, length, get_or, Option, Some, None, if◌then◌else◌, Result, Ok, Err}
-use Rattle.std.specs.List.{AllByRecursion, Contains}
+use Rattle.std.specs.List.{Contains}
 use Rattle.arch_base.specs.declared.ids.Id20.{Id20}
 use Rattle.disk_model.specs.Disk.{Files, Content, bytes_of}
 use Rattle.disk_model.specs.Sizes.{epoch_count, greatest_epoch, record_size}
 use Rattle.mail_reader.specs.StorageTexts.{IsStorageText}
 use Rattle.mail_reader.specs.Ids.{own_id}
 use Rattle.git_objects.specs.Objects.{blob_id_of}
-use Rattle.arch_model.specs.Archives.{Entry, Archive, message, deletion, is_message, with_entry, with_deletion, live, text_of, in_epoch}
+use Rattle.arch_model.specs.Archives.{Entry, Archive, message, deletion, is_message, with_entry, with_deletion, live, text_of, IsFree, in_epoch}
 use Rattle.arch_model.specs.Delivery.{last_epoch, new_epoch, collision}
 use Rattle.arch_model.specs.Epochs.{entries_bytes, last_commit}
 use Rattle.git_objects.specs.declared.entry_kind.EntryKind.TheVariants.{Message, Deletion}
@@ -108,12 +108,12 @@ live_kept (e ∷ es) =
     else live_kept es
 
 -- A new text would be accepted by what is kept: the archive is no mirror and has a number left, the
--- text is a storage text, and no live message has its own id.
+-- text is a storage text, and no live message of the archive has its own id.
 pub record Accepts (v : View) (text : List ℕ) : Type 0 where
   pub writable : v.root.config.mirror ≡ false
   pub number_left : v.root.next ≤ v.root.config.max
   pub storage : IsStorageText text
-  pub id : AllByRecursion (λ (e : StoredEntry). own_id text ≢ Some e.seen.id) (live_kept v.entries)
+  pub id : (a : Archive) → Keeps v a → IsFree (live a.entries) text
 
 -- A removal would be accepted by what is kept: the archive is no mirror, and a live entry has the
 -- number, and the own id and the blob id of the text.

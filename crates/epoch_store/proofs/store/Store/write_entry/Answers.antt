@@ -17,8 +17,8 @@ use Rattle.epoch_store.specs.Files.{map_file_of}
 use Rattle.epoch_store.specs.Recovery.{parts_of}
 use Rattle.epoch_store.specs.Stores.{View, HasSizes, IsStoreWith, GoesNext, place_of, root_after, with_message, view_after}
 use Rattle.epoch_store.proofs.Kept.{place_inside}
-use Rattle.epoch_store.proofs.Delivering.{appended_some, sizes_after, root_still}
-use Rattle.epoch_store.proofs.EntryWriting.{entry_respects, map_respects, entry_leaves, to_replace, replacing_leaves, replaced}
+use Rattle.epoch_store.proofs.Delivering.{appended_some, sizes_after, root_beside, root_sized}
+use Rattle.epoch_store.proofs.EntryWriting.{entry_respects, map_respects, entry_leaves, to_replace, replacing_leaves, replaced, message_texts, message_written, message_stored}
 use Rattle.epoch_store.proofs.store.Store.write_entry.Goals as goal
 
 pub returns-in_err-written-clause-any_moment : goal.returns-in_err-written-clause-any_moment
@@ -26,7 +26,7 @@ returns-in_err-written-clause-any_moment g c = λ a cache store goes.
     let v = c.args.self.now in
     let p = c.args.place.now in
     let run = c.append_entry.ensures.beside (bounds_of v.root) (entry_respects v.root p c.epoch_file-epoch.result c.epoch_file-epoch.ensures c.requires.place c.requires.small) in
-    entry_leaves g.D.Disk.content g.D.Disk.moment g.D.Disk.left_since v cache a p c.args.entry.now c.args.disk.now store goes c.append_entry.new.disk run
+    entry_leaves g.D.Disk.content g.D.Disk.moment g.D.Disk.left_since v cache a (with_message a p c.args.entry.now) c.args.disk.now store c.append_entry.new.disk run
 
 pub returns-in_err-append-clause-any_moment : goal.returns-in_err-append-clause-any_moment
 returns-in_err-append-clause-any_moment g c = λ a cache store goes.
@@ -38,11 +38,10 @@ returns-in_err-append-clause-any_moment g c = λ a cache store goes.
     let e = c.args.entry.now in
     let w : View = record { root = c.self.inside.root; slot = slot_number c.self.inside.slot; entries = c.self.inside.entries.items } in
     let own = subst (λ (u : View). IsStoreWith u cache a (content disk)) (sym c.self.view_is) store in
-    let next = subst (λ (u : View). GoesNext u a p e) (sym c.self.view_is) goes in
     let place = subst (λ (u : View). p ≡ place_of u.root p.epoch p.parent) (sym c.self.view_is) c.requires.place in
     let bounds = bounds_of w.root in
     let run = run_joined content g.D.Disk.moment g.D.Disk.left_since bounds disk d1 d2 (c.append_entry.ensures.beside bounds (entry_respects w.root p c.epoch_file-epoch.result c.epoch_file-epoch.ensures place c.requires.small)) (c.append.ensures.beside bounds (map_respects w.root c.map_file-map.result c.map_file-map.ensures)) in
-    entry_leaves content g.D.Disk.moment g.D.Disk.left_since w cache a p e disk own next d2 run
+    entry_leaves content g.D.Disk.moment g.D.Disk.left_since w cache a (with_message a p e) disk own d2 run
 
 pub returns-in_err-replace_root-clause-any_moment : goal.returns-in_err-replace_root-clause-any_moment
 returns-in_err-replace_root-clause-any_moment g c = λ a cache store goes.
@@ -54,13 +53,16 @@ returns-in_err-replace_root-clause-any_moment g c = λ a cache store goes.
     let e = c.args.entry.now in
     let w : View = record { root = c.self.inside.root; slot = slot_number c.self.inside.slot; entries = c.self.inside.entries.items } in
     let own = subst (λ (u : View). IsStoreWith u cache a (content disk)) (sym c.self.view_is) store in
-    let next = subst (λ (u : View). GoesNext u a p e) (sym c.self.view_is) goes in
     let place = subst (λ (u : View). p ≡ place_of u.root p.epoch p.parent) (sym c.self.view_is) c.requires.place in
-    let root_is = subst (λ (u : View). c.next_root-root.result ≡ root_after u.root p c.in_ok-written.written.end) (sym c.self.view_is) c.next_root-root.ensures.root in
     let bounds = bounds_of w.root in
     let run = run_joined content g.D.Disk.moment g.D.Disk.left_since bounds disk d1 d2 (c.append_entry.ensures.beside bounds (entry_respects w.root p c.epoch_file-epoch.result c.epoch_file-epoch.ensures place c.requires.small)) (c.append.ensures.beside bounds (map_respects w.root c.map_file-map.result c.map_file-map.ensures)) in
-    replacing_leaves content g.D.Disk.moment g.D.Disk.left_since w cache a p e disk own next c.requires.small c.requires.moment place c.requires.entry c.in_ok-written.written c.in_ok-written.ensures.written (omega arith) c.next_root-root.result root_is (slot_number c.other-slot.result) c.other-slot.ensures
-    c.epoch_file-epoch.result c.map_file-map.result c.epoch_file-epoch.ensures c.map_file-map.ensures c.in_ok-written.written.blob refl d1 d2 c.in_ok-written.ensures.left c.in_ok-append.ensures.written run c.replace_root.new.disk c.replace_root.ensures.any_moment
+    let next = subst (λ (u : View). GoesNext u a p e) (sym c.self.view_is) goes in
+    let root = c.next_root-root.result in
+    let root_is = subst (λ (u : View). root ≡ root_after u.root p c.in_ok-written.written.end) (sym c.self.view_is) c.next_root-root.ensures.root in
+    let made = message_written w cache a p e (content disk) own next c.requires.small c.requires.moment place c.requires.entry c.in_ok-written.written c.in_ok-written.ensures.written (omega arith) root root_is
+    c.epoch_file-epoch.result c.map_file-map.result c.epoch_file-epoch.ensures c.map_file-map.ensures c.in_ok-written.written.blob refl (content d1) (content d2) c.in_ok-written.ensures.left c.in_ok-append.ensures.written in
+    let texts = message_texts w cache a p e (content disk) own next c.requires.small c.requires.moment place c.requires.entry c.in_ok-written.written c.in_ok-written.ensures.written (omega arith) root root_is in
+    replacing_leaves content g.D.Disk.moment g.D.Disk.left_since w cache a (with_message a p e) disk own root texts (slot_number c.other-slot.result) c.other-slot.ensures d2 run made c.replace_root.new.disk c.replace_root.ensures.any_moment
 
 pub returns-clause-any_moment : goal.returns-clause-any_moment
 returns-clause-any_moment g c = λ a cache store goes.
@@ -72,13 +74,16 @@ returns-clause-any_moment g c = λ a cache store goes.
     let e = c.args.entry.now in
     let w : View = record { root = c.self.inside.root; slot = slot_number c.self.inside.slot; entries = c.self.inside.entries.items } in
     let own = subst (λ (u : View). IsStoreWith u cache a (content disk)) (sym c.self.view_is) store in
-    let next = subst (λ (u : View). GoesNext u a p e) (sym c.self.view_is) goes in
     let place = subst (λ (u : View). p ≡ place_of u.root p.epoch p.parent) (sym c.self.view_is) c.requires.place in
-    let root_is = subst (λ (u : View). c.next_root-root.result ≡ root_after u.root p c.in_ok-written.written.end) (sym c.self.view_is) c.next_root-root.ensures.root in
     let bounds = bounds_of w.root in
     let run = run_joined content g.D.Disk.moment g.D.Disk.left_since bounds disk d1 d2 (c.append_entry.ensures.beside bounds (entry_respects w.root p c.epoch_file-epoch.result c.epoch_file-epoch.ensures place c.requires.small)) (c.append.ensures.beside bounds (map_respects w.root c.map_file-map.result c.map_file-map.ensures)) in
-    replacing_leaves content g.D.Disk.moment g.D.Disk.left_since w cache a p e disk own next c.requires.small c.requires.moment place c.requires.entry c.in_ok-written.written c.in_ok-written.ensures.written (omega arith) c.next_root-root.result root_is (slot_number c.other-slot.result) c.other-slot.ensures
-    c.epoch_file-epoch.result c.map_file-map.result c.epoch_file-epoch.ensures c.map_file-map.ensures c.in_ok-written.written.blob refl d1 d2 c.in_ok-written.ensures.left c.in_ok-append.ensures.written run c.replace_root.new.disk c.replace_root.ensures.any_moment
+    let next = subst (λ (u : View). GoesNext u a p e) (sym c.self.view_is) goes in
+    let root = c.next_root-root.result in
+    let root_is = subst (λ (u : View). root ≡ root_after u.root p c.in_ok-written.written.end) (sym c.self.view_is) c.next_root-root.ensures.root in
+    let made = message_written w cache a p e (content disk) own next c.requires.small c.requires.moment place c.requires.entry c.in_ok-written.written c.in_ok-written.ensures.written (omega arith) root root_is
+    c.epoch_file-epoch.result c.map_file-map.result c.epoch_file-epoch.ensures c.map_file-map.ensures c.in_ok-written.written.blob refl (content d1) (content d2) c.in_ok-written.ensures.left c.in_ok-append.ensures.written in
+    let texts = message_texts w cache a p e (content disk) own next c.requires.small c.requires.moment place c.requires.entry c.in_ok-written.written c.in_ok-written.ensures.written (omega arith) root root_is in
+    replacing_leaves content g.D.Disk.moment g.D.Disk.left_since w cache a (with_message a p e) disk own root texts (slot_number c.other-slot.result) c.other-slot.ensures d2 run made c.replace_root.new.disk c.replace_root.ensures.any_moment
 
 pub returns-clause-done : goal.returns-clause-done
 returns-clause-done g c = λ a cache store goes.
@@ -90,25 +95,30 @@ returns-clause-done g c = λ a cache store goes.
     let e = c.args.entry.now in
     let w : View = record { root = c.self.inside.root; slot = slot_number c.self.inside.slot; entries = c.self.inside.entries.items } in
     let own = subst (λ (u : View). IsStoreWith u cache a (content disk)) (sym c.self.view_is) store in
-    let next = subst (λ (u : View). GoesNext u a p e) (sym c.self.view_is) goes in
     let place = subst (λ (u : View). p ≡ place_of u.root p.epoch p.parent) (sym c.self.view_is) c.requires.place in
-    let root = c.next_root-root.result in
-    let root_is = subst (λ (u : View). root ≡ root_after u.root p c.in_ok-written.written.end) (sym c.self.view_is) c.next_root-root.ensures.root in
     let bounds = bounds_of w.root in
     let run = run_joined content g.D.Disk.moment g.D.Disk.left_since bounds disk d1 d2 (c.append_entry.ensures.beside bounds (entry_respects w.root p c.epoch_file-epoch.result c.epoch_file-epoch.ensures place c.requires.small)) (c.append.ensures.beside bounds (map_respects w.root c.map_file-map.result c.map_file-map.ensures)) in
-    let todo = to_replace content g.D.Disk.moment g.D.Disk.left_since w cache a p e disk own next c.requires.small c.requires.moment place c.requires.entry c.in_ok-written.written c.in_ok-written.ensures.written (omega arith) root root_is (slot_number c.other-slot.result) c.other-slot.ensures
-    c.epoch_file-epoch.result c.map_file-map.result c.epoch_file-epoch.ensures c.map_file-map.ensures c.in_ok-written.written.blob refl d1 d2 c.in_ok-written.ensures.left c.in_ok-append.ensures.written run in
-    let on = c.in_ok-replace_root.ensures.done (texts_of w.root (parts_of a cache)) (texts_of root (parts_of (with_message a p e) cache)) todo in
-    subst (λ (u : View). IsStoreWith (view_after u a root p e) cache (with_message a p e) (content c.replace_root.new.disk)) c.self.view_is
-    (replaced content g.D.Disk.moment g.D.Disk.left_since w cache a p e disk own next c.requires.small c.requires.moment place c.requires.entry c.in_ok-written.written c.in_ok-written.ensures.written (omega arith) root root_is (slot_number c.other-slot.result) c.other-slot.ensures
-    c.epoch_file-epoch.result c.map_file-map.result c.epoch_file-epoch.ensures c.map_file-map.ensures c.in_ok-written.written.blob refl d1 d2 c.in_ok-written.ensures.left c.in_ok-append.ensures.written run c.replace_root.new.disk on)
+    let next = subst (λ (u : View). GoesNext u a p e) (sym c.self.view_is) goes in
+    let root = c.next_root-root.result in
+    let root_is = subst (λ (u : View). root ≡ root_after u.root p c.in_ok-written.written.end) (sym c.self.view_is) c.next_root-root.ensures.root in
+    let made = message_written w cache a p e (content disk) own next c.requires.small c.requires.moment place c.requires.entry c.in_ok-written.written c.in_ok-written.ensures.written (omega arith) root root_is
+    c.epoch_file-epoch.result c.map_file-map.result c.epoch_file-epoch.ensures c.map_file-map.ensures c.in_ok-written.written.blob refl (content d1) (content d2) c.in_ok-written.ensures.left c.in_ok-append.ensures.written in
+    let texts = message_texts w cache a p e (content disk) own next c.requires.small c.requires.moment place c.requires.entry c.in_ok-written.written c.in_ok-written.ensures.written (omega arith) root root_is in
+    let b = with_message a p e in
+    let free = slot_number c.other-slot.result in
+    let todo = to_replace content g.D.Disk.moment g.D.Disk.left_since w cache a b disk own root texts free c.other-slot.ensures d2 run made in
+    let on = replaced content g.D.Disk.moment g.D.Disk.left_since w cache a b disk own root texts free c.other-slot.ensures d2 run made c.replace_root.new.disk
+    (c.in_ok-replace_root.ensures.done (texts_of w.root (parts_of a cache)) (texts_of root (parts_of b cache)) todo) in
+    subst (λ (u : View). IsStoreWith (view_after u a root p e) cache b (content c.replace_root.new.disk)) c.self.view_is
+    (message_stored w cache a p e (content disk) own next c.requires.small c.requires.moment place c.requires.entry c.in_ok-written.written c.in_ok-written.ensures.written (omega arith) root root_is (content c.replace_root.new.disk) on)
 
 pub replace_root-requires-clause-size : goal.replace_root-requires-clause-size
 replace_root-requires-clause-size g c =
     let content = g.D.Disk.content in
     let p = c.args.place.now in
-    root_still c.args.self.now c.epoch_file-epoch.result c.map_file-map.result p.length c.self.inside.root.map.length (appended p.length c.args.entry.now) _ (content c.args.disk.now) (content c.append_entry.new.disk) (content c.append.new.disk)
-    (λ is. epoch_isnt_root p.epoch p.gen_ (sym c.epoch_file-epoch.ensures ∙ is)) (λ is. map_isnt_root c.self.inside.root.map.gen_ (sym c.map_file-map.ensures ∙ is)) c.requires.sizes c.in_ok-written.ensures.left c.in_ok-append.ensures.written
+    root_beside c.map_file-map.result c.self.inside.root.map.length _ (content c.append_entry.new.disk) (content c.append.new.disk) (λ is. map_isnt_root c.self.inside.root.map.gen_ (sym c.map_file-map.ensures ∙ is))
+    (root_beside c.epoch_file-epoch.result p.length (appended p.length c.args.entry.now) (content c.args.disk.now) (content c.append_entry.new.disk) (λ is. epoch_isnt_root p.epoch p.gen_ (sym c.epoch_file-epoch.ensures ∙ is))
+    (root_sized c.args.self.now (content c.args.disk.now) c.requires.sizes) c.in_ok-written.ensures.left) c.in_ok-append.ensures.written
 
 pub returns-clause-sizes : goal.returns-clause-sizes
 returns-clause-sizes g c =
