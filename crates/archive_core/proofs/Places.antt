@@ -43,7 +43,7 @@ front-none entries places ended count count_is places_is ended_is = record {
 drop_one : (es : List StoredEntry) (i : ℕ) (e : StoredEntry) → i < length es → e ≡ get_or es i e → drop i es ≡ e ∷ drop (i + 1) es
 drop_one [] i e less is = absurd (omega (arith, less))
 drop_one (x ∷ es) zero e less is = ap (λ (y : StoredEntry). y ∷ es) (sym is)
-drop_one (x ∷ es) (suc i) e less is = drop_one es i e (omega (arith, less)) is
+drop_one (x ∷ es) (suc i) e less is = let on : suc i + 1 ≡ suc (i + 1) = omega arith in rw on (drop_one es i e (omega (arith, less)) is)
 
 -- One more entry before the others.
 front_by : (k : EntryKind) (e : StoredEntry) (es : List StoredEntry) (index : ℕ) (old new : List MessagePlace) (ended more : BTreeSet ℕ) → PlacesBy k old new ended more e index → old ≡ reverse (message_places (index + 1) es) → ((q : ℕ) → has_ended ended q ≡ is_ended_in es q)
@@ -73,10 +73,34 @@ ends_first zero number ps = ps
 ends_first (suc i) number [] = []
 ends_first (suc i) number (p ∷ ps) = ended_place number p ∷ ends_first i number ps
 
-pub ends_first-more : (i number : ℕ) (ps : List MessagePlace) (p : MessagePlace) → i < length ps → p ≡ get_or (ends_first i number ps) i p → set (ends_first i number ps) i (ended_place number p) ≡ ends_first (i + 1) number ps
-ends_first-more i number [] p less is = absurd (omega (arith, less))
-ends_first-more zero number (x ∷ ps) p less is = ap (λ (y : MessagePlace). ended_place number y ∷ ps) is
-ends_first-more (suc i) number (x ∷ ps) p less is = ap (λ (l : List MessagePlace). ended_place number x ∷ l) (ends_first-more i number ps p (omega (arith, less)) is)
+ends_first-more : (i number : ℕ) (ps : List MessagePlace) (d : MessagePlace) → i < length ps → set (ends_first i number ps) i (ended_place number (get_or (ends_first i number ps) i d)) ≡ ends_first (i + 1) number ps
+ends_first-more i number [] d less = absurd (omega (arith, less))
+ends_first-more zero number (x ∷ ps) d less = refl
+ends_first-more (suc i) number (x ∷ ps) d less = let on : suc i + 1 ≡ suc (i + 1) = omega arith in rw on (ap (λ (l : List MessagePlace). ended_place number x ∷ l) (ends_first-more i number ps d (omega (arith, less))))
+
+ended_is : (number : ℕ) (p : MessagePlace) → p.number ≡ number → ended_place number p ≡ record { number = p.number; entry = p.entry; live = false }
+ended_is number p same =
+    let hit : (p.number == number) ≡ true = grind (arith, nat_tests, same) in
+    ap (λ (t : Bool). let q : MessagePlace = record { number = p.number; entry = p.entry; live = if t then false else p.live } in q) hit
+
+ended_not : (number : ℕ) (p : MessagePlace) → p.number ≢ number → ended_place number p ≡ p
+ended_not number p other =
+    let miss : (p.number == number) ≡ false = grind (arith, nat_tests, other) in
+    ap (λ (t : Bool). let q : MessagePlace = record { number = p.number; entry = p.entry; live = if t then false else p.live } in q) miss
+
+pub ends-then : (i number : ℕ) (ps old new : List MessagePlace) (d : MessagePlace) → old ≡ ends_first i number ps → i < length ps → (get_or old i d).number ≡ number → new ≡ set old i (record { number = (get_or old i d).number; entry = (get_or old i d).entry; live = false }) → new ≡ ends_first (i + 1) number ps
+ends-then i number ps old new d old_is less same new_is =
+    new_is
+    ∙ ap (λ (q : MessagePlace). set old i q) (sym (ended_is number (get_or old i d) same))
+    ∙ ap (λ (l : List MessagePlace). set l i (ended_place number (get_or l i d))) old_is
+    ∙ ends_first-more i number ps d less
+
+pub ends-else : (i number : ℕ) (ps old new : List MessagePlace) (d : MessagePlace) → old ≡ ends_first i number ps → i < length ps → (get_or old i d).number ≢ number → new ≡ set old i (get_or old i d) → new ≡ ends_first (i + 1) number ps
+ends-else i number ps old new d old_is less other new_is =
+    new_is
+    ∙ ap (λ (q : MessagePlace). set old i q) (sym (ended_not number (get_or old i d) other))
+    ∙ ap (λ (l : List MessagePlace). set l i (ended_place number (get_or l i d))) old_is
+    ∙ ends_first-more i number ps d less
 
 pub ends_first-all : (i number : ℕ) (ps : List MessagePlace) → length ps ≤ i → ends_first i number ps ≡ ends_place number ps
 ends_first-all zero number [] whole = refl
@@ -135,9 +159,9 @@ places-above n number (p ∷ ps) from less =
     miss_step p.live (p.number == n) (live_place ps n) other (places-above n (p.number + 1) ps from.1 (omega (arith, above, less)))
 
 hit_step : (live t rest : Bool) → t ≡ true → rest ≡ false → (live && t || rest) ≡ live
-hit_step live false rest yes none = absurd (cc)
-hit_step true true rest yes none = refl
-hit_step false true rest yes none = none
+hit_step live false rest hit none = absurd (cc)
+hit_step true true rest hit none = refl
+hit_step false true rest hit none = none
 
 pass_step : (live t rest all : Bool) → t ≡ false → rest ≡ all → (live && t || rest) ≡ all
 pass_step live true rest all never is = absurd (cc)
@@ -177,9 +201,9 @@ kept_later true e x es has = (suc has.0, (let less : has.0 < length es = has.1 i
 kept_later false e x es has = has
 
 kept_here : (m ended live : Bool) (e : StoredEntry) (es : List StoredEntry) → m ≡ true → not ended ≡ true → Contains (if m && not ended then e ∷ es else es) e
-kept_here true false live e es yes no = (0, omega arith, refl)
-kept_here true true live e es yes no = absurd (cc)
-kept_here false ended live e es yes no = absurd (cc)
+kept_here true false live e es one lives = (0, omega arith, refl)
+kept_here true true live e es one lives = absurd (cc)
+kept_here false ended live e es one lives = absurd (cc)
 
 tells_later : (index : ℕ) (e : StoredEntry) (es : List StoredEntry) (p : MessagePlace) → PlaceTells (index + 1) es p → PlaceTells index (e ∷ es) p
 tells_later index e es p told = record {
