@@ -17,7 +17,7 @@ use Rattle.arch_model.specs.declared.answer.Answer.{Answer}
 use Rattle.arch_model.specs.declared.answer.Answer.TheVariants as answer
 use Rattle.epoch_store.specs.declared.entries.StoredEntry.{StoredEntry}
 use Rattle.epoch_store.specs.Reads.{text_if}
-use Rattle.epoch_store.specs.Stores.{View, Keeps, is_ended_in}
+use Rattle.epoch_store.specs.Stores.{View, Keeps, AddsEntry, EndsEntry, is_ended_in}
 use Rattle.archive_core.specs.Commands.{IsNamed}
 use Rattle.archive_core.specs.Numbers.{IsLiveAt}
 use Rattle.archive_core.specs.Placing.{message_places, ends_place, ended_place}
@@ -159,3 +159,16 @@ written-back xs ys n is = ap (λ (k : ℕ). take k (xs ++ ys)) is ∙ whole xs w
   whole : (l : List MessagePlace) → take (length l) (l ++ ys) ≡ l
   whole [] = refl
   whole (x ∷ l) = ap (λ (r : List MessagePlace). x ∷ r) (whole l)
+
+-- The places after a removal, and after a delivery.
+pub places-ended : (old new : View) (number : ℕ) (text : List ℕ) → EndsEntry old new number text → ends_place number (message_places 0 old.entries) ≡ message_places 0 new.entries
+places-ended old new number text ends =
+    ap (λ (n : ℕ). ends_place n (message_places 0 old.entries)) (sym ends.number_is)
+    ∙ sym (ap (message_places 0) ends.entries ∙ places-deletion 0 old.entries ends.entry ends.kind)
+
+pub places-added : (old new : View) (text : List ℕ) (count : ℕ) → count ≡ length old.entries → AddsEntry old new text → message_places 0 old.entries ++ place_of old.root.next count true ∷ [] ≡ message_places 0 new.entries
+places-added old new text count count_is adds =
+    let at : count ≡ 0 + length old.entries = omega (arith, count_is) in
+    ap (λ (n : ℕ). message_places 0 old.entries ++ place_of n count true ∷ []) (sym adds.number)
+    ∙ ap (λ (i : ℕ). message_places 0 old.entries ++ place_of adds.entry.number i true ∷ []) at
+    ∙ sym (ap (message_places 0) adds.entries ∙ places-message 0 old.entries adds.entry adds.kind)
