@@ -1,8 +1,11 @@
 pub mod Counting
 mod Standing
+mod Places
+mod Stored
 mod Indexes
 mod Verdicts
 mod Openings
 mod ByNumber
 mod ByIndex
+mod Removing
 pub mod Engines
