@@ -1,37 +1,38 @@
--- The messages of a store by their numbers: the index of a number, and its text.
-use Rattle.std.specs.Prelude.{◌≡◌, ◌≢◌, ◌⊎◌, ◌+◌, ◌<◌, ◌≤◌, ◌==◌, ◌||◌, ℕ, zero, suc, Bool, true, false, List, [], ◌∷◌, ◌++◌, length, get_or, slice_get, Option, Some, None, Result, Ok, Err, is_some, unwrap_or, refl}
-use Rattle.std.specs.List.{AllAdjacentBelow}
+-- The messages of a store by their numbers: the places that are found, and their texts.
+use Rattle.std.specs.Prelude.{◌≡◌, ◌≢◌, ◌⊎◌, ◌+◌, ◌<◌, ◌≤◌, ◌==◌, ◌&&◌, ◌||◌, ℕ, zero, suc, Bool, true, false, List, [], ◌∷◌, length, count_by, get_or, slice_get, Option, Some, None, Result, Ok, Err, is_some, refl}
+use Rattle.std.specs.List.{filter}
 use Rattle.std.specs.List.Sorted.{IsPartitionPoint}
 use Rattle.std.proofs.Common.{◌-◌, ◌∙◌, sym, ap, subst, inl, inr, arith, ltb, ltb-true, ltb-false, leb, leb-true, leb-false}
 use Rattle.std.proofs.lemmas.Bool.Decides.{nat_tests}
-use Rattle.std.proofs.lemmas.List.Sorted.{IsNonDecreasingBy-from_all_adjacent}
+use Rattle.std.proofs.lemmas.List.Sums.{length-filter}
 use Rattle.std.proofs.lemmas.Option.{slice_get_within, slice_get-get_or}
 use Rattle.disk_model.specs.Disk.{Content}
-use Rattle.arch_model.specs.Archives.{Entry, Archive, text_of}
-use Rattle.arch_model.specs.Shelves.{IsGreatestLive, AppendsTo}
+use Rattle.arch_model.specs.Archives.{Entry, Archive, is_message, live, text_of}
+use Rattle.arch_model.specs.Shelves.{IsGreatestLive, live_between, AppendsTo}
 use Rattle.arch_model.specs.Standing.{IsLeastLive, GivesTextIn, KeepsUnlessFound}
-use Rattle.arch_model.specs.Validity.{Rise}
 use Rattle.arch_model.proofs.Shelving.{appends-none}
-use Rattle.root_slots.specs.declared.root.Root.{Root}
 use Rattle.arch_model.specs.declared.text_refusal.TextRefusal.{TextRefusal}
 use Rattle.arch_model.specs.declared.text_refusal.TextRefusal.TheVariants.{DiskFault, Damaged, NoMemory}
 use Rattle.epoch_store.specs.declared.entries.StoredEntry.{StoredEntry}
 use Rattle.epoch_store.specs.Reads.{GivesText, GivesTextOf, text_if, IsEpochFound}
-use Rattle.epoch_store.specs.Stores.{View, Keeps, IsStoreWith, stored_at, stored_after}
-use Rattle.archive_core.specs.Numbers.{has_number, NumbersRise, IsNumberAt, IsCountBelow, IsCountUpTo, GivesTextKept, TellsOther}
+use Rattle.epoch_store.specs.Stores.{View, Keeps, IsStoreWith, live_kept, stored_after}
+use Rattle.archive_core.specs.Numbers.{has_live, IsKnownLive, IsMessageAt, IsLiveAt, GivesTextKept, TellsOther}
+use Rattle.archive_core.specs.Placing.{message_places, PlacesFrom, PlacesRise, live_place, IsPlaceOf, IsLeastPlace, IsGreatestPlace}
+use Rattle.archive_core.specs.declared.placing.MessagePlace.{MessagePlace}
+use Rattle.archive_core.proofs.Places.{place_between, stored_between, places-sorted, places-rise, places-low, places-one, places-tell, live-places, places-between}
+use Rattle.archive_core.proofs.Stored.{live-kept, has_live-is, between-kept, kept-at, shown-at, contains-number, live-number}
 use Rattle.archive_core.proofs.Standing.{store_keeps}
 
--- An option has one value.
 only : {X : Type 0} (x y : X) → Some x ≡ Some y → x ≡ y
-only {X = X} x y is = ap (λ (o : Option X). unwrap_or o x) is
+only x y is = cc
 
--- An option with a value doesn't lack one.
-there_is : {X : Type 0} (o : Option X) (x : X) → o ≡ Some x → o ≡ None → ⊥
-there_is {X} o x is none = subst (λ (o : Option X). elim o as (λ x. Type 0) [ None ↦ ⊥ | Some y ↦ Unit {0} ]) (sym is ∙ none) tt
+not_true : (t : Bool) → (t ≡ true → ⊥) → t ≡ false
+not_true true never = absurd (never refl)
+not_true false never = refl
 
 -- The item at an index.
-got : (xs : List StoredEntry) (i : ℕ) (d e : StoredEntry) → slice_get xs i ≡ Some e → get_or xs i d ≡ e
-got xs i d e is = only (get_or xs i d) e (sym (slice_get-get_or xs i d (slice_get_within xs i e is)) ∙ is)
+got : (xs : List MessagePlace) (i : ℕ) (d p : MessagePlace) → slice_get xs i ≡ Some p → get_or xs i d ≡ p
+got xs i d p is = only (get_or xs i d) p (sym (slice_get-get_or xs i d (slice_get_within xs i p is)) ∙ is)
 
 -- An index is before another or not.
 before_or_not : (j i : ℕ) → (j < i) ⊎ (i ≤ j)
@@ -39,246 +40,310 @@ before_or_not j zero = inr (omega arith)
 before_or_not zero (suc i) = inl (omega arith)
 before_or_not (suc j) (suc i) = elim (before_or_not j i) [ inl less ↦ inl (omega (arith, less)) | inr most ↦ inr (omega (arith, most)) ]
 
--- Numbers rise in what is kept of entries whose numbers rise.
-rises : (before es : List Entry) (number epoch : ℕ) → Rise number epoch es → AllAdjacentBelow (λ (x y : StoredEntry). x.number ≤ y.number) (stored_after before es) (length (stored_after before es))
-rises before [] number epoch rise k d inside = absurd (omega (arith, inside))
-rises before (e ∷ []) number epoch rise k d inside = absurd (omega (arith, inside))
-rises before (e ∷ (f ∷ es)) number epoch rise zero d inside = let next = rise.2.0 in omega (arith, next)
-rises before (e ∷ (f ∷ es)) number epoch rise (suc k) d inside =
-    let on : suc k + 1 ≡ suc (k + 1) = omega arith in
-    rw on (rises (before ++ e ∷ []) (f ∷ es) (e.number + 1) e.epoch rise.2 k d (omega (arith, inside)))
+-- A later place has a greater number.
+rise_at : (number : ℕ) (xs : List MessagePlace) (i j : ℕ) (p q : MessagePlace) → PlacesFrom number xs → i < j → slice_get xs i ≡ Some p → slice_get xs j ≡ Some q → p.number < q.number
+rise_at number [] i j p q from less here there = absurd (cc)
+rise_at number (x ∷ xs) i zero p q from less here there = absurd (omega (arith, less))
+rise_at number (x ∷ xs) zero (suc j) p q from less here there =
+    let same : x.number ≡ p.number = ap (λ (r : MessagePlace). r.number) (only x p here) in
+    let above : x.number + 1 ≤ q.number = (places-one (x.number + 1) xs j q from.1 there).0 in
+    omega (arith, same, above)
+rise_at number (x ∷ xs) (suc i) (suc j) p q from less here there = rise_at (x.number + 1) xs i j p q from.1 (omega (arith, less)) here there
 
--- Numbers rise in a store that keeps an archive.
-pub keeps_rise : (v : View) (a : Archive) → Keeps v a → NumbersRise v.entries
-keeps_rise v a keeps =
-    subst NumbersRise (sym keeps.kept) (IsNonDecreasingBy-from_all_adjacent (λ (e : StoredEntry). e.number) (stored_after [] a.entries) (rises [] a.entries 1 0 keeps.valid.order))
+-- Before an index the numbers are below n, and from it on they are not.
+abbrev pub IsCountBelow : List MessagePlace → ℕ → ℕ → Type 0
+IsCountBelow xs n count = (index : ℕ) (p : MessagePlace) → slice_get xs index ≡ Some p → (index < count → p.number < n) × (count ≤ index → n ≤ p.number)
 
--- A later entry has no lesser number.
-rise_at : (xs : List StoredEntry) (i j : ℕ) (s t : StoredEntry) → NumbersRise xs → i ≤ j → slice_get xs i ≡ Some s → slice_get xs j ≡ Some t → s.number ≤ t.number
-rise_at xs i j s t rise most here there =
-    let up = rise i j s most (slice_get_within xs j t there) in
-    let first = ap (λ (e : StoredEntry). e.number) (got xs i s s here) in
-    let second = ap (λ (e : StoredEntry). e.number) (got xs j s t there) in
-    omega (arith, up, first, second)
+-- Before an index the numbers are at most n, and from it on they are greater.
+abbrev pub IsCountUpTo : List MessagePlace → ℕ → ℕ → Type 0
+IsCountUpTo xs n count = (index : ℕ) (p : MessagePlace) → slice_get xs index ≡ Some p → (index < count → p.number ≤ n) × (count ≤ index → n < p.number)
 
--- The index where the numbers below n end, as a binary search finds it.
-pub count_is : (xs : List StoredEntry) (n i : ℕ) → IsPartitionPoint (λ (e : StoredEntry). ltb e.number n ≡ true) (λ (e : StoredEntry). ltb e.number n ≡ false) xs i → IsCountBelow xs n i
-count_is xs n i point place e is =
-    let at = ap (λ (f : StoredEntry). f.number) (got xs place e e is) in
-    let inside = slice_get_within xs place e is in (
-      λ less. (let low = ltb-true (get_or xs place e).number n (point.0 place e (omega arith) less) in omega (arith, low, at)),
-      λ most. (let high = ltb-false (get_or xs place e).number n (point.1 place e most inside) in omega (arith, high, at)),
+pub count-is : (xs : List MessagePlace) (n i : ℕ) → IsPartitionPoint (λ (p : MessagePlace). ltb p.number n ≡ true) (λ (p : MessagePlace). ltb p.number n ≡ false) xs i → IsCountBelow xs n i
+count-is xs n i point place p is =
+    let at = ap (λ (q : MessagePlace). q.number) (got xs place p p is) in
+    let inside = slice_get_within xs place p is in (
+      λ less. (let low = ltb-true (get_or xs place p).number n (point.0 place p (omega arith) less) in omega (arith, low, at)),
+      λ most. (let high = ltb-false (get_or xs place p).number n (point.1 place p most inside) in omega (arith, high, at)),
     )
 
--- The index where the numbers up to n end.
-pub count_to : (xs : List StoredEntry) (n i : ℕ) → IsPartitionPoint (λ (e : StoredEntry). leb e.number n ≡ true) (λ (e : StoredEntry). leb e.number n ≡ false) xs i → IsCountUpTo xs n i
-count_to xs n i point place e is =
-    let at = ap (λ (f : StoredEntry). f.number) (got xs place e e is) in
-    let inside = slice_get_within xs place e is in (
-      λ less. (let low = leb-true (get_or xs place e).number n (point.0 place e (omega arith) less) in omega (arith, low, at)),
-      λ most. (let high = leb-false (get_or xs place e).number n (point.1 place e most inside) in omega (arith, high, at)),
+pub count-to : (xs : List MessagePlace) (n i : ℕ) → IsPartitionPoint (λ (p : MessagePlace). leb p.number n ≡ true) (λ (p : MessagePlace). leb p.number n ≡ false) xs i → IsCountUpTo xs n i
+count-to xs n i point place p is =
+    let at = ap (λ (q : MessagePlace). q.number) (got xs place p p is) in
+    let inside = slice_get_within xs place p is in (
+      λ less. (let low = leb-true (get_or xs place p).number n (point.0 place p (omega arith) less) in omega (arith, low, at)),
+      λ most. (let high = leb-false (get_or xs place p).number n (point.1 place p most inside) in omega (arith, high, at)),
     )
 
--- A number has an index.
-has_step : (t : Bool) (e : StoredEntry) (es : List StoredEntry) (n : ℕ) → (e.number == n) ≡ t → (t || has_number es n) ≡ true → (has_number es n ≡ true → (i : ℕ) × IsNumberAt es n i) → (i : ℕ) × IsNumberAt (e ∷ es) n i
-has_step true e es n is has rest = let same : e.number ≡ n = grind (arith, nat_tests) in (zero, (e, refl, same))
-has_step false e es n is has rest = let r = rest has in (suc r.0, r.1)
+-- Where a live place has a number.
+pub record LiveAt (xs : List MessagePlace) (n : ℕ) : Type 0 where
+  pub index : ℕ
+  pub place : MessagePlace
+  pub there : slice_get xs index ≡ Some place
+  pub live_is : place.live ≡ true
+  pub number_is : place.number ≡ n
 
-has_place : (xs : List StoredEntry) (n : ℕ) → has_number xs n ≡ true → (i : ℕ) × IsNumberAt xs n i
-has_place [] n has = absurd (cc)
-has_place (e ∷ es) n has = has_step (e.number == n) e es n refl has (λ (h : has_number es n ≡ true). has_place es n h)
+live_or : (live t rest : Bool) (p : MessagePlace) (ps : List MessagePlace) (n : ℕ) → p.live ≡ live → (p.number == n) ≡ t → (rest ≡ true → LiveAt ps n) → (live && t || rest) ≡ true → LiveAt (p ∷ ps) n
+live_or true true rest p ps n live_is test more has = let same : p.number ≡ n = grind (arith, nat_tests, test) in record { index = 0; place = p; there = refl; live_is = live_is; number_is = same }
+live_or true false rest p ps n live_is test more has = let at = more has in record { index = suc at.index; place = at.place; there = at.there; live_is = at.live_is; number_is = at.number_is }
+live_or false t rest p ps n live_is test more has = let at = more has in record { index = suc at.index; place = at.place; there = at.there; live_is = at.live_is; number_is = at.number_is }
 
--- A number that is there is at the index where the numbers below it end.
-found : (xs : List StoredEntry) (n i : ℕ) → NumbersRise xs → IsCountBelow xs n i → has_number xs n ≡ true → IsNumberAt xs n i
-found xs n i rise count has =
-    let r = has_place xs n has in
-    let j = r.0 in
-    let t = r.1.0 in
-    let there = r.1.1 in
-    let same = r.1.2 in
-    elim (before_or_not j i) [
-      | inl less ↦ absurd (let low = (count j t there).0 less in omega (arith, low, same))
-      | inr most ↦
-          let inside = slice_get_within xs j t there in
-          let s = get_or xs i t in
-          let here : slice_get xs i ≡ Some s = slice_get-get_or xs i t (omega (arith, most, inside)) in
-          let high = (count i s here).1 (omega arith) in
-          let low = rise_at xs i j s t rise most here there in
-          (s, here, omega (arith, high, low, same))
-    ]
+pub live-at : (xs : List MessagePlace) (n : ℕ) → live_place xs n ≡ true → LiveAt xs n
+live-at [] n has = absurd (cc)
+live-at (p ∷ ps) n has = live_or p.live (p.number == n) (live_place ps n) p ps n refl refl (λ more. live-at ps n more) has
 
--- So an entry is found there.
-pub never_missing : (xs : List StoredEntry) (n i : ℕ) → NumbersRise xs → IsCountBelow xs n i → has_number xs n ≡ true → slice_get xs i ≡ None → ⊥
-never_missing xs n i rise count has none = let at = found xs n i rise count has in there_is (slice_get xs i) at.0 at.1 none
+or_true : (t rest : Bool) → rest ≡ true → (t || rest) ≡ true
+or_true true rest is = refl
+or_true false rest is = is
 
-pub never_other : (xs : List StoredEntry) (n i : ℕ) (e : StoredEntry) → NumbersRise xs → IsCountBelow xs n i → has_number xs n ≡ true → slice_get xs i ≡ Some e → e.number ≢ n → ⊥
-never_other xs n i e rise count has here other =
-    let at = found xs n i rise count has in
-    other (ap (λ (f : StoredEntry). f.number) (only e at.0 (sym here ∙ at.1)) ∙ at.2)
+here_true : (live t rest : Bool) → live ≡ true → t ≡ true → (live && t || rest) ≡ true
+here_true true true rest one two = refl
+here_true true false rest one two = absurd (cc)
+here_true false t rest one two = absurd (cc)
 
--- No entry has a number that none of the kept ones has.
-none_of : (before es : List Entry) (m : ℕ) → ((j : ℕ) (s : StoredEntry) → slice_get (stored_after before es) j ≡ Some s → s.number ≢ m) → text_of es m ≡ None
-none_of before [] m apart = refl
-none_of before (e ∷ es) m apart =
-    let first : e.number ≢ m = apart 0 (stored_at before e) refl in
-    let other : (e.number == m) ≡ false = grind (arith, nat_tests) in
-    rw other (none_of (before ++ e ∷ []) es m (λ j s is. apart (suc j) s is))
+-- The number of a live place is live.
+pub place-live : (xs : List MessagePlace) (i : ℕ) (p : MessagePlace) → slice_get xs i ≡ Some p → p.live ≡ true → live_place xs p.number ≡ true
+place-live [] i p there live = absurd (cc)
+place-live (x ∷ xs) zero p there live =
+    let same : x ≡ p = only x p there in
+    let itself : (p.number == p.number) ≡ true = grind (arith, nat_tests) in
+    here_true x.live (x.number == p.number) (live_place xs p.number) (ap (λ (r : MessagePlace). r.live) same ∙ live) (ap (λ (r : MessagePlace). r.number == p.number) same ∙ itself)
+place-live (x ∷ xs) (suc i) p there live = or_true (x.live && x.number == p.number) (live_place xs p.number) (place-live xs i p there live)
 
--- The text of the number at an index.
-text_at : (before es : List Entry) (number epoch i n : ℕ) (s : StoredEntry) → Rise number epoch es → slice_get (stored_after before es) i ≡ Some s → s.number ≡ n
-    → (number ≤ n) × (text_of es n ≡ text_if (slice_get es i)) × (is_some (text_of es n) ≡ true)
-text_at before [] number epoch i n s rise is same = absurd (there_is (slice_get {X = StoredEntry} [] i) s is refl)
-text_at before (e ∷ es) number epoch zero n s rise is same =
-    let at : e.number ≡ s.number = ap (λ (f : StoredEntry). f.number) (only (stored_at before e) s is) in
-    let first = rise.0 in
-    let hit : (e.number == n) ≡ true = grind (arith, nat_tests) in
-    (omega (arith, first, at, same), rw hit refl, rw hit refl)
-text_at before (e ∷ es) number epoch (suc i) n s rise is same =
-    let rest = text_at (before ++ e ∷ []) es (e.number + 1) e.epoch i n s rise.2 is same in
-    let first = rise.0 in
-    let above = rest.0 in
-    let other : (e.number == n) ≡ false = grind (arith, nat_tests) in
-    (omega (arith, first, above), rw other rest.1, rw other rest.2)
+-- A number that isn't found by a search has no live place.
+pub none-past : (xs : List MessagePlace) (n i : ℕ) → (PlacesRise xs → IsCountBelow xs n i) → length xs ≤ i → PlacesRise xs → live_place xs n ≡ false
+none-past xs n i count whole rise = not_true (live_place xs n) never where
+  never : live_place xs n ≡ true → ⊥
+  never has =
+      let at = live-at xs n has in
+      let inside : at.index < length xs = slice_get_within xs at.index at.place at.there in
+      let low : at.place.number < n = (count rise at.index at.place at.there).0 (omega (arith, inside, whole)) in
+      let same : at.place.number ≡ n = at.number_is in
+      omega (arith, low, same)
 
--- The same in the archive that a store keeps.
-text_in : (v : View) (a : Archive) (i n : ℕ) (s : StoredEntry) → Keeps v a → slice_get v.entries i ≡ Some s → s.number ≡ n → (text_of a.entries n ≡ text_if (slice_get a.entries i)) × (is_some (text_of a.entries n) ≡ true)
-text_in v a i n s keeps is same =
-    let r = text_at [] a.entries 1 0 i n s keeps.valid.order (subst (λ (l : List StoredEntry). slice_get l i ≡ Some s) keeps.kept is) same in
-    (r.1, r.2)
+pub none-other : (xs : List MessagePlace) (n i : ℕ) (p : MessagePlace) → (PlacesRise xs → IsCountBelow xs n i) → slice_get xs i ≡ Some p → p.number ≢ n → PlacesRise xs → live_place xs n ≡ false
+none-other xs n i p count here other rise = not_true (live_place xs n) never where
+  never : live_place xs n ≡ true → ⊥
+  never has =
+      let at = live-at xs n has in
+      let same : at.place.number ≡ n = at.number_is in
+      elim (before_or_not at.index i) [
+        | inl less ↦ (let low : at.place.number < n = (count rise at.index at.place at.there).0 less in omega (arith, low, same))
+        | inr most ↦ after at most
+      ]
+    where
+      after : (at : LiveAt xs n) → i ≤ at.index → ⊥
+      after at most = elim (before_or_not i at.index) [
+        | inl less ↦ (let high : n ≤ p.number = (count rise i p here).1 (omega arith) in let up : p.number < at.place.number = rise_at 0 xs i at.index p at.place rise less here at.there in let same : at.place.number ≡ n = at.number_is in omega (arith, high, up, same))
+        | inr again ↦ (let at_is : at.index ≡ i = omega (arith, most, again) in other (ap (λ (r : MessagePlace). r.number) (only p at.place (sym here ∙ ap (slice_get xs) (sym at_is) ∙ at.there)) ∙ at.number_is))
+      ]
 
--- A number that no kept entry has, no entry of the archive has.
-none_in : (v : View) (a : Archive) (m : ℕ) → Keeps v a → ((j : ℕ) (s : StoredEntry) → slice_get v.entries j ≡ Some s → s.number ≢ m) → text_of a.entries m ≡ None
-none_in v a m keeps apart = none_of [] a.entries m (λ j s is. apart j s (subst (λ (l : List StoredEntry). slice_get l j ≡ Some s) (sym keeps.kept) is))
+-- None of the places from one index to another is live.
+abbrev pub NoneLive : List MessagePlace → ℕ → ℕ → Type 0
+NoneLive xs low high = (k : ℕ) (p : MessagePlace) → slice_get xs k ≡ Some p → low ≤ k → k < high → p.live ≡ false
 
--- The number at the index where those below n end is the least that is at least n.
-least_some : (v : View) (a : Archive) (n i : ℕ) (s : StoredEntry) → Keeps v a → IsCountBelow v.entries n i → slice_get v.entries i ≡ Some s → IsLeastLive a.entries n (Some s.number)
-least_some v a n i s keeps count here = ((count i s here).1 (omega arith), (text_in v a i s.number s keeps here refl).1, λ m at_least below. none_in v a m keeps (λ j t there. apart m at_least below j t there))
-  where
-    apart : (m : ℕ) → n ≤ m → m < s.number → (j : ℕ) (t : StoredEntry) → slice_get v.entries j ≡ Some t → t.number ≢ m
-    apart m at_least below j t there same = elim (before_or_not j i) [
-      | inl less ↦ (let low = (count j t there).0 less in absurd (omega (arith, low, at_least, same)))
-      | inr most ↦ (let up = rise_at v.entries i j s t (keeps_rise v a keeps) most here there in absurd (omega (arith, up, below, same)))
-    ]
+pub none-yet : (xs : List MessagePlace) (i : ℕ) → NoneLive xs i i
+none-yet xs i k p there low high = absurd (omega (arith, low, high))
 
--- If all numbers are below n, there is none.
-least_none : (v : View) (a : Archive) (n i : ℕ) → Keeps v a → IsCountBelow v.entries n i → slice_get v.entries i ≡ None → IsLeastLive a.entries n None
-least_none v a n i keeps count none = λ m at_least. none_in v a m keeps (λ j t there. apart m at_least j t there)
-  where
-    apart : (m : ℕ) → n ≤ m → (j : ℕ) (t : StoredEntry) → slice_get v.entries j ≡ Some t → t.number ≢ m
-    apart m at_least j t there same = elim (before_or_not j i) [
-      | inl less ↦ (let low = (count j t there).0 less in absurd (omega (arith, low, at_least, same)))
-      | inr most ↦ (let inside = slice_get_within v.entries j t there in
-          there_is (slice_get v.entries i) (get_or v.entries i t) (slice_get-get_or v.entries i t (omega (arith, most, inside))) none)
-    ]
+pub none-up : (xs : List MessagePlace) (first i : ℕ) (p : MessagePlace) → slice_get xs i ≡ Some p → p.live ≡ false → NoneLive xs first i → NoneLive xs first (i + 1)
+none-up xs first i p here dead none k q there low high = elim (before_or_not k i) [
+  | inl less ↦ none k q there low less
+  | inr most ↦ (let at : k ≡ i = omega (arith, most, high) in ap (λ (r : MessagePlace). r.live) (only q p (sym there ∙ ap (slice_get xs) at ∙ here)) ∙ dead)
+]
 
--- The number before the index where those up to n end is the greatest that is at most n.
-greatest_some : (v : View) (a : Archive) (n i : ℕ) (s : StoredEntry) → Keeps v a → IsCountUpTo v.entries n i → 0 < i → slice_get v.entries (i - 1) ≡ Some s → IsGreatestLive a.entries n (Some s.number)
-greatest_some v a n i s keeps count some here = ((count (i - 1) s here).0 (omega (arith, some)), (text_in v a (i - 1) s.number s keeps here refl).1, λ m above at_most. none_in v a m keeps (λ j t there. apart m above at_most j t there))
-  where
-    apart : (m : ℕ) → s.number < m → m ≤ n → (j : ℕ) (t : StoredEntry) → slice_get v.entries j ≡ Some t → t.number ≢ m
-    apart m above at_most j t there same = elim (before_or_not j i) [
-      | inl less ↦ (let up = rise_at v.entries j (i - 1) t s (keeps_rise v a keeps) (omega (arith, less)) there here in absurd (omega (arith, up, above, same)))
-      | inr most ↦ (let high = (count j t there).1 most in absurd (omega (arith, high, at_most, same)))
-    ]
+pub none-down : (xs : List MessagePlace) (i count : ℕ) (p : MessagePlace) → slice_get xs i ≡ Some p → p.live ≡ false → NoneLive xs (i + 1) count → NoneLive xs i count
+none-down xs i count p here dead none k q there low high = elim (before_or_not i k) [
+  | inl less ↦ none k q there (omega (arith, less)) high
+  | inr most ↦ (let at : k ≡ i = omega (arith, most, low) in ap (λ (r : MessagePlace). r.live) (only q p (sym there ∙ ap (slice_get xs) at ∙ here)) ∙ dead)
+]
 
--- If all numbers are above n, there is none.
-greatest_none : (v : View) (a : Archive) (n i : ℕ) → Keeps v a → IsCountUpTo v.entries n i → i ≤ length v.entries → (0 < i → slice_get v.entries (i - 1) ≡ None) → IsGreatestLive a.entries n None
-greatest_none v a n i keeps count bound none = λ m at_most. none_in v a m keeps (λ j t there. apart m at_most j t there)
-  where
-    apart : (m : ℕ) → m ≤ n → (j : ℕ) (t : StoredEntry) → slice_get v.entries j ≡ Some t → t.number ≢ m
-    apart m at_most j t there same = elim (before_or_not j i) [
-      | inl less ↦ there_is (slice_get v.entries (i - 1)) (get_or v.entries (i - 1) t) (slice_get-get_or v.entries (i - 1) t (omega (arith, less, bound))) (none (omega (arith, less)))
-      | inr most ↦ (let high = (count j t there).1 most in absurd (omega (arith, high, at_most, same)))
-    ]
+false_true : (t : Bool) → t ≡ true → t ≡ false → ⊥
+false_true t one two = let wrong : true ≡ false = sym one ∙ two in cc
 
--- The same by the result of a search in the entries of a store.
-pub search_some : (v : View) (a : Archive) (xs : List StoredEntry) (n i : ℕ) (s : StoredEntry) → xs ≡ v.entries → Keeps v a → (NumbersRise xs → IsCountBelow xs n i) → slice_get xs i ≡ Some s → IsLeastLive a.entries n (Some s.number)
-search_some v a xs n i s same keeps count here =
-    let counted : NumbersRise v.entries → IsCountBelow v.entries n i = subst (λ (l : List StoredEntry). NumbersRise l → IsCountBelow l n i) same count in
-    least_some v a n i s keeps (counted (keeps_rise v a keeps)) (subst (λ (l : List StoredEntry). slice_get l i ≡ Some s) same here)
+-- The first live place from an index on has the least number, from the one of that index on.
+pub least-some : (xs : List MessagePlace) (n first i : ℕ) (p : MessagePlace) → (PlacesRise xs → IsCountBelow xs n first) → first ≤ i → slice_get xs i ≡ Some p → p.live ≡ true → NoneLive xs first i → PlacesRise xs → IsLeastPlace xs n (Some p.number)
+least-some xs n first i p count low here live none rise = ((count rise i p here).1 low, place-live xs i p here live, λ m at_least below. not_true (live_place xs m) (never m at_least below)) where
+  never : (m : ℕ) → n ≤ m → m < p.number → live_place xs m ≡ true → ⊥
+  never m at_least below has =
+      let at = live-at xs m has in
+      let same : at.place.number ≡ m = at.number_is in
+      elim (before_or_not at.index first) [
+        | inl less ↦ (let less_n : at.place.number < n = (count rise at.index at.place at.there).0 less in omega (arith, less_n, same, at_least))
+        | inr most ↦ later m below at most
+      ]
+    where
+      later : (m : ℕ) → m < p.number → (at : LiveAt xs m) → first ≤ at.index → ⊥
+      later m below at most = elim (before_or_not at.index i) [
+        | inl less ↦ false_true at.place.live at.live_is (none at.index at.place at.there most less)
+        | inr past ↦ (let up : p.number ≤ at.place.number = not_before at past in let same : at.place.number ≡ m = at.number_is in omega (arith, up, same, below))
+      ]
+        where
+          not_before : (at : LiveAt xs m) → i ≤ at.index → p.number ≤ at.place.number
+          not_before at past = elim (before_or_not i at.index) [
+            | inl less ↦ (let up : p.number < at.place.number = rise_at 0 xs i at.index p at.place rise less here at.there in omega (arith, up))
+            | inr again ↦ (let at_is : at.index ≡ i = omega (arith, past, again) in let same : p.number ≡ at.place.number = ap (λ (r : MessagePlace). r.number) (only p at.place (sym here ∙ ap (slice_get xs) (sym at_is) ∙ at.there)) in omega (arith, same))
+          ]
 
-pub search_none : (v : View) (a : Archive) (xs : List StoredEntry) (n i : ℕ) → xs ≡ v.entries → Keeps v a → (NumbersRise xs → IsCountBelow xs n i) → slice_get xs i ≡ None → IsLeastLive a.entries n None
-search_none v a xs n i same keeps count none =
-    let counted : NumbersRise v.entries → IsCountBelow v.entries n i = subst (λ (l : List StoredEntry). NumbersRise l → IsCountBelow l n i) same count in
-    least_none v a n i keeps (counted (keeps_rise v a keeps)) (subst (λ (l : List StoredEntry). slice_get l i ≡ None) same none)
+pub least-none : (xs : List MessagePlace) (n first i : ℕ) → (PlacesRise xs → IsCountBelow xs n first) → length xs ≤ i → NoneLive xs first i → PlacesRise xs → IsLeastPlace xs n None
+least-none xs n first i count whole none rise = λ m at_least. not_true (live_place xs m) (never m at_least) where
+  never : (m : ℕ) → n ≤ m → live_place xs m ≡ true → ⊥
+  never m at_least has =
+      let at = live-at xs m has in
+      let same : at.place.number ≡ m = at.number_is in
+      let inside : at.index < length xs = slice_get_within xs at.index at.place at.there in
+      elim (before_or_not at.index first) [
+        | inl less ↦ (let less_n : at.place.number < n = (count rise at.index at.place at.there).0 less in omega (arith, less_n, same, at_least))
+        | inr most ↦ false_true at.place.live at.live_is (none at.index at.place at.there most (omega (arith, inside, whole)))
+      ]
 
-pub search_last : (v : View) (a : Archive) (xs : List StoredEntry) (n i : ℕ) (s : StoredEntry) → xs ≡ v.entries → Keeps v a → (NumbersRise xs → IsCountUpTo xs n i) → 0 < i → slice_get xs (i - 1) ≡ Some s → IsGreatestLive a.entries n (Some s.number)
-search_last v a xs n i s same keeps count some here =
-    let counted : NumbersRise v.entries → IsCountUpTo v.entries n i = subst (λ (l : List StoredEntry). NumbersRise l → IsCountUpTo l n i) same count in
-    greatest_some v a n i s keeps (counted (keeps_rise v a keeps)) some (subst (λ (l : List StoredEntry). slice_get l (i - 1) ≡ Some s) same here)
+-- The last live place before an index has the greatest number, up to the one of that index.
+pub greatest-some : (xs : List MessagePlace) (n i count : ℕ) (p : MessagePlace) → (PlacesRise xs → IsCountUpTo xs n count) → i < count → slice_get xs i ≡ Some p → p.live ≡ true → NoneLive xs (i + 1) count → PlacesRise xs → IsGreatestPlace xs n (Some p.number)
+greatest-some xs n i count p counted low here live none rise = ((counted rise i p here).0 low, place-live xs i p here live, λ m above at_most. not_true (live_place xs m) (never m above at_most)) where
+  never : (m : ℕ) → p.number < m → m ≤ n → live_place xs m ≡ true → ⊥
+  never m above at_most has =
+      let at = live-at xs m has in
+      let same : at.place.number ≡ m = at.number_is in
+      elim (before_or_not at.index count) [
+        | inl less ↦ earlier m above at less
+        | inr most ↦ (let high : n < at.place.number = (counted rise at.index at.place at.there).1 most in omega (arith, high, same, at_most))
+      ]
+    where
+      earlier : (m : ℕ) → p.number < m → (at : LiveAt xs m) → at.index < count → ⊥
+      earlier m above at less = elim (before_or_not i at.index) [
+        | inl past ↦ false_true at.place.live at.live_is (none at.index at.place at.there (omega (arith, past)) less)
+        | inr most ↦ (let up : at.place.number ≤ p.number = not_after at most in let same : at.place.number ≡ m = at.number_is in omega (arith, up, same, above))
+      ]
+        where
+          not_after : (at : LiveAt xs m) → at.index ≤ i → at.place.number ≤ p.number
+          not_after at most = elim (before_or_not at.index i) [
+            | inl first ↦ (let up : at.place.number < p.number = rise_at 0 xs at.index i at.place p rise first at.there here in omega (arith, up))
+            | inr again ↦ (let at_is : at.index ≡ i = omega (arith, most, again) in let same : p.number ≡ at.place.number = ap (λ (r : MessagePlace). r.number) (only p at.place (sym here ∙ ap (slice_get xs) (sym at_is) ∙ at.there)) in omega (arith, same))
+          ]
 
-pub search_before : (v : View) (a : Archive) (xs : List StoredEntry) (n i : ℕ) → xs ≡ v.entries → Keeps v a → (NumbersRise xs → IsCountUpTo xs n i) → i ≤ length xs → (0 < i → slice_get xs (i - 1) ≡ None) → IsGreatestLive a.entries n None
-search_before v a xs n i same keeps count bound none =
-    let counted : NumbersRise v.entries → IsCountUpTo v.entries n i = subst (λ (l : List StoredEntry). NumbersRise l → IsCountUpTo l n i) same count in
-    let within : i ≤ length v.entries = subst (λ (l : List StoredEntry). i ≤ length l) same bound in
-    greatest_none v a n i keeps (counted (keeps_rise v a keeps)) within (subst (λ (l : List StoredEntry). 0 < i → slice_get l (i - 1) ≡ None) same none)
+pub greatest-none : (xs : List MessagePlace) (n count : ℕ) → (PlacesRise xs → IsCountUpTo xs n count) → NoneLive xs 0 count → PlacesRise xs → IsGreatestPlace xs n None
+greatest-none xs n count counted none rise = λ m at_most. not_true (live_place xs m) (never m at_most) where
+  never : (m : ℕ) → m ≤ n → live_place xs m ≡ true → ⊥
+  never m at_most has =
+      let at = live-at xs m has in
+      let same : at.place.number ≡ m = at.number_is in
+      elim (before_or_not at.index count) [
+        | inl less ↦ false_true at.place.live at.live_is (none at.index at.place at.there (omega arith) less)
+        | inr most ↦ (let high : n < at.place.number = (counted rise at.index at.place at.there).1 most in omega (arith, high, same, at_most))
+      ]
 
--- A number that is kept is there.
-pub known_at : (xs : List StoredEntry) (i : ℕ) (s : StoredEntry) → slice_get xs i ≡ Some s → has_number xs s.number ≡ true
-known_at [] i s here = absurd (there_is (slice_get {X = StoredEntry} [] i) s here refl)
-known_at (e ∷ es) zero s here =
-    let at : e.number ≡ s.number = ap (λ (f : StoredEntry). f.number) (only e s here) in
-    let hit : (e.number == s.number) ≡ true = grind (arith, nat_tests) in
-    rw hit refl
-known_at (e ∷ es) (suc i) s here = either (e.number == s.number) (has_number es s.number) (known_at es i s here)
-  where
-    either : (t u : Bool) → u ≡ true → (t || u) ≡ true
-    either true u is = refl
-    either false u is = is
+-- What places tell of the archive that a store keeps.
+module _ (v : View) (places : List MessagePlace) (placed : places ≡ message_places 0 v.entries) where
+  pub live-known : (n : ℕ) → live_place places n ≡ has_live v.entries n
+  live-known n = ap (λ (ps : List MessagePlace). live_place ps n) placed ∙ live-places 0 v.entries n
 
--- Whether a number has a text, by the least number that is at least it.
-pub text_of-least : (a : Archive) (n found : ℕ) → IsLeastLive a.entries n (Some found) → is_some (text_of a.entries n) ≡ (found == n)
-text_of-least a n found least = by (found == n) refl
-  where
-    none_for : text_of a.entries n ≡ None → is_some (text_of a.entries n) ≡ false
-    none_for none = rw none refl
+  pub known-live : (r : Option ℕ) → IsKnownLive (live_place places) r → IsKnownLive (has_live v.entries) r
+  known-live None known = tt
+  known-live (Some n) known = sym (live-known n) ∙ known
 
-    by : (t : Bool) → (found == n) ≡ t → is_some (text_of a.entries n) ≡ t
-    by true is = let same : found ≡ n = grind (arith, nat_tests) in subst (λ (m : ℕ). is_some (text_of a.entries m) ≡ true) same least.1
-    by false is =
-        let apart : found ≢ n = grind (arith, nat_tests) in
-        let at_least = least.0 in
-        none_for (least.2 n (omega arith) (omega (arith, apart, at_least)))
+  pub message-found : (at n : ℕ) (p : MessagePlace) → slice_get places at ≡ Some p → p.number ≡ n → IsMessageAt v.entries n p.entry
+  message-found at n p there same =
+      let told = places-tell 0 v.entries at p (ap (λ (ps : List MessagePlace). slice_get ps at) (sym placed) ∙ there) in
+      let index_is : p.entry ≡ told.at = (let is : p.entry ≡ 0 + told.at = told.entry_is in omega (arith, is)) in
+      record { entry = told.entry; there = ap (slice_get v.entries) index_is ∙ told.there; number_is = told.number_is ∙ same; is_one = told.is_one }
 
-pub text_of-no_least : (a : Archive) (n : ℕ) → IsLeastLive a.entries n None → is_some (text_of a.entries n) ≡ false
-text_of-no_least a n none = rw (none n (omega arith)) refl
+  pub live-found : (at n : ℕ) (p : MessagePlace) → slice_get places at ≡ Some p → p.number ≡ n → p.live ≡ true → IsLiveAt v.entries n p.entry
+  unfolding message-found
+  live-found at n p there same live =
+      let told = places-tell 0 v.entries at p (ap (λ (ps : List MessagePlace). slice_get ps at) (sym placed) ∙ there) in
+      record { message = message-found at n p there same; is_live = told.is_live live }
 
--- The text of the entry with a number is the text of that number.
-pub text_gives : (v : View) (cache : List ℕ) (a : Archive) (k : Option Content) (n i : ℕ) (old new : List ℕ) (r : Result Unit TextRefusal) → IsStoreWith v cache a k → IsNumberAt v.entries n i → GivesTextOf a i old new r → GivesTextIn a.entries n old new r
-text_gives v cache a k n i old new (Ok done) own at given = (given.0, (text_in v a i n at.0 (store_keeps v cache a k own) at.1 at.2).0 ∙ given.1, given.2)
-text_gives v cache a k n i old new (Err (Damaged named found)) own at given = given
-text_gives v cache a k n i old new (Err DiskFault) own at given = tt
-text_gives v cache a k n i old new (Err NoMemory) own at given = tt
+  module _ (a : Archive) (keeps : Keeps v a) where
+    pub rises : PlacesRise places
+    rises = subst PlacesRise (sym (placed ∙ ap (message_places 0) keeps.kept)) (places-low 0 1 (message_places 0 (stored_after [] a.entries)) (omega arith) (places-rise [] a.entries 0 1 0 keeps.valid.order))
+
+    -- A number has a live place just if it is shown.
+    pub live-shown : (n : ℕ) → live_place places n ≡ is_some (text_of (live a.entries) n)
+    live-shown n = live-known n ∙ ap (λ (es : List StoredEntry). has_live es n) keeps.kept ∙ has_live-is a.entries n
+
+    no_text : (found : Option (List ℕ)) → is_some found ≡ false → found ≡ None
+    no_text None lacks = refl
+    no_text (Some text) lacks = absurd (cc)
+
+    none_shown : (n : ℕ) → live_place places n ≡ false → text_of (live a.entries) n ≡ None
+    none_shown n dead = no_text (text_of (live a.entries) n) (sym (live-shown n) ∙ dead)
+
+    pub least-is : (n : ℕ) (r : Option ℕ) → (PlacesRise places → IsLeastPlace places n r) → IsLeastLive (live a.entries) n r
+    least-is n r least = by r (least rises) where
+      by : (f : Option ℕ) → IsLeastPlace places n f → IsLeastLive (live a.entries) n f
+      by None none = λ m at_least. none_shown m (none m at_least)
+      by (Some m) found = (found.0, sym (live-shown m) ∙ found.1, λ k at_least below. none_shown k (found.2 k at_least below))
+
+    pub greatest-is : (n : ℕ) (r : Option ℕ) → (PlacesRise places → IsGreatestPlace places n r) → IsGreatestLive (live a.entries) n r
+    greatest-is n r greatest = by r (greatest rises) where
+      by : (f : Option ℕ) → IsGreatestPlace places n f → IsGreatestLive (live a.entries) n f
+      by None none = λ m at_most. none_shown m (none m at_most)
+      by (Some m) found = (found.0, sym (live-shown m) ∙ found.1, λ k above at_most. none_shown k (found.2 k above at_most))
+
+    pub between-is : (low high : ℕ) → count_by (place_between low high) places ≡ live_between (live a.entries) low high
+    between-is low high =
+        sym (length-filter (place_between low high) places)
+        ∙ ap (λ (ps : List MessagePlace). length (filter (place_between low high) ps)) placed
+        ∙ places-between low high 0 v.entries
+        ∙ ap (λ (es : List StoredEntry). length (filter (stored_between low high) (live_kept es))) keeps.kept
+        ∙ between-kept low high (live_kept (stored_after [] a.entries)) (live a.entries) (live-kept [] a.entries)
+
+    -- The number that isn't found, or whose place isn't live, isn't shown.
+    pub unfound : (n : ℕ) → IsPlaceOf places n None → is_some (text_of (live a.entries) n) ≡ false
+    unfound n none = sym (live-shown n) ∙ none rises
+
+    pub unlive : (at n : ℕ) (p : MessagePlace) → slice_get places at ≡ Some p → p.number ≡ n → p.live ≡ false → is_some (text_of (live a.entries) n) ≡ false
+    unlive at n p there same dead = sym (live-shown n) ∙ subst (λ (m : ℕ). live_place places m ≡ false) same ((places-one 0 places at p rises there).1 ∙ dead)
+
+    pub shown-live : (at n : ℕ) (p : MessagePlace) → slice_get places at ≡ Some p → p.number ≡ n → p.live ≡ true → is_some (text_of (live a.entries) n) ≡ true
+    shown-live at n p there same live = sym (live-shown n) ∙ subst (λ (m : ℕ). live_place places m ≡ true) same (place-live places at p there live)
+
+-- The text of the entry that is a live message is the text of its number.
+module _ (v : View) (a : Archive) (keeps : Keeps v a) (n i : ℕ) (at : IsLiveAt v.entries n i) where
+  entry_text : (text : List ℕ) → text_if (slice_get a.entries i) ≡ Some text → text_of (live a.entries) n ≡ Some text
+  entry_text text read =
+      let found = kept-at [] a.entries i at.message.entry (ap (λ (es : List StoredEntry). slice_get es i) (sym keeps.kept) ∙ at.message.there) in
+      let e : Entry = found.entry in
+      let number_is : e.number ≡ n = ap (λ (s : StoredEntry). s.number) (sym found.kept.1) ∙ at.message.number_is in
+      let is_one : is_message e.kind ≡ true = ap (λ (s : StoredEntry). is_message s.seen.kind) (sym found.kept.1) ∙ at.message.is_one in
+      let has : has_live v.entries n ≡ true = subst (λ (m : ℕ). has_live v.entries m ≡ true) at.message.number_is (contains-number (live_kept v.entries) at.message.entry at.is_live) in
+      let some : is_some (text_of (live a.entries) n) ≡ true = sym (ap (λ (es : List StoredEntry). has_live es n) keeps.kept ∙ has_live-is a.entries n) ∙ has in
+      let shown = shown-at a.entries 0 i e keeps.valid.order found.there is_one (subst (λ (m : ℕ). is_some (text_of (live a.entries) m) ≡ true) (sym number_is) some) in
+      subst (λ (m : ℕ). text_of (live a.entries) m ≡ Some e.text) number_is shown ∙ sym (ap text_if found.there) ∙ read
+
+  pub text-gives : (old new : List ℕ) (r : Result Unit TextRefusal) → GivesTextOf a i old new r → GivesTextIn (live a.entries) n old new r
+  text-gives old new (Ok done) given = (given.0, entry_text given.0 given.1, given.2)
+  text-gives old new (Err (Damaged named found)) given = given
+  text-gives old new (Err DiskFault) given = tt
+  text-gives old new (Err NoMemory) given = tt
 
 -- The result by what is kept of the number's entry.
-pub text_kept : (xs : List StoredEntry) (n i : ℕ) (old new : List ℕ) (r : Result Unit TextRefusal) → IsNumberAt xs n i → ((s : StoredEntry) → slice_get xs i ≡ Some s → GivesText s old new r) → GivesTextKept xs n old new r
-text_kept xs n i old new r at given = (i, at.0, at.1, at.2, given at.0 at.1)
+pub text-kept : (xs : List StoredEntry) (n i : ℕ) (old new : List ℕ) (r : Result Unit TextRefusal) → IsMessageAt xs n i → ((s : StoredEntry) → slice_get xs i ≡ Some s → GivesText s old new r) → GivesTextKept xs n old new r
+text-kept xs n i old new r at given = (i, at.entry, at.there, at.number_is, given at.entry at.there)
 
 -- Running out of memory leaves the bytes.
-pub wanting_kept : (xs : List StoredEntry) (n : ℕ) (old : List ℕ) → has_number xs n ≡ true → GivesTextKept xs n old old (Err NoMemory)
-wanting_kept xs n old has = let r = has_place xs n has in (r.0, r.1.0, r.1.1, r.1.2, refl)
+pub wanting-kept : (xs : List StoredEntry) (n : ℕ) (old : List ℕ) → has_live xs n ≡ true → GivesTextKept xs n old old (Err NoMemory)
+wanting-kept xs n old has = let at = live-number xs n has in (at.index, at.entry, at.there, at.number_is, refl)
 
 -- If a text with another id was found, the two ids differ.
-pub tells_other : (xs : List StoredEntry) (n : ℕ) (old new : List ℕ) (r : Result Unit TextRefusal) → GivesTextKept xs n old new r → TellsOther r
-tells_other xs n old new (Ok done) kept = tt
-tells_other xs n old new (Err (Damaged named found)) kept = kept.4.2
-tells_other xs n old new (Err DiskFault) kept = tt
-tells_other xs n old new (Err NoMemory) kept = tt
+pub tells-other : (s : StoredEntry) (old new : List ℕ) (r : Result Unit TextRefusal) → GivesText s old new r → TellsOther r
+tells-other s old new (Ok done) given = tt
+tells-other s old new (Err (Damaged named found)) given = given.2
+tells-other s old new (Err DiskFault) given = tt
+tells-other s old new (Err NoMemory) given = tt
 
-pub other_refused : (T U : Type 0) (why : TextRefusal) → TellsOther {T = T} (Err why) → TellsOther {T = U} (Err why)
-other_refused T U (Damaged named found) other = other
-other_refused T U DiskFault other = tt
-other_refused T U NoMemory other = tt
+pub other-refused : (T U : Type 0) (why : TextRefusal) → TellsOther {T = T} (Err why) → TellsOther {T = U} (Err why)
+other-refused T U (Damaged named found) other = other
+other-refused T U DiskFault other = tt
+other-refused T U NoMemory other = tt
 
 -- A text was appended, or nothing was.
-pub kept_appends : (entries : List StoredEntry) (n : ℕ) (old new : List ℕ) (r : Result Unit TextRefusal) → GivesTextKept entries n old new r → AppendsTo old new
-kept_appends entries n old new (Ok done) given = (given.4.0, given.4.2)
-kept_appends entries n old new (Err DiskFault) given = appends-none old new given.4
-kept_appends entries n old new (Err (Damaged named found)) given = appends-none old new given.4.0
-kept_appends entries n old new (Err NoMemory) given = appends-none old new given.4
+pub kept-appends : (s : StoredEntry) (old new : List ℕ) (r : Result Unit TextRefusal) → GivesText s old new r → AppendsTo old new
+kept-appends s old new (Ok done) given = (given.0, given.2)
+kept-appends s old new (Err DiskFault) given = appends-none old new given
+kept-appends s old new (Err (Damaged named found)) given = appends-none old new given.0
+kept-appends s old new (Err NoMemory) given = appends-none old new given
 
 -- The bytes of an epoch were appended, or nothing was.
-pub epoch_appends : (root : Root) (e : ℕ) (old new : List ℕ) (r : Result Bool TextRefusal) → IsEpochFound root e old new r → KeepsUnlessFound old new r → AppendsTo old new
-epoch_appends root e old new (Ok true) found kept = (found.0, found.3)
-epoch_appends root e old new (Ok false) found kept = appends-none old new kept
-epoch_appends root e old new (Err refused) found kept = appends-none old new kept
+pub epoch_appends : (v : View) (e : ℕ) (old new : List ℕ) (r : Result Bool TextRefusal) → IsEpochFound v.root e old new r → KeepsUnlessFound old new r → AppendsTo old new
+epoch_appends v e old new (Ok true) found kept = (found.0, found.3)
+epoch_appends v e old new (Ok false) found kept = appends-none old new kept
+epoch_appends v e old new (Err refused) found kept = appends-none old new kept

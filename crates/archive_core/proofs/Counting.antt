@@ -1,29 +1,40 @@
--- How many messages an archive has.
-use Rattle.std.specs.Prelude.{◌≡◌, ◌+◌, ◌<◌, ◌≤◌, ℕ, List, [], ◌∷◌, ◌++◌, length, min, refl}
-use Rattle.std.specs.List.{AllByRecursion}
+-- How many live messages an archive has.
+use Rattle.std.specs.Prelude.{◌≡◌, ◌+◌, ◌<◌, ◌≤◌, ◌&&◌, ℕ, Bool, true, false, nat_le, List, [], ◌∷◌, length, min, if◌then◌else◌, refl}
+use Rattle.std.specs.List.{AllByRecursion, filter}
 use Rattle.std.proofs.Common.{◌∙◌, ap, arith}
-use Rattle.arch_model.specs.Archives.{Entry, Archive}
-use Rattle.epoch_store.specs.Stores.{View, Keeps, stored_after}
-use Rattle.arch_model.specs.Validity.{Rise}
+use Rattle.std.proofs.lemmas.Bool.Decides.{nat_tests}
+use Rattle.arch_model.specs.Archives.{Entry, Archive, live}
+use Rattle.arch_model.specs.Shelves.{is_between, live_between}
+use Rattle.arch_model.specs.Validity.{IsArchive}
+use Rattle.arch_model.proofs.LiveEntries.{live-all}
+use Rattle.arch_judge.proofs.Endings.{Ascend, live-ascend}
 
 -- Entries whose numbers rise from one on and stay below another are at most as many as are between.
-few : (number epoch next : ℕ) (es : List Entry) → number ≤ next → Rise number epoch es → AllByRecursion (λ (e : Entry). e.number < next) es → number + length es ≤ next
-few number epoch next [] low rise below = omega (arith, low)
-few number epoch next (e ∷ es) low rise below =
-    let first = rise.0 in
-    let less = below.0 in
-    let rest = few (e.number + 1) e.epoch next es (omega (arith, less)) rise.2 below.1 in
+few : (number next : ℕ) (es : List Entry) → number ≤ next → Ascend number es → AllByRecursion (λ (e : Entry). e.number < next) es → number + length es ≤ next
+few number next [] low rise below = omega (arith, low)
+few number next (e ∷ es) low rise below =
+    let first : number ≤ e.number = rise.0 in
+    let less : e.number < next = below.0 in
+    let rest = few (e.number + 1) next es (omega (arith, less)) rise.1 below.1 in
     omega (arith, first, rest)
 
--- As many are kept as there are.
-pub stored_length : (before es : List Entry) → length (stored_after before es) ≡ length es
-stored_length before [] = refl
-stored_length before (e ∷ es) = let rest = stored_length (before ++ e ∷ []) es in omega (arith, rest)
+keep_step : (t : Bool) (e : Entry) (xs es : List Entry) → t ≡ true → length xs ≡ length es → length (if t then e ∷ xs else xs) ≡ length (e ∷ es)
+keep_step true e xs es yes same = omega (arith, same)
+keep_step false e xs es no same = absurd (cc)
 
--- A store's entries are those of the archive that it keeps, and are counted with 32 bits.
-pub counted : (v : View) (a : Archive) → Keeps v a → min (length v.entries) 4294967295 ≡ length a.entries
-counted v a keeps =
-    let same : length v.entries ≡ length a.entries = ap length keeps.kept ∙ stored_length [] a.entries in
-    let bound = few 1 0 a.next a.entries keeps.valid.next_least keeps.valid.order keeps.valid.below in
-    let most = keeps.valid.next_most in
+-- All of them lie between 0 and the greatest number of 32 bits.
+all_between : (es : List Entry) (next : ℕ) → next ≤ 2147483648 → AllByRecursion (λ (e : Entry). e.number < next) es → live_between es 0 4294967295 ≡ length es
+all_between [] next most below = refl
+all_between (e ∷ es) next most below =
+    let less : e.number < next = below.0 in
+    let yes : (nat_le 0 e.number && nat_le e.number 4294967295) ≡ true = grind (arith, nat_tests, less, most) in
+    keep_step (nat_le 0 e.number && nat_le e.number 4294967295) e (filter (is_between 0 4294967295) es) es yes (all_between es next most below.1)
+
+-- So they are counted with 32 bits.
+pub counted : (a : Archive) → IsArchive a → min (live_between (live a.entries) 0 4294967295) 4294967295 ≡ length (live a.entries)
+counted a valid =
+    let below = live-all (λ (e : Entry). e.number < a.next) a.entries valid.below in
+    let same : live_between (live a.entries) 0 4294967295 ≡ length (live a.entries) = all_between (live a.entries) a.next valid.next_most below in
+    let bound : 1 + length (live a.entries) ≤ a.next = few 1 a.next (live a.entries) valid.next_least (live-ascend 1 0 a.entries valid.order) below in
+    let most : a.next ≤ 2147483648 = valid.next_most in
     omega (arith, same, bound, most)

@@ -1,175 +1,243 @@
--- The messages of a store by their ids and blob ids: which are an archive's, and which ids are
--- free.
-use Rattle.std.specs.Prelude.{◌≡◌, ◌≢◌, ℕ, Bool, true, false, cond, List, [], ◌∷◌, ◌++◌, Option, Some, None, IsSome, option_map, unwrap_or, if◌then◌else◌, refl}
-use Rattle.std.specs.List.{AllByRecursion, find}
+-- The index of what a store keeps: that of an archive's entries, with one more entry, and with a text
+-- that was taken back.
+use Rattle.std.specs.Prelude.{◌≡◌, ◌≢◌, ℕ, suc, Bool, true, false, List, [], ◌∷◌, ◌++◌, length, Option, Some, None, IsSome, unwrap_or, option_map, if◌then◌else◌, refl}
+use Rattle.std.specs.List.{AllByRecursion}
 use Rattle.std.specs.Str.{bytes_eq}
-use Rattle.std.proofs.Common.{◌∙◌, sym, ap, subst}
+use Rattle.std.specs.Global.{Vec}
+use Rattle.std.specs.Map.{lookup}
+use Rattle.std.specs.BTreeMap.{is_at}
+use Rattle.std.specs.Ordering.{nat_cmp}
+use Rattle.std.specs.Cmp.Lexicographic.{slice_cmp}
+use Rattle.std.proofs.Common.{◌∙◌, sym, ap, subst, arith, append_assoc}
 use Rattle.std.proofs.lemmas.Slice.Eq.{bytes_eq-Decides}
 use Rattle.arch_base.specs.declared.ids.Id20.{Id20}
+use Rattle.git_objects.specs.Objects.{blob_id_of}
+use Rattle.git_objects.specs.declared.entry_kind.EntryKind.{EntryKind}
+use Rattle.git_objects.specs.declared.entry_kind.EntryKind.TheVariants.{Message, Deletion}
 use Rattle.mail_reader.specs.Ids.{own_id}
 use Rattle.mail_reader.specs.Content.{content_id_of}
-use Rattle.git_objects.specs.Objects.{blob_id_of}
-use Rattle.arch_model.specs.Archives.{Entry, Archive, owner, is_id, blob_number}
-use Rattle.arch_judge.specs.Indexes.{IsIndex, HasSame, owner_of, owner_in, number_in}
+use Rattle.arch_model.specs.Archives.{Entry, Archive, message, deletion, live, text_of, owner, IsFree}
+use Rattle.arch_model.specs.Validity.{IsEntry, IsArchive, IsFrom, number_after, Rise, AtEachPlace, EndsLive, IdsDiffer, LiveDiffer}
+use Rattle.arch_model.proofs.LiveEntries.{live-message, ids-now}
+use Rattle.arch_judge.specs.Indexes.{IsIndex, HasSame, Puts, Loses, TakesBack, first_found, owner_of, owner_in, number_in}
 use Rattle.arch_judge.specs.declared.index.Index.{Index}
 use Rattle.arch_judge.specs.declared.index.Owner.{Owner}
+use Rattle.arch_judge.proofs.Indexes.{IsIndex-push, IsIndex-same, unowned}
+use Rattle.arch_judge.proofs.Endings.{IsIndex-ends, owner-none}
 use Rattle.epoch_store.specs.declared.entries.StoredEntry.{StoredEntry}
-use Rattle.epoch_store.specs.Stores.{View, Accepts, AddsEntry, Keeps, stored_at, stored_after}
-use Rattle.arch_model.specs.Validity.{IsEntry}
-use Rattle.archive_core.specs.Kept.{IndexesStored, PutsText, TakesBackText, owner_kept, stored_owner, stored_number}
+use Rattle.epoch_store.specs.Stores.{View, Accepts, AddsEntry, EndsEntry, Keeps, stored_at, stored_after}
+use Rattle.archive_core.specs.Kept.{AreInOrder, AreOf, IndexesStored, TakesBy, Takes, PutsText, TakesBackText, LosesText, IsNewTo, owner_kept}
+use Rattle.archive_core.proofs.Stored.{stored-push}
 
--- Equal bytes compare as equal.
-same_bytes : (a b : List ℕ) → a ≡ b → bytes_eq a b ≡ true
-same_bytes a b is = (bytes_eq-Decides a b).1 is
+-- The entries of a valid archive are in order.
+pub in-order : (a : Archive) → IsArchive a → AreInOrder a.entries
+in-order a valid = record { each = valid.entries; order = valid.order; ends = valid.ends; ids = valid.ids }
 
--- An option has one value.
-inside : {X : Type 0} (x y : X) → Some x ≡ Some y → x ≡ y
-inside {X = X} x y is = ap (λ (o : Option X). unwrap_or o x) is
+-- What a store keeps is that of its archive's entries.
+pub are-of : (v : View) (a : Archive) → Keeps v a → AreOf v.entries a.entries
+are-of v a keeps = record { ordered = in-order a keeps.valid; is = keeps.kept }
 
--- Nothing is found exactly if each item fails the test.
-module _ {X Y : Type 0} (test : X → Bool) (give : X → Y) where
-  none_step : (t : Bool) (x : X) (rest : Option X) → option_map give (cond t (Some x) rest) ≡ None → (t ≡ false) × (option_map give rest ≡ None)
-  none_step true x rest none = absurd (cc)
-  none_step false x rest none = (refl, none)
+pub index-of_kept : (v : View) (a : Archive) (index : Index) → Keeps v a → IndexesStored v.entries index → IsIndex a.entries index
+index-of_kept v a index keeps indexed = indexed a.entries (are-of v a keeps)
 
-  all_fail : (xs : List X) → option_map give (find test xs) ≡ None → AllByRecursion (λ (x : X). test x ≡ false) xs
-  all_fail [] none = tt
-  all_fail (x ∷ xs) none = let both = none_step (test x) x (find test xs) none in (both.0, all_fail xs both.1)
+-- The entries before the last are in order.
+all_front : (P : Entry → Type 0) (es : List Entry) (e : Entry) → AllByRecursion P (es ++ e ∷ []) → AllByRecursion P es
+all_front P [] e all = tt
+all_front P (x ∷ es) e all = (all.0, all_front P es e all.1)
 
-  none_found : (xs : List X) → AllByRecursion (λ (x : X). test x ≡ false) xs → option_map give (find test xs) ≡ None
-  none_found [] fail = refl
-  none_found (x ∷ xs) fail = ap (λ (t : Bool). option_map give (cond t (Some x) (find test xs))) fail.0 ∙ none_found xs fail.1
+all_last : (P : Entry → Type 0) (es : List Entry) (e : Entry) → AllByRecursion P (es ++ e ∷ []) → P e
+all_last P [] e all = all.0
+all_last P (x ∷ es) e all = all_last P es e all.1
 
-  more_step : (t u : Bool) (x y : X) (rest more : Option X) → option_map give more ≡ (if u then Some (give y) else option_map give rest) → (u ≡ true → option_map give (cond t (Some x) rest) ≡ None)
-      → option_map give (cond t (Some x) more) ≡ (if u then Some (give y) else option_map give (cond t (Some x) rest))
-  more_step true true x y rest more ih free = absurd (let none : Some (give x) ≡ None = free refl in cc)
-  more_step true false x y rest more ih free = refl
-  more_step false true x y rest more ih free = ih
-  more_step false false x y rest more ih free = ih
+rise_front : (number epoch : ℕ) (es : List Entry) (e : Entry) → Rise number epoch (es ++ e ∷ []) → Rise number epoch es
+rise_front number epoch [] e rise = tt
+rise_front number epoch (x ∷ es) e rise = (rise.0, rise.1, rise_front (number_after x.kind number x.number) x.epoch es e rise.2)
 
-  free_step : (t u : Bool) (x : X) (rest : Option X) → (u ≡ true → option_map give (cond t (Some x) rest) ≡ None) → u ≡ true → option_map give rest ≡ None
-  free_step true u x rest free is = absurd (let none : Some (give x) ≡ None = free is in cc)
-  free_step false u x rest free is = free is
+places_front : (P : List Entry → Entry → Type 0) (before es : List Entry) (e : Entry) → AtEachPlace P before (es ++ e ∷ []) → AtEachPlace P before es
+places_front P before [] e all = tt
+places_front P before (x ∷ es) e all = (all.0, places_front P (before ++ x ∷ []) es e all.1)
 
-  -- An appended item is found if it passes the test and none of the others does.
-  found_more : (xs : List X) (y : X) → (test y ≡ true → option_map give (find test xs) ≡ None) → option_map give (find test (xs ++ y ∷ [])) ≡ (if test y then Some (give y) else option_map give (find test xs))
-  found_more [] y free = by (test y) where
-    by : (t : Bool) → option_map give (cond t (Some y) None) ≡ (if t then Some (give y) else None)
-    by true = refl
-    by false = refl
-  found_more (x ∷ xs) y free = more_step (test x) (test y) x y (find test xs) (find test (xs ++ y ∷ [])) (found_more xs y (free_step (test x) (test y) x (find test xs) free)) free
+place_last : (P : List Entry → Entry → Type 0) (before es : List Entry) (e : Entry) → AtEachPlace P before (es ++ e ∷ []) → P (before ++ es) e
+place_last P before [] e all = subst (λ (l : List Entry). P l e) (sym (append_nil before)) all.0 where
+  append_nil : (xs : List Entry) → xs ++ [] ≡ xs
+  append_nil [] = refl
+  append_nil (x ∷ xs) = ap (λ (l : List Entry). x ∷ l) (append_nil xs)
+place_last P before (x ∷ es) e all = subst (λ (l : List Entry). P l e) (append_assoc before (x ∷ []) es) (place_last P (before ++ x ∷ []) es e all.1)
 
--- A consequence of what holds of each item.
-each : {X : Type 0} (P Q : X → Type 0) (xs : List X) → ((x : X) → P x → Q x) → AllByRecursion P xs → AllByRecursion Q xs
-each P Q [] less all = tt
-each P Q (x ∷ xs) less all = (less x all.0, each P Q xs less all.1)
+front-order : (es : List Entry) (e : Entry) → AreInOrder (es ++ e ∷ []) → AreInOrder es
+front-order es e ordered = record {
+  each = all_front IsEntry es e ordered.each;
+  order = rise_front 1 0 es e ordered.order;
+  ends = places_front (λ (before : List Entry) (x : Entry). EndsLive x.kind before x) [] es e ordered.ends;
+  ids = places_front LiveDiffer [] es e ordered.ids;
+}
 
--- Bytes that differ.
-apart_bytes : (a b : List ℕ) → bytes_eq a b ≡ false → a ≡ b → ⊥
-apart_bytes a b other is = let no : true ≡ false = sym (same_bytes a b is) ∙ other in cc
+-- A list is empty, or has a last item.
+pub record HasLast (es : List Entry) : Type 0 where
+  pub front : List Entry
+  pub last : Entry
+  pub is : es ≡ front ++ last ∷ []
 
-other_bytes : (a b : List ℕ) → (a ≡ b → ⊥) → bytes_eq a b ≡ false
-other_bytes a b apart = by (bytes_eq a b) refl where
-  by : (t : Bool) → bytes_eq a b ≡ t → bytes_eq a b ≡ false
-  by true is = absurd (apart ((bytes_eq-Decides a b).0 is))
-  by false is = is
+last-of : (e : Entry) (es : List Entry) → HasLast (e ∷ es)
+last-of e [] = record { front = []; last = e; is = refl }
+last-of e (x ∷ es) = let rest = last-of x es in record { front = e ∷ rest.front; last = rest.last; is = ap (λ (l : List Entry). e ∷ l) rest.is }
 
--- No entry has an id or a blob id for which none is found, and none is found for one that no entry
--- has.
-pub ids_free : (es : List StoredEntry) (text id : List ℕ) → own_id text ≡ Some id → stored_owner es id ≡ None → AllByRecursion (λ (e : StoredEntry). own_id text ≢ Some e.seen.id) es
-ids_free es text id own none =
-    each (λ (e : StoredEntry). bytes_eq id e.seen.id ≡ false) (λ (e : StoredEntry). own_id text ≢ Some e.seen.id) es
-    (λ e other is. apart_bytes id e.seen.id other (inside id e.seen.id (sym own ∙ is)))
-    (all_fail (λ (e : StoredEntry). bytes_eq id e.seen.id) owner_kept es none)
+never_none : (xs : List StoredEntry) (x : StoredEntry) → xs ++ x ∷ [] ≡ [] → ⊥
+never_none [] x is = cc
+never_none (y ∷ xs) x is = cc
 
-pub id_free : (es : List StoredEntry) (text id : List ℕ) → own_id text ≡ Some id → AllByRecursion (λ (e : StoredEntry). own_id text ≢ Some e.seen.id) es → stored_owner es id ≡ None
-id_free es text id own free =
-    none_found (λ (e : StoredEntry). bytes_eq id e.seen.id) owner_kept es
-    (each (λ (e : StoredEntry). own_id text ≢ Some e.seen.id) (λ (e : StoredEntry). bytes_eq id e.seen.id ≡ false) es (λ e apart. other_bytes id e.seen.id (λ is. absurd (apart (own ∙ ap Some is)))) free)
+-- Two lists with a last item are the same only if their parts are.
+tail_of : List StoredEntry → List StoredEntry
+tail_of [] = []
+tail_of (x ∷ xs) = xs
 
-pub blobs_free : (es : List StoredEntry) (blob : Id20) → stored_number es blob.0 ≡ None → AllByRecursion (λ (e : StoredEntry). blob ≢ e.seen.blob) es
-blobs_free es blob none =
-    each (λ (e : StoredEntry). bytes_eq blob.0 e.seen.blob.0 ≡ false) (λ (e : StoredEntry). blob ≢ e.seen.blob) es
-    (λ e other is. apart_bytes blob.0 e.seen.blob.0 other (ap (λ (i : Id20). i.0) is))
-    (all_fail (λ (e : StoredEntry). bytes_eq blob.0 e.seen.blob.0) (λ (e : StoredEntry). e.number) es none)
+heads : (x y : StoredEntry) (xs ys : List StoredEntry) → x ∷ xs ≡ y ∷ ys → (x ≡ y) × (xs ≡ ys)
+heads x y xs ys is = (cc, cc)
 
-pub blob_free : (es : List StoredEntry) (blob : Id20) → AllByRecursion (λ (e : StoredEntry). blob ≢ e.seen.blob) es → stored_number es blob.0 ≡ None
-blob_free es blob free =
-    none_found (λ (e : StoredEntry). bytes_eq blob.0 e.seen.blob.0) (λ (e : StoredEntry). e.number) es
-    (each (λ (e : StoredEntry). blob ≢ e.seen.blob) (λ (e : StoredEntry). bytes_eq blob.0 e.seen.blob.0 ≡ false) es
-    (λ e apart. other_bytes blob.0 e.seen.blob.0 (λ is. absurd (apart (ap (λ (b : List ℕ). let i : Id20 = record { 0 = b } in i) is)))) free)
+last-parts : (xs ys : List StoredEntry) (x y : StoredEntry) → xs ++ x ∷ [] ≡ ys ++ y ∷ [] → (xs ≡ ys) × (x ≡ y)
+last-parts [] [] x y is = (refl, (heads x y [] [] is).0)
+last-parts [] (b ∷ ys) x y is = absurd (never_none ys y (sym (heads x b [] (ys ++ y ∷ []) is).1))
+last-parts (a ∷ xs) [] x y is = absurd (never_none xs x (heads a y (xs ++ x ∷ []) [] is).1)
+last-parts (a ∷ xs) (b ∷ ys) x y is =
+    let both = heads a b (xs ++ x ∷ []) (ys ++ y ∷ []) is in
+    let rest = last-parts xs ys x y both.1 in
+    (ap (λ (l : List StoredEntry). a ∷ l) rest.0 ∙ ap (λ (s : StoredEntry). s ∷ ys) both.0, rest.1)
 
--- The message of an archive's entry that has an id.
-owner_step : (o : Option (List ℕ)) (id : List ℕ) (e : Entry) (kept : StoredEntry) (found : Option Entry) (rest : Option StoredEntry) → IsSome o → owner_kept kept ≡ owner_of e → kept.seen.id ≡ unwrap_or o [] → option_map owner_kept rest ≡ option_map owner_of found
-    → option_map owner_kept (cond (bytes_eq id kept.seen.id) (Some kept) rest) ≡ option_map owner_of (if is_id id o then Some e else found)
-owner_step None id e kept found rest some same id_is ih = absurd (let no : false ≡ true = some in cc)
-owner_step (Some own) id e kept found rest some same id_is ih = ap (λ (i : List ℕ). option_map owner_kept (cond (bytes_eq id i) (Some kept) rest)) id_is ∙ by (bytes_eq id own) where
-  by : (t : Bool) → option_map owner_kept (cond t (Some kept) rest) ≡ option_map owner_of (if t then Some e else found)
-  by true = ap Some same
-  by false = ih
+-- The last id of ids that differ is new to the others.
+last_apart : (es : List Entry) (e : Entry) → IdsDiffer (es ++ e ∷ []) → AllByRecursion (λ (f : Entry). own_id f.text ≢ own_id e.text) es
+last_apart [] e differ = tt
+last_apart (x ∷ es) e differ = ((λ same. all_last (λ (f : Entry). own_id f.text ≢ own_id x.text) es e differ.0 (sym same)), last_apart es e differ.1)
 
-owners_same : (before es : List Entry) → AllByRecursion IsEntry es → (id : List ℕ) → stored_owner (stored_after before es) id ≡ option_map owner_of (owner es id)
-owners_same before [] valid id = refl
-owners_same before (e ∷ es) valid id =
-    owner_step (own_id e.text) id e (stored_at before e) (owner es id) (find (λ (s : StoredEntry). bytes_eq id s.seen.id) (stored_after (before ++ e ∷ []) es)) valid.0.text.id refl refl (owners_same (before ++ e ∷ []) es valid.1 id)
+id_of : (o : Option (List ℕ)) → IsSome o → o ≡ Some (unwrap_or o [])
+id_of None some = absurd (let no : false ≡ true = some in cc)
+id_of (Some id) some = refl
 
--- The number of an entry by its blob id.
-number_step : (t : Bool) (n : ℕ) (kept : StoredEntry) (found : Option ℕ) (rest : Option StoredEntry) → kept.number ≡ n → option_map (λ (s : StoredEntry). s.number) rest ≡ found → option_map (λ (s : StoredEntry). s.number) (cond t (Some kept) rest) ≡ (if t then Some n else found)
-number_step true n kept found rest same ih = ap Some same
-number_step false n kept found rest same ih = ih
+as_message : (e : Entry) → e.kind ≡ Message → e ≡ message e.number e.epoch e.text e.moment
+as_message e is = ap (λ (k : EntryKind). let f : Entry = record { kind = k; number = e.number; epoch = e.epoch; text = e.text; moment = e.moment } in f) is
 
-numbers_same : (before es : List Entry) (blob : List ℕ) → stored_number (stored_after before es) blob ≡ blob_number es blob
-numbers_same before [] blob = refl
-numbers_same before (e ∷ es) blob =
-    number_step (bytes_eq blob (blob_id_of e.text).0) e.number (stored_at before e) (blob_number es blob) (find (λ (s : StoredEntry). bytes_eq blob s.seen.blob.0) (stored_after (before ++ e ∷ []) es)) refl (numbers_same (before ++ e ∷ []) es blob)
+as_deletion : (e : Entry) → e.kind ≡ Deletion → e ≡ deletion e.number e.epoch e.text e.moment
+as_deletion e is = ap (λ (k : EntryKind). let f : Entry = record { kind = k; number = e.number; epoch = e.epoch; text = e.text; moment = e.moment } in f) is
 
--- The index of a store's entries is that of the entries of the archive that it keeps.
-pub index_of_kept : (v : View) (a : Archive) (index : Index) → Keeps v a → IndexesStored v.entries index → IsIndex a.entries index
-index_of_kept v a index keeps indexed =
-    let of_kept : IndexesStored (stored_after [] a.entries) index = subst (λ (es : List StoredEntry). IndexesStored es index) keeps.kept indexed in
-    record {
-      owners = λ id. of_kept.owners id ∙ owners_same [] a.entries keeps.valid.entries id;
-      blobs = λ blob. of_kept.blobs blob ∙ numbers_same [] a.entries blob;
-    }
+-- The index with the last of entries taken in.
+module _ (es : List Entry) (e : Entry) (old new : Index) (ordered : AreInOrder (es ++ e ∷ [])) (is_index : IsIndex es old) where
+  own : own_id e.text ≡ Some (unwrap_or (own_id e.text) [])
+  own = id_of (own_id e.text) (all_last IsEntry es e ordered.each).text.id
 
--- An index that has the same is that of the same entries.
-pub indexes_same : (es : List StoredEntry) (old new : Index) → IndexesStored es old → HasSame old new → IndexesStored es new
-indexes_same es old new indexed same = record { owners = λ q. same.owners q ∙ indexed.owners q; blobs = λ q. same.blobs q ∙ indexed.blobs q }
+  grows : e.kind ≡ Message → live (es ++ e ∷ []) ≡ live es ++ e ∷ []
+  grows one = ap (λ (f : Entry). live (es ++ f ∷ [])) (as_message e one) ∙ live-message es e.number e.epoch e.text e.moment ∙ ap (λ (f : Entry). live es ++ f ∷ []) (sym (as_message e one))
 
--- An index with a new text is that of the entries with it.
-pub indexes_more : (old new : View) (before after : Index) (text : List ℕ) (blob : Id20) → IndexesStored old.entries before → Accepts old text → blob ≡ blob_id_of text → PutsText before after text blob old.root.next → AddsEntry old new text → IndexesStored new.entries after
-indexes_more old new before after text blob indexed accepts blob_is puts adds =
-    let e = adds.entry in
-    let put = puts e.seen.id adds.id in
-    let message : Owner = record { number = old.root.next; content = content_id_of text } in
-    let same : message ≡ owner_kept e = ap (λ (n : ℕ). let o : Owner = record { number = n; content = content_id_of text } in o) (sym adds.number) ∙ ap (λ (c : List ℕ). let o : Owner = record { number = e.number; content = c } in o) (sym adds.content) in
-    let blob_same : blob ≡ e.seen.blob = blob_is ∙ sym adds.blob in
-    let id_none : stored_owner old.entries e.seen.id ≡ None = id_free old.entries text e.seen.id adds.id accepts.id in
-    let blob_none : stored_number old.entries e.seen.blob.0 ≡ None = subst (λ (i : Id20). stored_number old.entries i.0 ≡ None) (sym adds.blob) (blob_free old.entries (blob_id_of text) accepts.blob) in
+  with_message : e.kind ≡ Message → Puts old new (unwrap_or (own_id e.text) []) (blob_id_of e.text) (owner_of e) → IsIndex (es ++ e ∷ []) new
+  with_message one puts =
+      let differ : IdsDiffer (live (es ++ e ∷ [])) = place_last LiveDiffer [] es e ordered.ids in
+      let apart = last_apart (live es) e (subst IdsDiffer (grows one) differ) in
+      IsIndex-push es e old new (unwrap_or (own_id e.text) []) (blob_id_of e.text) (owner_of e) (grows one) is_index puts refl own (owner-none (live es) (own_id e.text) (unwrap_or (own_id e.text) []) apart own) refl
+
+  with_deletion : e.kind ≡ Deletion → Loses old new (unwrap_or (own_id e.text) []) → IsIndex (es ++ e ∷ []) new
+  with_deletion gone lost =
+      let front = front-order es e ordered in
+      let ends : EndsLive e.kind es e = place_last (λ (before : List Entry) (x : Entry). EndsLive x.kind before x) [] es e ordered.ends in
+      let shown : text_of (live es) e.number ≡ Some e.text = subst (λ (k : EntryKind). EndsLive k es e) gone ends in
+      subst (λ (f : Entry). IsIndex (es ++ f ∷ []) new) (sym (as_deletion e gone))
+      (IsIndex-ends es e.number e.epoch e.text e.moment 1 0 old new (unwrap_or (own_id e.text) []) is_index front.order (ids-now es front.ids) shown own lost)
+
+  by_kind : (k : EntryKind) → e.kind ≡ k → TakesBy k old new (stored_at es e) → IsIndex (es ++ e ∷ []) new
+  by_kind Message one takes = with_message one takes
+  by_kind Deletion gone takes = with_deletion gone takes
+
+  pub one-taken : Takes old new (stored_at es e) → IsIndex (es ++ e ∷ []) new
+  one-taken takes = by_kind e.kind refl takes
+
+-- An index into which one more entry was taken is that of what is kept with it.
+pub indexes-more : (kept : List StoredEntry) (s : StoredEntry) (old new : Index) → IndexesStored kept old → Takes old new s → IndexesStored (kept ++ s ∷ []) new
+indexes-more kept s old new indexed takes [] are = absurd (never_none kept s are.is)
+indexes-more kept s old new indexed takes (x ∷ es) are =
+    let parts = last-of x es in
+    let es_is : x ∷ es ≡ parts.front ++ parts.last ∷ [] = parts.is in
+    let ordered : AreInOrder (parts.front ++ parts.last ∷ []) = subst AreInOrder es_is are.ordered in
+    let same = last-parts kept (stored_after [] parts.front) s (stored_at parts.front parts.last) (are.is ∙ ap (stored_after []) es_is ∙ stored-push [] parts.front parts.last) in
+    let front : IsIndex parts.front old = indexed parts.front (record { ordered = front-order parts.front parts.last ordered; is = same.0 }) in
+    subst (λ (l : List Entry). IsIndex l new) (sym es_is)
+    (one-taken parts.front parts.last old new ordered front (subst (λ (t : StoredEntry). Takes old new t) same.1 takes))
+
+-- An index of nothing.
+pub indexes-none : (index : Index) → index.owners.entries ≡ [] → index.blobs.entries ≡ [] → IndexesStored [] index
+indexes-none index no_owners no_blobs [] are = record {
+  owners = λ id. ap (λ (l : List (Vec ℕ × Owner)). lookup (is_at (λ (k : Vec ℕ). slice_cmp nat_cmp id k.items)) l) no_owners;
+  blobs = λ blob. ap (λ (l : List (List ℕ × ℕ)). lookup (is_at (λ (k : List ℕ). slice_cmp nat_cmp blob k)) l) no_blobs;
+}
+indexes-none index no_owners no_blobs (e ∷ es) are = absurd (let wrong : [] ≡ stored_at [] e ∷ stored_after (e ∷ []) es = are.is in cc)
+
+-- An index with a new text is that of what is kept with it.
+pub indexes-added : (old new : View) (before after : Index) (text : List ℕ) (blob : Id20) → IndexesStored old.entries before → blob ≡ blob_id_of text → PutsText before after text blob old.root.next → AddsEntry old new text → IndexesStored new.entries after
+indexes-added old new before after text blob indexed blob_is puts adds =
+    let s = adds.entry in
+    let put : Puts before after s.seen.id blob (record { number = old.root.next; content = content_id_of text }) = puts s.seen.id adds.id in
+    let at_blob : Puts before after s.seen.id s.seen.blob (record { number = old.root.next; content = content_id_of text }) = subst (λ (i : Id20). Puts before after s.seen.id i (record { number = old.root.next; content = content_id_of text })) (blob_is ∙ sym adds.blob) put in
+    let at_number : Puts before after s.seen.id s.seen.blob (record { number = s.number; content = content_id_of text }) = subst (λ (n : ℕ). Puts before after s.seen.id s.seen.blob (record { number = n; content = content_id_of text })) (sym adds.number) at_blob in
+    let message_put : Puts before after s.seen.id s.seen.blob (owner_kept s) = subst (λ (c : List ℕ). Puts before after s.seen.id s.seen.blob (record { number = s.number; content = c })) (sym adds.content) at_number in
     subst (λ (es : List StoredEntry). IndexesStored es after) (sym adds.entries)
-    (record {
-      owners = λ q.
-          put.owners q
-          ∙ ap (λ (o : Owner). if bytes_eq q e.seen.id then Some o else owner_in before.owners q) same
-          ∙ ap (λ (o : Option Owner). if bytes_eq q e.seen.id then Some (owner_kept e) else o) (indexed.owners q)
-          ∙ sym (found_more (λ (s : StoredEntry). bytes_eq q s.seen.id) owner_kept old.entries e (λ is. subst (λ (i : List ℕ). stored_owner old.entries i ≡ None) (sym ((bytes_eq-Decides q e.seen.id).0 is)) id_none));
-      blobs = λ q.
-          put.blobs q
-          ∙ ap (λ (i : Id20). if bytes_eq q i.0 then Some old.root.next else number_in before.blobs q) blob_same
-          ∙ ap (λ (n : ℕ). if bytes_eq q e.seen.blob.0 then Some n else number_in before.blobs q) (sym adds.number)
-          ∙ ap (λ (o : Option ℕ). if bytes_eq q e.seen.blob.0 then Some e.number else o) (indexed.blobs q)
-          ∙ sym (found_more (λ (s : StoredEntry). bytes_eq q s.seen.blob.0) (λ (s : StoredEntry). s.number) old.entries e (λ is. subst (λ (b : List ℕ). stored_number old.entries b ≡ None) (sym ((bytes_eq-Decides q e.seen.blob.0).0 is)) blob_none));
-    })
+    (indexes-more old.entries s before after indexed (subst (λ (k : EntryKind). TakesBy k before after s) (sym adds.kind) message_put))
 
--- The blob id of a text that would be accepted is new to the index.
-pub unseen : (v : View) (index : Index) (text : List ℕ) (blob : Id20) → IndexesStored v.entries index → Accepts v text → blob ≡ blob_id_of text → number_in index.blobs blob.0 ≡ None
-unseen v index text blob indexed accepts blob_is = indexed.blobs blob.0 ∙ blob_free v.entries blob (subst (λ (i : Id20). AllByRecursion (λ (e : StoredEntry). i ≢ e.seen.blob) v.entries) (sym blob_is) accepts.blob)
+-- An index without the own id of a removed text is that of what is kept with its deletion.
+pub indexes-ended : (old new : View) (before after : Index) (number : ℕ) (text : List ℕ) → IndexesStored old.entries before → LosesText before after text → EndsEntry old new number text → IndexesStored new.entries after
+indexes-ended old new before after number text indexed loses ends =
+    let s = ends.entry in
+    subst (λ (es : List StoredEntry). IndexesStored es after) (sym ends.entries)
+    (indexes-more old.entries s before after indexed (subst (λ (k : EntryKind). TakesBy k before after s) (sym ends.kind) (loses s.seen.id ends.id)))
 
--- A new text that is put in and removed leaves an index of the same entries.
-pub indexes_again : (v : View) (before put after : Index) (text : List ℕ) (blob : Id20) → IndexesStored v.entries before → Accepts v text → blob ≡ blob_id_of text → PutsText before put text blob v.root.next → TakesBackText put after text blob → IndexesStored v.entries after
-indexes_again v before put after text blob indexed accepts blob_is puts back = by (own_id text) refl accepts.storage.id where
-  by : (o : Option (List ℕ)) → own_id text ≡ o → IsSome o → IndexesStored v.entries after
-  by None own some = absurd (let no : false ≡ true = some in cc)
-  by (Some id) own some =
-      let id_none : owner_in before.owners id ≡ None = indexed.owners id ∙ id_free v.entries text id own accepts.id in
-      indexes_same v.entries before after indexed (back id own before (record { number = v.root.next; content = content_id_of text }) (puts id own) id_none (unseen v before text blob indexed accepts blob_is))
+-- A new text that is put in and taken back leaves an index of what was kept.
+same_owner : (id text : List ℕ) (es : List Entry) → own_id text ≡ Some id → IsFree (live es) text → owner (live es) id ≡ None
+same_owner id text es own free =
+    let some : Some free.0 ≡ Some id = sym free.1 ∙ own in
+    let same : free.0 ≡ id = cc in
+    subst (λ (i : List ℕ). owner (live es) i ≡ None) same free.2
+
+no_owner : (o : Option Entry) → o ≡ None → option_map owner_of o ≡ None
+no_owner o none = ap (option_map owner_of) none
+
+pub indexes-again : (kept : List StoredEntry) (before put after : Index) (text : List ℕ) (blob : Id20) (number : ℕ) (older : Option ℕ) → IndexesStored kept before → IsNewTo kept text → PutsText before put text blob number → number_in before.blobs blob.0 ≡ older
+    → TakesBackText put after text blob number older → IndexesStored kept after
+indexes-again kept before put after text blob number older indexed new puts known back entries are =
+    let free = new entries are in
+    let id = free.0 in
+    let is_index = indexed entries are in
+    let none : owner_in before.owners id ≡ None = is_index.owners id ∙ no_owner (owner (live entries) id) free.2 in
+    IsIndex-same entries before after is_index (back before id free.1 (puts id free.1) none known)
+
+-- A text that is taken back by its id leaves the index as it was.
+removed_step : (t : Bool) (message : Owner) (found : Option Owner) → (t ≡ true → found ≡ None) → (if t then None else (if t then Some message else found)) ≡ found
+removed_step true message found none = sym (none refl)
+removed_step false message found none = refl
+
+older_step : (t : Bool) (n x : ℕ) (found : Option ℕ) → (t ≡ true → found ≡ Some x) → first_found found (if t then Some n else None) ≡ found
+older_step true n x found older = rw (older refl) refl
+older_step false n x None older = refl
+older_step false n x (Some y) older = refl
+
+pub removes-again : (old put new : Index) (id : List ℕ) (blob : Id20) (message : Owner) (x : ℕ) → Puts old put id blob message → owner_in old.owners id ≡ None → number_in old.blobs blob.0 ≡ Some x → Loses put new id → HasSame old new
+removes-again old put new id blob message x puts none older loses = record {
+  owners = λ q.
+      loses.owners q
+      ∙ ap (λ (o : Option Owner). if bytes_eq q id then None else o) (puts.owners q)
+      ∙ removed_step (bytes_eq q id) message (owner_in old.owners q) (λ yes. subst (λ (i : List ℕ). owner_in old.owners i ≡ None) (sym ((bytes_eq-Decides q id).0 yes)) none);
+  blobs = λ q.
+      loses.blobs q
+      ∙ puts.blobs q
+      ∙ older_step (bytes_eq q blob.0) message.number x (number_in old.blobs q) (λ yes. subst (λ (i : List ℕ). number_in old.blobs i ≡ Some x) (sym ((bytes_eq-Decides q blob.0).0 yes)) older);
+}
+
+other_number : (o : Option ℕ) (n : ℕ) → o ≡ None → o ≢ Some n
+other_number o n none some = let wrong : None ≡ Some n = sym none ∙ some in cc
+
+pub takes-again : (put new : Index) (text : List ℕ) (blob : Id20) (number : ℕ) (old : Index) (id named : List ℕ) → TakesBack put new named blob number → own_id text ≡ Some named → own_id text ≡ Some id → Puts old put id blob (record { number = number; content = content_id_of text }) → owner_in old.owners id ≡ None → number_in old.blobs blob.0 ≡ None → HasSame old new
+takes-again put new text blob number old id named back named_is id_is puts none fresh =
+    let some : Some named ≡ Some id = sym named_is ∙ id_is in
+    let same : named ≡ id = cc in
+    subst (λ (i : List ℕ). TakesBack put new i blob number) same back old (record { number = number; content = content_id_of text }) puts refl none (other_number (number_in old.blobs blob.0) number fresh)
+
+-- The id of a text that is new to what is kept is free in the index, and the other way round.
+pub new-to : (kept : List StoredEntry) (index : Index) (text : List ℕ) → IndexesStored kept index → IsSome (own_id text) → ((id : List ℕ) → own_id text ≡ Some id → owner_in index.owners id ≡ None) → IsNewTo kept text
+new-to kept index text indexed some free entries are =
+    let id = unwrap_or (own_id text) [] in
+    let own = id_of (own_id text) some in
+    (id, own, unowned entries index id (indexed entries are) (free id own))

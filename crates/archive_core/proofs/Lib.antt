@@ -1,5 +1,7 @@
 pub mod Counting
 mod Standing
+mod Places
+mod Stored
 mod Indexes
 mod Verdicts
 mod Openings

@@ -1,12 +1,8 @@
 -- The answers to a command on an archive on a disk, and what the disk then holds.
-use Rattle.std.specs.Prelude.{◌≡◌, ◌≢◌, ◌==◌, ◌&&◌, ◌+◌, ◌-◌, ◌<◌, ◌^◌, ℕ, List, Option, Some, None}
+use Rattle.std.specs.Prelude.{◌≡◌, ◌+◌, ◌-◌, ◌<◌, ◌^◌, ℕ, List, slice_get, Option, Some, None, Result, Ok, Err}
 use Rattle.arch_base.specs.Counts.{RoseIf}
 use Rattle.disk_model.specs.Disk.{Files, Content, WhereTold, LeavesOnly, Told, Unchanged, Image}
-use Rattle.std.specs.List.{AllByRecursion, find}
-use Rattle.arch_base.specs.declared.ids.Id20.{Id20}
-use Rattle.mail_reader.specs.StorageTexts.{IsStorageText}
 use Rattle.mail_reader.specs.Ids.{own_id}
-use Rattle.git_objects.specs.Objects.{blob_id_of}
 use Rattle.arch_model.specs.declared.text_refusal.TextRefusal.{TextRefusal}
 use Rattle.arch_model.specs.declared.text_refusal.TextRefusal.TheVariants as unread
 use Rattle.arch_judge.specs.Judging.{Judges}
@@ -14,15 +10,16 @@ use Rattle.arch_judge.specs.declared.judging.Verdict.{Verdict}
 use Rattle.arch_judge.specs.declared.judging.Verdict.TheVariants.{Take, Compare, Refuse}
 use Rattle.epoch_store.specs.declared.entries.StoredEntry.{StoredEntry}
 use Rattle.epoch_store.specs.Files.{epoch_file_of}
-use Rattle.arch_model.specs.Shelves.{ReadsOnce}
+use Rattle.arch_model.specs.Shelves.{ReadsOnce, blob_text}
 use Rattle.disk_model.specs.Synced.{IsSettled}
-use Rattle.arch_model.specs.Archives.{Archive, is_message}
+use Rattle.arch_model.specs.Archives.{Archive, blob_number}
 use Rattle.arch_model.specs.Delivery.{Done, collision}
 use Rattle.arch_model.specs.declared.answer.Answer.{Answer}
 use Rattle.arch_model.specs.declared.answer.Answer.TheVariants as answer
 use Rattle.epoch_file.specs.declared.refusal.StoreRefusal.{StoreRefusal}
 use Rattle.epoch_file.specs.declared.refusal.StoreRefusal.TheVariants as refusal
-use Rattle.epoch_store.specs.Stores.{View, live_kept, IsStoreWith, HasSizes, RecoversEitherWith, GoesOn}
+use Rattle.epoch_store.specs.Stores.{View, IsStoreWith, HasSizes, RecoversEitherWith, GoesOn}
+use Rattle.epoch_store.specs.Reads.{IsTextOf}
 
 -- The definition's answer was given, and the disk is the own one of a store that keeps the
 -- definition's archive, with a cache of these bytes.
@@ -119,35 +116,42 @@ refusal_answer refusal.DiskFault = answer.DiskFault
 refusal_answer refusal.NoMemory = answer.NoMemory
 refusal_answer (refusal.Damaged file offset) = answer.Damaged file offset
 
--- The place that is damaged where the text of a number is: the file of its message's epoch, and the
--- offset of the entry there.
+-- The file and the offset of an entry that is damaged.
 abbrev pub damaged_place : View → Option StoredEntry → Answer
 damaged_place v None = answer.NoMemory
 damaged_place v (Some e) = answer.Damaged (epoch_file_of v.root e.epoch) e.seen.at
 
--- The message of a number among the entries that are kept, live or not.
-abbrev pub message_kept : View → ℕ → Option StoredEntry
-message_kept v number =
-    find (λ (e : StoredEntry). is_message e.seen.kind && e.number == number) v.entries
-
--- The answer where the text of a number wasn't read.
+-- The answer where the text of the entry at an index wasn't read.
 abbrev pub unread_answer : View → ℕ → TextRefusal → Answer
-unread_answer v number unread.DiskFault = answer.DiskFault
-unread_answer v number (unread.Damaged named found) = damaged_place v (message_kept v number)
-unread_answer v number unread.NoMemory = answer.NoMemory
+unread_answer v index unread.DiskFault = answer.DiskFault
+unread_answer v index (unread.Damaged named found) = damaged_place v (slice_get v.entries index)
+unread_answer v index unread.NoMemory = answer.NoMemory
 
--- The message of a number has the own id of a text.
-abbrev pub IsNamed : View → ℕ → List ℕ → Type 0
-IsNamed v number text = (e : StoredEntry) × (message_kept v number ≡ Some e)
+-- The entry at an index has the own id of a text.
+abbrev pub IsNamed : List StoredEntry → ℕ → List ℕ → Type 0
+IsNamed entries index text = (e : StoredEntry) × (slice_get entries index ≡ Some e)
     × (own_id text ≡ Some e.seen.id)
 
--- A text may come to what is kept: the archive is no mirror, the text is a storage text, and no live
--- message has its own id.
-pub record MayComeTo (v : View) (text : List ℕ) (blob : Id20) : Type 0 where
-  pub writable : v.root.config.mirror ≡ false
-  pub storage : IsStorageText text
-  pub blob_is : blob ≡ blob_id_of text
-  pub id : AllByRecursion (λ (e : StoredEntry). own_id text ≢ Some e.seen.id) (live_kept v.entries)
+-- A text has the size and the blob id of the entry at an index.
+abbrev pub IsTextAt : List StoredEntry → ℕ → List ℕ → Type 0
+IsTextAt entries index text = (e : StoredEntry) → slice_get entries index ≡ Some e
+    → IsTextOf e text
+
+-- The result of reading the text of the message with a number: it is that of each blob id of which the
+-- message is the first entry. On the disk of an archive nothing is damaged.
+abbrev pub ReadsMessage : Archive → ℕ → Result (List ℕ) Answer → Type 0
+ReadsMessage a number (Ok text) = (blob : List ℕ) → blob_number a.entries blob ≡ Some number
+    → blob_text a.entries blob ≡ Some text
+ReadsMessage a number (Err answer.DiskFault) = Unit {0}
+ReadsMessage a number (Err answer.NoMemory) = Unit {0}
+ReadsMessage a number (Err other) = ⊥
+
+-- A text that wasn't read: the disk failed, memory ran out, or the entry is damaged.
+abbrev pub IsUnread : Answer → Type 0
+IsUnread answer.DiskFault = Unit {0}
+IsUnread answer.NoMemory = Unit {0}
+IsUnread (answer.Damaged file at) = Unit {0}
+IsUnread other = ⊥
 
 -- The verdict is that a read failed.
 abbrev pub IsFaultRead : Verdict → Type 0

@@ -1,15 +1,16 @@
 -- What an archive on a disk keeps beside its store: its messages by their ids and by their blob
 -- ids.
-use Rattle.std.specs.Prelude.{◌≡◌, ℕ, List, Option, Some, option_map}
-use Rattle.std.specs.List.{find}
-use Rattle.std.specs.Str.{bytes_eq}
+use Rattle.std.specs.Prelude.{◌≡◌, ℕ, List, [], Option, Some, None}
+use Rattle.std.specs.List.{AllByRecursion}
 use Rattle.git_objects.specs.Objects.{blob_id_of}
 use Rattle.arch_base.specs.declared.ids.Id20.{Id20}
 use Rattle.git_objects.specs.declared.entry_kind.EntryKind.{EntryKind}
 use Rattle.git_objects.specs.declared.entry_kind.EntryKind.TheVariants.{Message, Deletion}
 use Rattle.mail_reader.specs.Content.{content_id_of}
 use Rattle.mail_reader.specs.Ids.{own_id}
-use Rattle.arch_judge.specs.Indexes.{Puts, TakesBack, Loses, owner_in, number_in}
+use Rattle.arch_model.specs.Archives.{Entry, live, IsFree}
+use Rattle.arch_model.specs.Validity.{IsEntry, Rise, AtEachPlace, EndsLive, LiveDiffer}
+use Rattle.arch_judge.specs.Indexes.{IsIndex, HasSame, Puts, Loses, owner_in, number_in}
 use Rattle.arch_judge.specs.Judging.{IsForDelivery}
 use Rattle.arch_model.specs.declared.answer.Answer.TheVariants as answer
 use Rattle.arch_judge.specs.declared.index.Index.{Index}
@@ -17,27 +18,28 @@ use Rattle.arch_judge.specs.declared.judging.Verdict.{Verdict}
 use Rattle.arch_judge.specs.declared.judging.Verdict.TheVariants.{Take, Compare, Refuse}
 use Rattle.arch_judge.specs.declared.index.Owner.{Owner}
 use Rattle.epoch_store.specs.declared.entries.StoredEntry.{StoredEntry}
-use Rattle.epoch_store.specs.Stores.{View, Accepts, live_kept}
+use Rattle.epoch_store.specs.Stores.{View, Accepts, stored_after}
 
 -- The message of an entry that is kept, as the owner of its id.
 abbrev pub owner_kept : StoredEntry → Owner
 owner_kept e = record { number = e.number; content = e.seen.content }
 
--- The message of the first live entry with an own id (RFC 5322, section 3.6.4).
-abbrev pub stored_owner : List StoredEntry → List ℕ → Option Owner
-stored_owner entries id =
-    option_map owner_kept (find (λ (e : StoredEntry). bytes_eq id e.seen.id) (live_kept entries))
+-- Entries are in order: numbers rise, each deletion ends a live message, and the own ids of live
+-- messages differ at each place.
+pub record AreInOrder (entries : List Entry) : Type 0 where
+  pub each : AllByRecursion IsEntry entries
+  pub order : Rise 1 0 entries
+  pub ends : AtEachPlace (λ (before : List Entry) (e : Entry). EndsLive e.kind before e) [] entries
+  pub ids : AtEachPlace LiveDiffer [] entries
 
--- The number of the first entry with a blob id.
-abbrev pub stored_number : List StoredEntry → List ℕ → Option ℕ
-stored_number entries blob = option_map (λ (e : StoredEntry).
-    e.number) (find (λ (e : StoredEntry). bytes_eq blob e.seen.blob.0) entries)
+-- What is kept is that of these entries, which are in order.
+pub record AreOf (kept : List StoredEntry) (entries : List Entry) : Type 0 where
+  pub ordered : AreInOrder entries
+  pub is : kept ≡ stored_after [] entries
 
--- An index has the live ones of the entries that are kept by their own ids, and by each blob id the
--- number of the first entry that has it.
-pub record IndexesStored (entries : List StoredEntry) (index : Index) : Type 0 where
-  pub owners : (id : List ℕ) → owner_in index.owners id ≡ stored_owner entries id
-  pub blobs : (blob : List ℕ) → number_in index.blobs blob ≡ stored_number entries blob
+-- An index is that of the entries of which this is kept.
+abbrev pub IndexesStored : List StoredEntry → Index → Type 0
+IndexesStored kept index = (entries : List Entry) → AreOf kept entries → IsIndex entries index
 
 -- An entry was taken into an index: a message was put there, or the own id of the one that it ends was
 -- removed.
@@ -53,18 +55,25 @@ abbrev pub PutsText : Index → Index → List ℕ → Id20 → ℕ → Type 0
 PutsText old new text blob number = (id : List ℕ) → own_id text ≡ Some id
     → Puts old new id blob (record { number = number; content = content_id_of text })
 
--- An index has the same as before a text with a new own id and a new number was put into it.
-abbrev pub TakesBackText : Index → Index → List ℕ → Id20 → ℕ → Type 0
-TakesBackText put new text blob number = (id : List ℕ) → own_id text ≡ Some id
-    → TakesBack put new id blob number
+-- An index has the same as before a text with a new own id was put into it. Its blob id had this
+-- number there before, or none.
+abbrev pub TakesBackText : Index → Index → List ℕ → Id20 → ℕ → Option ℕ → Type 0
+TakesBackText put new text blob number older = (old : Index) (id : List ℕ) → own_id text ≡ Some id
+    → Puts old put id blob (record { number = number; content = content_id_of text })
+    → owner_in old.owners id ≡ None → number_in old.blobs blob.0 ≡ older → HasSame old new
 
 -- A text's own id was removed from an index.
 abbrev pub LosesText : Index → Index → List ℕ → Type 0
 LosesText old new text = (id : List ℕ) → own_id text ≡ Some id → Loses old new id
 
+-- No live message of the entries of which this is kept has the own id of a text.
+abbrev pub IsNewTo : List StoredEntry → List ℕ → Type 0
+IsNewTo kept text = (entries : List Entry) → AreOf kept entries → IsFree (live entries) text
+
 -- A text that is taken would be accepted, with this blob id.
 pub record MayGoIn (v : View) (text : List ℕ) (blob : Id20) : Type 0 where
   pub accepts : Accepts v text
+  pub new_id : IsNewTo v.entries text
   pub blob_is : blob ≡ blob_id_of text
 
 -- A text that is taken may go in, and none is still to be compared. A refusal is an answer to a

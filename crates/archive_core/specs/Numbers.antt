@@ -1,7 +1,6 @@
 -- The numbers of the entries that a store keeps.
-use Rattle.std.specs.Prelude.{◌≡◌, ◌≢◌, ◌<◌, ◌≤◌, ℕ, Bool, true, ◌&&◌, ◌==◌, List, slice_get, Option, Some, None, Result, Ok, Err}
-use Rattle.std.specs.List.{list_any}
-use Rattle.std.specs.List.Sorted.{IsNonDecreasingBy}
+use Rattle.std.specs.Prelude.{◌≡◌, ◌≢◌, ℕ, Bool, true, ◌==◌, List, slice_get, Option, Some, None, Result, Ok, Err}
+use Rattle.std.specs.List.{list_any, Contains}
 use Rattle.arch_model.specs.declared.text_refusal.TextRefusal.{TextRefusal}
 use Rattle.arch_model.specs.declared.text_refusal.TextRefusal.TheVariants as reading
 use Rattle.arch_model.specs.Archives.{is_message}
@@ -17,38 +16,22 @@ has_number entries n = list_any (λ (e : StoredEntry). e.number == n) entries
 abbrev pub has_live : List StoredEntry → ℕ → Bool
 has_live entries n = has_number (live_kept entries) n
 
--- Whether a message among the entries, live or not, has this number.
-abbrev pub has_message_number : List StoredEntry → ℕ → Bool
-has_message_number entries n =
-    list_any (λ (e : StoredEntry). is_message e.seen.kind && e.number == n) entries
+-- The entry at this index is the message of this number, live or not.
+pub record IsMessageAt (entries : List StoredEntry) (n index : ℕ) : Type 0 where
+  pub entry : StoredEntry
+  pub there : slice_get entries index ≡ Some entry
+  pub number_is : entry.number ≡ n
+  pub is_one : is_message entry.seen.kind ≡ true
 
--- The entry at this index is the message of this number.
-abbrev pub IsMessageAt : List StoredEntry → ℕ → ℕ → Type 0
-IsMessageAt entries n index = (e : StoredEntry) × (slice_get entries index ≡ Some e)
-    × (e.number ≡ n) × (is_message e.seen.kind ≡ true)
+-- The entry at this index is the live message of this number.
+pub record IsLiveAt (entries : List StoredEntry) (n index : ℕ) : Type 0 where
+  pub message : IsMessageAt entries n index
+  pub is_live : Contains (live_kept entries) message.entry
 
 -- A number that was found is one of these.
 abbrev pub IsKnownLive : (ℕ → Bool) → Option ℕ → Type 0
 IsKnownLive live None = Unit {0}
 IsKnownLive live (Some n) = live n ≡ true
-
--- Numbers never fall from one entry to a later one.
-abbrev pub NumbersRise : List StoredEntry → Type 0
-NumbersRise = IsNonDecreasingBy (λ (e : StoredEntry). e.number)
-
--- The entry at this index has this number.
-abbrev pub IsNumberAt : List StoredEntry → ℕ → ℕ → Type 0
-IsNumberAt entries n index = (e : StoredEntry) × (slice_get entries index ≡ Some e) × (e.number ≡ n)
-
--- Before this index the numbers are below n, and from it on they are not.
-abbrev pub IsCountBelow : List StoredEntry → ℕ → ℕ → Type 0
-IsCountBelow entries n count = (index : ℕ) (e : StoredEntry) → slice_get entries index ≡ Some e
-    → (index < count → e.number < n) × (count ≤ index → n ≤ e.number)
-
--- Before this index the numbers are at most n, and from it on they are greater.
-abbrev pub IsCountUpTo : List StoredEntry → ℕ → ℕ → Type 0
-IsCountUpTo entries n count = (index : ℕ) (e : StoredEntry) → slice_get entries index ≡ Some e
-    → (index < count → e.number ≤ n) × (count ≤ index → n < e.number)
 
 -- If a text with another id was found, the two ids differ.
 abbrev pub TellsOther : {T : Type 0} → Result T TextRefusal → Type 0

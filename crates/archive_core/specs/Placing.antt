@@ -1,7 +1,8 @@
 -- Where the messages among the entries of a store are.
-use Rattle.std.specs.Prelude.{◌≡◌, ◌+◌, ◌<◌, ◌≤◌, ◌==◌, ◌&&◌, ℕ, Bool, true, false, not, List, [], ◌∷◌, ◌++◌, slice_get, Option, Some, None, if◌then◌else◌}
+use Rattle.std.specs.Prelude.{◌≡◌, ◌+◌, ◌<◌, ◌≤◌, ◌==◌, ◌&&◌, ◌||◌, ℕ, Bool, true, false, not, List, [], ◌∷◌, ◌++◌, slice_get, Option, Some, None, if◌then◌else◌}
 use Rattle.std.specs.List.{list_any}
-use Rattle.std.specs.List.Sorted.{IsNonDecreasingBy}
+use Rattle.std.specs.Ordering.{nat_cmp}
+use Rattle.std.specs.BTreeSet.{BTreeSet, contains}
 use Rattle.git_objects.specs.declared.entry_kind.EntryKind.{EntryKind}
 use Rattle.git_objects.specs.declared.entry_kind.EntryKind.TheVariants.{Message, Deletion}
 use Rattle.arch_model.specs.Archives.{is_message}
@@ -21,38 +22,53 @@ message_places index (e ∷ es) =
     } ∷ message_places (index + 1) es
     else message_places (index + 1) es
 
--- The places with that of a number no longer live.
-abbrev pub ends_place : ℕ → List MessagePlace → List MessagePlace
-ends_place number [] = []
-ends_place number (p ∷ ps) = record {
+-- A place that is no longer live, if it is that of a number.
+abbrev pub ended_place : ℕ → MessagePlace → MessagePlace
+ended_place number p = record {
   number = p.number;
   entry = p.entry;
   live = if p.number == number then false else p.live;
-} ∷ ends_place number ps
+}
 
--- The places with one more entry, at an index.
-abbrev pub PlacesBy : EntryKind → List MessagePlace → List MessagePlace → StoredEntry → ℕ → Type 0
-PlacesBy Message old new e index =
-    new ≡ old ++ record { number = e.number; entry = index; live = true } ∷ []
-PlacesBy Deletion old new e index = new ≡ ends_place e.number old
+-- The places with those of a number no longer live.
+abbrev pub ends_place : ℕ → List MessagePlace → List MessagePlace
+ends_place number [] = []
+ends_place number (p ∷ ps) = ended_place number p ∷ ends_place number ps
 
-abbrev pub PlacesMore : List MessagePlace → List MessagePlace → StoredEntry → ℕ → Type 0
-PlacesMore old new e index = PlacesBy e.seen.kind old new e index
+-- Whether a set of numbers has this one.
+abbrev pub has_ended : BTreeSet ℕ → ℕ → Bool
+has_ended ended number = contains nat_cmp ended number
 
--- Numbers never fall from one place to a later one.
+-- What an entry adds to the places of later ones, which are in the order from the last to the first,
+-- and to the numbers that later ones end. A message has a place, and a deletion ends a number.
+abbrev pub PlacesBy : EntryKind → List MessagePlace → List MessagePlace → BTreeSet ℕ → BTreeSet ℕ
+    → StoredEntry → ℕ → Type 0
+PlacesBy Message old new ended more e index = (new ≡ old ++ record {
+  number = e.number;
+  entry = index;
+  live = not (has_ended ended e.number);
+} ∷ []) × ((q : ℕ) → has_ended more q ≡ has_ended ended q)
+PlacesBy Deletion old new ended more e index =
+    (new ≡ old) × ((q : ℕ) → has_ended more q ≡ (e.number == q || has_ended ended q))
+
+-- Numbers rise from one place to the next, from this one on.
+abbrev pub PlacesFrom : ℕ → List MessagePlace → Type 0
+PlacesFrom number [] = Unit {0}
+PlacesFrom number (p ∷ ps) = (number ≤ p.number) × PlacesFrom (p.number + 1) ps
+
+-- Numbers rise from one place to the next.
 abbrev pub PlacesRise : List MessagePlace → Type 0
-PlacesRise = IsNonDecreasingBy (λ (p : MessagePlace). p.number)
-
--- The index of the place of a number, where numbers rise; whatever the places, a found one has it.
-abbrev pub IsPlaceOf : List MessagePlace → ℕ → Option ℕ → Type 0
-IsPlaceOf places number (Some index) =
-    (p : MessagePlace) × (slice_get places index ≡ Some p) × (p.number ≡ number)
-IsPlaceOf places number None = PlacesRise places
-    → (index : ℕ) (p : MessagePlace) → slice_get places index ≡ Some p → p.number ≡ number → ⊥
+PlacesRise places = PlacesFrom 0 places
 
 -- A live place has this number.
 abbrev pub live_place : List MessagePlace → ℕ → Bool
 live_place places n = list_any (λ (p : MessagePlace). p.live && p.number == n) places
+
+-- The index of a place of a number. Where numbers rise, none is found only if no live place has it.
+abbrev pub IsPlaceOf : List MessagePlace → ℕ → Option ℕ → Type 0
+IsPlaceOf places number (Some index) =
+    (p : MessagePlace) × (slice_get places index ≡ Some p) × (p.number ≡ number)
+IsPlaceOf places number None = PlacesRise places → live_place places number ≡ false
 
 -- The least number from one on that has a live place, or none.
 abbrev pub IsLeastPlace : List MessagePlace → ℕ → Option ℕ → Type 0

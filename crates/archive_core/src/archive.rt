@@ -1,5 +1,5 @@
 //! An archive on a disk that is handed in. Each of its commands has the result of the definition.
-ghost use Rattle.std.specs.Prelude.{true, false, Some, None, ◌≡◌, ◌≤◌, ◌<◌, ◌+◌, ◌-◌, ◌^◌, ℕ, length, Err, OnOk, OnErr, List};
+ghost use Rattle.std.specs.Prelude.{true, false, Some, None, ◌≡◌, ◌≤◌, ◌<◌, ◌+◌, ◌-◌, ◌^◌, ℕ, length, slice_get, Err, IfErr, OnOk, OnErr, List};
 ghost use Rattle.arch_base.specs.Configs.{IsConfig};
 ghost use Rattle.arch_base.specs.Counts.{RoseIf};
 ghost use Rattle.disk_model.specs.Disk.{WhereTold, LeavesOnly};
@@ -7,8 +7,7 @@ ghost use Rattle.disk_model.specs.Synced.{IsSettled};
 ghost use Rattle.arch_model.specs.Archives.{Archive, with_entry, live, text_of};
 ghost use Rattle.arch_model.specs.Delivery.{applied, delivered, removed, collision, new_epoch};
 ghost use Rattle.arch_model.specs.Shelves.{ReadsOnce};
-ghost use Rattle.arch_judge.specs.Judging.{Compares};
-ghost use Rattle.archive_core.specs.Numbers.{has_live};
+ghost use Rattle.archive_core.specs.Numbers.{IsLiveAt};
 ghost use Rattle.epoch_file.specs.declared.refusal.StoreRefusal.{StoreRefusal};
 ghost use Rattle.archive_core.specs.Kept.{MayGoIn, TakesWhatMay};
 ghost use Rattle.arch_model.specs.declared.answer.Answer.{Answer};
@@ -16,7 +15,7 @@ ghost use Rattle.arch_base.specs.Moments.{last_moment};
 ghost use Rattle.archive_core.specs.Openings.{RefusesKindly};
 ghost use Rattle.epoch_store.specs.Promises.{MakesArchive, OpensArchive};
 ghost use Rattle.epoch_store.specs.Stores.{IsStoreWith, Keeps, HasSizes, RecoversEitherWith, SeesNoDamage, GoesOn};
-ghost use Rattle.archive_core.specs.Commands.{DoneBy, OnDone, OnRefusal, UnlessFault, OnlyLooks, IsForCommand, IsFaultRead, JudgesRead, IsAlone, TakesCommand, refusal_answer, unread_answer, damaged_place, message_kept, IsNamed, MayComeTo};
+ghost use Rattle.archive_core.specs.Commands.{DoneBy, OnDone, OnRefusal, UnlessFault, OnlyLooks, IsForCommand, IsFaultRead, JudgesRead, IsAlone, TakesCommand, refusal_answer, unread_answer, damaged_place, IsNamed, IsTextAt, ReadsMessage, IsUnread};
 
 use crate::entries::index_of;
 use crate::placing::{MessagePlace, end_place, places_of};
@@ -197,70 +196,65 @@ impl DiskArchive {
         match judge(self.alloc, self.store.config(), &self.index, count, next, bytes) {
             Verdict::Refuse(answer) => Verdict::Refuse(answer),
             Verdict::Take { text, blob, number } => Verdict::Take { text, blob, number },
-            Verdict::Compare { text, blob, number } => self.compare(disk, text, blob, number),
-        }
-    }
-
-    /// Returns the verdict on the delivery of a text whose blob id the message with a number has.
-    fn compare<D: Disk>(
-        &self,
-        disk: &mut D,
-        text: Bytes,
-        blob: ObjectId,
-        number: u32,
-    ) -> Verdict
-        requires may { MayComeTo self.now text blob }
-        ensures judged { (a : Archive) (bytes : List ℕ) (cache : List ℕ)
-            → IsStoreWith self.now cache a (D.content disk.old)
-            → Compares a bytes text blob number → JudgesRead a bytes result }
-        ensures alone { (a : Archive) (cache : List ℕ)
-            → IsStoreWith self.now cache a (D.content disk.old) → IsAlone a result }
-        ensures taken { TakesWhatMay self.now result }
-        ensures looks { OnlyLooks D.content D.moment D.left_since disk.old disk.new }
-        ensures cause { RoseIf (IsFaultRead result) (D.faults disk.old) (D.faults disk.new) }
-        ensures count { ReadsOnce (D.reads disk.old) (D.reads disk.new) }
-    {
-        let next = self.store.next_number();
-        let mut kept = Bytes::new(self.alloc);
-        match self.blob(disk, &blob, &mut kept) {
-            Ok(true) => compared(self.config(), next, text, blob, number, kept.as_slice()),
-            // The index has the blob id.
-            Ok(false) => Verdict::Refuse(Answer::NoMemory),
-            Err(refusal) => Verdict::Refuse(self.unread(number, &refusal)),
-        }
-    }
-
-    /// Returns the answer where the text of a number wasn't read.
-    fn unread(&self, number: u32, refusal: &TextRefusal) -> Answer
-        ensures { result ≡ unread_answer self.now number refusal.now }
-    {
-        match refusal {
-            TextRefusal::DiskFault => Answer::DiskFault,
-            TextRefusal::NoMemory => Answer::NoMemory,
-            TextRefusal::Damaged { .. } => self.damaged(number),
-        }
-    }
-
-    /// Returns the answer that the entry of a number's message is damaged.
-    fn damaged(&self, number: u32) -> Answer
-        ensures { result ≡ damaged_place self.now (message_kept self.now number) }
-    {
-        match self.message_index(number) {
-            None => Answer::NoMemory,
-            Some(index) => match self.store.place(index) {
-                None => Answer::NoMemory,
-                Some((file, at)) => Answer::Damaged { file, at },
+            Verdict::Compare { text, blob, number } => match self.message_text(disk, number) {
+                Ok(kept) => {
+                    compared(self.store.config(), next, text, blob, number, kept.as_slice())
+                }
+                Err(answer) => Verdict::Refuse(answer),
             },
         }
     }
 
-    /// Returns whether the message with a number has the own id of a text.
-    fn is_named(&self, number: u32, text: &[u8]) -> bool
-        ensures { result ≡ true → IsNamed self.now number text.now }
+    /// Returns the text of the message with a number, live or not, or the answer if it wasn't read.
+    fn message_text<D: Disk>(&self, disk: &mut D, number: u32) -> Result<Bytes, Answer>
+        ensures text { (a : Archive) (cache : List ℕ)
+            → IsStoreWith self.now cache a (D.content disk.old) → ReadsMessage a number result }
+        ensures unread { IfErr result IsUnread }
+        ensures looks { OnlyLooks D.content D.moment D.left_since disk.old disk.new }
+        ensures cause { RoseIf (result ≡ Err Answer.DiskFault) (D.faults disk.old) (D.faults disk.new) }
+        ensures count { ReadsOnce (D.reads disk.old) (D.reads disk.new) }
     {
-        match (self.message_index(number), own_id(text)) {
-            (Some(index), Some(id)) => self.store.stored()[index as usize].seen.id.as_slice() == id,
-            _ => false,
+        let Some(index) = self.message_index(number) else {
+            // Numbers of messages rise, so the place of one that is there is found.
+            return Err(Answer::NoMemory);
+        };
+        let mut text = Bytes::new(self.alloc);
+        match self.store.text(disk, index, &mut text) {
+            Ok(()) => Ok(text),
+            Err(refusal) => Err(self.unread(index, &refusal)),
+        }
+    }
+
+    /// Returns the answer where the text of the entry at an index wasn't read.
+    fn unread(&self, index: u64, refusal: &TextRefusal) -> Answer
+        ensures { result ≡ unread_answer self.now index refusal.now }
+    {
+        match refusal {
+            TextRefusal::DiskFault => Answer::DiskFault,
+            TextRefusal::NoMemory => Answer::NoMemory,
+            TextRefusal::Damaged { .. } => self.damaged(index),
+        }
+    }
+
+    /// Returns the answer that the entry at an index is damaged.
+    fn damaged(&self, index: u64) -> Answer
+        ensures { result ≡ damaged_place self.now (slice_get self.now.entries index) }
+    {
+        match self.store.place(index) {
+            None => Answer::NoMemory,
+            Some((file, at)) => Answer::Damaged { file, at },
+        }
+    }
+
+    /// Returns whether the entry at an index has the own id of a text.
+    fn is_named(&self, index: u64, text: &[u8]) -> bool
+        requires there { index < length self.now.entries }
+        ensures named { result ≡ true → IsNamed self.now.entries index text.now }
+        ensures other { result ≡ false → IsNamed self.now.entries index text.now → ⊥ }
+    {
+        match own_id(text) {
+            None => false,
+            Some(id) => self.store.stored()[index as usize].seen.id.as_slice() == id,
         }
     }
 
@@ -275,17 +269,17 @@ impl DiskArchive {
         if self.config().mirror {
             return Answer::IsMirror;
         }
-        if !self.has_text(number) {
+        let Some(index) = self.live_index(number) else {
             return Answer::NotLive(number);
-        }
+        };
         let mut text = Bytes::new(self.alloc);
-        match self.text(disk, number, &mut text) {
-            Ok(()) => self.end_message(disk, number, text.as_slice(), moment),
-            Err(refusal) => self.unread(number, &refusal),
+        match self.store.text(disk, index, &mut text) {
+            Ok(()) => self.end_message(disk, number, index, text.as_slice(), moment),
+            Err(refusal) => self.unread(index, &refusal),
         }
     }
 
-    /// Ends the live message with a number, whose text is this one, as it was read.
+    /// Ends the live message with a number, which has this index. This is its text, as it was read.
     ///
     /// `Damaged` if the text lacks the own id of the message, which never happens on the disk of an
     /// archive.
@@ -293,12 +287,14 @@ impl DiskArchive {
         &mut self,
         disk: &mut D,
         number: u32,
+        index: u64,
         text: &[u8],
         moment: u64,
     ) -> Answer
         requires moment { moment ≤ last_moment }
         requires writable { self.old.root.config.mirror ≡ false }
-        requires live { has_live self.old.entries number ≡ true }
+        requires live { IsLiveAt self.old.entries number index }
+        requires text { IsTextAt self.old.entries index text.now }
         requires sizes { WhereTold (HasSizes self.old) (D.content disk.old) }
         ensures any_moment { (a : Archive) (cache : List ℕ)
             → IsStoreWith self.old cache a (D.content disk.old)
@@ -321,13 +317,14 @@ impl DiskArchive {
         ensures for_command { IsForCommand result }
         ensures count { D.reads disk.new ≡ D.reads disk.old }
     {
-        if !self.is_named(number, text) {
-            return self.damaged(number);
+        law_of_stores();
+        if !self.is_named(index, text) {
+            return self.damaged(index);
         }
         match self.store.remove_entry(self.alloc, disk, number, text, moment) {
             Ok(()) => {
                 end_text(&mut self.index, text);
-                end_place(&mut self.places, number);
+                end_place(self.places.as_mut_slice(), number);
                 Answer::Ok {
                     number,
                     id: blob_id(text),
@@ -377,10 +374,11 @@ impl DiskArchive {
         let Ok(()) = self.places.reserve(1) else {
             return Err(StoreRefusal::NoMemory);
         };
+        let older = self.index.number(&blob);
         put_text(self.alloc, &mut self.index, text, blob, number)?;
         if let Err(refusal) = self.store.deliver_entry(self.alloc, disk, text, moment) {
             // The index is as it was before.
-            take_text(&mut self.index, text, &blob, number);
+            take_text(&mut self.index, text, &blob, number, older);
             return Err(refusal);
         }
         // There is room for it.

@@ -1,11 +1,12 @@
 //! Where the messages of an archive on a disk are, by their numbers.
 ghost use Rattle.std.specs.Prelude.{◌≡◌, IfOk, OnOk, length};
-ghost use Rattle.archive_core.specs.Placing.{message_places, PlacesMore, IsPlaceOf, ends_place};
+ghost use Rattle.archive_core.specs.Placing.{message_places, PlacesBy, IsPlaceOf, ends_place};
 
 use arch_base::NoMemory;
 use epoch_store::StoredEntry;
 use git_objects::EntryKind;
 use std::alloc::Global;
+use std::collections::BTreeSet;
 
 /// Where the message of a number is.
 #[derive(Clone, Copy, Drop)]
@@ -26,43 +27,54 @@ pub(crate) fn places_of(
     ensures { IfOk result (λ places. places.items ≡ message_places 0 entries.now) }
 {
     let mut places = Vec::new(alloc);
-    for index in 0..entries.len() {
-        place_entry(&mut places, &entries[index], index)?;
+    let mut ended = BTreeSet::new(alloc);
+    // From the last to the first, so that it is known of each message whether a later entry ends it.
+    for index in (0..entries.len()).rev() {
+        place_entry(&mut places, &mut ended, &entries[index], index)?;
     }
+    places.reverse();
     Ok(places)
 }
 
-/// Adds the place of a message, or ends the one that a deletion names.
+/// Adds the place of a message to those of later ones, or the number that a deletion ends.
 fn place_entry(
     places: &mut Vec<MessagePlace>,
+    ended: &mut BTreeSet<u32>,
     entry: &StoredEntry,
     index: usize,
 ) -> Result<(), NoMemory>
-    ensures { OnOk result (PlacesMore places.old.items places.new.items entry.now index) }
+    ensures { OnOk result (PlacesBy entry.now.seen.kind places.old.items places.new.items ended.old
+        ended.new entry.now index) }
 {
     match entry.seen.kind {
-        EntryKind::Message => places.push(MessagePlace {
-            number: entry.number,
-            entry: index,
-            live: true,
-        })?,
-        EntryKind::Deletion => end_place(places, entry.number),
+        EntryKind::Message => {
+            let live = !ended.contains(&entry.number);
+            places.push(MessagePlace {
+                number: entry.number,
+                entry: index,
+                live,
+            })?;
+            Ok(())
+        }
+        EntryKind::Deletion => {
+            ended.insert(entry.number)?;
+            Ok(())
+        }
     }
-    Ok(())
 }
 
-/// Makes the place of a number no longer live.
-pub(crate) fn end_place(places: &mut Vec<MessagePlace>, number: u32)
-    ensures { places.new.items ≡ ends_place number places.old.items }
+/// Makes the places of a number no longer live.
+pub(crate) fn end_place(places: &mut [MessagePlace], number: u32)
+    ensures { places.new ≡ ends_place number places.old }
 {
-    if let Some(index) = place_index(places.as_slice(), number) {
-        if let Some(place) = places.get_mut(index) {
+    for place in places.iter_mut() {
+        if place.number == number {
             place.live = false;
         }
     }
 }
 
-/// Returns the index of the place of a number, or `None` if there is none.
+/// Returns the index of a place of a number, or `None` if there is none.
 pub(crate) fn place_index(places: &[MessagePlace], number: u32) -> Option<usize>
     ensures { IsPlaceOf places.now number result }
 {

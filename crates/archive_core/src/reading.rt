@@ -8,7 +8,7 @@ ghost use Rattle.arch_model.specs.Standing.{IsLeastLive, GivesTextIn, GivesEpoch
 ghost use Rattle.arch_model.specs.declared.text_refusal.TextRefusal.{TextRefusal};
 ghost use Rattle.epoch_store.specs.Reads.{AnswersQuietly};
 ghost use Rattle.epoch_store.specs.Stores.{IsStoreWith, Keeps};
-ghost use Rattle.archive_core.specs.Numbers.{has_live, has_message_number, IsKnownLive, IsMessageAt, GivesTextKept, TellsOther};
+ghost use Rattle.archive_core.specs.Numbers.{has_live, IsKnownLive, IsMessageAt, IsLiveAt, GivesTextKept, TellsOther};
 ghost use Rattle.archive_core.specs.Placing.{live_place, PlacesRise, IsLeastPlace, IsGreatestPlace};
 ghost use Rattle.archive_core.specs.declared.placing.MessagePlace.{MessagePlace};
 
@@ -59,6 +59,25 @@ impl DiskArchive {
         }
     }
 
+    /// Returns the index of the entry of a live message, or `None` if its number isn't live.
+    pub(crate) fn live_index(&self, n: u32) -> Option<u64>
+        ensures known { IfSome result (IsLiveAt self.now.entries n) }
+        ensures live { (a : Archive) → Keeps self.now a
+            → is_some (text_of (live a.entries) n) ≡ is_some result }
+    {
+        match place_index(self.places.as_slice(), n) {
+            None => None,
+            Some(at) => {
+                let place = self.places[at];
+                if place.live {
+                    Some(place.entry as u64)
+                } else {
+                    None
+                }
+            }
+        }
+    }
+
     /// Returns the entry at an index, from 0, without its text, or `None` if there are not so many.
     pub fn entry(&self, index: u64) -> Option<EntryLine>
         ensures { (a : Archive) → Keeps self.now a → result ≡ line_at a.entries index }
@@ -72,10 +91,7 @@ impl DiskArchive {
         ensures text { (a : Archive) → Keeps self.now a
             → is_some (text_of (live a.entries) n) ≡ result }
     {
-        match self.live_from(n) {
-            Some(found) => found == n,
-            None => false,
-        }
+        self.live_index(n).is_some()
     }
 
     /// Appends the text of a message to `into`.
@@ -99,8 +115,8 @@ impl DiskArchive {
         ensures fewest { D.reads disk.old ≤ D.reads disk.new }
         ensures count { D.reads disk.new ≤ D.reads disk.old + 1 }
     {
-        match self.message_index(n) {
-            // Numbers of messages rise, so the place of one that is there is found.
+        match self.live_index(n) {
+            // Numbers of messages rise, so the place of one that is live is found.
             None => Err(TextRefusal::NoMemory),
             Some(index) => self.store.text(disk, index, into),
         }
@@ -145,9 +161,7 @@ impl DiskArchive {
 
     /// Returns the number of the first entry with a blob id.
     fn number_of(&self, id: &ObjectId) -> Option<u32>
-        ensures known { IsKnownLive (has_message_number self.now.entries) result }
-        ensures number { (a : Archive) → Keeps self.now a
-            → result ≡ blob_number a.entries id.now.0 }
+        ensures { (a : Archive) → Keeps self.now a → result ≡ blob_number a.entries id.now.0 }
     {
         self.index.number(id)
     }

@@ -30,12 +30,23 @@ pub(crate) fn put_text(
     index.insert(id, blob, owner)
 }
 
-/// Takes a text back from an index, which was added last, with a new own id and a new number.
-pub(crate) fn take_text(index: &mut Index, text: &[u8], blob: &ObjectId, number: u32)
-    ensures { TakesBackText index.old index.new text.now blob.now number }
+/// Takes a text back from an index, which was added last, with a new own id. `older` is the number
+/// that its blob id had before.
+pub(crate) fn take_text(
+    index: &mut Index,
+    text: &[u8],
+    blob: &ObjectId,
+    number: u32,
+    older: Option<u32>,
+)
+    ensures { TakesBackText index.old index.new text.now blob.now number older }
 {
     if let Some(id) = own_id(text) {
-        index.take_back(id, blob, number);
+        match older {
+            // It is still that of the older entry.
+            Some(_) => index.remove(id),
+            None => index.take_back(id, blob, number),
+        }
     }
 }
 

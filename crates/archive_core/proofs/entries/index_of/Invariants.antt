@@ -1,7 +1,7 @@
--- The entries from an index on are in the index of entries.
-use Rattle.std.specs.Prelude.{drop}
+-- The entries before an index are in the index of entries.
+use Rattle.std.specs.Prelude.{take}
 use Rattle.archive_core.specs.Kept.{IndexesStored}
 use Rattle.archive_core.proofs.entries.index_of.Given as goal
 
-abbrev pub invariant-loop-i : goal.invariant-loop-i
-invariant-loop-i l = IndexesStored (drop l.i l.entries) l.index
+abbrev pub invariant-loop-entry : goal.invariant-loop-entry
+invariant-loop-entry l = IndexesStored (take l.entry-index l.entries) l.index

@@ -1,0 +1,260 @@
+-- The places of messages: how they follow from entries, and what they tell of them.
+use Rattle.std.proofs.Common.{◌≡◌, ◌≢◌, ◌⊎◌, inl, inr, ◌+◌, ◌-◌, ◌<◌, ◌≤◌, ◌==◌, ◌&&◌, ◌||◌, ℕ, zero, suc, Bool, true, false, not, nat_le, List, [], ◌∷◌, ◌++◌, length, drop, reverse, get_or, set, slice_get, Option, Some, None, refl, sym, ap, subst, ◌∙◌, arith, if◌then◌else◌}
+use Rattle.std.specs.List.{filter, list_any, AllAdjacentBelow, Contains}
+use Rattle.std.specs.List.Sorted.{IsNonDecreasingBy}
+use Rattle.std.specs.Ordering.{nat_cmp}
+use Rattle.std.specs.BTreeSet.{BTreeSet}
+use Rattle.std.proofs.lemmas.Grind.{reverse_onto}
+use Rattle.std.proofs.lemmas.Bool.Decides.{nat_tests}
+use Rattle.std.proofs.lemmas.List.Sorted.{IsNonDecreasingBy-from_all_adjacent}
+use Rattle.git_objects.specs.declared.entry_kind.EntryKind.{EntryKind}
+use Rattle.git_objects.specs.declared.entry_kind.EntryKind.TheVariants.{Message, Deletion}
+use Rattle.arch_model.specs.Archives.{Entry, is_message}
+use Rattle.arch_model.specs.Validity.{IsFrom, number_after, Rise}
+use Rattle.epoch_store.specs.declared.entries.StoredEntry.{StoredEntry}
+use Rattle.epoch_store.specs.Stores.{is_ended_in, live_kept, stored_at, stored_after}
+use Rattle.archive_core.specs.Numbers.{has_number, has_live}
+use Rattle.archive_core.specs.Placing.{message_places, ended_place, ends_place, has_ended, PlacesBy, PlacesFrom, PlacesRise, live_place}
+use Rattle.archive_core.specs.declared.placing.MessagePlace.{MessagePlace}
+
+-- The place of a message at an index.
+abbrev pub place_of : ℕ → ℕ → Bool → MessagePlace
+place_of number index live = record { number = number; entry = index; live = live }
+
+-- The places, from the last to the first, of the entries from an index on, and the numbers that these
+-- end.
+pub record FrontOf (entries : List StoredEntry) (index : ℕ) (places : List MessagePlace) (ended : BTreeSet ℕ) : Type 0 where
+  pub places_are : places ≡ reverse (message_places index (drop index entries))
+  pub ended_are : (q : ℕ) → has_ended ended q ≡ is_ended_in (drop index entries) q
+
+drop_all : (es : List StoredEntry) → drop (length es) es ≡ []
+drop_all [] = refl
+drop_all (e ∷ es) = drop_all es
+
+none_ended : (ended : BTreeSet ℕ) → ended.keys ≡ [] → (q : ℕ) → has_ended ended q ≡ false
+none_ended ended none q = ap (λ (ks : List ℕ). has_ended (record { keys = ks }) q) none
+
+pub front-none : (entries : List StoredEntry) (places : List MessagePlace) (ended : BTreeSet ℕ) (count : ℕ) → count ≡ length entries → places ≡ [] → ended.keys ≡ [] → FrontOf entries count places ended
+front-none entries places ended count count_is places_is ended_is = record {
+  places_are = places_is ∙ sym (ap (λ (n : ℕ). reverse (message_places n (drop n entries))) count_is ∙ ap (λ (es : List StoredEntry). reverse (message_places (length entries) es)) (drop_all entries));
+  ended_are = λ q. none_ended ended ended_is q ∙ sym (ap (λ (n : ℕ). is_ended_in (drop n entries) q) count_is ∙ ap (λ (es : List StoredEntry). is_ended_in es q) (drop_all entries));
+}
+
+drop_one : (es : List StoredEntry) (i : ℕ) (e : StoredEntry) → i < length es → e ≡ get_or es i e → drop i es ≡ e ∷ drop (i + 1) es
+drop_one [] i e less is = absurd (omega (arith, less))
+drop_one (x ∷ es) zero e less is = ap (λ (y : StoredEntry). y ∷ es) (sym is)
+drop_one (x ∷ es) (suc i) e less is = let on : suc i + 1 ≡ suc (i + 1) = omega arith in rw on (drop_one es i e (omega (arith, less)) is)
+
+-- One more entry before the others.
+front_by : (k : EntryKind) (e : StoredEntry) (es : List StoredEntry) (index : ℕ) (old new : List MessagePlace) (ended more : BTreeSet ℕ) → PlacesBy k old new ended more e index → old ≡ reverse (message_places (index + 1) es) → ((q : ℕ) → has_ended ended q ≡ is_ended_in es q)
+    → (new ≡ reverse (if is_message k then place_of e.number index (not (is_ended_in es e.number)) ∷ message_places (index + 1) es else message_places (index + 1) es))
+    × ((q : ℕ) → has_ended more q ≡ ((not (is_message k) && e.number == q) || is_ended_in es q))
+front_by Message e es index old new ended more by old_is ended_is = (
+  by.0
+  ∙ ap (λ (ps : List MessagePlace). ps ++ place_of e.number index (not (has_ended ended e.number)) ∷ []) old_is
+  ∙ ap (λ (b : Bool). reverse (message_places (index + 1) es) ++ place_of e.number index (not b) ∷ []) (ended_is e.number)
+  ∙ sym (reverse_onto (message_places (index + 1) es) (place_of e.number index (not (is_ended_in es e.number))) []),
+  λ q. by.1 q ∙ ended_is q,
+)
+front_by Deletion e es index old new ended more by old_is ended_is = (by.0 ∙ old_is, λ q. by.1 q ∙ ap (λ (b : Bool). e.number == q || b) (ended_is q))
+
+pub front-more : (entries : List StoredEntry) (index : ℕ) (e : StoredEntry) (old new : List MessagePlace) (ended more : BTreeSet ℕ) → index < length entries → e ≡ get_or entries index e → FrontOf entries (index + 1) old ended → PlacesBy e.seen.kind old new ended more e index → FrontOf entries index new more
+front-more entries index e old new ended more less is front by =
+    let both = front_by e.seen.kind e (drop (index + 1) entries) index old new ended more by front.places_are front.ended_are in
+    let at = drop_one entries index e less is in
+    record {
+      places_are = both.0 ∙ sym (ap (λ (es : List StoredEntry). reverse (message_places index es)) at);
+      ended_are = λ q. both.1 q ∙ sym (ap (λ (es : List StoredEntry). is_ended_in es q) at);
+    }
+
+-- The first of some places, so many, with a number no longer live.
+abbrev pub ends_first : ℕ → ℕ → List MessagePlace → List MessagePlace
+ends_first zero number ps = ps
+ends_first (suc i) number [] = []
+ends_first (suc i) number (p ∷ ps) = ended_place number p ∷ ends_first i number ps
+
+ends_first-more : (i number : ℕ) (ps : List MessagePlace) (d : MessagePlace) → i < length ps → set (ends_first i number ps) i (ended_place number (get_or (ends_first i number ps) i d)) ≡ ends_first (i + 1) number ps
+ends_first-more i number [] d less = absurd (omega (arith, less))
+ends_first-more zero number (x ∷ ps) d less = refl
+ends_first-more (suc i) number (x ∷ ps) d less = let on : suc i + 1 ≡ suc (i + 1) = omega arith in rw on (ap (λ (l : List MessagePlace). ended_place number x ∷ l) (ends_first-more i number ps d (omega (arith, less))))
+
+ended_is : (number : ℕ) (p : MessagePlace) → p.number ≡ number → ended_place number p ≡ record { number = p.number; entry = p.entry; live = false }
+ended_is number p same =
+    let hit : (p.number == number) ≡ true = grind (arith, nat_tests, same) in
+    ap (λ (t : Bool). let q : MessagePlace = record { number = p.number; entry = p.entry; live = if t then false else p.live } in q) hit
+
+ended_not : (number : ℕ) (p : MessagePlace) → p.number ≢ number → ended_place number p ≡ p
+ended_not number p other =
+    let miss : (p.number == number) ≡ false = grind (arith, nat_tests, other) in
+    ap (λ (t : Bool). let q : MessagePlace = record { number = p.number; entry = p.entry; live = if t then false else p.live } in q) miss
+
+pub ends-then : (i number : ℕ) (ps old new : List MessagePlace) (d : MessagePlace) → old ≡ ends_first i number ps → i < length ps → (get_or old i d).number ≡ number → new ≡ set old i (record { number = (get_or old i d).number; entry = (get_or old i d).entry; live = false }) → new ≡ ends_first (i + 1) number ps
+ends-then i number ps old new d old_is less same new_is =
+    new_is
+    ∙ ap (λ (q : MessagePlace). set old i q) (sym (ended_is number (get_or old i d) same))
+    ∙ ap (λ (l : List MessagePlace). set l i (ended_place number (get_or l i d))) old_is
+    ∙ ends_first-more i number ps d less
+
+pub ends-else : (i number : ℕ) (ps old new : List MessagePlace) (d : MessagePlace) → old ≡ ends_first i number ps → i < length ps → (get_or old i d).number ≢ number → new ≡ set old i (get_or old i d) → new ≡ ends_first (i + 1) number ps
+ends-else i number ps old new d old_is less other new_is =
+    new_is
+    ∙ ap (λ (q : MessagePlace). set old i q) (sym (ended_not number (get_or old i d) other))
+    ∙ ap (λ (l : List MessagePlace). set l i (ended_place number (get_or l i d))) old_is
+    ∙ ends_first-more i number ps d less
+
+pub ends_first-all : (i number : ℕ) (ps : List MessagePlace) → length ps ≤ i → ends_first i number ps ≡ ends_place number ps
+ends_first-all zero number [] whole = refl
+ends_first-all (suc i) number [] whole = refl
+ends_first-all zero number (p ∷ ps) whole = absurd (omega (arith, whole))
+ends_first-all (suc i) number (p ∷ ps) whole = ap (λ (l : List MessagePlace). ended_place number p ∷ l) (ends_first-all i number ps (omega (arith, whole)))
+
+-- The live places have the numbers of the live entries.
+live_step : (m ended : Bool) (n number index : ℕ) (e : StoredEntry) (ps : List MessagePlace) (es : List StoredEntry) → number ≡ e.number → live_place ps n ≡ has_number es n
+    → live_place (if m then place_of number index (not ended) ∷ ps else ps) n ≡ has_number (if m && not ended then e ∷ es else es) n
+live_step true true n number index e ps es same is = is
+live_step true false n number index e ps es same is = ap (λ (b : Bool). number == n || b) is ∙ ap (λ (m : ℕ). m == n || has_number es n) same
+live_step false ended n number index e ps es same is = is
+
+pub live-places : (index : ℕ) (es : List StoredEntry) (n : ℕ) → live_place (message_places index es) n ≡ has_live es n
+live-places index [] n = refl
+live-places index (e ∷ es) n = live_step (is_message e.seen.kind) (is_ended_in es e.number) n e.number index e (message_places (index + 1) es) (live_kept es) refl (live-places (index + 1) es n)
+
+-- Numbers rise in the places of entries whose numbers rise.
+rise_step : (k : EntryKind) (number own index : ℕ) (live : Bool) (ps : List MessagePlace) → IsFrom k number own → PlacesFrom (number_after k number own) ps → PlacesFrom number (if is_message k then place_of own index live ∷ ps else ps)
+rise_step Message number own index live ps low rest = (low, rest)
+rise_step Deletion number own index live ps low rest = rest
+
+pub places-rise : (before es : List Entry) (index number epoch : ℕ) → Rise number epoch es → PlacesFrom number (message_places index (stored_after before es))
+places-rise before [] index number epoch rise = tt
+places-rise before (e ∷ es) index number epoch rise =
+    rise_step e.kind number e.number index (not (is_ended_in (stored_after (before ++ e ∷ []) es) e.number)) (message_places (index + 1) (stored_after (before ++ e ∷ []) es)) rise.0
+    (places-rise (before ++ e ∷ []) es (index + 1) (number_after e.kind number e.number) e.epoch rise.2)
+
+pub places-low : (low number : ℕ) (ps : List MessagePlace) → low ≤ number → PlacesFrom number ps → PlacesFrom low ps
+places-low low number [] less from = tt
+places-low low number (p ∷ ps) less from = (let above : number ≤ p.number = from.0 in omega (arith, less, above), from.1)
+
+adjacent : (number : ℕ) (ps : List MessagePlace) → PlacesFrom number ps → AllAdjacentBelow (λ (x y : MessagePlace). x.number ≤ y.number) ps (length ps)
+adjacent number [] from k d inside = absurd (omega (arith, inside))
+adjacent number (p ∷ []) from k d inside = absurd (omega (arith, inside))
+adjacent number (p ∷ (q ∷ ps)) from zero d inside = let next : p.number + 1 ≤ q.number = from.1.0 in omega (arith, next)
+adjacent number (p ∷ (q ∷ ps)) from (suc k) d inside =
+    let on : suc k + 1 ≡ suc (k + 1) = omega arith in
+    rw on (adjacent (p.number + 1) (q ∷ ps) from.1 k d (omega (arith, inside)))
+
+pub places-sorted : (ps : List MessagePlace) → PlacesRise ps → IsNonDecreasingBy (λ (p : MessagePlace). p.number) ps
+places-sorted ps rise = IsNonDecreasingBy-from_all_adjacent (λ (p : MessagePlace). p.number) ps (adjacent 0 ps rise)
+
+-- No place has a number below the first.
+miss_step : (live t rest : Bool) → t ≡ false → rest ≡ false → (live && t || rest) ≡ false
+miss_step live true rest never none = absurd (cc)
+miss_step true false rest never none = none
+miss_step false false rest never none = none
+
+places-above : (n number : ℕ) (ps : List MessagePlace) → PlacesFrom number ps → n < number → live_place ps n ≡ false
+places-above n number [] from less = refl
+places-above n number (p ∷ ps) from less =
+    let above : number ≤ p.number = from.0 in
+    let other : (p.number == n) ≡ false = grind (arith, nat_tests, above, less) in
+    miss_step p.live (p.number == n) (live_place ps n) other (places-above n (p.number + 1) ps from.1 (omega (arith, above, less)))
+
+hit_step : (live t rest : Bool) → t ≡ true → rest ≡ false → (live && t || rest) ≡ live
+hit_step live false rest hit none = absurd (cc)
+hit_step true true rest hit none = refl
+hit_step false true rest hit none = none
+
+pass_step : (live t rest all : Bool) → t ≡ false → rest ≡ all → (live && t || rest) ≡ all
+pass_step live true rest all never is = absurd (cc)
+pass_step true false rest all never is = is
+pass_step false false rest all never is = is
+
+only : {X : Type 0} (x y : X) → Some x ≡ Some y → x ≡ y
+only x y is = cc
+
+-- Where numbers rise, the place of a number tells whether it is live.
+pub places-one : (number : ℕ) (ps : List MessagePlace) (i : ℕ) (p : MessagePlace) → PlacesFrom number ps → slice_get ps i ≡ Some p → (number ≤ p.number) × (live_place ps p.number ≡ p.live)
+places-one number [] i p from there = absurd (cc)
+places-one number (q ∷ ps) zero p from there =
+    let same : q ≡ p = only q p there in
+    let itself : (q.number == q.number) ≡ true = grind (arith, nat_tests) in
+    subst (λ (r : MessagePlace). (number ≤ r.number) × (live_place (q ∷ ps) r.number ≡ r.live)) same
+    (from.0, hit_step q.live (q.number == q.number) (live_place ps q.number) itself (places-above q.number (q.number + 1) ps from.1 (omega arith)))
+places-one number (q ∷ ps) (suc i) p from there =
+    let rest = places-one (q.number + 1) ps i p from.1 there in
+    let low : number ≤ q.number = from.0 in
+    let above : q.number + 1 ≤ p.number = rest.0 in
+    let other : (q.number == p.number) ≡ false = grind (arith, nat_tests, above) in
+    (omega (arith, low, above), pass_step q.live (q.number == p.number) (live_place ps p.number) p.live other rest.1)
+
+-- What the place of a message tells of its entry, which follows others.
+pub record PlaceTells (index : ℕ) (es : List StoredEntry) (p : MessagePlace) : Type 0 where
+  pub at : ℕ
+  pub entry_is : p.entry ≡ index + at
+  pub entry : StoredEntry
+  pub there : slice_get es at ≡ Some entry
+  pub number_is : entry.number ≡ p.number
+  pub is_one : is_message entry.seen.kind ≡ true
+  pub is_live : p.live ≡ true → Contains (live_kept es) entry
+
+kept_later : (t : Bool) (e x : StoredEntry) (es : List StoredEntry) → Contains es x → Contains (if t then e ∷ es else es) x
+kept_later true e x es has = (suc has.0, (let less : has.0 < length es = has.1 in omega (arith, less)), has.2)
+kept_later false e x es has = has
+
+kept_here : (m ended live : Bool) (e : StoredEntry) (es : List StoredEntry) → m ≡ true → not ended ≡ true → Contains (if m && not ended then e ∷ es else es) e
+kept_here true false live e es one lives = (0, omega arith, refl)
+kept_here true true live e es one lives = absurd (cc)
+kept_here false ended live e es one lives = absurd (cc)
+
+tells_later : (index : ℕ) (e : StoredEntry) (es : List StoredEntry) (p : MessagePlace) → PlaceTells (index + 1) es p → PlaceTells index (e ∷ es) p
+tells_later index e es p told = record {
+  at = suc told.at;
+  entry_is = (let is : p.entry ≡ index + 1 + told.at = told.entry_is in omega (arith, is));
+  entry = told.entry;
+  there = told.there;
+  number_is = told.number_is;
+  is_one = told.is_one;
+  is_live = λ live. kept_later (is_message e.seen.kind && not (is_ended_in es e.number)) e told.entry (live_kept es) (told.is_live live);
+}
+
+tells_here : (index : ℕ) (e : StoredEntry) (es : List StoredEntry) (p : MessagePlace) → is_message e.seen.kind ≡ true → place_of e.number index (not (is_ended_in es e.number)) ≡ p → PlaceTells index (e ∷ es) p
+tells_here index e es p one is = subst (λ (r : MessagePlace). PlaceTells index (e ∷ es) r) is (record {
+  at = 0;
+  entry_is = omega arith;
+  entry = e;
+  there = refl;
+  number_is = refl;
+  is_one = one;
+  is_live = λ live. kept_here (is_message e.seen.kind) (is_ended_in es e.number) true e (live_kept es) one live;
+})
+
+tells_step : (m : Bool) (index : ℕ) (e : StoredEntry) (es : List StoredEntry) (i : ℕ) (p : MessagePlace) → is_message e.seen.kind ≡ m → ((j : ℕ) → slice_get (message_places (index + 1) es) j ≡ Some p → PlaceTells (index + 1) es p)
+    → slice_get (if m then place_of e.number index (not (is_ended_in es e.number)) ∷ message_places (index + 1) es else message_places (index + 1) es) i ≡ Some p → PlaceTells index (e ∷ es) p
+tells_step true index e es zero p one rest there = tells_here index e es p one (only (place_of e.number index (not (is_ended_in es e.number))) p there)
+tells_step true index e es (suc i) p one rest there = tells_later index e es p (rest i there)
+tells_step false index e es i p one rest there = tells_later index e es p (rest i there)
+
+pub places-tell : (index : ℕ) (es : List StoredEntry) (i : ℕ) (p : MessagePlace) → slice_get (message_places index es) i ≡ Some p → PlaceTells index es p
+places-tell index [] i p there = absurd (cc)
+places-tell index (e ∷ es) i p there = tells_step (is_message e.seen.kind) index e es i p refl (λ j more. places-tell (index + 1) es j p more) there
+
+-- As many live places have a number between two others as live entries.
+abbrev pub place_between : ℕ → ℕ → MessagePlace → Bool
+place_between low high p = p.live && (nat_le low p.number && nat_le p.number high)
+
+abbrev pub stored_between : ℕ → ℕ → StoredEntry → Bool
+stored_between low high e = nat_le low e.number && nat_le e.number high
+
+count_more : (t : Bool) (p : MessagePlace) (e : StoredEntry) (ps : List MessagePlace) (es : List StoredEntry) → length ps ≡ length es → length (if t then p ∷ ps else ps) ≡ length (if t then e ∷ es else es)
+count_more true p e ps es same = ap suc same
+count_more false p e ps es same = same
+
+count_step : (m ended : Bool) (low high index : ℕ) (e : StoredEntry) (ps : List MessagePlace) (es : List StoredEntry) → length (filter (place_between low high) ps) ≡ length (filter (stored_between low high) es)
+    → length (filter (place_between low high) (if m then place_of e.number index (not ended) ∷ ps else ps)) ≡ length (filter (stored_between low high) (if m && not ended then e ∷ es else es))
+count_step true true low high index e ps es same = same
+count_step true false low high index e ps es same =
+    count_more (nat_le low e.number && nat_le e.number high) (place_of e.number index true) e (filter (place_between low high) ps) (filter (stored_between low high) es) same
+count_step false ended low high index e ps es same = same
+
+pub places-between : (low high index : ℕ) (es : List StoredEntry) → length (filter (place_between low high) (message_places index es)) ≡ length (filter (stored_between low high) (live_kept es))
+places-between low high index [] = refl
+places-between low high index (e ∷ es) = count_step (is_message e.seen.kind) (is_ended_in es e.number) low high index e (message_places (index + 1) es) (live_kept es) (places-between low high (index + 1) es)

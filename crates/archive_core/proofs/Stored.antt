@@ -1,0 +1,173 @@
+-- What is kept of entries: which of it is live, and which entry an index and a number mean.
+use Rattle.std.proofs.Common.{◌≡◌, ◌≢◌, ◌+◌, ◌<◌, ◌≤◌, ◌==◌, ◌&&◌, ◌||◌, ℕ, zero, suc, Bool, true, false, not, nat_le, List, [], ◌∷◌, ◌++◌, length, slice_get, slice_index_or, Option, Some, None, is_some, refl, sym, ap, subst, ◌∙◌, arith, if◌then◌else◌}
+use Rattle.std.specs.List.{filter, Contains}
+use Rattle.std.proofs.lemmas.Bool.Decides.{nat_tests}
+use Rattle.git_objects.specs.declared.entry_kind.EntryKind.{EntryKind}
+use Rattle.git_objects.specs.declared.entry_kind.EntryKind.TheVariants.{Message, Deletion}
+use Rattle.arch_model.specs.Archives.{Entry, is_message, is_ended, live, messages, text_of}
+use Rattle.arch_model.specs.Shelves.{is_between, live_between}
+use Rattle.arch_model.specs.Validity.{IsFrom, number_after, Rise}
+use Rattle.arch_model.proofs.LiveEntries.{live-one}
+use Rattle.epoch_store.specs.declared.entries.StoredEntry.{StoredEntry}
+use Rattle.epoch_store.specs.Stores.{is_ended_in, live_kept, stored_at, stored_after}
+use Rattle.archive_core.specs.Numbers.{has_number, has_live}
+use Rattle.archive_core.proofs.Places.{stored_between}
+
+-- What is kept of an entry, after some others.
+abbrev pub IsKeptOf : StoredEntry → Entry → Type 0
+IsKeptOf s e = (before : List Entry) × (s ≡ stored_at before e)
+
+-- The same of entries, one by one.
+abbrev pub AreKeptOf : List StoredEntry → List Entry → Type 0
+AreKeptOf [] [] = Unit {0}
+AreKeptOf [] (e ∷ es) = ⊥
+AreKeptOf (s ∷ ss) [] = ⊥
+AreKeptOf (s ∷ ss) (e ∷ es) = IsKeptOf s e × AreKeptOf ss es
+
+ended-same : (before es : List Entry) (n : ℕ) → is_ended_in (stored_after before es) n ≡ is_ended es n
+ended-same before [] n = refl
+ended-same before (e ∷ es) n = ap (λ (b : Bool). (not (is_message e.kind) && e.number == n) || b) (ended-same (before ++ e ∷ []) es n)
+
+kept_step : (t u : Bool) (s : StoredEntry) (e : Entry) (ss : List StoredEntry) (es : List Entry) → t ≡ u → IsKeptOf s e → AreKeptOf ss es → AreKeptOf (if t then s ∷ ss else ss) (if u then e ∷ es else es)
+kept_step true true s e ss es same one rest = (one, rest)
+kept_step true false s e ss es same one rest = absurd (cc)
+kept_step false true s e ss es same one rest = absurd (cc)
+kept_step false false s e ss es same one rest = rest
+
+-- What is live of what is kept is what is kept of the live entries.
+pub live-kept : (before es : List Entry) → AreKeptOf (live_kept (stored_after before es)) (live es)
+live-kept before [] = tt
+live-kept before (e ∷ es) =
+    kept_step (is_message e.kind && not (is_ended_in (stored_after (before ++ e ∷ []) es) e.number)) (is_message e.kind && not (is_ended es e.number)) (stored_at before e) e (live_kept (stored_after (before ++ e ∷ []) es)) (live es)
+    (ap (λ (b : Bool). is_message e.kind && not b) (ended-same (before ++ e ∷ []) es e.number)) (before, refl) (live-kept (before ++ e ∷ []) es)
+
+-- It has the numbers of the entries.
+number_step : (t : Bool) (text : List ℕ) (rest : Bool) (found : Option (List ℕ)) → rest ≡ is_some found → (t || rest) ≡ is_some (if t then Some text else found)
+number_step true text rest found is = refl
+number_step false text rest found is = is
+
+pub numbers-kept : (ss : List StoredEntry) (es : List Entry) (n : ℕ) → AreKeptOf ss es → has_number ss n ≡ is_some (text_of es n)
+numbers-kept [] [] n kept = refl
+numbers-kept [] (e ∷ es) n kept = absurd kept
+numbers-kept (s ∷ ss) [] n kept = absurd kept
+numbers-kept (s ∷ ss) (e ∷ es) n kept =
+    ap (λ (x : StoredEntry). x.number == n || has_number ss n) kept.0.1
+    ∙ number_step (e.number == n) e.text (has_number ss n) (text_of es n) (numbers-kept ss es n kept.1)
+
+-- A number is live in what is kept just if it is shown.
+pub has_live-is : (es : List Entry) (n : ℕ) → has_live (stored_after [] es) n ≡ is_some (text_of (live es) n)
+has_live-is es n = numbers-kept (live_kept (stored_after [] es)) (live es) n (live-kept [] es)
+
+between_step : (t : Bool) (s : StoredEntry) (e : Entry) (ss : List StoredEntry) (es : List Entry) → length ss ≡ length es → length (if t then s ∷ ss else ss) ≡ length (if t then e ∷ es else es)
+between_step true s e ss es same = ap suc same
+between_step false s e ss es same = same
+
+-- It has as many numbers between two others.
+pub between-kept : (low high : ℕ) (ss : List StoredEntry) (es : List Entry) → AreKeptOf ss es → length (filter (stored_between low high) ss) ≡ live_between es low high
+between-kept low high [] [] kept = refl
+between-kept low high [] (e ∷ es) kept = absurd kept
+between-kept low high (s ∷ ss) [] kept = absurd kept
+between-kept low high (s ∷ ss) (e ∷ es) kept =
+    ap (λ (x : StoredEntry). length (filter (stored_between low high) (x ∷ ss))) kept.0.1
+    ∙ between_step (nat_le low e.number && nat_le e.number high) (stored_at kept.0.0 e) e (filter (stored_between low high) ss) (filter (is_between low high) es) (between-kept low high ss es kept.1)
+
+-- As many are kept as there are.
+pub stored-length : (before es : List Entry) → length (stored_after before es) ≡ length es
+stored-length before [] = refl
+stored-length before (e ∷ es) = let rest = stored-length (before ++ e ∷ []) es in omega (arith, rest)
+
+only : {X : Type 0} (x y : X) → Some x ≡ Some y → x ≡ y
+only x y is = cc
+
+-- The entry of which something is kept at an index.
+pub record KeptAt (es : List Entry) (i : ℕ) (s : StoredEntry) : Type 0 where
+  pub entry : Entry
+  pub there : slice_get es i ≡ Some entry
+  pub kept : IsKeptOf s entry
+
+pub kept-at : (before es : List Entry) (i : ℕ) (s : StoredEntry) → slice_get (stored_after before es) i ≡ Some s → KeptAt es i s
+kept-at before [] i s there = absurd (cc)
+kept-at before (e ∷ es) zero s there = record { entry = e; there = refl; kept = (before, sym (only (stored_at before e) s there)) }
+kept-at before (e ∷ es) (suc i) s there = let rest = kept-at (before ++ e ∷ []) es i s there in record { entry = rest.entry; there = rest.there; kept = rest.kept }
+
+-- What is kept of entries and one more.
+pub stored-push : (before es : List Entry) (e : Entry) → stored_after before (es ++ e ∷ []) ≡ stored_after before es ++ stored_at (before ++ es) e ∷ []
+stored-push before [] e = ap (λ (xs : List Entry). stored_at xs e ∷ []) (sym (append_nil before)) where
+  append_nil : (xs : List Entry) → xs ++ [] ≡ xs
+  append_nil [] = refl
+  append_nil (x ∷ xs) = ap (λ (l : List Entry). x ∷ l) (append_nil xs)
+stored-push before (x ∷ es) e =
+    ap (λ (ss : List StoredEntry). stored_at before x ∷ ss)
+    (stored-push (before ++ x ∷ []) es e ∙ ap (λ (xs : List Entry). stored_after (before ++ x ∷ []) es ++ stored_at xs e ∷ []) (assoc before))
+  where
+    assoc : (xs : List Entry) → (xs ++ x ∷ []) ++ es ≡ xs ++ x ∷ es
+    assoc [] = refl
+    assoc (y ∷ xs) = ap (λ (l : List Entry). y ∷ l) (assoc xs)
+
+-- The number of a message is that of its text.
+message_here : (k : EntryKind) (e : Entry) (es : List Entry) → is_message k ≡ true → text_of (if is_message k then e ∷ messages es else messages es) e.number ≡ Some e.text
+message_here Message e es one = let itself : (e.number == e.number) ≡ true = grind (arith, nat_tests) in ap (λ (t : Bool). if t then Some e.text else text_of (messages es) e.number) itself
+message_here Deletion e es one = absurd (cc)
+
+message_low : (k : EntryKind) (number own : ℕ) → is_message k ≡ true → IsFrom k number own → number ≤ own
+message_low Message number own one low = low
+message_low Deletion number own one low = absurd (cc)
+
+message_past : (k : EntryKind) (number n : ℕ) (e : Entry) (es : List Entry) (text : List ℕ) → IsFrom k number e.number → number_after k number e.number ≤ n → text_of (messages es) n ≡ Some text
+    → (number ≤ n) × (text_of (if is_message k then e ∷ messages es else messages es) n ≡ Some text)
+message_past Message number n e es text low above is =
+    let other : (e.number == n) ≡ false = grind (arith, nat_tests, above) in
+    (omega (arith, low, above), ap (λ (t : Bool). if t then Some e.text else text_of (messages es) n) other ∙ is)
+message_past Deletion number n e es text low above is = (above, is)
+
+pub message-at : (number epoch : ℕ) (es : List Entry) (i : ℕ) (e : Entry) → Rise number epoch es → slice_get es i ≡ Some e → is_message e.kind ≡ true → (number ≤ e.number) × (text_of (messages es) e.number ≡ Some e.text)
+message-at number epoch [] i e rise there one = absurd (cc)
+message-at number epoch (x ∷ es) zero e rise there one =
+    let same : x ≡ e = only x e there in
+    let is_one : is_message x.kind ≡ true = ap (λ (f : Entry). is_message f.kind) same ∙ one in
+    subst (λ (f : Entry). (number ≤ f.number) × (text_of (messages (x ∷ es)) f.number ≡ Some f.text)) same (message_low x.kind number x.number is_one rise.0, message_here x.kind x es is_one)
+message-at number epoch (x ∷ es) (suc i) e rise there one =
+    let rest = message-at (number_after x.kind number x.number) x.epoch es i e rise.2 there one in
+    message_past x.kind number e.number x es e.text rise.0 rest.0 rest.1
+
+-- The text that is shown is that of the message with the number.
+shown_step : (es : List Entry) (epoch : ℕ) (n : ℕ) (text : List ℕ) (found : Option (List ℕ)) → Rise 1 epoch es → text_of (messages es) n ≡ Some text → text_of (live es) n ≡ found → is_some found ≡ true → found ≡ Some text
+shown_step es epoch n text None rise once shown some = absurd (cc)
+shown_step es epoch n text (Some other) rise once shown some = sym (live-one 1 epoch es n other rise shown).is ∙ once
+
+pub shown-at : (es : List Entry) (epoch i : ℕ) (e : Entry) → Rise 1 epoch es → slice_get es i ≡ Some e → is_message e.kind ≡ true → is_some (text_of (live es) e.number) ≡ true → text_of (live es) e.number ≡ Some e.text
+shown-at es epoch i e rise there one some = shown_step es epoch e.number e.text (text_of (live es) e.number) rise (message-at 1 epoch es i e rise there one).1 refl some
+
+-- What is among the entries that are kept has its number there.
+pub contains-number : (ss : List StoredEntry) (s : StoredEntry) → Contains ss s → has_number ss s.number ≡ true
+contains-number ss s has = at ss has.0 has.1 has.2 where
+  or_true : (t b : Bool) → b ≡ true → (t || b) ≡ true
+  or_true true b is = refl
+  or_true false b is = is
+
+  at : (l : List StoredEntry) (k : ℕ) → k < length l → slice_index_or l k s ≡ s → has_number l s.number ≡ true
+  at [] k less is = absurd (omega (arith, less))
+  at (x ∷ l) zero less is = let hit : (x.number == s.number) ≡ true = ap (λ (y : StoredEntry). y.number == s.number) is ∙ (let itself : (s.number == s.number) ≡ true = grind (arith, nat_tests) in itself) in ap (λ (t : Bool). t || has_number l s.number) hit
+  at (x ∷ l) (suc k) less is = or_true (x.number == s.number) (has_number l s.number) (at l k (omega (arith, less)) is)
+
+-- A number that is live is that of an entry at an index.
+pub record NumberAt (ss : List StoredEntry) (n : ℕ) : Type 0 where
+  pub index : ℕ
+  pub entry : StoredEntry
+  pub there : slice_get ss index ≡ Some entry
+  pub number_is : entry.number ≡ n
+
+later : (s : StoredEntry) (ss : List StoredEntry) (n : ℕ) → NumberAt ss n → NumberAt (s ∷ ss) n
+later s ss n at = record { index = suc at.index; entry = at.entry; there = at.there; number_is = at.number_is }
+
+here_or : (t : Bool) (s : StoredEntry) (ss : List StoredEntry) (n : ℕ) (rest : Bool) → (s.number == n) ≡ t → (rest ≡ true → NumberAt ss n) → (t || rest) ≡ true → NumberAt (s ∷ ss) n
+here_or true s ss n rest test more has = let same : s.number ≡ n = grind (arith, nat_tests, test) in record { index = 0; entry = s; there = refl; number_is = same }
+here_or false s ss n rest test more has = later s ss n (more has)
+
+kept_or : (t : Bool) (s : StoredEntry) (ss ls : List StoredEntry) (n : ℕ) → (has_number ls n ≡ true → NumberAt ss n) → has_number (if t then s ∷ ls else ls) n ≡ true → NumberAt (s ∷ ss) n
+kept_or true s ss ls n more has = here_or (s.number == n) s ss n (has_number ls n) refl more has
+kept_or false s ss ls n more has = later s ss n (more has)
+
+pub live-number : (ss : List StoredEntry) (n : ℕ) → has_live ss n ≡ true → NumberAt ss n
+live-number [] n has = absurd (cc)
+live-number (s ∷ ss) n has = kept_or (is_message s.seen.kind && not (is_ended_in ss s.number)) s ss (live_kept ss) n (λ more. live-number ss n more) has
