@@ -3,21 +3,17 @@ use crate::accepted::accepted;
 use crate::model_tests::{epoch_len, has_epochs};
 use arch_base::{Bytes, id_of_hex};
 use arch_model::{Answer, Command, EntryLine, Shelf, is_live};
-use epoch_tests::{FIRST, FIRST_COMMIT, FIRST_ID, MOMENT, OTHER, SECOND, SECOND_ID};
+use epoch_tests::{
+    FIRST, FIRST_COMMIT, FIRST_ID, LATER, MOMENT, OTHER, REMOVAL_COMMIT, SECOND, SECOND_ID,
+};
 use git_objects::EntryKind;
 use mem_archive::MemArchive;
 use std::alloc::Global;
 use std::test::Fail;
 use store_tests::in_memory;
 
-/// The moment of the removal.
-const LATER: u64 = MOMENT + 100;
-
 /// The moment of a delivery after the removal.
 const LAST: u64 = MOMENT + 200;
-
-/// The commit of the removal of the first mail at `LATER`, after that of the mail.
-const REMOVAL_COMMIT: &[u8] = b"9bd6679b0a84e8d56dfbfdbd3183a1c7c5faeef3";
 
 /// The commit of the first mail at `LAST`, after that of its removal.
 const AGAIN_COMMIT: &[u8] = b"935153bbca041d2b9730dbb3b5a3c993a9b6b46c";
