@@ -34,6 +34,10 @@ not_true false never = refl
 got : (xs : List MessagePlace) (i : ℕ) (d p : MessagePlace) → slice_get xs i ≡ Some p → get_or xs i d ≡ p
 got xs i d p is = only (get_or xs i d) p (sym (slice_get-get_or xs i d (slice_get_within xs i p is)) ∙ is)
 
+-- The place that is read at an index is the one that was found there.
+pub place-is : (items seen : List MessagePlace) (i : ℕ) (p r : MessagePlace) → seen ≡ items → slice_get seen i ≡ Some p → r ≡ get_or items i r → r ≡ p
+place-is items seen i p r same there read = read ∙ ap (λ (l : List MessagePlace). get_or l i r) (sym same) ∙ got seen i r p there
+
 -- An index is before another or not.
 before_or_not : (j i : ℕ) → (j < i) ⊎ (i ≤ j)
 before_or_not j zero = inr (omega arith)
@@ -295,6 +299,12 @@ module _ (v : View) (places : List MessagePlace) (placed : places ≡ message_pl
 
     pub shown-live : (at n : ℕ) (p : MessagePlace) → slice_get places at ≡ Some p → p.number ≡ n → p.live ≡ true → is_some (text_of (live a.entries) n) ≡ true
     shown-live at n p there same live = sym (live-shown n) ∙ subst (λ (m : ℕ). live_place places m ≡ true) same (place-live places at p there live)
+
+-- The index of a message is that of an entry.
+pub inside-message : (v w : View) (n i : ℕ) → w ≡ v → IsMessageAt v.entries n i → i < length w.entries
+inside-message v w n i same at = subst (λ (u : View). i < length u.entries) (sym same) (entry_within v.entries i at.entry at.there) where
+  entry_within : (xs : List StoredEntry) (k : ℕ) (x : StoredEntry) → slice_get xs k ≡ Some x → k < length xs
+  entry_within xs k x there = slice_get_within xs k x there
 
 -- The text of the entry that is a live message is the text of its number.
 module _ (v : View) (a : Archive) (keeps : Keeps v a) (n i : ℕ) (at : IsLiveAt v.entries n i) where

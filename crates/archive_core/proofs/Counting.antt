@@ -19,16 +19,16 @@ few number next (e ∷ es) low rise below =
     omega (arith, first, rest)
 
 keep_step : (t : Bool) (e : Entry) (xs es : List Entry) → t ≡ true → length xs ≡ length es → length (if t then e ∷ xs else xs) ≡ length (e ∷ es)
-keep_step true e xs es yes same = omega (arith, same)
-keep_step false e xs es no same = absurd (cc)
+keep_step true e xs es hit same = omega (arith, same)
+keep_step false e xs es miss same = absurd (cc)
 
 -- All of them lie between 0 and the greatest number of 32 bits.
 all_between : (es : List Entry) (next : ℕ) → next ≤ 2147483648 → AllByRecursion (λ (e : Entry). e.number < next) es → live_between es 0 4294967295 ≡ length es
 all_between [] next most below = refl
 all_between (e ∷ es) next most below =
     let less : e.number < next = below.0 in
-    let yes : (nat_le 0 e.number && nat_le e.number 4294967295) ≡ true = grind (arith, nat_tests, less, most) in
-    keep_step (nat_le 0 e.number && nat_le e.number 4294967295) e (filter (is_between 0 4294967295) es) es yes (all_between es next most below.1)
+    let hit : (nat_le 0 e.number && nat_le e.number 4294967295) ≡ true = grind (arith, nat_tests, less, most) in
+    keep_step (nat_le 0 e.number && nat_le e.number 4294967295) e (filter (is_between 0 4294967295) es) es hit (all_between es next most below.1)
 
 -- So they are counted with 32 bits.
 pub counted : (a : Archive) → IsArchive a → min (live_between (live a.entries) 0 4294967295) 4294967295 ≡ length (live a.entries)

@@ -1,6 +1,6 @@
 -- The index of what a store keeps: that of an archive's entries, with one more entry, and with a text
 -- that was taken back.
-use Rattle.std.specs.Prelude.{◌≡◌, ◌≢◌, ℕ, suc, Bool, true, false, List, [], ◌∷◌, ◌++◌, length, Option, Some, None, IsSome, unwrap_or, option_map, if◌then◌else◌, refl}
+use Rattle.std.specs.Prelude.{◌≡◌, ◌≢◌, ◌+◌, ◌<◌, ℕ, zero, suc, Bool, true, false, List, [], ◌∷◌, ◌++◌, length, take, get_or, Option, Some, None, IsSome, unwrap_or, option_map, if◌then◌else◌, refl}
 use Rattle.std.specs.List.{AllByRecursion}
 use Rattle.std.specs.Str.{bytes_eq}
 use Rattle.std.specs.Global.{Vec}
@@ -159,6 +159,15 @@ indexes-more kept s old new indexed takes (x ∷ es) are =
     subst (λ (l : List Entry). IsIndex l new) (sym es_is)
     (one-taken parts.front parts.last old new ordered front (subst (λ (t : StoredEntry). Takes old new t) same.1 takes))
 
+take_one : (xs : List StoredEntry) (i : ℕ) (s : StoredEntry) → i < length xs → s ≡ get_or xs i s → take (i + 1) xs ≡ take i xs ++ s ∷ []
+take_one [] i s less is = absurd (omega (arith, less))
+take_one (x ∷ xs) zero s less is = ap (λ (y : StoredEntry). y ∷ []) (sym is)
+take_one (x ∷ xs) (suc i) s less is = let on : suc i + 1 ≡ suc (i + 1) = omega arith in rw on (ap (λ (l : List StoredEntry). x ∷ l) (take_one xs i s (omega (arith, less)) is))
+
+-- One more of the entries that are kept was taken into an index.
+pub indexes-turn : (kept : List StoredEntry) (i : ℕ) (s : StoredEntry) (old new : Index) → i < length kept → s ≡ get_or kept i s → IndexesStored (take i kept) old → Takes old new s → IndexesStored (take (i + 1) kept) new
+indexes-turn kept i s old new less is indexed takes = subst (λ (l : List StoredEntry). IndexesStored l new) (sym (take_one kept i s less is)) (indexes-more (take i kept) s old new indexed takes)
+
 -- An index of nothing.
 pub indexes-none : (index : Index) → index.owners.entries ≡ [] → index.blobs.entries ≡ [] → IndexesStored [] index
 indexes-none index no_owners no_blobs [] are = record {
@@ -186,12 +195,6 @@ indexes-ended old new before after number text indexed loses ends =
     (indexes-more old.entries s before after indexed (subst (λ (k : EntryKind). TakesBy k before after s) (sym ends.kind) (loses s.seen.id ends.id)))
 
 -- A new text that is put in and taken back leaves an index of what was kept.
-same_owner : (id text : List ℕ) (es : List Entry) → own_id text ≡ Some id → IsFree (live es) text → owner (live es) id ≡ None
-same_owner id text es own free =
-    let some : Some free.0 ≡ Some id = sym free.1 ∙ own in
-    let same : free.0 ≡ id = cc in
-    subst (λ (i : List ℕ). owner (live es) i ≡ None) same free.2
-
 no_owner : (o : Option Entry) → o ≡ None → option_map owner_of o ≡ None
 no_owner o none = ap (option_map owner_of) none
 
@@ -203,37 +206,6 @@ indexes-again kept before put after text blob number older indexed new puts know
     let is_index = indexed entries are in
     let none : owner_in before.owners id ≡ None = is_index.owners id ∙ no_owner (owner (live entries) id) free.2 in
     IsIndex-same entries before after is_index (back before id free.1 (puts id free.1) none known)
-
--- A text that is taken back by its id leaves the index as it was.
-removed_step : (t : Bool) (message : Owner) (found : Option Owner) → (t ≡ true → found ≡ None) → (if t then None else (if t then Some message else found)) ≡ found
-removed_step true message found none = sym (none refl)
-removed_step false message found none = refl
-
-older_step : (t : Bool) (n x : ℕ) (found : Option ℕ) → (t ≡ true → found ≡ Some x) → first_found found (if t then Some n else None) ≡ found
-older_step true n x found older = rw (older refl) refl
-older_step false n x None older = refl
-older_step false n x (Some y) older = refl
-
-pub removes-again : (old put new : Index) (id : List ℕ) (blob : Id20) (message : Owner) (x : ℕ) → Puts old put id blob message → owner_in old.owners id ≡ None → number_in old.blobs blob.0 ≡ Some x → Loses put new id → HasSame old new
-removes-again old put new id blob message x puts none older loses = record {
-  owners = λ q.
-      loses.owners q
-      ∙ ap (λ (o : Option Owner). if bytes_eq q id then None else o) (puts.owners q)
-      ∙ removed_step (bytes_eq q id) message (owner_in old.owners q) (λ yes. subst (λ (i : List ℕ). owner_in old.owners i ≡ None) (sym ((bytes_eq-Decides q id).0 yes)) none);
-  blobs = λ q.
-      loses.blobs q
-      ∙ puts.blobs q
-      ∙ older_step (bytes_eq q blob.0) message.number x (number_in old.blobs q) (λ yes. subst (λ (i : List ℕ). number_in old.blobs i ≡ Some x) (sym ((bytes_eq-Decides q blob.0).0 yes)) older);
-}
-
-other_number : (o : Option ℕ) (n : ℕ) → o ≡ None → o ≢ Some n
-other_number o n none some = let wrong : None ≡ Some n = sym none ∙ some in cc
-
-pub takes-again : (put new : Index) (text : List ℕ) (blob : Id20) (number : ℕ) (old : Index) (id named : List ℕ) → TakesBack put new named blob number → own_id text ≡ Some named → own_id text ≡ Some id → Puts old put id blob (record { number = number; content = content_id_of text }) → owner_in old.owners id ≡ None → number_in old.blobs blob.0 ≡ None → HasSame old new
-takes-again put new text blob number old id named back named_is id_is puts none fresh =
-    let some : Some named ≡ Some id = sym named_is ∙ id_is in
-    let same : named ≡ id = cc in
-    subst (λ (i : List ℕ). TakesBack put new i blob number) same back old (record { number = number; content = content_id_of text }) puts refl none (other_number (number_in old.blobs blob.0) number fresh)
 
 -- The id of a text that is new to what is kept is free in the index, and the other way round.
 pub new-to : (kept : List StoredEntry) (index : Index) (text : List ℕ) → IndexesStored kept index → IsSome (own_id text) → ((id : List ℕ) → own_id text ≡ Some id → owner_in index.owners id ≡ None) → IsNewTo kept text

@@ -1,30 +1,25 @@
-use Rattle.std.proofs.Common.{◌∙◌, sym, refl, Ok, Err, Bool}
-use Rattle.archive_core.proofs.ByIndex.{blob_given, blob_refused, blob_missing}
-use Rattle.archive_core.proofs.ByNumber.{tells_other, other_refused, kept_appends}
+use Rattle.std.proofs.Common.{◌∙◌, sym, ap, subst, List}
+use Rattle.epoch_store.specs.Stores.{View, IsStoreWith}
+use Rattle.archive_core.proofs.ByIndex.{blob-given, blob-refused, blob-missing}
+use Rattle.archive_core.proofs.ByNumber.{inside-message}
 use Rattle.archive_core.proofs.Standing.{store_keeps}
-use Rattle.arch_model.proofs.Shelving.{appends-none}
 use Rattle.archive_core.proofs.archive.DiskArchive.blob.Goals as goal
+
+pub text-requires-clause-there : goal.text-requires-clause-there
+text-requires-clause-there g c = inside-message c.args.self.now c.self.inside.store c.in-Some.number c.in-Some-message_index.index c.self.view_is c.in-Some-message_index.ensures
 
 pub returns-in_default-clause-blob : goal.returns-in_default-clause-blob
 returns-in_default-clause-blob g c = λ a cache own.
-    blob_missing a c.args.id.now.0 c.args.into.now c.args.into.now (sym c.in_default.is ∙ c.number_of.ensures.number a (store_keeps c.args.self.now cache a (g.D.Disk.content c.args.disk.now) own))
+    blob-missing a c.args.id.now.0 c.args.into.now c.args.into.now (sym c.in_default.is ∙ c.number_of.ensures a (store_keeps c.args.self.now cache a (g.D.Disk.content c.args.disk.now) own))
 
 pub returns-in-Ok-clause-blob : goal.returns-in-Ok-clause-blob
 returns-in-Ok-clause-blob g c = λ a cache own.
     let k = g.D.Disk.content c.args.disk.now in
-    blob_given c.args.self.now cache a k c.args.id.now.0 c.in-Some.number c.args.into.now c.text.new.into own (c.in-Some.ensures.number a (store_keeps c.args.self.now cache a k own)) (c.in-Ok.ensures.text a cache own)
+    let keeps = store_keeps c.args.self.now cache a k own in
+    blob-given c.args.self.now a c.args.id.now.0 c.in-Some.number c.in-Some-message_index.index c.args.into.now c.text.new.into keeps (c.in-Some.ensures a keeps) c.in-Some-message_index.ensures
+    (c.in-Ok.ensures.archive a cache (subst (λ (v : View). IsStoreWith v cache a k) (sym c.self.view_is) own))
 
 pub returns-in-Err-clause-blob : goal.returns-in-Err-clause-blob
-returns-in-Err-clause-blob g c = λ a cache own. blob_refused a c.args.id.now.0 c.in-Some.number c.args.into.now c.text.new.into c.in-Err.refusal (c.in-Err.ensures.text a cache own)
-
-pub returns-in-Err-clause-other : goal.returns-in-Err-clause-other
-returns-in-Err-clause-other g c = other_refused Unit Bool c.in-Err.refusal (tells_other c.args.self.now.entries c.in-Some.number c.args.into.now c.text.new.into (Err c.in-Err.refusal) c.in-Err.ensures.kept)
-
-pub returns-in_default-clause-appends : goal.returns-in_default-clause-appends
-returns-in_default-clause-appends g c = appends-none c.args.into.now c.args.into.now refl
-
-pub returns-in-Ok-clause-appends : goal.returns-in-Ok-clause-appends
-returns-in-Ok-clause-appends g c = kept_appends c.args.self.now.entries c.in-Some.number c.args.into.now c.text.new.into (Ok tt) c.in-Ok.ensures.kept
-
-pub returns-in-Err-clause-appends : goal.returns-in-Err-clause-appends
-returns-in-Err-clause-appends g c = kept_appends c.args.self.now.entries c.in-Some.number c.args.into.now c.text.new.into (Err c.in-Err.refusal) c.in-Err.ensures.kept
+returns-in-Err-clause-blob g c = λ a cache own.
+    blob-refused a c.args.id.now.0 c.in-Some-message_index.index c.args.into.now c.text.new.into c.in-Err.refusal
+    (c.in-Err.ensures.archive a cache (subst (λ (v : View). IsStoreWith v cache a (g.D.Disk.content c.args.disk.now)) (sym c.self.view_is) own))

@@ -1,8 +1,8 @@
 use Rattle.std.proofs.Common.{◌∙◌, ap, slice_get}
 use Rattle.epoch_store.specs.Reads.{line_if}
 use Rattle.epoch_store.specs.Stores.{View}
-use Rattle.archive_core.proofs.ByIndex.{line_kept}
+use Rattle.archive_core.proofs.ByIndex.{line-kept}
 use Rattle.archive_core.proofs.archive.DiskArchive.entry.Goals as goal
 
 pub returns : goal.returns
-returns c = λ a keeps. c.entry.ensures ∙ ap (λ (v : View). line_if (slice_get v.entries c.args.index)) c.self.view_is ∙ line_kept c.args.self.now a c.args.index keeps
+returns c = λ a keeps. c.entry.ensures ∙ ap (λ (v : View). line_if (slice_get v.entries c.args.index)) c.self.view_is ∙ line-kept c.args.self.now a c.args.index keeps
