@@ -56,7 +56,7 @@ other_blob v epoch seen r number next apart wanted =
     apart (ap (λ (s : Record). s.blob) (found_is (slice_get v.records (message_count v.entries)) r want next wanted.next))
 
 -- The item at an index of a list.
-got : (xs : List Record) (i : ℕ) (r : Record) → i < length xs → r ≡ get_or xs i r → slice_get xs i ≡ Some r
+pub got : {X : Type 0} (xs : List X) (i : ℕ) (r : X) → i < length xs → r ≡ get_or xs i r → slice_get xs i ≡ Some r
 got [] i r less is = absurd (omega (arith, less))
 got (x ∷ xs) zero r less is = ap Some (sym is)
 got (x ∷ xs) (suc i) r less is = got xs i r (omega (arith, less)) is

@@ -108,9 +108,10 @@ Apart text es = AllByRecursion (λ (e : Entry). own_id text ≢ own_id e.text) e
 pub apart_by : (es : List Entry) (text : List ℕ) → has_own es (own_of text) ≡ false → Apart text es
 apart_by [] text none = tt
 apart_by (e ∷ es) text none =
-    let both = or_false (bytes_eq (own_of text) (own_of e.text)) (has_own es (own_of text)) none in
-    (λ same. let yes_it = bytes_yes (own_of text) (own_of e.text) (ap (λ (o : Option (List ℕ)). unwrap_or o []) same) in let wrong : true ≡ false = sym yes_it ∙ both.0 in cc,
-    apart_by es text both.1)
+    let both = or_false (bytes_eq (own_of text) (own_of e.text)) (has_own es (own_of text)) none in (
+      λ same. let yes_it = bytes_yes (own_of text) (own_of e.text) (ap (λ (o : Option (List ℕ)). unwrap_or o []) same) in let wrong : true ≡ false = sym yes_it ∙ both.0 in cc,
+      apart_by es text both.1,
+    )
 
 pub none_own : (es : List Entry) (text : List ℕ) → IsStorageText text → AllByRecursion IsEntry es → Apart text es → has_own es (own_of text) ≡ false
 none_own [] text storage valid apart = refl

@@ -10,6 +10,7 @@ mod Sets
 mod KnownLive
 mod Firsts
 mod Joins
+mod Knowing
 mod Kept
 pub mod UniqueRoots
 mod UniqueEntries
@@ -29,3 +30,4 @@ mod Recovered
 mod Reopening
 mod WholeEpochs
 mod Settles
+mod Comparing

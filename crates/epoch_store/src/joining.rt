@@ -11,7 +11,10 @@ ghost use Rattle.epoch_store.specs.Joined.{Wants, JoinsOne, AreBefore, ComparesT
 ghost use Rattle.epoch_store.specs.declared.known.JoinRefusal.{JoinRefusal};
 
 use crate::entries::StoredEntry;
-use crate::known::{JoinRefusal, Known, Unmatched, add_first, add_id, add_number, drop_id, known_of_none, take_number};
+use crate::known::{
+    JoinRefusal, Known, Unmatched, add_first, add_id, add_number, drop_id, known_of_none,
+    take_number,
+};
 use crate::reads::read_text;
 use arch_base::NoMemory;
 use arch_model::TextRefusal;
@@ -320,7 +323,13 @@ fn seen_text<D: Disk>(
         Some(place) => place.gen_,
         None => 0,
     };
-    match read_text(alloc, disk, epoch_file(epoch, gen_), seen.text_at, seen.size) {
+    match read_text(
+        alloc,
+        disk,
+        epoch_file(epoch, gen_),
+        seen.text_at,
+        seen.size,
+    ) {
         Ok(text) => Ok(text),
         Err(TextRefusal::DiskFault) => Err(JoinRefusal::DiskFault),
         // A read finds no damage.

@@ -94,10 +94,7 @@ pub(crate) fn add_number(
 }
 
 /// Removes the number of a live entry with a blob id, and returns it.
-pub(crate) fn take_number(
-    numbers: &mut BTreeMap<[u8; 20], u32>,
-    blob: &ObjectId,
-) -> Option<u32>
+pub(crate) fn take_number(numbers: &mut BTreeMap<[u8; 20], u32>, blob: &ObjectId) -> Option<u32>
     ensures found { result ≡ value_in numbers.old blob.now.0 }
     ensures left { (q : List ℕ) → value_in numbers.new q
         ≡ (if bytes_eq q blob.now.0 then None else value_in numbers.old q) }
