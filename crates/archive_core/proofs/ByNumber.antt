@@ -308,8 +308,8 @@ inside-message v w n i same at = subst (λ (u : View). i < length u.entries) (sy
 
 -- The text of the entry that is a live message is the text of its number.
 module _ (v : View) (a : Archive) (keeps : Keeps v a) (n i : ℕ) (at : IsLiveAt v.entries n i) where
-  entry_text : (text : List ℕ) → text_if (slice_get a.entries i) ≡ Some text → text_of (live a.entries) n ≡ Some text
-  entry_text text read =
+  pub entry-text : (text : List ℕ) → text_if (slice_get a.entries i) ≡ Some text → text_of (live a.entries) n ≡ Some text
+  entry-text text read =
       let found = kept-at [] a.entries i at.message.entry (ap (λ (es : List StoredEntry). slice_get es i) (sym keeps.kept) ∙ at.message.there) in
       let e : Entry = found.entry in
       let number_is : e.number ≡ n = ap (λ (s : StoredEntry). s.number) (sym found.kept.1) ∙ at.message.number_is in
@@ -320,7 +320,7 @@ module _ (v : View) (a : Archive) (keeps : Keeps v a) (n i : ℕ) (at : IsLiveAt
       subst (λ (m : ℕ). text_of (live a.entries) m ≡ Some e.text) number_is shown ∙ sym (ap text_if found.there) ∙ read
 
   pub text-gives : (old new : List ℕ) (r : Result Unit TextRefusal) → GivesTextOf a i old new r → GivesTextIn (live a.entries) n old new r
-  text-gives old new (Ok done) given = (given.0, entry_text given.0 given.1, given.2)
+  text-gives old new (Ok done) given = (given.0, entry-text given.0 given.1, given.2)
   text-gives old new (Err (Damaged named found)) given = given
   text-gives old new (Err DiskFault) given = tt
   text-gives old new (Err NoMemory) given = tt

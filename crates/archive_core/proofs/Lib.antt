@@ -7,4 +7,5 @@ mod Verdicts
 mod Openings
 mod ByNumber
 mod ByIndex
+mod Removing
 pub mod Engines

@@ -1,21 +1,31 @@
 -- The verdict on the delivery of a message to an archive on a disk.
-use Rattle.std.specs.Prelude.{◌≡◌, ◌≤◌, ℕ, false, List, [], length, Option, Some, None, Result, Ok, Err, refl}
+use Rattle.std.specs.Prelude.{◌≡◌, ◌≤◌, ℕ, Bool, true, false, List, [], length, Option, Some, None, Result, Ok, Err, if◌then◌else◌, refl}
+use Rattle.std.specs.Str.{bytes_eq}
 use Rattle.std.proofs.Common.{◌∙◌, sym, ap, subst, arith}
+use Rattle.std.proofs.lemmas.Slice.Eq.{bytes_eq-Decides}
 use Rattle.arch_base.specs.declared.config.Config.{Config}
 use Rattle.arch_base.specs.declared.ids.Id20.{Id20}
 use Rattle.git_objects.specs.Objects.{blob_id_of}
-use Rattle.mail_reader.specs.Ids.{own_id}
 use Rattle.arch_model.specs.Archives.{Archive, live, blob_number}
-use Rattle.arch_judge.specs.Judging.{IsKnownBy, MayCome, MayBeKept, MayTake, TakesThis, IsForDelivery}
-use Rattle.arch_judge.specs.Indexes.{owner_in}
+use Rattle.arch_model.specs.Shelves.{blob_text}
+use Rattle.arch_model.specs.Delivery.{delivered, delivered_kept, collision}
+use Rattle.arch_model.proofs.Owners.{collision-alone, collision-first}
+use Rattle.arch_model.specs.declared.text_refusal.TextRefusal.{TextRefusal}
+use Rattle.arch_model.specs.declared.text_refusal.TextRefusal.TheVariants as reading
+use Rattle.arch_judge.specs.Judging.{IsKnownBy, Judges, Compares, unless_same, MayCome, MayBeKept, TakesThis, TakesSame, IsForDelivery}
+use Rattle.arch_judge.specs.Indexes.{owner_in, number_in}
 use Rattle.arch_judge.proofs.Endings.{live-few}
 use Rattle.arch_judge.specs.declared.index.Index.{Index}
 use Rattle.arch_judge.specs.declared.judging.Verdict.{Verdict}
 use Rattle.arch_judge.specs.declared.judging.Verdict.TheVariants.{Take, Compare, Refuse}
 use Rattle.arch_model.specs.declared.answer.Answer.{Answer}
 use Rattle.arch_model.specs.declared.answer.Answer.TheVariants as answer
-use Rattle.epoch_store.specs.Stores.{View, Accepts, Keeps}
+use Rattle.epoch_store.specs.Reads.{GivesTextOf}
+use Rattle.epoch_store.specs.Stores.{View, Keeps}
+use Rattle.archive_core.specs.Commands.{ReadsMessage, JudgesRead, IsAlone, unread_answer}
+use Rattle.archive_core.specs.Numbers.{IsMessageAt}
 use Rattle.archive_core.specs.Kept.{IndexesStored, IsNewTo, MayGoIn, TakesWhatMay}
+use Rattle.archive_core.proofs.ByIndex.{blob-read}
 use Rattle.archive_core.proofs.Stored.{stored-length}
 use Rattle.archive_core.proofs.Indexes.{are-of, index-of_kept, new-to}
 
@@ -59,3 +69,74 @@ module _ (v : View) (config : Config) (index : Index) (next : ℕ) (indexed : In
         new_id = fresh;
         blob_is = may.comes.blob_is;
       }
+
+-- What is judged is judged where a read may fail, too.
+pub judges-read : (a : Archive) (bytes : List ℕ) (verdict : Verdict) → Judges a bytes verdict → JudgesRead a bytes verdict
+judges-read a bytes (Take text blob number) is = is
+judges-read a bytes (Compare text blob number) is = is
+judges-read a bytes (Refuse answer.NoMemory) is = is
+judges-read a bytes (Refuse (answer.Duplicate number)) is = is
+judges-read a bytes (Refuse answer.NoFields) is = is
+judges-read a bytes (Refuse (answer.TooLarge len)) is = is
+judges-read a bytes (Refuse (answer.Full max)) is = is
+judges-read a bytes (Refuse (answer.Collision number)) is = is
+judges-read a bytes (Refuse answer.IsMirror) is = is
+judges-read a bytes (Refuse (answer.Ok number id)) is = is
+judges-read a bytes (Refuse (answer.NotLive number)) is = is
+judges-read a bytes (Refuse (answer.NoText number)) is = is
+judges-read a bytes (Refuse answer.DiskFault) is = tt
+judges-read a bytes (Refuse (answer.Damaged file at)) is = is
+
+-- A text that wasn't read decides nothing.
+pub unread-judges : (a : Archive) (bytes : List ℕ) (number : ℕ) (reply : Answer) → ReadsMessage a number (Err reply) → JudgesRead a bytes (Refuse reply)
+unread-judges a bytes number answer.NoMemory is = tt
+unread-judges a bytes number answer.DiskFault is = tt
+unread-judges a bytes number (answer.Duplicate n) is = absurd is
+unread-judges a bytes number answer.NoFields is = absurd is
+unread-judges a bytes number (answer.TooLarge len) is = absurd is
+unread-judges a bytes number (answer.Full max) is = absurd is
+unread-judges a bytes number (answer.Collision n) is = absurd is
+unread-judges a bytes number answer.IsMirror is = absurd is
+unread-judges a bytes number (answer.Ok n id) is = absurd is
+unread-judges a bytes number (answer.NotLive n) is = absurd is
+unread-judges a bytes number (answer.NoText n) is = absurd is
+unread-judges a bytes number (answer.Damaged file at) is = absurd is
+
+-- The text that was read is that of the blob ids of its message, and an error isn't damage.
+pub reads-message : (v : View) (a : Archive) (number index : ℕ) (text : List ℕ) → Keeps v a → IsMessageAt v.entries number index → GivesTextOf a index [] text (Ok tt) → ReadsMessage a number (Ok text)
+reads-message v a number index text keeps at given blob first = blob-read v a blob number index text keeps first at (given.1 ∙ ap Some (sym given.2))
+
+pub refuses-message : (v : View) (a : Archive) (number index : ℕ) (old new : List ℕ) (why : TextRefusal) (reply : Answer) → reply ≡ unread_answer v index why → GivesTextOf a index old new (Err why) → ReadsMessage a number (Err reply)
+refuses-message v a number index old new reading.DiskFault reply is given = subst (λ (r : Answer). ReadsMessage a number (Err r)) (sym is) tt
+refuses-message v a number index old new reading.NoMemory reply is given = subst (λ (r : Answer). ReadsMessage a number (Err r)) (sym is) tt
+refuses-message v a number index old new (reading.Damaged named found) reply is given = absurd given
+
+-- The texts are compared as the definition has it.
+pub compares : (v : View) (a : Archive) (bytes text kept : List ℕ) (blob : Id20) (number : ℕ) → Keeps v a → Compares a bytes text blob number → ReadsMessage a number (Ok kept) → (moment : ℕ) → delivered a bytes moment ≡ delivered_kept a text moment (unless_same text kept number)
+compares v a bytes text kept blob number keeps decides reads moment = decides.decides keeps.valid.blobs kept (reads blob.0 decides.first) moment
+
+-- No other text has the blob id of one that is taken: no entry has it, or the first that has it has the
+-- same text.
+pub alone-new : (v : View) (a : Archive) (index : Index) (text : List ℕ) (blob : Id20) → Keeps v a → IndexesStored v.entries index → blob ≡ blob_id_of text → number_in index.blobs blob.0 ≡ None → collision a.entries text ≡ None
+alone-new v a index text blob keeps indexed blob_is none =
+    collision-alone a.entries text
+    (subst (λ (i : Id20). blob_number a.entries i.0 ≡ None) blob_is (sym ((index-of_kept v a index keeps indexed).blobs blob.0) ∙ none))
+
+pub alone-same : (v : View) (a : Archive) (config : Config) (index : Index) (next : ℕ) (text kept : List ℕ) (blob : Id20) (number : ℕ) (verdict : Verdict) → Keeps v a → IndexesStored v.entries index → blob ≡ blob_id_of text → number_in index.blobs blob.0 ≡ Some number → ReadsMessage a number (Ok kept)
+    → TakesThis config next text blob verdict → TakesSame text kept verdict → IsAlone a verdict
+alone-same v a config index next text kept blob number (Take taken named n) keeps indexed blob_is known reads this same =
+    let first : blob_number a.entries blob.0 ≡ Some number = sym ((index-of_kept v a index keeps indexed).blobs blob.0) ∙ known in
+    let at_text : blob_number a.entries (blob_id_of text).0 ≡ Some number = subst (λ (i : Id20). blob_number a.entries i.0 ≡ Some number) blob_is first in
+    let read : blob_text a.entries (blob_id_of text).0 ≡ Some kept = reads (blob_id_of text).0 at_text in
+    let equal : bytes_eq text kept ≡ true = (bytes_eq-Decides text kept).1 (sym same) in
+    subst (λ (t : List ℕ). collision a.entries t ≡ None) (sym this.0)
+    (collision-first a.entries text kept number keeps.valid.blobs at_text read ∙ ap (λ (t : Bool). if t then None else Some number) equal)
+alone-same v a config index next text kept blob number (Compare other named n) keeps indexed blob_is known reads this same = absurd this
+alone-same v a config index next text kept blob number (Refuse reply) keeps indexed blob_is known reads this same = tt
+
+-- A text that was compared may go in.
+pub compared-taken : (v : View) (config : Config) (index : Index) (next : ℕ) (text : List ℕ) (blob : Id20) (verdict : Verdict) → IndexesStored v.entries index → config ≡ v.root.config → next ≡ v.root.next → MayCome config index text blob → TakesThis config next text blob verdict → TakesWhatMay v verdict
+compared-taken v config index next text blob (Take took named number) indexed config_is next_is may this =
+    subst (λ (t : List ℕ). MayGoIn v t named) (sym this.0) (subst (λ (i : Id20). MayGoIn v text i) (sym this.1) (taken v config index next indexed config_is next_is text blob number (this.2 index may)))
+compared-taken v config index next text blob (Compare other named number) indexed config_is next_is may this = absurd this
+compared-taken v config index next text blob (Refuse reply) indexed config_is next_is may this = for-delivery v reply this

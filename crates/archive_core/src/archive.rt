@@ -262,8 +262,24 @@ impl DiskArchive {
     fn remove<D: Disk>(&mut self, disk: &mut D, number: u32, moment: u64) -> Answer
         requires moment { moment ≤ last_moment }
         requires sizes { WhereTold (HasSizes self.old) (D.content disk.old) }
-        ensures taken { TakesCommand D.content D.moment D.left_since D.faults D.reads disk.old
-            disk.new self.old self.new (λ a. removed a number moment) result }
+        ensures any_moment { (a : Archive) (cache : List ℕ)
+            → IsStoreWith self.old cache a (D.content disk.old)
+            → self.old.root.sequence + 1 < 2 ^ 64
+            → LeavesOnly D.moment D.left_since disk.old disk.new
+            (RecoversEitherWith cache a (removed a number moment).archive) }
+        ensures done { (a : Archive) (cache : List ℕ)
+            → IsStoreWith self.old cache a (D.content disk.old)
+            → self.old.root.sequence + 1 < 2 ^ 64
+            → DoneBy self.new cache a (removed a number moment) result (D.content disk.new) }
+        ensures settled { OnDone result (WhereTold IsSettled (D.content disk.new)) }
+        ensures goes_on { OnDone result (GoesOn self.old.root self.new.root) }
+        ensures slot { OnDone result (self.new.slot ≡ 1 - self.old.slot) }
+        ensures same { OnRefusal result (self.new ≡ self.old) }
+        ensures untouched { OnRefusal result (UnlessFault result (OnlyLooks D.content D.moment D.left_since disk.old disk.new)) }
+        ensures sizes { UnlessFault result (WhereTold (HasSizes self.new) (D.content disk.new)) }
+        ensures cause { RoseIf (result ≡ Answer.DiskFault) (D.faults disk.old) (D.faults disk.new) }
+        ensures for_command { IsForCommand result }
+        ensures count { ReadsOnce (D.reads disk.old) (D.reads disk.new) }
     {
         law_of_stores();
         if self.config().mirror {

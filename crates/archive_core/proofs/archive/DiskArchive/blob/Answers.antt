@@ -5,8 +5,8 @@ use Rattle.archive_core.proofs.ByNumber.{inside-message}
 use Rattle.archive_core.proofs.Standing.{store_keeps}
 use Rattle.archive_core.proofs.archive.DiskArchive.blob.Goals as goal
 
-pub text-requires-clause-there : goal.text-requires-clause-there
-text-requires-clause-there g c = inside-message c.args.self.now c.self.inside.store c.in-Some.number c.in-Some-message_index.index c.self.view_is c.in-Some-message_index.ensures
+pub text-requires : goal.text-requires
+text-requires g c = record { there = inside-message c.args.self.now c.self.inside.store c.in-Some.number c.in-Some-message_index.index c.self.view_is c.in-Some-message_index.ensures }
 
 pub returns-in_default-clause-blob : goal.returns-in_default-clause-blob
 returns-in_default-clause-blob g c = λ a cache own.

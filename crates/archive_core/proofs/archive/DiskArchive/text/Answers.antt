@@ -4,8 +4,8 @@ use Rattle.archive_core.proofs.ByNumber.{inside-message, text-gives, text-kept, 
 use Rattle.archive_core.proofs.Standing.{store_keeps}
 use Rattle.archive_core.proofs.archive.DiskArchive.text.Goals as goal
 
-pub text-requires-clause-there : goal.text-requires-clause-there
-text-requires-clause-there g c = inside-message c.args.self.now c.self.inside.store c.args.n c.in-Some.index c.self.view_is c.in-Some.ensures.known.message
+pub text-requires : goal.text-requires
+text-requires g c = record { there = inside-message c.args.self.now c.self.inside.store c.args.n c.in-Some.index c.self.view_is c.in-Some.ensures.known.message }
 
 pub returns-in-None-clause-kept : goal.returns-in-None-clause-kept
 returns-in-None-clause-kept g c = wanting-kept c.args.self.now.entries c.args.n c.args.into.now c.requires.live

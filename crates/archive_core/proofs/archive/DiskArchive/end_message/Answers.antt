@@ -1,0 +1,60 @@
+use Rattle.std.proofs.Common.{◌≡◌, ◌+◌, ◌<◌, ◌∙◌, sym, ap, subst, false, true, List, length, Some, refl}
+use Rattle.std.proofs.lemmas.Option.{slice_get_within}
+use Rattle.disk_model.specs.Disk.{LeavesOnly}
+use Rattle.arch_model.specs.Archives.{Archive, with_deletion}
+use Rattle.arch_model.specs.Delivery.{Done, removed, new_epoch}
+use Rattle.arch_model.specs.declared.answer.Answer.TheVariants as answer
+use Rattle.git_objects.specs.Objects.{blob_id_of}
+use Rattle.arch_base.specs.declared.ids.Id20.{Id20}
+use Rattle.epoch_store.specs.declared.entries.StoredEntry.{StoredEntry}
+use Rattle.epoch_store.specs.Stores.{View, IsStoreWith, RecoversEitherWith}
+use Rattle.archive_core.specs.Kept.{IndexesStored}
+use Rattle.archive_core.specs.Placing.{message_places, ends_place}
+use Rattle.archive_core.specs.declared.placing.MessagePlace.{MessagePlace}
+use Rattle.archive_core.proofs.Indexes.{indexes-ended}
+use Rattle.archive_core.proofs.Removing.{named-at, removed-is, places-ended, written-back}
+use Rattle.archive_core.proofs.Standing.{store_keeps}
+use Rattle.archive_core.proofs.archive.DiskArchive.end_message.Goals as goal
+
+pub is_named-requires : goal.is_named-requires
+is_named-requires g c = record { there = slice_get_within c.args.self.now.entries c.args.index c.requires.live.message.entry c.requires.live.message.there }
+
+pub returns-then-not-is_named-clause-any_moment : goal.returns-then-not-is_named-clause-any_moment
+returns-then-not-is_named-clause-any_moment g c = λ a cache store room shown.
+    absurd (c.if-not-is_named.ensures.other refl (named-at c.args.self.now a c.args.number c.args.index c.args.text.now (store_keeps c.args.self.now cache a (g.D.Disk.content c.args.disk.now) store) c.requires.live shown))
+
+pub returns-then-not-is_named-clause-done : goal.returns-then-not-is_named-clause-done
+returns-then-not-is_named-clause-done g c = λ a cache store room shown.
+    absurd (c.if-not-is_named.ensures.other refl (named-at c.args.self.now a c.args.number c.args.index c.args.text.now (store_keeps c.args.self.now cache a (g.D.Disk.content c.args.disk.now) store) c.requires.live shown))
+
+pub invariant_of-self : goal.invariant_of-self
+invariant_of-self g c =
+    let ended : ends_place c.args.number c.as_mut_slice.result.now ≡ ends_place c.args.number (message_places 0 c.self.inside.store.entries) = ap (ends_place c.args.number) (c.as_mut_slice.ensures.value ∙ c.self.invariant.1) in
+    let long : c.self.inside.places.len ≡ length c.end_place.new.places = sym (c.end_place.auto.places ∙ c.as_mut_slice.ensures.len) in (
+      indexes-ended c.self.inside.store c.remove_entry.new.self c.self.inside.index c.end_text.new.index c.args.number c.args.text.now c.self.invariant.0 c.end_text.ensures c.in-Ok.ensures.ended,
+      written-back c.end_place.new.places _ c.self.inside.places.len long ∙ c.end_place.ensures ∙ ended ∙ places-ended c.self.inside.store c.remove_entry.new.self c.args.number c.args.text.now c.in-Ok.ensures.ended,
+    )
+
+pub returns-in-Ok-clause-any_moment : goal.returns-in-Ok-clause-any_moment
+returns-in-Ok-clause-any_moment g c = λ a cache store room shown.
+    let k = g.D.Disk.content c.args.disk.now in
+    let is = removed-is c.args.self.now a c.args.number c.args.moment c.args.text.now (store_keeps c.args.self.now cache a k store) c.requires.writable shown in
+    subst (λ (b : Archive). LeavesOnly g.D.Disk.moment g.D.Disk.left_since c.args.disk.now c.remove_entry.new.disk (RecoversEitherWith cache a b)) (sym (ap (λ (d : Done). d.archive) is))
+    (c.in-Ok.ensures.any_moment a cache (subst (λ (v : View). IsStoreWith v cache a k) (sym c.self.view_is) store) (subst (λ (v : View). v.root.sequence + 1 < 18446744073709551616) (sym c.self.view_is) room) shown)
+
+pub returns-in-Ok-clause-done : goal.returns-in-Ok-clause-done
+returns-in-Ok-clause-done g c = λ a cache store room shown.
+    let k = g.D.Disk.content c.args.disk.now in
+    let is = removed-is c.args.self.now a c.args.number c.args.moment c.args.text.now (store_keeps c.args.self.now cache a k store) c.requires.writable shown in
+    record {
+      answer_is = ap (λ (d : Done). d.answer) is ∙ ap (λ (i : Id20). answer.Ok c.args.number i) (sym c.blob_id.ensures.value);
+      store = subst (λ (b : Archive). IsStoreWith c.remove_entry.new.self cache b (g.D.Disk.content c.remove_entry.new.disk)) (sym (ap (λ (d : Done). d.archive) is))
+          (c.in-Ok.ensures.done a cache (subst (λ (v : View). IsStoreWith v cache a k) (sym c.self.view_is) store) (subst (λ (v : View). v.root.sequence + 1 < 18446744073709551616) (sym c.self.view_is) room) shown);
+    }
+
+pub returns-in-Err-clause-any_moment : goal.returns-in-Err-clause-any_moment
+returns-in-Err-clause-any_moment g c = λ a cache store room shown.
+    let k = g.D.Disk.content c.args.disk.now in
+    let is = removed-is c.args.self.now a c.args.number c.args.moment c.args.text.now (store_keeps c.args.self.now cache a k store) c.requires.writable shown in
+    subst (λ (b : Archive). LeavesOnly g.D.Disk.moment g.D.Disk.left_since c.args.disk.now c.remove_entry.new.disk (RecoversEitherWith cache a b)) (sym (ap (λ (d : Done). d.archive) is))
+    (c.in-Err.ensures.any_moment a cache (subst (λ (v : View). IsStoreWith v cache a k) (sym c.self.view_is) store) (subst (λ (v : View). v.root.sequence + 1 < 18446744073709551616) (sym c.self.view_is) room) shown)
