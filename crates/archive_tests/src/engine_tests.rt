@@ -25,7 +25,7 @@ fn made(alloc: Global, disk: MemDisk) -> Result<Engine<MemDisk>, InitRefusal> {
 }
 
 /// Opens the archive on a disk.
-fn opened(alloc: Global, disk: MemDisk) -> Result<Engine<MemDisk>, OpenRefusal> {
+pub(crate) fn opened(alloc: Global, disk: MemDisk) -> Result<Engine<MemDisk>, OpenRefusal> {
     match Engine::open(alloc, disk) {
         Ok(engine) => Ok(engine),
         Err(NotOpened { disk: _, why }) => Err(why),
@@ -39,13 +39,13 @@ fn deliver<K: Keep>(keep: &mut K, bytes: &[u8]) -> Result<Answer, OpenRefusal> {
 }
 
 /// Returns the least number with a message that is at least this one.
-fn live_from<K: Keep>(keep: &mut K, n: u32) -> Result<Option<u32>, OpenRefusal> {
+pub(crate) fn live_from<K: Keep>(keep: &mut K, n: u32) -> Result<Option<u32>, OpenRefusal> {
     keep.fresh()?;
     Ok(keep.live_from(n))
 }
 
 /// Appends the text of that number.
-fn put_text<K: Keep>(keep: &mut K, n: u32, into: &mut Bytes) -> Result<bool, Fail> {
+pub(crate) fn put_text<K: Keep>(keep: &mut K, n: u32, into: &mut Bytes) -> Result<bool, Fail> {
     keep.fresh()?;
     match keep.live_from(n) {
         None => Ok(false),
@@ -57,7 +57,7 @@ fn put_text<K: Keep>(keep: &mut K, n: u32, into: &mut Bytes) -> Result<bool, Fai
 }
 
 /// Appends the bytes of an epoch.
-fn put_epoch<K: Keep>(keep: &mut K, epoch: u32, into: &mut Bytes) -> Result<bool, Fail> {
+pub(crate) fn put_epoch<K: Keep>(keep: &mut K, epoch: u32, into: &mut Bytes) -> Result<bool, Fail> {
     keep.fresh()?;
     Ok(keep.epoch_bytes(epoch, into)?)
 }
@@ -171,7 +171,7 @@ fn counts_two<K: Keep>(keep: &mut K) -> Result<bool, OpenRefusal> {
 }
 
 /// Returns the entry of a keeper at an index, without its text.
-fn line<K: Keep>(keep: &mut K, index: u64) -> Result<Option<EntryLine>, OpenRefusal> {
+pub(crate) fn line<K: Keep>(keep: &mut K, index: u64) -> Result<Option<EntryLine>, OpenRefusal> {
     keep.fresh()?;
     Ok(keep.entry(index))
 }
@@ -204,7 +204,12 @@ fn put_blob<K: Keep>(keep: &mut K, hex: &[u8], into: &mut Bytes) -> Result<bool,
 }
 
 /// Returns whether the text of a blob id is this one.
-fn blob_is<K: Keep>(alloc: Global, keep: &mut K, hex: &[u8], wanted: &[u8]) -> Result<bool, Fail> {
+pub(crate) fn blob_is<K: Keep>(
+    alloc: Global,
+    keep: &mut K,
+    hex: &[u8],
+    wanted: &[u8],
+) -> Result<bool, Fail> {
     let mut text = Bytes::new(alloc);
     let found = put_blob(keep, hex, &mut text)?;
     Ok(found && text.as_slice() == wanted)

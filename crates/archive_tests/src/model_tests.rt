@@ -205,18 +205,14 @@ fn a_mirror_takes_no_delivery(rt: HostRuntime) {
 }
 
 /// Returns the length of an epoch in bytes, or `None` if it has no entry.
-pub(crate) fn epoch_len(
-    alloc: Global,
-    archive: &MemArchive,
-    epoch: u32,
-) -> Result<Option<usize>, NoMemory> {
+fn epoch_len(alloc: Global, archive: &MemArchive, epoch: u32) -> Result<Option<usize>, NoMemory> {
     let mut bytes = Bytes::new(alloc);
     let found = archive.push_epoch(epoch, &mut bytes)?;
     Ok(found.then_some(bytes.as_slice().len()))
 }
 
 /// Returns whether the first three epochs have these lengths.
-pub(crate) fn has_epochs(
+fn has_epochs(
     alloc: Global,
     archive: &MemArchive,
     lengths: &[Option<usize>; 3],

@@ -1,34 +1,60 @@
-//! Removals in memory, answer by answer, against entries whose ids git worked out.
+//! Removals in memory and on a disk, answer by answer, against entries whose ids git worked out.
 use crate::accepted::accepted;
-use crate::model_tests::{epoch_len, has_epochs};
-use arch_base::{Bytes, id_of_hex};
-use arch_model::{Answer, Command, EntryLine, Shelf, is_live};
-use epoch_tests::{FIRST, FIRST_COMMIT, FIRST_ID, MOMENT, OTHER, SECOND, SECOND_ID};
+use crate::engine_tests::{blob_is, line, live_from, opened, put_epoch, put_text};
+use arch_base::{Bytes, LAST_MOMENT, id_of_hex};
+use arch_model::{Answer, Command, EntryLine, Keep, OpenRefusal};
+use archive_core::{Engine, NotMade};
+use disk_model::MemDisk;
+use epoch_store::InitRefusal;
+use epoch_tests::{
+    FIRST, FIRST_COMMIT, FIRST_ID, LATER, MOMENT, OTHER, REMOVAL_COMMIT, SECOND, SECOND_ID,
+    empty_disk,
+};
 use git_objects::EntryKind;
-use mem_archive::MemArchive;
 use std::alloc::Global;
 use std::test::Fail;
-use store_tests::in_memory;
-
-/// The moment of the removal.
-const LATER: u64 = MOMENT + 100;
+use store_tests::{in_memory, settings};
 
 /// The moment of a delivery after the removal.
 const LAST: u64 = MOMENT + 200;
 
-/// The commit of the removal of the first mail at `LATER`, after that of the mail.
-const REMOVAL_COMMIT: &[u8] = b"9bd6679b0a84e8d56dfbfdbd3183a1c7c5faeef3";
-
 /// The commit of the first mail at `LAST`, after that of its removal.
 const AGAIN_COMMIT: &[u8] = b"935153bbca041d2b9730dbb3b5a3c993a9b6b46c";
 
+/// The blob id of the mail with another body, as it is kept where its id is free.
+const UNCHANGED_ID: &[u8] = b"939be2d6981fbe2900b8283be5936e32bb962cef";
+
+/// Makes an archive on a disk.
+fn on_disk(alloc: Global, limit: u64, mirror: bool) -> Result<Engine<MemDisk>, InitRefusal>
+    requires low { 1 ≤ limit }
+    requires high { limit ≤ 1099511627776 }
+{
+    match settings(limit, 10, mirror) {
+        None => Err(InitRefusal::NoMemory),
+        Some(config) => match Engine::make(alloc, empty_disk(alloc), &config) {
+            Ok(engine) => Ok(engine),
+            Err(NotMade { disk: _, why }) => Err(why),
+        },
+    }
+}
+
+/// Returns the answer to a command.
+fn answer<K: Keep>(
+    keep: &mut K,
+    command: &Command<'_>,
+    moment: u64,
+) -> Result<Answer, OpenRefusal> {
+    keep.fresh()?;
+    Ok(keep.command(command, moment.min(LAST_MOMENT)))
+}
+
 /// Delivers the first mail and removes it, and returns whether both answers are those of its number
 /// and blob.
-fn comes_and_goes(archive: &mut MemArchive) -> bool {
+fn comes_and_goes<K: Keep>(keep: &mut K) -> Result<bool, OpenRefusal> {
     let first = accepted(1, FIRST_ID);
-    let came = archive.command(&Command::Deliver(FIRST), MOMENT);
-    let went = archive.command(&Command::Remove(1), LATER);
-    Some(came) == first && Some(went) == first
+    let came = answer(keep, &Command::Deliver(FIRST), MOMENT)?;
+    let went = answer(keep, &Command::Remove(1), LATER)?;
+    Ok(Some(came) == first && Some(went) == first)
 }
 
 /// Returns whether an entry of the first mail has this kind, number and commit.
@@ -41,126 +67,255 @@ fn is_entry(entry: Option<EntryLine>, kind: EntryKind, number: u32, commit: &[u8
     named && kept && Some(line.commit) == id_of_hex(commit)
 }
 
+/// Returns the length of an epoch in bytes, or `None` if it has no entry.
+fn epoch_len<K: Keep>(alloc: Global, keep: &mut K, epoch: u32) -> Result<Option<usize>, Fail> {
+    let mut bytes = Bytes::new(alloc);
+    let found = put_epoch(keep, epoch, &mut bytes)?;
+    Ok(found.then_some(bytes.as_slice().len()))
+}
+
 /// Returns whether the first mail and its removal are the two entries, in an epoch of 672 bytes.
-fn has_both(alloc: Global, archive: &MemArchive) -> Result<bool, Fail> {
-    let first = is_entry(archive.entry(0), EntryKind::Message, 1, FIRST_COMMIT);
-    let second = is_entry(archive.entry(1), EntryKind::Deletion, 1, REMOVAL_COMMIT);
-    let third = archive.entry(2).is_none();
-    Ok(first && second && third && epoch_len(alloc, archive, 0)? == Some(672))
+fn has_both<K: Keep>(alloc: Global, keep: &mut K) -> Result<bool, Fail> {
+    let first = is_entry(line(keep, 0)?, EntryKind::Message, 1, FIRST_COMMIT);
+    let second = is_entry(line(keep, 1)?, EntryKind::Deletion, 1, REMOVAL_COMMIT);
+    let third = line(keep, 2)?.is_none();
+    let is_long = epoch_len(alloc, keep, 0)? == Some(672);
+    Ok(first && second && third && is_long)
+}
+
+/// Delivers the first mail and removes it, and returns whether the removal is the second entry.
+fn goes<K: Keep>(alloc: Global, keep: &mut K) -> Result<bool, Fail> {
+    let gone = comes_and_goes(keep)?;
+    let both = has_both(alloc, keep)?;
+    Ok(gone && both)
 }
 
 #[test]
 fn a_removal_is_an_entry_of_its_own(rt: HostRuntime) -> Result<(), Fail> {
-    let mut archive = in_memory(rt.alloc(), 1000, 10, false).ok_or("settings")?;
-    assert!(rt; comes_and_goes(&mut archive));
-    assert!(rt; has_both(rt.alloc(), &archive)?);
+    let alloc = rt.alloc();
+    let mut memory = in_memory(alloc, 1000, 10, false).ok_or("settings")?;
+    assert!(rt; goes(alloc, &mut memory)?);
+    let mut engine = on_disk(alloc, 1000, false)?;
+    assert!(rt; goes(alloc, &mut engine)?);
     Ok(())
 }
 
-/// Delivers the first mail again, and returns whether it is the third entry, in an epoch of 1,028
-/// bytes, under a number of its own.
-fn comes_again(alloc: Global, archive: &mut MemArchive) -> Result<bool, Fail> {
-    let again = Some(archive.command(&Command::Deliver(FIRST), LAST)) == accepted(2, FIRST_ID);
-    let twice = archive.command(&Command::Deliver(FIRST), LAST) == Answer::Duplicate(2);
-    let third = is_entry(archive.entry(2), EntryKind::Message, 2, AGAIN_COMMIT);
-    Ok(again && twice && third && epoch_len(alloc, archive, 0)? == Some(1028))
+/// Delivers the first mail, removes it and delivers it again, and returns whether it is the third
+/// entry, in an epoch of 1,028 bytes, under a number of its own.
+fn comes_again<K: Keep>(alloc: Global, keep: &mut K) -> Result<bool, Fail> {
+    let gone = comes_and_goes(keep)?;
+    let again = Some(answer(keep, &Command::Deliver(FIRST), LAST)?) == accepted(2, FIRST_ID);
+    let twice = answer(keep, &Command::Deliver(FIRST), LAST)? == Answer::Duplicate(2);
+    let third = is_entry(line(keep, 2)?, EntryKind::Message, 2, AGAIN_COMMIT);
+    let is_long = epoch_len(alloc, keep, 0)? == Some(1028);
+    Ok(gone && again && twice && third && is_long)
 }
 
 #[test]
 fn a_removed_text_comes_again(rt: HostRuntime) -> Result<(), Fail> {
-    let mut archive = in_memory(rt.alloc(), 2000, 10, false).ok_or("settings")?;
-    assert!(rt; comes_and_goes(&mut archive));
-    assert!(rt; comes_again(rt.alloc(), &mut archive)?);
+    let alloc = rt.alloc();
+    let mut memory = in_memory(alloc, 2000, 10, false).ok_or("settings")?;
+    assert!(rt; comes_again(alloc, &mut memory)?);
+    let mut engine = on_disk(alloc, 2000, false)?;
+    assert!(rt; comes_again(alloc, &mut engine)?);
     Ok(())
 }
 
+/// Returns whether the text of the first message from a number on is this one.
+fn text_is<K: Keep>(alloc: Global, keep: &mut K, n: u32, wanted: &[u8]) -> Result<bool, Fail> {
+    let mut bytes = Bytes::new(alloc);
+    let found = put_text(keep, n, &mut bytes)?;
+    Ok(found && bytes.as_slice() == wanted)
+}
+
 /// Returns whether a mail with the id of the removed one is kept unchanged, and then removed.
-fn takes_the_id(archive: &mut MemArchive) -> bool {
-    let other = accepted(2, b"939be2d6981fbe2900b8283be5936e32bb962cef");
-    let came = Some(archive.command(&Command::Deliver(OTHER), LAST)) == other;
-    let shown = MemArchive::text(archive, 2) == Some(OTHER);
-    let went = Some(archive.command(&Command::Remove(2), LAST)) == other;
-    came && shown && went
+fn gives_the_id<K: Keep>(alloc: Global, keep: &mut K) -> Result<bool, Fail> {
+    let gone = comes_and_goes(keep)?;
+    let other = accepted(2, UNCHANGED_ID);
+    let came = Some(answer(keep, &Command::Deliver(OTHER), LAST)?) == other;
+    let shown = text_is(alloc, keep, 2, OTHER)?;
+    let went = Some(answer(keep, &Command::Remove(2), LAST)?) == other;
+    Ok(gone && came && shown && went)
 }
 
 #[test]
 fn the_id_of_a_removed_mail_is_free(rt: HostRuntime) -> Result<(), Fail> {
-    let mut archive = in_memory(rt.alloc(), 2000, 10, false).ok_or("settings")?;
-    assert!(rt; comes_and_goes(&mut archive));
-    assert!(rt; takes_the_id(&mut archive));
+    let alloc = rt.alloc();
+    let mut memory = in_memory(alloc, 2000, 10, false).ok_or("settings")?;
+    assert!(rt; gives_the_id(alloc, &mut memory)?);
+    let mut engine = on_disk(alloc, 2000, false)?;
+    assert!(rt; gives_the_id(alloc, &mut engine)?);
     Ok(())
 }
 
 /// Returns whether each of these numbers is not live.
-fn refuses_each(archive: &mut MemArchive, numbers: &[u32]) -> bool {
+fn refuses_each<K: Keep>(keep: &mut K, numbers: &[u32]) -> Result<bool, OpenRefusal> {
     let mut all = true;
     for number in numbers {
-        let answer = archive.command(&Command::Remove(*number), LAST);
-        all = all && answer == Answer::NotLive(*number);
+        let found = answer(keep, &Command::Remove(*number), LAST)?;
+        all = all && found == Answer::NotLive(*number);
     }
-    all
+    Ok(all)
+}
+
+/// Delivers the first mail and removes it, and returns whether no number can be removed then, and
+/// nothing changes.
+fn removes_once<K: Keep>(alloc: Global, keep: &mut K) -> Result<bool, Fail> {
+    let none = refuses_each(keep, &[0, 1])?;
+    let gone = comes_and_goes(keep)?;
+    let each = refuses_each(keep, &[0, 1, 2, u32::MAX])?;
+    let both = has_both(alloc, keep)?;
+    Ok(none && gone && each && both)
 }
 
 #[test]
 fn what_is_not_live_is_not_removed(rt: HostRuntime) -> Result<(), Fail> {
-    let mut archive = in_memory(rt.alloc(), 1000, 10, false).ok_or("settings")?;
-    assert!(rt; comes_and_goes(&mut archive));
-    assert!(rt; refuses_each(&mut archive, &[0, 1, 2, u32::MAX]));
-    assert!(rt; has_both(rt.alloc(), &archive)?);
+    let alloc = rt.alloc();
+    let mut memory = in_memory(alloc, 1000, 10, false).ok_or("settings")?;
+    assert!(rt; removes_once(alloc, &mut memory)?);
+    let mut engine = on_disk(alloc, 1000, false)?;
+    assert!(rt; removes_once(alloc, &mut engine)?);
     Ok(())
 }
 
 #[test]
 fn a_mirror_removes_nothing(rt: HostRuntime) -> Result<(), Fail> {
-    let mut archive = in_memory(rt.alloc(), 1000, 10, true).ok_or("settings")?;
-    assert!(rt; archive.command(&Command::Remove(1), MOMENT) == Answer::IsMirror);
+    let mut memory = in_memory(rt.alloc(), 1000, 10, true).ok_or("settings")?;
+    assert!(rt; answer(&mut memory, &Command::Remove(1), MOMENT)? == Answer::IsMirror);
+    let mut engine = on_disk(rt.alloc(), 1000, true)?;
+    assert!(rt; answer(&mut engine, &Command::Remove(1), MOMENT)? == Answer::IsMirror);
     Ok(())
 }
 
-/// Returns whether the number after a removed one is the only live one.
-fn shows_second_alone(archive: &MemArchive) -> bool {
-    let least = archive.live_from(0) == Some(2) && archive.live_from(3).is_none();
-    let greatest = archive.live_to(9) == Some(2) && archive.live_to(1).is_none();
-    let count = archive.live_count(0, 9) == 1 && archive.live_count(1, 1) == 0;
-    let shown = archive.text(1).is_none() && archive.text(2) == Some(SECOND);
-    least && greatest && count && shown && !is_live(1, archive)
+/// Returns whether 2 is the only live number, by each way of asking.
+fn has_second_alone<K: Keep>(keep: &mut K) -> Result<bool, OpenRefusal> {
+    let least = live_from(keep, 0)? == Some(2) && live_from(keep, 3)?.is_none();
+    keep.fresh()?;
+    let greatest = keep.live_to(9) == Some(2) && keep.live_to(1).is_none();
+    let count = keep.live_count(0, 9) == 1 && keep.live_count(1, 1) == 0;
+    Ok(least && greatest && count && keep.next_number() == 3)
+}
+
+/// Removes the first of two mails, and returns whether the second one alone is shown, and the first
+/// is given by its blob id.
+fn shows_second_alone<K: Keep>(alloc: Global, keep: &mut K) -> Result<bool, Fail> {
+    let gone = comes_and_goes(keep)?;
+    let second = Some(answer(keep, &Command::Deliver(SECOND), LAST)?) == accepted(2, SECOND_ID);
+    let alone = has_second_alone(keep)?;
+    let text = text_is(alloc, keep, 1, SECOND)?;
+    let blob = blob_is(alloc, keep, FIRST_ID, FIRST)?;
+    Ok(gone && second && alone && text && blob)
 }
 
 #[test]
 fn a_removed_number_is_not_shown(rt: HostRuntime) -> Result<(), Fail> {
-    let mut archive = in_memory(rt.alloc(), 2000, 10, false).ok_or("settings")?;
-    assert!(rt; comes_and_goes(&mut archive));
-    let second = archive.command(&Command::Deliver(SECOND), LAST);
-    assert!(rt; Some(second) == accepted(2, SECOND_ID));
-    assert!(rt; shows_second_alone(&archive));
+    let alloc = rt.alloc();
+    let mut memory = in_memory(alloc, 2000, 10, false).ok_or("settings")?;
+    assert!(rt; shows_second_alone(alloc, &mut memory)?);
+    let mut engine = on_disk(alloc, 2000, false)?;
+    assert!(rt; shows_second_alone(alloc, &mut engine)?);
     Ok(())
 }
 
-/// Returns whether the text of a blob id is this one.
-fn blob_is(
-    alloc: Global,
-    archive: &mut MemArchive,
-    hex: &[u8],
-    wanted: &[u8],
-) -> Result<bool, Fail> {
-    let id = id_of_hex(hex).ok_or("no id")?;
-    let mut bytes = Bytes::new(alloc);
-    let found = archive.blob(&id, &mut bytes)?;
-    Ok(found && bytes.as_slice() == wanted)
-}
-
-#[test]
-fn a_removed_text_is_given_by_its_blob_id(rt: HostRuntime) -> Result<(), Fail> {
-    let mut archive = in_memory(rt.alloc(), 1000, 10, false).ok_or("settings")?;
-    assert!(rt; comes_and_goes(&mut archive));
-    assert!(rt; blob_is(rt.alloc(), &mut archive, FIRST_ID, FIRST)?);
-    Ok(())
+/// Delivers the first mail and removes it, and returns whether each is an epoch by itself.
+fn fills_two_epochs<K: Keep>(alloc: Global, keep: &mut K) -> Result<bool, Fail> {
+    let gone = comes_and_goes(keep)?;
+    let zero = epoch_len(alloc, keep, 0)? == Some(316);
+    let one = epoch_len(alloc, keep, 1)? == Some(316);
+    let two = epoch_len(alloc, keep, 2)?.is_none();
+    Ok(gone && zero && one && two)
 }
 
 #[test]
 fn a_removal_goes_to_the_epoch_that_has_room(rt: HostRuntime) -> Result<(), Fail> {
-    let mut archive = in_memory(rt.alloc(), 316, 10, false).ok_or("settings")?;
-    assert!(rt; comes_and_goes(&mut archive));
-    assert!(rt; has_epochs(rt.alloc(), &archive, &[Some(316), Some(316), None])?);
+    let alloc = rt.alloc();
+    let mut memory = in_memory(alloc, 316, 10, false).ok_or("settings")?;
+    assert!(rt; fills_two_epochs(alloc, &mut memory)?);
+    let mut engine = on_disk(alloc, 316, false)?;
+    assert!(rt; fills_two_epochs(alloc, &mut engine)?);
+    Ok(())
+}
+
+/// Commands at successive moments: mails come, go, come again, and are refused.
+const COMMANDS: [Command<'static>; 11] = [
+    Command::Deliver(FIRST),
+    Command::Deliver(SECOND),
+    Command::Deliver(OTHER),
+    Command::Remove(1),
+    Command::Remove(1),
+    Command::Deliver(FIRST),
+    Command::Deliver(OTHER),
+    Command::Remove(3),
+    Command::Remove(9),
+    Command::Remove(4),
+    Command::Deliver(OTHER),
+];
+
+/// Returns whether two archives answer these commands alike.
+fn answer_alike<K: Keep, L: Keep>(keep: &mut K, other: &mut L) -> Result<bool, OpenRefusal> {
+    let mut alike = true;
+    let mut moment = MOMENT;
+    for command in &COMMANDS {
+        let found = answer(keep, command, moment)?;
+        alike = alike && found == answer(other, command, moment)?;
+        moment = moment.saturating_add(100);
+    }
+    Ok(alike)
+}
+
+/// Returns whether two archives have the same entries, of which there are eight.
+fn list_alike<K: Keep, L: Keep>(keep: &mut K, other: &mut L) -> Result<bool, OpenRefusal> {
+    let mut alike = true;
+    for index in 0..10 {
+        let found = line(keep, index)?;
+        alike = alike && found.is_some() == (index < 8);
+        alike = alike && found == line(other, index)?;
+    }
+    Ok(alike)
+}
+
+/// Appends the texts of live numbers, and the bytes of the first epochs.
+fn put_given<K: Keep>(keep: &mut K, into: &mut Bytes) -> Result<(), Fail> {
+    for n in 0..9 {
+        put_text(keep, n, into)?;
+        put_epoch(keep, n, into)?;
+    }
+    Ok(())
+}
+
+/// Returns whether two archives give the same texts and epochs.
+fn give_alike<K: Keep, L: Keep>(alloc: Global, keep: &mut K, other: &mut L) -> Result<bool, Fail> {
+    let mut given = Bytes::new(alloc);
+    let mut wanted = Bytes::new(alloc);
+    put_given(keep, &mut given)?;
+    put_given(other, &mut wanted)?;
+    Ok(given.as_slice() == wanted.as_slice())
+}
+
+/// Opens an archive on a disk, and returns whether it is the other one.
+fn is_opened_alike<K: Keep>(alloc: Global, disk: MemDisk, other: &mut K) -> Result<bool, Fail> {
+    let mut engine = opened(alloc, disk)?;
+    let listed = list_alike(&mut engine, other)?;
+    let given = give_alike(alloc, &mut engine, other)?;
+    Ok(listed && given)
+}
+
+/// Returns whether an archive on a disk answers commands as another one does, and then is that,
+/// also when it is reopened.
+fn is_alike<K: Keep>(alloc: Global, engine: Engine<MemDisk>, other: &mut K) -> Result<bool, Fail> {
+    let mut engine = engine;
+    let answered = answer_alike(&mut engine, other)?;
+    let given = give_alike(alloc, &mut engine, other)?;
+    let again = is_opened_alike(alloc, engine.into_disk(), other)?;
+    Ok(answered && given && again)
+}
+
+#[test]
+fn an_engine_removes_as_the_archive_in_memory_does(rt: HostRuntime) -> Result<(), Fail> {
+    let alloc = rt.alloc();
+    for limit in [316, 700, 5000] {
+        let mut memory = in_memory(alloc, limit, 10, false).ok_or("settings")?;
+        assert!(rt; is_alike(alloc, on_disk(alloc, limit, false)?, &mut memory)?);
+    }
     Ok(())
 }

@@ -7,7 +7,8 @@ mod mails;
 
 pub use disks::{add_entry, cut, empty_disk, failing, write};
 pub use mails::{
-    FIRST, FIRST_COMMIT, FIRST_ID, MOMENT, OTHER, OTHER_ID, SECOND, SECOND_COMMIT, SECOND_ID, THIRD,
+    FIRST, FIRST_COMMIT, FIRST_ID, LATER, MOMENT, OTHER, OTHER_ID, REMOVAL_COMMIT, SECOND,
+    SECOND_COMMIT, SECOND_ID, THIRD,
 };
 
 #[cfg(test)]

@@ -31,5 +31,11 @@ pub const FIRST_COMMIT: &[u8] = b"d621b450ae1fbf27a31c9879d84eb9de5473a8b9";
 /// The commit of the second mail, at `MOMENT`, after that of the first.
 pub const SECOND_COMMIT: &[u8] = b"8465c6e7dc37ed0249ed8b1434a73ffd13973fad";
 
+/// The commit of the removal of the first mail at `LATER`, after that of the mail.
+pub const REMOVAL_COMMIT: &[u8] = b"9bd6679b0a84e8d56dfbfdbd3183a1c7c5faeef3";
+
 /// A moment at which mails are delivered.
 pub const MOMENT: u64 = 1_706_781_700;
+
+/// A later moment, at which a mail is removed.
+pub const LATER: u64 = 1_706_781_800;

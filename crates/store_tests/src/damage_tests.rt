@@ -59,7 +59,11 @@ fn is_refusal(alloc: Global, disk: &mut MemDisk, wanted: &OpenRefusal) -> bool {
 
 /// Opens a disk, and returns whether that is refused as it should be and leaves each file as it
 /// was.
-fn is_refused(alloc: Global, disk: &mut MemDisk, wanted: &OpenRefusal) -> Result<bool, Fail> {
+pub(crate) fn is_refused(
+    alloc: Global,
+    disk: &mut MemDisk,
+    wanted: &OpenRefusal,
+) -> Result<bool, Fail> {
     let before = all_files(alloc, disk)?;
     let refused = is_refusal(alloc, disk, wanted);
     let left = has_files(alloc, disk, &before)?;

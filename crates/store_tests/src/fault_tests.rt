@@ -4,6 +4,7 @@ ghost use Rattle.std.specs.Prelude.{◌≤◌};
 
 use crate::making_tests::{FIRST_EPOCH, MAP, ROOT, append, epoch, make, put};
 use crate::opening_tests::{Change, ENOUGH, Listing, open_since, opened};
+use crate::removal_tests::remove_first;
 use arch_model::OpenRefusal;
 use disk_model::{Disk, DiskFault, MemDisk};
 use epoch_file::StoreRefusal;
@@ -12,8 +13,8 @@ use std::alloc::Global;
 use std::process::Abort;
 use std::test::Fail;
 
-/// Makes an archive and appends both messages to it, up to the first refusal. Returns how many of
-/// these three calls answered `Ok`.
+/// Makes an archive, appends both messages to it and removes the first one, up to the first refusal.
+/// Returns how many of these four calls answered `Ok`.
 fn advance<D: Disk>(alloc: Global, disk: &mut D, limit: u64) -> (u64, Result<(), StoreRefusal>)
     requires low { 1 ≤ limit }
     requires high { limit ≤ 1099511627776 }
@@ -25,9 +26,12 @@ fn advance<D: Disk>(alloc: Global, disk: &mut D, limit: u64) -> (u64, Result<(),
     if let Err(refusal) = put(alloc, disk, &mut store, FIRST) {
         return (1, Err(refusal));
     }
-    match put(alloc, disk, &mut store, SECOND) {
-        Ok(()) => (3, Ok(())),
-        Err(refusal) => (2, Err(refusal)),
+    if let Err(refusal) = put(alloc, disk, &mut store, SECOND) {
+        return (2, Err(refusal));
+    }
+    match remove_first(alloc, disk, &mut store) {
+        Ok(()) => (4, Ok(())),
+        Err(refusal) => (3, Err(refusal)),
     }
 }
 
@@ -39,12 +43,12 @@ fn opened_at_last<D: Disk>(alloc: Global, disk: &mut D) -> Result<Option<Listing
     }
 }
 
-/// Returns whether this many of the three calls answered `Ok`, and after fewer than three the disk
+/// Returns whether this many of the four calls answered `Ok`, and after fewer than four the disk
 /// failed.
 fn is_answer(calls: u64, answer: &Result<(), StoreRefusal>) -> bool {
     let done = answer.is_ok();
     let known = done || *answer == Err(StoreRefusal::DiskFault);
-    known && calls <= 3 && done == (calls == 3)
+    known && calls <= 4 && done == (calls == 4)
 }
 
 /// Returns whether a disk of which one call at most is still to fail has the archive after one
@@ -121,7 +125,7 @@ fn a_fault_leaves_the_archive_before_or_after(rt: HostRuntime) -> Result<(), Fai
 /// Leaves work to an opening: the other slot is shut, two files have tails, and there are files
 /// that no root names.
 fn disturb(disk: &mut MemDisk) -> Result<(), DiskFault> {
-    write(disk, ROOT, 1, b"\0")?;
+    write(disk, ROOT, 0, b"\0")?;
     append(disk, MAP)?;
     append(disk, FIRST_EPOCH)?;
     append(disk, epoch(0, 9))?;
@@ -235,6 +239,6 @@ fn fail_each_opening(rt: &impl Abort, alloc: Global, same: &mut Change) -> Resul
 
 #[test]
 fn an_opening_that_fails_leaves_the_archive(rt: HostRuntime) -> Result<(), Fail> {
-    let mut same = Change::between(rt.alloc(), 316, 3, 3)?;
+    let mut same = Change::between(rt.alloc(), 316, 4, 4)?;
     fail_each_opening(&rt, rt.alloc(), &mut same)
 }

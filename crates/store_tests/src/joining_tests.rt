@@ -1,8 +1,8 @@
 //! Archives whose map and two epochs are written by hand, and what their opening makes of them:
 //! which entries belong to which records.
-ghost use Rattle.std.specs.Prelude.{ℕ, IsTrue, Ok};
+ghost use Rattle.std.specs.Prelude.{ℕ, false, Ok};
 ghost use Rattle.epoch_file.specs.declared.entry.Seen.{Seen};
-ghost use Rattle.epoch_store.specs.Joined.{Joined, JoinsOne, has_blob};
+ghost use Rattle.epoch_store.specs.Joined.{Joined, JoinsOne, Held};
 
 use crate::making_tests::{MAP, ROOT, epoch, make};
 use arch_base::Id20;
@@ -21,15 +21,15 @@ const NONE: u32 = 4_294_967_295;
 
 /// A record: the epoch and the text of its message.
 #[derive(Drop)]
-struct Line(u32, &'static [u8]);
+pub(crate) struct Line(pub(crate) u32, pub(crate) &'static [u8]);
 
 /// An entry: its kind and its text.
 #[derive(Drop)]
-struct Entry(EntryKind, &'static [u8]);
+pub(crate) struct Entry(pub(crate) EntryKind, pub(crate) &'static [u8]);
 
 /// What an opening finds.
 #[derive(PartialEq, Eq, Drop)]
-enum Outcome {
+pub(crate) enum Outcome {
     /// This many entries.
     Joined(usize),
     /// Damage at an offset in an epoch.
@@ -38,11 +38,11 @@ enum Outcome {
 
 /// An archive, by its records and the entries of the epochs 0 and 1, and what its opening finds.
 #[derive(Drop)]
-struct Case {
-    records: &'static [Line],
-    first: &'static [Entry],
-    second: &'static [Entry],
-    outcome: Outcome,
+pub(crate) struct Case {
+    pub(crate) records: &'static [Line],
+    pub(crate) first: &'static [Entry],
+    pub(crate) second: &'static [Entry],
+    pub(crate) outcome: Outcome,
 }
 
 /// Returns the record of a number.
@@ -126,7 +126,7 @@ fn name_map(disk: &mut MemDisk, next: u32) -> Result<(), DiskFault> {
 }
 
 /// Returns the disk of an archive that is written by hand.
-fn written(alloc: Global, case: &Case) -> Result<MemDisk, StoreRefusal> {
+pub(crate) fn written(alloc: Global, case: &Case) -> Result<MemDisk, StoreRefusal> {
     let mut disk = empty_disk(alloc);
     make(alloc, &mut disk, 316)?;
     write_case(alloc, &mut disk, case)?;
@@ -160,10 +160,10 @@ fn opened(alloc: Global, disk: &mut MemDisk) -> Result<Outcome, OpenRefusal> {
 
 /// The number, the epoch and the offset of an entry.
 #[derive(Drop)]
-struct Placed {
-    number: u32,
-    epoch: u32,
-    at: u64,
+pub(crate) struct Placed {
+    pub(crate) number: u32,
+    pub(crate) epoch: u32,
+    pub(crate) at: u64,
 }
 
 /// Returns whether entries have these numbers, epochs and offsets.
@@ -181,14 +181,14 @@ fn are_placed(entries: &[StoredEntry], wanted: &[Placed]) -> bool {
 }
 
 /// Returns whether the opening of an archive finds entries with these numbers, epochs and offsets.
-fn opens_with(alloc: Global, case: &Case, wanted: &[Placed]) -> Result<bool, Fail> {
+pub(crate) fn opens_with(alloc: Global, case: &Case, wanted: &[Placed]) -> Result<bool, Fail> {
     let mut disk = written(alloc, case)?;
     let store = Store::open(alloc, &mut disk)?;
     Ok(are_placed(store.stored(), wanted))
 }
 
 /// An entry, alone and before another one.
-const ONE: &[Entry] = &[Entry(EntryKind::Message, FIRST)];
+pub(crate) const ONE: &[Entry] = &[Entry(EntryKind::Message, FIRST)];
 
 const TWO: &[Entry] = &[
     Entry(EntryKind::Message, FIRST),
@@ -236,7 +236,7 @@ fn entries_get_the_numbers_of_the_records_that_have_a_message(rt: HostRuntime) -
 }
 
 /// Returns whether the opening of an archive finds what it should.
-fn is_opened_so(alloc: Global, case: &Case) -> Result<bool, Fail> {
+pub(crate) fn is_opened_so(alloc: Global, case: &Case) -> Result<bool, Fail> {
     let mut disk = written(alloc, case)?;
     let outcome = opened(alloc, &mut disk)?;
     Ok(outcome == case.outcome)
@@ -313,7 +313,7 @@ fn the_first_entry_that_does_not_belong_there_is_found(rt: HostRuntime) -> Resul
 
 /// Archives whose entries should have ids of their own and be as many as the records.
 static OWN: [Case; 7] = [
-    // One own id in two epochs and in one, one text in two, and none of these.
+    // One live own id in two epochs and in one, one text in two, and none of these.
     Case {
         records: &[Line(0, FIRST), Line(1, OTHER)],
         first: ONE,
@@ -362,17 +362,17 @@ static OWN: [Case; 7] = [
     },
 ];
 
-/// An entry with the blob id of an earlier one isn't joined, whatever its own id is.
+/// An entry with the blob id of an earlier one and another text isn't joined, whatever it is.
 ///
 /// No file can show this, since no two texts of one blob id are known.
-fn a_blob_id_stands_once()
+fn a_blob_id_has_one_text()
     ensures { (old new : Joined) (epoch : ℕ) (seen : Seen)
-        → IsTrue (has_blob old.entries seen.blob.0) → JoinsOne old epoch seen (Ok new) → ⊥ }
+        → JoinsOne old epoch seen false (Ok new) → Held old ⊥ }
 {}
 
 #[test]
 fn an_id_stands_once_and_each_message_has_an_entry(rt: HostRuntime) -> Result<(), Fail> {
-    a_blob_id_stands_once();
+    a_blob_id_has_one_text();
     for (index, case) in OWN.iter().enumerate() {
         assert!(rt; is_opened_so(rt.alloc(), case)?, "row {index}");
     }

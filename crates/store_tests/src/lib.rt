@@ -18,3 +18,5 @@ mod joining_tests;
 mod making_tests;
 #[cfg(test)]
 mod opening_tests;
+#[cfg(test)]
+mod removal_tests;

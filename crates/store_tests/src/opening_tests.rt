@@ -5,6 +5,7 @@ ghost use Rattle.disk_model.specs.Disk.{WhereTold};
 ghost use Rattle.epoch_store.specs.Stores.{HasSizes};
 
 use crate::making_tests::{make, put};
+use crate::removal_tests::remove_first;
 use arch_base::NoMemory;
 use arch_model::{EntryLine, OpenRefusal};
 use disk_model::{Disk, FuseDisk, MemDisk};
@@ -48,7 +49,8 @@ pub(crate) fn opened<D: Disk>(alloc: Global, disk: &mut D) -> Result<Option<List
     }
 }
 
-/// Appends the first message to an archive and, if three calls are asked for, the second one too.
+/// Appends the first message to an archive and, if more calls are asked for, the second one too, and
+/// removes the first one.
 fn put_first<D: Disk>(
     alloc: Global,
     disk: &mut D,
@@ -65,11 +67,15 @@ fn put_first<D: Disk>(
     if calls == 2 {
         return Ok(());
     }
-    put(alloc, disk, store, SECOND)
+    put(alloc, disk, store, SECOND)?;
+    if calls == 3 {
+        return Ok(());
+    }
+    remove_first(alloc, disk, store)
 }
 
-/// Makes the first of three calls, as many as are asked for: an archive is made, and two messages
-/// are appended to it.
+/// Makes the first of four calls, as many as are asked for: an archive is made, two messages are
+/// appended to it, and the first one is removed.
 pub(crate) fn begin<D: Disk>(
     alloc: Global,
     disk: &mut D,
@@ -89,7 +95,7 @@ pub(crate) fn begin<D: Disk>(
     Ok(Some(store))
 }
 
-/// Makes the next of the three calls.
+/// Makes the next of the four calls.
 fn go_on<D: Disk>(
     alloc: Global,
     disk: &mut D,
@@ -105,15 +111,14 @@ fn go_on<D: Disk>(
         return Ok(());
     };
     let mut store = store;
-    let text = if store.next_number() == 1 {
-        FIRST
-    } else {
-        SECOND
-    };
-    put(alloc, disk, &mut store, text)
+    match store.next_number() {
+        1 => put(alloc, disk, &mut store, FIRST),
+        2 => put(alloc, disk, &mut store, SECOND),
+        _ => remove_first(alloc, disk, &mut store),
+    }
 }
 
-/// Returns what the archive has after this many of the three calls.
+/// Returns what the archive has after this many of the four calls.
 pub(crate) fn listed_after(alloc: Global, limit: u64, calls: u64) -> Result<Option<Listing>, Fail>
     requires low { 1 ≤ limit }
     requires high { limit ≤ 1099511627776 }
@@ -136,8 +141,7 @@ pub(crate) struct Change {
 }
 
 impl Change {
-    /// Returns the call before which, and after which, the archive has this many of the three
-    /// calls.
+    /// Returns the call before which, and after which, the archive has this many of the four calls.
     pub(crate) fn between(
         alloc: Global,
         limit: u64,
@@ -292,7 +296,7 @@ fn stop_each(
 fn stop_call(rt: &impl Abort, alloc: Global, limit: u64, calls: u64) -> Result<(), Fail>
     requires low { 1 ≤ limit }
     requires high { limit ≤ 1099511627776 }
-    requires calls { calls ≤ 2 }
+    requires calls { calls ≤ 3 }
 {
     let mut change = Change::between(alloc, limit, calls, calls + 1)?;
     stop_each(rt, alloc, limit, calls, &mut change)
@@ -300,8 +304,8 @@ fn stop_call(rt: &impl Abort, alloc: Global, limit: u64, calls: u64) -> Result<(
 
 #[test]
 fn a_stop_leaves_the_archive_before_or_after(rt: HostRuntime) -> Result<(), Fail> {
-    for calls in 0..3 {
-        // Both messages in one epoch, and each in its own.
+    for calls in 0..4 {
+        // All entries in one epoch, and each in its own.
         stop_call(&rt, rt.alloc(), 1_073_741_824, calls)?;
         stop_call(&rt, rt.alloc(), 316, calls)?;
     }
