@@ -89,12 +89,13 @@ place_end root p is small = elim (cases_lt 0 (get_or root.epochs p.epoch no_plac
   long = ap (λ (q : NextPlace). q.length) is
 
 -- A number that has a text is below a bound of all.
+below_step : (b : Bool) (e : Entry) (rest : Option (List ℕ)) (high n : ℕ) (text : List ℕ) → (e.number == n) ≡ b → e.number < high → (rest ≡ Some text → n < high) → (if b then Some e.text else rest) ≡ Some text → n < high
+below_step true e rest high n text test less more is = let same : e.number ≡ n = grind (arith, nat_tests) in omega (arith, same, less)
+below_step false e rest high n text test less more is = more is
+
 number_below : (es : List Entry) (high n : ℕ) (text : List ℕ) → AllByRecursion (λ (e : Entry). e.number < high) es → text_of es n ≡ Some text → n < high
 number_below [] high n text below is = let wrong : None ≡ Some text = is in cc
-number_below (e ∷ es) high n text below is = by (e.number == n) refl is where
-  by : (b : Bool) → (e.number == n) ≡ b → (if b then Some e.text else text_of es n) ≡ Some text → n < high
-  by true test found = let same : e.number ≡ n = grind (arith, nat_tests) in let less : e.number < high = below.0 in omega (arith, same, less)
-  by false test found = number_below es high n text below.1 found
+number_below (e ∷ es) high n text below is = below_step (e.number == n) e (text_of es n) high n text refl below.0 (number_below es high n text below.1) is
 
 -- The root after one more entry, with this next number and this place of its map.
 abbrev pub root_next : Root → NextPlace → ℕ → ℕ → Place → Root
@@ -528,11 +529,11 @@ module _ (v : View) (p : NextPlace) (end_ at : ℕ) (entries : List StoredEntry)
   sizes_ended (Some k) (Some l) (Some n) sizes inside one kept = deletion_there k l n sizes inside one kept
 
 -- The root file keeps its size while another file is written.
-pub root_beside : (file : FileName) (at : ℕ) (piece : List ℕ) (k l : Option Content) → file ≢ root_name → WhereTold HasRootSize k → Told (OneFile file (Wrote at piece)) k l → WhereTold HasRootSize l
-root_beside file at piece None None apart sized one = tt
-root_beside file at piece None (Some l) apart sized one = absurd one
-root_beside file at piece (Some k) None apart sized one = absurd one
-root_beside file at piece (Some k) (Some l) apart sized one = ap (λ (it : Kept). length (bytes_of it.seen)) (one.elsewhere root_name (λ same. apart (sym same))) ∙ sized
+pub root_beside : (file : FileName) (at : ℕ) (bytes : List ℕ) (k l : Option Content) → file ≢ root_name → WhereTold HasRootSize k → Told (OneFile file (Wrote at bytes)) k l → WhereTold HasRootSize l
+root_beside file at bytes None None apart sized one = tt
+root_beside file at bytes None (Some l) apart sized one = absurd one
+root_beside file at bytes (Some k) None apart sized one = absurd one
+root_beside file at bytes (Some k) (Some l) apart sized one = ap (λ (it : Kept). length (bytes_of it.seen)) (one.elsewhere root_name (λ same. apart (sym same))) ∙ sized
 
 -- A store's root file has its size.
 pub root_sized : (v : View) (k : Option Content) → WhereTold (HasSizes v) k → WhereTold HasRootSize k

@@ -123,7 +123,7 @@ module _ (v : View) (cache : List ℕ) (a : Archive) (p : NextPlace) (e : NewEnt
   m_keeps : Keeps v a
   m_keeps = store_keeps v cache a k store
 
-  m_own : IsOwn v.root (1 - v.slot) (parts_of a cache) k
+  pub m_own : IsOwn v.root (1 - v.slot) (parts_of a cache) k
   m_own = store_owns v cache a k store
 
   m_valid : IsArchive (with_message a p e)
@@ -138,7 +138,7 @@ module _ (v : View) (cache : List ℕ) (a : Archive) (p : NextPlace) (e : NewEnt
   m_made : root ≡ root_grown v.root p.epoch (length (new_piece a p Message e.text.now e.moment))
   m_made = root_is ∙ message_root v a p m_keeps goes.place small goes.room e.text.now e.moment goes.accepts goes.alone in_time is written.end m_ends
 
-  m_below : p.epoch < 64
+  pub m_below : p.epoch < 64
   m_below = omega (arith, small)
 
   -- The texts after both writes.
@@ -201,7 +201,7 @@ module _ (v : View) (cache : List ℕ) (a : Archive) (p : NextPlace) (number : �
   d_keeps : Keeps v a
   d_keeps = store_keeps v cache a k store
 
-  d_own : IsOwn v.root (1 - v.slot) (parts_of a cache) k
+  pub d_own : IsOwn v.root (1 - v.slot) (parts_of a cache) k
   d_own = store_owns v cache a k store
 
   d_valid : IsArchive (with_ending a p number e)
@@ -216,7 +216,7 @@ module _ (v : View) (cache : List ℕ) (a : Archive) (p : NextPlace) (number : �
   d_made : root ≡ root_longer v.root p.epoch (length (new_piece a p Deletion e.text.now e.moment))
   d_made = root_is ∙ deletion_root v a p d_keeps goes.place small goes.room number e.text.now e.moment goes.shown in_time is written.end d_ends
 
-  d_below : p.epoch < 64
+  pub d_below : p.epoch < 64
   d_below = omega (arith, small)
 
   -- The texts after the write.

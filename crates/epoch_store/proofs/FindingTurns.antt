@@ -47,25 +47,25 @@ shut_found None shut = tt
 shut_found (Some bytes) shut = shut
 
 -- An epoch whose entries were all joined is read.
-pub taken : (root : Root) (epoch : ℕ) (old new : Joined) (seen : List Seen) → TakesEpoch old epoch seen (Ok new) → (files : Files) → ReadsSeen root epoch old seen (Ok new) files
-taken root epoch old new seen takes files = λ rs fits up walked. read_more root files rs epoch old new seen up walked takes
+pub taken : (root : Root) (epoch : ℕ) (old new : Joined) (seen : List Seen) (files : Files) → TakesEpoch root old epoch seen (Ok new) files → ReadsSeen root epoch old seen (Ok new) files
+taken root epoch old new seen files takes = λ rs fits up walked. read_more root files rs epoch old new seen up walked takes
 
 -- An epoch with an entry that could not be joined is damaged.
-pub not_taken : EntriesDiffer → (root : Root) (epoch offset : ℕ) (old : Joined) (seen : List Seen) (file : FileName) → epoch ≤ 63 → file ≡ epoch_file_of root epoch → TakesEpoch old epoch seen (Err (join.Damaged offset)) → (files : Files)
+pub not_taken : EntriesDiffer → (root : Root) (epoch offset : ℕ) (old : Joined) (seen : List Seen) (file : FileName) → epoch ≤ 63 → file ≡ epoch_file_of root epoch → (files : Files) → TakesEpoch root old epoch seen (Err (join.Damaged offset)) files
     → ReadsSeen root epoch old seen (Err (Damaged file offset)) files
-not_taken differ root epoch offset old seen file less is takes files =
+not_taken differ root epoch offset old seen file less is files takes =
     λ rs fits up walked. (epoch, is, read_stopped differ root files rs epoch offset old seen (short root epoch fits less) (omega (arith, less)) up walked takes)
 
 -- The offset at which a walk ended is that of the damage, if all entries before it were joined.
-pub left_taken : EpochsDiffer → (root : Root) (epoch offset : ℕ) (old new : Joined) (seen : List Seen) (file : FileName) → epoch ≤ 63 → 8 < offset → file ≡ epoch_file_of root epoch → TakesEpoch old epoch seen (Ok new) → (files : Files)
+pub left_taken : EpochsDiffer → (root : Root) (epoch offset : ℕ) (old new : Joined) (seen : List Seen) (file : FileName) → epoch ≤ 63 → 8 < offset → file ≡ epoch_file_of root epoch → (files : Files) → TakesEpoch root old epoch seen (Ok new) files
     → StopsSeen root epoch old offset seen (Damaged file offset) files
-left_taken differ root epoch offset old new seen file less high is takes files =
+left_taken differ root epoch offset old new seen file less high is files takes =
     λ rs fits up damaged walked. (epoch, is, read_left differ root files rs epoch offset old new seen (short root epoch fits less) (omega (arith, less)) high up damaged walked takes)
 
 -- Otherwise it is that of the first entry that could not be joined.
-pub left_not_taken : EntriesDiffer → EpochsDiffer → (root : Root) (epoch left offset : ℕ) (old : Joined) (seen : List Seen) (file : FileName) → epoch ≤ 63 → 8 < left → file ≡ epoch_file_of root epoch → TakesEpoch old epoch seen (Err (join.Damaged offset))
-    → (files : Files) → StopsSeen root epoch old left seen (Damaged file offset) files
-left_not_taken entry differ root epoch left offset old seen file less high is takes files =
+pub left_not_taken : EntriesDiffer → EpochsDiffer → (root : Root) (epoch left offset : ℕ) (old : Joined) (seen : List Seen) (file : FileName) → epoch ≤ 63 → 8 < left → file ≡ epoch_file_of root epoch → (files : Files)
+    → TakesEpoch root old epoch seen (Err (join.Damaged offset)) files → StopsSeen root epoch old left seen (Damaged file offset) files
+left_not_taken entry differ root epoch left offset old seen file less high is files takes =
     λ rs fits up damaged walked. (epoch, is, read_left_stopped entry differ root files rs epoch left offset old seen (short root epoch fits less) (omega (arith, less)) high up damaged walked takes)
 
 -- An epoch in which a walk ended at the front is damaged there.
@@ -120,7 +120,7 @@ pub begun : (root : Root) (files : Files) (rs : List Record) (v : Joined) → Ha
 begun root files rs v has records entries = record {
   entries = [];
   after = messages rs;
-  holds = record { numbered = has.begins.valid; records = records; entries_are = entries; first = record { valid = tt; order = tt; ids = tt; blobs = tt; records = refl } };
+  holds = record { numbered = has.begins.valid; records = records; entries_are = entries; first = record { valid = tt; order = tt; ends = tt; ids = tt; blobs = tt; records = refl } };
   whole = record { below = tt; lengths = λ e less. absurd (omega (arith, less)); fronts = λ e less. absurd (omega (arith, less)) };
 }
 

@@ -1,52 +1,62 @@
 -- The entries of an epoch, joined one after the other to those of the epochs before it.
-use Rattle.std.specs.Prelude.{◌≡◌, ◌≢◌, ◌+◌, ◌<◌, ◌≤◌, ◌==◌, ℕ, Bool, true, false, not, List, [], ◌∷◌, ◌++◌, length, map, slice_get, get_or, zero, suc, Option, Some, None, Err, unwrap_or, refl}
+use Rattle.std.specs.Prelude.{◌≡◌, ◌≢◌, ◌⊎◌, ◌+◌, ◌<◌, ◌≤◌, ◌==◌, ℕ, Bool, true, false, not, List, [], ◌∷◌, ◌++◌, length, map, slice_get, get_or, zero, suc, option_map, Option, Some, None, Ok, Err, if◌then◌else◌, unwrap_or, refl}
 use Rattle.std.specs.List.{AllByRecursion}
 use Rattle.std.specs.Str.{bytes_eq}
-use Rattle.std.proofs.Common.{◌∙◌, sym, ap, subst, arith, append_assoc, length-append}
+use Rattle.std.proofs.Common.{◌∙◌, sym, ap, subst, inl, inr, arith, append_assoc, length-append}
 use Rattle.std.proofs.lemmas.List.{append-nil}
 use Rattle.std.proofs.lemmas.Slice.Eq.{bytes_eq-Decides}
 use Rattle.std.proofs.lemmas.List.Elements.{filter-append}
+use Rattle.std.proofs.lemmas.Bool.{cases_lt}
 use Rattle.std.proofs.lemmas.Bool.Decides.{nat_tests}
 use Rattle.arch_base.specs.declared.ids.Id20.{Id20}
 use Rattle.git_objects.specs.Objects.{blob_id_of}
-use Rattle.arch_model.specs.Archives.{Entry, in_epoch}
-use Rattle.arch_model.specs.Epochs.{entries_bytes, last_commit}
-use Rattle.mail_commits.specs.Entries.{message_kind, entry_bytes, commit_id}
+use Rattle.git_objects.specs.declared.entry_kind.EntryKind.{EntryKind}
+use Rattle.git_objects.specs.declared.entry_kind.EntryKind.TheVariants.{Message, Deletion}
+use Rattle.arch_model.specs.Archives.{Entry, in_epoch, live, messages as delivered, blob_number}
+use Rattle.arch_model.specs.Epochs.{epoch_bytes, entries_bytes, last_commit}
+use Rattle.mail_commits.specs.Entries.{magic, entry_bytes, commit_id}
+use Rattle.disk_model.specs.Disk.{Files, File, bytes_of}
 use Rattle.number_map.specs.declared.line.Record.{Record}
 use Rattle.epoch_file.specs.declared.entry.Seen.{Seen}
-use Rattle.epoch_file.specs.Entries.{EpochEntry, IsEpochEntry, AreEpochEntries, bytes_after, commit_after}
-use Rattle.epoch_file.specs.Walking.{seen_at, seen_from}
+use Rattle.epoch_file.specs.Entries.{EpochEntry, IsEpochEntry, AreEpochEntries, bytes_after, commit_after, chain, epoch_of}
+use Rattle.epoch_file.specs.Walking.{seen_at, seen_from, blob_front}
+use Rattle.root_slots.specs.declared.root.Root.{Root}
+use Rattle.root_change.specs.Texts.{Fronts}
+use Rattle.epoch_store.specs.Files.{epoch_file_of}
 use Rattle.epoch_store.specs.declared.entries.StoredEntry.{StoredEntry}
 use Rattle.epoch_store.specs.declared.known.JoinRefusal.{JoinRefusal}
-use Rattle.epoch_store.specs.declared.known.JoinRefusal.TheVariants.{NoMemory, Damaged}
-use Rattle.arch_model.specs.Validity.{IsEntry}
-use Rattle.epoch_store.specs.Stores.{in_file, stored_at, stored_after}
-use Rattle.epoch_store.specs.Damage.{record_of, AreFirst}
-use Rattle.epoch_store.specs.Joined.{Joined, Holds, AreBefore, has_id, has_blob, entry_seen, IsWanted, JoinsNext, with_seen, JoinsOne, JoinsAll, AreJoined, StopsAt}
-use Rattle.arch_model.proofs.ValidArchives.{all_after, all_weaker}
+use Rattle.epoch_store.specs.declared.known.JoinRefusal.TheVariants.{NoMemory, DiskFault, Damaged}
+use Rattle.arch_model.specs.Validity.{IsEntry, BlobsAgree}
+use Rattle.epoch_store.specs.Stores.{in_file, stored_at, stored_after, live_kept}
+use Rattle.epoch_store.specs.Damage.{record_of, AreFirst, AreWhole}
+use Rattle.epoch_store.specs.Joined.{Joined, Holds, Held, AreBefore, has_id, number_of, first_index, message_count, entry_seen, IsWanted, TextIn, JoinsMessage, JoinsDeletion, JoinsNext, IsSameText, kept_at, with_seen, JoinsOne, JoinsByText, ComparesText, JoinsAll, AreJoined, StopsAt}
+use Rattle.arch_model.proofs.LiveEntries.{ids-now, live-all, HasText, found-has}
+use Rattle.arch_model.proofs.ValidArchives.{Agrees, agrees-has, all_after, all_weaker}
 use Rattle.epoch_store.proofs.Growing.{stored_more}
 use Rattle.epoch_store.proofs.Ends.{none_in, last_commit_is}
-use Rattle.epoch_store.proofs.Firsts.{first_is, first_none, first_more, record_after, map_after, stored_count, stored_before, free_ids, apart_ids, free_blobs, apart_blobs, ids_of_last, blobs_of_last}
+use Rattle.epoch_store.proofs.Texts.{divided_reads, epoch_text, in_fronts, in_epoch_split}
+use Rattle.epoch_store.proofs.KnownLive.{kept_ids, kept_numbers, kept_firsts, kept_count, first_at, none_own, apart_by, found_text, found_number, live_ascends, blob_same, bytes_same, bytes_yes}
+use Rattle.epoch_store.proofs.Firsts.{FitsKind, with_record, all_last, first_is, first_none, first_more, first_less, fits_last, blobs_last, record_after, map_after, stored_count, stored_before}
 
 -- The next record is that of an entry, or it isn't.
-pub is_wanted : (v : Joined) (epoch : ℕ) (seen : Seen) (r : Record) → seen.kind ≡ message_kind → slice_get v.records (length v.entries) ≡ Some r → r.epoch ≡ epoch → r.blob ≡ seen.blob → IsWanted v epoch seen r.number
+pub is_wanted : (v : Joined) (epoch : ℕ) (seen : Seen) (r : Record) → seen.kind ≡ Message → slice_get v.records (message_count v.entries) ≡ Some r → r.epoch ≡ epoch → r.blob ≡ seen.blob → IsWanted v epoch seen r.number
 is_wanted v epoch seen r name next same_epoch same_blob = record { message = name; next = next ∙ (λ i. Some (record { number = r.number; epoch = same_epoch i; blob = same_blob i })) }
 
 found_is : {X : Type 0} (o : Option X) (x y : X) → o ≡ Some x → o ≡ Some y → x ≡ y
 found_is o x y one two = ap (λ (p : Option _). unwrap_or p x) (sym one ∙ two)
 
-pub other_epoch : (v : Joined) (epoch : ℕ) (seen : Seen) (r : Record) (number : ℕ) → slice_get v.records (length v.entries) ≡ Some r → r.epoch ≢ epoch → IsWanted v epoch seen number → ⊥
+pub other_epoch : (v : Joined) (epoch : ℕ) (seen : Seen) (r : Record) (number : ℕ) → slice_get v.records (message_count v.entries) ≡ Some r → r.epoch ≢ epoch → IsWanted v epoch seen number → ⊥
 other_epoch v epoch seen r number next apart wanted =
     let want : Record = record { number = number; epoch = epoch; blob = seen.blob } in
-    apart (ap (λ (s : Record). s.epoch) (found_is (slice_get v.records (length v.entries)) r want next wanted.next))
+    apart (ap (λ (s : Record). s.epoch) (found_is (slice_get v.records (message_count v.entries)) r want next wanted.next))
 
-pub other_blob : (v : Joined) (epoch : ℕ) (seen : Seen) (r : Record) (number : ℕ) → slice_get v.records (length v.entries) ≡ Some r → r.blob ≢ seen.blob → IsWanted v epoch seen number → ⊥
+pub other_blob : (v : Joined) (epoch : ℕ) (seen : Seen) (r : Record) (number : ℕ) → slice_get v.records (message_count v.entries) ≡ Some r → r.blob ≢ seen.blob → IsWanted v epoch seen number → ⊥
 other_blob v epoch seen r number next apart wanted =
     let want : Record = record { number = number; epoch = epoch; blob = seen.blob } in
-    apart (ap (λ (s : Record). s.blob) (found_is (slice_get v.records (length v.entries)) r want next wanted.next))
+    apart (ap (λ (s : Record). s.blob) (found_is (slice_get v.records (message_count v.entries)) r want next wanted.next))
 
 -- The item at an index of a list.
-got : (xs : List Record) (i : ℕ) (r : Record) → i < length xs → r ≡ get_or xs i r → slice_get xs i ≡ Some r
+pub got : {X : Type 0} (xs : List X) (i : ℕ) (r : X) → i < length xs → r ≡ get_or xs i r → slice_get xs i ≡ Some r
 got [] i r less is = absurd (omega (arith, less))
 got (x ∷ xs) zero r less is = ap Some (sym is)
 got (x ∷ xs) (suc i) r less is = got xs i r (omega (arith, less)) is
@@ -56,10 +66,10 @@ got_none [] i less = refl
 got_none (x ∷ xs) zero less = absurd (omega (arith, less))
 got_none (x ∷ xs) (suc i) less = got_none xs i (omega (arith, less))
 
-pub found_at : (v : Joined) (xs : List Record) (i : ℕ) (r : Record) → xs ≡ v.records → i ≡ length v.entries → i < length xs → r ≡ get_or xs i r → slice_get v.records (length v.entries) ≡ Some r
+pub found_at : (v : Joined) (xs : List Record) (i : ℕ) (r : Record) → xs ≡ v.records → i ≡ message_count v.entries → i < length xs → r ≡ get_or xs i r → slice_get v.records (message_count v.entries) ≡ Some r
 found_at v xs i r records entries less is = (λ j. slice_get (sym records j) (sym entries j)) ∙ got xs i r less is
 
-pub none_at : (v : Joined) (xs : List Record) (i : ℕ) → xs ≡ v.records → i ≡ length v.entries → length xs ≤ i → slice_get v.records (length v.entries) ≡ None
+pub none_at : (v : Joined) (xs : List Record) (i : ℕ) → xs ≡ v.records → i ≡ message_count v.entries → length xs ≤ i → slice_get v.records (message_count v.entries) ≡ None
 none_at v xs i records entries less = (λ j. slice_get (sym records j) (sym entries j)) ∙ got_none xs i less
 
 -- Two ids differ if their bytes do.
@@ -73,18 +83,20 @@ blobs_same a b t is no_way = ap (λ (l : List ℕ). let i : Id20 = record { 0 = 
   not_false false e = absurd (let wrong : true ≡ false = e in cc)
 
 -- All records have an entry, or this is the first that has none.
-pub none_left : (v : Joined) → slice_get v.records (length v.entries) ≡ None → (rs after : List Record) (entries : List Entry) → Holds v rs after entries → (v.entries ≡ stored_after [] entries) × AreFirst rs [] entries
+pub none_left : (v : Joined) → slice_get v.records (message_count v.entries) ≡ None → (rs after : List Record) (entries : List Entry) → Holds v rs after entries → (v.entries ≡ stored_after [] entries) × AreFirst rs [] entries
 none_left v none rs after entries holds =
-    let count : length v.entries ≡ length entries = ap length holds.entries_are ∙ stored_count [] entries in
-    let at_end : slice_get (map record_of entries ++ after) (length entries) ≡ None = sym (λ j. slice_get ((holds.records ∙ holds.first.records) j) (count j)) ∙ none in
-    (holds.entries_are, subst (λ (b : List Record). AreFirst rs b entries) (first_none after (sym (record_after entries after) ∙ at_end)) holds.first)
+    let all = delivered entries in
+    let count : message_count v.entries ≡ length all = ap message_count holds.entries_are ∙ kept_count [] entries in
+    let at_end : slice_get (map record_of all ++ after) (length all) ≡ None = sym (λ j. slice_get ((holds.records ∙ holds.first.records) j) (count j)) ∙ none in
+    (holds.entries_are, subst (λ (b : List Record). AreFirst rs b entries) (first_none after (sym (record_after all after) ∙ at_end)) holds.first)
 
-pub one_left : (v : Joined) (r : Record) → slice_get v.records (length v.entries) ≡ Some r → (rs after : List Record) (entries : List Entry) → Holds v rs after entries
+pub one_left : (v : Joined) (r : Record) → slice_get v.records (message_count v.entries) ≡ Some r → (rs after : List Record) (entries : List Entry) → Holds v rs after entries
     → (next : Record) × (left : List Record) × AreFirst rs (next ∷ left) entries × (next.epoch ≡ r.epoch)
 one_left v r found rs after entries holds =
-    let count : length v.entries ≡ length entries = ap length holds.entries_are ∙ stored_count [] entries in
-    let at_end : slice_get (map record_of entries ++ after) (length entries) ≡ Some r = sym (λ j. slice_get ((holds.records ∙ holds.first.records) j) (count j)) ∙ found in
-    let first = first_is after r (sym (record_after entries after) ∙ at_end) in
+    let all = delivered entries in
+    let count : message_count v.entries ≡ length all = ap message_count holds.entries_are ∙ kept_count [] entries in
+    let at_end : slice_get (map record_of all ++ after) (length all) ≡ Some r = sym (λ j. slice_get ((holds.records ∙ holds.first.records) j) (count j)) ∙ found in
+    let first = first_is after r (sym (record_after all after) ∙ at_end) in
     (r, first.rest, subst (λ (b : List Record). AreFirst rs b entries) first.is holds.first, refl)
 
 -- A list whose entries are all in an epoch is the list of the epoch's entries.
@@ -102,15 +114,172 @@ all_joined P (x ∷ xs) ys one two = (one.0, all_joined P xs ys one.1 two)
 
 -- The bytes of entries with one appended.
 pub size_more : (parent : Option Id20) (es : List Entry) (e : Entry) → length (entries_bytes parent (es ++ e ∷ [])) ≡ length (entries_bytes parent es) + length (bytes_after (last_commit parent es) (in_file e))
-size_more parent [] e = omega (arith, length-append (entry_bytes message_kind e.text e.moment parent) [])
+size_more parent [] e = omega (arith, length-append (entry_bytes e.kind e.text e.moment parent) [])
 size_more parent (f ∷ es) e =
-    let next : Option Id20 = Some (commit_id message_kind f.text f.moment parent) in
-    let front = entry_bytes message_kind f.text f.moment parent in
+    let next : Option Id20 = Some (commit_id f.kind f.text f.moment parent) in
+    let front = entry_bytes f.kind f.text f.moment parent in
     omega (arith, size_more next es e, length-append front (entries_bytes next (es ++ e ∷ [])), length-append front (entries_bytes next es))
 
 -- What is recorded of one more entry of an epoch.
 abbrev pub seen_next : List Entry → EpochEntry → Seen
 seen_next more x = seen_at (8 + length (entries_bytes None more)) (last_commit None more) x
+
+-- An entry of an epoch's file with a number.
+abbrev pub as_entry : ℕ → ℕ → EpochEntry → Entry
+as_entry number epoch x = record { kind = x.kind; number = number; epoch = epoch; text = x.text; moment = x.moment }
+
+-- Entries of an epoch's file, whatever their numbers.
+abbrev pub as_entries : ℕ → List EpochEntry → List Entry
+as_entries epoch [] = []
+as_entries epoch (x ∷ xs) = as_entry 0 epoch x ∷ as_entries epoch xs
+
+as_filed : (epoch : ℕ) (xs : List EpochEntry) → map in_file (as_entries epoch xs) ≡ xs
+as_filed epoch [] = refl
+as_filed epoch (x ∷ xs) = ap (λ (l : List EpochEntry). x ∷ l) (as_filed epoch xs)
+
+as_stand : (epoch : ℕ) (xs : List EpochEntry) → AllByRecursion (λ (e : Entry). e.epoch ≡ epoch) (as_entries epoch xs)
+as_stand epoch [] = tt
+as_stand epoch (x ∷ xs) = (refl, as_stand epoch xs)
+
+-- The files of the epochs up to one start with the entries of these.
+abbrev pub AreThere : Root → Files → ℕ → List Entry → Type 0
+AreThere root files epoch all = (d : ℕ) → d ≤ epoch → Fronts (epoch_bytes (in_epoch all d)) (files (epoch_file_of root d))
+
+-- The text of an entry is in its file.
+text_there : (root : Root) (files : Files) (epoch : ℕ) (before : List Entry) (e : Entry) (behind : List Entry) → AreThere root files epoch (before ++ e ∷ behind) → e.epoch ≤ epoch
+    → TextIn (bytes_of (files (epoch_file_of root e.epoch))) (stored_at before e).seen e.text
+text_there root files epoch before e behind stand less =
+    let xs = in_epoch before e.epoch in
+    let ys = in_epoch behind e.epoch in
+    let fronts : Fronts (epoch_bytes (xs ++ e ∷ ys)) (files (epoch_file_of root e.epoch)) = subst (λ (l : List Entry). Fronts (epoch_bytes l) (files (epoch_file_of root e.epoch))) (in_epoch_split before e behind) (stand e.epoch less) in
+    let reads = divided_reads (bytes_of (files (epoch_file_of root e.epoch))) (8 + length (entries_bytes None xs) + blob_front e.text) e.text
+    (in_fronts (epoch_bytes (xs ++ e ∷ ys)) (files (epoch_file_of root e.epoch)) (8 + length (entries_bytes None xs) + blob_front e.text) e.text fronts (epoch_text xs e ys)) in
+    (reads.0, sym reads.1)
+
+-- The first of some entries with a blob id, and what is kept of it.
+record FirstWith (before es : List Entry) (q : List ℕ) (i : ℕ) : Type 0 where
+  front : List Entry
+  entry : Entry
+  behind : List Entry
+  is : es ≡ front ++ entry ∷ behind
+  kept : slice_get (stored_after before es) i ≡ Some (stored_at (before ++ front) entry)
+  blob : q ≡ (blob_id_of entry.text).0
+
+first_later : (before : List Entry) (e : Entry) (es : List Entry) (q : List ℕ) (i : ℕ) → FirstWith (before ++ e ∷ []) es q i → FirstWith before (e ∷ es) q (suc i)
+first_later before e es q i f = record {
+  front = e ∷ f.front;
+  entry = f.entry;
+  behind = f.behind;
+  is = ap (λ (l : List Entry). e ∷ l) f.is;
+  kept = f.kept ∙ ap (λ (b : List Entry). Some (stored_at b f.entry)) (append_assoc before (e ∷ []) f.front);
+  blob = f.blob;
+}
+
+first_with : (before es : List Entry) (q : List ℕ) (i : ℕ) → first_at es q ≡ Some i → FirstWith before es q i
+first_with before [] q i is = absurd (let wrong : None ≡ Some i = is in cc)
+first_with before (e ∷ es) q i is = by (bytes_eq q (blob_id_of e.text).0) refl (first_at es q) refl is (λ k. first_with (before ++ e ∷ []) es q k) where
+  by : (t : Bool) → bytes_eq q (blob_id_of e.text).0 ≡ t → (o : Option ℕ) → first_at es q ≡ o → (if t then Some 0 else option_map suc o) ≡ Some i → ((k : ℕ) → first_at es q ≡ Some k → FirstWith (before ++ e ∷ []) es q k) → FirstWith before (e ∷ es) q i
+  by true test o rest found more =
+      let first : FirstWith before (e ∷ es) q 0 = record {
+        front = [];
+        entry = e;
+        behind = es;
+        is = refl;
+        kept = ap (λ (b : List Entry). Some (stored_at b e)) (sym (append-nil before));
+        blob = bytes_same q (blob_id_of e.text).0 test;
+      } in subst (FirstWith before (e ∷ es) q) (ap (λ (p : Option ℕ). unwrap_or p i) found) first
+  by false test None rest found more = absurd (let wrong : None ≡ Some i = found in cc)
+  by false test (Some k) rest found more = subst (FirstWith before (e ∷ es) q) (ap (λ (p : Option ℕ). unwrap_or p i) found) (first_later before e es q k (more k rest))
+
+-- If none has it, a text with it agrees with all.
+no_first : (es : List Entry) (text : List ℕ) → first_at es (blob_id_of text).0 ≡ None → Agrees text es
+no_first [] text none = tt
+no_first (e ∷ es) text none = by (bytes_eq (blob_id_of text).0 (blob_id_of e.text).0) refl (first_at es (blob_id_of text).0) refl none (no_first es text) where
+  by : (t : Bool) → bytes_eq (blob_id_of text).0 (blob_id_of e.text).0 ≡ t → (o : Option ℕ) → first_at es (blob_id_of text).0 ≡ o → (if t then Some 0 else option_map suc o) ≡ None → (first_at es (blob_id_of text).0 ≡ None → Agrees text es) → Agrees text (e ∷ es)
+  by true test o rest is more = absurd (let wrong : Some 0 ≡ None = is in cc)
+  by false test (Some k) rest is more = absurd (let wrong : Some (suc k) ≡ None = is in cc)
+  by false test None rest is more = (λ same. absurd (let yes_it = bytes_yes (blob_id_of text).0 (blob_id_of e.text).0 (ap (λ (i : Id20). i.0) same) in let wrong : true ≡ false = sym yes_it ∙ test in cc), more rest)
+
+text_among : (front : List Entry) (e : Entry) (behind : List Entry) (text : List ℕ) → e.text ≡ text → HasText text (front ++ e ∷ behind)
+text_among [] e behind text is = inl is
+text_among (f ∷ front) e behind text is = inr (text_among front e behind text is)
+
+one_of_all : {X : Type 0} (P : X → Type 0) (xs : List X) (x : X) (ys : List X) → AllByRecursion P (xs ++ x ∷ ys) → P x
+one_of_all P [] x ys all = all.0
+one_of_all P (z ∷ xs) x ys all = one_of_all P xs x ys all.1
+
+-- A text is the same as that of the first entry with its blob id exactly if it agrees with all.
+pub record AgreesIf (same : Bool) (text : List ℕ) (all : List Entry) : Type 0 where
+  pub agrees : same ≡ true → Agrees text all
+  pub yes_it : Agrees text all → same ≡ true
+
+compared_by : (root : Root) (files : Files) (epoch : ℕ) (all : List Entry) (x : EpochEntry) (rest : List Entry) (same : Bool) (o : Option ℕ) → first_at all (blob_id_of x.text).0 ≡ o
+    → IsSameText root files (kept_at (stored_after [] all) o) epoch (seen_next (in_epoch all epoch) x) same → BlobsAgree all → AllByRecursion (λ (e : Entry). e.epoch ≤ epoch) all
+    → AreThere root files epoch (all ++ as_entry 0 epoch x ∷ rest) → AgreesIf same x.text all
+compared_by root files epoch all x rest same None found texts agree older stand = record { agrees = λ yes_it. no_first all x.text found; yes_it = λ agrees. texts }
+compared_by root files epoch all x rest same (Some i) found texts agree older stand =
+    let f = first_with [] all (blob_id_of x.text).0 i found in
+    let e = f.entry in
+    let new : Entry = as_entry 0 epoch x in
+    let less : e.epoch ≤ epoch = one_of_all (λ (g : Entry). g.epoch ≤ epoch) f.front e f.behind (subst (AllByRecursion (λ (g : Entry). g.epoch ≤ epoch)) f.is older) in
+    let whole : all ++ new ∷ rest ≡ f.front ++ e ∷ (f.behind ++ new ∷ rest) = ap (λ (l : List Entry). l ++ new ∷ rest) f.is ∙ append_assoc f.front (e ∷ f.behind) (new ∷ rest) in
+    let old_text = text_there root files epoch f.front e (f.behind ++ new ∷ rest) (subst (AreThere root files epoch) whole stand) less in
+    let new_text = text_there root files epoch all new rest stand (omega arith) in
+    let is : same ≡ bytes_eq e.text x.text = subst (λ (o : Option StoredEntry). IsSameText root files o epoch (seen_next (in_epoch all epoch) x) same) f.kept texts e.text x.text old_text new_text in
+    record {
+      agrees = λ yes_it. agrees-has all x.text agree (subst (HasText x.text) (sym f.is) (text_among f.front e f.behind x.text (bytes_same e.text x.text (sym is ∙ yes_it))));
+      yes_it = λ agrees. is ∙ bytes_yes e.text x.text (sym (one_of_all (λ (g : Entry). blob_id_of x.text ≡ blob_id_of g.text → x.text ≡ g.text) f.front e f.behind (subst (Agrees x.text) f.is agrees)
+          (ap (λ (l : List ℕ). let id : Id20 = record { 0 = l } in id) f.blob)));
+    }
+
+pub compared : (root : Root) (files : Files) (cur : Joined) (rs after : List Record) (epoch : ℕ) (all : List Entry) (x : EpochEntry) (s : Seen) (rest : List Entry) (same : Bool) → Holds cur rs after all → s ≡ seen_next (in_epoch all epoch) x
+    → IsSameText root files (kept_at cur.entries (first_index cur.entries s.blob.0)) epoch s same → AllByRecursion (λ (e : Entry). e.epoch ≤ epoch) all → AreThere root files epoch (all ++ as_entry 0 epoch x ∷ rest) → AgreesIf same x.text all
+compared root files cur rs after epoch all x s rest same holds seen texts older stand =
+    let of : List StoredEntry → Seen → Option StoredEntry = λ l t. kept_at l (first_index l t.blob.0) in
+    let found : first_index (stored_after [] all) (blob_id_of x.text).0 ≡ first_at all (blob_id_of x.text).0 = kept_firsts [] all (blob_id_of x.text).0 in
+    let one : IsSameText root files (of (stored_after [] all) s) epoch s same = subst (λ (l : List StoredEntry). IsSameText root files (of l s) epoch s same) holds.entries_are texts in
+    let two : IsSameText root files (of (stored_after [] all) (seen_next (in_epoch all epoch) x)) epoch (seen_next (in_epoch all epoch) x) same = subst (λ (t : Seen). IsSameText root files (of (stored_after [] all) t) epoch t same) seen one in
+    let three : IsSameText root files (kept_at (stored_after [] all) (first_at all (blob_id_of x.text).0)) epoch (seen_next (in_epoch all epoch) x) same =
+    subst (λ (o : Option ℕ). IsSameText root files (kept_at (stored_after [] all) o) epoch (seen_next (in_epoch all epoch) x) same) found two in
+    compared_by root files epoch all x rest same (first_at all (blob_id_of x.text).0) refl three holds.first.blobs older stand
+
+-- What is known of an entry that joins: what records are left, and that it fits.
+record Goes (rs after : List Record) (all : List Entry) (e : Entry) : Type 0 where
+  left : List Record
+  first : AreFirst rs (with_record e.kind e left) all
+  fits : FitsKind e.kind all e
+
+message_goes : (cur : Joined) (rs after : List Record) (all : List Entry) (epoch number : ℕ) (x : EpochEntry) (s : Seen) → Holds cur rs after all → s ≡ seen_next (in_epoch all epoch) x → JoinsMessage cur epoch s number → Goes rs after all (as_entry number epoch x)
+message_goes cur rs after all epoch number x s holds seen joins =
+    let e : Entry = as_entry number epoch x in
+    let kind : Message ≡ x.kind = sym joins.wanted.message ∙ ap (λ (t : Seen). t.kind) seen in
+    let blob_is : s.blob ≡ blob_id_of x.text = ap (λ (t : Seen). t.blob) seen in
+    let id_is : s.id ≡ (seen_next (in_epoch all epoch) x).id = ap (λ (t : Seen). t.id) seen in
+    let count : message_count cur.entries ≡ length (delivered all) = ap message_count holds.entries_are ∙ kept_count [] all in
+    let found : slice_get (map record_of (delivered all) ++ after) (length (delivered all)) ≡ Some (record { number = number; epoch = epoch; blob = s.blob }) =
+    sym (ap (λ (l : List Record). slice_get l (length (delivered all))) (holds.records ∙ holds.first.records)) ∙ (sym (ap (slice_get cur.records) count) ∙ joins.wanted.next) in
+    let first = first_is after (record { number = number; epoch = epoch; blob = s.blob }) (sym (record_after (delivered all) after) ∙ found) in
+    let left : after ≡ record_of e ∷ first.rest = first.is ∙ ap (λ (b : Id20). let r : Record = record { number = number; epoch = epoch; blob = b } in r ∷ first.rest) blob_is in
+    let free : has_id (live_kept (stored_after [] all)) (seen_next (in_epoch all epoch) x).id ≡ false = ap (has_id (live_kept (stored_after [] all))) (sym id_is) ∙ (ap (λ (l : List StoredEntry). has_id (live_kept l) s.id) (sym holds.entries_are) ∙ joins.id) in
+    record {
+      left = first.rest;
+      first = subst (λ (k : EntryKind). AreFirst rs (with_record k e first.rest) all) kind (subst (λ (b : List Record). AreFirst rs b all) left holds.first);
+      fits = subst (λ (k : EntryKind). FitsKind k all e) kind (apart_by (live all) x.text (sym (kept_ids [] all (seen_next (in_epoch all epoch) x).id) ∙ free));
+    }
+
+deletion_goes : (cur : Joined) (rs after : List Record) (all : List Entry) (epoch number : ℕ) (x : EpochEntry) (s : Seen) → Holds cur rs after all → s ≡ seen_next (in_epoch all epoch) x → Agrees x.text all → JoinsDeletion cur s number → Goes rs after all (as_entry number epoch x)
+deletion_goes cur rs after all epoch number x s holds seen agree joins =
+    let e : Entry = as_entry number epoch x in
+    let kind : Deletion ≡ x.kind = sym joins.deletion ∙ ap (λ (t : Seen). t.kind) seen in
+    let blob_is : s.blob ≡ blob_id_of x.text = ap (λ (t : Seen). t.blob) seen in
+    let found : number_of (live_kept (stored_after [] all)) (blob_id_of x.text).0 ≡ Some number =
+    ap (λ (b : Id20). number_of (live_kept (stored_after [] all)) b.0) (sym blob_is) ∙ (ap (λ (l : List StoredEntry). number_of (live_kept l) s.blob.0) (sym holds.entries_are) ∙ joins.live) in
+    let is : blob_number (live all) (blob_id_of x.text).0 ≡ Some number = sym (kept_numbers [] all (blob_id_of x.text).0) ∙ found in
+    record {
+      left = after;
+      first = subst (λ (k : EntryKind). AreFirst rs (with_record k e after) all) kind holds.first;
+      fits = subst (λ (k : EntryKind). FitsKind k all e) kind (found_text (live all) 1 number x.text (live_ascends 1 0 all holds.first.order) (live-all (λ (f : Entry). blob_id_of x.text ≡ blob_id_of f.text → x.text ≡ f.text) all agree) is);
+    }
 
 -- One more entry is joined to those of the map's first records.
 pub record OneMore (new : Joined) (rs : List Record) (all : List Entry) (epoch : ℕ) (x : EpochEntry) : Type 0 where
@@ -120,60 +289,62 @@ pub record OneMore (new : Joined) (rs : List Record) (all : List Entry) (epoch :
   pub file_is : in_file entry ≡ x
   pub holds : Holds new rs left (all ++ entry ∷ [])
 
-pub one_more : (cur new : Joined) (rs after : List Record) (all : List Entry) (epoch number : ℕ) (x : EpochEntry) (s : Seen) → Holds cur rs after all → epoch ≤ 63 → AllByRecursion (λ (e : Entry). e.epoch ≤ epoch) all
-    → IsEpochEntry x → s ≡ seen_next (in_epoch all epoch) x → JoinsNext cur epoch s number → new ≡ with_seen cur number epoch s → OneMore new rs all epoch x
-one_more cur new rs after all epoch number x s holds small older valid seen joins is =
-    let e : Entry = record { number = number; epoch = epoch; text = x.text; moment = x.moment } in
-    let kind : x.kind ≡ message_kind = sym (ap (λ (t : Seen). t.kind) seen) ∙ joins.wanted.message in
-    let file : in_file e ≡ x = (λ i. record { kind = sym kind i; text = x.text; moment = x.moment }) in
+one_more : (cur new : Joined) (rs after : List Record) (all : List Entry) (epoch number : ℕ) (x : EpochEntry) (s : Seen) → Holds cur rs after all → epoch ≤ 63 → AllByRecursion (λ (e : Entry). e.epoch ≤ epoch) all
+    → IsEpochEntry x → s ≡ seen_next (in_epoch all epoch) x → Agrees x.text all → Goes rs after all (as_entry number epoch x) → new ≡ with_seen cur number epoch s → OneMore new rs all epoch x
+one_more cur new rs after all epoch number x s holds small older valid seen agree goes is =
+    let e : Entry = as_entry number epoch x in
     let entry : IsEntry e = record { text = valid.text; epoch = small; moment = valid.moment } in
-    let blob_is : s.blob ≡ blob_id_of x.text = ap (λ (t : Seen). t.blob) seen in
-    let id_is : s.id ≡ (seen_next (in_epoch all epoch) x).id = ap (λ (t : Seen). t.id) seen in
-    let count : length cur.entries ≡ length all = ap length holds.entries_are ∙ stored_count [] all in
-    let found : slice_get (map record_of all ++ after) (length all) ≡ Some (record { number = number; epoch = epoch; blob = s.blob }) =
-    sym (ap (λ (l : List Record). slice_get l (length all)) (holds.records ∙ holds.first.records)) ∙ (sym (ap (slice_get cur.records) count) ∙ joins.wanted.next) in
-    let first = first_is after (record { number = number; epoch = epoch; blob = s.blob }) (sym (record_after all after) ∙ found) in
-    let left : after ≡ record_of e ∷ first.rest = first.is ∙ ap (λ (b : Id20). let r : Record = record { number = number; epoch = epoch; blob = b } in r ∷ first.rest) blob_is in
-    let ids = free_ids [] all x.text (ap (has_id (stored_after [] all)) (sym id_is) ∙ (ap (λ (l : List StoredEntry). has_id l s.id) (sym holds.entries_are) ∙ joins.id)) in
-    let blobs = free_blobs [] all x.text (ap (λ (b : Id20). has_blob (stored_after [] all) b.0) (sym blob_is) ∙ (ap (λ (l : List StoredEntry). has_blob l s.blob.0) (sym holds.entries_are) ∙ joins.blob)) in
-    let stored : entry_seen number epoch s ≡ stored_at all e = ap (entry_seen number epoch) (seen ∙ ap (seen_next (in_epoch all epoch)) (sym file)) in
+    let stored : entry_seen number epoch s ≡ stored_at all e = ap (entry_seen number epoch) seen in
     record {
       entry = e;
-      left = first.rest;
+      left = goes.left;
       epoch_is = refl;
-      file_is = file;
+      file_is = refl;
       holds = record {
         numbered = holds.numbered;
         records = ap (λ (v : Joined). v.records) is ∙ holds.records;
         entries_are = ap (λ (v : Joined). v.entries) is ∙ (ap (λ (l : List StoredEntry). l ++ entry_seen number epoch s ∷ []) holds.entries_are
             ∙ (ap (λ (t : StoredEntry). stored_after [] all ++ t ∷ []) stored ∙ sym (stored_more [] all e)));
-        first = first_more rs first.rest all e holds.numbered (subst (λ (b : List Record). AreFirst rs b all) left holds.first) entry older ids blobs;
+        first = first_more rs goes.left all e holds.numbered goes.first entry older goes.fits agree;
       };
     }
 
+joined_goes : (cur : Joined) (rs after : List Record) (all : List Entry) (epoch number : ℕ) (x : EpochEntry) (s : Seen) → Holds cur rs after all → s ≡ seen_next (in_epoch all epoch) x → Agrees x.text all → JoinsMessage cur epoch s number ⊎ JoinsDeletion cur s number
+    → Goes rs after all (as_entry number epoch x)
+joined_goes cur rs after all epoch number x s holds seen agree (inl joins) = message_goes cur rs after all epoch number x s holds seen joins
+joined_goes cur rs after all epoch number x s holds seen agree (inr joins) = deletion_goes cur rs after all epoch number x s holds seen agree joins
+
 -- A next entry of the map that is valid joins the entries before it.
-pub next_joins : (cur : Joined) (rs after left : List Record) (all : List Entry) (epoch : ℕ) (next : Entry) (s : Seen) → Holds cur rs after all → next.epoch ≡ epoch → s ≡ seen_next (in_epoch all epoch) (in_file next)
-    → AreFirst rs left (all ++ next ∷ []) → JoinsNext cur epoch s next.number
-next_joins cur rs after left all epoch next s holds same seen first =
+next_by : (k : EntryKind) (cur : Joined) (rs after left : List Record) (all : List Entry) (epoch : ℕ) (next : Entry) (s : Seen) → next.kind ≡ k → Holds cur rs after all → next.epoch ≡ epoch → s ≡ seen_next (in_epoch all epoch) (in_file next)
+    → IsEntry next → AreFirst rs (with_record k next left) all → FitsKind k all next → Agrees next.text all → JoinsMessage cur epoch s next.number ⊎ JoinsDeletion cur s next.number
+next_by Message cur rs after left all epoch next s is holds same seen entry first fits agree =
     let blob_is : blob_id_of next.text ≡ s.blob = ap (λ (t : Seen). t.blob) (sym seen) in
     let id_is : (seen_next (in_epoch all epoch) (in_file next)).id ≡ s.id = ap (λ (t : Seen). t.id) (sym seen) in
-    let count : length cur.entries ≡ length all = ap length holds.entries_are ∙ stored_count [] all in
-    let records : cur.records ≡ map record_of all ++ record_of next ∷ left = holds.records ∙ (first.records ∙ map_after record_of all next left) in
-    let entry : IsEntry next = last_valid all first.valid in
-    record {
+    let count : message_count cur.entries ≡ length (delivered all) = ap message_count holds.entries_are ∙ kept_count [] all in
+    let records : cur.records ≡ map record_of (delivered all) ++ record_of next ∷ left = holds.records ∙ first.records in
+    let joins : JoinsMessage cur epoch s next.number = record {
       wanted = record {
-        message = ap (λ (t : Seen). t.kind) seen;
-        next = ap (slice_get cur.records) count ∙ (ap (λ (l : List Record). slice_get l (length all)) records ∙ (record_after all (record_of next ∷ left)
+        message = ap (λ (t : Seen). t.kind) seen ∙ is;
+        next = ap (slice_get cur.records) count ∙ (ap (λ (l : List Record). slice_get l (length (delivered all))) records ∙ (record_after (delivered all) (record_of next ∷ left)
             ∙ (λ i. Some (record { number = next.number; epoch = same i; blob = blob_is i }))));
       };
-      id = ap (λ (l : List StoredEntry). has_id l s.id) holds.entries_are ∙ (ap (has_id (stored_after [] all)) (sym id_is)
-          ∙ apart_ids [] all next.text entry.text holds.first.valid (ids_of_last rs left all next first));
-      blob = ap (λ (l : List StoredEntry). has_blob l s.blob.0) holds.entries_are ∙ (ap (λ (b : Id20). has_blob (stored_after [] all) b.0) (sym blob_is)
-          ∙ apart_blobs [] all next.text (blobs_of_last rs left all next first));
-    } where
-      last_valid : (es : List Entry) → AllByRecursion IsEntry (es ++ next ∷ []) → IsEntry next
-      last_valid [] valid = valid.0
-      last_valid (e ∷ es) valid = last_valid es valid.1
+      id = ap (λ (l : List StoredEntry). has_id (live_kept l) s.id) holds.entries_are ∙ (ap (has_id (live_kept (stored_after [] all))) (sym id_is)
+          ∙ (kept_ids [] all (seen_next (in_epoch all epoch) (in_file next)).id ∙ none_own (live all) next.text entry.text (live-all IsEntry all holds.first.valid) fits));
+    } in inl joins
+next_by Deletion cur rs after left all epoch next s is holds same seen entry first fits agree =
+    let blob_is : blob_id_of next.text ≡ s.blob = ap (λ (t : Seen). t.blob) (sym seen) in
+    let joins : JoinsDeletion cur s next.number = record {
+      deletion = ap (λ (t : Seen). t.kind) seen ∙ is;
+      live = ap (λ (l : List StoredEntry). number_of (live_kept l) s.blob.0) holds.entries_are ∙ (ap (λ (b : Id20). number_of (live_kept (stored_after [] all)) b.0) (sym blob_is)
+          ∙ (kept_numbers [] all (blob_id_of next.text).0
+          ∙ found_number (live all) next.number next.text (ids-now all holds.first.ids) (live-all (λ (f : Entry). blob_id_of next.text ≡ blob_id_of f.text → next.text ≡ f.text) all agree) fits));
+    } in inr joins
+
+next_joins : (cur : Joined) (rs after left : List Record) (all : List Entry) (epoch : ℕ) (next : Entry) (s : Seen) (same : Bool) → Holds cur rs after all → next.epoch ≡ epoch → s ≡ seen_next (in_epoch all epoch) (in_file next)
+    → AgreesIf same next.text all → AreFirst rs left (all ++ next ∷ []) → JoinsNext cur epoch s same next.number
+next_joins cur rs after left all epoch next s same holds here seen texts first =
+    let agree = blobs_last all next first.blobs in
+    (texts.yes_it agree, next_by next.kind cur rs after left all epoch next s refl holds here seen (all_last IsEntry all next first.valid) (first_less rs left all next first) (fits_last rs left all next first) agree)
 
 -- Some first entries of an epoch have joined those of the epochs before it, and this is recorded of
 -- the others.
@@ -221,18 +392,89 @@ begins left s after more (x ∷ others) is seen =
 valid_parts : (rest : List EpochEntry) (x : EpochEntry) (others : List EpochEntry) → rest ≡ x ∷ others → AreEpochEntries rest → IsEpochEntry x × AreEpochEntries others
 valid_parts rest x others is valid = subst AreEpochEntries is valid
 
+-- The entries so far are of epochs up to this one.
+pub all_older : (others more : List Entry) (epoch : ℕ) → AllByRecursion (λ (e : Entry). e.epoch < epoch) others → AllByRecursion (λ (e : Entry). e.epoch ≡ epoch) more → AllByRecursion (λ (e : Entry). e.epoch ≤ epoch) (others ++ more)
+all_older others more epoch below stand =
+    all_joined (λ (e : Entry). e.epoch ≤ epoch) others more
+    (all_weaker (λ (e : Entry). e.epoch < epoch) (λ (e : Entry). e.epoch ≤ epoch) others (λ e less. omega (arith, less)) below)
+    (all_weaker (λ (e : Entry). e.epoch ≡ epoch) (λ (e : Entry). e.epoch ≤ epoch) more (λ e same. omega (arith, same)) stand)
+
+-- The files of the epochs up to this one start with the entries so far and the others.
+all_out : (es : List Entry) (epoch other : ℕ) → epoch ≢ other → AllByRecursion (λ (e : Entry). e.epoch ≡ epoch) es → in_epoch es other ≡ []
+all_out [] epoch other apart all = refl
+all_out (e ∷ es) epoch other apart all =
+    let test : (e.epoch == other) ≡ false = (let is : e.epoch ≡ epoch = all.0 in grind (arith, nat_tests)) in
+    rw test (all_out es epoch other apart all.1)
+
+files_chain : (parent : Option Id20) (es : List Entry) → entries_bytes parent es ≡ chain parent (map in_file es)
+files_chain parent [] = refl
+files_chain parent (e ∷ es) = ap (λ (b : List ℕ). bytes_after parent (in_file e) ++ b) (files_chain (Some (commit_after parent (in_file e))) es)
+
+files_joined : (xs ys : List Entry) → map in_file (xs ++ ys) ≡ map in_file xs ++ map in_file ys
+files_joined [] ys = refl
+files_joined (x ∷ xs) ys = ap (λ (l : List EpochEntry). in_file x ∷ l) (files_joined xs ys)
+
+there_some : (more : List Entry) (e : Entry) (rest : List Entry) → epoch_bytes (more ++ e ∷ rest) ≡ magic ++ entries_bytes None (more ++ e ∷ rest)
+there_some [] e rest = refl
+there_some (f ∷ more) e rest = refl
+
+stand_there : (root : Root) (files : Files) (epoch : ℕ) (others more : List Entry) (x : EpochEntry) (rest : List EpochEntry) (here : List EpochEntry) → AllByRecursion (λ (e : Entry). e.epoch ≡ epoch) more → AreWhole root files epoch others
+    → Fronts (epoch_of here) (files (epoch_file_of root epoch)) → here ≡ map in_file more ++ x ∷ rest → AreThere root files epoch ((others ++ more) ++ as_entries epoch (x ∷ rest))
+stand_there root files epoch others more x rest here stand whole fronts are = λ d most. elim (below_or_at d most) [
+  | inl less ↦ subst (λ (l : List Entry). Fronts (epoch_bytes l) (files (epoch_file_of root d))) (sym (under d less)) (whole.fronts d less)
+  | inr same ↦ subst (λ (n : ℕ). Fronts (epoch_bytes (in_epoch all n)) (files (epoch_file_of root n))) (sym same) at_it
+] where
+  tail : List Entry
+  tail = as_entries epoch (x ∷ rest)
+
+  all : List Entry
+  all = (others ++ more) ++ tail
+
+  below_or_at : (d : ℕ) → d ≤ epoch → (d < epoch) ⊎ (d ≡ epoch)
+  below_or_at d most = elim (cases_lt d epoch) [
+    | inl less ↦ inl less
+    | inr over ↦ inr (omega (arith, most, over))
+  ]
+
+  both : AllByRecursion (λ (e : Entry). e.epoch ≡ epoch) (more ++ tail)
+  both = all_joined (λ (e : Entry). e.epoch ≡ epoch) more tail stand (as_stand epoch (x ∷ rest))
+
+  under : (d : ℕ) → d < epoch → in_epoch all d ≡ in_epoch others d
+  under d less = ap (λ (l : List Entry). in_epoch l d) (append_assoc others more tail)
+      ∙ (filter-append (λ (e : Entry). e.epoch == d) others (more ++ tail) ∙ (ap (λ (l : List Entry). in_epoch others d ++ l) (all_out (more ++ tail) epoch d (λ is. absurd (omega (arith, less, is))) both) ∙ append-nil (in_epoch others d)))
+
+  bytes : epoch_of here ≡ epoch_bytes (more ++ tail)
+  bytes = ap (λ (l : List EpochEntry). magic ++ chain None l) (are ∙ (ap (λ (l : List EpochEntry). map in_file more ++ l) (sym (as_filed epoch (x ∷ rest))) ∙ sym (files_joined more tail)))
+      ∙ (ap (λ (b : List ℕ). magic ++ b) (sym (files_chain None (more ++ tail))) ∙ sym (there_some more (as_entry 0 epoch x) (as_entries epoch rest)))
+
+  at_it : Fronts (epoch_bytes (in_epoch all epoch)) (files (epoch_file_of root epoch))
+  at_it = subst (λ (l : List Entry). Fronts (epoch_bytes l) (files (epoch_file_of root epoch))) (sym (ap (λ (l : List Entry). in_epoch l epoch) (append_assoc others more tail) ∙ only_here others (more ++ tail) epoch whole.below both))
+      (subst (λ (b : List ℕ). Fronts b (files (epoch_file_of root epoch))) bytes fronts)
+
+-- The next entry was compared.
+come_texts : (root : Root) (files : Files) (cur : Joined) (left : List Seen) (s : Seen) (after : List Seen) (rs : List Record) (others : List Entry) (epoch : ℕ) (here : List EpochEntry) (same : Bool) → AreWhole root files epoch others → Fronts (epoch_of here) (files (epoch_file_of root epoch))
+    → (comes : Comes cur left rs others epoch here) → (begin : Begins left s after comes.more comes.rest) → IsSameText root files (kept_at cur.entries (first_index cur.entries s.blob.0)) epoch s same → AgreesIf same begin.x.text (others ++ comes.more)
+come_texts root files cur left s after rs others epoch here same whole fronts comes begin texts =
+    let all = others ++ comes.more in
+    let here_is : in_epoch all epoch ≡ comes.more = only_here others comes.more epoch comes.below comes.stand in
+    compared root files cur rs comes.after epoch all begin.x s (as_entries epoch begin.others) same comes.holds (begin.first ∙ ap (λ (l : List Entry). seen_next l begin.x) (sym here_is)) texts (all_older others comes.more epoch comes.below comes.stand)
+    (stand_there root files epoch others comes.more begin.x begin.others here comes.stand whole fronts (comes.are ∙ ap (λ (l : List EpochEntry). map in_file comes.more ++ l) begin.are))
+
 -- One more entry joins.
-pub comes_more : (cur new : Joined) (left : List Seen) (s : Seen) (after : List Seen) (rs : List Record) (others : List Entry) (epoch number : ℕ) (here : List EpochEntry) → epoch ≤ 63 → Comes cur left rs others epoch here → left ≡ s ∷ after
-    → JoinsNext cur epoch s number → new ≡ with_seen cur number epoch s → Comes new after rs others epoch here
-comes_more cur new left s after rs others epoch number here small comes is joins new_is =
+pub comes_more : (root : Root) (files : Files) (cur new : Joined) (left : List Seen) (s : Seen) (after : List Seen) (rs : List Record) (others : List Entry) (epoch number : ℕ) (here : List EpochEntry) (same : Bool) → epoch ≤ 63 → AreWhole root files epoch others
+    → Fronts (epoch_of here) (files (epoch_file_of root epoch)) → Comes cur left rs others epoch here → left ≡ s ∷ after
+    → Held cur (IsSameText root files (kept_at cur.entries (first_index cur.entries s.blob.0)) epoch s same) → Held cur (JoinsNext cur epoch s same number) → new ≡ with_seen cur number epoch s → Comes new after rs others epoch here
+comes_more root files cur new left s after rs others epoch number here same small whole fronts comes is texts joining new_is =
     let begin = begins left s after comes.more comes.rest is comes.seen in
     let parts = valid_parts comes.rest begin.x begin.others begin.are comes.valid in
     let all = others ++ comes.more in
+    let joins = joining rs comes.after all comes.holds in
+    let agree = (come_texts root files cur left s after rs others epoch here same whole fronts comes begin (texts rs comes.after all comes.holds)).agrees joins.0 in
     let here_is : in_epoch all epoch ≡ comes.more = only_here others comes.more epoch comes.below comes.stand in
-    let older = all_joined (λ (e : Entry). e.epoch ≤ epoch) others comes.more
-    (all_weaker (λ (e : Entry). e.epoch < epoch) (λ (e : Entry). e.epoch ≤ epoch) others (λ e less. omega (arith, less)) comes.below)
-    (all_weaker (λ (e : Entry). e.epoch ≡ epoch) (λ (e : Entry). e.epoch ≤ epoch) comes.more (λ e same. omega (arith, same)) comes.stand) in
-    let one = one_more cur new rs comes.after all epoch number begin.x s comes.holds small older parts.0 (begin.first ∙ ap (λ (l : List Entry). seen_next l begin.x) (sym here_is)) joins new_is in
+    let older = all_older others comes.more epoch comes.below comes.stand in
+    let seen = begin.first ∙ ap (λ (l : List Entry). seen_next l begin.x) (sym here_is) in
+    let goes = joined_goes cur rs comes.after all epoch number begin.x s comes.holds seen agree joins.1 in
+    let one = one_more cur new rs comes.after all epoch number begin.x s comes.holds small older parts.0 seen agree goes new_is in
     let more = comes.more ++ one.entry ∷ [] in
     let offset : 8 + length (entries_bytes None comes.more) + length (bytes_after (last_commit None comes.more) begin.x) ≡ 8 + length (entries_bytes None more) =
     ap (λ (x : EpochEntry). 8 + length (entries_bytes None comes.more) + length (bytes_after (last_commit None comes.more) x)) (sym one.file_is)
@@ -265,11 +507,13 @@ all_come cur left rs others epoch here comes none = record {
   no_rest (x ∷ xs) is = absurd (cc)
 
 -- The next entry can't join.
-pub stops : (cur : Joined) (left : List Seen) (s : Seen) (after : List Seen) (rs : List Record) (others : List Entry) (epoch offset : ℕ) (here : List EpochEntry) → Comes cur left rs others epoch here → left ≡ s ∷ after
-    → offset ≡ s.at → ((number : ℕ) → JoinsNext cur epoch s number → ⊥) → StopsAt rs others epoch here offset
-stops cur left s after rs others epoch offset here comes is at none =
+pub stops : (root : Root) (files : Files) (cur : Joined) (left : List Seen) (s : Seen) (after : List Seen) (rs : List Record) (others : List Entry) (epoch offset : ℕ) (here : List EpochEntry) (same : Bool) → AreWhole root files epoch others
+    → Fronts (epoch_of here) (files (epoch_file_of root epoch)) → Comes cur left rs others epoch here → left ≡ s ∷ after → Held cur (IsSameText root files (kept_at cur.entries (first_index cur.entries s.blob.0)) epoch s same)
+    → offset ≡ s.at → Held cur ((number : ℕ) → JoinsNext cur epoch s same number → ⊥) → StopsAt rs others epoch here offset
+stops root files cur left s after rs others epoch offset here same whole fronts comes is texts at none =
     let begin = begins left s after comes.more comes.rest is comes.seen in
     let all = others ++ comes.more in
+    let agreeing = come_texts root files cur left s after rs others epoch here same whole fronts comes begin (texts rs comes.after all comes.holds) in
     let here_is : in_epoch all epoch ≡ comes.more = only_here others comes.more epoch comes.below comes.stand in
     record {
       more = comes.more;
@@ -280,13 +524,16 @@ stops cur left s after rs others epoch offset here comes is at none =
       are = comes.are ∙ ap (λ (l : List EpochEntry). map in_file comes.more ++ l) begin.are;
       first = comes.holds.first;
       offset_is = at ∙ ap (λ (t : Seen). t.at) begin.first;
-      no_next = λ next left_records same file first.
-          none next.number (next_joins cur rs comes.after left_records all epoch next s comes.holds same
-          (begin.first ∙ (ap (seen_next comes.more) (sym file) ∙ ap (λ (l : List Entry). seen_next l (in_file next)) (sym here_is))) first);
+      no_next = λ next left_records same_epoch file first.
+          none rs comes.after all comes.holds next.number (next_joins cur rs comes.after left_records all epoch next s same comes.holds same_epoch
+          (begin.first ∙ (ap (seen_next comes.more) (sym file) ∙ ap (λ (l : List Entry). seen_next l (in_file next)) (sym here_is)))
+          (subst (λ (y : EpochEntry). AgreesIf same y.text all) (sym file) agreeing) first);
     }
 
 -- What an error then says.
-pub joins_or_stops : (cur : Joined) (left : List Seen) (s : Seen) (after : List Seen) (rs : List Record) (others : List Entry) (epoch : ℕ) (here : List EpochEntry) (refusal : JoinRefusal) → Comes cur left rs others epoch here → left ≡ s ∷ after
-    → JoinsOne cur epoch s (Err refusal) → JoinsAll rs others epoch here (Err refusal)
-joins_or_stops cur left s after rs others epoch here NoMemory comes is joins = tt
-joins_or_stops cur left s after rs others epoch here (Damaged offset) comes is joins = stops cur left s after rs others epoch offset here comes is joins.0 joins.1
+pub joins_or_stops : (root : Root) (files : Files) (cur : Joined) (left : List Seen) (s : Seen) (after : List Seen) (rs : List Record) (others : List Entry) (epoch : ℕ) (here : List EpochEntry) (refusal : JoinRefusal) → AreWhole root files epoch others
+    → Fronts (epoch_of here) (files (epoch_file_of root epoch)) → Comes cur left rs others epoch here → left ≡ s ∷ after → JoinsByText root cur epoch s (Err refusal) files → JoinsAll rs others epoch here (Err refusal)
+joins_or_stops root files cur left s after rs others epoch here NoMemory whole fronts comes is joins = tt
+joins_or_stops root files cur left s after rs others epoch here DiskFault whole fronts comes is joins = tt
+joins_or_stops root files cur left s after rs others epoch here (Damaged offset) whole fronts comes is joins =
+    let same = joins.0 in stops root files cur left s after rs others epoch offset here same whole fronts comes is joins.1 joins.2.0 joins.2.1

@@ -7,8 +7,10 @@ mod Delivering
 mod EntryWriting
 mod Mapped
 mod Sets
+mod KnownLive
 mod Firsts
 mod Joins
+mod Knowing
 mod Kept
 pub mod UniqueRoots
 mod UniqueEntries
@@ -28,3 +30,4 @@ mod Recovered
 mod Reopening
 mod WholeEpochs
 mod Settles
+mod Comparing

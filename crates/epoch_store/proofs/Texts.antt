@@ -37,7 +37,7 @@ item_of : {X : Type 0} {x y : X} → Some x ≡ Some y → x ≡ y
 item_of {X} {x} {y} is = ap (λ (o : Option X). unwrap_or o x) is
 
 -- An entry of an archive, and what is kept of it.
-record IsKeptOf (before es : List Entry) (i : ℕ) (s : StoredEntry) : Type 0 where
+pub record IsKeptOf (before es : List Entry) (i : ℕ) (s : StoredEntry) : Type 0 where
   pub front : List Entry
   pub entry : Entry
   pub rest : List Entry
@@ -72,7 +72,7 @@ one_of_all P [] e ys all = all.0
 one_of_all P (x ∷ xs) e ys all = one_of_all P xs e ys all.1
 
 -- Bytes have a text at an offset.
-record Divided (bytes : List ℕ) (offset : ℕ) (text : List ℕ) : Type 0 where
+pub record Divided (bytes : List ℕ) (offset : ℕ) (text : List ℕ) : Type 0 where
   pub before : List ℕ
   pub after : List ℕ
   pub is : bytes ≡ before ++ (text ++ after)
@@ -95,7 +95,7 @@ divided_before bytes more offset text d = record {
 }
 
 -- The bytes from there on, as many as the text has, are the text.
-divided_reads : (bytes : List ℕ) (offset : ℕ) (text : List ℕ) → Divided bytes offset text → (offset + length text ≤ length bytes) × (take (length text) (drop offset bytes) ≡ text)
+pub divided_reads : (bytes : List ℕ) (offset : ℕ) (text : List ℕ) → Divided bytes offset text → (offset + length text ≤ length bytes) × (take (length text) (drop offset bytes) ≡ text)
 divided_reads bytes offset text d =
     let size : length bytes ≡ length (d.before ++ (text ++ d.after)) = ap length d.is in
     let parts = length-append d.before (text ++ d.after) in
@@ -118,7 +118,7 @@ epoch_split : (xs : List Entry) (e : Entry) (ys : List Entry) → epoch_bytes (x
 epoch_split [] e ys = refl
 epoch_split (x ∷ xs) e ys = refl
 
-in_epoch_split : (xs : List Entry) (e : Entry) (ys : List Entry) → in_epoch (xs ++ e ∷ ys) e.epoch ≡ in_epoch xs e.epoch ++ e ∷ in_epoch ys e.epoch
+pub in_epoch_split : (xs : List Entry) (e : Entry) (ys : List Entry) → in_epoch (xs ++ e ∷ ys) e.epoch ≡ in_epoch xs e.epoch ++ e ∷ in_epoch ys e.epoch
 in_epoch_split xs e ys =
     let same : (e.epoch == e.epoch) ≡ true = grind (arith, nat_tests) in
     filter-append (λ (f : Entry). f.epoch == e.epoch) xs (e ∷ ys) ∙ rw same refl
@@ -137,7 +137,7 @@ unfolding entry_bytes
 entry_text kind text moment parent = sized_text (decimal (length text)) text (tree_of kind text ++ commit_text kind text moment parent)
 
 -- A text in the bytes of its epoch.
-epoch_text : (xs : List Entry) (e : Entry) (ys : List Entry) → Divided (epoch_bytes (xs ++ e ∷ ys)) (8 + length (entries_bytes None xs) + blob_front e.text) e.text
+pub epoch_text : (xs : List Entry) (e : Entry) (ys : List Entry) → Divided (epoch_bytes (xs ++ e ∷ ys)) (8 + length (entries_bytes None xs) + blob_front e.text) e.text
 epoch_text xs e ys =
     let parent = last_commit None xs in
     let rest = entries_bytes (Some (commit_id e.kind e.text e.moment parent)) ys in
@@ -150,7 +150,7 @@ epoch_text xs e ys =
     (subst (λ (b : List ℕ). Divided b (length magic + (length (entries_bytes None xs) + blob_front e.text)) e.text) (sym (epoch_split xs e ys ∙ ap (λ (b : List ℕ). magic ++ b) (entries_split None xs e ys))) whole)
 
 -- A text in the bytes that a file starts with is in the file.
-in_fronts : (bytes : List ℕ) (file : File) (offset : ℕ) (text : List ℕ) → Fronts bytes file → Divided bytes offset text → Divided (bytes_of file) offset text
+pub in_fronts : (bytes : List ℕ) (file : File) (offset : ℕ) (text : List ℕ) → Fronts bytes file → Divided bytes offset text → Divided (bytes_of file) offset text
 in_fronts bytes file offset text fronts d =
     let whole : bytes ++ drop (length bytes) (bytes_of file) ≡ bytes_of file =
     ap (λ (b : List ℕ). b ++ drop (length bytes) (bytes_of file)) (sym fronts.front) ∙ take-append-drop (length bytes) (bytes_of file) in

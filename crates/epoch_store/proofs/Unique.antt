@@ -2,7 +2,7 @@
 use Rattle.std.specs.Prelude.{◌≡◌, ◌^◌, ◌-◌, ◌*◌, ◌<◌, ℕ, List, length, Some, None, refl}
 use Rattle.std.proofs.Common.{◌∙◌, sym, ap, subst, arith}
 use Rattle.disk_model.specs.Disk.{Files}
-use Rattle.arch_model.specs.Archives.{Archive, messages}
+use Rattle.arch_model.specs.Archives.{Archive}
 use Rattle.epoch_file.specs.Entries.{EpochsDiffer}
 use Rattle.number_map.specs.Laws.{RecordsDiffer}
 use Rattle.root_slots.specs.declared.root.Root.{Root}
@@ -12,12 +12,14 @@ use Rattle.root_slots.specs.Spelling.{spelling}
 use Rattle.root_change.specs.Parts.{texts_of}
 use Rattle.epoch_store.specs.Files.{map_file_of, epoch_file_of, cache_file_of}
 use Rattle.epoch_store.specs.Laws.{RecoversOne, RecoversSomeOne, CachesOne, ExactRecovers, StoreRecovers}
-use Rattle.epoch_store.specs.Recovery.{records_from, records_of, map_bytes, bytes_in, parts_of, RecoversBy}
+use Rattle.epoch_store.specs.Recovery.{records_of, map_bytes, bytes_in, parts_of, RecoversBy}
 use Rattle.epoch_store.specs.Leaving.{disk_recovers}
 use Rattle.epoch_store.proofs.Parted.{parts_front, exact_stands}
 use Rattle.epoch_store.proofs.Mapped.{map_length, records_valid}
 use Rattle.epoch_store.proofs.UniqueRoots.{root_is_one, not_shut, front_is_one}
-use Rattle.epoch_store.proofs.UniqueEntries.{entries_are_one, records_at, filed_is_one}
+use Rattle.epoch_store.proofs.UniqueEntries.{entries_are_one, filed_is_one}
+use Rattle.epoch_store.specs.Damage.{messages}
+use Rattle.epoch_store.proofs.Opened.{delivered_records}
 
 -- Archives with three equal values are equal.
 archive_is : (a b : Archive) → a.config ≡ b.config → a.entries ≡ b.entries → a.next ≡ b.next → a ≡ b
@@ -29,15 +31,12 @@ one_by_root records epochs root image a b c d p q =
     let first = parts_front root c image a p in
     let second = parts_front root d image b q in
     let next : a.next ≡ b.next = sym p.names.next ∙ q.names.next in
-    let least = p.valid.next_least in
     let size : length (map_bytes a) ≡ length (map_bytes b) = map_length a p.valid ∙ (ap (λ (n : ℕ). 28 * (n - 1)) next ∙ sym (map_length b q.valid)) in
     let maps : map_bytes a ≡ map_bytes b = front_is_one (image (map_file_of root)) (map_bytes a) (map_bytes b) size first.map_front second.map_front in
-    let lines : records_of a ≡ records_of b =
-    records (records_of a) (records_of b) (records_valid a p.valid) (records_valid b q.valid) maps in
-    let same : records_from (messages a.entries) 1 (a.next - 1) ≡ records_from (messages b.entries) 1 (a.next - 1) = lines ∙ ap (λ (n : ℕ). records_from (messages b.entries) 1 (n - 1)) (sym next) in
+    let lines : records_of a ≡ records_of b = records (records_of a) (records_of b) (records_valid a p.valid) (records_valid b q.valid) maps in
+    let messages_same = sym (delivered_records a p.valid) ∙ (ap messages lines ∙ delivered_records b q.valid) in
     let entries =
-    entries_are_one a b p.valid q.valid next
-    (λ n low high. records_at (messages a.entries) (messages b.entries) 1 (a.next - 1) same n low (omega (arith, least, high)))
+    entries_are_one a.entries b.entries p.valid.entries q.valid.entries p.valid.order q.valid.order p.valid.ends q.valid.ends p.valid.ids messages_same
     (λ e few.
     let long : length (bytes_in a e) ≡ length (bytes_in b e) = sym (p.names.epochs e few) ∙ q.names.epochs e few in
     let short : length (bytes_in a e) < 2 ^ 64 = subst (λ (n : ℕ). n < 2 ^ 64) (p.names.epochs e few) (p.names.fits.epochs e few).length in

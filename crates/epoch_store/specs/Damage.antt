@@ -109,8 +109,8 @@ pub record LacksLast (root : Root) (files : Files) (rs : List Record) (epoch off
 
 -- An epoch is the first one that is damaged, at this offset: 0, or that of the first entry that
 -- isn't there or can't be the next one: a message that the map doesn't have next, or whose own id is
--- live, a deletion of what isn't live, or another text of an older blob id. If all epochs are whole, it is the end of the one
--- that should have the map's next message.
+-- live, a deletion of what isn't live, or another text of an older blob id. If all epochs are whole,
+-- it is the end of the one that should have the map's next message.
 abbrev pub IsFirstDamage : Root → Files → List Record → ℕ → ℕ → Type 0
 IsFirstDamage root files rs epoch offset =
     ((epoch < epoch_count) × LacksFront root files rs epoch offset) ⊎ (((epoch < epoch_count)

@@ -41,6 +41,10 @@ pub record Holds (v : Joined) (rs after : List Record) (entries : List Entry) : 
   pub entries_are : v.entries ≡ stored_after [] entries
   pub first : AreFirst rs after entries
 
+-- What is so if the entries are those of the first records of a map.
+abbrev pub Held : Joined → Type 0 → Type 0
+Held v P = (rs after : List Record) (entries : List Entry) → Holds v rs after entries → P
+
 -- How many of the entries that are kept are messages.
 abbrev pub message_count : List StoredEntry → ℕ
 message_count entries = length (filter (λ (e : StoredEntry). is_message e.seen.kind) entries)
@@ -146,8 +150,8 @@ kept_at entries (Some index) = slice_get entries index
 
 -- The result of comparing an entry's text with that of the first entry with its blob id.
 abbrev pub ComparesText : Root → Joined → ℕ → Seen → Result Bool JoinRefusal → Files → Type 0
-ComparesText root v epoch seen (Ok same) files =
-    IsSameText root files (kept_at v.entries (first_index v.entries seen.blob.0)) epoch seen same
+ComparesText root v epoch seen (Ok same) files = Held v (IsSameText root files
+    (kept_at v.entries (first_index v.entries seen.blob.0)) epoch seen same)
 ComparesText root v epoch seen (Err (Damaged at)) files = ⊥
 ComparesText root v epoch seen (Err DiskFault) files = Unit {0}
 ComparesText root v epoch seen (Err NoMemory) files = Unit {0}
@@ -157,12 +161,12 @@ abbrev pub with_seen : Joined → ℕ → ℕ → Seen → Joined
 with_seen v number epoch seen =
     record { records = v.records; entries = v.entries ++ entry_seen number epoch seen ∷ [] }
 
--- An entry was joined, or can't be and its offset is the result.
+-- An entry was joined, as one that may be, or can't be and its offset is the result.
 abbrev pub JoinsOne : Joined → ℕ → Seen → Bool → Result Joined JoinRefusal → Type 0
-JoinsOne old epoch seen same (Ok new) = (number : ℕ) × JoinsNext old epoch seen same number
-    × (new ≡ with_seen old number epoch seen)
+JoinsOne old epoch seen same (Ok new) = (number : ℕ) × (new ≡ with_seen old number epoch seen)
+    × Held old (JoinsNext old epoch seen same number)
 JoinsOne old epoch seen same (Err (Damaged at)) = (at ≡ seen.at)
-    × ((number : ℕ) → JoinsNext old epoch seen same number → ⊥)
+    × Held old ((number : ℕ) → JoinsNext old epoch seen same number → ⊥)
 JoinsOne old epoch seen same (Err DiskFault) = ⊥
 JoinsOne old epoch seen same (Err NoMemory) = Unit {0}
 

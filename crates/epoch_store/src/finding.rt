@@ -121,6 +121,7 @@ fn take<D: Disk>(
     ensures reads { OnlyReads D.content D.moment D.left_since D.faults disk.old disk.new }
     ensures fault { result ≡ Err OpenRefusal.DiskFault
         → Rose (D.faults disk.old) (D.faults disk.new) }
+    ensures steady { result ≢ Err OpenRefusal.DiskFault → D.faults disk.new ≡ D.faults disk.old }
 {
     law_of_entries();
     match joining.take_epoch(alloc, disk, root, epoch, seen) {
@@ -154,6 +155,7 @@ fn stop_in<D: Disk>(
         StopsSeen root.now epoch joining at seen result (as_read k)) (D.content disk.old) }
     ensures reads { OnlyReads D.content D.moment D.left_since D.faults disk.old disk.new }
     ensures fault { result ≡ OpenRefusal.DiskFault → Rose (D.faults disk.old) (D.faults disk.new) }
+    ensures steady { result ≢ OpenRefusal.DiskFault → D.faults disk.new ≡ D.faults disk.old }
 {
     law_of_entries();
     law_of_epochs();

@@ -11,7 +11,10 @@ ghost use Rattle.epoch_store.specs.Joined.{Wants, JoinsOne, AreBefore, ComparesT
 ghost use Rattle.epoch_store.specs.declared.known.JoinRefusal.{JoinRefusal};
 
 use crate::entries::StoredEntry;
-use crate::known::{JoinRefusal, Known, Unmatched, add_first, add_id, add_number, known_of_none};
+use crate::known::{
+    JoinRefusal, Known, Unmatched, add_first, add_id, add_number, drop_id, known_of_none,
+    take_number,
+};
 use crate::reads::read_text;
 use arch_base::NoMemory;
 use arch_model::TextRefusal;
@@ -26,8 +29,9 @@ use std::marker::Model;
 
 /// The records of a map that have a message, and the entries so far.
 ///
-/// The messages among these are those of the first records, in order. The own ids of live entries
-/// differ, each deletion ends a live entry, and each blob id has one text.
+/// If the disk tells what it holds, the messages among these are those of the first records, in
+/// order, the own ids of live entries differ, each deletion ends a live entry, and each blob id has
+/// one text. `known` is right of such entries.
 #[derive(Drop)]
 pub(crate) struct Joining {
     records: Vec<Record>,
@@ -39,13 +43,14 @@ pub(crate) struct Joining {
 
 impl Model for Joining {
     ghost use Rattle.std.specs.Prelude.{◌≡◌};
-    ghost use Rattle.epoch_store.specs.Joined.{Joined, AreKnown, HaveEpochs, message_count};
+    ghost use Rattle.epoch_store.specs.Joined.{Joined, Held, AreKnown, HaveEpochs, message_count};
 
     ghost Value = { Joined };
 
     ghost view = { λ j. record { records = j.records.items; entries = j.entries.items } };
 
-    ghost invariant = { λ j. AreKnown j.entries.items j.known × HaveEpochs j.records.items
+    ghost invariant = { λ j. Held (record { records = j.records.items; entries = j.entries.items })
+        (AreKnown j.entries.items j.known) × HaveEpochs j.records.items
         × (j.count ≡ message_count j.entries.items) };
 }
 
@@ -139,10 +144,10 @@ impl Joining {
             entries,
             count,
         } = self;
-        let Some(number) = known.numbers.remove(&seen.blob.0) else {
+        let Some(number) = take_number(&mut known.numbers, &seen.blob) else {
             return Err(JoinRefusal::Damaged { at });
         };
-        let _ = known.ids.remove(seen.id.as_slice());
+        drop_id(&mut known.ids, &seen.id);
         let entries = with_entry(entries, number, epoch, seen)?;
         Ok(Joining {
             records,
@@ -183,6 +188,7 @@ impl Joining {
         ensures reads { OnlyReads D.content D.moment D.left_since D.faults disk.old disk.new }
         ensures fault { result ≡ Err JoinRefusal.DiskFault
             → Rose (D.faults disk.old) (D.faults disk.new) }
+        ensures steady { result ≢ Err JoinRefusal.DiskFault → D.faults disk.new ≡ D.faults disk.old }
     {
         let Some(first) = self.known.firsts.get(&seen.blob.0) else {
             return Ok(true);
@@ -212,6 +218,7 @@ impl Joining {
         ensures reads { OnlyReads D.content D.moment D.left_since D.faults disk.old disk.new }
         ensures fault { result ≡ Err JoinRefusal.DiskFault
             → Rose (D.faults disk.old) (D.faults disk.new) }
+        ensures steady { result ≢ Err JoinRefusal.DiskFault → D.faults disk.new ≡ D.faults disk.old }
     {
         match self.has_same(alloc, disk, root, epoch, &seen) {
             Ok(same) => self.take_one(epoch, seen, same),
@@ -243,6 +250,7 @@ impl Joining {
         ensures reads { OnlyReads D.content D.moment D.left_since D.faults disk.old disk.new }
         ensures fault { result ≡ Err JoinRefusal.DiskFault
             → Rose (D.faults disk.old) (D.faults disk.new) }
+        ensures steady { result ≢ Err JoinRefusal.DiskFault → D.faults disk.new ≡ D.faults disk.old }
     {
         let mut joining = self;
         for entry in seen.into_vec() {
@@ -310,12 +318,19 @@ fn seen_text<D: Disk>(
     ensures reads { OnlyReads D.content D.moment D.left_since D.faults disk.old disk.new }
     ensures fault { result ≡ Err JoinRefusal.DiskFault
         → Rose (D.faults disk.old) (D.faults disk.new) }
+    ensures steady { result ≢ Err JoinRefusal.DiskFault → D.faults disk.new ≡ D.faults disk.old }
 {
     let gen_ = match root.epochs.get(epoch as usize) {
         Some(place) => place.gen_,
         None => 0,
     };
-    match read_text(alloc, disk, epoch_file(epoch, gen_), seen.text_at, seen.size) {
+    match read_text(
+        alloc,
+        disk,
+        epoch_file(epoch, gen_),
+        seen.text_at,
+        seen.size,
+    ) {
         Ok(text) => Ok(text),
         Err(TextRefusal::DiskFault) => Err(JoinRefusal::DiskFault),
         // A read finds no damage.

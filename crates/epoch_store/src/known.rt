@@ -1,5 +1,5 @@
 //! What is known of the entries of an archive that is being opened.
-ghost use Rattle.std.specs.Prelude.{◌≡◌, ℕ, List, [], Some, None, IfOk, OnOk, if◌then◌else◌};
+ghost use Rattle.std.specs.Prelude.{◌≡◌, ◌&&◌, ℕ, not, List, [], Some, None, IfOk, OnOk, if◌then◌else◌};
 ghost use Rattle.std.specs.Str.{bytes_eq};
 ghost use Rattle.epoch_store.specs.Joined.{AddsOne, id_in, value_in, first_of};
 
@@ -91,6 +91,22 @@ pub(crate) fn add_number(
 {
     numbers.insert(blob.0, number)?;
     Ok(())
+}
+
+/// Removes the number of a live entry with a blob id, and returns it.
+pub(crate) fn take_number(numbers: &mut BTreeMap<[u8; 20], u32>, blob: &ObjectId) -> Option<u32>
+    ensures found { result ≡ value_in numbers.old blob.now.0 }
+    ensures left { (q : List ℕ) → value_in numbers.new q
+        ≡ (if bytes_eq q blob.now.0 then None else value_in numbers.old q) }
+{
+    numbers.remove(&blob.0)
+}
+
+/// Removes an own id.
+pub(crate) fn drop_id(ids: &mut BTreeSet<Vec<u8>>, id: &Bytes)
+    ensures { (q : List ℕ) → id_in ids.new q ≡ (not (bytes_eq q id.now) && id_in ids.old q) }
+{
+    ids.remove(id.as_slice());
 }
 
 /// Makes an index that of the first entry with a blob id, unless there is an older one.

@@ -5,8 +5,8 @@ use Rattle.root_slots.specs.declared.root.Place.{Place}
 use Rattle.epoch_store.specs.declared.entries.StoredEntry.{StoredEntry}
 use Rattle.epoch_store.specs.Files.{as_read, epoch_file_of}
 use Rattle.epoch_store.specs.Damage.{named_length}
-use Rattle.epoch_store.specs.Finding.{ReadsEpoch, StopsEpoch}
-use Rattle.epoch_store.proofs.FindingTold.{told_both, told_any, told_so}
+use Rattle.epoch_store.specs.Finding.{ReadsEpoch, ReadsSeen, StopsEpoch}
+use Rattle.epoch_store.proofs.FindingTold.{told_both, told_any}
 use Rattle.epoch_store.proofs.FindingTurns.{empty_read, seen_read, left_read}
 use Rattle.arch_model.proofs.ValidArchives.{all_weaker}
 use Rattle.epoch_store.proofs.finding.join_epoch.Goals as goal
@@ -26,8 +26,9 @@ returns-in-Ok-clause-joined g c =
     let seen = c.in-Ok.seen in
     let walked : WhereTold (λ k. IsEpoch (named_length root epoch) (bytes_of (as_read k (epoch_file_of root epoch))) seen) (g.D.Disk.content c.args.disk.now) =
     rw c.named_file.ensures at (rw c.named_place-length.ensures at c.in-Ok.ensures.walked) in
-    told_so (λ files. IsEpoch (named_length root epoch) (bytes_of (files (epoch_file_of root epoch))) seen) (ReadsEpoch root epoch c.args.joining c.take.result) (g.D.Disk.content c.args.disk.now) walked
-    (λ files is. seen_read root epoch c.args.joining seen c.take.result files (c.take.ensures.taken files) is)
+    told_both (λ files. IsEpoch (named_length root epoch) (bytes_of (files (epoch_file_of root epoch))) seen) (ReadsSeen root epoch c.args.joining seen c.take.result) (ReadsEpoch root epoch c.args.joining c.take.result)
+    (g.D.Disk.content c.args.disk.now) (g.D.Disk.content c.walk.new.disk) c.walk.ensures.same walked c.take.ensures.taken
+    (λ files is reads. seen_read root epoch c.args.joining seen c.take.result files reads is)
 
 pub returns-in-Err-Damaged-clause-joined : goal.returns-in-Err-Damaged-clause-joined
 returns-in-Err-Damaged-clause-joined g c =

@@ -1,10 +1,10 @@
 use Rattle.std.proofs.Common.{arith}
-use Rattle.disk_model.specs.Disk.{bytes_of}
+use Rattle.disk_model.specs.Disk.{WhereTold, bytes_of}
 use Rattle.arch_model.specs.declared.opening.OpenRefusal.TheVariants.{Damaged}
 use Rattle.epoch_file.specs.Walking.{IsEpoch, IsDamagedAt}
-use Rattle.epoch_store.specs.Files.{epoch_file_of}
-use Rattle.epoch_store.specs.Finding.{StopsEpoch}
-use Rattle.epoch_store.proofs.FindingTold.{told_any, told_so}
+use Rattle.epoch_store.specs.Files.{as_read, epoch_file_of}
+use Rattle.epoch_store.specs.Finding.{StopsEpoch, StopsSeen}
+use Rattle.epoch_store.proofs.FindingTold.{told_any, told_both, told_so}
 use Rattle.epoch_store.proofs.FindingTurns.{front_left, left_seen, left_twice}
 use Rattle.epoch_store.proofs.finding.stop_at.Goals as goal
 
@@ -18,9 +18,10 @@ returns-in-Ok-clause-stops g c =
     let root = c.args.root.now in
     let epoch = c.args.epoch in
     let seen = c.in-Ok.seen in
-    told_so (λ files. IsEpoch c.args.at (bytes_of (files (epoch_file_of root epoch))) seen) (StopsEpoch root epoch c.args.joining c.args.at c.stop_in.result) (g.D.Disk.content c.args.disk.now)
-    (rw c.named_file-file.ensures at c.in-Ok.ensures.walked)
-    (λ files walked. left_seen root epoch c.args.at c.args.joining seen c.stop_in.result files (c.stop_in.ensures.stops files) walked)
+    let walked : WhereTold (λ k. IsEpoch c.args.at (bytes_of (as_read k (epoch_file_of root epoch))) seen) (g.D.Disk.content c.args.disk.now) = rw c.named_file-file.ensures at c.in-Ok.ensures.walked in
+    told_both (λ files. IsEpoch c.args.at (bytes_of (files (epoch_file_of root epoch))) seen) (StopsSeen root epoch c.args.joining c.args.at seen c.stop_in.result) (StopsEpoch root epoch c.args.joining c.args.at c.stop_in.result)
+    (g.D.Disk.content c.args.disk.now) (g.D.Disk.content c.walk.new.disk) c.walk.ensures.same walked c.stop_in.ensures.stops
+    (λ files is stops. left_seen root epoch c.args.at c.args.joining seen c.stop_in.result files stops is)
 
 pub returns-in-Err-Damaged-clause-stops : goal.returns-in-Err-Damaged-clause-stops
 returns-in-Err-Damaged-clause-stops g c =

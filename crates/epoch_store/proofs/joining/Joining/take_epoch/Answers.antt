@@ -1,43 +1,58 @@
-use Rattle.std.proofs.Common.{◌<◌, ◌+◌, sym, subst, ap, ◌∙◌, arith, length, rules}
+-- Each entry is joined, or the first that can't be ends it.
+use Rattle.std.proofs.Common.{◌<◌, ◌+◌, ◌∙◌, sym, ap, arith, length, rules, refl, Ok, Err}
 use Rattle.std.proofs.lemmas.List.{nil_from_length}
 use Rattle.std.specs.Vec.Iter.{into_iter_items}
 use Rattle.epoch_store.specs.declared.entries.StoredEntry.{StoredEntry}
-use Rattle.epoch_store.specs.Joined.{Joined, AreBefore, entry_seen}
-use Rattle.arch_model.proofs.ValidArchives.{all_after, all_weaker}
-use Rattle.epoch_store.proofs.Joins.{comes_first, comes_more, all_come, joins_or_stops}
+use Rattle.epoch_store.specs.Joined.{JoinsByText, TakesEpoch}
+use Rattle.arch_model.proofs.ValidArchives.{all_weaker}
+use Rattle.epoch_store.proofs.FindingTold.{told_any, told_so, told_both, reads_none, reads_both}
+use Rattle.epoch_store.proofs.Comparing.{Come, come_first, come_more, come_stops, come_all}
 use Rattle.epoch_store.proofs.joining.Joining.take_epoch.Goals as goal
 
 pub loop-entry-init : goal.loop-entry-init
-loop-entry-init c = (
-  all_weaker (λ (e : StoredEntry). e.epoch < c.args.epoch) (λ (e : StoredEntry). e.epoch < c.args.epoch + 1) c.args.self.entries (λ e less. omega (arith, less)) c.requires.before,
-  λ rs after others here holds valid seen.
-      comes_first c.args.self (into_iter_items c.into_iter-entry-iterator.result) rs after others c.args.epoch here c.requires.before holds valid
-      (c.into_iter-entry-iterator.ensures.into_iter_gives.0 ∙ (c.into_vec-entry-items.ensures ∙ seen)),
-  search rules,
-)
+loop-entry-init g c = record {
+  before = all_weaker (λ (e : StoredEntry). e.epoch < c.args.epoch) (λ (e : StoredEntry). e.epoch < c.args.epoch + 1) c.args.self.entries (λ e less. omega (arith, less)) c.requires.before;
+  come = told_any (Come c.args.root.now c.args.self c.args.epoch c.args.seen c.args.self (into_iter_items c.into_iter-entry-iterator.result)) (g.D.Disk.content c.args.disk.now)
+      (λ files. come_first c.args.root.now c.args.self c.args.epoch c.args.seen (into_iter_items c.into_iter-entry-iterator.result) files c.requires.before (c.into_iter-entry-iterator.ensures.into_iter_gives.0 ∙ c.into_vec-entry-items.ensures));
+  reads = reads_none g.D.Disk.content g.D.Disk.moment g.D.Disk.left_since g.D.Disk.faults c.args.disk.now (λ image. g.met.D.Disk.only_now c.args.disk.now image);
+  kept = refl;
+  left = search rules;
+}
 
 pub returns-in-Err-clause-taken : goal.returns-in-Err-clause-taken
-returns-in-Err-clause-taken c =
-    λ rs after others here holds valid seen.
-    joins_or_stops c.loop-entry.joining (into_iter_items c.loop-entry.entry-iterator) c.in-Some.entry (into_iter_items c.next.new.self) rs others c.args.epoch here c.in-Err.refusal
-    (c.loop-entry.invariant.1 rs after others here holds valid seen) c.in-Some.ensures.steps.0 c.in-Err.ensures
+returns-in-Err-clause-taken g c =
+    let inv = c.loop-entry.invariant in
+    let root = c.args.root.now in
+    let epoch = c.args.epoch in
+    let now = c.loop-entry.joining in
+    let items = into_iter_items c.loop-entry.entry-iterator in
+    told_both (Come root c.args.self epoch c.args.seen now items) (JoinsByText root now epoch c.in-Some.entry (Err c.in-Err.refusal)) (TakesEpoch root c.args.self epoch c.args.seen (Err c.in-Err.refusal))
+    (g.D.Disk.content c.args.disk.now) (g.D.Disk.content c.loop-entry.disk) inv.reads.same inv.come c.in-Err.ensures.joined
+    (λ files so_far joins. come_stops root c.args.self epoch c.args.seen now items c.in-Some.entry (into_iter_items c.next.new.self) c.in-Err.refusal files c.in-Some.ensures.steps.0 so_far joins)
 
 pub loop-entry-preserved : goal.loop-entry-preserved
-loop-entry-preserved c =
-    let is = c.in-Ok.ensures in
-    let number = is.0 in (
-      subst (AreBefore (c.args.epoch + 1)) (sym (ap (λ (v : Joined). v.entries) is.2))
-          (all_after (λ (e : StoredEntry). e.epoch < c.args.epoch + 1) c.loop-entry.joining.entries (entry_seen number c.args.epoch c.in-Some.entry) c.loop-entry.invariant.0 (omega arith)),
-      λ rs after others here holds valid seen.
-          comes_more c.loop-entry.joining c.in-Ok.next (into_iter_items c.loop-entry.entry-iterator) c.in-Some.entry (into_iter_items c.next.new.self) rs others c.args.epoch number here c.requires.small
-          (c.loop-entry.invariant.1 rs after others here holds valid seen) c.in-Some.ensures.steps.0 is.1 is.2,
-      (let before = c.loop-entry.invariant.2 in let items = ap length c.in-Some.ensures.steps.0 in let fewer = c.in-Some.ensures.steps.1 in omega (arith, before, items, fewer)),
-    )
+loop-entry-preserved g c =
+    let inv = c.loop-entry.invariant in
+    let root = c.args.root.now in
+    let epoch = c.args.epoch in
+    let now = c.loop-entry.joining in
+    let next = c.in-Ok.next in
+    let items = into_iter_items c.loop-entry.entry-iterator in
+    let after = into_iter_items c.next.new.self in
+    record {
+      before = c.in-Ok.ensures.below (epoch + 1) inv.before (omega arith);
+      come = told_both (Come root c.args.self epoch c.args.seen now items) (JoinsByText root now epoch c.in-Some.entry (Ok next)) (Come root c.args.self epoch c.args.seen next after)
+          (g.D.Disk.content c.args.disk.now) (g.D.Disk.content c.loop-entry.disk) inv.reads.same inv.come c.in-Ok.ensures.joined
+          (λ files so_far joins. come_more root c.args.self epoch c.args.seen now next items c.in-Some.entry after files c.requires.small c.in-Some.ensures.steps.0 so_far joins);
+      reads = reads_both g.D.Disk.content g.D.Disk.moment g.D.Disk.left_since g.D.Disk.faults c.args.disk.now c.loop-entry.disk c.join_next.new.disk inv.reads c.in-Ok.ensures.reads;
+      kept = c.in-Ok.ensures.steady (λ no. absurd (cc no)) ∙ inv.kept;
+      left = (let before = inv.left in let count = ap length c.in-Some.ensures.steps.0 in let fewer = c.in-Some.ensures.steps.1 in omega (arith, before, count, fewer));
+    }
 
 pub returns-clause-taken : goal.returns-clause-taken
-returns-clause-taken c =
-    λ rs after others here holds valid seen.
-    all_come c.loop-entry.joining (into_iter_items c.loop-entry.entry-iterator) rs others c.args.epoch here (c.loop-entry.invariant.1 rs after others here holds valid seen) (nil_from_length (into_iter_items c.loop-entry.entry-iterator) (sym c.loop-entry.invariant.2 ∙ c.in-None.ensures.steps.0))
-
-pub returns-clause-below : goal.returns-clause-below
-returns-clause-below c = c.loop-entry.invariant.0
+returns-clause-taken g c =
+    let inv = c.loop-entry.invariant in
+    let root = c.args.root.now in
+    let items = into_iter_items c.loop-entry.entry-iterator in
+    told_so (Come root c.args.self c.args.epoch c.args.seen c.loop-entry.joining items) (TakesEpoch root c.args.self c.args.epoch c.args.seen (Ok c.loop-entry.joining)) (g.D.Disk.content c.args.disk.now) inv.come
+    (λ files so_far. come_all root c.args.self c.args.epoch c.args.seen c.loop-entry.joining items files (nil_from_length items (sym inv.left ∙ c.in-None.ensures.steps.0)) so_far)
