@@ -1,26 +1,20 @@
 -- The entries of a store by their indexes, by their counts, and by blob ids.
-use Rattle.std.specs.Prelude.{◌≡◌, ◌==◌, ◌&&◌, ◌||◌, ℕ, zero, suc, Bool, true, false, cond, nat_le, count_by, List, [], ◌∷◌, ◌++◌, length, slice_get, Option, Some, None, Ok, Err, option_map, unwrap_or, refl}
+use Rattle.std.specs.Prelude.{◌≡◌, ◌==◌, ◌&&◌, ◌||◌, ℕ, zero, suc, Bool, true, false, cond, nat_le, count_by, List, [], ◌∷◌, ◌++◌, length, slice_get, Option, Some, None, option_map, unwrap_or, refl}
 use Rattle.std.specs.List.{filter, find}
 use Rattle.std.specs.Str.{bytes_eq}
 use Rattle.std.proofs.Common.{◌∙◌, sym, ap, arith}
 use Rattle.std.proofs.lemmas.Bool.Decides.{nat_tests}
 use Rattle.std.proofs.lemmas.List.Sums.{length-filter}
-use Rattle.disk_model.specs.Disk.{Content}
 use Rattle.arch_model.specs.Archives.{Entry, Archive, blob_number}
-use Rattle.arch_model.specs.Shelves.{lines_after, line_at, is_between, live_between, GivesBlobIn}
-use Rattle.arch_model.specs.Standing.{GivesTextIn}
-use Rattle.arch_model.specs.declared.text_refusal.TextRefusal.{TextRefusal}
-use Rattle.arch_model.specs.declared.text_refusal.TextRefusal.TheVariants.{DiskFault, Damaged, NoMemory}
-use Rattle.arch_model.proofs.Shelving.{rises-from, blob_found-text, blob-none}
+use Rattle.arch_model.specs.Shelves.{lines_after, line_at, is_between, live_between}
 use Rattle.arch_judge.specs.Indexes.{number_in}
 use Rattle.arch_judge.specs.declared.index.Index.{Index}
 use Rattle.epoch_store.specs.declared.entries.StoredEntry.{StoredEntry}
 use Rattle.epoch_store.specs.Reads.{line_if}
-use Rattle.epoch_store.specs.Stores.{View, Keeps, IsStoreWith, stored_at, stored_after}
+use Rattle.epoch_store.specs.Stores.{View, Keeps, stored_at, stored_after}
 use Rattle.archive_core.specs.Kept.{IndexesStored, stored_number}
 use Rattle.archive_core.specs.Numbers.{has_number, IsKnownLive}
 use Rattle.archive_core.proofs.Indexes.{index_of_kept}
-use Rattle.archive_core.proofs.Standing.{store_keeps}
 
 -- The line at an index.
 lines_same : (before es : List Entry) (i : ℕ) → line_if (slice_get (stored_after before es) i) ≡ slice_get (lines_after before es) i
@@ -72,19 +66,3 @@ number_known es blob (Some n) is = number_there es blob n (sym is)
 -- The number that an index gives is that of the archive.
 pub number_kept : (v : View) (a : Archive) (index : Index) (blob : List ℕ) (r : Option ℕ) → IndexesStored v.entries index → Keeps v a → r ≡ number_in index.blobs blob → r ≡ blob_number a.entries blob
 number_kept v a index blob r indexed keeps is = is ∙ (index_of_kept v a index keeps indexed).blobs blob
-
--- The text of the number of a blob id is the text of the blob id.
-pub blob_given : (v : View) (cache : List ℕ) (a : Archive) (k : Option Content) (blob : List ℕ) (n : ℕ) (old new : List ℕ) → IsStoreWith v cache a k → Some n ≡ blob_number a.entries blob → GivesTextIn a.entries n old new (Ok tt) → GivesBlobIn a.entries blob old new (Ok true)
-blob_given v cache a k blob n old new own is given =
-    let keeps = store_keeps v cache a k own in
-    (given.0, sym (blob_found-text 1 a.entries blob n (rises-from 1 0 a.entries keeps.valid.order) (sym is)) ∙ given.1, given.2)
-
--- No refusal tells of damage.
-pub blob_refused : (a : Archive) (blob : List ℕ) (n : ℕ) (old new : List ℕ) (why : TextRefusal) → GivesTextIn a.entries n old new (Err why) → GivesBlobIn a.entries blob old new (Err why)
-blob_refused a blob n old new DiskFault given = tt
-blob_refused a blob n old new (Damaged named found) given = given
-blob_refused a blob n old new NoMemory given = tt
-
--- An entry with the blob id is missing.
-pub blob_missing : (a : Archive) (blob old new : List ℕ) → None ≡ blob_number a.entries blob → GivesBlobIn a.entries blob old new (Ok false)
-blob_missing a blob old new is = blob-none a.entries blob (sym is)

@@ -6,7 +6,7 @@ use Rattle.std.proofs.Common.{◌-◌, ◌∙◌, sym, ap, subst, inl, inr, arit
 use Rattle.std.proofs.lemmas.Bool.Decides.{nat_tests}
 use Rattle.std.proofs.lemmas.List.Sorted.{IsNonDecreasingBy-from_all_adjacent}
 use Rattle.std.proofs.lemmas.Option.{slice_get_within, slice_get-get_or}
-use Rattle.disk_model.specs.Disk.{Content}
+use Rattle.disk_model.specs.Disk.{Content, WhereTold}
 use Rattle.arch_model.specs.Archives.{Entry, Archive, text_of}
 use Rattle.arch_model.specs.Shelves.{IsGreatestLive, AppendsTo}
 use Rattle.arch_model.specs.Standing.{IsLeastLive, GivesTextIn, KeepsUnlessFound}
@@ -16,17 +16,17 @@ use Rattle.root_slots.specs.declared.root.Root.{Root}
 use Rattle.arch_model.specs.declared.text_refusal.TextRefusal.{TextRefusal}
 use Rattle.arch_model.specs.declared.text_refusal.TextRefusal.TheVariants.{DiskFault, Damaged, NoMemory}
 use Rattle.epoch_store.specs.declared.entries.StoredEntry.{StoredEntry}
-use Rattle.epoch_store.specs.Reads.{GivesText, GivesTextOf, text_if, IsEpochFound}
+use Rattle.epoch_store.specs.Reads.{GivesText, FindsText, GivesTextOf, text_if, IsEpochFound}
 use Rattle.epoch_store.specs.Stores.{View, Keeps, IsStoreWith, stored_at, stored_after}
-use Rattle.archive_core.specs.Numbers.{has_number, NumbersRise, IsNumberAt, IsCountBelow, IsCountUpTo, GivesTextKept, TellsOther}
+use Rattle.archive_core.specs.Numbers.{has_number, NumbersRise, IsNumberAt, IsCountBelow, IsCountUpTo, GivesKept, GivesTextKept, TellsOther}
 use Rattle.archive_core.proofs.Standing.{store_keeps}
 
 -- An option has one value.
-only : {X : Type 0} (x y : X) → Some x ≡ Some y → x ≡ y
+pub only : {X : Type 0} (x y : X) → Some x ≡ Some y → x ≡ y
 only {X = X} x y is = ap (λ (o : Option X). unwrap_or o x) is
 
 -- An option with a value doesn't lack one.
-there_is : {X : Type 0} (o : Option X) (x : X) → o ≡ Some x → o ≡ None → ⊥
+pub there_is : {X : Type 0} (o : Option X) (x : X) → o ≡ Some x → o ≡ None → ⊥
 there_is {X} o x is none = subst (λ (o : Option X). elim o as (λ x. Type 0) [ None ↦ ⊥ | Some y ↦ Unit {0} ]) (sym is ∙ none) tt
 
 -- The item at an index.
@@ -141,7 +141,7 @@ text_at before (e ∷ es) number epoch (suc i) n s rise is same =
     (omega (arith, first, above), rw other rest.1, rw other rest.2)
 
 -- The same in the archive that a store keeps.
-text_in : (v : View) (a : Archive) (i n : ℕ) (s : StoredEntry) → Keeps v a → slice_get v.entries i ≡ Some s → s.number ≡ n → (text_of a.entries n ≡ text_if (slice_get a.entries i)) × (is_some (text_of a.entries n) ≡ true)
+pub text_in : (v : View) (a : Archive) (i n : ℕ) (s : StoredEntry) → Keeps v a → slice_get v.entries i ≡ Some s → s.number ≡ n → (text_of a.entries n ≡ text_if (slice_get a.entries i)) × (is_some (text_of a.entries n) ≡ true)
 text_in v a i n s keeps is same =
     let r = text_at [] a.entries 1 0 i n s keeps.valid.order (subst (λ (l : List StoredEntry). slice_get l i ≡ Some s) keeps.kept is) same in
     (r.1, r.2)
@@ -251,31 +251,31 @@ text_gives v cache a k n i old new (Err DiskFault) own at given = tt
 text_gives v cache a k n i old new (Err NoMemory) own at given = tt
 
 -- The result by what is kept of the number's entry.
-pub text_kept : (xs : List StoredEntry) (n i : ℕ) (old new : List ℕ) (r : Result Unit TextRefusal) → IsNumberAt xs n i → ((s : StoredEntry) → slice_get xs i ≡ Some s → GivesText s old new r) → GivesTextKept xs n old new r
-text_kept xs n i old new r at given = (i, at.0, at.1, at.2, given at.0 at.1)
+pub text_kept : (v : View) (k : Option Content) (n i : ℕ) (old new : List ℕ) (r : Result Unit TextRefusal) → IsNumberAt v.entries n i → ((s : StoredEntry) → slice_get v.entries i ≡ Some s → GivesText s old new r)
+    → ((s : StoredEntry) → slice_get v.entries i ≡ Some s → WhereTold (FindsText v.root s old new r) k) → GivesTextKept v k n old new r
+text_kept v k n i old new r at given found = record { index = i; entry = at.0; at = at.1; met = at.2; gives = given at.0 at.1; finds = found at.0 at.1 }
 
 -- Running out of memory leaves the bytes.
-pub wanting_kept : (xs : List StoredEntry) (n : ℕ) (old : List ℕ) → has_number xs n ≡ true → GivesTextKept xs n old old (Err NoMemory)
-wanting_kept xs n old has = let r = has_place xs n has in (r.0, r.1.0, r.1.1, r.1.2, refl)
+nothing_found : (v : View) (k : Option Content) (s : StoredEntry) (old new : List ℕ) → WhereTold (FindsText v.root s old new (Err NoMemory)) k
+nothing_found v None s old new = tt
+nothing_found v (Some k) s old new = tt
 
--- If a text with another id was found, the two ids differ.
-pub tells_other : (xs : List StoredEntry) (n : ℕ) (old new : List ℕ) (r : Result Unit TextRefusal) → GivesTextKept xs n old new r → TellsOther r
-tells_other xs n old new (Ok done) kept = tt
-tells_other xs n old new (Err (Damaged named found)) kept = kept.4.2
-tells_other xs n old new (Err DiskFault) kept = tt
-tells_other xs n old new (Err NoMemory) kept = tt
+pub wanting_kept : (v : View) (k : Option Content) (n : ℕ) (old : List ℕ) → has_number v.entries n ≡ true → GivesTextKept v k n old old (Err NoMemory)
+wanting_kept v k n old has = let r = has_place v.entries n has in record { index = r.0; entry = r.1.0; at = r.1.1; met = r.1.2; gives = refl; finds = nothing_found v k r.1.0 old old }
 
-pub other_refused : (T U : Type 0) (why : TextRefusal) → TellsOther {T = T} (Err why) → TellsOther {T = U} (Err why)
-other_refused T U (Damaged named found) other = other
-other_refused T U DiskFault other = tt
-other_refused T U NoMemory other = tt
+-- If bytes with another id were found, the two ids differ.
+pub tells_other : (meets : StoredEntry → Type 0) (v : View) (k : Option Content) (old new : List ℕ) (r : Result Unit TextRefusal) → GivesKept meets v k old new r → TellsOther r
+tells_other meets v k old new (Ok done) kept = tt
+tells_other meets v k old new (Err (Damaged named found)) kept = kept.gives.2
+tells_other meets v k old new (Err DiskFault) kept = tt
+tells_other meets v k old new (Err NoMemory) kept = tt
 
 -- A text was appended, or nothing was.
-pub kept_appends : (entries : List StoredEntry) (n : ℕ) (old new : List ℕ) (r : Result Unit TextRefusal) → GivesTextKept entries n old new r → AppendsTo old new
-kept_appends entries n old new (Ok done) given = (given.4.0, given.4.2)
-kept_appends entries n old new (Err DiskFault) given = appends-none old new given.4
-kept_appends entries n old new (Err (Damaged named found)) given = appends-none old new given.4.0
-kept_appends entries n old new (Err NoMemory) given = appends-none old new given.4
+pub kept_appends : (meets : StoredEntry → Type 0) (v : View) (k : Option Content) (old new : List ℕ) (r : Result Unit TextRefusal) → GivesKept meets v k old new r → AppendsTo old new
+kept_appends meets v k old new (Ok done) given = (given.gives.0, given.gives.2)
+kept_appends meets v k old new (Err DiskFault) given = appends-none old new given.gives
+kept_appends meets v k old new (Err (Damaged named found)) given = appends-none old new given.gives.0
+kept_appends meets v k old new (Err NoMemory) given = appends-none old new given.gives
 
 -- The bytes of an epoch were appended, or nothing was.
 pub epoch_appends : (root : Root) (e : ℕ) (old new : List ℕ) (r : Result Bool TextRefusal) → IsEpochFound root e old new r → KeepsUnlessFound old new r → AppendsTo old new

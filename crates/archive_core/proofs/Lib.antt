@@ -5,4 +5,5 @@ mod Verdicts
 mod Openings
 mod ByNumber
 mod ByIndex
+mod ByBlob
 pub mod Engines

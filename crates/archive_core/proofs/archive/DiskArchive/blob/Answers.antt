@@ -1,30 +1,28 @@
-use Rattle.std.proofs.Common.{◌∙◌, sym, refl, Ok, Err, Bool}
-use Rattle.archive_core.proofs.ByIndex.{blob_given, blob_refused, blob_missing}
-use Rattle.archive_core.proofs.ByNumber.{tells_other, other_refused, kept_appends}
+use Rattle.std.proofs.Common.{◌≡◌, sym, subst, refl, slice_get, Some, Ok, Err, Bool}
+use Rattle.disk_model.specs.Disk.{WhereTold}
+use Rattle.epoch_store.specs.Reads.{FindsText}
+use Rattle.epoch_store.specs.Stores.{View, IsStoreWith}
+use Rattle.epoch_store.specs.declared.entries.StoredEntry.{StoredEntry}
+use Rattle.archive_core.proofs.ByBlob.{blob_gives, blob_refuses, blob_kept, blob_named, blob_other}
+use Rattle.archive_core.proofs.ByNumber.{kept_appends}
 use Rattle.archive_core.proofs.Standing.{store_keeps}
 use Rattle.arch_model.proofs.Shelving.{appends-none}
 use Rattle.archive_core.proofs.archive.DiskArchive.blob.Goals as goal
 
+pub text-requires : goal.text-requires
+text-requires g c = slice_get_within c.self.inside.store.entries c.in-Some.place c.in-Some.ensures.known.0 (subst (λ (v : View). slice_get v.entries c.in-Some.place ≡ Some c.in-Some.ensures.known.0) (sym c.self.view_is) c.in-Some.ensures.known.1)
+
 pub returns-in_default-clause-blob : goal.returns-in_default-clause-blob
 returns-in_default-clause-blob g c = λ a cache own.
-    blob_missing a c.args.id.now.0 c.args.into.now c.args.into.now (sym c.in_default.is ∙ c.number_of.ensures.number a (store_keeps c.args.self.now cache a (g.D.Disk.content c.args.disk.now) own))
+    subst (λ (o : Option ℕ). IsBlobIndex a.entries c.args.id.now.0 o) c.in_default.is (c.blob_index.ensures.index a (store_keeps c.args.self.now cache a (g.D.Disk.content c.args.disk.now) own))
 
 pub returns-in-Ok-clause-blob : goal.returns-in-Ok-clause-blob
 returns-in-Ok-clause-blob g c = λ a cache own.
     let k = g.D.Disk.content c.args.disk.now in
-    blob_given c.args.self.now cache a k c.args.id.now.0 c.in-Some.number c.args.into.now c.text.new.into own (c.in-Some.ensures.number a (store_keeps c.args.self.now cache a k own)) (c.in-Ok.ensures.text a cache own)
+    blob_gives a c.args.id.now c.in-Some.place c.args.into.now c.text.new.into (c.in-Some.ensures.index a (store_keeps c.args.self.now cache a k own))
+    (c.in-Ok.ensures.archive a cache (subst (λ (v : View). IsStoreWith v cache a k) (sym c.self.view_is) own))
 
 pub returns-in-Err-clause-blob : goal.returns-in-Err-clause-blob
-returns-in-Err-clause-blob g c = λ a cache own. blob_refused a c.args.id.now.0 c.in-Some.number c.args.into.now c.text.new.into c.in-Err.refusal (c.in-Err.ensures.text a cache own)
-
-pub returns-in-Err-clause-other : goal.returns-in-Err-clause-other
-returns-in-Err-clause-other g c = other_refused Unit Bool c.in-Err.refusal (tells_other c.args.self.now.entries c.in-Some.number c.args.into.now c.text.new.into (Err c.in-Err.refusal) c.in-Err.ensures.kept)
-
-pub returns-in_default-clause-appends : goal.returns-in_default-clause-appends
-returns-in_default-clause-appends g c = appends-none c.args.into.now c.args.into.now refl
-
-pub returns-in-Ok-clause-appends : goal.returns-in-Ok-clause-appends
-returns-in-Ok-clause-appends g c = kept_appends c.args.self.now.entries c.in-Some.number c.args.into.now c.text.new.into (Ok tt) c.in-Ok.ensures.kept
-
-pub returns-in-Err-clause-appends : goal.returns-in-Err-clause-appends
-returns-in-Err-clause-appends g c = kept_appends c.args.self.now.entries c.in-Some.number c.args.into.now c.text.new.into (Err c.in-Err.refusal) c.in-Err.ensures.kept
+returns-in-Err-clause-blob g c = λ a cache own.
+    blob_refuses a c.args.id.now c.in-Some.place c.args.into.now c.text.new.into c.in-Err.refusal
+    (c.in-Err.ensures.archive a cache (subst (λ (v : View). IsStoreWith v cache a (g.D.Disk.content c.args.disk.now)) (sym c.self.view_is) own))
