@@ -12,7 +12,6 @@ use Rattle.arch_model.specs.Shelves.{IsGreatestLive, AppendsTo}
 use Rattle.arch_model.specs.Standing.{IsLeastLive, GivesTextIn, KeepsUnlessFound}
 use Rattle.arch_model.specs.Validity.{Rise}
 use Rattle.arch_model.proofs.Shelving.{appends-none}
-use Rattle.root_slots.specs.declared.root.Root.{Root}
 use Rattle.arch_model.specs.declared.text_refusal.TextRefusal.{TextRefusal}
 use Rattle.arch_model.specs.declared.text_refusal.TextRefusal.TheVariants.{DiskFault, Damaged, NoMemory}
 use Rattle.epoch_store.specs.declared.entries.StoredEntry.{StoredEntry}
@@ -278,7 +277,7 @@ kept_appends meets v k old new (Err (Damaged named found)) given = appends-none 
 kept_appends meets v k old new (Err NoMemory) given = appends-none old new given.gives
 
 -- The bytes of an epoch were appended, or nothing was.
-pub epoch_appends : (root : Root) (e : ℕ) (old new : List ℕ) (r : Result Bool TextRefusal) → IsEpochFound root e old new r → KeepsUnlessFound old new r → AppendsTo old new
-epoch_appends root e old new (Ok true) found kept = (found.0, found.3)
-epoch_appends root e old new (Ok false) found kept = appends-none old new kept
-epoch_appends root e old new (Err refused) found kept = appends-none old new kept
+pub epoch_appends : (v : View) (e : ℕ) (old new : List ℕ) (r : Result Bool TextRefusal) → IsEpochFound v.root e old new r → KeepsUnlessFound old new r → AppendsTo old new
+epoch_appends v e old new (Ok true) found kept = (found.0, found.3)
+epoch_appends v e old new (Ok false) found kept = appends-none old new kept
+epoch_appends v e old new (Err refused) found kept = appends-none old new kept
