@@ -1,20 +1,21 @@
 -- The entries of a store by their blob ids: the index of a blob id, and its text.
-use Rattle.std.specs.Prelude.{◌≡◌, ℕ, zero, suc, Bool, true, false, cond, List, [], ◌∷◌, ◌++◌, slice_get, Option, Some, None, Result, Ok, Err, IsSome, refl}
+use Rattle.std.specs.Prelude.{◌≡◌, ℕ, zero, suc, Bool, true, false, cond, List, [], ◌∷◌, ◌++◌, slice_get, Option, Some, None, Ok, Err, IsSome, IsTrue, ◌↔◌, refl}
 use Rattle.std.specs.Str.{bytes_eq}
 use Rattle.std.proofs.Common.{◌∙◌, sym, ap, subst}
+use Rattle.std.proofs.lemmas.Bool.{false≢true}
 use Rattle.std.proofs.lemmas.Slice.Eq.{bytes_eq-Decides}
 use Rattle.arch_base.specs.declared.ids.Id20.{Id20}
-use Rattle.disk_model.specs.Disk.{Content, WhereTold}
 use Rattle.git_objects.specs.Objects.{blob_id_of}
 use Rattle.arch_model.specs.Archives.{Entry, Archive, blob_number}
 use Rattle.arch_model.specs.Shelves.{blob_text, GivesBlobIn}
+use Rattle.arch_model.specs.declared.line.EntryLine.{EntryLine}
 use Rattle.arch_model.specs.declared.text_refusal.TextRefusal.{TextRefusal}
 use Rattle.arch_model.specs.declared.text_refusal.TextRefusal.TheVariants.{DiskFault, Damaged, NoMemory}
 use Rattle.arch_model.proofs.Shelving.{rises-from, blob_found-text, blob-none}
 use Rattle.epoch_store.specs.declared.entries.StoredEntry.{StoredEntry}
-use Rattle.epoch_store.specs.Reads.{GivesText, FindsText, GivesTextOf, text_if}
+use Rattle.epoch_store.specs.Reads.{GivesTextOf, line_if, line_of, text_if}
 use Rattle.epoch_store.specs.Stores.{View, Keeps, stored_at, stored_after}
-use Rattle.archive_core.specs.Numbers.{has_number, NumbersRise, IsNumberAt, HasBlobAt, IsBlobIndex, GivesKept, GivesBlobKept, Names, TellsOther}
+use Rattle.archive_core.specs.Numbers.{has_number, NumbersRise, IsNumberAt, HasBlobAt, IsBlobIndex}
 use Rattle.archive_core.proofs.ByNumber.{only, there_is, keeps_rise, text_in}
 
 -- The entry of the archive at the index of a kept one has its blob id.
@@ -51,8 +52,21 @@ pub blob_nowhere : (a : Archive) (id : Id20) → None ≡ blob_number a.entries 
 blob_nowhere a id is = blob-none a.entries id.0 (sym is)
 
 -- A number that is there has an index.
-pub never_lost : (v : View) (a : Archive) (n : ℕ) → Keeps v a → (NumbersRise v.entries → has_number v.entries n ≡ true → IsSome {A = ℕ} None) → has_number v.entries n ≡ true → ⊥
-never_lost v a n keeps found has = found (keeps_rise v a keeps) has
+pub never_lost : (v : View) (a : Archive) (n : ℕ) (r : Option ℕ) → Keeps v a → r ≡ None → (NumbersRise v.entries → has_number v.entries n ≡ true → IsSome r) → has_number v.entries n ≡ true → ⊥
+never_lost v a n r keeps none found has = false≢true (subst (λ (o : Option ℕ). IsSome o) none (found (keeps_rise v a keeps) has))
+
+-- Whether an entry has a blob id, by its line.
+pub blob_line : (es : List StoredEntry) (i : ℕ) (line : EntryLine) (id : Id20) (b : Bool) → Some line ≡ line_if (slice_get es i) → b ≡ bytes_eq line.blob.0 id.0 → IsTrue b ↔ HasBlobAt es id i
+blob_line es i line id b lined test = by (slice_get es i) refl lined
+  where
+    by : (o : Option StoredEntry) → slice_get es i ≡ o → Some line ≡ line_if o → IsTrue b ↔ HasBlobAt es id i
+    by None is none = absurd (there_is (line_if None) line (sym none) refl)
+    by (Some e) is some =
+        let blob : line.blob ≡ e.seen.blob = ap (λ (l : EntryLine). l.blob) (only line (line_of e) some) in
+        let decides = bytes_eq-Decides line.blob.0 id.0 in (
+          λ yes. (e, is, sym blob ∙ ap (λ (bytes : List ℕ). record { 0 = bytes }) (decides.0 (sym test ∙ yes))),
+          λ has. test ∙ decides.1 (ap (λ (i : Id20). i.0) (blob ∙ ap (λ (s : StoredEntry). s.seen.blob) (only e has.0 (sym is ∙ has.1)) ∙ has.2)),
+        )
 
 -- The result by the text that is read.
 pub blob_gives : (a : Archive) (id : Id20) (i : ℕ) (old new : List ℕ) → IsBlobIndex a.entries id.0 (Some i) → GivesTextOf a i old new (Ok tt) → GivesBlobIn a.entries id.0 old new (Ok true)
@@ -62,19 +76,3 @@ pub blob_refuses : (a : Archive) (id : Id20) (i : ℕ) (old new : List ℕ) (why
 blob_refuses a id i old new DiskFault given = tt
 blob_refuses a id i old new (Damaged named found) given = given
 blob_refuses a id i old new NoMemory given = tt
-
--- The result by what is kept of the entry.
-pub blob_kept : (v : View) (k : Option Content) (id : Id20) (i : ℕ) (old new : List ℕ) (r : Result Unit TextRefusal) → HasBlobAt v.entries id i → ((s : StoredEntry) → slice_get v.entries i ≡ Some s → GivesText s old new r)
-    → ((s : StoredEntry) → slice_get v.entries i ≡ Some s → WhereTold (FindsText v.root s old new r) k) → GivesKept (λ (e : StoredEntry). e.seen.blob ≡ id) v k old new r
-blob_kept v k id i old new r at given found = record { index = i; entry = at.0; at = at.1; met = at.2; gives = given at.0 at.1; finds = found at.0 at.1 }
-
--- The id that is named is the one that was asked for, and the other one differs.
-pub blob_named : (T : Type 0) (v : View) (k : Option Content) (id : Id20) (old new : List ℕ) (why : TextRefusal) → GivesKept (λ (e : StoredEntry). e.seen.blob ≡ id) v k old new (Err why) → Names {T = T} id (Err why)
-blob_named T v k id old new DiskFault kept = tt
-blob_named T v k id old new (Damaged named found) kept = kept.gives.1 ∙ kept.met
-blob_named T v k id old new NoMemory kept = tt
-
-pub blob_other : (T : Type 0) (v : View) (k : Option Content) (id : Id20) (old new : List ℕ) (why : TextRefusal) → GivesKept (λ (e : StoredEntry). e.seen.blob ≡ id) v k old new (Err why) → TellsOther {T = T} (Err why)
-blob_other T v k id old new DiskFault kept = tt
-blob_other T v k id old new (Damaged named found) kept = kept.gives.2
-blob_other T v k id old new NoMemory kept = tt

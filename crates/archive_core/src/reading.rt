@@ -149,8 +149,12 @@ impl DiskArchive {
         ensures index { (a : Archive) → Keeps self.now a
             → IsBlobIndex a.entries id.now.0 result }
     {
-        let number = self.number_of(id)?;
-        let index = entry_index(self.store.stored(), number)?;
+        let Some(number) = self.number_of(id) else {
+            return None;
+        };
+        let Some(index) = entry_index(self.store.stored(), number) else {
+            return None;
+        };
         // No two messages have a number, so this one has the blob id.
         if !self.has_blob(index, id) {
             return None;

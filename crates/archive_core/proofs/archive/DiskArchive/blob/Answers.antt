@@ -1,16 +1,13 @@
-use Rattle.std.proofs.Common.{◌≡◌, sym, subst, refl, slice_get, Some, Ok, Err, Bool}
-use Rattle.disk_model.specs.Disk.{WhereTold}
-use Rattle.epoch_store.specs.Reads.{FindsText}
+use Rattle.std.proofs.Common.{◌≡◌, ℕ, sym, subst, slice_get, Option, Some}
+use Rattle.std.proofs.lemmas.Option.{slice_get_within}
 use Rattle.epoch_store.specs.Stores.{View, IsStoreWith}
-use Rattle.epoch_store.specs.declared.entries.StoredEntry.{StoredEntry}
-use Rattle.archive_core.proofs.ByBlob.{blob_gives, blob_refuses, blob_kept, blob_named, blob_other}
-use Rattle.archive_core.proofs.ByNumber.{kept_appends}
+use Rattle.archive_core.specs.Numbers.{IsBlobIndex}
+use Rattle.archive_core.proofs.ByBlob.{blob_gives, blob_refuses}
 use Rattle.archive_core.proofs.Standing.{store_keeps}
-use Rattle.arch_model.proofs.Shelving.{appends-none}
 use Rattle.archive_core.proofs.archive.DiskArchive.blob.Goals as goal
 
 pub text-requires : goal.text-requires
-text-requires g c = slice_get_within c.self.inside.store.entries c.in-Some.place c.in-Some.ensures.known.0 (subst (λ (v : View). slice_get v.entries c.in-Some.place ≡ Some c.in-Some.ensures.known.0) (sym c.self.view_is) c.in-Some.ensures.known.1)
+text-requires g c = record { there = slice_get_within c.self.inside.store.entries c.in-Some.place c.in-Some.ensures.known.0 (subst (λ (v : View). slice_get v.entries c.in-Some.place ≡ Some c.in-Some.ensures.known.0) (sym c.self.view_is) c.in-Some.ensures.known.1) }
 
 pub returns-in_default-clause-blob : goal.returns-in_default-clause-blob
 returns-in_default-clause-blob g c = λ a cache own.
