@@ -153,8 +153,8 @@ ReadyBy was now Breaks = now ≡ false
 abbrev pub StaysReady : Bool → Answer → Bool → Type 0
 StaysReady was reply now = ReadyBy was now (ending reply)
 
--- The disk's count of faults rises exactly when the answer is that it failed. So no fault of the disk
--- is told as out of memory, and none is passed over.
+-- The disk's count of faults rises exactly when the answer is that it failed. So no fault of the
+-- disk is told as out of memory, and none is passed over.
 abbrev pub CauseBy : ℕ → ℕ → Ending → Type 0
 CauseBy before now Accepts = now ≡ before
 CauseBy before now Refuses = now ≡ before

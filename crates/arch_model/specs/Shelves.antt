@@ -76,8 +76,8 @@ pub record Stays {S : Type 0} (holds : S → Archive → Type 0) (ready : S → 
   pub at_hand : ready new ≡ true
   pub later : faults old ≤ faults new
 
--- Why a call didn't read: the disk failed, and its count rose; or what was read has another id than is
--- named, or memory ran out, and the count stayed.
+-- Why a call didn't read: the disk failed, and its count rose; or what was read has another id than
+-- is named, or memory ran out, and the count stayed.
 abbrev pub ReadingWhy : ℕ → ℕ → TextRefusal → Type 0
 ReadingWhy before now refusal.DiskFault = Rose before now
 ReadingWhy before now (refusal.Damaged named found) = (found ≢ named) × (now ≡ before)

@@ -28,26 +28,26 @@ use Rattle.control_door.proofs.Holding.{turn-went, turn-opened}
 -- Acts at requests that change no archive.
 
 -- A text is said.
-pub acts-shown : (moment : ℕ) (s : Standing) (number : ℕ) (text rest : List ℕ) (i j : Outside) (sent : Result Unit SinkFault) → text_of (live s.archive.entries) number ≡ Some text → i.disk ≤ j.disk → Says (shown 0 (Some text)) i.out i.lost j.out j.lost sent
+pub acts-shown : (moment : ℕ) (s : Standing) (number : ℕ) (text rest : List ℕ) (i j : Outside) (sent : Result Unit SinkFault) → text_of (live s.archive.entries) number ≡ Some text → j.disk ≡ i.disk → Says (shown 0 (Some text)) i.out i.lost j.out j.lost sent
     → Acts (said_to moment s (Shows number) rest) i (held_if (is_ok sent) (waiting rest false)) s j
-acts-shown moment s number text rest i j sent is later words =
-    acts-by_held (said_to moment s (Shows number) rest) Plain (goes_on rest (shown number (Some text)) s) i j (waiting rest false) s sent (rw is refl) refl tt later words refl
+acts-shown moment s number text rest i j sent is kept words =
+    acts-by_held (said_to moment s (Shows number) rest) Plain (goes_on rest (shown number (Some text)) s) i j (waiting rest false) s sent (rw is refl) refl kept (omega (arith, kept)) words refl
 
 -- A number without a text.
-pub acts-hidden : (moment : ℕ) (s : Standing) (number : ℕ) (rest : List ℕ) (i j : Outside) (sent : Result Unit SinkFault) → is_some (text_of (live s.archive.entries) number) ≡ false → i.disk ≤ j.disk → Says (shown number None) i.out i.lost j.out j.lost sent
+pub acts-hidden : (moment : ℕ) (s : Standing) (number : ℕ) (rest : List ℕ) (i j : Outside) (sent : Result Unit SinkFault) → is_some (text_of (live s.archive.entries) number) ≡ false → j.disk ≡ i.disk → Says (shown number None) i.out i.lost j.out j.lost sent
     → Acts (said_to moment s (Shows number) rest) i (held_if (is_ok sent) (waiting rest false)) s j
-acts-hidden moment s number rest i j sent none later words =
-    acts-by_held (said_to moment s (Shows number) rest) Plain (goes_on rest (shown number None) s) i j (waiting rest false) s sent (rw (none_of (text_of (live s.archive.entries) number) none) refl) refl tt later words refl
+acts-hidden moment s number rest i j sent none kept words =
+    acts-by_held (said_to moment s (Shows number) rest) Plain (goes_on rest (shown number None) s) i j (waiting rest false) s sent (rw (none_of (text_of (live s.archive.entries) number) none) refl) refl kept (omega (arith, kept)) words refl
   where
     none_of : (text : Option (List ℕ)) → is_some text ≡ false → text ≡ None
     none_of None h = refl
     none_of (Some text) h = absurd (cc h)
 
 -- The epochs are listed.
-pub acts-listed : (moment : ℕ) (s : Standing) (rest : List ℕ) (i j : Outside) (sent : Result Unit SinkFault) → i.disk ≤ j.disk → Says (epochs_words s.archive.entries) i.out i.lost j.out j.lost sent
+pub acts-listed : (moment : ℕ) (s : Standing) (rest : List ℕ) (i j : Outside) (sent : Result Unit SinkFault) → j.disk ≡ i.disk → Says (epochs_words s.archive.entries) i.out i.lost j.out j.lost sent
     → Acts (said_to moment s Lists rest) i (held_if (is_ok sent) (waiting rest false)) s j
-acts-listed moment s rest i j sent later words =
-    acts-by_held (said_to moment s Lists rest) Plain (goes_on rest (epochs_words s.archive.entries) s) i j (waiting rest false) s sent refl refl tt later words refl
+acts-listed moment s rest i j sent kept words =
+    acts-by_held (said_to moment s Lists rest) Plain (goes_on rest (epochs_words s.archive.entries) s) i j (waiting rest false) s sent refl refl kept (omega (arith, kept)) words refl
 
 -- What was asked for was not read.
 pub acts-unread : (moment : ℕ) (s : Standing) (request : Request) (rest : List ℕ) (i j : Outside) (sent : Result Unit SinkFault) (refusal : TextRefusal)
@@ -61,18 +61,18 @@ acts-unread moment s request rest i j sent reading.NoMemory memory disk whole ca
     acts-by_held (said_to moment s request rest) Memory (goes_on rest memory_word s) i j (waiting rest false) s sent memory refl cause later words refl
 
 -- A line that is not an order.
-pub acts-mistaken : (moment : ℕ) (s : Standing) (rest : List ℕ) (i j : Outside) (sent : Result Unit SinkFault) → i.disk ≤ j.disk → Says bad_word i.out i.lost j.out j.lost sent
+pub acts-mistaken : (moment : ℕ) (s : Standing) (rest : List ℕ) (i j : Outside) (sent : Result Unit SinkFault) → j.disk ≡ i.disk → Says bad_word i.out i.lost j.out j.lost sent
     → Acts (said_to moment s Mistakes rest) i (held_if (is_ok sent) (waiting rest false)) s j
-acts-mistaken moment s rest i j sent later words =
-    acts-by_held (said_to moment s Mistakes rest) Plain (goes_on rest bad_word s) i j (waiting rest false) s sent refl refl tt later words refl
+acts-mistaken moment s rest i j sent kept words =
+    acts-by_held (said_to moment s Mistakes rest) Plain (goes_on rest bad_word s) i j (waiting rest false) s sent refl refl kept (omega (arith, kept)) words refl
 
 -- Too much is announced, or a line is too long.
-pub acts-exceeding : (moment : ℕ) (s : Standing) (rest : List ℕ) (i j : Outside) (sent : Result Unit SinkFault) → i.disk ≤ j.disk → Says bad_word i.out i.lost j.out j.lost sent → Acts (said_to moment s Exceeds rest) i None s j
-acts-exceeding moment s rest i j sent later words = acts-closing (said_to moment s Exceeds rest) Plain (closes s bad_word) i j s sent refl refl tt later words refl
+pub acts-exceeding : (moment : ℕ) (s : Standing) (rest : List ℕ) (i j : Outside) (sent : Result Unit SinkFault) → j.disk ≡ i.disk → Says bad_word i.out i.lost j.out j.lost sent → Acts (said_to moment s Exceeds rest) i None s j
+acts-exceeding moment s rest i j sent kept words = acts-closing (said_to moment s Exceeds rest) Plain (closes s bad_word) i j s sent refl refl kept (omega (arith, kept)) words refl
 
 -- The connection ends.
 pub acts-quitting : (moment : ℕ) (s : Standing) (rest : List ℕ) (i : Outside) → Acts (said_to moment s Quits rest) i None s i
-acts-quitting moment s rest i = acts-silent (said_to moment s Quits rest) (closes s []) i i None s refl refl refl refl (omega arith) refl refl
+acts-quitting moment s rest i = acts-silent (said_to moment s Quits rest) (closes s []) i i None s refl refl refl refl refl refl refl
 
 -- Out of memory for a message.
 pub acts-refusing : (moment : ℕ) (s : Standing) (message rest : List ℕ) (i j : Outside) (sent : Result Unit SinkFault) → j.disk ≡ i.disk → Says memory_word i.out i.lost j.out j.lost sent

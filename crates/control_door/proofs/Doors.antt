@@ -1,9 +1,10 @@
 -- The laws of the control door.
 use Rattle.std.proofs.Common.{◌≡◌, ◌<◌, ◌⊎◌, ◌∙◌, inl, inr, ℕ, suc, Bool, true, false, List, [], ◌∷◌, ◌++◌, Some, None, refl, sym, ap, subst, append_assoc, arith}
-use Rattle.line_door.specs.Acts.{Said, Way, Plain, Memory, Disk, Newer, Sent}
+use Rattle.line_door.specs.Acts.{Said, Way, Plain, Memory, Disk, Newer}
 use Rattle.line_door.specs.Course.{talk}
 use Rattle.line_door.specs.Plain.{silent, then_say, if_request, plain_from, plain}
 use Rattle.line_door.specs.Cuts.{CutDoor, said_with}
+use Rattle.line_door.proofs.Acting.{acts-words}
 use Rattle.line_door.proofs.Cutting.{calls, door_laws}
 use Rattle.arch_model.specs.Archives.{Archive}
 use Rattle.arch_model.specs.Standing.{Standing, standing}
@@ -159,13 +160,7 @@ opening_joins moment bytes s t i j v asked opens fed = (
       asked,
       record {
         held = refl;
-        acts = record {
-          way = opens.way;
-          cause = opens.cause;
-          disk_later = opens.disk_later;
-          lost_later = opens.lost_later;
-          sent = subst (λ (x : Said Waiting Standing). Sent x i (Some (waiting bytes true)) t j) (opening_says moment s bytes (ahead bytes) opens.way asked) opens.sent;
-        };
+        acts = acts-words (said moment s (waiting bytes false)) (said_opening s bytes) i (Some (waiting bytes true)) t j (λ way. sym (opening_says moment s bytes (ahead bytes) way asked)) opens;
       },
     ),
     fed.2,

@@ -48,7 +48,7 @@ pub keeps : (moment : ℕ) (opened : Bool) (s : Standing) (bytes : List ℕ) (pa
 keeps moment opened s bytes payload i h =
     let part = held-unfinished bytes payload h in
     let w : Waiting = waiting bytes opened in
-    (ap is_asked part, refl, acts-silent (said moment s w) (silent s w) i i (Some w) s (rw part refl) refl refl refl (omega arith) refl refl)
+    (ap is_asked part, refl, acts-silent (said moment s w) (silent s w) i i (Some w) s (rw part refl) refl refl refl refl refl refl)
 
 -- An empty piece leaves what was held.
 pub keeps-nothing : (moment : ℕ) (opened : Bool) (s : Standing) (old piece : List ℕ) (payload : Option Payload) (i : Outside) → piece ≡ [] → IsHeld (old ++ piece) payload

@@ -8,12 +8,12 @@ use Rattle.arch_model.specs.declared.text_refusal.TextRefusal.TheVariants as ref
 pub never-read : {T : Type 0} (faults : ℕ) (r : Result T TextRefusal) → ReadCause 0 0 r → ReadCause faults faults r
 never-read faults (Ok x) cause = refl
 never-read faults (Err refusal.DiskFault) rose = absurd (omega (arith, rose))
-never-read faults (Err (refusal.Damaged named found)) other = other
+never-read faults (Err (refusal.Damaged named found)) cause = (cause.0, refl)
 never-read faults (Err refusal.NoMemory) cause = refl
 
 pub never-caused : (faults : ℕ) (e : Ending) → CauseBy 0 0 e → CauseBy faults faults e
-never-caused faults Accepts cause = tt
-never-caused faults Refuses cause = tt
+never-caused faults Accepts cause = refl
+never-caused faults Refuses cause = refl
 never-caused faults Starves cause = refl
 never-caused faults Fails rose = absurd (omega (arith, rose))
-never-caused faults Breaks cause = tt
+never-caused faults Breaks cause = refl

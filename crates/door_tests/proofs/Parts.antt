@@ -36,6 +36,12 @@ says-unread i j k refusal.NoMemory sent well kept later out lost same said =
     let on : Says memory_word i.out i.lost k.out k.lost sent = rw (out, lost) said in
     record { words = inr (sym same ∙ kept, on); later = omega (arith, later, same) }
 
+-- Why a reply stops, while an archive is held.
+pub stops-why : (before now : ℕ) (why : TextRefusal) → IsUndamaged why → ReadingWhy before now why → Rose before now ⊎ (now ≡ before)
+stops-why before now refusal.DiskFault well rose = inl rose
+stops-why before now (refusal.Damaged named found) well cause = absurd well
+stops-why before now refusal.NoMemory well kept = inr kept
+
 -- Whether a text that was sent was taken.
 pub part-given : (begun : Bool) (text : Option (List ℕ)) (i j : Outside) (sent : Result Unit SinkFault) (what : Part) → what ≡ (if is_ok sent then part.Given else part.Lost) → SaysText text i sent j → IsPart begun text i what j
 part-given begun text i j (Ok done) what is said = subst (λ (p : Part). IsPart begun text i p j) (sym is) said
@@ -117,7 +123,7 @@ module _ (a : Archive) (low count : ℕ) (h : List ℕ) where
   pub streams-end : (at : ℕ) (begun : Bool) (i j k : Outside) (sent : Result Unit SinkFault) → at ≡ count → SoFar a.entries low at begun i j → j.disk ≡ k.disk → Says (whole_line (codes "end")) j.out j.lost k.out k.lost sent → Acts (texts_said a low count h) i (held_if (is_ok sent) h) a k
   streams-end at begun i j k sent all so_far same said =
       let before : SoFar a.entries low count begun i j = subst (λ (n : ℕ). SoFar a.entries low n begun i j) all so_far in
-      acts-by_held (texts_said a low count h) Plain (streams a h (texts_from a.entries low count ++ whole_line (codes "end"))) i k h a sent refl refl tt (omega (arith, before.kept, same))
+      acts-by_held (texts_said a low count h) Plain (streams a h (texts_from a.entries low count ++ whole_line (codes "end"))) i k h a sent refl refl (sym same ∙ before.kept) (omega (arith, before.kept, same))
       (Says-then (texts_from a.entries low count) (whole_line (codes "end")) i.out j.out k.out i.lost j.lost k.lost tt sent before.words said) refl
 
   -- No text was said, but why.
@@ -140,7 +146,7 @@ module _ (a : Archive) (low count : ℕ) (h : List ℕ) where
   streams-lost at begun i j k fault less before said =
       let rest = words-from a.entries low at count said.found less said.is in
       acts-cut_off (texts_said a low count h) Plain (streams a h (texts_from a.entries low count ++ whole_line (codes "end"))) (texts_from a.entries low at) (whole_line said.found) rest.0 i j k a fault refl rest.1
-      tt (omega (arith, before.kept, said.kept)) before.words said.words refl
+      (said.kept ∙ before.kept) (omega (arith, before.kept, said.kept)) before.words said.words refl
 
   -- The reply stopped after a text.
   pub streams-short : (at : ℕ) (begun : Bool) (i j k : Outside) → at < count → SoFar a.entries low at begun i j → Stops begun (text_of a.entries (low + at)) j k → Acts (texts_said a low count h) i None a k
@@ -148,6 +154,9 @@ module _ (a : Archive) (low count : ℕ) (h : List ℕ) where
       let rest = words-from a.entries low at count stops.found less stops.is in
       let line = whole_line stops.found in
       let apart : texts_from a.entries low count ++ whole_line (codes "end") ≡ texts_from a.entries low at ++ (line ++ rest.0) = rest.1 ∙ append_assoc (texts_from a.entries low at) line rest.0 in
-      acts-short (texts_said a low count h) Plain (streams a h (texts_from a.entries low count ++ whole_line (codes "end"))) (texts_from a.entries low at) (line ++ rest.0) i k a refl refl apart
-      (before.some stops.begun_is) (omega (arith, length-append line rest.0, line-some stops.found)) tt (omega (arith, before.kept, stops.nothing.later))
+      acts-short (texts_said a low count h) (streams a h (texts_from a.entries low count ++ whole_line (codes "end"))) (texts_from a.entries low at) (line ++ rest.0) i k a refl refl apart
+      (before.some stops.begun_is) (omega (arith, length-append line rest.0, line-some stops.found)) why (omega (arith, before.kept, stops.nothing.later))
       (says-still (texts_from a.entries low at) i j k before.words stops.nothing) refl
+    where
+      why : Rose i.disk k.disk ⊎ (k.disk ≡ i.disk)
+      why = elim stops.why [ inl rose ↦ inl (omega (arith, rose, before.kept)) | inr same ↦ inr (same ∙ before.kept) ]

@@ -47,12 +47,13 @@ pub record SaysUnread (i : Outside) (sent : Result Unit SinkFault) (j : Outside)
       ⊎ ((j.disk ≡ i.disk) × Says memory_word i.out i.lost j.out j.lost sent)
   pub later : i.disk ≤ j.disk
 
--- A text wasn't read, after another one was said.
+-- A text wasn't read, after another one was said: the disk failed, or memory ran out.
 pub record Stops (begun : Bool) (text : Option (List ℕ)) (i j : Outside) : Type 0 where
   pub begun_is : begun ≡ true
   pub found : List ℕ
   pub is : text ≡ Some found
   pub nothing : SaysNothing i j
+  pub why : Rose i.disk j.disk ⊎ (j.disk ≡ i.disk)
 
 -- What became of one number.
 abbrev pub IsPart : Bool → Option (List ℕ) → Outside → Part → Outside → Type 0

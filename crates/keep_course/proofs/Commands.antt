@@ -1,5 +1,5 @@
 -- The acts of a command and of a reopening, for any door.
-use Rattle.std.proofs.Common.{◌≡◌, ◌⊎◌, ◌≤◌, ℕ, true, List, [], Option, Some, None, is_ok, Result, Ok, inl, inr, refl, sym, ap, subst, ◌∙◌}
+use Rattle.std.proofs.Common.{◌≡◌, ◌⊎◌, ◌≤◌, ℕ, true, List, [], Option, Some, None, is_ok, Result, Ok, inl, inr, refl, sym, ap, subst, ◌∙◌, arith}
 use Rattle.std.proofs.lemmas.Bool.{false≢true}
 use Rattle.arch_base.specs.Counts.{Rose}
 use Rattle.edge_io.specs.Phrases.{Says}
@@ -24,19 +24,19 @@ use Rattle.keep_course.specs.Answering.{newer_of, newer, said_reopening}
 module _ {H : Type 0} (words : Way → Said H Standing) (h : H) (line : Answer → List ℕ) (a : Archive) (wanted : Archive → Done)
     (plain : words Plain ≡ says (standing (wanted a).archive None) h (line (wanted a).answer)) (memory : words Memory ≡ says (standing a None) h (line answer.NoMemory))
     (disk : words Disk ≡ says (standing a (Some (wanted a).archive)) h (line answer.DiskFault)) where
-  obeyed : (reply : Answer) (t : Standing) (i j : Outside) (sent : Result Unit SinkFault) → Obeys (standing a None) wanted reply t → i.disk ≤ j.disk → Says (line reply) i.out i.lost j.out j.lost sent → Acts words i (held_if (is_ok sent) h) t j
-  obeyed reply t i j sent obeys later said =
+  obeyed : (reply : Answer) (t : Standing) (i j : Outside) (sent : Result Unit SinkFault) → Obeys (standing a None) wanted reply t → j.disk ≡ i.disk → Says (line reply) i.out i.lost j.out j.lost sent → Acts words i (held_if (is_ok sent) h) t j
+  obeyed reply t i j sent obeys kept said =
       let found : obeys.found ≡ a = found-one a obeys.found obeys.is_found in
       let answer_is : (wanted a).answer ≡ reply = ap (λ (x : Archive). (wanted x).answer) (sym found) ∙ obeys.answer_is in
       let stands : t ≡ standing (wanted a).archive None = obeys.stands ∙ ap (λ (x : Archive). standing (wanted x).archive None) found in
-      acts-by_held words Plain (says (standing (wanted a).archive None) h (line (wanted a).answer)) i j h t sent plain refl tt later
+      acts-by_held words Plain (says (standing (wanted a).archive None) h (line (wanted a).answer)) i j h t sent plain refl kept (omega (arith, kept))
       (subst (λ (r : Answer). Says (line r) i.out i.lost j.out j.lost sent) (sym answer_is) said) stands
 
-  starved : (t : Standing) (i j : Outside) (sent : Result Unit SinkFault) → StaysStale true (standing a None) t ⊎ Settles (standing a None) t → j.disk ≡ i.disk → i.disk ≤ j.disk → Says (line answer.NoMemory) i.out i.lost j.out j.lost sent → Acts words i (held_if (is_ok sent) h) t j
-  starved t i j sent (inl stale) cause later said = absurd (false≢true (sym stale.stale))
-  starved t i j sent (inr settles) cause later said =
+  starved : (t : Standing) (i j : Outside) (sent : Result Unit SinkFault) → StaysStale true (standing a None) t ⊎ Settles (standing a None) t → j.disk ≡ i.disk → Says (line answer.NoMemory) i.out i.lost j.out j.lost sent → Acts words i (held_if (is_ok sent) h) t j
+  starved t i j sent (inl stale) kept said = absurd (false≢true (sym stale.stale))
+  starved t i j sent (inr settles) kept said =
       let stands : t ≡ standing a None = ap (λ (d : Option Archive). standing t.archive d) settles.sure ∙ ap (λ (x : Archive). standing x None) (found-one a t.archive settles.found) in
-      acts-by_held words Memory (says (standing a None) h (line answer.NoMemory)) i j h t sent memory refl cause later said stands
+      acts-by_held words Memory (says (standing a None) h (line answer.NoMemory)) i j h t sent memory refl kept (omega (arith, kept)) said stands
 
   failed : (t : Standing) (i j : Outside) (sent : Result Unit SinkFault) → StaysStale true (standing a None) t ⊎ Doubts (standing a None) wanted t → Rose i.disk j.disk → i.disk ≤ j.disk → Says (line answer.DiskFault) i.out i.lost j.out j.lost sent → Acts words i (held_if (is_ok sent) h) t j
   failed t i j sent (inl stale) cause later said = absurd (false≢true (sym stale.stale))
@@ -46,18 +46,18 @@ module _ {H : Type 0} (words : Way → Said H Standing) (h : H) (line : Answer �
 
   pub commanded : (reply : Answer) (t : Standing) (i j : Outside) (sent : Result Unit SinkFault) → Comes true (standing a None) wanted reply t → AnswerCause i.disk j.disk reply → i.disk ≤ j.disk → Says (line reply) i.out i.lost j.out j.lost sent
       → Acts words i (held_if (is_ok sent) h) t j
-  commanded answer.NoMemory t i j sent comes cause later said = starved t i j sent comes cause later said
+  commanded answer.NoMemory t i j sent comes kept later said = starved t i j sent comes kept said
   commanded answer.DiskFault t i j sent comes cause later said = failed t i j sent comes cause later said
   commanded (answer.Damaged file at) t i j sent never cause later said = absurd never
-  commanded (answer.Ok number id) t i j sent comes cause later said = obeyed (answer.Ok number id) t i j sent comes later said
-  commanded (answer.Duplicate number) t i j sent comes cause later said = obeyed (answer.Duplicate number) t i j sent comes later said
-  commanded answer.NoFields t i j sent comes cause later said = obeyed answer.NoFields t i j sent comes later said
-  commanded (answer.TooLarge len) t i j sent comes cause later said = obeyed (answer.TooLarge len) t i j sent comes later said
-  commanded (answer.Full max) t i j sent comes cause later said = obeyed (answer.Full max) t i j sent comes later said
-  commanded (answer.Collision number) t i j sent comes cause later said = obeyed (answer.Collision number) t i j sent comes later said
-  commanded (answer.NotLive number) t i j sent comes cause later said = obeyed (answer.NotLive number) t i j sent comes later said
-  commanded (answer.NoText number) t i j sent comes cause later said = obeyed (answer.NoText number) t i j sent comes later said
-  commanded answer.IsMirror t i j sent comes cause later said = obeyed answer.IsMirror t i j sent comes later said
+  commanded (answer.Ok number id) t i j sent comes kept later said = obeyed (answer.Ok number id) t i j sent comes kept said
+  commanded (answer.Duplicate number) t i j sent comes kept later said = obeyed (answer.Duplicate number) t i j sent comes kept said
+  commanded answer.NoFields t i j sent comes kept later said = obeyed answer.NoFields t i j sent comes kept said
+  commanded (answer.TooLarge len) t i j sent comes kept later said = obeyed (answer.TooLarge len) t i j sent comes kept said
+  commanded (answer.Full max) t i j sent comes kept later said = obeyed (answer.Full max) t i j sent comes kept said
+  commanded (answer.Collision number) t i j sent comes kept later said = obeyed (answer.Collision number) t i j sent comes kept said
+  commanded (answer.NotLive number) t i j sent comes kept later said = obeyed (answer.NotLive number) t i j sent comes kept said
+  commanded (answer.NoText number) t i j sent comes kept later said = obeyed (answer.NoText number) t i j sent comes kept said
+  commanded answer.IsMirror t i j sent comes kept later said = obeyed answer.IsMirror t i j sent comes kept said
 
 -- The archive was reopened, or that was refused and a door's line for the refusal was said.
 module _ {H : Type 0} (line : OpenRefusal → List ℕ) (s : Standing) (h : H) where
@@ -67,15 +67,15 @@ module _ {H : Type 0} (line : OpenRefusal → List ℕ) (s : Standing) (h : H) w
   settled_is : (t : Standing) (b : Archive) → t.archive ≡ b → t.doubt ≡ None → t ≡ standing b None
   settled_is t b found sure = ap (λ (d : Option Archive). standing t.archive d) sure ∙ ap (λ (x : Archive). standing x None) found
 
-  pub reopening-found : (t : Standing) (i j : Outside) → Settles s t → i.disk ≤ j.disk → j.out ≡ i.out → j.lost ≡ i.lost → Acts (said_reopening line s h) i (Some h) t j
-  reopening-found t i j settles later out lost = by settles.found
+  pub reopening-found : (t : Standing) (i j : Outside) → Settles s t → j.disk ≡ i.disk → j.out ≡ i.out → j.lost ≡ i.lost → Acts (said_reopening line s h) i (Some h) t j
+  reopening-found t i j settles kept out lost = by settles.found
     where
       by : IsFound s t.archive → Acts (said_reopening line s h) i (Some h) t j
       by (inl older) =
-          acts-by_held (said_reopening line s h) Plain (says (standing s.archive None) h []) i j h t (Ok tt) refl refl tt later (said_nothing i j out lost) (settled_is t s.archive older settles.sure)
+          acts-by_held (said_reopening line s h) Plain (says (standing s.archive None) h []) i j h t (Ok tt) refl refl kept (omega (arith, kept)) (said_nothing i j out lost) (settled_is t s.archive older settles.sure)
       by (inr doubt) =
           let is : t.archive ≡ newer s = sym (ap (newer_of s.archive) doubt) in
-          acts-by_held (said_reopening line s h) Newer (says (standing (newer s) None) h []) i j h t (Ok tt) refl refl tt later (said_nothing i j out lost) (settled_is t (newer s) is settles.sure)
+          acts-by_held (said_reopening line s h) Newer (says (standing (newer s) None) h []) i j h t (Ok tt) refl refl kept (omega (arith, kept)) (said_nothing i j out lost) (settled_is t (newer s) is settles.sure)
 
   pub reopening-refused : (t : Standing) (why : OpenRefusal) (i j : Outside) (sent : Result Unit SinkFault) → StaysShut s why t → OpeningWhy i.disk j.disk why → i.disk ≤ j.disk → Says (line why) i.out i.lost j.out j.lost sent
       → Acts (said_reopening line s h) i None t j

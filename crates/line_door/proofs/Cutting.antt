@@ -2,12 +2,12 @@
 use Rattle.std.proofs.Common.{◌≡◌, ◌<◌, ◌≤◌, ◌⊎◌, ℕ, zero, suc, List, [], ◌∷◌, Option, Some, None, Bool, true, false, inl, inr, refl, sym, ap, subst, ◌∙◌, append_assoc, arith}
 use Rattle.std.proofs.lemmas.Bool.{false≢true}
 use Rattle.edge_io.specs.Taken.{plus}
-use Rattle.line_door.specs.Acts.{Outside, outside, Said, Way, Plain, Disk, Sent, Acts, PlainActs}
+use Rattle.line_door.specs.Acts.{Outside, outside, Said, Way, Plain, WayCause, SaidWhole, SaidLost, SaidShort, Sent, Acts, PlainActs}
 use Rattle.line_door.specs.Course.{Talk, talk, Step, Requests, Last, Fed, PlainStep, PlainRequests, PlainLast, PlainFed}
 use Rattle.line_door.specs.Plain.{silent, said_after, then_by, then_say, if_request, plain_from, plain}
-use Rattle.line_door.specs.Cuts.{more_of, said_with, CutDoor, CutLaw, PiecesLaw, CallsLaw, PlainLaw, PlainIsFed, DoorLaws}
+use Rattle.line_door.specs.Cuts.{more_of, said_with, CutDoor, CutLaw, PiecesLaw, CallsLaw, PlainLaw, PlainIsFed, PlainIsAct, DoorLaws}
 use Rattle.edge_io.proofs.Wording.{plus-plus, plus-none}
-use Rattle.line_door.proofs.Acting.{acts-from}
+use Rattle.line_door.proofs.Acting.{stops-over, stops-closed, acts-from}
 
 -- What is said, and then what follows it.
 module _ {H A : Type 0} where
@@ -105,11 +105,21 @@ module _ {H A : Type 0} (said : A → H → Way → Said H A) (is_request : H �
     all_with q [] = []
     all_with q (m ∷ ms) = with q m ∷ all_with q ms
 
-    sent-with : (q : List ℕ) (s : Said H A) (i : Outside) (held : Option H) (a : A) (j : Outside) → Sent s i held a j → Sent (said_with (more q) s) i (more_of (more q) held) a j
-    sent-with q s i held a j (inl x) = inl (record { held_is = ap (more_of (more q)) x.held_is; after_is = x.after_is; out_is = x.out_is; lost_kept = x.lost_kept })
-    sent-with q s i held a j (inr (inl x)) = inr (inl (record { lost_rose = x.lost_rose; held_is = ap (more_of (more q)) x.held_is; after_is = x.after_is; count = x.count; out_is = x.out_is }))
-    sent-with q s i held a j (inr (inr x)) =
-        inr (inr (record { streamed = x.streamed; held_is = ap (more_of (more q)) x.held_is; after_is = x.after_is; count = x.count; some = x.some; proper = x.proper; out_is = x.out_is }))
+    whole-with : (q : List ℕ) (s : Said H A) (i : Outside) (held : Option H) (a : A) (j : Outside) → SaidWhole s i held a j → SaidWhole (said_with (more q) s) i (more_of (more q) held) a j
+    whole-with q s i held a j x = record { held_is = ap (more_of (more q)) x.held_is; after_is = x.after_is; out_is = x.out_is; lost_kept = x.lost_kept }
+
+    lost-with : (q : List ℕ) (s : Said H A) (i : Outside) (held : Option H) (a : A) (j : Outside) → SaidLost s i held a j → SaidLost (said_with (more q) s) i (more_of (more q) held) a j
+    lost-with q s i held a j x = record { lost_rose = x.lost_rose; held_is = ap (more_of (more q)) x.held_is; after_is = x.after_is; count = x.count; out_is = x.out_is }
+
+    short-with : (q : List ℕ) (s : Said H A) (i : Outside) (held : Option H) (a : A) (j : Outside) → SaidShort s i held a j → SaidShort (said_with (more q) s) i (more_of (more q) held) a j
+    short-with q s i held a j x = record { streamed = x.streamed; held_is = ap (more_of (more q)) x.held_is; after_is = x.after_is; count = x.count; some = x.some; proper = x.proper; out_is = x.out_is }
+
+    sent-with : (q : List ℕ) (words other : Way → Said H A) (way : Way) (i : Outside) (held : Option H) (a : A) (j : Outside) → ((w : Way) → other w ≡ said_with (more q) (words w)) → Sent words way i held a j
+        → Sent other way i (more_of (more q) held) a j
+    sent-with q words other way i held a j same (inl x) = inl (subst (λ (s : Said H A). SaidWhole s i (more_of (more q) held) a j) (sym (same way)) (whole-with q (words way) i held a j x))
+    sent-with q words other way i held a j same (inr (inl x)) = inr (inl (subst (λ (s : Said H A). SaidLost s i (more_of (more q) held) a j) (sym (same way)) (lost-with q (words way) i held a j x)))
+    sent-with q words other way i held a j same (inr (inr x)) =
+        inr (inr (stops-over words other i i held (more_of (more q) held) a a j (λ short. subst (λ (s : Said H A). SaidShort s i (more_of (more q) held) a j) (sym (same Plain)) (short-with q (words Plain) i held a j short)) way x))
 
     -- A request is answered the same when more bytes follow it.
     step-with : (q : List ℕ) (h : H) (w m : Talk H A) → is_request h ≡ true → Step said is_request h w m → Step said is_request (more q h) (with q w) (with q m)
@@ -120,8 +130,7 @@ module _ {H A : Type 0} (said : A → H → Way → Said H A) (is_request : H �
         cause = step.acts.cause;
         disk_later = step.acts.disk_later;
         lost_later = step.acts.lost_later;
-        sent = subst (λ (t : Said H A). Sent t w.outside (more_of (more q) m.held) m.after m.outside) (sym (door.said_stays q w.after h step.acts.way e))
-            (sent-with q (said w.after h step.acts.way) w.outside m.held m.after m.outside step.acts.sent);
+        sent = sent-with q (said w.after h) (said w.after (more q h)) step.acts.way w.outside m.held m.after m.outside (λ way. door.said_stays q w.after h way e) step.acts.sent;
       };
     }
 
@@ -142,7 +151,7 @@ module _ {H A : Type 0} (said : A → H → Way → Said H A) (is_request : H �
     last-from w x v held after out lost disk last = record {
       before = last.before;
       step = step-from last.before w x v held after out lost disk last.step;
-      ends = elim last.ends [ | inl none ↦ inl none | inr rest ↦ inr (rest.0, rest.1 ∙ sym disk) ];
+      ends = elim last.ends [ inl none ↦ inl none | inr rest ↦ inr (rest.0, rest.1 ∙ sym disk) ];
     }
 
     fed-from : (w x v : Talk H A) → x.held ≡ w.held → x.after ≡ w.after → x.outside.out ≡ w.outside.out → x.outside.lost ≡ w.outside.lost → x.outside.disk ≡ w.outside.disk →
@@ -164,20 +173,18 @@ module _ {H A : Type 0} (said : A → H → Way → Said H A) (is_request : H �
       lost : v.outside.lost ≡ m.outside.lost
       disk : v.outside.disk ≡ m.outside.disk
 
-    kept-by : (k h : H) (m v : Talk H A) (s : Said H A) → m.held ≡ Some h → v.outside.disk ≡ m.outside.disk → v.held ≡ Some k → (s.next ≡ None) ⊎ (s ≡ silent m.after h) →
-        Sent s m.outside v.held v.after v.outside → Kept k m v
-    kept-by k h m v s held same kept (inl none) (inl x) = absurd (cc (kept, x.held_is, none))
-    kept-by k h m v s held same kept (inl none) (inr (inl x)) = absurd (cc (kept, x.held_is))
-    kept-by k h m v s held same kept (inl none) (inr (inr x)) = absurd (cc (kept, x.held_is))
-    kept-by k h m v s held same kept (inr is) (inl x) = record {
+    kept-by : (k h : H) (m v : Talk H A) (words : Way → Said H A) (way : Way) → m.held ≡ Some h → v.outside.disk ≡ m.outside.disk → v.held ≡ Some k → ((words way).next ≡ None) ⊎ (words way ≡ silent m.after h) →
+        Sent words way m.outside v.held v.after v.outside → Kept k m v
+    kept-by k h m v words way held same kept (inl none) (inl x) = absurd (cc (kept, x.held_is, none))
+    kept-by k h m v words way held same kept (inr is) (inl x) = record {
       held = held ∙ sym (sym kept ∙ x.held_is ∙ ap (λ (t : Said H A). t.next) is);
       after = x.after_is ∙ ap (λ (t : Said H A). t.after) is;
       out = x.out_is ∙ ap (λ (t : Said H A). plus m.outside.out t.words) is ∙ sym (plus-none m.outside.out);
       lost = x.lost_kept;
       disk = same;
     }
-    kept-by k h m v s held same kept (inr is) (inr (inl x)) = absurd (cc (kept, x.held_is))
-    kept-by k h m v s held same kept (inr is) (inr (inr x)) = absurd (cc (kept, x.held_is))
+    kept-by k h m v words way held same kept either (inr (inl x)) = absurd (cc (kept, x.held_is))
+    kept-by k h m v words way held same kept either (inr (inr x)) = let closed = stops-closed words way m.outside v.held v.after v.outside x in absurd (cc (kept, closed))
 
     kept-last : (k : H) (m v : Talk H A) → Last said is_request m v → v.held ≡ Some k → Kept k m v
     kept-last k m v last kept = by last.ends
@@ -185,7 +192,7 @@ module _ {H A : Type 0} (said : A → H → Way → Said H A) (is_request : H �
         by : (v.held ≡ None) ⊎ ((is_request last.before ≡ false) × (v.outside.disk ≡ m.outside.disk)) → Kept k m v
         by (inl none) = absurd (cc (kept, none))
         by (inr rest) =
-            kept-by k last.before m v (said m.after last.before last.step.acts.way) last.step.held rest.1 kept (door.rest_kept m.after last.before last.step.acts.way rest.0) last.step.acts.sent
+            kept-by k last.before m v (said m.after last.before) last.step.acts.way last.step.held rest.1 kept (door.rest_kept m.after last.before last.step.acts.way rest.0) last.step.acts.sent
 
     -- A course of `p` whose rest was kept, and then a course of `q`, make a course of both at once.
     pub pieces : PiecesLaw said is_request more size
@@ -308,17 +315,25 @@ module _ {H A : Type 0} (said : A → H → Way → Said H A) (is_request : H �
       λ acts. plain-fed (suc (size h)) h w v (omega arith) held acts,
     )
 
-    step-plain : (h : H) (w m : Talk H A) → PlainStep said is_request h w m → Step said is_request h w m
-    step-plain h w m step = record {
-      held = step.held;
-      acts = record {
-        way = Plain;
-        cause = tt;
-        disk_later = omega (arith, step.acts.disk_kept);
-        lost_later = omega (arith, step.acts.whole.lost_kept);
-        sent = inl step.acts.whole;
-      };
+    acts-plain : (a : A) (h : H) (i : Outside) (held : Option H) (b : A) (j : Outside) → PlainActs (said a h Plain) i held b j → Acts (said a h) i held b j
+    acts-plain a h i held b j acts = record {
+      way = Plain;
+      cause = acts.disk_kept;
+      disk_later = omega (arith, acts.disk_kept);
+      lost_later = omega (arith, acts.whole.lost_kept);
+      sent = inl acts.whole;
     }
+
+    -- A plain act is an act by the rules all of whose words reached the connection.
+    pub is_act : PlainIsAct said is_request more size
+    unfolding acts-plain
+    is_act a h i held b j = (
+      λ acts. (acts-plain a h i held b j acts, refl, acts.whole),
+      λ both. record { disk_kept = subst (λ (way : Way). WayCause way i.disk j.disk) both.1 both.0.cause; whole = both.2 },
+    )
+
+    step-plain : (h : H) (w m : Talk H A) → PlainStep said is_request h w m → Step said is_request h w m
+    step-plain h w m step = record { held = step.held; acts = acts-plain w.after h w.outside m.held m.after m.outside step.acts }
 
     course-plain : (w : Talk H A) (ms : List (Talk H A)) (m : Talk H A) → PlainRequests said is_request w ms m → Requests said is_request w ms m
     course-plain w [] m each = each
@@ -326,13 +341,17 @@ module _ {H A : Type 0} (said : A → H → Way → Said H A) (is_request : H �
 
     -- A plain course is a course.
     pub is_course : PlainIsFed said is_request more size
-    is_course w v fed =
-        (fed.0, fed.1, course-plain w fed.0 fed.1 fed.2, record {
-          before = fed.3.before;
-          step = step-plain fed.3.before fed.1 v fed.3.step;
-          ends = elim fed.3.ends [ | inl none ↦ inl none | inr rest ↦ inr (rest, fed.3.step.acts.disk_kept) ];
-        })
+    is_course w v fed = (
+      fed.0,
+      fed.1,
+      course-plain w fed.0 fed.1 fed.2,
+      record {
+        before = fed.3.before;
+        step = step-plain fed.3.before fed.1 v fed.3.step;
+        ends = elim fed.3.ends [ inl none ↦ inl none | inr rest ↦ inr (rest, fed.3.step.acts.disk_kept) ];
+      },
+    )
 
     -- All laws of a door.
     pub door_laws : DoorLaws said is_request more size
-    door_laws = record { cut = cut; pieces = pieces; calls = calls; by_rules = by_rules; is_course = is_course }
+    door_laws = record { cut = cut; pieces = pieces; calls = calls; by_rules = by_rules; is_course = is_course; is_act = is_act }

@@ -1,22 +1,26 @@
 -- The course of a session is one of a greater door that has the session among its own.
 use Rattle.std.proofs.Common.{◌≡◌, ◌⊎◌, List, [], ◌∷◌, Option, None, Bool, false, inl, inr, sym, ap, subst, ◌∙◌}
-use Rattle.line_door.specs.Acts.{Outside, Said, Way, Sent, Acts}
+use Rattle.line_door.specs.Acts.{Outside, Said, Way, Plain, SaidWhole, SaidLost, SaidShort, Sent, Acts}
 use Rattle.line_door.specs.Course.{Talk, Step, Requests, Last, Fed}
 use Rattle.line_door.specs.Over.{held_over, said_over, talk_over, talks_over}
+use Rattle.line_door.proofs.Acting.{stops-over}
 
 module _ {H A J B : Type 0} (state : A → B) (into : H → J) where
-  sent-over : (s : Said H A) (i : Outside) (held : Option H) (a : A) (j : Outside) → Sent s i held a j → Sent (said_over state into s) i (held_over into held) (state a) j
-  sent-over s i held a j (inl x) = inl (record { held_is = ap (held_over into) x.held_is; after_is = ap state x.after_is; out_is = x.out_is; lost_kept = x.lost_kept })
-  sent-over s i held a j (inr (inl x)) = inr (inl (record { lost_rose = x.lost_rose; held_is = ap (held_over into) x.held_is; after_is = ap state x.after_is; count = x.count; out_is = x.out_is }))
-  sent-over s i held a j (inr (inr x)) = inr (inr (record {
-    streamed = x.streamed;
-    held_is = ap (held_over into) x.held_is;
-    after_is = ap state x.after_is;
-    count = x.count;
-    some = x.some;
-    proper = x.proper;
-    out_is = x.out_is;
-  }))
+  whole-over : (s : Said H A) (i : Outside) (held : Option H) (a : A) (j : Outside) → SaidWhole s i held a j → SaidWhole (said_over state into s) i (held_over into held) (state a) j
+  whole-over s i held a j x = record { held_is = ap (held_over into) x.held_is; after_is = ap state x.after_is; out_is = x.out_is; lost_kept = x.lost_kept }
+
+  lost-over : (s : Said H A) (i : Outside) (held : Option H) (a : A) (j : Outside) → SaidLost s i held a j → SaidLost (said_over state into s) i (held_over into held) (state a) j
+  lost-over s i held a j x = record { lost_rose = x.lost_rose; held_is = ap (held_over into) x.held_is; after_is = ap state x.after_is; count = x.count; out_is = x.out_is }
+
+  short-over : (s : Said H A) (i : Outside) (held : Option H) (a : A) (j : Outside) → SaidShort s i held a j → SaidShort (said_over state into s) i (held_over into held) (state a) j
+  short-over s i held a j x = record { streamed = x.streamed; held_is = ap (held_over into) x.held_is; after_is = ap state x.after_is; count = x.count; some = x.some; proper = x.proper; out_is = x.out_is }
+
+  sent-over : (words : Way → Said H A) (other : Way → Said J B) (way : Way) (i : Outside) (held : Option H) (a : A) (j : Outside) → ((w : Way) → other w ≡ said_over state into (words w)) → Sent words way i held a j
+      → Sent other way i (held_over into held) (state a) j
+  sent-over words other way i held a j same (inl x) = inl (subst (λ (s : Said J B). SaidWhole s i (held_over into held) (state a) j) (sym (same way)) (whole-over (words way) i held a j x))
+  sent-over words other way i held a j same (inr (inl x)) = inr (inl (subst (λ (s : Said J B). SaidLost s i (held_over into held) (state a) j) (sym (same way)) (lost-over (words way) i held a j x)))
+  sent-over words other way i held a j same (inr (inr x)) =
+      inr (inr (stops-over words other i i held (held_over into held) a (state a) j (λ short. subst (λ (s : Said J B). SaidShort s i (held_over into held) (state a) j) (sym (same Plain)) (short-over (words Plain) i held a j short)) way x))
 
   -- An act of a session is an act of the greater door, if that says the same.
   pub acts-over : (words : Way → Said H A) (other : Way → Said J B) (i : Outside) (held : Option H) (a : A) (j : Outside) → ((way : Way) → other way ≡ said_over state into (words way)) → Acts words i held a j
@@ -26,7 +30,7 @@ module _ {H A J B : Type 0} (state : A → B) (into : H → J) where
     cause = acts.cause;
     disk_later = acts.disk_later;
     lost_later = acts.lost_later;
-    sent = subst (λ (s : Said J B). Sent s i (held_over into held) (state a) j) (sym (same acts.way)) (sent-over (words acts.way) i held a j acts.sent);
+    sent = sent-over words other acts.way i held a j same acts.sent;
   }
 
   module _ (said : A → H → Way → Said H A) (is_request : H → Bool) (other : B → J → Way → Said J B) (is_other : J → Bool)

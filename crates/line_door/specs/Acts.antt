@@ -22,17 +22,17 @@ pub record Said (H A : Type 0) : Type 0 where
   pub streamed : Bool
   pub after : A
 
--- How an act goes: by the rules; with the word for out of memory; with the word for a fault of the
--- disk; or, Newer, with what a reopening finds of what was in doubt.
+-- How an act goes: by the rules; out of memory, with the word for that; at a fault of the disk, with
+-- its word; or, Newer, with what a reopening finds of what was in doubt. In place of either word a
+-- streamed reply that is under way stops.
 pub data Way : Type 0 where
   Plain : Way
   Memory : Way
   Disk : Way
   Newer : Way
 
--- Why an act goes so, by the disk's count of faults before and after it: the count rises exactly when
--- the word for the disk is said. So no fault of the disk is told as out of memory, and none is passed
--- over.
+-- Why an act goes so, by the disk's count of faults before and after it: the count rises exactly in
+-- the way of the disk. So no fault of the disk is told as out of memory, and none is passed over.
 abbrev pub WayCause : Way → ℕ → ℕ → Type 0
 WayCause Plain before now = now ≡ before
 WayCause Memory before now = now ≡ before
@@ -74,9 +74,17 @@ module _ {H A : Type 0} where
     pub proper : count < length s.words
     pub out_is : j.out ≡ plus i.out (take count s.words)
 
-  -- The words were sent in one of the three ways.
-  abbrev pub Sent : Said H A → Outside → Option H → A → Outside → Type 0
-  Sent s i held a j = SaidWhole s i held a j ⊎ (SaidLost s i held a j ⊎ SaidShort s i held a j)
+  -- The reply by the rules stopped short: memory ran out, or the disk failed, in the midst of it.
+  abbrev pub StopsShort : (Way → Said H A) → Way → Outside → Option H → A → Outside → Type 0
+  StopsShort words Plain i held a j = ⊥
+  StopsShort words Memory i held a j = SaidShort (words Plain) i held a j
+  StopsShort words Disk i held a j = SaidShort (words Plain) i held a j
+  StopsShort words Newer i held a j = ⊥
+
+  -- The words of a way were sent whole, or lost; or the reply by the rules stopped short.
+  abbrev pub Sent : (Way → Said H A) → Way → Outside → Option H → A → Outside → Type 0
+  Sent words way i held a j = SaidWhole (words way) i held a j
+      ⊎ (SaidLost (words way) i held a j ⊎ StopsShort words way i held a j)
 
   -- One act, in one of its ways, for a cause in this act.
   pub record Acts (words : Way → Said H A) (i : Outside) (held : Option H) (a : A) (j : Outside)
@@ -85,7 +93,7 @@ module _ {H A : Type 0} where
     pub cause : WayCause way i.disk j.disk
     pub disk_later : i.disk ≤ j.disk
     pub lost_later : i.lost ≤ j.lost
-    pub sent : Sent (words way) i held a j
+    pub sent : Sent words way i held a j
 
   -- One act by the rules, all of whose words reached the connection. The disk didn't fail.
   pub record PlainActs (s : Said H A) (i : Outside) (held : Option H) (a : A) (j : Outside)

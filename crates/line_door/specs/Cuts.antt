@@ -1,6 +1,6 @@
 -- The answers to a connection do not depend on how its bytes are cut into pieces.
 use Rattle.std.specs.Prelude.{◌≡◌, ◌<◌, ◌≤◌, ◌⊎◌, ◌↔◌, ℕ, List, ◌++◌, Option, Some, None, Bool, true, false}
-use Rattle.line_door.specs.Acts.{Outside, Said, Way, Plain, PlainActs}
+use Rattle.line_door.specs.Acts.{Outside, Said, Way, Plain, SaidWhole, Acts, PlainActs}
 use Rattle.line_door.specs.Course.{Talk, talk, Requests, Fed, PlainFed}
 use Rattle.line_door.specs.Plain.{silent, then_say, plain}
 
@@ -82,6 +82,14 @@ module _ {H A : Type 0} (said : A → H → Way → Said H A)
   abbrev pub PlainIsFed : Type 0
   PlainIsFed = (w v : Talk H A) → PlainFed said is_request w v → Fed said is_request w v
 
+  -- A plain act is an act by the rules, all of whose words reached the connection; and each such act
+  -- is a plain one.
+  abbrev pub PlainIsAct : Type 0
+  PlainIsAct =
+      (a : A) (h : H) (i : Outside) (held : Option H) (b : A) (j : Outside) →
+      PlainActs (said a h Plain) i held b j ↔ (acts : Acts (said a h) i held b j)
+      × (acts.way ≡ Plain) × SaidWhole (said a h Plain) i held b j
+
   -- The laws that such a door keeps.
   pub record DoorLaws : Type 0 where
     pub cut : CutLaw
@@ -89,3 +97,4 @@ module _ {H A : Type 0} (said : A → H → Way → Said H A)
     pub calls : CallsLaw
     pub by_rules : PlainLaw
     pub is_course : PlainIsFed
+    pub is_act : PlainIsAct

@@ -8,7 +8,7 @@ use Rattle.line_door.specs.Lines.{Front, Whole, Long, Partial, front, is_whole, 
 use Rattle.line_door.specs.Plain.{silent}
 use Rattle.line_door.specs.Course.{Talk, Fed}
 use Rattle.line_door.specs.Over.{said_over, talk_over}
-use Rattle.line_door.specs.Cuts.{CutLaw, PiecesLaw, CallsLaw, PlainLaw, PlainIsFed}
+use Rattle.line_door.specs.Cuts.{CutLaw, PiecesLaw, CallsLaw, PlainLaw, PlainIsFed, PlainIsAct}
 
 -- The word for out of memory.
 abbrev pub memory_word : List ℕ
@@ -69,10 +69,12 @@ EchoPieces = PiecesLaw echo_said echo_request echo_more length
 abbrev pub EchoCalls : Type 0
 EchoCalls = CallsLaw echo_said echo_request echo_more length
 
--- A plain course is what the plain function says, and it is a course.
+-- A plain course is what the plain function says, and it is a course. A plain act is one by the
+-- rules.
 abbrev pub EchoPlain : Type 0
 EchoPlain = PlainLaw echo_said echo_request echo_more length
     × PlainIsFed echo_said echo_request echo_more length
+    × PlainIsAct echo_said echo_request echo_more length
 
 -- The small door on one connection of many: its sessions carry the connection's number, and its
 -- state is the count beside that of another door.

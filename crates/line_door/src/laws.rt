@@ -30,7 +30,8 @@ pub fn calls_law()
 /// Shows that acts without a failed allocation, a fault or a lost send do what the plain function
 /// of the piece does.
 ///
-/// Stated at the same door.
+/// An act is such a one exactly where it goes by the rules and all its words are taken. Stated at
+/// the same door.
 pub fn plain_law()
     ensures { EchoPlain }
 {}

@@ -80,18 +80,18 @@ stays-ready m n d answer.IsMirror is = refl
 stays-ready m n d answer.DiskFault never = absurd never
 stays-ready m n d (answer.Damaged file at) never = absurd never
 
--- It has no disk that fails.
+-- It has no disk that fails, and its count of faults stays 0.
 pub never-fails : (m n : Archive) (d : Done) (reply : Answer) → Delivers m reply n d → AnswerCause 0 0 reply
 never-fails m n d answer.NoMemory is = refl
-never-fails m n d (answer.Ok number id) is = tt
-never-fails m n d (answer.Duplicate number) is = tt
-never-fails m n d answer.NoFields is = tt
-never-fails m n d (answer.TooLarge len) is = tt
-never-fails m n d (answer.Full max) is = tt
-never-fails m n d (answer.Collision number) is = tt
-never-fails m n d (answer.NotLive number) is = tt
-never-fails m n d (answer.NoText number) is = tt
-never-fails m n d answer.IsMirror is = tt
+never-fails m n d (answer.Ok number id) is = refl
+never-fails m n d (answer.Duplicate number) is = refl
+never-fails m n d answer.NoFields is = refl
+never-fails m n d (answer.TooLarge len) is = refl
+never-fails m n d (answer.Full max) is = refl
+never-fails m n d (answer.Collision number) is = refl
+never-fails m n d (answer.NotLive number) is = refl
+never-fails m n d (answer.NoText number) is = refl
+never-fails m n d answer.IsMirror is = refl
 never-fails m n d answer.DiskFault never = absurd never
 never-fails m n d (answer.Damaged file at) never = absurd never
 

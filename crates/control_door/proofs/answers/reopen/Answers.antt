@@ -7,7 +7,7 @@ use Rattle.control_door.proofs.answers.reopen.Goals as goal
 pub returns-in-Ok-clause-acts : goal.returns-in-Ok-clause-acts
 returns-in-Ok-clause-acts g c = λ s bytes fits.
     let found = c.in-Ok.ensures.found s fits in
-    (found.0, found.1, reopening-found unopened_words s (waiting bytes true) found.0 _ _ found.2 c.in-Ok.ensures.later refl refl)
+    (found.0, found.1, reopening-found unopened_words s (waiting bytes true) found.0 _ _ found.2 c.in-Ok.ensures.cause refl refl)
 
 pub returns-in-Err-clause-acts : goal.returns-in-Err-clause-acts
 returns-in-Err-clause-acts g c = λ s bytes fits.

@@ -6,7 +6,7 @@ use Rattle.control_door.proofs.answers.say_epochs.Goals as goal
 
 pub returns-in-Ok-clause-acts : goal.returns-in-Ok-clause-acts
 returns-in-Ok-clause-acts g c = λ moment a rest held.
-    acts-listed moment (standing a None) rest _ _ _ c.epochs_of.ensures.shelf.later (rw (c.as_slice.ensures ∙ c.in-Ok.ensures.words a held) at c.say.ensures.said)
+    acts-listed moment (standing a None) rest _ _ _ c.in-Ok.ensures.cause (rw (c.as_slice.ensures ∙ c.in-Ok.ensures.words a held) at c.say.ensures.said)
 
 pub returns-in-Err-clause-acts : goal.returns-in-Err-clause-acts
 returns-in-Err-clause-acts g c = λ moment a rest held.

@@ -1,4 +1,4 @@
-use Rattle.std.proofs.Common.{◌∙◌, ◌++◌, List, ℕ, None, refl, ap, arith}
+use Rattle.std.proofs.Common.{◌∙◌, ◌++◌, List, ℕ, None, refl, ap}
 use Rattle.arch_model.specs.Standing.{standing}
 use Rattle.arch_model.proofs.Shelving.{undamaged-text}
 use Rattle.control_door.specs.Requests.{Shows}
@@ -7,7 +7,7 @@ use Rattle.control_door.proofs.answers.say_message.Goals as goal
 
 pub returns-then-not-is_live-clause-acts : goal.returns-then-not-is_live-clause-acts
 returns-then-not-is_live-clause-acts g c = λ moment a rest held.
-    acts-hidden moment (standing a None) c.args.number rest _ _ _ (c.is_live.ensures a held ∙ c.if-not-is_live.true) (omega arith) c.say_not_live.ensures.said
+    acts-hidden moment (standing a None) c.args.number rest _ _ _ (c.is_live.ensures a held ∙ c.if-not-is_live.true) refl c.say_not_live.ensures.said
 
 pub text-requires-clause-live : goal.text-requires-clause-live
 text-requires-clause-live g c = λ a held. c.is_live.ensures a held ∙ c.if-not-is_live.false
@@ -15,7 +15,7 @@ text-requires-clause-live g c = λ a held. c.is_live.ensures a held ∙ c.if-not
 pub returns-in-Ok-clause-acts : goal.returns-in-Ok-clause-acts
 returns-in-Ok-clause-acts g c = λ moment a rest held.
     let text = c.in-Ok.ensures.text a held in
-    acts-shown moment (standing a None) c.args.number text.0 rest _ _ _ text.1 c.text.ensures.shelf.later (rw (c.as_slice.ensures ∙ text.2 ∙ ap (λ (t : List ℕ). t ++ text.0) c.new-text.ensures) at c.say_text.ensures.said)
+    acts-shown moment (standing a None) c.args.number text.0 rest _ _ _ text.1 c.in-Ok.ensures.cause (rw (c.as_slice.ensures ∙ text.2 ∙ ap (λ (t : List ℕ). t ++ text.0) c.new-text.ensures) at c.say_text.ensures.said)
 
 pub returns-clause-acts : goal.returns-clause-acts
 returns-clause-acts g c = λ moment a rest held.

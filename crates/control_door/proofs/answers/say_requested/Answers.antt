@@ -1,4 +1,4 @@
-use Rattle.std.proofs.Common.{false, None, arith}
+use Rattle.std.proofs.Common.{false, None, refl}
 use Rattle.arch_model.specs.Standing.{standing}
 use Rattle.control_door.specs.Requests.{Shows, Lists, Quits, Mistakes, Exceeds}
 use Rattle.control_door.proofs.Answering.{answers-read, answers-held, acts-quitting, acts-mistaken, acts-exceeding}
@@ -24,8 +24,8 @@ returns-in-Quit-clause-acts g c = rw c.in-Quit.is
 
 pub returns-in-Mistake-clause-acts : goal.returns-in-Mistake-clause-acts
 returns-in-Mistake-clause-acts g c = rw (c.in-Mistake.is, c.after-in-Mistake.ensures)
-    (answers-held g.K.Shelf.holds g.K.Shelf.ready g.K.Keep.leaves g.met.K.Keep.holds_left c.args.moment Mistakes c.args.keep.now _ _ _ (λ a rest. acts-mistaken c.args.moment (standing a None) rest _ _ _ (omega arith) c.say_bad.ensures.said))
+    (answers-held g.K.Shelf.holds g.K.Shelf.ready g.K.Keep.leaves g.met.K.Keep.holds_left c.args.moment Mistakes c.args.keep.now _ _ _ (λ a rest. acts-mistaken c.args.moment (standing a None) rest _ _ _ refl c.say_bad.ensures.said))
 
 pub returns-in-Excess-clause-acts : goal.returns-in-Excess-clause-acts
 returns-in-Excess-clause-acts g c = rw c.in-Excess.is
-    (answers-held g.K.Shelf.holds g.K.Shelf.ready g.K.Keep.leaves g.met.K.Keep.holds_left c.args.moment Exceeds c.args.keep.now _ _ false (λ a rest. acts-exceeding c.args.moment (standing a None) rest _ _ _ (omega arith) c.say_bad-in-Excess.ensures.said))
+    (answers-held g.K.Shelf.holds g.K.Shelf.ready g.K.Keep.leaves g.met.K.Keep.holds_left c.args.moment Exceeds c.args.keep.now _ _ false (λ a rest. acts-exceeding c.args.moment (standing a None) rest _ _ _ refl c.say_bad-in-Excess.ensures.said))

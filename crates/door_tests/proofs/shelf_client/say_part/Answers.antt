@@ -1,7 +1,7 @@
 use Rattle.std.proofs.Common.{◌∙◌, ◌++◌, List, ℕ, ap, refl, arith}
 use Rattle.arch_model.proofs.Shelving.{undamaged-text}
 use Rattle.arch_model.specs.Archives.{text_of}
-use Rattle.door_tests.proofs.Parts.{part-given, no-text, some-text, says-unread}
+use Rattle.door_tests.proofs.Parts.{part-given, no-text, some-text, says-unread, stops-why}
 use Rattle.door_tests.proofs.shelf_client.say_part.Goals as goal
 
 pub returns-then-not-is_live-clause-part : goal.returns-then-not-is_live-clause-part
@@ -19,7 +19,8 @@ returns-in-Ok-clause-part g c = λ a held.
 pub returns-then-begun-clause-part : goal.returns-then-begun-clause-part
 returns-then-begun-clause-part g c = λ a held.
     let text = some-text (text_of a.entries c.args.n) (c.is_live.ensures a held ∙ c.if-not-is_live.false) in
-    record { begun_is = c.if-begun.true; found = text.0; is = text.1; nothing = record { out = refl; lost = refl; later = c.text.ensures.shelf.later } }
+    let well = undamaged-text a.entries c.args.n c.new-text.result c.text.new.into c.in-Err.refusal (c.in-Err.ensures.text a held) in
+    record { begun_is = c.if-begun.true; found = text.0; is = text.1; nothing = record { out = refl; lost = refl; later = c.text.ensures.shelf.later }; why = stops-why _ _ c.in-Err.refusal well c.in-Err.ensures.cause }
 
 pub returns-clause-part : goal.returns-clause-part
 returns-clause-part g c = λ a held. (
