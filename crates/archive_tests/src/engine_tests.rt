@@ -25,7 +25,7 @@ fn made(alloc: Global, disk: MemDisk) -> Result<Engine<MemDisk>, InitRefusal> {
 }
 
 /// Opens the archive on a disk.
-fn opened(alloc: Global, disk: MemDisk) -> Result<Engine<MemDisk>, OpenRefusal> {
+pub(crate) fn opened(alloc: Global, disk: MemDisk) -> Result<Engine<MemDisk>, OpenRefusal> {
     match Engine::open(alloc, disk) {
         Ok(engine) => Ok(engine),
         Err(NotOpened { disk: _, why }) => Err(why),

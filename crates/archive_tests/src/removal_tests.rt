@@ -11,10 +11,10 @@ use std::test::Fail;
 use store_tests::in_memory;
 
 /// The moment of the removal.
-const LATER: u64 = MOMENT + 100;
+pub(crate) const LATER: u64 = MOMENT + 100;
 
 /// The moment of a delivery after the removal.
-const LAST: u64 = MOMENT + 200;
+pub(crate) const LAST: u64 = MOMENT + 200;
 
 /// The commit of the removal of the first mail at `LATER`, after that of the mail.
 const REMOVAL_COMMIT: &[u8] = b"9bd6679b0a84e8d56dfbfdbd3183a1c7c5faeef3";
