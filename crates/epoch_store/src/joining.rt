@@ -29,8 +29,9 @@ use std::marker::Model;
 
 /// The records of a map that have a message, and the entries so far.
 ///
-/// The messages among these are those of the first records, in order. The own ids of live entries
-/// differ, each deletion ends a live entry, and each blob id has one text.
+/// If the disk tells what it holds, the messages among these are those of the first records, in
+/// order, the own ids of live entries differ, each deletion ends a live entry, and each blob id has
+/// one text. `known` is right of such entries.
 #[derive(Drop)]
 pub(crate) struct Joining {
     records: Vec<Record>,
