@@ -6,20 +6,21 @@ use Rattle.std.proofs.Common.{◌-◌, ◌∙◌, sym, ap, subst, inl, inr, arit
 use Rattle.std.proofs.lemmas.Bool.Decides.{nat_tests}
 use Rattle.std.proofs.lemmas.List.Sums.{length-filter}
 use Rattle.std.proofs.lemmas.Option.{slice_get_within, slice_get-get_or}
-use Rattle.disk_model.specs.Disk.{Content}
-use Rattle.arch_model.specs.Archives.{Entry, Archive, is_message, live, text_of}
+use Rattle.disk_model.specs.Disk.{Content, WhereTold}
+use Rattle.arch_model.specs.Archives.{Entry, Archive, is_message, live, messages, text_of}
 use Rattle.arch_model.specs.Shelves.{IsGreatestLive, live_between, AppendsTo}
 use Rattle.arch_model.specs.Standing.{IsLeastLive, GivesTextIn, KeepsUnlessFound}
 use Rattle.arch_model.proofs.Shelving.{appends-none}
 use Rattle.arch_model.specs.declared.text_refusal.TextRefusal.{TextRefusal}
 use Rattle.arch_model.specs.declared.text_refusal.TextRefusal.TheVariants.{DiskFault, Damaged, NoMemory}
 use Rattle.epoch_store.specs.declared.entries.StoredEntry.{StoredEntry}
-use Rattle.epoch_store.specs.Reads.{GivesText, GivesTextOf, text_if, IsEpochFound}
+use Rattle.epoch_store.specs.Reads.{GivesText, FindsText, GivesTextOf, text_if, IsEpochFound}
 use Rattle.epoch_store.specs.Stores.{View, Keeps, IsStoreWith, live_kept, stored_after}
-use Rattle.archive_core.specs.Numbers.{has_live, IsKnownLive, IsMessageAt, IsLiveAt, GivesTextKept, TellsOther}
+use Rattle.archive_core.specs.Numbers.{has_live, IsKnownLive, IsMessageAt, IsLiveAt, GivesKept, GivesTextKept, TellsOther}
 use Rattle.archive_core.specs.Placing.{message_places, PlacesFrom, PlacesRise, live_place, IsPlaceOf, IsLeastPlace, IsGreatestPlace}
 use Rattle.archive_core.specs.declared.placing.MessagePlace.{MessagePlace}
-use Rattle.archive_core.proofs.Places.{place_between, stored_between, places-sorted, places-rise, places-low, places-one, places-tell, live-places, places-between}
+use Rattle.archive_core.proofs.Places.{place_between, stored_between, places-sorted, places-rise, places-low, places-one, places-tell, live-places, places-between, message-place}
+use Rattle.archive_core.proofs.ByBlob.{message-of}
 use Rattle.archive_core.proofs.Stored.{live-kept, has_live-is, between-kept, kept-at, shown-at, contains-number, live-number}
 use Rattle.archive_core.proofs.Standing.{store_keeps}
 
@@ -113,33 +114,24 @@ place-live (x ∷ xs) zero p there live =
     here_true x.live (x.number == p.number) (live_place xs p.number) (ap (λ (r : MessagePlace). r.live) same ∙ live) (ap (λ (r : MessagePlace). r.number == p.number) same ∙ itself)
 place-live (x ∷ xs) (suc i) p there live = or_true (x.live && x.number == p.number) (live_place xs p.number) (place-live xs i p there live)
 
--- A number that isn't found by a search has no live place.
-pub none-past : (xs : List MessagePlace) (n i : ℕ) → (PlacesRise xs → IsCountBelow xs n i) → length xs ≤ i → PlacesRise xs → live_place xs n ≡ false
-none-past xs n i count whole rise = not_true (live_place xs n) never where
-  never : live_place xs n ≡ true → ⊥
-  never has =
-      let at = live-at xs n has in
-      let inside : at.index < length xs = slice_get_within xs at.index at.place at.there in
-      let low : at.place.number < n = (count rise at.index at.place at.there).0 (omega (arith, inside, whole)) in
-      let same : at.place.number ≡ n = at.number_is in
-      omega (arith, low, same)
+-- A number that isn't found by a search has no place.
+pub none-past : (xs : List MessagePlace) (n i : ℕ) → (PlacesRise xs → IsCountBelow xs n i) → length xs ≤ i → PlacesRise xs → (k : ℕ) (q : MessagePlace) → slice_get xs k ≡ Some q → q.number ≢ n
+none-past xs n i count whole rise k q there same =
+    let inside : k < length xs = slice_get_within xs k q there in
+    let low : q.number < n = (count rise k q there).0 (omega (arith, inside, whole)) in
+    omega (arith, low, same)
 
-pub none-other : (xs : List MessagePlace) (n i : ℕ) (p : MessagePlace) → (PlacesRise xs → IsCountBelow xs n i) → slice_get xs i ≡ Some p → p.number ≢ n → PlacesRise xs → live_place xs n ≡ false
-none-other xs n i p count here other rise = not_true (live_place xs n) never where
-  never : live_place xs n ≡ true → ⊥
-  never has =
-      let at = live-at xs n has in
-      let same : at.place.number ≡ n = at.number_is in
-      elim (before_or_not at.index i) [
-        | inl less ↦ (let low : at.place.number < n = (count rise at.index at.place at.there).0 less in omega (arith, low, same))
-        | inr most ↦ after at most
-      ]
-    where
-      after : (at : LiveAt xs n) → i ≤ at.index → ⊥
-      after at most = elim (before_or_not i at.index) [
-        | inl less ↦ (let high : n ≤ p.number = (count rise i p here).1 (omega arith) in let up : p.number < at.place.number = rise_at 0 xs i at.index p at.place rise less here at.there in let same : at.place.number ≡ n = at.number_is in omega (arith, high, up, same))
-        | inr again ↦ (let at_is : at.index ≡ i = omega (arith, most, again) in other (ap (λ (r : MessagePlace). r.number) (only p at.place (sym here ∙ ap (slice_get xs) (sym at_is) ∙ at.there)) ∙ at.number_is))
-      ]
+pub none-other : (xs : List MessagePlace) (n i : ℕ) (p : MessagePlace) → (PlacesRise xs → IsCountBelow xs n i) → slice_get xs i ≡ Some p → p.number ≢ n → PlacesRise xs → (k : ℕ) (q : MessagePlace) → slice_get xs k ≡ Some q → q.number ≢ n
+none-other xs n i p count here other rise k q there same = elim (before_or_not k i) [
+  | inl less ↦ (let low : q.number < n = (count rise k q there).0 less in omega (arith, low, same))
+  | inr most ↦ after most
+]
+  where
+    after : i ≤ k → ⊥
+    after most = elim (before_or_not i k) [
+      | inl less ↦ (let high : n ≤ p.number = (count rise i p here).1 (omega arith) in let up : p.number < q.number = rise_at 0 xs i k p q rise less here there in omega (arith, high, up, same))
+      | inr again ↦ (let at_is : k ≡ i = omega (arith, most, again) in other (ap (λ (r : MessagePlace). r.number) (only p q (sym here ∙ ap (slice_get xs) (sym at_is) ∙ there)) ∙ same))
+    ]
 
 -- None of the places from one index to another is live.
 abbrev pub NoneLive : List MessagePlace → ℕ → ℕ → Type 0
@@ -292,7 +284,20 @@ module _ (v : View) (places : List MessagePlace) (placed : places ≡ message_pl
 
     -- The number that isn't found, or whose place isn't live, isn't shown.
     pub unfound : (n : ℕ) → IsPlaceOf places n None → is_some (text_of (live a.entries) n) ≡ false
-    unfound n none = sym (live-shown n) ∙ none rises
+    unfound n none = sym (live-shown n) ∙ not_true (live_place places n) (λ has. let at = live-at places n has in none rises at.index at.place at.there at.number_is)
+
+    -- Nor is it that of a message.
+    pub unsaid : (n : ℕ) → IsPlaceOf places n None → is_some (text_of (messages a.entries) n) ≡ false
+    unsaid n none = by (text_of (messages a.entries) n) refl where
+      by : (o : Option (List ℕ)) → text_of (messages a.entries) n ≡ o → is_some o ≡ false
+      by None is = refl
+      by (Some text) is =
+          let at = message-place [] a.entries 0 n text is in
+          absurd (none rises at.index at.place (ap (λ (ps : List MessagePlace). slice_get ps at.index) (placed ∙ ap (message_places 0) keeps.kept) ∙ at.there) at.number_is)
+
+    -- The number of a message is that of an entry that was delivered.
+    pub said : (n i : ℕ) → IsMessageAt v.entries n i → is_some (text_of (messages a.entries) n) ≡ true
+    said n i at = ap is_some (message-of v a n i keeps at).once
 
     pub unlive : (at n : ℕ) (p : MessagePlace) → slice_get places at ≡ Some p → p.number ≡ n → p.live ≡ false → is_some (text_of (live a.entries) n) ≡ false
     unlive at n p there same dead = sym (live-shown n) ∙ subst (λ (m : ℕ). live_place places m ≡ false) same ((places-one 0 places at p rises there).1 ∙ dead)
@@ -326,31 +331,31 @@ module _ (v : View) (a : Archive) (keeps : Keeps v a) (n i : ℕ) (at : IsLiveAt
   text-gives old new (Err NoMemory) given = tt
 
 -- The result by what is kept of the number's entry.
-pub text-kept : (xs : List StoredEntry) (n i : ℕ) (old new : List ℕ) (r : Result Unit TextRefusal) → IsMessageAt xs n i → ((s : StoredEntry) → slice_get xs i ≡ Some s → GivesText s old new r) → GivesTextKept xs n old new r
-text-kept xs n i old new r at given = (i, at.entry, at.there, at.number_is, given at.entry at.there)
+pub text-kept : (v : View) (k : Option Content) (n i : ℕ) (old new : List ℕ) (r : Result Unit TextRefusal) → IsMessageAt v.entries n i → ((s : StoredEntry) → slice_get v.entries i ≡ Some s → GivesText s old new r)
+    → ((s : StoredEntry) → slice_get v.entries i ≡ Some s → WhereTold (FindsText v.root s old new r) k) → GivesTextKept v k n old new r
+text-kept v k n i old new r at given found = record { index = i; entry = at.entry; at = at.there; met = at.number_is; gives = given at.entry at.there; finds = found at.entry at.there }
 
 -- Running out of memory leaves the bytes.
-pub wanting-kept : (xs : List StoredEntry) (n : ℕ) (old : List ℕ) → has_live xs n ≡ true → GivesTextKept xs n old old (Err NoMemory)
-wanting-kept xs n old has = let at = live-number xs n has in (at.index, at.entry, at.there, at.number_is, refl)
+nothing_found : (v : View) (k : Option Content) (s : StoredEntry) (old new : List ℕ) → WhereTold (FindsText v.root s old new (Err NoMemory)) k
+nothing_found v None s old new = tt
+nothing_found v (Some k) s old new = tt
 
--- If a text with another id was found, the two ids differ.
-pub tells-other : (s : StoredEntry) (old new : List ℕ) (r : Result Unit TextRefusal) → GivesText s old new r → TellsOther r
-tells-other s old new (Ok done) given = tt
-tells-other s old new (Err (Damaged named found)) given = given.2
-tells-other s old new (Err DiskFault) given = tt
-tells-other s old new (Err NoMemory) given = tt
+pub wanting-kept : (v : View) (k : Option Content) (n : ℕ) (old : List ℕ) → has_live v.entries n ≡ true → GivesTextKept v k n old old (Err NoMemory)
+wanting-kept v k n old has = let at = live-number v.entries n has in record { index = at.index; entry = at.entry; at = at.there; met = at.number_is; gives = refl; finds = nothing_found v k at.entry old old }
 
-pub other-refused : (T U : Type 0) (why : TextRefusal) → TellsOther {T = T} (Err why) → TellsOther {T = U} (Err why)
-other-refused T U (Damaged named found) other = other
-other-refused T U DiskFault other = tt
-other-refused T U NoMemory other = tt
+-- If bytes with another id were found, the two ids differ.
+pub tells-other : (meets : StoredEntry → Type 0) (v : View) (k : Option Content) (old new : List ℕ) (r : Result Unit TextRefusal) → GivesKept meets v k old new r → TellsOther r
+tells-other meets v k old new (Ok done) kept = tt
+tells-other meets v k old new (Err (Damaged named found)) kept = kept.gives.2
+tells-other meets v k old new (Err DiskFault) kept = tt
+tells-other meets v k old new (Err NoMemory) kept = tt
 
 -- A text was appended, or nothing was.
-pub kept-appends : (s : StoredEntry) (old new : List ℕ) (r : Result Unit TextRefusal) → GivesText s old new r → AppendsTo old new
-kept-appends s old new (Ok done) given = (given.0, given.2)
-kept-appends s old new (Err DiskFault) given = appends-none old new given
-kept-appends s old new (Err (Damaged named found)) given = appends-none old new given.0
-kept-appends s old new (Err NoMemory) given = appends-none old new given
+pub kept-appends : (meets : StoredEntry → Type 0) (v : View) (k : Option Content) (old new : List ℕ) (r : Result Unit TextRefusal) → GivesKept meets v k old new r → AppendsTo old new
+kept-appends meets v k old new (Ok done) given = (given.gives.0, given.gives.2)
+kept-appends meets v k old new (Err DiskFault) given = appends-none old new given.gives
+kept-appends meets v k old new (Err (Damaged named found)) given = appends-none old new given.gives.0
+kept-appends meets v k old new (Err NoMemory) given = appends-none old new given.gives
 
 -- The bytes of an epoch were appended, or nothing was.
 pub epoch_appends : (v : View) (e : ℕ) (old new : List ℕ) (r : Result Bool TextRefusal) → IsEpochFound v.root e old new r → KeepsUnlessFound old new r → AppendsTo old new

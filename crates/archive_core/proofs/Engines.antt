@@ -91,13 +91,13 @@ cache_is caches v cache a (Some k) fit store d may each =
 pub opening-why : {T : Type 0} (before now : ℕ) (why : OpenRefusal) (r : Result T OpenRefusal) → r ≡ Err why → RoseIf (r ≡ Err refusal.DiskFault) before now → OpeningWhy before now why
 opening-why before now refusal.DiskFault r is rose = rose.failed is
 opening-why before now refusal.NoMemory r is rose = rose.kept (λ fault. absurd (cc (sym is ∙ fault)))
-opening-why before now refusal.NoArchive r is rose = tt
-opening-why before now (refusal.Damaged file at) r is rose = tt
+opening-why before now refusal.NoArchive r is rose = rose.kept (λ fault. absurd (cc (sym is ∙ fault)))
+opening-why before now (refusal.Damaged file at) r is rose = rose.kept (λ fault. absurd (cc (sym is ∙ fault)))
 
 pub read-cause : {T : Type 0} (before now : ℕ) (r : Result T TextRefusal) → RoseIf (r ≡ Err reading.DiskFault) before now → TellsOther r → ReadCause before now r
 read-cause before now (Ok x) rose other = rose.kept (λ fault. absurd (cc fault))
 read-cause before now (Err reading.DiskFault) rose other = rose.failed refl
-read-cause before now (Err (reading.Damaged named found)) rose other = other
+read-cause before now (Err (reading.Damaged named found)) rose other = (other, rose.kept (λ fault. absurd (cc fault)))
 read-cause before now (Err reading.NoMemory) rose other = rose.kept (λ fault. absurd (cc fault))
 
 pub quiet-other : {T : Type 0} (r : Result T TextRefusal) → AnswersQuietly r → TellsOther r
@@ -109,16 +109,16 @@ quiet-other (Err reading.NoMemory) quiet = tt
 pub answer-cause : (before now : ℕ) (reply : Answer) → RoseIf (reply ≡ answer.DiskFault) before now → AnswerCause before now reply
 answer-cause before now answer.DiskFault rose = rose.failed refl
 answer-cause before now answer.NoMemory rose = rose.kept (λ fault. absurd (cc fault))
-answer-cause before now (answer.Ok number id) rose = tt
-answer-cause before now (answer.Duplicate number) rose = tt
-answer-cause before now answer.NoFields rose = tt
-answer-cause before now (answer.TooLarge len) rose = tt
-answer-cause before now (answer.Full max) rose = tt
-answer-cause before now (answer.Collision number) rose = tt
-answer-cause before now (answer.NotLive number) rose = tt
-answer-cause before now (answer.NoText number) rose = tt
-answer-cause before now answer.IsMirror rose = tt
-answer-cause before now (answer.Damaged file at) rose = tt
+answer-cause before now (answer.Ok number id) rose = rose.kept (λ fault. absurd (cc fault))
+answer-cause before now (answer.Duplicate number) rose = rose.kept (λ fault. absurd (cc fault))
+answer-cause before now answer.NoFields rose = rose.kept (λ fault. absurd (cc fault))
+answer-cause before now (answer.TooLarge len) rose = rose.kept (λ fault. absurd (cc fault))
+answer-cause before now (answer.Full max) rose = rose.kept (λ fault. absurd (cc fault))
+answer-cause before now (answer.Collision number) rose = rose.kept (λ fault. absurd (cc fault))
+answer-cause before now (answer.NotLive number) rose = rose.kept (λ fault. absurd (cc fault))
+answer-cause before now (answer.NoText number) rose = rose.kept (λ fault. absurd (cc fault))
+answer-cause before now answer.IsMirror rose = rose.kept (λ fault. absurd (cc fault))
+answer-cause before now (answer.Damaged file at) rose = rose.kept (λ fault. absurd (cc fault))
 
 -- What a command leaves of a ready keeper is what one leaves of any that was reopened first.
 pub ready-after : (was : Bool) (now : Bool) (e : Ending) → ReadyBy true now e → ReadyBy was now e

@@ -5,6 +5,7 @@ mod Stored
 mod Indexes
 mod Verdicts
 mod Openings
+mod ByBlob
 mod ByNumber
 mod ByIndex
 mod Removing

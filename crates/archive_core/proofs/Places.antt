@@ -9,7 +9,7 @@ use Rattle.std.proofs.lemmas.Bool.Decides.{nat_tests}
 use Rattle.std.proofs.lemmas.List.Sorted.{IsNonDecreasingBy-from_all_adjacent}
 use Rattle.git_objects.specs.declared.entry_kind.EntryKind.{EntryKind}
 use Rattle.git_objects.specs.declared.entry_kind.EntryKind.TheVariants.{Message, Deletion}
-use Rattle.arch_model.specs.Archives.{Entry, is_message}
+use Rattle.arch_model.specs.Archives.{Entry, is_message, messages, text_of}
 use Rattle.arch_model.specs.Validity.{IsFrom, number_after, Rise}
 use Rattle.epoch_store.specs.declared.entries.StoredEntry.{StoredEntry}
 use Rattle.epoch_store.specs.Stores.{is_ended_in, live_kept, stored_at, stored_after}
@@ -258,3 +258,28 @@ count_step false ended low high index e ps es same = same
 pub places-between : (low high index : ℕ) (es : List StoredEntry) → length (filter (place_between low high) (message_places index es)) ≡ length (filter (stored_between low high) (live_kept es))
 places-between low high index [] = refl
 places-between low high index (e ∷ es) = count_step (is_message e.seen.kind) (is_ended_in es e.number) low high index e (message_places (index + 1) es) (live_kept es) (places-between low high (index + 1) es)
+
+-- A number that was delivered has a place.
+pub record NumberPlace (ps : List MessagePlace) (n : ℕ) : Type 0 where
+  pub index : ℕ
+  pub place : MessagePlace
+  pub there : slice_get ps index ≡ Some place
+  pub number_is : place.number ≡ n
+
+later_place : (p : MessagePlace) (ps : List MessagePlace) (n : ℕ) → NumberPlace ps n → NumberPlace (p ∷ ps) n
+later_place p ps n at = record { index = suc at.index; place = at.place; there = at.there; number_is = at.number_is }
+
+first_or : (t : Bool) (p : MessagePlace) (ps : List MessagePlace) (n : ℕ) (own text : List ℕ) (found : Option (List ℕ)) → (p.number == n) ≡ t → (found ≡ Some text → NumberPlace ps n) → (if t then Some own else found) ≡ Some text → NumberPlace (p ∷ ps) n
+first_or true p ps n own text found test rest is = let same : p.number ≡ n = grind (arith, nat_tests, test) in record { index = 0; place = p; there = refl; number_is = same }
+first_or false p ps n own text found test rest is = later_place p ps n (rest is)
+
+place_step : (k : EntryKind) (e : Entry) (es : List Entry) (index n : ℕ) (live : Bool) (ps : List MessagePlace) (text : List ℕ) → (text_of (messages es) n ≡ Some text → NumberPlace ps n) → text_of (if is_message k then e ∷ messages es else messages es) n ≡ Some text
+    → NumberPlace (if is_message k then place_of e.number index live ∷ ps else ps) n
+place_step Message e es index n live ps text rest is = first_or (e.number == n) (place_of e.number index live) ps n e.text text (text_of (messages es) n) refl rest is
+place_step Deletion e es index n live ps text rest is = rest is
+
+pub message-place : (before es : List Entry) (index n : ℕ) (text : List ℕ) → text_of (messages es) n ≡ Some text → NumberPlace (message_places index (stored_after before es)) n
+message-place before [] index n text is = absurd (cc)
+message-place before (e ∷ es) index n text is =
+    place_step e.kind e es index n (not (is_ended_in (stored_after (before ++ e ∷ []) es) e.number)) (message_places (index + 1) (stored_after (before ++ e ∷ []) es)) text
+    (λ more. message-place (before ++ e ∷ []) es (index + 1) n text more) is

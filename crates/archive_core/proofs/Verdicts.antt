@@ -25,7 +25,7 @@ use Rattle.epoch_store.specs.Stores.{View, Keeps}
 use Rattle.archive_core.specs.Commands.{ReadsMessage, JudgesRead, IsAlone, unread_answer}
 use Rattle.archive_core.specs.Numbers.{IsMessageAt}
 use Rattle.archive_core.specs.Kept.{IndexesStored, IsNewTo, MayGoIn, TakesWhatMay}
-use Rattle.archive_core.proofs.ByIndex.{blob-read}
+use Rattle.archive_core.proofs.ByBlob.{blob-index}
 use Rattle.archive_core.proofs.Stored.{stored-length}
 use Rattle.archive_core.proofs.Indexes.{are-of, index-of_kept, new-to}
 
@@ -104,7 +104,7 @@ unread-judges a bytes number (answer.Damaged file at) is = absurd is
 
 -- The text that was read is that of the blob ids of its message, and an error isn't damage.
 pub reads-message : (v : View) (a : Archive) (number index : ℕ) (text : List ℕ) → Keeps v a → IsMessageAt v.entries number index → GivesTextOf a index [] text (Ok tt) → ReadsMessage a number (Ok text)
-reads-message v a number index text keeps at given blob first = blob-read v a blob number index text keeps first at (given.1 ∙ ap Some (sym given.2))
+reads-message v a number index text keeps at given blob first = blob-index v a blob number index keeps (sym first) at ∙ given.1 ∙ ap Some (sym given.2)
 
 pub refuses-message : (v : View) (a : Archive) (number index : ℕ) (old new : List ℕ) (why : TextRefusal) (reply : Answer) → reply ≡ unread_answer v index why → GivesTextOf a index old new (Err why) → ReadsMessage a number (Err reply)
 refuses-message v a number index old new reading.DiskFault reply is given = subst (λ (r : Answer). ReadsMessage a number (Err r)) (sym is) tt

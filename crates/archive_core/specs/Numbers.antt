@@ -1,11 +1,14 @@
 -- The numbers of the entries that a store keeps.
-use Rattle.std.specs.Prelude.{◌≡◌, ◌≢◌, ℕ, Bool, true, ◌==◌, List, slice_get, Option, Some, None, Result, Ok, Err}
+use Rattle.std.specs.Prelude.{◌≡◌, ◌≢◌, ℕ, Bool, true, false, ◌==◌, List, slice_get, Option, Some, None, Result, Ok, Err}
 use Rattle.std.specs.List.{list_any, Contains}
 use Rattle.arch_model.specs.declared.text_refusal.TextRefusal.{TextRefusal}
 use Rattle.arch_model.specs.declared.text_refusal.TextRefusal.TheVariants as reading
-use Rattle.arch_model.specs.Archives.{is_message}
-use Rattle.epoch_store.specs.Reads.{GivesText}
-use Rattle.epoch_store.specs.Stores.{live_kept}
+use Rattle.arch_base.specs.declared.ids.Id20.{Id20}
+use Rattle.disk_model.specs.Disk.{Content, WhereTold}
+use Rattle.arch_model.specs.Archives.{Entry, is_message}
+use Rattle.arch_model.specs.Shelves.{blob_text}
+use Rattle.epoch_store.specs.Reads.{GivesText, FindsText, text_if}
+use Rattle.epoch_store.specs.Stores.{View, live_kept}
 use Rattle.epoch_store.specs.declared.entries.StoredEntry.{StoredEntry}
 
 -- Whether an entry has this number.
@@ -33,15 +36,53 @@ abbrev pub IsKnownLive : (ℕ → Bool) → Option ℕ → Type 0
 IsKnownLive live None = Unit {0}
 IsKnownLive live (Some n) = live n ≡ true
 
--- If a text with another id was found, the two ids differ.
+-- The entry at this index has this blob id.
+abbrev pub HasBlobAt : List StoredEntry → Id20 → ℕ → Type 0
+HasBlobAt entries id index = (e : StoredEntry) × (slice_get entries index ≡ Some e)
+    × (e.seen.blob ≡ id)
+
+-- The entry at this index has the text of a blob id, or no entry has one.
+abbrev pub IsBlobIndex : List Entry → List ℕ → Option ℕ → Type 0
+IsBlobIndex entries blob None = blob_text entries blob ≡ None
+IsBlobIndex entries blob (Some index) = blob_text entries blob ≡ text_if (slice_get entries index)
+
+-- If bytes with another id were found, the two ids differ.
 abbrev pub TellsOther : {T : Type 0} → Result T TextRefusal → Type 0
 TellsOther (Ok given) = Unit {0}
 TellsOther (Err reading.DiskFault) = Unit {0}
 TellsOther (Err (reading.Damaged named found)) = found ≢ named
 TellsOther (Err reading.NoMemory) = Unit {0}
 
--- The results of reading the text of a number by what is kept of its entry: a text of its size and
--- blob id, or the other id that was found.
-abbrev pub GivesTextKept : List StoredEntry → ℕ → List ℕ → List ℕ → Result Unit TextRefusal → Type 0
-GivesTextKept entries n old new result = (index : ℕ) × (e : StoredEntry)
-    × (slice_get entries index ≡ Some e) × (e.number ≡ n) × GivesText e old new result
+-- If bytes with another id were found, this id is the one that is named.
+abbrev pub Names : {T : Type 0} → Id20 → Result T TextRefusal → Type 0
+Names id (Ok given) = Unit {0}
+Names id (Err reading.DiskFault) = Unit {0}
+Names id (Err (reading.Damaged named found)) = named ≡ id
+Names id (Err reading.NoMemory) = Unit {0}
+
+-- The results of reading the text of a kept entry that meets a condition: a text of its size and
+-- blob id; or its blob id and the other one that was found. Where the disk tells its content, what was
+-- found is what stands at the entry's place.
+pub record GivesKept (meets : StoredEntry → Type 0) (v : View) (content : Option Content)
+    (old new : List ℕ) (result : Result Unit TextRefusal) : Type 0 where
+  pub index : ℕ
+  pub entry : StoredEntry
+  pub at : slice_get v.entries index ≡ Some entry
+  pub met : meets entry
+  pub gives : GivesText entry old new result
+  pub finds : WhereTold (FindsText v.root entry old new result) content
+
+-- The same for the entry of a number.
+abbrev pub GivesTextKept : View → Option Content → ℕ → List ℕ → List ℕ → Result Unit TextRefusal
+    → Type 0
+GivesTextKept v content n old new result =
+    GivesKept (λ (e : StoredEntry). e.number ≡ n) v content old new result
+
+-- The same for an entry with a blob id, if there is one.
+abbrev pub GivesBlobKept : View → Option Content → Id20 → List ℕ → List ℕ → Result Bool TextRefusal
+    → Type 0
+GivesBlobKept v content id old new (Ok true) =
+    GivesKept (λ (e : StoredEntry). e.seen.blob ≡ id) v content old new (Ok tt)
+GivesBlobKept v content id old new (Ok false) = new ≡ old
+GivesBlobKept v content id old new (Err why) =
+    GivesKept (λ (e : StoredEntry). e.seen.blob ≡ id) v content old new (Err why)

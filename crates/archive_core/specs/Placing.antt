@@ -1,5 +1,5 @@
 -- Where the messages among the entries of a store are.
-use Rattle.std.specs.Prelude.{◌≡◌, ◌+◌, ◌<◌, ◌≤◌, ◌==◌, ◌&&◌, ◌||◌, ℕ, Bool, true, false, not, List, [], ◌∷◌, ◌++◌, slice_get, Option, Some, None, if◌then◌else◌}
+use Rattle.std.specs.Prelude.{◌≡◌, ◌≢◌, ◌+◌, ◌<◌, ◌≤◌, ◌==◌, ◌&&◌, ◌||◌, ℕ, Bool, true, false, not, List, [], ◌∷◌, ◌++◌, slice_get, Option, Some, None, if◌then◌else◌}
 use Rattle.std.specs.List.{list_any}
 use Rattle.std.specs.Ordering.{nat_cmp}
 use Rattle.std.specs.BTreeSet.{BTreeSet, contains}
@@ -64,11 +64,12 @@ PlacesRise places = PlacesFrom 0 places
 abbrev pub live_place : List MessagePlace → ℕ → Bool
 live_place places n = list_any (λ (p : MessagePlace). p.live && p.number == n) places
 
--- The index of a place of a number. Where numbers rise, none is found only if no live place has it.
+-- The index of a place of a number. Where numbers rise, none is found only if no place has it.
 abbrev pub IsPlaceOf : List MessagePlace → ℕ → Option ℕ → Type 0
 IsPlaceOf places number (Some index) =
     (p : MessagePlace) × (slice_get places index ≡ Some p) × (p.number ≡ number)
-IsPlaceOf places number None = PlacesRise places → live_place places number ≡ false
+IsPlaceOf places number None = PlacesRise places
+    → (index : ℕ) (p : MessagePlace) → slice_get places index ≡ Some p → p.number ≢ number
 
 -- The least number from one on that has a live place, or none.
 abbrev pub IsLeastPlace : List MessagePlace → ℕ → Option ℕ → Type 0

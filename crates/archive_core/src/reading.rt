@@ -2,13 +2,13 @@
 ghost use Rattle.std.specs.Prelude.{◌≡◌, ◌≤◌, ◌<◌, ◌+◌, ◌^◌, ◌↔◌, ◌&&◌, ℕ, List, nat_le, true, length, count_by, Err, IsTrue, IsSome, IfSome, OnErr, is_some};
 ghost use Rattle.arch_base.specs.Counts.{RoseIf};
 ghost use Rattle.disk_model.specs.Disk.{Image, Told, Unchanged, LeavesOnly};
-ghost use Rattle.arch_model.specs.Archives.{Archive, live, in_epoch, text_of, blob_number};
+ghost use Rattle.arch_model.specs.Archives.{Archive, live, messages, in_epoch, text_of, blob_number};
 ghost use Rattle.arch_model.specs.Shelves.{IsGreatestLive, live_between, line_at, GivesBlobIn, AppendsTo};
 ghost use Rattle.arch_model.specs.Standing.{IsLeastLive, GivesTextIn, GivesEpochIn, KeepsUnlessFound};
 ghost use Rattle.arch_model.specs.declared.text_refusal.TextRefusal.{TextRefusal};
 ghost use Rattle.epoch_store.specs.Reads.{AnswersQuietly};
 ghost use Rattle.epoch_store.specs.Stores.{IsStoreWith, Keeps};
-ghost use Rattle.archive_core.specs.Numbers.{has_live, IsKnownLive, IsMessageAt, IsLiveAt, GivesTextKept, TellsOther};
+ghost use Rattle.archive_core.specs.Numbers.{has_live, IsKnownLive, IsMessageAt, IsLiveAt, HasBlobAt, IsBlobIndex, GivesTextKept, GivesBlobKept, Names, TellsOther};
 ghost use Rattle.archive_core.specs.Placing.{live_place, PlacesRise, IsLeastPlace, IsGreatestPlace};
 ghost use Rattle.archive_core.specs.declared.placing.MessagePlace.{MessagePlace};
 
@@ -51,7 +51,9 @@ impl DiskArchive {
 
     /// Returns the index of the entry of a number's message, live or not, or `None` if there is none.
     pub(crate) fn message_index(&self, n: u32) -> Option<u64>
-        ensures { IfSome result (IsMessageAt self.now.entries n) }
+        ensures known { IfSome result (IsMessageAt self.now.entries n) }
+        ensures message { (a : Archive) → Keeps self.now a
+            → is_some (text_of (messages a.entries) n) ≡ is_some result }
     {
         match place_index(self.places.as_slice(), n) {
             None => None,
@@ -97,15 +99,16 @@ impl DiskArchive {
     /// Appends the text of a message to `into`.
     ///
     /// Reads the disk at most once, and changes nothing on it. `Damaged` comes if the bytes there
-    /// have another blob id than the message, which never happens on the disk of an archive.
-    /// `DiskFault` comes only if the disk's count of faults rose, and `NoMemory` only if memory
-    /// runs out. An error leaves the bytes unchanged.
+    /// have another blob id than the message, which never happens on the disk of an archive: `named`
+    /// is the message's blob id, and `found` that of the bytes. `DiskFault` comes only if the disk's
+    /// count of faults rose, and `NoMemory` only if memory runs out. An error leaves the bytes
+    /// unchanged.
     pub fn text<D: Disk>(&self, disk: &mut D, n: u32, into: &mut Bytes) -> Result<(), TextRefusal>
         requires live { has_live self.now.entries n ≡ true }
         ensures text { (a : Archive) (cache : List ℕ)
             → IsStoreWith self.now cache a (D.content disk.old)
             → GivesTextIn (live a.entries) n into.old into.new result }
-        ensures kept { GivesTextKept self.now.entries n into.old into.new result }
+        ensures kept { GivesTextKept self.now (D.content disk.old) n into.old into.new result }
         ensures refused { OnErr result (into.new ≡ into.old) }
         ensures same { Told Unchanged (D.content disk.old) (D.content disk.new) }
         ensures any_moment { LeavesOnly D.moment D.left_since disk.old disk.new
@@ -124,8 +127,9 @@ impl DiskArchive {
 
     /// Appends the text of an entry with this blob id to `into`, and returns whether an entry has it.
     ///
-    /// Reads the disk at most once, and changes nothing on it. The errors are those of `text`. Each of
-    /// them, and a blob id that no entry has, leave the bytes unchanged.
+    /// Reads the disk at most once, and changes nothing on it. The errors are those of `text`; the id
+    /// that `Damaged` names is this one. Each of them, and a blob id that no entry has, leave the bytes
+    /// unchanged.
     pub fn blob<D: Disk>(
         &self,
         disk: &mut D,
@@ -135,9 +139,11 @@ impl DiskArchive {
         ensures blob { (a : Archive) (cache : List ℕ)
             → IsStoreWith self.now cache a (D.content disk.old)
             → GivesBlobIn a.entries id.now.0 into.old into.new result }
+        ensures read { GivesBlobKept self.now (D.content disk.old) id.now into.old into.new result }
+        ensures named { Names id.now result }
+        ensures other { TellsOther result }
         ensures kept { KeepsUnlessFound into.old into.new result }
         ensures appends { AppendsTo into.old into.new }
-        ensures other { TellsOther result }
         ensures same { Told Unchanged (D.content disk.old) (D.content disk.new) }
         ensures any_moment { LeavesOnly D.moment D.left_since disk.old disk.new
             (Image (D.content disk.old)) }
@@ -146,16 +152,41 @@ impl DiskArchive {
         ensures fewest { D.reads disk.old ≤ D.reads disk.new }
         ensures count { D.reads disk.new ≤ D.reads disk.old + 1 }
     {
-        let Some(number) = self.number_of(id) else {
+        let Some(place) = self.blob_index(id) else {
             return Ok(false);
         };
-        match self.message_index(number) {
-            // Numbers of messages rise, so the place of one that is there is found.
-            None => Err(TextRefusal::NoMemory),
-            Some(index) => match self.store.text(disk, index, into) {
-                Ok(()) => Ok(true),
-                Err(refusal) => Err(refusal),
-            },
+        match self.store.text(disk, place, into) {
+            Ok(()) => Ok(true),
+            Err(refusal) => Err(refusal),
+        }
+    }
+
+    /// Returns the index, from 0, of an entry with a blob id, or `None` if there is none.
+    fn blob_index(&self, id: &ObjectId) -> Option<u64>
+        ensures known { IfSome result (HasBlobAt self.now.entries id.now) }
+        ensures index { (a : Archive) → Keeps self.now a
+            → IsBlobIndex a.entries id.now.0 result }
+    {
+        let Some(number) = self.number_of(id) else {
+            return None;
+        };
+        let Some(index) = self.message_index(number) else {
+            return None;
+        };
+        // No two messages have a number, so this one has the blob id.
+        if !self.has_blob(index, id) {
+            return None;
+        }
+        Some(index)
+    }
+
+    /// Returns whether the entry at an index has a blob id.
+    fn has_blob(&self, index: u64, id: &ObjectId) -> bool
+        ensures { IsTrue result ↔ HasBlobAt self.now.entries id.now index }
+    {
+        match self.store.entry(index) {
+            None => false,
+            Some(line) => line.blob == *id,
         }
     }
 

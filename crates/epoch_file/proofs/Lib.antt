@@ -7,7 +7,6 @@ mod Parts
 mod Zones
 mod Kept
 mod Chains
-mod Calls
 mod Showing
 mod Turning
 mod Bringing

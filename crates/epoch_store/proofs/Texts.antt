@@ -255,8 +255,8 @@ pub one_here : (es : List StoredEntry) (i : ℕ) (s e : StoredEntry) → slice_g
 one_here es i s e here is = item_of (sym here ∙ is)
 
 -- What is told of another text.
-pub tells_damage : (s e : StoredEntry) (old : List ℕ) (found : Id20) → e ≡ s → found ≢ e.seen.blob → GivesText s old old (Err (Damaged e.seen.blob found))
-tells_damage s e old found is apart = (refl, ap (λ (f : StoredEntry). f.seen.blob) is, apart)
+pub tells_damage : (s e : StoredEntry) (old text : List ℕ) (found : Id20) → e ≡ s → found ≢ e.seen.blob → length text ≡ e.seen.size → found ≡ blob_id_of text → GivesText s old old (Err (Damaged e.seen.blob found))
+tells_damage s e old text found is apart size found_is = (refl, ap (λ (f : StoredEntry). f.seen.blob) is, apart, (text, size ∙ ap (λ (f : StoredEntry). f.seen.size) is, found_is))
 
 pub finds_damage : (root : Root) (s e : StoredEntry) (old text : List ℕ) (file : FileName) (named found : Id20) (k : Option Content) → e ≡ s → file ≡ epoch_file_of root e.epoch → found ≡ blob_id_of text
     → WhereTold (λ (c : Content). StandsAt (bytes_of (c file).seen) e.seen.text_at e.seen.size text) k → WhereTold (FindsText root s old old (Err (Damaged named found))) k

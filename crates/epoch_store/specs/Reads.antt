@@ -1,5 +1,6 @@
 -- What a store tells of its entries, and the results of reading a text.
 use Rattle.std.specs.Prelude.{◌≡◌, ◌≢◌, ◌+◌, ◌<◌, ◌≤◌, ℕ, Bool, true, false, List, ◌++◌, length, take, drop, slice_get, get_or, Option, Some, None, Result, Ok, Err}
+use Rattle.arch_base.specs.declared.ids.Id20.{Id20}
 use Rattle.disk_model.specs.declared.name.FileName.{FileName}
 use Rattle.disk_model.specs.Disk.{Content, bytes_of}
 use Rattle.git_objects.specs.Objects.{blob_id_of}
@@ -39,12 +40,17 @@ pub record IsTextOf (s : StoredEntry) (text : List ℕ) : Type 0 where
   pub size : length text ≡ s.seen.size
   pub blob : blob_id_of text ≡ s.seen.blob
 
+-- The blob id of some bytes of this length.
+abbrev pub IsIdOfSize : ℕ → Id20 → Type 0
+IsIdOfSize size id = (text : List ℕ) × (length text ≡ size) × (id ≡ blob_id_of text)
+
 -- The results of reading the text of an entry: a text of the entry's size and blob id is appended.
--- If a text with another id was found, both ids are told. No error changes the bytes.
+-- If bytes with another id were found, both ids are told: the entry's blob id is the one that is
+-- named, and the other one is that of bytes of the entry's size. No error changes the bytes.
 abbrev pub GivesText : StoredEntry → List ℕ → List ℕ → Result Unit TextRefusal → Type 0
 GivesText s old new (Ok _) = (text : List ℕ) × IsTextOf s text × (new ≡ old ++ text)
 GivesText s old new (Err (Damaged named found)) = (new ≡ old) × (named ≡ s.seen.blob)
-    × (found ≢ named)
+    × (found ≢ named) × IsIdOfSize s.seen.size found
 GivesText s old new (Err DiskFault) = new ≡ old
 GivesText s old new (Err NoMemory) = new ≡ old
 

@@ -78,8 +78,9 @@ impl Store {
     /// Reads the disk at most once, and changes nothing on it.
     ///
     /// `Damaged` comes if the bytes there have another blob id than the entry, which never happens
-    /// on the disk of an archive. `DiskFault` comes only if the disk's count of faults rose, and
-    /// `NoMemory` only if memory runs out. An error leaves the bytes unchanged.
+    /// on the disk of an archive: `named` is the entry's blob id, and `found` that of the bytes.
+    /// `DiskFault` comes only if the disk's count of faults rose, and `NoMemory` only if memory runs
+    /// out. An error leaves the bytes unchanged.
     pub fn text<D: Disk>(
         &self,
         disk: &mut D,

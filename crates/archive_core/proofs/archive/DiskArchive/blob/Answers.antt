@@ -1,25 +1,25 @@
-use Rattle.std.proofs.Common.{◌∙◌, sym, ap, subst, List}
+use Rattle.std.proofs.Common.{◌≡◌, ℕ, sym, subst, slice_get, Option, Some}
+use Rattle.std.proofs.lemmas.Option.{slice_get_within}
 use Rattle.epoch_store.specs.Stores.{View, IsStoreWith}
-use Rattle.archive_core.proofs.ByIndex.{blob-given, blob-refused, blob-missing}
-use Rattle.archive_core.proofs.ByNumber.{inside-message}
+use Rattle.archive_core.specs.Numbers.{IsBlobIndex}
+use Rattle.archive_core.proofs.ByBlob.{blob-gives, blob-refuses}
 use Rattle.archive_core.proofs.Standing.{store_keeps}
 use Rattle.archive_core.proofs.archive.DiskArchive.blob.Goals as goal
 
 pub text-requires : goal.text-requires
-text-requires g c = record { there = inside-message c.args.self.now c.self.inside.store c.in-Some.number c.in-Some-message_index.index c.self.view_is c.in-Some-message_index.ensures }
+text-requires g c = record { there = slice_get_within c.self.inside.store.entries c.in-Some.place c.in-Some.ensures.known.0 (subst (λ (v : View). slice_get v.entries c.in-Some.place ≡ Some c.in-Some.ensures.known.0) (sym c.self.view_is) c.in-Some.ensures.known.1) }
 
 pub returns-in_default-clause-blob : goal.returns-in_default-clause-blob
 returns-in_default-clause-blob g c = λ a cache own.
-    blob-missing a c.args.id.now.0 c.args.into.now c.args.into.now (sym c.in_default.is ∙ c.number_of.ensures a (store_keeps c.args.self.now cache a (g.D.Disk.content c.args.disk.now) own))
+    subst (λ (o : Option ℕ). IsBlobIndex a.entries c.args.id.now.0 o) c.in_default.is (c.blob_index.ensures.index a (store_keeps c.args.self.now cache a (g.D.Disk.content c.args.disk.now) own))
 
 pub returns-in-Ok-clause-blob : goal.returns-in-Ok-clause-blob
 returns-in-Ok-clause-blob g c = λ a cache own.
     let k = g.D.Disk.content c.args.disk.now in
-    let keeps = store_keeps c.args.self.now cache a k own in
-    blob-given c.args.self.now a c.args.id.now.0 c.in-Some.number c.in-Some-message_index.index c.args.into.now c.text.new.into keeps (c.in-Some.ensures a keeps) c.in-Some-message_index.ensures
+    blob-gives a c.args.id.now c.in-Some.place c.args.into.now c.text.new.into (c.in-Some.ensures.index a (store_keeps c.args.self.now cache a k own))
     (c.in-Ok.ensures.archive a cache (subst (λ (v : View). IsStoreWith v cache a k) (sym c.self.view_is) own))
 
 pub returns-in-Err-clause-blob : goal.returns-in-Err-clause-blob
 returns-in-Err-clause-blob g c = λ a cache own.
-    blob-refused a c.args.id.now.0 c.in-Some-message_index.index c.args.into.now c.text.new.into c.in-Err.refusal
+    blob-refuses a c.args.id.now c.in-Some.place c.args.into.now c.text.new.into c.in-Err.refusal
     (c.in-Err.ensures.archive a cache (subst (λ (v : View). IsStoreWith v cache a (g.D.Disk.content c.args.disk.now)) (sym c.self.view_is) own))

@@ -7,12 +7,12 @@ use Rattle.archive_core.proofs.Verdicts.{reads-message, refuses-message}
 use Rattle.archive_core.proofs.archive.DiskArchive.message_text.Goals as goal
 
 pub text-requires : goal.text-requires
-text-requires g c = record { there = inside-message c.args.self.now c.self.inside.store c.args.number c.in-Some.index c.self.view_is c.in-Some.ensures }
+text-requires g c = record { there = inside-message c.args.self.now c.self.inside.store c.args.number c.in-Some.index c.self.view_is c.in-Some.ensures.known }
 
 pub returns-in-Ok-clause-text : goal.returns-in-Ok-clause-text
 returns-in-Ok-clause-text g c = λ a cache own.
     let k = g.D.Disk.content c.args.disk.now in
-    reads-message c.args.self.now a c.args.number c.in-Some.index c.text.new.into (store_keeps c.args.self.now cache a k own) c.in-Some.ensures
+    reads-message c.args.self.now a c.args.number c.in-Some.index c.text.new.into (store_keeps c.args.self.now cache a k own) c.in-Some.ensures.known
     (subst (λ (l : List ℕ). GivesTextOf a c.in-Some.index l c.text.new.into (Ok tt)) c.new-text.ensures
     (c.in-Ok.ensures.archive a cache (subst (λ (v : View). IsStoreWith v cache a k) (sym c.self.view_is) own)))
 

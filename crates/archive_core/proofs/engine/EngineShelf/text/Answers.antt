@@ -1,6 +1,7 @@
-use Rattle.std.proofs.Common.{◌∙◌, sym, refl}
+use Rattle.std.proofs.Common.{◌≡◌, ◌∙◌, sym, refl}
 use Rattle.std.proofs.lemmas.Bool.{false≢true}
-use Rattle.archive_core.proofs.ByNumber.{tells_other, kept_appends}
+use Rattle.epoch_store.specs.declared.entries.StoredEntry.{StoredEntry}
+use Rattle.archive_core.proofs.ByNumber.{tells-other, kept-appends}
 use Rattle.arch_model.proofs.Shelving.{appends-none}
 use Rattle.archive_core.proofs.Engines.{kept-inside, held-inside, stays-still, stays-from, cause-from, once-from}
 use Rattle.archive_core.proofs.engine.EngineShelf.text.Goals as goal
@@ -28,7 +29,7 @@ returns-clause-shelf g c = stays-from g.D.Disk.content g.D.Disk.moment g.D.Disk.
 pub returns-clause-cause : goal.returns-clause-cause
 returns-clause-cause g c = cause-from g.D.Disk.content g.D.Disk.moment g.D.Disk.left_since g.met.D.Disk.counts_now g.met.D.Disk.only_now g.met.D.Disk.reads_fit
     (record { disk = c.self.inside.disk; view = c.self.inside.archive; stale = c.self.inside.stale }) c.args.self.now c.self.view_is
-    g.D.Disk.faults c.text.new.disk c.text.result c.text.ensures.cause (tells_other c.self.inside.archive.entries c.args.n c.args.into.now c.text.new.into c.text.result c.text.ensures.kept)
+    g.D.Disk.faults c.text.new.disk c.text.result c.text.ensures.cause (tells-other (λ (e : StoredEntry). e.number ≡ c.args.n) c.self.inside.archive (g.D.Disk.content c.self.inside.disk) c.args.into.now c.text.new.into c.text.result c.text.ensures.kept)
 
 pub returns-clause-reads : goal.returns-clause-reads
 returns-clause-reads g c = once-from g.D.Disk.content g.D.Disk.moment g.D.Disk.left_since g.met.D.Disk.counts_now g.met.D.Disk.only_now g.met.D.Disk.reads_fit
@@ -39,4 +40,4 @@ pub returns-then-not-has_text-clause-appends : goal.returns-then-not-has_text-cl
 returns-then-not-has_text-clause-appends g c = appends-none c.args.into.now c.args.into.now refl
 
 pub returns-clause-appends : goal.returns-clause-appends
-returns-clause-appends g c = kept_appends c.self.inside.archive.entries c.args.n c.args.into.now c.text.new.into c.text.result c.text.ensures.kept
+returns-clause-appends g c = kept-appends (λ (e : StoredEntry). e.number ≡ c.args.n) c.self.inside.archive (g.D.Disk.content c.self.inside.disk) c.args.into.now c.text.new.into c.text.result c.text.ensures.kept

@@ -15,7 +15,7 @@ returns-then-ne-clause-text g c = λ s is.
     let found = c.blob_id-found.result in
     let found_is : found ≡ blob_id_of text = c.blob_id-found.ensures.value ∙ ap blob_id_of c.as_slice.ensures.value in
     let apart : found ≢ e.seen.blob = search rules in
-    tells_damage s e c.args.into.now found (one_here c.args.self.now.entries c.args.index s e here is) apart
+    tells_damage s e c.args.into.now text found (one_here c.args.self.now.entries c.args.index s e here is) apart c.in_ok-text.ensures.size found_is
 
 pub returns-then-ne-clause-found : goal.returns-then-ne-clause-found
 returns-then-ne-clause-found g c = λ s is.
