@@ -1,4 +1,6 @@
 //! Removals in memory and on a disk, answer by answer, against entries whose ids git worked out.
+ghost use Rattle.std.specs.Prelude.{◌≤◌};
+
 use crate::accepted::accepted;
 use crate::engine_tests::{blob_is, line, live_from, opened, put_epoch, put_text};
 use arch_base::{Bytes, LAST_MOMENT, id_of_hex};
@@ -237,7 +239,7 @@ fn a_removal_goes_to_the_epoch_that_has_room(rt: HostRuntime) -> Result<(), Fail
 }
 
 /// Commands at successive moments: mails come, go, come again, and are refused.
-const COMMANDS: [Command<'static>; 11] = [
+static COMMANDS: [Command<'static>; 11] = [
     Command::Deliver(FIRST),
     Command::Deliver(SECOND),
     Command::Deliver(OTHER),
@@ -310,12 +312,20 @@ fn is_alike<K: Keep>(alloc: Global, engine: Engine<MemDisk>, other: &mut K) -> R
     Ok(answered && given && again)
 }
 
+/// Returns whether an archive on a disk is alike one in memory so, with epochs of this least length.
+fn are_alike(alloc: Global, limit: u64) -> Result<bool, Fail>
+    requires low { 1 ≤ limit }
+    requires high { limit ≤ 1099511627776 }
+{
+    let mut memory = in_memory(alloc, limit, 10, false).ok_or("settings")?;
+    let engine = on_disk(alloc, limit, false)?;
+    is_alike(alloc, engine, &mut memory)
+}
+
 #[test]
 fn an_engine_removes_as_the_archive_in_memory_does(rt: HostRuntime) -> Result<(), Fail> {
-    let alloc = rt.alloc();
-    for limit in [316, 700, 5000] {
-        let mut memory = in_memory(alloc, limit, 10, false).ok_or("settings")?;
-        assert!(rt; is_alike(alloc, on_disk(alloc, limit, false)?, &mut memory)?);
-    }
+    assert!(rt; are_alike(rt.alloc(), 316)?);
+    assert!(rt; are_alike(rt.alloc(), 700)?);
+    assert!(rt; are_alike(rt.alloc(), 5000)?);
     Ok(())
 }
