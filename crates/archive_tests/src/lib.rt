@@ -12,3 +12,5 @@ mod engine_tests;
 mod model_tests;
 #[cfg(test)]
 mod reading_tests;
+#[cfg(test)]
+mod removal_tests;

@@ -1,7 +1,7 @@
 //! Deliveries in memory, answer by answer, against texts and ids worked out by hand and by git.
 use crate::accepted::accepted;
 use arch_base::{Bytes, Config, NoMemory};
-use arch_judge::{Index, Owner, Verdict, judge};
+use arch_judge::{Index, Owner, Verdict, compared, judge};
 use arch_model::{Answer, Command};
 use epoch_tests::{FIRST, FIRST_ID, MOMENT, OTHER, OTHER_ID, SECOND};
 use git_objects::blob_id;
@@ -86,7 +86,7 @@ fn finds_first_alone(index: &Index) -> bool {
     by_id && other_id && by_blob && other_blob
 }
 
-/// Returns the refusal of a message, or `None` if it is to be kept.
+/// Returns the refusal of a message, or `None` if it is to be kept or compared.
 fn refusal(
     alloc: Global,
     config: &Config,
@@ -96,14 +96,14 @@ fn refusal(
 ) -> Option<Answer> {
     match judge(alloc, config, index, 1, next, bytes) {
         Verdict::Refuse(answer) => Some(answer),
-        Verdict::Take { .. } => None,
+        Verdict::Take { .. } | Verdict::Compare { .. } => None,
     }
 }
 
 /// Returns whether `SECOND` is to be kept unchanged under the number 2.
 fn takes_second(alloc: Global, config: &Config, index: &Index) -> bool {
     match judge(alloc, config, index, 1, 2, SECOND) {
-        Verdict::Refuse(_) => false,
+        Verdict::Refuse(_) | Verdict::Compare { .. } => false,
         Verdict::Take { text, blob, number } => {
             text.as_slice() == SECOND && blob == blob_id(SECOND) && number == 2
         }
@@ -128,6 +128,53 @@ fn a_delivery_is_judged_by_an_index(rt: HostRuntime) {
         return assert!(rt; false);
     };
     assert!(rt; judges_by(rt.alloc(), &settings, &index));
+}
+
+/// Returns the verdict on `FIRST` after it was compared with a text that was kept under the number of
+/// its blob id, or `None` if it is not to be compared.
+fn verdict_beside(
+    alloc: Global,
+    config: &Config,
+    index: &Index,
+    next: u32,
+    kept: &[u8],
+) -> Option<Verdict> {
+    match judge(alloc, config, index, 1, next, FIRST) {
+        Verdict::Refuse(_) | Verdict::Take { .. } => None,
+        Verdict::Compare { text, blob, number } => {
+            Some(compared(config, next, text, blob, number, kept))
+        }
+    }
+}
+
+/// Returns whether `FIRST`, whose blob id an index has and whose own id it lost, is to be kept beside
+/// the same text, and collides with another.
+fn compares(alloc: Global, config: &Config, index: &Index) -> bool {
+    let same = matches!(
+        verdict_beside(alloc, config, index, 2, FIRST),
+        Some(Verdict::Take { number: 2, .. })
+    );
+    let other = matches!(
+        verdict_beside(alloc, config, index, 2, SECOND),
+        Some(Verdict::Refuse(Answer::Collision(1)))
+    );
+    let full = matches!(
+        verdict_beside(alloc, config, index, 3, FIRST),
+        Some(Verdict::Refuse(Answer::Full(2)))
+    );
+    same && other && full
+}
+
+#[test]
+fn a_removed_text_is_compared_before_it_is_judged(rt: HostRuntime) {
+    let Some(mut index) = index_of_first(rt.alloc()) else {
+        return assert!(rt; false);
+    };
+    index.remove(b"<a@x>");
+    let Some(settings) = settings(1000, 2, false) else {
+        return assert!(rt; false);
+    };
+    assert!(rt; compares(rt.alloc(), &settings, &index));
 }
 
 /// Returns whether an archive with room for one message refuses others, each for its first cause,
@@ -158,14 +205,18 @@ fn a_mirror_takes_no_delivery(rt: HostRuntime) {
 }
 
 /// Returns the length of an epoch in bytes, or `None` if it has no entry.
-fn epoch_len(alloc: Global, archive: &MemArchive, epoch: u32) -> Result<Option<usize>, NoMemory> {
+pub(crate) fn epoch_len(
+    alloc: Global,
+    archive: &MemArchive,
+    epoch: u32,
+) -> Result<Option<usize>, NoMemory> {
     let mut bytes = Bytes::new(alloc);
     let found = archive.push_epoch(epoch, &mut bytes)?;
     Ok(found.then_some(bytes.as_slice().len()))
 }
 
 /// Returns whether the first three epochs have these lengths.
-fn has_epochs(
+pub(crate) fn has_epochs(
     alloc: Global,
     archive: &MemArchive,
     lengths: &[Option<usize>; 3],

@@ -9,7 +9,7 @@ use Rattle.line_door.specs.Acts.{Outside, Plain, Memory, Disk, Acts, held_if}
 use Rattle.line_door.specs.Making.{says, streams}
 use Rattle.line_door.proofs.Acting.{acts-by_held}
 use Rattle.line_door.proofs.Streaming.{acts-short, acts-cut_off}
-use Rattle.arch_model.specs.Archives.{Entry, Archive, text_of}
+use Rattle.arch_model.specs.Archives.{Entry, Archive, live, text_of}
 use Rattle.arch_model.specs.Shelves.{IsUndamaged, ReadingWhy}
 use Rattle.arch_model.specs.declared.text_refusal.TextRefusal.{TextRefusal}
 use Rattle.arch_model.specs.declared.text_refusal.TextRefusal.TheVariants as refusal
@@ -120,14 +120,14 @@ module _ (entries : List Entry) (low : ℕ) where
 
 module _ (a : Archive) (low count : ℕ) (h : List ℕ) where
   -- All was said, or the end was lost.
-  pub streams-end : (at : ℕ) (begun : Bool) (i j k : Outside) (sent : Result Unit SinkFault) → at ≡ count → SoFar a.entries low at begun i j → j.disk ≡ k.disk → Says (whole_line (codes "end")) j.out j.lost k.out k.lost sent → Acts (texts_said a low count h) i (held_if (is_ok sent) h) a k
+  pub streams-end : (at : ℕ) (begun : Bool) (i j k : Outside) (sent : Result Unit SinkFault) → at ≡ count → SoFar (live a.entries) low at begun i j → j.disk ≡ k.disk → Says (whole_line (codes "end")) j.out j.lost k.out k.lost sent → Acts (texts_said a low count h) i (held_if (is_ok sent) h) a k
   streams-end at begun i j k sent all so_far same said =
-      let before : SoFar a.entries low count begun i j = subst (λ (n : ℕ). SoFar a.entries low n begun i j) all so_far in
-      acts-by_held (texts_said a low count h) Plain (streams a h (texts_from a.entries low count ++ whole_line (codes "end"))) i k h a sent refl refl (sym same ∙ before.kept) (omega (arith, before.kept, same))
-      (Says-then (texts_from a.entries low count) (whole_line (codes "end")) i.out j.out k.out i.lost j.lost k.lost tt sent before.words said) refl
+      let before : SoFar (live a.entries) low count begun i j = subst (λ (n : ℕ). SoFar (live a.entries) low n begun i j) all so_far in
+      acts-by_held (texts_said a low count h) Plain (streams a h (texts_from (live a.entries) low count ++ whole_line (codes "end"))) i k h a sent refl refl (sym same ∙ before.kept) (omega (arith, before.kept, same))
+      (Says-then (texts_from (live a.entries) low count) (whole_line (codes "end")) i.out j.out k.out i.lost j.lost k.lost tt sent before.words said) refl
 
   -- No text was said, but why.
-  pub streams-unread : (at : ℕ) (begun : Bool) (i j k : Outside) (sent : Result Unit SinkFault) → begun ≡ false → SoFar a.entries low at begun i j → SaysUnread j sent k → Acts (texts_said a low count h) i (held_if (is_ok sent) h) a k
+  pub streams-unread : (at : ℕ) (begun : Bool) (i j k : Outside) (sent : Result Unit SinkFault) → begun ≡ false → SoFar (live a.entries) low at begun i j → SaysUnread j sent k → Acts (texts_said a low count h) i (held_if (is_ok sent) h) a k
   streams-unread at begun i j k sent unbegun before unread = elim unread.words [
     | inl both ↦ (
         let rose : Rose i.disk k.disk = omega (arith, both.0, before.kept) in
@@ -142,21 +142,21 @@ module _ (a : Archive) (low count : ℕ) (h : List ℕ) where
       none = subst (λ (w : List ℕ). Says w i.out i.lost j.out j.lost (Ok tt)) (before.none unbegun) before.words
 
   -- A text was lost.
-  pub streams-lost : (at : ℕ) (begun : Bool) (i j k : Outside) (fault : SinkFault) → at < count → SoFar a.entries low at begun i j → SaysText (text_of a.entries (low + at)) j (Err fault) k → Acts (texts_said a low count h) i None a k
+  pub streams-lost : (at : ℕ) (begun : Bool) (i j k : Outside) (fault : SinkFault) → at < count → SoFar (live a.entries) low at begun i j → SaysText (text_of (live a.entries) (low + at)) j (Err fault) k → Acts (texts_said a low count h) i None a k
   streams-lost at begun i j k fault less before said =
-      let rest = words-from a.entries low at count said.found less said.is in
-      acts-cut_off (texts_said a low count h) Plain (streams a h (texts_from a.entries low count ++ whole_line (codes "end"))) (texts_from a.entries low at) (whole_line said.found) rest.0 i j k a fault refl rest.1
+      let rest = words-from (live a.entries) low at count said.found less said.is in
+      acts-cut_off (texts_said a low count h) Plain (streams a h (texts_from (live a.entries) low count ++ whole_line (codes "end"))) (texts_from (live a.entries) low at) (whole_line said.found) rest.0 i j k a fault refl rest.1
       (said.kept ∙ before.kept) (omega (arith, before.kept, said.kept)) before.words said.words refl
 
   -- The reply stopped after a text.
-  pub streams-short : (at : ℕ) (begun : Bool) (i j k : Outside) → at < count → SoFar a.entries low at begun i j → Stops begun (text_of a.entries (low + at)) j k → Acts (texts_said a low count h) i None a k
+  pub streams-short : (at : ℕ) (begun : Bool) (i j k : Outside) → at < count → SoFar (live a.entries) low at begun i j → Stops begun (text_of (live a.entries) (low + at)) j k → Acts (texts_said a low count h) i None a k
   streams-short at begun i j k less before stops =
-      let rest = words-from a.entries low at count stops.found less stops.is in
+      let rest = words-from (live a.entries) low at count stops.found less stops.is in
       let line = whole_line stops.found in
-      let apart : texts_from a.entries low count ++ whole_line (codes "end") ≡ texts_from a.entries low at ++ (line ++ rest.0) = rest.1 ∙ append_assoc (texts_from a.entries low at) line rest.0 in
-      acts-short (texts_said a low count h) (streams a h (texts_from a.entries low count ++ whole_line (codes "end"))) (texts_from a.entries low at) (line ++ rest.0) i k a refl refl apart
+      let apart : texts_from (live a.entries) low count ++ whole_line (codes "end") ≡ texts_from (live a.entries) low at ++ (line ++ rest.0) = rest.1 ∙ append_assoc (texts_from (live a.entries) low at) line rest.0 in
+      acts-short (texts_said a low count h) (streams a h (texts_from (live a.entries) low count ++ whole_line (codes "end"))) (texts_from (live a.entries) low at) (line ++ rest.0) i k a refl refl apart
       (before.some stops.begun_is) (omega (arith, length-append line rest.0, line-some stops.found)) why (omega (arith, before.kept, stops.nothing.later))
-      (says-still (texts_from a.entries low at) i j k before.words stops.nothing) refl
+      (says-still (texts_from (live a.entries) low at) i j k before.words stops.nothing) refl
     where
       why : Rose i.disk k.disk ⊎ (k.disk ≡ i.disk)
       why = elim stops.why [ inl rose ↦ inl (omega (arith, rose, before.kept)) | inr same ↦ inr (same ∙ before.kept) ]

@@ -5,7 +5,7 @@ use Rattle.edge_io.specs.Phrases.{Says}
 use Rattle.edge_io.specs.declared.sink.SinkFault.{SinkFault}
 use Rattle.line_door.specs.Acts.{Outside, Said, Way}
 use Rattle.line_door.specs.Making.{says, streams, in_ways}
-use Rattle.arch_model.specs.Archives.{Entry, Archive, text_of}
+use Rattle.arch_model.specs.Archives.{Entry, Archive, live, text_of}
 use Rattle.answer_lines.specs.Lines.{whole_line, memory_word, disk_word}
 use Rattle.door_tests.specs.declared.shelf_client.Part.{Part}
 use Rattle.door_tests.specs.declared.shelf_client.Part.TheVariants as part
@@ -24,7 +24,7 @@ texts_from entries low (suc count) =
 -- What is said: the texts and an end, as a streamed reply; or why no text was read.
 abbrev pub texts_said : Archive → ℕ → ℕ → List ℕ → Way → Said (List ℕ) Archive
 texts_said a low count h =
-    in_ways (streams a h (texts_from a.entries low count ++ whole_line (codes "end")))
+    in_ways (streams a h (texts_from (live a.entries) low count ++ whole_line (codes "end")))
     (says a h memory_word) (says a h disk_word)
 
 -- Nothing was said.

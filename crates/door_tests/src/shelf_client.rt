@@ -4,7 +4,7 @@
 //! reply stops, and the connection is closed.
 ghost use Rattle.std.specs.Prelude.{◌≡◌, ◌+◌, ◌<◌, ◌^◌, ℕ, List, true, is_ok, if◌then◌else◌};
 ghost use Rattle.line_door.specs.Acts.{outside, held_if, Acts};
-ghost use Rattle.arch_model.specs.Archives.{Archive, text_of};
+ghost use Rattle.arch_model.specs.Archives.{Archive, live, text_of};
 ghost use Rattle.arch_model.specs.Shelves.{Stays};
 ghost use Rattle.door_tests.specs.Streams.{IsPart, texts_said};
 
@@ -38,7 +38,7 @@ fn say_part<S: Shelf, O: Sink>(
     out: &mut O,
 ) -> Part
     requires { S.ready shelf.old ≡ true }
-    ensures part { (a : Archive) → S.holds shelf.old a → IsPart begun (text_of a.entries n)
+    ensures part { (a : Archive) → S.holds shelf.old a → IsPart begun (text_of (live a.entries) n)
         (outside (O.taken out.old) (S.faults shelf.old) (O.faults out.old)) result
         (outside (O.taken out.new) (S.faults shelf.new) (O.faults out.new)) }
     ensures shelf { Stays S.holds S.ready S.alike S.faults shelf.old shelf.new }

@@ -10,6 +10,8 @@ use std::alloc::Global;
 
 /// A request for numbers 1 to 3 of an archive with two messages.
 struct Request {
+    /// The number that was removed, if one was.
+    removed: Option<u32>,
     /// The call that fails.
     failing: Failing,
     words: &'static [u8],
@@ -17,38 +19,50 @@ struct Request {
     goes_on: bool,
 }
 
-/// Requests to disks that fail. The first one's doesn't, since no epoch is read.
+/// Requests to disks that fail. Those of the first two don't, since no epoch is read.
 ///
 /// A text ends with the empty line after its header, and each text has a line feed after it.
-const REQUESTS: [Request; 3] = [
+const REQUESTS: [Request; 4] = [
     Request {
+        removed: None,
         failing: Failing::Epoch,
         words: b"Message-ID: <a@x>\n\n\nMessage-ID: <b@x>\n\n\nend\n",
         goes_on: true,
     },
     Request {
+        removed: Some(1),
+        failing: Failing::Epoch,
+        words: b"Message-ID: <b@x>\n\n\nend\n",
+        goes_on: true,
+    },
+    Request {
+        removed: None,
         failing: Failing::Text,
         words: b"10 disk fault\n",
         goes_on: true,
     },
     Request {
+        removed: None,
         failing: Failing::LaterText,
         words: b"Message-ID: <a@x>\n\n\n",
         goes_on: false,
     },
 ];
 
-/// Returns an archive with two messages.
-fn with_two(alloc: Global) -> Option<MemArchive> {
+/// Returns an archive with two messages, one of which may be removed.
+fn with_two(alloc: Global, removed: Option<u32>) -> Option<MemArchive> {
     let mut archive = archive(alloc)?;
     let _ = Keep::command(&mut archive, &Command::Deliver(b"Message-ID: <a@x>\n"), 1);
     let _ = Keep::command(&mut archive, &Command::Deliver(b"Message-ID: <b@x>\n"), 1);
+    if let Some(number) = removed {
+        let _ = Keep::command(&mut archive, &Command::Remove(number), 2);
+    }
     Some(archive)
 }
 
 /// Returns whether a request is answered as its row says.
 fn is_answered(alloc: Global, request: &Request) -> bool {
-    let Some(archive) = with_two(alloc) else {
+    let Some(archive) = with_two(alloc, request.removed) else {
         return false;
     };
     let mut keep = FailingKeep::new(archive, request.failing);

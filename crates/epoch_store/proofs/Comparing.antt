@@ -15,7 +15,7 @@ use Rattle.epoch_store.specs.declared.entries.StoredEntry.{StoredEntry}
 use Rattle.epoch_store.specs.declared.known.Known.{Known}
 use Rattle.epoch_store.specs.declared.known.JoinRefusal.{JoinRefusal}
 use Rattle.epoch_store.specs.Damage.{AreWhole}
-use Rattle.epoch_store.specs.Joined.{Joined, Holds, Held, TextIn, value_in, first_index, AreKnown, kept_at, IsSameText, JoinsByText, JoinsAll, TakesEpoch, AreBefore}
+use Rattle.epoch_store.specs.Joined.{Joined, Holds, Held, TextIn, value_in, first_index, AreKnown, kept_at, IsSameText, JoinsByText, TakesEpoch, AreBefore}
 use Rattle.epoch_store.proofs.FindingTold.{told_both}
 use Rattle.epoch_store.proofs.Joins.{Comes, comes_first, comes_more, joins_or_stops, all_come}
 

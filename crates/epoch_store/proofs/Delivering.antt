@@ -16,7 +16,7 @@ use Rattle.git_objects.specs.declared.entry_kind.EntryKind.TheVariants.{Message,
 use Rattle.git_objects.specs.Objects.{blob_id_of, blob_spelling}
 use Rattle.git_objects.proofs.ObjectIds.{IsId-id_of}
 use Rattle.mail_reader.specs.StorageTexts.{IsStorageText}
-use Rattle.arch_model.specs.Archives.{Entry, Archive, message, deletion, with_entry, with_deletion, live, text_of, in_epoch}
+use Rattle.arch_model.specs.Archives.{Entry, Archive, message, with_entry, with_deletion, live, text_of, in_epoch}
 use Rattle.arch_model.specs.Delivery.{collision}
 use Rattle.mail_commits.specs.Entries.{entry_bytes}
 use Rattle.arch_model.specs.Epochs.{last_commit}
@@ -43,7 +43,7 @@ use Rattle.epoch_store.specs.Files.{map_file_of, epoch_file_of}
 use Rattle.arch_model.specs.Validity.{IsEntry, IsArchive}
 use Rattle.arch_base.specs.Moments.{last_moment}
 use Rattle.epoch_store.specs.Recovery.{record_for, map_bytes, bytes_in, parts_of, Names}
-use Rattle.epoch_store.specs.Stores.{View, stored_at, stored_after, Keeps, IsStoreWith, Accepts, IsNextPlace, next_sequence, place_of, root_after, root_ended, HasSizes, GoesOn}
+use Rattle.epoch_store.specs.Stores.{View, stored_at, Keeps, IsStoreWith, Accepts, IsNextPlace, next_sequence, place_of, root_after, root_ended, HasSizes, GoesOn}
 use Rattle.arch_model.proofs.ValidArchives.{all_weaker, archive_grows, archive_ends, not_before}
 use Rattle.arch_model.proofs.LiveEntries.{live-all, found-has, live-has, all-text}
 use Rattle.arch_model.proofs.Commands.{apart_ids, agrees-alone}

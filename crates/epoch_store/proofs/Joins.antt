@@ -1,5 +1,5 @@
 -- The entries of an epoch, joined one after the other to those of the epochs before it.
-use Rattle.std.specs.Prelude.{◌≡◌, ◌≢◌, ◌⊎◌, ◌+◌, ◌<◌, ◌≤◌, ◌==◌, ℕ, Bool, true, false, not, List, [], ◌∷◌, ◌++◌, length, map, slice_get, get_or, zero, suc, option_map, Option, Some, None, Ok, Err, if◌then◌else◌, unwrap_or, refl}
+use Rattle.std.specs.Prelude.{◌≡◌, ◌≢◌, ◌⊎◌, ◌+◌, ◌<◌, ◌≤◌, ◌==◌, ℕ, Bool, true, false, not, List, [], ◌∷◌, ◌++◌, length, map, slice_get, get_or, zero, suc, option_map, Option, Some, None, Err, if◌then◌else◌, unwrap_or, refl}
 use Rattle.std.specs.List.{AllByRecursion}
 use Rattle.std.specs.Str.{bytes_eq}
 use Rattle.std.proofs.Common.{◌∙◌, sym, ap, subst, inl, inr, arith, append_assoc, length-append}
@@ -15,7 +15,7 @@ use Rattle.git_objects.specs.declared.entry_kind.EntryKind.TheVariants.{Message,
 use Rattle.arch_model.specs.Archives.{Entry, in_epoch, live, messages as delivered, blob_number}
 use Rattle.arch_model.specs.Epochs.{epoch_bytes, entries_bytes, last_commit}
 use Rattle.mail_commits.specs.Entries.{magic, entry_bytes, commit_id}
-use Rattle.disk_model.specs.Disk.{Files, File, bytes_of}
+use Rattle.disk_model.specs.Disk.{Files, bytes_of}
 use Rattle.number_map.specs.declared.line.Record.{Record}
 use Rattle.epoch_file.specs.declared.entry.Seen.{Seen}
 use Rattle.epoch_file.specs.Entries.{EpochEntry, IsEpochEntry, AreEpochEntries, bytes_after, commit_after, chain, epoch_of}
@@ -29,14 +29,14 @@ use Rattle.epoch_store.specs.declared.known.JoinRefusal.TheVariants.{NoMemory, D
 use Rattle.arch_model.specs.Validity.{IsEntry, BlobsAgree}
 use Rattle.epoch_store.specs.Stores.{in_file, stored_at, stored_after, live_kept}
 use Rattle.epoch_store.specs.Damage.{record_of, AreFirst, AreWhole}
-use Rattle.epoch_store.specs.Joined.{Joined, Holds, Held, AreBefore, has_id, number_of, first_index, message_count, entry_seen, IsWanted, TextIn, JoinsMessage, JoinsDeletion, JoinsNext, IsSameText, kept_at, with_seen, JoinsOne, JoinsByText, ComparesText, JoinsAll, AreJoined, StopsAt}
-use Rattle.arch_model.proofs.LiveEntries.{ids-now, live-all, HasText, found-has}
+use Rattle.epoch_store.specs.Joined.{Joined, Holds, Held, AreBefore, has_id, number_of, first_index, message_count, entry_seen, IsWanted, TextIn, JoinsMessage, JoinsDeletion, JoinsNext, IsSameText, kept_at, with_seen, JoinsByText, JoinsAll, AreJoined, StopsAt}
+use Rattle.arch_model.proofs.LiveEntries.{ids-now, live-all, HasText}
 use Rattle.arch_model.proofs.ValidArchives.{Agrees, agrees-has, all_after, all_weaker}
 use Rattle.epoch_store.proofs.Growing.{stored_more}
 use Rattle.epoch_store.proofs.Ends.{none_in, last_commit_is}
 use Rattle.epoch_store.proofs.Texts.{divided_reads, epoch_text, in_fronts, in_epoch_split}
-use Rattle.epoch_store.proofs.KnownLive.{kept_ids, kept_numbers, kept_firsts, kept_count, first_at, none_own, apart_by, found_text, found_number, live_ascends, blob_same, bytes_same, bytes_yes}
-use Rattle.epoch_store.proofs.Firsts.{FitsKind, with_record, all_last, first_is, first_none, first_more, first_less, fits_last, blobs_last, record_after, map_after, stored_count, stored_before}
+use Rattle.epoch_store.proofs.KnownLive.{kept_ids, kept_numbers, kept_firsts, kept_count, first_at, none_own, apart_by, found_text, found_number, live_ascends, bytes_same, bytes_yes}
+use Rattle.epoch_store.proofs.Firsts.{FitsKind, with_record, all_last, first_is, first_none, first_more, first_less, fits_last, blobs_last, record_after, map_after, stored_before}
 
 -- The next record is that of an entry, or it isn't.
 pub is_wanted : (v : Joined) (epoch : ℕ) (seen : Seen) (r : Record) → seen.kind ≡ Message → slice_get v.records (message_count v.entries) ≡ Some r → r.epoch ≡ epoch → r.blob ≡ seen.blob → IsWanted v epoch seen r.number

@@ -1,5 +1,5 @@
 -- One more entry in an epoch, and no record: what is written becomes the texts of the next root.
-use Rattle.std.specs.Prelude.{◌≡◌, ◌≢◌, ◌+◌, ◌<◌, ◌==◌, ◌&&◌, nat_lt, ℕ, Bool, true, false, if◌then◌else◌, List, [], ◌++◌, length, set, Option, refl}
+use Rattle.std.specs.Prelude.{◌≡◌, ◌≢◌, ◌+◌, ◌<◌, ◌&&◌, nat_lt, ℕ, Bool, true, if◌then◌else◌, List, [], ◌++◌, length, set, Option, refl}
 use Rattle.std.proofs.Common.{◌∙◌, sym, ap, subst, inl, inr, arith, length-append}
 use Rattle.std.proofs.lemmas.Bool.{cases_lt}
 use Rattle.disk_model.specs.declared.name.FileKind.{FileKind}
@@ -9,9 +9,8 @@ use Rattle.disk_model.specs.Disk.{Content, Told, WhereTold, OneFile, Wrote}
 use Rattle.disk_model.specs.Images.{same_or_other}
 use Rattle.root_slots.specs.declared.root.Place.{Place}
 use Rattle.root_slots.specs.declared.root.Root.{Root}
-use Rattle.root_slots.specs.RootName.{root_name}
 use Rattle.root_slots.specs.Sizes.{sequence-spelling}
-use Rattle.root_slots.specs.Valid.{RootFits, no_place}
+use Rattle.root_slots.specs.Valid.{RootFits}
 use Rattle.root_change.specs.Names.{epoch_name, place_of, has_place, named_by, names_file, named_end}
 use Rattle.root_change.specs.Texts.{Texts, OnDisk}
 use Rattle.root_change.specs.Parts.{Parts, texts_of, PartsFit}

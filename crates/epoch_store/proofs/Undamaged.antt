@@ -6,7 +6,6 @@ use Rattle.std.proofs.Math.Seq.{take-append_seam, drop-append_seam}
 use Rattle.std.proofs.lemmas.List.{append-nil, append_cancel_left, nil_from_length}
 use Rattle.std.proofs.lemmas.List.Elements.{filter-append}
 use Rattle.std.proofs.lemmas.Bool.{cases_lt}
-use Rattle.std.proofs.lemmas.Bool.Decides.{nat_tests}
 use Rattle.arch_base.specs.declared.ids.Id20.{Id20}
 use Rattle.disk_model.specs.Disk.{Files, bytes_of}
 use Rattle.arch_model.specs.Archives.{Entry, in_epoch, messages as delivered}

@@ -1,6 +1,6 @@
 -- Files stand for at most one archive, and a store's own disk stands for its archive.
 use Rattle.std.specs.Prelude.{◌≡◌, ◌^◌, ◌-◌, ◌*◌, ◌<◌, ℕ, List, length, Some, None, refl}
-use Rattle.std.proofs.Common.{◌∙◌, sym, ap, subst, arith}
+use Rattle.std.proofs.Common.{◌∙◌, sym, ap, subst}
 use Rattle.disk_model.specs.Disk.{Files}
 use Rattle.arch_model.specs.Archives.{Archive}
 use Rattle.epoch_file.specs.Entries.{EpochsDiffer}

@@ -97,13 +97,13 @@ never-fails m n d (answer.Damaged file at) never = absurd never
 
 -- A live number has a text.
 hidden-text : (m a : Archive) (n : ℕ) (old : List ℕ) → a ≡ m → None ≡ text_of (live m.entries) n → is_some (text_of (live a.entries) n) ≡ true → GivesTextIn (live a.entries) n old old (Ok tt)
-hidden-text m a n old same none live =
+hidden-text m a n old same none shown =
     let is : text_of (live a.entries) n ≡ None = ap (λ (x : Archive). text_of (live x.entries) n) same ∙ sym none in
-    let never : is_some {T = List ℕ} None ≡ true = sym (ap is_some is) ∙ live in
+    let never : is_some {T = List ℕ} None ≡ true = sym (ap is_some is) ∙ shown in
     absurd (cc)
 
 pub text-none : (m : Archive) (n : ℕ) (old : List ℕ) → None ≡ text_of (live m.entries) n → ((a : Archive) → a ≡ m → is_some (text_of (live a.entries) n) ≡ true) → (a : Archive) → a ≡ m → GivesTextIn (live a.entries) n old old (Ok tt)
-text-none m n old none live a same = hidden-text m a n old same none (live a same)
+text-none m n old none shown a same = hidden-text m a n old same none (shown a same)
 
 pub text-some : (m : Archive) (n : ℕ) (old new text : List ℕ) → Some text ≡ text_of (live m.entries) n → new ≡ old ++ text → (a : Archive) → a ≡ m → GivesTextIn (live a.entries) n old new (Ok tt)
 text-some m n old new text some is a same = (text, ap (λ (x : Archive). text_of (live x.entries) n) same ∙ sym some, is)

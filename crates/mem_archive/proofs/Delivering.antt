@@ -68,8 +68,8 @@ module _ (config : Config) (ks : List Kept) (places : List Place) (index : Index
       pub keep-same : (number : ℕ) (found : ℕ) → MayBeKept config index next text blob number → number_in index.blobs blob.0 ≡ Some found → blob_text a.entries (blob_id_of text).0 ≡ Some text → MayKeep a (Take text blob number)
       keep-same number found may first text_is =
           let agree = subst (λ (b : Archive). collision b.entries text ≡ None) is
-              (collision-first (entries_of ks) text text found kept.blobs (ap (λ (b : Archive). blob_number b.entries (blob_id_of text).0) is ∙ named ∙ first) (ap (λ (b : Archive). blob_text b.entries (blob_id_of text).0) is ∙ text_is)
-              ∙ ap (λ (t : Bool). if t then None else Some found) (bytes_eq-refl text text refl)) in
+          (collision-first (entries_of ks) text text found kept.blobs (ap (λ (b : Archive). blob_number b.entries (blob_id_of text).0) is ∙ named ∙ first) (ap (λ (b : Archive). blob_text b.entries (blob_id_of text).0) is ∙ text_is)
+          ∙ ap (λ (t : Bool). if t then None else Some found) (bytes_eq-refl text text refl)) in
           (free-text, comes.blob_is, agree, room number may, may.number_is ∙ next_is)
 
       -- What a comparison decides.

@@ -1,5 +1,5 @@
 -- What the archive in memory holds after one more entry.
-use Rattle.std.proofs.Common.{◌≡◌, ◌≢◌, ◌+◌, ◌-◌, ◌<◌, ◌≤◌, ℕ, List, [], ◌∷◌, ◌++◌, length, Some, None, refl, sym, ◌∙◌, ap, subst, arith, length-append}
+use Rattle.std.proofs.Common.{◌≡◌, ◌+◌, ◌-◌, ◌<◌, ◌≤◌, ℕ, true, List, [], ◌∷◌, ◌++◌, length, Some, None, is_some, IsSome, refl, sym, ◌∙◌, ap, subst, arith, length-append}
 use Rattle.std.specs.List.{AllByRecursion}
 use Rattle.arch_base.specs.declared.config.Config.{Config}
 use Rattle.arch_base.specs.declared.ids.Id20.{Id20}
@@ -14,11 +14,11 @@ use Rattle.arch_model.specs.Shelves.{line_after, lines_after}
 use Rattle.arch_model.specs.Validity.{IsFrom, Rise, AtEachPlace, EndsLive, IdsDiffer, BlobsAgree}
 use Rattle.arch_model.specs.declared.line.EntryLine.{EntryLine}
 use Rattle.arch_model.proofs.Shelving.{lines_after-push}
-use Rattle.arch_model.proofs.LiveEntries.{live-message, live-deletion, place-push, ids-without, live-all, live-has, found-has}
+use Rattle.arch_model.proofs.LiveEntries.{live-message, live-deletion, place-push, ids-without, live-all, live-has, found-has, HasText, all-text}
 use Rattle.arch_model.proofs.ValidArchives.{all_after, all_weaker, not_before, rise_more, ids_more, blobs_more, agrees-has}
 use Rattle.arch_model.proofs.Commands.{apart_ids, agrees-alone}
 use Rattle.mail_commits.specs.Entries.{commit_id}
-use Rattle.mem_archive.specs.Memory.{archive_of, entry_of, entries_of, line_of, lines_of, end_after, end_for_new, Hides, IsUpTo, IsEnd, IsKept}
+use Rattle.mem_archive.specs.Memory.{archive_of, entry_of, entries_of, line_of, lines_of, end_after, end_for_new, Hides, HasId, IsUpTo, IsEnd, IsKept}
 use Rattle.arch_judge.specs.Indexes.{IsIndex, Puts, Loses}
 use Rattle.mem_archive.specs.declared.kept.Kept.{Kept}
 use Rattle.mem_archive.specs.declared.kept.Place.{Place}
@@ -135,6 +135,7 @@ module _ (config : Config) (ks : List Kept) (places : List Place) (index new : I
     deletions = subst (λ (es : List Entry). AtEachPlace (λ (before : List Entry) (e : Entry). EndsLive e.kind before e) [] es) (sym pushed) (place-push (λ (before : List Entry) (e : Entry). EndsLive e.kind before e) [] (entries_of ks) entry kept.deletions tt);
     ids = subst (λ (es : List Entry). IdsDiffer es) (sym (ap live pushed ∙ grows)) (ids_more (live (entries_of ks)) entry kept.ids (apart_ids (live (entries_of ks)) text id own unowned));
     blobs = subst (λ (es : List Entry). BlobsAgree es) (sym pushed) (blobs_more (entries_of ks) entry kept.blobs (agrees-alone (entries_of ks) text alone));
+    named = subst (λ (es : List Entry). AllByRecursion HasId es) (sym pushed) (all_after HasId (entries_of ks) entry kept.named (ap is_some own));
     indexed = subst (λ (es : List Entry). IsIndex es new) (sym pushed) (IsIndex-push (entries_of ks) entry index new id blob (record { number = length places + 1; content = content_id_of text }) grows kept.indexed puts refl own unowned blob_is);
     lines = lines_are config ks places index end_ next one kept next_is commit_is refl;
     last = last_is config ks places index end_ next one kept next_is commit_is refl;
@@ -154,9 +155,9 @@ pub keeps : (config : Config) (ks : List Kept) (places : List Place) (index new 
     → archive_of config ks places ≡ a → IsKept config ks places index end_ → a.next ≤ a.config.max → IsFree (live a.entries) text → blob ≡ blob_id_of text → collision a.entries text ≡ None
     → next ≡ end_after (end_for_new config.limit end_) Message read moment → next.parent ≡ Some commit → read ≡ text → own_id spelled ≡ Some id → spelled ≡ text
     → made ≡ record { number = a.next; content = content_id_of digested } → digested ≡ text → count ≡ length ks → number ≡ made.number → Puts index new id blob made
-    → IsKept config (ks ++ record { kind = Message; number = number; epoch = next.epoch; text = text; moment = moment; commit = commit } ∷ []) (places ++ record { entry = count; live = true } ∷ []) new next
-    × (archive_of config (ks ++ record { kind = Message; number = number; epoch = next.epoch; text = text; moment = moment; commit = commit } ∷ []) (places ++ record { entry = count; live = true } ∷ []) ≡ with_entry a (new_epoch a) text moment)
-keeps config ks places index new end_ next text read spelled digested moment blob commit id made count number a is kept room free blob_is alone next_is commit_is read_is own spelled_is made_is digested_is count_is number_is puts =
+    → (held : List Kept) → held ≡ ks ++ record { kind = Message; number = number; epoch = next.epoch; text = text; moment = moment; commit = commit } ∷ [] → (spots : List Place) → spots ≡ places ++ record { entry = count; live = true } ∷ []
+    → IsKept config held spots new next × (archive_of config held spots ≡ with_entry a (new_epoch a) text moment)
+keeps config ks places index new end_ next text read spelled digested moment blob commit id made count number a is kept room free blob_is alone next_is commit_is read_is own spelled_is made_is digested_is count_is number_is puts held held_is spots spots_is =
     let few : length places + 1 ≤ config.max = subst (λ (b : Archive). b.next ≤ b.config.max) (sym is) room in
     let unowned : IsFree (live (entries_of ks)) text = subst (λ (b : Archive). IsFree (live b.entries) text) (sym is) free in
     let single : collision (entries_of ks) text ≡ None = subst (λ (b : Archive). collision b.entries text ≡ None) (sym is) alone in
@@ -168,11 +169,26 @@ keeps config ks places index new end_ next text read spelled digested moment blo
     let numbered : number ≡ length places + 1 = number_is ∙ ap (λ (o : Owner). o.number) owner_is in
     let here = kept-message config ks places index new end_ next text moment blob commit id kept few unowned blob_is single after commit_is named put in
     let there = archive-message config ks places index new end_ next text moment blob commit id kept few unowned blob_is single after commit_is named put ∙ ap (λ (b : Archive). with_entry b (new_epoch b) text moment) is in
-    subst (λ (m : ℕ). IsKept config (ks ++ record { kind = Message; number = m; epoch = next.epoch; text = text; moment = moment; commit = commit } ∷ []) (places ++ record { entry = count; live = true } ∷ []) new next
-    × (archive_of config (ks ++ record { kind = Message; number = m; epoch = next.epoch; text = text; moment = moment; commit = commit } ∷ []) (places ++ record { entry = count; live = true } ∷ []) ≡ with_entry a (new_epoch a) text moment)) (sym numbered)
-    (subst (λ (c : ℕ). IsKept config (ks ++ record { kind = Message; number = length places + 1; epoch = next.epoch; text = text; moment = moment; commit = commit } ∷ []) (places ++ record { entry = c; live = true } ∷ []) new next
-    × (archive_of config (ks ++ record { kind = Message; number = length places + 1; epoch = next.epoch; text = text; moment = moment; commit = commit } ∷ []) (places ++ record { entry = c; live = true } ∷ []) ≡ with_entry a (new_epoch a) text moment)) (sym count_is)
+    let kept_are : held ≡ ks ++ record { kind = Message; number = length places + 1; epoch = next.epoch; text = text; moment = moment; commit = commit } ∷ [] =
+    held_is ∙ ap (λ (m : ℕ). ks ++ record { kind = Message; number = m; epoch = next.epoch; text = text; moment = moment; commit = commit } ∷ []) numbered in
+    let places_are : spots ≡ places ++ record { entry = length ks; live = true } ∷ [] = spots_is ∙ ap (λ (m : ℕ). places ++ record { entry = m; live = true } ∷ []) count_is in
+    subst (λ (ls : List Kept). IsKept config ls spots new next × (archive_of config ls spots ≡ with_entry a (new_epoch a) text moment)) (sym kept_are)
+    (subst (λ (ps : List Place). IsKept config (ks ++ record { kind = Message; number = length places + 1; epoch = next.epoch; text = text; moment = moment; commit = commit } ∷ []) ps new next
+    × (archive_of config (ks ++ record { kind = Message; number = length places + 1; epoch = next.epoch; text = text; moment = moment; commit = commit } ∷ []) ps ≡ with_entry a (new_epoch a) text moment)) (sym places_are)
     (here, there))
+
+-- A text that is there has an own id.
+has_id : (ks : List Kept) (text : List ℕ) → AllByRecursion HasId (entries_of ks) → HasText text (entries_of ks) → IsSome (own_id text)
+has_id ks text named has = all-text (λ (t : List ℕ). IsSome (own_id t)) (entries_of ks) text named has
+
+-- A live text has an own id, and its number is at least 1.
+pub live-known : (config : Config) (ks : List Kept) (places : List Place) (index : Index) (end_ : End) (a : Archive) (n : ℕ) (text read : List ℕ) → archive_of config ks places ≡ a → IsKept config ks places index end_ → text_of (live a.entries) n ≡ Some text → read ≡ text
+    → IsSome (own_id read) × (1 ≤ n)
+live-known config ks places index end_ a n text read is kept shown read_is =
+    let shows : text_of (live (entries_of ks)) n ≡ Some text = ap (λ (b : Archive). text_of (live b.entries) n) is ∙ shown in (
+      subst (λ (t : List ℕ). IsSome (own_id t)) (sym read_is) (has_id ks text kept.named (live-has (entries_of ks) text (found-has (live (entries_of ks)) n text shows))),
+      (text-in (live (entries_of ks)) (length places) n text (live-all (IsUpTo (length places)) (entries_of ks) kept.numbered) shows).0,
+    )
 
 -- One more deletion.
 module _ (config : Config) (ks : List Kept) (places hidden : List Place) (index new : Index) (end_ next : End) (n : ℕ) (text : List ℕ) (moment : ℕ) (commit : Id20) (id : List ℕ)
@@ -190,6 +206,9 @@ module _ (config : Config) (ks : List Kept) (places hidden : List Place) (index 
   is_one : (1 ≤ n) × (n < length places + 1)
   is_one = text-in (live (entries_of ks)) (length places) n text (live-all (IsUpTo (length places)) (entries_of ks) kept.numbered) shown
 
+  shown_there : HasText text (entries_of ks)
+  shown_there = live-has (entries_of ks) text (found-has (live (entries_of ks)) n text shown)
+
   same_size : length hidden ≡ length places
   same_size = hides.size
 
@@ -205,7 +224,8 @@ module _ (config : Config) (ks : List Kept) (places hidden : List Place) (index 
     order = subst (λ (es : List Entry). Rise 1 0 es) (sym added) (rise_more 1 0 (entries_of ks) last_entry kept.order tt (omega arith) (none_asked n (entries_of ks)) (older config ks places index end_ next ended kept next_is commit_is refl));
     deletions = subst (λ (es : List Entry). AtEachPlace (λ (before : List Entry) (e : Entry). EndsLive e.kind before e) [] es) (sym added) (place-push (λ (before : List Entry) (e : Entry). EndsLive e.kind before e) [] (entries_of ks) last_entry kept.deletions shown);
     ids = subst (λ (es : List Entry). IdsDiffer es) (sym (ap live added ∙ live-deletion (entries_of ks) n next.epoch text moment)) (ids-without n (live (entries_of ks)) kept.ids);
-    blobs = subst (λ (es : List Entry). BlobsAgree es) (sym added) (blobs_more (entries_of ks) last_entry kept.blobs (agrees-has (entries_of ks) text kept.blobs (live-has (entries_of ks) text (found-has (live (entries_of ks)) n text shown))));
+    blobs = subst (λ (es : List Entry). BlobsAgree es) (sym added) (blobs_more (entries_of ks) last_entry kept.blobs (agrees-has (entries_of ks) text kept.blobs shown_there));
+    named = subst (λ (es : List Entry). AllByRecursion HasId es) (sym added) (all_after HasId (entries_of ks) last_entry kept.named (has_id ks text kept.named shown_there));
     indexed = subst (λ (es : List Entry). IsIndex es new) (sym added) (IsIndex-ends (entries_of ks) n next.epoch text moment 1 0 index new id kept.indexed kept.order kept.ids shown own lost);
     lines = lines_are config ks places index end_ next ended kept next_is commit_is refl;
     last = last_is config ks places index end_ next ended kept next_is commit_is refl;
@@ -222,13 +242,15 @@ module _ (config : Config) (ks : List Kept) (places hidden : List Place) (index 
 -- The same of an archive that these stand for.
 pub ends-kept : (config : Config) (ks : List Kept) (places hidden : List Place) (index new : Index) (end_ next : End) (n : ℕ) (text read spelled : List ℕ) (moment : ℕ) (commit : Id20) (id : List ℕ) (a : Archive)
     → archive_of config ks places ≡ a → IsKept config ks places index end_ → text_of (live a.entries) n ≡ Some text → next ≡ end_after (end_for_new config.limit end_) Deletion read moment → next.parent ≡ Some commit → read ≡ text
-    → own_id spelled ≡ Some id → spelled ≡ text → Loses index new id → Hides places hidden (n - 1)
-    → IsKept config (ks ++ record { kind = Deletion; number = n; epoch = next.epoch; text = text; moment = moment; commit = commit } ∷ []) hidden new next
-    × (archive_of config (ks ++ record { kind = Deletion; number = n; epoch = next.epoch; text = text; moment = moment; commit = commit } ∷ []) hidden ≡ with_deletion a n (new_epoch a) text moment)
-ends-kept config ks places hidden index new end_ next n text read spelled moment commit id a is kept shown next_is commit_is read_is own spelled_is lost hides =
+    → own_id spelled ≡ Some id → spelled ≡ text → (lost_id : List ℕ) → lost_id ≡ id → Loses index new lost_id → Hides places hidden (n - 1)
+    → (held : List Kept) → held ≡ ks ++ record { kind = Deletion; number = n; epoch = next.epoch; text = text; moment = moment; commit = commit } ∷ []
+    → IsKept config held hidden new next × (archive_of config held hidden ≡ with_deletion a n (new_epoch a) text moment)
+ends-kept config ks places hidden index new end_ next n text read spelled moment commit id a is kept shown next_is commit_is read_is own spelled_is lost_id lost_is loses hides held held_is =
+    let lost : Loses index new id = subst (λ (i : List ℕ). Loses index new i) lost_is loses in
     let shows : text_of (live (entries_of ks)) n ≡ Some text = ap (λ (b : Archive). text_of (live b.entries) n) is ∙ shown in
     let after : next ≡ end_after (end_for_new config.limit end_) Deletion text moment = next_is ∙ ap (λ (t : List ℕ). end_after (end_for_new config.limit end_) Deletion t moment) read_is in
-    let named : own_id text ≡ Some id = ap own_id (sym spelled_is) ∙ own in (
+    let named : own_id text ≡ Some id = ap own_id (sym spelled_is) ∙ own in
+    subst (λ (ls : List Kept). IsKept config ls hidden new next × (archive_of config ls hidden ≡ with_deletion a n (new_epoch a) text moment)) (sym held_is) (
       kept-deletion config ks places hidden index new end_ next n text moment commit id kept shows after commit_is named lost hides,
       archive-deletion config ks places hidden index new end_ next n text moment commit id kept shows after commit_is named lost hides ∙ ap (λ (b : Archive). with_deletion b n (new_epoch b) text moment) is,
     )

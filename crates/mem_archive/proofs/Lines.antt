@@ -2,7 +2,7 @@
 use Rattle.std.proofs.Common.{◌≡◌, ◌<◌, ◌≤◌, ℕ, zero, suc, List, [], ◌∷◌, ◌++◌, length, get_or, slice_get, Option, Some, None, refl, sym, ap, ◌∙◌, arith}
 use Rattle.arch_base.specs.declared.config.Config.{Config}
 use Rattle.arch_model.specs.Archives.{Archive, Entry, messages, text_of, blob_number}
-use Rattle.arch_model.specs.Shelves.{lines_after, line_at, blob_text}
+use Rattle.arch_model.specs.Shelves.{line_at, blob_text}
 use Rattle.arch_model.specs.declared.line.EntryLine.{EntryLine}
 use Rattle.arch_model.proofs.Shelving.{rises-from, blob_found-text, blob-none}
 use Rattle.arch_judge.specs.Indexes.{number_in}

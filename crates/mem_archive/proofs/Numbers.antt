@@ -1,5 +1,5 @@
 -- Live places, one number at a time, and the live entries by their numbers.
-use Rattle.std.proofs.Common.{◌≡◌, ◌≢◌, ◌+◌, ◌-◌, ◌<◌, ◌≤◌, ◌==◌, ℕ, zero, suc, Bool, true, false, ◌&&◌, nat_le, List, [], ◌∷◌, length, drop, get_or, slice_get, Option, Some, None, is_some, option_map, max, min, refl, sym, ap, subst, ◌∙◌, arith, if◌then◌else◌}
+use Rattle.std.proofs.Common.{◌≡◌, ◌≢◌, ◌+◌, ◌-◌, ◌<◌, ◌≤◌, ◌==◌, ℕ, zero, suc, Bool, true, false, ◌&&◌, nat_le, List, [], ◌∷◌, length, drop, get_or, slice_get, add-one, zero-add, drop-cons, Option, Some, None, is_some, option_map, max, min, refl, sym, ap, subst, ◌∙◌, arith, if◌then◌else◌}
 use Rattle.std.specs.List.{filter}
 use Rattle.std.proofs.lemmas.Bool.Decides.{nat_tests}
 use Rattle.std.proofs.lemmas.Option.{slice_get_past, slice_get_read}
@@ -97,10 +97,8 @@ pub record Counted (places : List Place) (low high index number count : ℕ) : T
   pub few : count ≤ index
   pub all : count + count_from number low high (drop index places) ≡ count_from 1 low high places
 
-drop-one : (places : List Place) (i : ℕ) (p : Place) → i < length places → p ≡ get_or places i p → drop i places ≡ p ∷ drop (i + 1) places
-drop-one [] i p less is = absurd (omega (arith, less))
-drop-one (x ∷ places) zero p less is = ap (λ (y : Place). y ∷ places) (sym is)
-drop-one (x ∷ places) (suc i) p less is = drop-one places i p (omega (arith, less)) is
+drop-one : (places : List Place) (i : ℕ) (d : Place) → i < length places → drop i places ≡ get_or places i d ∷ drop (i + 1) places
+drop-one places i d less = rw (add-one, drop-cons places i d) refl
 
 if_count : (t : Bool) (count rest all : ℕ) → count + (if t then suc rest else rest) ≡ all → (count + (if t then 1 else 0)) + rest ≡ all
 if_count true count rest all is = omega (arith, is)
@@ -111,15 +109,15 @@ few_if true count index few = omega (arith, few)
 few_if false count index few = omega (arith, few)
 
 pub count-start : (places : List Place) (low high : ℕ) → Counted places low high 0 1 0
-count-start places low high = record { number_is = refl; few = omega arith; all = refl }
+count-start places low high = record { number_is = refl; few = omega arith; all = zero-add (count_from 1 low high places) }
 
-pub count-more : (places : List Place) (low high index number count : ℕ) (p : Place) (one : ℕ) → index < length places → p ≡ get_or places index p → one ≡ (if p.live && (nat_le low number && nat_le number high) then 1 else 0) → Counted places low high index number count
+pub count-more : (places : List Place) (low high index number count : ℕ) (d : Place) (one : ℕ) → index < length places → one ≡ (if (get_or places index d).live && (nat_le low number && nat_le number high) then 1 else 0) → Counted places low high index number count
     → Counted places low high (index + 1) (number + 1) (count + one)
-count-more places low high index number count p one less is one_is counted =
-    let t : Bool = p.live && (nat_le low number && nat_le number high) in
+count-more places low high index number count d one less one_is counted =
+    let t : Bool = (get_or places index d).live && (nat_le low number && nat_le number high) in
     let rest : ℕ = count_from (number + 1) low high (drop (index + 1) places) in
     let before : count + (if t then suc rest else rest) ≡ count_from 1 low high places =
-    sym (ap (λ (ps : List Place). count + count_from number low high ps) (drop-one places index p less is)) ∙ counted.all in
+    sym (ap (λ (ps : List Place). count + count_from number low high ps) (drop-one places index d less)) ∙ counted.all in
     let at : number ≡ index + 1 = counted.number_is in
     record {
       number_is = omega (arith, at);
@@ -159,9 +157,9 @@ skip_count true u found rest never is = absurd (cc)
 skip_count false u found rest never is = is
 
 hit_count : (t u : Bool) (found rest : ℕ) → true ≡ t → found ≡ rest → (if u then suc found else found) ≡ (if t && u then suc rest else rest)
-hit_count true true found rest yes is = ap suc is
-hit_count true false found rest yes is = is
-hit_count false u found rest yes is = absurd (cc)
+hit_count true true found rest shown is = ap suc is
+hit_count true false found rest shown is = is
+hit_count false u found rest shown is = absurd (cc)
 
 -- The places from a number on tell which of these entries there are.
 abbrev Tells : ℕ → List Place → List Entry → Type 0
@@ -175,6 +173,10 @@ tells-rest n p ps e xs same tells i =
     let other : (e.number == (n + 1 + i)) ≡ false = grind (arith, nat_tests, same) in
     sym (ap (λ (t : Bool). is_some (if t then Some e.text else text_of xs (n + 1 + i))) other) ∙ tells-next n p ps (e ∷ xs) tells i
 
+-- So the places count them.
+abbrev Counts : ℕ → List Place → ℕ → ℕ → List Entry → Type 0
+Counts n ps low high es = Ascend n es → Tells n ps es → live_between es low high ≡ count_from n low high ps
+
 counted-places : (n : ℕ) (ps : List Place) (xs : List Entry) (low high : ℕ) → Ascend n xs → Tells n ps xs → live_between xs low high ≡ count_from n low high ps
 counted-places n [] [] low high ascend tells = refl
 counted-places n [] (e ∷ xs) low high ascend tells =
@@ -184,25 +186,25 @@ counted-places n [] (e ∷ xs) low high ascend tells =
     let wrong : true ≡ false = sym (own-some e xs e.number refl) ∙ no in
     absurd (cc)
 counted-places n (p ∷ ps) [] low high ascend tells = skip_count p.live (nat_le low n && nat_le n high) 0 (count_from (n + 1) low high ps) (tells 0) (counted-places (n + 1) ps [] low high tt (tells-next n p ps [] tells))
-counted-places n (p ∷ ps) (e ∷ xs) low high ascend tells = by (e.number == n) refl where
+counted-places n (p ∷ ps) (e ∷ xs) low high ascend tells = by (e.number == n) refl (λ rise tell. counted-places (n + 1) ps xs low high rise tell) (λ rise tell. counted-places (n + 1) ps (e ∷ xs) low high rise tell) where
   here : n + 0 ≡ n
   here = omega arith
 
-  by : (t : Bool) → (e.number == n) ≡ t → live_between (e ∷ xs) low high ≡ count_from n low high (p ∷ ps)
-  by true test =
+  by : (t : Bool) → (e.number == n) ≡ t → Counts (n + 1) ps low high xs → Counts (n + 1) ps low high (e ∷ xs) → live_between (e ∷ xs) low high ≡ count_from n low high (p ∷ ps)
+  by true test fewer same_entries =
       let same : e.number ≡ n = grind (arith, nat_tests, test) in
       let yes : true ≡ p.live = sym (own-some e xs n same) ∙ sym (ap (λ (m : ℕ). is_some (text_of (e ∷ xs) m)) here) ∙ tells 0 in
-      let rest : live_between xs low high ≡ count_from (n + 1) low high ps = counted-places (n + 1) ps xs low high (ascend-low (n + 1) (e.number + 1) xs (omega (arith, same)) ascend.1) (tells-rest n p ps e xs same tells) in
+      let rest : live_between xs low high ≡ count_from (n + 1) low high ps = fewer (ascend-low (n + 1) (e.number + 1) xs (omega (arith, same)) ascend.1) (tells-rest n p ps e xs same tells) in
       filter-step (is_between low high e) e (filter (is_between low high) xs)
       ∙ ap (λ (m : ℕ). if nat_le low m && nat_le m high then suc (live_between xs low high) else live_between xs low high) same
       ∙ hit_count p.live (nat_le low n && nat_le n high) (live_between xs low high) (count_from (n + 1) low high ps) yes rest
-  by false test =
+  by false test fewer same_entries =
       let least : n ≤ e.number = ascend.0 in
       let above : n + 1 ≤ e.number = grind (arith, nat_tests, test, least) in
       let ascends : Ascend (n + 1) (e ∷ xs) = (above, ascend.1) in
       let none : text_of (e ∷ xs) n ≡ None = ascend-out (e ∷ xs) n (n + 1) ascends (omega arith) in
       let no : false ≡ p.live = sym (ap is_some none) ∙ sym (ap (λ (m : ℕ). is_some (text_of (e ∷ xs) m)) here) ∙ tells 0 in
-      skip_count p.live (nat_le low n && nat_le n high) (live_between (e ∷ xs) low high) (count_from (n + 1) low high ps) no (counted-places (n + 1) ps (e ∷ xs) low high ascends (tells-next n p ps (e ∷ xs) tells))
+      skip_count p.live (nat_le low n && nat_le n high) (live_between (e ∷ xs) low high) (count_from (n + 1) low high ps) no (same_entries ascends (tells-next n p ps (e ∷ xs) tells))
 
 -- What places tell is what the live entries of their archive tell.
 module _ (config : Config) (ks : List Kept) (places : List Place) (index : Index) (end_ : End) (a : Archive) (is : archive_of config ks places ≡ a) (kept : IsKept config ks places index end_) where
@@ -222,11 +224,11 @@ module _ (config : Config) (ks : List Kept) (places : List Place) (index : Index
     by (suc i) = some_shown (slice_get places i) (λ p there. (let old = kept.placed i p there in live_some p.live (text_in ks p.entry) (ap is_some old.is_there)))
 
   no_text : (found : Option (List ℕ)) → is_some found ≡ false → found ≡ None
-  no_text None no = refl
-  no_text (Some text) no = absurd (cc)
+  no_text None none = refl
+  no_text (Some text) none = absurd (cc)
 
   none-is : (n : ℕ) → live_at places n ≡ false → text_of (live a.entries) n ≡ None
-  none-is n no = no_text (text_of (live a.entries) n) (live-is n ∙ no)
+  none-is n hidden = no_text (text_of (live a.entries) n) (live-is n ∙ hidden)
 
   pub least-is : (held : List Place) (n : ℕ) (found : Option ℕ) → held ≡ places → IsLeastAt held n found → IsLeastLive (live a.entries) n found
   least-is held n found held_is least = by found (subst (λ (l : List Place). IsLeastAt l n found) held_is least) where

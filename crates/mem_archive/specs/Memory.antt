@@ -1,5 +1,5 @@
 -- What the archive in memory holds.
-use Rattle.std.specs.Prelude.{◌≡◌, ◌≢◌, zero, suc, true, false, ◌&&◌, nat_le, option_map, ◌+◌, ◌-◌, ◌<◌, ◌≤◌, slice_get, ◌==◌, ◌||◌, nat_lt, ℕ, take, Bool, Result, Ok, Err, List, [], ◌∷◌, ◌++◌, length, Option, Some, None, if◌then◌else◌}
+use Rattle.std.specs.Prelude.{◌≡◌, ◌≢◌, zero, suc, true, false, ◌&&◌, nat_le, option_map, ◌+◌, ◌-◌, ◌<◌, ◌≤◌, slice_get, ◌==◌, ◌||◌, nat_lt, ℕ, take, Bool, Result, Ok, Err, List, [], ◌∷◌, ◌++◌, length, Option, Some, None, IsSome, if◌then◌else◌}
 use Rattle.arch_base.specs.Configs.{IsConfig}
 use Rattle.arch_base.specs.declared.config.Config.{Config}
 use Rattle.arch_base.specs.declared.ids.Id20.{Id20}
@@ -12,6 +12,7 @@ use Rattle.arch_model.specs.Epochs.{epoch_bytes, last_commit}
 use Rattle.arch_model.specs.Shelves.{lines_after}
 use Rattle.arch_model.specs.declared.line.EntryLine.{EntryLine}
 use Rattle.git_objects.specs.Objects.{blob_id_of}
+use Rattle.mail_reader.specs.Ids.{own_id}
 use Rattle.mail_commits.specs.Entries.{commit_id, entry_bytes, magic}
 use Rattle.git_objects.specs.declared.entry_kind.EntryKind.{EntryKind}
 use Rattle.mem_archive.specs.declared.kept.Kept.{Kept}
@@ -130,6 +131,10 @@ pub record Hides (old new : List Place) (at : ℕ) : Type 0 where
 abbrev pub IsUpTo : ℕ → Entry → Type 0
 IsUpTo most e = (1 ≤ e.number) × (e.number < most + 1)
 
+-- The text of an entry has an own id (RFC 5322, section 3.6.4).
+abbrev pub HasId : Entry → Type 0
+HasId e = IsSome (own_id e.text)
+
 -- What may be kept: no live message has the text's own id, no other text has its blob id, and a
 -- number is left. A text is never still to be compared.
 abbrev pub MayKeep : Archive → Verdict → Type 0
@@ -145,8 +150,9 @@ pub record IsEnd (limit : ℕ) (entries : List Entry) (end_ : End) : Type 0 wher
   pub small : end_.epoch ≤ greatest_epoch
 
 -- What is kept is sound: the settings are valid, no number is above the greatest, each has its
--- place, numbers are from 1 to the last and rise, deletions end live messages, live ids differ and each blob id has one text, the index
--- is that of the entries, each has the id of its commit, and the end is that of the last epoch.
+-- place, numbers are from 1 to the last and rise, deletions end live messages, each text has an own
+-- id, live ids differ, each blob id has one text, the index is that of the entries, each has the id
+-- of its commit, and the end is that of the last epoch.
 pub record IsKept (config : Config) (kept : List Kept) (places : List Place) (index : Index)
     (end_ : End) : Type 0 where
   pub settings : IsConfig config
@@ -158,6 +164,7 @@ pub record IsKept (config : Config) (kept : List Kept) (places : List Place) (in
       (entries_of kept)
   pub ids : IdsDiffer (live (entries_of kept))
   pub blobs : BlobsAgree (entries_of kept)
+  pub named : AllByRecursion HasId (entries_of kept)
   pub indexed : IsIndex (entries_of kept) index
   pub lines : lines_of kept ≡ lines_after [] (entries_of kept)
   pub last : end_.epoch ≡ last_epoch (entries_of kept)

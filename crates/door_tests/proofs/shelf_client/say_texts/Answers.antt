@@ -1,11 +1,12 @@
 use Rattle.std.proofs.Common.{◌≡◌, refl, arith}
+use Rattle.arch_model.specs.Archives.{live}
 use Rattle.arch_model.proofs.Shelving.{stays-same, stays-joined}
 use Rattle.door_tests.proofs.Parts.{sofar-none, sofar-absent, sofar-given, streams-end, streams-unread, streams-lost, streams-short}
 use Rattle.door_tests.proofs.shelf_client.say_texts.Goals as goal
 
 pub loop-at-init : goal.loop-at-init
 loop-at-init g c = record {
-  so_far = λ a held. sofar-none a.entries c.args.low _;
+  so_far = λ a held. sofar-none (live a.entries) c.args.low _;
   shelf = stays-same g.S.Shelf.holds g.S.Shelf.ready g.S.Shelf.alike g.S.Shelf.faults g.met.S.Shelf.alike_same c.args.shelf.now c.requires.ready;
   sink = g.met.O.Sink.alike_same _;
   within = omega arith;
@@ -15,7 +16,7 @@ pub loop-at-preserved-in-Absent : goal.loop-at-preserved-in-Absent
 loop-at-preserved-in-Absent g c = record {
   so_far = λ a held.
       let part = c.in-Absent.ensures.part a (c.loop-at.invariant.shelf.kept a held) in
-      sofar-absent a.entries c.args.low c.loop-at.at c.loop-at.begun _ _ _ (c.loop-at.invariant.so_far a held) part.0 part.1 part.2;
+      sofar-absent (live a.entries) c.args.low c.loop-at.at c.loop-at.begun _ _ _ (c.loop-at.invariant.so_far a held) part.0 part.1 part.2;
   shelf = stays-joined g.S.Shelf.holds g.S.Shelf.ready g.S.Shelf.alike g.S.Shelf.faults g.met.S.Shelf.alike_joined _ _ _ c.loop-at.invariant.shelf c.say_part.ensures.shelf;
   sink = g.met.O.Sink.alike_joined _ _ _ c.loop-at.invariant.sink c.say_part.ensures.sink;
   within = omega (arith, c.loop-at-test.true);
@@ -23,7 +24,7 @@ loop-at-preserved-in-Absent g c = record {
 
 pub loop-at-preserved : goal.loop-at-preserved
 loop-at-preserved g c = record {
-  so_far = λ a held. sofar-given a.entries c.args.low c.loop-at.at c.loop-at.begun _ _ _ (c.loop-at.invariant.so_far a held) (c.in-Given.ensures.part a (c.loop-at.invariant.shelf.kept a held));
+  so_far = λ a held. sofar-given (live a.entries) c.args.low c.loop-at.at c.loop-at.begun _ _ _ (c.loop-at.invariant.so_far a held) (c.in-Given.ensures.part a (c.loop-at.invariant.shelf.kept a held));
   shelf = stays-joined g.S.Shelf.holds g.S.Shelf.ready g.S.Shelf.alike g.S.Shelf.faults g.met.S.Shelf.alike_joined _ _ _ c.loop-at.invariant.shelf c.say_part.ensures.shelf;
   sink = g.met.O.Sink.alike_joined _ _ _ c.loop-at.invariant.sink c.say_part.ensures.sink;
   within = omega (arith, c.loop-at-test.true);

@@ -1,4 +1,4 @@
-use Rattle.std.proofs.Common.{Some, rules}
+use Rattle.std.proofs.Common.{rules}
 use Rattle.epoch_store.proofs.Sets.{value_first}
 use Rattle.epoch_store.proofs.known.add_first.Goals as goal
 

@@ -1,4 +1,4 @@
-use Rattle.std.proofs.Common.{rules, ap, sym, ◌∙◌, ◌≡◌, List, ℕ}
+use Rattle.std.proofs.Common.{rules, sym, ◌≡◌}
 use Rattle.epoch_store.proofs.Sets.{id_dropped}
 use Rattle.epoch_store.proofs.known.drop_id.Goals as goal
 

@@ -1,4 +1,3 @@
-use Rattle.std.proofs.Common.{◌≡◌, ◌≤◌, ◌<◌, zero, suc, ℕ, List, Option, Some, None, refl, sym, ap, ◌∙◌, arith}
 use Rattle.mem_archive.proofs.Numbers.{place-zero, place-none, place-some}
 use Rattle.mem_archive.proofs.placing.place_of.Goals as goal
 

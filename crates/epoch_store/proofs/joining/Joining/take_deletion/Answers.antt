@@ -1,5 +1,5 @@
 -- A deletion ends the live entry with its blob id.
-use Rattle.std.proofs.Common.{◌≡◌, ◌∙◌, ◌++◌, ◌∷◌, List, [], length, sym, ap, subst, refl}
+use Rattle.std.proofs.Common.{◌≡◌, ◌∙◌, ◌++◌, ◌∷◌, List, [], sym, ap, subst, refl}
 use Rattle.epoch_store.specs.declared.entries.StoredEntry.{StoredEntry}
 use Rattle.epoch_store.specs.declared.known.Known.{Known}
 use Rattle.epoch_store.specs.Joined.{Joined, Held, AreKnown, message_count, entry_seen}

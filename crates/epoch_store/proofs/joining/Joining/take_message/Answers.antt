@@ -1,5 +1,5 @@
 -- A message is known, and it is the next one.
-use Rattle.std.proofs.Common.{◌≡◌, ◌+◌, ◌∙◌, ◌++◌, ◌∷◌, ℕ, List, [], Some, None, if◌then◌else◌, length, rules, sym, ap, subst}
+use Rattle.std.proofs.Common.{◌≡◌, ◌+◌, ◌∙◌, ◌++◌, ◌∷◌, ℕ, List, [], length, rules, sym, ap, subst}
 use Rattle.epoch_store.specs.declared.entries.StoredEntry.{StoredEntry}
 use Rattle.epoch_store.specs.declared.known.Known.{Known}
 use Rattle.epoch_store.specs.Joined.{Joined, Held, AreKnown, message_count, entry_seen}

@@ -1,4 +1,4 @@
-use Rattle.std.proofs.Common.{◌≡◌, length, ◌∙◌, Some, sym, arith}
+use Rattle.std.proofs.Common.{◌≡◌, length, Some, arith}
 use Rattle.arch_model.specs.Shelves.{blob_text}
 use Rattle.arch_judge.specs.Judging.{IsKnownBy}
 use Rattle.mem_archive.proofs.Delivering.{kept_known, keep-new, compared-with, compared-decides, compared-keeps}
@@ -25,7 +25,7 @@ pub returns-in-None : goal.returns-in-None
 returns-in-None c = record { judged = tt; taken = tt }
 
 pub compared-requires : goal.compared-requires
-compared-requires c = c.in-Compare.ensures.taken.0.blob_is
+compared-requires c = record { blob = c.in-Compare.ensures.taken.0.blob_is }
 
 pub returns-in-Some : goal.returns-in-Some
 returns-in-Some c =
