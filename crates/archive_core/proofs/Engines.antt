@@ -25,7 +25,7 @@ use Rattle.epoch_store.specs.Opens.{RecoversOfWith, AllRecoverWith, ReadsWith, I
 use Rattle.epoch_store.specs.Reads.{AnswersQuietly}
 use Rattle.epoch_store.specs.Recovery.{RecoversWith, RecoversSomeWith}
 use Rattle.epoch_store.specs.Stores.{View, Keeps, IsStoreWith, RecoversEitherWith}
-use Rattle.archive_core.specs.Commands.{DoneBy, OnRefusal, UnlessFault}
+use Rattle.archive_core.specs.Commands.{DoneBy, OnRefusal, UnlessFault, OnlyLooks}
 use Rattle.archive_core.specs.Engines.{Owning, needs_opening, Holds, is_ready, Leaves, ReadsOn, reading-same, store-left, now-left, reading-kept}
 use Rattle.archive_core.specs.Numbers.{TellsOther}
 use Rattle.archive_core.proofs.Standing.{store_keeps}
@@ -127,10 +127,6 @@ ready-after was now Refuses ready = ready
 ready-after was now Starves ready = λ at_hand. ready refl
 ready-after was now Fails ready = ready
 ready-after was now Breaks ready = ready
-
--- A call that doesn't read reads at most once.
-pub reads-none : (before now : ℕ) → now ≡ before → ReadsOnce before now
-reads-none before now same = record { later = omega (arith, same); most = omega (arith, same) }
 
 module _ {D : Type 0} (content : D → Option Content) (moment : D → ℕ) (left_since : D → ℕ → Files → Type 0)
     (counts_now : (disk : D) (t : ℕ) (image : Files) → t ≤ moment disk → Image (content disk) image → left_since disk t image)
@@ -241,11 +237,18 @@ module _ {D : Type 0} (content : D → Option Content) (moment : D → ℕ) (lef
     }
 
     -- Memory ran out before anything was done.
-    taken-none : new.disk ≡ e.disk → IsStoreWith new.view cache a (content new.disk) → Going e (standing a None) new (standing a None)
-    taken-none same own = record {
+    taken-none : OnlyLooks content moment left_since e.disk new.disk → IsStoreWith new.view cache a (content new.disk) → Going e (standing a None) new (standing a None)
+    taken-none looks own = record {
       fits = record { settled = λ ready. ((cache, own), refl); left = λ may has. store-left content moment left_since counts_now only_now new a may (cache, own) has.archive };
-      passes = λ start may has left.
-          subst (λ (d : D). (moment start.disk ≤ moment d) × (c : List ℕ) × ((image : Files) → left_since d (moment start.disk) image → RecoversOfWith c may image)) (sym same) left;
+      passes = λ start may has left. (
+        omega (arith, left.0, looks.any_moment.later),
+        left.1,
+        λ image since. elim (looks.any_moment.before (moment start.disk) image left.0 since) [
+          | inl past
+              ↦ left.2 image past
+          | inr now ↦ left.2 image (counts_now e.disk (moment start.disk) image left.0 now)
+        ],
+      );
     }
 
     -- The disk failed.
@@ -258,7 +261,7 @@ module _ {D : Type 0} (content : D → Option Content) (moment : D → ℕ) (lef
       passes = λ start may has left. taken-passes start may has.1.0.archive has.1.0.doubt left;
     }
 
-    pub taken-at : (reply : Answer) → new.stale ≡ needs_opening reply → DoneBy new.view cache a (wanted a) reply (content new.disk) → OnRefusal reply (UnlessFault reply (new.disk ≡ e.disk)) → (t : Standing) × Going e (standing a None) new t × Comes true (standing a None) wanted reply t
+    pub taken-at : (reply : Answer) → new.stale ≡ needs_opening reply → DoneBy new.view cache a (wanted a) reply (content new.disk) → OnRefusal reply (UnlessFault reply (OnlyLooks content moment left_since e.disk new.disk)) → (t : Standing) × Going e (standing a None) new t × Comes true (standing a None) wanted reply t
     taken-at answer.NoMemory stale done untouched = (standing a None, taken-none untouched done, inr (record { found = inl refl; sure = refl }))
     taken-at answer.DiskFault stale done untouched = (standing a (Some (wanted a).archive), taken-failed (ap not stale), inr (record { found = a; is_found = inl refl; stands = refl }))
     taken-at (answer.Ok number id) stale done untouched =
@@ -273,7 +276,8 @@ module _ {D : Type 0} (content : D → Option Content) (moment : D → ℕ) (lef
     taken-at (answer.Collision number) stale done untouched =
         (standing (wanted a).archive None, taken-done (answer.Collision number) done.answer_is done.store, record { found = a; is_found = inl refl; answer_is = done.answer_is; stands = refl })
     taken-at answer.IsMirror stale done untouched = (standing (wanted a).archive None, taken-done answer.IsMirror done.answer_is done.store, record { found = a; is_found = inl refl; answer_is = done.answer_is; stands = refl })
-    taken-at (answer.NotLive number) stale never untouched = absurd never
+    taken-at (answer.NotLive number) stale done untouched =
+        (standing (wanted a).archive None, taken-done (answer.NotLive number) done.answer_is done.store, record { found = a; is_found = inl refl; answer_is = done.answer_is; stands = refl })
     taken-at (answer.NoText number) stale never untouched = absurd never
     taken-at (answer.Damaged file at) stale never untouched = absurd never
 
@@ -370,7 +374,7 @@ module _ {D : Type 0} (content : D → Option Content) (moment : D → ℕ) (lef
     passes-from new run = subst (λ (o : Owning D). (s : Standing) → Stands o s → Passes (Leaves moment left_since) o new []) is (reopening-passes inside new run)
 
     pub taken-from : CachesOne → (new : Owning D) (wanted : Archive → Done) (reply : Answer) → new.stale ≡ needs_opening reply → ((a : Archive) (cache : List ℕ) → IsStoreWith inside.view cache a (content inside.disk) → LeavesOnly moment left_since inside.disk new.disk (RecoversEitherWith cache a (wanted a).archive))
-        → ((a : Archive) (cache : List ℕ) → IsStoreWith inside.view cache a (content inside.disk) → DoneBy new.view cache a (wanted a) reply (content new.disk)) → OnRefusal reply (UnlessFault reply (new.disk ≡ inside.disk)) → (a : Archive) → Holds content old a → (t : Standing) × Going old (standing a None) new t × Comes true (standing a None) wanted reply t
+        → ((a : Archive) (cache : List ℕ) → IsStoreWith inside.view cache a (content inside.disk) → DoneBy new.view cache a (wanted a) reply (content new.disk)) → OnRefusal reply (UnlessFault reply (OnlyLooks content moment left_since inside.disk new.disk)) → (a : Archive) → Holds content old a → (t : Standing) × Going old (standing a None) new t × Comes true (standing a None) wanted reply t
     taken-from caches new wanted reply stale run done untouched =
         subst (λ (o : Owning D). (a : Archive) → Holds content o a → (t : Standing) × Going o (standing a None) new t × Comes true (standing a None) wanted reply t) is
         (λ a held. taken-at caches inside new a held.0 held.1 wanted (run a held.0 held.1) reply stale (done a held.0 held.1) untouched)

@@ -3,9 +3,10 @@ ghost use Rattle.std.specs.Prelude.{◌≡◌, ◌≢◌, ◌≤◌, true, false
 ghost use Rattle.arch_base.specs.Configs.{IsConfig};
 ghost use Rattle.arch_base.specs.Moments.{last_moment};
 ghost use Rattle.disk_model.specs.Disk.{LeavesOnly};
-ghost use Rattle.arch_model.specs.Archives.{Archive};
+ghost use Rattle.arch_model.specs.Archives.{Archive, live};
 ghost use Rattle.arch_model.specs.Delivery.{applied};
-ghost use Rattle.arch_model.specs.Keeping.{Moves, Comes, AnswerCause};
+ghost use Rattle.arch_model.specs.Keeping.{Moves, Comes, AnswerCause, text_known};
+ghost use Rattle.arch_model.specs.Shelves.{ReadsOnce};
 ghost use Rattle.arch_model.specs.Standing.{Standing, standing};
 ghost use Rattle.arch_model.specs.declared.answer.Answer.{Answer};
 ghost use Rattle.epoch_store.specs.Promises.{MakesArchive, OpensArchive};
@@ -144,9 +145,9 @@ impl<D: Disk> Engine<D> {
         self.archive.next_number()
     }
 
-    /// Returns the number of messages.
+    /// Returns the number of live messages.
     pub fn message_count(&self) -> u32
-        ensures { (a : Archive) → Holds D.content self.now a → result ≡ length a.entries }
+        ensures { (a : Archive) → Holds D.content self.now a → result ≡ length (live a.entries) }
     {
         self.archive.live_count()
     }
@@ -178,7 +179,12 @@ impl<D: Disk> Engine<D> {
         // Each fault of the disk is told.
         ensures steady { result ≢ Answer.DiskFault
             → D.faults self.new.disk ≡ D.faults self.old.disk }
-        ensures reads { D.reads self.new.disk ≡ D.reads self.old.disk }
+        ensures reads { ReadsOnce (D.reads self.old.disk) (D.reads self.new.disk) }
+        // A delivery whose blob id no entry has reads nothing.
+        ensures unread { (a : Archive) (cache : List ℕ)
+            → IsStoreWith self.old.view cache a (D.content self.old.disk)
+            → text_known a command.now ≡ false
+            → D.reads self.new.disk ≡ D.reads self.old.disk }
     {
         law_of_recovery();
         // After the last sequence of 64 bits nothing is done. No archive takes so many commands.
