@@ -37,7 +37,7 @@ pub trait Keep: Shelf {
     ///
     /// Finds the archive before a command in doubt, or the one after it. A crash leaves no archive
     /// that a crash before could not have left. `DiskFault` if the disk failed, and the count of
-    /// faults rose. `NoMemory` if an allocation fails.
+    /// faults rose; any other result leaves the count. `NoMemory` if an allocation fails.
     fn fresh(&mut self) -> Result<(), OpenRefusal>
         ensures nothing { Self.ready self.old ≡ true
             → (is_ok result ≡ true) × (self.new ≡ self.old) }
@@ -54,11 +54,11 @@ pub trait Keep: Shelf {
     /// first.
     ///
     /// The answer is that of the definition, on the archive that is held or found, or `NoMemory` if
-    /// an allocation fails, or `DiskFault` if the disk failed and the count of faults rose. A refusal
-    /// to reopen leaves all as it was. After any other `DiskFault` the command is in doubt. A crash
-    /// leaves an archive of the standing before the call or of the one after it. A ready keeper reads
-    /// the disk at most once, and not at all if the command brings no text or one with a blob id that
-    /// no entry has.
+    /// an allocation fails, or `DiskFault` if the disk failed and the count of faults rose. Any other
+    /// answer leaves the count. A refusal to reopen leaves all as it was. After any other `DiskFault`
+    /// the command is in doubt. A crash leaves an archive of the standing before the call or of the
+    /// one after it. A ready keeper reads the disk at most once, and not at all if the command brings
+    /// no text or one with a blob id that no entry has.
     fn command(&mut self, command: &Command<'_>, moment: u64) -> Answer
         requires moment { moment ≤ last_moment }
         ensures done { (s : Standing) → Fits Self.holds Self.ready leaves self.old s
@@ -75,9 +75,9 @@ pub trait Keep: Shelf {
     /// Appends the bytes of an epoch, and returns whether the epoch has an entry. Reads the disk at
     /// most once.
     ///
-    /// `DiskFault` if the disk failed, and the count of faults rose. `NoMemory` if an allocation
-    /// fails. `Damaged` never comes while an archive is held. Each of them, and an epoch without an
-    /// entry, leave `into` unchanged.
+    /// `DiskFault` if the disk failed, and the count of faults rose; any other result leaves the
+    /// count. `NoMemory` if an allocation fails. `Damaged` never comes while an archive is held. Each
+    /// of them, and an epoch without an entry, leave `into` unchanged.
     fn epoch_bytes(&mut self, epoch: u32, into: &mut Bytes) -> Result<bool, TextRefusal>
         requires ready { Self.ready self.old ≡ true }
         ensures bytes { (a : Archive) → Self.holds self.old a

@@ -62,9 +62,10 @@ pub trait Shelf {
 
     /// Appends the text of a message. Reads the disk at most once.
     ///
-    /// `DiskFault` if the disk failed, and the count of faults rose. `NoMemory` if an allocation
-    /// fails. `Damaged` if the bytes that were read have another id than the message's blob, which
-    /// never happens while an archive is held. Each of them leaves `into` unchanged.
+    /// `DiskFault` if the disk failed, and the count of faults rose; any other result leaves the
+    /// count. `NoMemory` if an allocation fails. `Damaged` if the bytes that were read have another
+    /// id than the message's blob, which never happens while an archive is held. Each of them leaves
+    /// `into` unchanged.
     fn text(&mut self, n: u32, into: &mut Bytes) -> Result<(), TextRefusal>
         requires ready { ready self.old ≡ true }
         requires live { (a : Archive) → holds self.old a → is_some (text_of a.entries n) ≡ true }

@@ -94,8 +94,9 @@ impl Session {
     ///
     /// A delivery, a text or a list of epochs that runs out of memory writes `12 no memory`, and
     /// the archive is unchanged. If the disk fails at one, it writes `10 disk fault`, and the
-    /// keeper's count of faults rose. The session continues in both cases. After a fault, only
-    /// reopening the archive shows whether a delivery was carried out.
+    /// keeper's count of faults rose. It stays at each act that doesn't write so. The session
+    /// continues in both cases. After a fault, only reopening the archive shows whether a delivery
+    /// was carried out.
     pub fn feed<K: Keep, O: Sink>(
         &mut self,
         piece: &[u8],

@@ -1,5 +1,5 @@
 -- The laws of a door whose pieces may be cut anywhere.
-use Rattle.std.proofs.Common.{◌≡◌, ◌<◌, ◌≤◌, ◌⊎◌, ℕ, zero, suc, List, [], ◌∷◌, Option, Some, None, Bool, true, false, inl, inr, refl, sym, ap, subst, ◌∙◌, append_assoc, arith}
+use Rattle.std.proofs.Common.{◌≡◌, ◌<◌, ◌⊎◌, ℕ, zero, suc, List, [], ◌∷◌, Option, Some, None, Bool, true, false, inl, inr, refl, sym, ap, subst, ◌∙◌, append_assoc, arith}
 use Rattle.std.proofs.lemmas.Bool.{false≢true}
 use Rattle.edge_io.specs.Taken.{plus}
 use Rattle.line_door.specs.Acts.{Outside, outside, Said, Way, Plain, WayCause, SaidWhole, SaidLost, SaidShort, Sent, Acts, PlainActs}

@@ -1,5 +1,5 @@
 -- The answers to a connection do not depend on how its bytes are cut into pieces.
-use Rattle.std.specs.Prelude.{◌≡◌, ◌<◌, ◌≤◌, ◌⊎◌, ◌↔◌, ℕ, List, ◌++◌, Option, Some, None, Bool, true, false}
+use Rattle.std.specs.Prelude.{◌≡◌, ◌<◌, ◌⊎◌, ◌↔◌, ℕ, List, ◌++◌, Option, Some, None, Bool, true, false}
 use Rattle.line_door.specs.Acts.{Outside, Said, Way, Plain, SaidWhole, Acts, PlainActs}
 use Rattle.line_door.specs.Course.{Talk, talk, Requests, Fed, PlainFed}
 use Rattle.line_door.specs.Plain.{silent, then_say, plain}

@@ -1,4 +1,4 @@
-use Rattle.std.proofs.Common.{◌≡◌, ◌++◌, ◌∙◌, List, ℕ, drop, None, is_ok, true, not, refl, ap, arith}
+use Rattle.std.proofs.Common.{◌≡◌, ◌++◌, ◌∙◌, List, ℕ, drop, None, is_ok, true, not, refl, ap}
 use Rattle.arch_model.specs.Standing.{standing}
 use Rattle.control_door.specs.Requests.{Delivers}
 use Rattle.control_door.proofs.Answering.{answers-held, acts-refusing}
