@@ -4,6 +4,7 @@ use Rattle.std.specs.List.{Contains}
 use Rattle.std.proofs.Common.{◌∙◌, sym, ap, subst, inl, inr, arith}
 use Rattle.std.proofs.lemmas.Bool.{false≢true}
 use Rattle.arch_base.specs.Counts.{RoseIf}
+use Rattle.arch_base.specs.declared.ids.Id20.{Id20}
 use Rattle.disk_model.specs.Disk.{Files, Content, Image, Told, Unchanged, ReadsFit, LeavesOnly}
 use Rattle.disk_model.specs.Moments.{started}
 use Rattle.arch_model.specs.Archives.{Archive}
@@ -19,6 +20,7 @@ use Rattle.arch_model.specs.declared.text_refusal.TextRefusal.{TextRefusal}
 use Rattle.arch_model.specs.declared.text_refusal.TextRefusal.TheVariants as reading
 use Rattle.arch_model.proofs.Keepers.{has-own, moves-stale, moves-on, comes-by, unopened-comes, unopened-ready, unopened-cause}
 use Rattle.epoch_store.specs.Files.{as_read}
+use Rattle.epoch_store.specs.declared.entries.StoredEntry.{StoredEntry}
 use Rattle.epoch_store.specs.Laws.{CachesOne}
 use Rattle.epoch_store.specs.Leaving.{disk_recovers}
 use Rattle.epoch_store.specs.Opens.{RecoversOfWith, AllRecoverWith, ReadsWith, IsWant}
@@ -27,7 +29,7 @@ use Rattle.epoch_store.specs.Recovery.{RecoversWith, RecoversSomeWith}
 use Rattle.epoch_store.specs.Stores.{View, Keeps, IsStoreWith, RecoversEitherWith}
 use Rattle.archive_core.specs.Commands.{DoneBy, OnRefusal, UnlessFault, OnlyLooks}
 use Rattle.archive_core.specs.Engines.{Owning, needs_opening, Holds, is_ready, Leaves, ReadsOn, reading-same, store-left, now-left, reading-kept}
-use Rattle.archive_core.specs.Numbers.{TellsOther}
+use Rattle.archive_core.specs.Numbers.{GivesKept, GivesTextKept, GivesBlobKept, TellsOther}
 use Rattle.archive_core.proofs.Standing.{store_keeps}
 
 -- One of the archives that may be there is the archive, or the one in doubt.
@@ -348,6 +350,12 @@ module _ {D : Type 0} (content : D → Option Content) (moment : D → ℕ) (lef
 
     pub cause-from : {T : Type 0} (faults : D → ℕ) (disk : D) (r : Result T TextRefusal) → RoseIf (r ≡ Err reading.DiskFault) (faults inside.disk) (faults disk) → TellsOther r → ReadCause (faults old.disk) (faults disk) r
     cause-from faults disk r rose other = subst (λ (o : Owning D). ReadCause (faults o.disk) (faults disk) r) is (read-cause (faults inside.disk) (faults disk) r rose other)
+
+    pub ids-from : (meets : StoredEntry → Type 0) (had has : List ℕ) (r : Result Unit TextRefusal) → GivesKept meets inside.view (content inside.disk) had has r → GivesKept meets old.view (content old.disk) had has r
+    ids-from meets had has r kept = subst (λ (o : Owning D). GivesKept meets o.view (content o.disk) had has r) is kept
+
+    pub blob-ids-from : (id : Id20) (had has : List ℕ) (r : Result Bool TextRefusal) → GivesBlobKept inside.view (content inside.disk) id had has r → GivesBlobKept old.view (content old.disk) id had has r
+    blob-ids-from id had has r kept = subst (λ (o : Owning D). GivesBlobKept o.view (content o.disk) id had has r) is kept
 
     pub once-from : (reads : D → ℕ) (disk : D) → reads inside.disk ≤ reads disk → reads disk ≤ reads inside.disk + 1 → ReadsOnce (reads old.disk) (reads disk)
     once-from reads disk later most = subst (λ (o : Owning D). ReadsOnce (reads o.disk) (reads disk)) is (record { later = later; most = most })
