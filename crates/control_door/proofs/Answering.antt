@@ -7,10 +7,12 @@ use Rattle.edge_io.specs.Phrases.{Says}
 use Rattle.edge_io.specs.declared.sink.SinkFault.{SinkFault}
 use Rattle.line_door.proofs.Acting.{acts-by_held, acts-closing, acts-silent}
 use Rattle.arch_model.specs.Archives.{Archive, live, text_of}
-use Rattle.arch_model.specs.Delivery.{delivered, answer_line}
+use Rattle.arch_model.specs.Delivery.{applied, answer_line}
 use Rattle.arch_model.specs.Keeping.{Moves, OnlyRead, Comes, AnswerCause}
 use Rattle.arch_model.specs.Shelves.{IsUndamaged, ReadingWhy}
 use Rattle.arch_model.specs.Standing.{Standing, standing}
+use Rattle.arch_model.specs.declared.command.Command.{Command}
+use Rattle.arch_model.specs.declared.command.Command.TheVariants.{Deliver, Remove}
 use Rattle.arch_model.specs.declared.answer.Answer.{Answer}
 use Rattle.arch_model.specs.declared.text_refusal.TextRefusal.{TextRefusal}
 use Rattle.arch_model.specs.declared.text_refusal.TextRefusal.TheVariants as reading
@@ -19,8 +21,8 @@ use Rattle.keep_course.proofs.Commands.{commanded}
 use Rattle.answer_lines.specs.Lines.{whole_line, memory_word, disk_word, unread_words}
 use Rattle.control_door.specs.Requests as requests
 use Rattle.control_door.specs.Requests.{Request, Shows, Lists, Quits, Mistakes, Exceeds, Asked, ahead}
-use Rattle.control_door.specs.Door.{waiting, said_to, goes_on, refused_memory, refused_disk, epochs_words, shown, bad_word}
-use Rattle.control_door.specs.Sessions.{IsTurn, Answers, Opens, Turns}
+use Rattle.control_door.specs.Door.{waiting, said_to, goes_on, carries_out, doubts, answered, refused_memory, refused_disk, epochs_words, shown, bad_word}
+use Rattle.control_door.specs.Sessions.{request_for, IsTurn, Answers, Opens, Turns}
 use Rattle.control_door.specs.declared.session.Turn.{Turn}
 use Rattle.control_door.specs.declared.session.Turn.TheVariants.{Opened, Went, Closed}
 use Rattle.control_door.proofs.Holding.{turn-went, turn-opened}
@@ -80,11 +82,26 @@ pub acts-refusing : (moment : ℕ) (s : Standing) (message rest : List ℕ) (i j
 acts-refusing moment s message rest i j sent same words =
     acts-by_held (said_to moment s (requests.Delivers message) rest) Memory (goes_on rest memory_word s) i j (waiting rest false) s sent refl refl same (omega (arith, same)) words refl
 
+-- What is said to the request for a command.
+command-plain : (moment : ℕ) (s : Standing) (command : Command) (rest : List ℕ) → answered moment s (request_for command) rest ≡ carries_out (applied s.archive command moment) rest
+command-plain moment s (Deliver bytes) rest = refl
+command-plain moment s (Remove number) rest = refl
+
+command-memory : (moment : ℕ) (s : Standing) (command : Command) (rest : List ℕ) → refused_memory moment s (request_for command) rest ≡ goes_on rest memory_word s
+command-memory moment s (Deliver bytes) rest = refl
+command-memory moment s (Remove number) rest = refl
+
+command-disk : (moment : ℕ) (s : Standing) (command : Command) (rest : List ℕ) → refused_disk moment s (request_for command) rest ≡ doubts s (applied s.archive command moment) rest
+command-disk moment s (Deliver bytes) rest = refl
+command-disk moment s (Remove number) rest = refl
+
 -- A command was answered, and the line of the answer was said.
-pub acts-delivered : (moment : ℕ) (a : Archive) (message rest : List ℕ) (t : Standing) (reply : Answer) (i j : Outside) (sent : Result Unit SinkFault) → Comes true (standing a None) (λ (b : Archive). delivered b message moment) reply t → AnswerCause i.disk j.disk reply → i.disk ≤ j.disk
-    → Says (whole_line (answer_line reply)) i.out i.lost j.out j.lost sent → Acts (said_to moment (standing a None) (requests.Delivers message) rest) i (held_if (is_ok sent) (waiting rest false)) t j
-acts-delivered moment a message rest t reply i j sent comes cause later said =
-    commanded (said_to moment (standing a None) (requests.Delivers message) rest) (waiting rest false) (λ (r : Answer). whole_line (answer_line r)) a (λ (b : Archive). delivered b message moment) refl refl refl reply t i j sent comes cause later said
+pub acts-commanded : (moment : ℕ) (a : Archive) (command : Command) (rest : List ℕ) (t : Standing) (reply : Answer) (i j : Outside) (sent : Result Unit SinkFault) → Comes true (standing a None) (λ (b : Archive). applied b command moment) reply t → AnswerCause i.disk j.disk reply → i.disk ≤ j.disk
+    → Says (whole_line (answer_line reply)) i.out i.lost j.out j.lost sent → Acts (said_to moment (standing a None) (request_for command) rest) i (held_if (is_ok sent) (waiting rest false)) t j
+acts-commanded moment a command rest t reply i j sent comes cause later said =
+    let s : Standing = standing a None in
+    commanded (said_to moment s (request_for command) rest) (waiting rest false) (λ (r : Answer). whole_line (answer_line r)) a (λ (b : Archive). applied b command moment) (command-plain moment s command rest) (command-memory moment s command rest) (command-disk moment s command rest) reply t i j sent
+    comes cause later said
 
 module _ {K : Type 0} (holds : K → Archive → Type 0) (ready : K → Bool) (leaves : K → K → List (Option Archive) → Type 0) where
   -- A request was answered.

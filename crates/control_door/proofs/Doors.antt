@@ -8,7 +8,7 @@ use Rattle.line_door.proofs.Acting.{acts-words}
 use Rattle.line_door.proofs.Cutting.{calls, door_laws}
 use Rattle.arch_model.specs.Archives.{Archive}
 use Rattle.arch_model.specs.Standing.{Standing, standing}
-use Rattle.control_door.specs.Requests.{Request, Delivers, Shows, Lists, Quits, Mistakes, Exceeds, Ahead, Asked, Unfinished, ahead, is_asked}
+use Rattle.control_door.specs.Requests.{Request, Delivers, Shows, Removes, Lists, Quits, Mistakes, Exceeds, Ahead, Asked, Unfinished, ahead, is_asked}
 use Rattle.control_door.specs.Door.{Waiting, waiting, said, said_at, said_to, said_opening, answered, refused_memory, refused_disk, unkept, has_request, with_piece, left}
 use Rattle.control_door.specs.Laws.{ControlLaws, OpeningIsSilent, OpeningJoins, TwoCalls, SaysTheSame, bytes_of}
 use Rattle.control_door.proofs.Aheads.{Goes, Same, Over, Open, ahead-goes, ahead-shorter, unfinished}
@@ -21,6 +21,7 @@ goes_request q a b (Open next) h = absurd (cc h)
 answered_after : (moment : ℕ) (s : Standing) (q rest : List ℕ) (request : Request) → answered moment s request (rest ++ q) ≡ said_with (with_piece q) (answered moment s request rest)
 answered_after moment s q rest (Delivers message) = refl
 answered_after moment s q rest (Shows number) = refl
+answered_after moment s q rest (Removes number) = refl
 answered_after moment s q rest Lists = refl
 answered_after moment s q rest Quits = refl
 answered_after moment s q rest Mistakes = refl
@@ -29,6 +30,7 @@ answered_after moment s q rest Exceeds = refl
 memory_after : (moment : ℕ) (s : Standing) (q rest : List ℕ) (request : Request) → refused_memory moment s request (rest ++ q) ≡ said_with (with_piece q) (refused_memory moment s request rest)
 memory_after moment s q rest (Delivers message) = refl
 memory_after moment s q rest (Shows number) = refl
+memory_after moment s q rest (Removes number) = refl
 memory_after moment s q rest Lists = refl
 memory_after moment s q rest Quits = refl
 memory_after moment s q rest Mistakes = refl
@@ -37,6 +39,7 @@ memory_after moment s q rest Exceeds = refl
 disk_after : (moment : ℕ) (s : Standing) (q rest : List ℕ) (request : Request) → refused_disk moment s request (rest ++ q) ≡ said_with (with_piece q) (refused_disk moment s request rest)
 disk_after moment s q rest (Delivers message) = refl
 disk_after moment s q rest (Shows number) = refl
+disk_after moment s q rest (Removes number) = refl
 disk_after moment s q rest Lists = refl
 disk_after moment s q rest Quits = refl
 disk_after moment s q rest Mistakes = refl
@@ -84,6 +87,7 @@ kept moment s w Newer x h = rw h (inr refl)
 left_open : (moment : ℕ) (s : Standing) (request : Request) (rest : List ℕ) (k : Waiting) → (answered moment s request rest).next ≡ Some k → (waiting rest false ≡ k) × (request ≡ Exceeds → ⊥)
 left_open moment s (Delivers message) rest k h = (cc, λ e. cc)
 left_open moment s (Shows number) rest k h = (cc, λ e. cc)
+left_open moment s (Removes number) rest k h = (cc, λ e. cc)
 left_open moment s Lists rest k h = (cc, λ e. cc)
 left_open moment s Quits rest k h = absurd (cc h)
 left_open moment s Mistakes rest k h = (cc, λ e. cc)

@@ -7,11 +7,11 @@ use Rattle.line_door.specs.Plain.{silent}
 use Rattle.disk_model.specs.Sizes.{epoch_count}
 use Rattle.arch_model.specs.Archives.{Entry, live, text_of, in_epoch}
 use Rattle.arch_model.specs.Epochs.{epoch_bytes}
-use Rattle.arch_model.specs.Delivery.{Done, delivered, answer_line}
+use Rattle.arch_model.specs.Delivery.{Done, delivered, removed, answer_line}
 use Rattle.arch_model.specs.Standing.{Standing, standing}
 use Rattle.answer_lines.specs.Lines.{whole_line, memory_word, disk_word, unopened_words}
 use Rattle.keep_course.specs.Answering.{said_reopening}
-use Rattle.control_door.specs.Requests.{Request, Delivers, Shows, Lists, Quits, Mistakes, Exceeds, Ahead, Asked, Unfinished, ahead, is_request}
+use Rattle.control_door.specs.Requests.{Request, Delivers, Shows, Removes, Lists, Quits, Mistakes, Exceeds, Ahead, Asked, Unfinished, ahead, is_request}
 
 -- The word for a line that is not an order, or that is too long.
 abbrev pub bad_word : List ℕ
@@ -60,37 +60,44 @@ Says = Said Waiting Standing
 abbrev pub goes_on : List ℕ → List ℕ → Standing → Says
 goes_on rest words s = says s (waiting rest false) words
 
--- The line of a delivery's answer, and its archive.
-abbrev pub delivers : Done → List ℕ → Says
-delivers done rest = goes_on rest (whole_line (answer_line done.answer)) (standing done.archive None)
+-- The line of a command's answer, and its archive.
+abbrev pub carries_out : Done → List ℕ → Says
+carries_out done rest =
+    goes_on rest (whole_line (answer_line done.answer)) (standing done.archive None)
+
+-- The disk's word, and the archive that the command would have left is in doubt.
+abbrev pub doubts : Standing → Done → List ℕ → Says
+doubts s done rest = goes_on rest disk_word (standing s.archive (Some done.archive))
 
 -- The answer to a request at a moment, by the rules.
 abbrev pub answered : ℕ → Standing → Request → List ℕ → Says
-answered moment s (Delivers message) rest = delivers (delivered s.archive message moment) rest
+answered moment s (Delivers message) rest = carries_out (delivered s.archive message moment) rest
 answered moment s (Shows number) rest =
     goes_on rest (shown number (text_of (live s.archive.entries) number)) s
+answered moment s (Removes number) rest = carries_out (removed s.archive number moment) rest
 answered moment s Lists rest = goes_on rest (epochs_words s.archive.entries) s
 answered moment s Quits rest = closes s []
 answered moment s Mistakes rest = goes_on rest bad_word s
 answered moment s Exceeds rest = closes s bad_word
 
--- The answer to a request that runs out of memory. A delivery leaves the archive unchanged, and a
+-- The answer to a request that runs out of memory. A command leaves the archive unchanged, and a
 -- text or a list of epochs is said whole or not at all. Other requests need no memory.
 abbrev pub refused_memory : ℕ → Standing → Request → List ℕ → Says
 refused_memory moment s (Delivers message) rest = goes_on rest memory_word s
 refused_memory moment s (Shows number) rest = goes_on rest memory_word s
+refused_memory moment s (Removes number) rest = goes_on rest memory_word s
 refused_memory moment s Lists rest = goes_on rest memory_word s
 refused_memory moment s Quits rest = answered moment s Quits rest
 refused_memory moment s Mistakes rest = answered moment s Mistakes rest
 refused_memory moment s Exceeds rest = answered moment s Exceeds rest
 
--- The answer to a request at which the disk fails. It is then in doubt whether a delivery was
+-- The answer to a request at which the disk fails. It is then in doubt whether a command was
 -- carried out. A text or a list of epochs is said whole or not at all. Other requests don't use the
 -- disk.
 abbrev pub refused_disk : ℕ → Standing → Request → List ℕ → Says
-refused_disk moment s (Delivers message) rest =
-    goes_on rest disk_word (standing s.archive (Some (delivered s.archive message moment).archive))
+refused_disk moment s (Delivers message) rest = doubts s (delivered s.archive message moment) rest
 refused_disk moment s (Shows number) rest = goes_on rest disk_word s
+refused_disk moment s (Removes number) rest = doubts s (removed s.archive number moment) rest
 refused_disk moment s Lists rest = goes_on rest disk_word s
 refused_disk moment s Quits rest = answered moment s Quits rest
 refused_disk moment s Mistakes rest = answered moment s Mistakes rest

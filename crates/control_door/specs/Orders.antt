@@ -3,7 +3,7 @@ use Rattle.std.specs.Prelude.{ℕ, Bool, ◌&&◌, nat_le, List, length, take, d
 use Rattle.std.specs.Str.{str_eq_ignore_ascii_case}
 use Rattle.arch_base.specs.Decimals.{decimal_of}
 use Rattle.control_door.specs.declared.order.Order.{Order}
-use Rattle.control_door.specs.declared.order.Order.TheVariants.{Deliver, TooMuch, Show, Epochs, Quit, Bad}
+use Rattle.control_door.specs.declared.order.Order.TheVariants.{Deliver, TooMuch, Show, Remove, Epochs, Quit, Bad}
 
 -- The line starts with this word, in any case.
 abbrev pub begins_with : List ℕ → List ℕ → Bool
@@ -14,16 +14,29 @@ abbrev pub deliver_order : Option ℕ → Order
 deliver_order None = Bad
 deliver_order (Some size) = if nat_le size 9000000 then Deliver size else TooMuch
 
--- `show N`: the number is in 1 to 2,147,483,647.
+-- The number of a message, in 1 to 2,147,483,647.
+abbrev pub number_in : Option ℕ → Option ℕ
+number_in None = None
+number_in (Some n) = if nat_le 1 n && nat_le n 2147483647 then Some n else None
+
+-- `show N`.
 abbrev pub show_order : Option ℕ → Order
 show_order None = Bad
-show_order (Some number) = if nat_le 1 number && nat_le number 2147483647 then Show number else Bad
+show_order (Some number) = Show number
 
--- The order of a line without its line end: `deliver SIZE`, `show N`, `epochs`, `quit`, or unknown.
+-- `remove N`.
+abbrev pub remove_order : Option ℕ → Order
+remove_order None = Bad
+remove_order (Some number) = Remove number
+
+-- The order of a line without its line end: `deliver SIZE`, `show N`, `remove N`, `epochs`, `quit`,
+-- or unknown.
 abbrev pub order_of : List ℕ → Order
 order_of line =
     if begins_with (codes "deliver ") line then deliver_order (decimal_of (drop 8 line))
-    else if begins_with (codes "show ") line then show_order (decimal_of (drop 5 line))
+    else if begins_with (codes "show ") line then show_order (number_in (decimal_of (drop 5 line)))
+    else if begins_with (codes "remove ") line
+    then remove_order (number_in (decimal_of (drop 7 line)))
     else if str_eq_ignore_ascii_case line (codes "epochs") then Epochs
     else if str_eq_ignore_ascii_case line (codes "quit") then Quit
     else Bad

@@ -8,10 +8,12 @@ use Rattle.keep_course.specs.Courses.{CourseLeft}
 use Rattle.arch_model.specs.Archives.{Archive}
 use Rattle.arch_model.specs.Keeping.{Fits, Moves}
 use Rattle.arch_model.specs.Standing.{Standing, standing}
+use Rattle.arch_model.specs.declared.command.Command.{Command}
+use Rattle.arch_model.specs.declared.command.Command.TheVariants.{Deliver, Remove}
 use Rattle.control_door.specs.Orders.{order_of}
-use Rattle.control_door.specs.Requests.{Request, Delivers, Shows, Lists, Quits, Mistakes, Exceeds, Asked, ahead, line_limit, is_request}
+use Rattle.control_door.specs.Requests.{Request, Delivers, Shows, Removes, Lists, Quits, Mistakes, Exceeds, Asked, ahead, line_limit, is_request}
 use Rattle.control_door.specs.Door.{waiting, said, said_to, said_opening, has_request}
-use Rattle.control_door.specs.declared.order.Order.TheVariants.{Deliver}
+use Rattle.control_door.specs.declared.order.Order.TheVariants as order
 use Rattle.control_door.specs.declared.front.Payload.{Payload}
 use Rattle.control_door.specs.declared.front.Requested.{Requested}
 use Rattle.control_door.specs.declared.front.Requested.TheVariants as requested
@@ -26,7 +28,7 @@ pub record IsPayload (bytes : List ℕ) (start end : ℕ) : Type 0 where
   pub rest : List ℕ
   pub size : ℕ
   pub front : line.front line_limit bytes ≡ line.Whole text rest
-  pub order : order_of (line.content text) ≡ Deliver size
+  pub order : order_of (line.content text) ≡ order.Deliver size
   pub starts : start ≡ length text + 1
   pub ends : end ≡ start + size
   pub missing : length bytes < end
@@ -36,11 +38,17 @@ abbrev pub IsHeld : List ℕ → Option Payload → Type 0
 IsHeld bytes None = line.front line_limit bytes ≡ line.Partial
 IsHeld bytes (Some payload) = IsPayload bytes payload.start payload.end
 
+-- The request for a command.
+abbrev pub request_for : Command → Request
+request_for (Deliver bytes) = Delivers bytes.now
+request_for (Remove number) = Removes number
+
 -- The request that was found, given what is held.
 abbrev pub request_of : List ℕ → Requested → Request
 request_of held (requested.Message message) = Delivers message.now
 request_of held (requested.Joined start last) = Delivers (drop start (held ++ last.now))
 request_of held (requested.Text number) = Shows number
+request_of held (requested.Removal number) = Removes number
 request_of held requested.Epochs = Lists
 request_of held requested.Quit = Quits
 request_of held requested.Mistake = Mistakes
@@ -51,6 +59,7 @@ abbrev pub StartsWithin : List ℕ → Requested → Type 0
 StartsWithin held (requested.Message message) = Unit {0}
 StartsWithin held (requested.Joined start last) = start ≤ length held
 StartsWithin held (requested.Text number) = Unit {0}
+StartsWithin held (requested.Removal number) = Unit {0}
 StartsWithin held requested.Epochs = Unit {0}
 StartsWithin held requested.Quit = Unit {0}
 StartsWithin held requested.Mistake = Unit {0}

@@ -8,7 +8,7 @@ ghost use Rattle.arch_model.specs.Shelves.{Stays};
 ghost use Rattle.arch_model.specs.Standing.{standing};
 ghost use Rattle.control_door.specs.Door.{waiting, said_to};
 ghost use Rattle.control_door.specs.Requests.{Delivers, Shows, Lists};
-ghost use Rattle.control_door.specs.Sessions.{request_of, StartsWithin, Answers, Opens};
+ghost use Rattle.control_door.specs.Sessions.{request_of, request_for, StartsWithin, Answers, Opens};
 
 use crate::epochs::epochs_of;
 use crate::front::Requested;
@@ -63,11 +63,16 @@ pub(crate) fn say_requested<K: Keep, O: Sink>(
     ensures sink { O.alike out.old out.new }
 {
     match request {
-        Requested::Message(message) => Next::after(say_delivered(message, moment, keep, out)),
+        Requested::Message(message) => {
+            Next::after(say_commanded(&Command::Deliver(message), moment, keep, out))
+        }
         Requested::Joined(start, last) => {
             Next::after(say_joined(held, start, last, moment, keep, out))
         }
         Requested::Text(number) => Next::after(say_message(alloc, number, keep, out)),
+        Requested::Removal(number) => {
+            Next::after(say_commanded(&Command::Remove(number), moment, keep, out))
+        }
         Requested::Epochs => Next::after(say_epochs(alloc, keep, out)),
         Requested::Quit => Next::Close,
         Requested::Mistake => Next::after(say_bad(out)),
@@ -78,23 +83,23 @@ pub(crate) fn say_requested<K: Keep, O: Sink>(
     }
 }
 
-/// Delivers a message and writes the answer.
-fn say_delivered<K: Keep, O: Sink>(
-    message: &[u8],
+/// Carries out a command and writes the answer.
+fn say_commanded<K: Keep, O: Sink>(
+    command: &Command<'_>,
     moment: u64,
     keep: &mut K,
     out: &mut O,
 ) -> Result<(), SinkFault>
     requires ready { K.ready keep.old ≡ true }
     requires moment { moment ≤ last_moment }
-    ensures acts { Answers K.holds K.ready K.leaves moment (Delivers message.now) keep.old
+    ensures acts { Answers K.holds K.ready K.leaves moment (request_for command.now) keep.old
         (outside (O.taken out.old) (K.faults keep.old) (O.faults out.old))
         (is_ok result) keep.new
         (outside (O.taken out.new) (K.faults keep.new) (O.faults out.new)) }
     ensures later { K.faults keep.old ≤ K.faults keep.new }
     ensures sink { O.alike out.old out.new }
 {
-    let answer = keep.command(&Command::Deliver(message), moment);
+    let answer = keep.command(command, moment);
     say_answer(answer, out)
 }
 
@@ -124,7 +129,8 @@ fn say_joined<K: Keep, O: Sink>(
     if held.push_slice(last).is_err() {
         return say_memory(out);
     }
-    say_delivered(held.as_slice().split_at(start).1, moment, keep, out)
+    let message = held.as_slice().split_at(start).1;
+    say_commanded(&Command::Deliver(message), moment, keep, out)
 }
 
 /// Writes the text of a number, or why there is none to write.

@@ -16,6 +16,8 @@ pub(crate) enum Requested<'a> {
     Joined(usize, &'a [u8]),
     /// Shows the text of this number.
     Text(u32),
+    /// Removes the message with this number.
+    Removal(u32),
     /// Lists the epochs.
     Epochs,
     /// Ends the connection.

@@ -1,4 +1,4 @@
-//! The control door: a connection that delivers messages, shows messages and lists epochs.
+//! The control door: a connection that delivers, shows and removes messages and lists epochs.
 #![tactic(auto)]
 
 mod answers;

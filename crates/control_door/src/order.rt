@@ -1,6 +1,6 @@
 //! Reads the lines of the control door.
 ghost use Rattle.std.specs.Prelude.{◌≡◌, ◌≤◌, true, length};
-ghost use Rattle.control_door.specs.Orders.{order_of, begins_with as begins, deliver_order as deliver_order_of, show_order as show_order_of};
+ghost use Rattle.control_door.specs.Orders.{order_of, begins_with as begins, deliver_order as deliver_order_of, number_in as number_of, show_order as show_order_of, remove_order as remove_order_of};
 
 use arch_base::read_decimal;
 
@@ -13,6 +13,8 @@ pub enum Order {
     TooMuch,
     /// Shows the text of this number: 1 to 2,147,483,647.
     Show(u32),
+    /// Removes the message with this number: 1 to 2,147,483,647.
+    Remove(u32),
     /// Lists the epochs.
     Epochs,
     /// Ends the connection.
@@ -29,15 +31,17 @@ const NUMBER_LIMIT: u64 = 2_147_483_647;
 
 /// Reads the order of a line, which has no line end.
 ///
-/// The orders are `deliver SIZE`, `show N`, `epochs` and `quit`. Words are read in any case. A
-/// single space comes before SIZE and N, which are decimals without leading zeros.
+/// The orders are `deliver SIZE`, `show N`, `remove N`, `epochs` and `quit`. Words are read in any
+/// case. A single space comes before SIZE and N, which are decimals without leading zeros.
 pub fn read_order(line: &[u8]) -> Order
     ensures { result ≡ order_of line.now }
 {
     if begins_with(b"deliver ", line) {
         deliver_order(read_decimal(&line[8..]))
     } else if begins_with(b"show ", line) {
-        show_order(read_decimal(&line[5..]))
+        show_order(number_in(read_decimal(&line[5..])))
+    } else if begins_with(b"remove ", line) {
+        remove_order(number_in(read_decimal(&line[7..])))
     } else if line.eq_ignore_ascii_case(b"epochs") {
         Order::Epochs
     } else if line.eq_ignore_ascii_case(b"quit") {
@@ -71,18 +75,38 @@ fn deliver_order(size: Option<u64>) -> Order
     }
 }
 
-/// Returns the order of `show` with this decimal, or `Bad` without one.
-fn show_order(number: Option<u64>) -> Order
+/// Returns the number of a message that a decimal gives, if it is in 1 to 2,147,483,647.
+fn number_in(decimal: Option<u64>) -> Option<u32>
+    ensures { result ≡ number_of decimal }
+{
+    match decimal {
+        None => None,
+        Some(number) => {
+            if number >= 1 && number <= NUMBER_LIMIT {
+                Some(number as u32)
+            } else {
+                None
+            }
+        }
+    }
+}
+
+/// Returns the order of `show` with this number, or `Bad` without one.
+fn show_order(number: Option<u32>) -> Order
     ensures { result ≡ show_order_of number }
 {
     match number {
         None => Order::Bad,
-        Some(number) => {
-            if number >= 1 && number <= NUMBER_LIMIT {
-                Order::Show(number as u32)
-            } else {
-                Order::Bad
-            }
-        }
+        Some(number) => Order::Show(number),
+    }
+}
+
+/// Returns the order of `remove` with this number, or `Bad` without one.
+fn remove_order(number: Option<u32>) -> Order
+    ensures { result ≡ remove_order_of number }
+{
+    match number {
+        None => Order::Bad,
+        Some(number) => Order::Remove(number),
     }
 }

@@ -20,13 +20,22 @@ pub struct Connection {
 impl Connection {
     /// Opens a connection to an archive without messages.
     pub fn new(alloc: Global) -> Option<Self> {
-        let archive = archive(alloc)?;
-        Some(Connection {
+        Some(Connection::to(alloc, archive(alloc)?))
+    }
+
+    /// Opens a connection to a mirror without messages.
+    pub fn to_mirror(alloc: Global) -> Option<Self> {
+        Some(Connection::to(alloc, archive_of(alloc, true)?))
+    }
+
+    /// Opens a connection to an archive.
+    fn to(alloc: Global, archive: MemArchive) -> Self {
+        Connection {
             session: Session::open(alloc),
             archive,
             out: MemSink::new(alloc, Numbers::new(alloc)),
             next: Next::Go,
-        })
+        }
     }
 
     /// Opens a connection and feeds it a stream that is cut in two at an offset.
@@ -54,8 +63,8 @@ impl Connection {
     }
 }
 
-/// Returns the settings of an archive of this name.
-fn config(name: Name) -> Config
+/// Returns the settings of an archive of this name, which is a mirror or not.
+fn config(name: Name, mirror: bool) -> Config
     ensures { IsConfig result }
 {
     Config {
@@ -63,13 +72,18 @@ fn config(name: Name) -> Config
         limit: 1_073_741_824,
         slice: 50_000,
         max: 2_147_483_647,
-        mirror: false,
+        mirror,
         born: 1,
     }
 }
 
 /// Creates an archive without messages of the name `list`.
 pub fn archive(alloc: Global) -> Option<MemArchive> {
+    archive_of(alloc, false)
+}
+
+/// Creates an archive without messages of the name `list`, which is a mirror or not.
+fn archive_of(alloc: Global, mirror: bool) -> Option<MemArchive> {
     let name = Name::read(b"list")?;
-    Some(MemArchive::new(alloc, config(name)))
+    Some(MemArchive::new(alloc, config(name, mirror)))
 }

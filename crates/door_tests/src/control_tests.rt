@@ -151,7 +151,7 @@ const LINES: [Stream; 32] = [
         next: Next::Go,
     },
     Stream {
-        bytes: b"remove 1\nthread 1\n",
+        bytes: b"reindex\nthread 1\n",
         answers: b"13 bad line\n13 bad line\n",
         next: Next::Go,
     },
@@ -276,6 +276,55 @@ const DELIVERIES: [Stream; 19] = [
     },
 ];
 
+/// Removals.
+const REMOVALS: [Stream; 9] = [
+    Stream {
+        bytes: b"remove 1",
+        answers: b"",
+        next: Next::Go,
+    },
+    Stream {
+        bytes: b"remove 1\r\nRemove 2147483647\n",
+        answers: b"7 not live 1\n7 not live 2147483647\n",
+        next: Next::Go,
+    },
+    Stream {
+        bytes: b"remove 0\nremove x\nremove\nremove 01\n",
+        answers: b"13 bad line\n13 bad line\n13 bad line\n13 bad line\n",
+        next: Next::Go,
+    },
+    Stream {
+        bytes: b"remove \nremove  1\n remove 1\nremove 1 \nremove 2147483648\nremover 1\n",
+        answers: b"13 bad line\n13 bad line\n13 bad line\n13 bad line\n13 bad line\n13 bad line\n",
+        next: Next::Go,
+    },
+    Stream {
+        bytes: b"deliver 18\nMessage-ID: <a@x>\nremove 1\nremove 1\nshow 1\n",
+        answers: b"1 ok 1 df7a16e6b23ee491f39d84e89298f10b0d4ae4e0\n1 ok 1 df7a16e6b23ee491f39d84e89298f10b0d4ae4e0\n7 not live 1\n7 not live 1\n",
+        next: Next::Go,
+    },
+    Stream {
+        bytes: b"deliver 18\nMessage-ID: <a@x>\nremove 2\nshow 1\n",
+        answers: b"1 ok 1 df7a16e6b23ee491f39d84e89298f10b0d4ae4e0\n7 not live 2\ntext 19\nMessage-ID: <a@x>\n\n",
+        next: Next::Go,
+    },
+    Stream {
+        bytes: b"deliver 18\nMessage-ID: <a@x>\nremove 1\ndeliver 18\nMessage-ID: <a@x>\nremove 1\nshow 2\n",
+        answers: b"1 ok 1 df7a16e6b23ee491f39d84e89298f10b0d4ae4e0\n1 ok 1 df7a16e6b23ee491f39d84e89298f10b0d4ae4e0\n1 ok 2 df7a16e6b23ee491f39d84e89298f10b0d4ae4e0\n7 not live 1\ntext 19\nMessage-ID: <a@x>\n\n",
+        next: Next::Go,
+    },
+    Stream {
+        bytes: b"deliver 18\nMessage-ID: <a@x>\ndeliver 18\nmessage-id: <c@x>\nREMOVE 1\nshow 2\nshow 1\ndeliver 18\nmessage-id: <c@x>\n",
+        answers: b"1 ok 1 df7a16e6b23ee491f39d84e89298f10b0d4ae4e0\n1 ok 2 f4cd56120b7a68a2a06bec4088ccc24910532e06\n1 ok 1 df7a16e6b23ee491f39d84e89298f10b0d4ae4e0\ntext 19\nmessage-id: <c@x>\n\n7 not live 1\n2 duplicate 2\n",
+        next: Next::Go,
+    },
+    Stream {
+        bytes: b"deliver 18\nMessage-ID: <a@x>\nremove 1\nquit\nremove 1\n",
+        answers: b"1 ok 1 df7a16e6b23ee491f39d84e89298f10b0d4ae4e0\n1 ok 1 df7a16e6b23ee491f39d84e89298f10b0d4ae4e0\n",
+        next: Next::Close,
+    },
+];
+
 /// Returns whether a stream cut in two at an offset is answered as its row says.
 fn is_answered_cut(alloc: Global, stream: &Stream, at: usize) -> bool {
     match Connection::cut_at(alloc, stream.bytes, at) {
@@ -321,8 +370,32 @@ fn deliveries_are_answered_however_cut(rt: HostRuntime) {
     }
 }
 
+#[test]
+fn removals_are_answered_however_cut(rt: HostRuntime) {
+    for stream in &REMOVALS {
+        assert!(rt; is_answered(rt.alloc(), stream), "{:?}", stream.bytes);
+    }
+}
+
+/// Returns whether a mirror refuses commands and answers other lines.
+fn mirror_is_answered(alloc: Global) -> bool {
+    let Some(mut connection) = Connection::to_mirror(alloc) else {
+        return false;
+    };
+    connection.hear(b"deliver 18\nMessage-ID: <a@x>\nremove 1\nremove 0\nshow 1\nepochs\n");
+    connection.was_answered(
+        b"9 is mirror\n9 is mirror\n13 bad line\n7 not live 1\nend\n",
+        Next::Go,
+    )
+}
+
+#[test]
+fn a_mirror_takes_no_command(rt: HostRuntime) {
+    assert!(rt; mirror_is_answered(rt.alloc()));
+}
+
 /// Lines without their line end, and their orders.
-const ORDERS: [(&[u8], Order); 10] = [
+const ORDERS: [(&[u8], Order); 14] = [
     (b"deliver 0", Order::Deliver(0)),
     (b"dELIVER 9000000", Order::Deliver(9_000_000)),
     (b"deliver 9000001", Order::TooMuch),
@@ -330,6 +403,10 @@ const ORDERS: [(&[u8], Order); 10] = [
     (b"show 1", Order::Show(1)),
     (b"sHOW 2147483647", Order::Show(2_147_483_647)),
     (b"show 0", Order::Bad),
+    (b"remove 1", Order::Remove(1)),
+    (b"REMOVE 2147483647", Order::Remove(2_147_483_647)),
+    (b"remove 2147483648", Order::Bad),
+    (b"remove", Order::Bad),
     (b"Epochs", Order::Epochs),
     (b"Quit", Order::Quit),
     (b"quit\r", Order::Bad),

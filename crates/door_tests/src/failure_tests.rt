@@ -19,7 +19,7 @@ struct Stream {
 }
 
 /// Streams to disks that fail.
-const STREAMS: [Stream; 12] = [
+const STREAMS: [Stream; 16] = [
     Stream {
         bytes: b"deliver 18\nMessage-ID: <a@x>\nshow 1\n",
         failing: Failing::Command(false),
@@ -91,6 +91,30 @@ const STREAMS: [Stream; 12] = [
         failing: Failing::Epoch,
         answers: b"10 disk fault\n7 not live 1\n",
         next: Next::Go,
+    },
+    Stream {
+        bytes: b"remove 1\nshow 1\n",
+        failing: Failing::Command(false),
+        answers: b"10 disk fault\n7 not live 1\n",
+        next: Next::Go,
+    },
+    Stream {
+        bytes: b"deliver 18\nMessage-ID: <a@x>\nremove 1\nshow 1\n",
+        failing: Failing::Command(true),
+        answers: b"10 disk fault\n10 disk fault\n7 not live 1\n",
+        next: Next::Go,
+    },
+    Stream {
+        bytes: b"remove 1\nremove 1\nshow 1\n",
+        failing: Failing::Opening,
+        answers: b"10 disk fault\n10 disk fault\n",
+        next: Next::Close,
+    },
+    Stream {
+        bytes: b"remove 1\nremove 1\n",
+        failing: Failing::OpeningWithoutMemory,
+        answers: b"10 disk fault\n12 no memory\n",
+        next: Next::Close,
     },
 ];
 

@@ -14,4 +14,4 @@ returns-clause-acts g c =
     let ok : is_ok c.push_slice.result ≡ true = c.is_err.ensures.negation ∙ ap not c.if-is_err.false in
     let kept : c.push_slice.new.self ≡ c.args.held.now ++ c.args.last.now = rw ok at c.push_slice.ensures in
     let message : c.split_at.result.1.now ≡ drop c.args.start (c.args.held.now ++ c.args.last.now) = c.split_at.ensures.back ∙ ap (λ (h : List ℕ). drop c.args.start h) (c.as_slice.ensures ∙ kept) in
-    rw message at c.say_delivered.ensures.acts
+    rw message at c.say_commanded.ensures.acts

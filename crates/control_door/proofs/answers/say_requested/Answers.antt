@@ -5,7 +5,7 @@ use Rattle.control_door.proofs.Answering.{answers-read, answers-held, acts-quitt
 use Rattle.control_door.proofs.answers.say_requested.Goals as goal
 
 pub returns-in-Message-clause-acts : goal.returns-in-Message-clause-acts
-returns-in-Message-clause-acts g c = rw (c.in-Message.is, c.after.ensures) c.say_delivered.ensures.acts
+returns-in-Message-clause-acts g c = rw (c.in-Message.is, c.after.ensures) c.say_commanded.ensures.acts
 
 pub returns-in-Joined-clause-acts : goal.returns-in-Joined-clause-acts
 returns-in-Joined-clause-acts g c = rw (c.in-Joined.is, c.after-in-Joined.ensures) c.say_joined.ensures.acts
@@ -13,6 +13,9 @@ returns-in-Joined-clause-acts g c = rw (c.in-Joined.is, c.after-in-Joined.ensure
 pub returns-in-Text-clause-acts : goal.returns-in-Text-clause-acts
 returns-in-Text-clause-acts g c = rw (c.in-Text.is, c.after-in-Text.ensures)
     (answers-read g.K.Shelf.holds g.K.Shelf.ready g.K.Keep.leaves g.met.K.Keep.holds_left c.args.moment (Shows c.in-Text.number) c.args.keep.now _ _ _ _ (g.met.K.Keep.alike_kept _ _ c.say_message.ensures.shelf.same) (c.say_message.ensures.acts c.args.moment))
+
+pub returns-in-Removal-clause-acts : goal.returns-in-Removal-clause-acts
+returns-in-Removal-clause-acts g c = rw (c.in-Removal.is, c.after-in-Removal.ensures) c.say_commanded-in-Removal.ensures.acts
 
 pub returns-in-Epochs-clause-acts : goal.returns-in-Epochs-clause-acts
 returns-in-Epochs-clause-acts g c = rw (c.in-Epochs.is, c.after-in-Epochs.ensures)
