@@ -57,11 +57,11 @@ TellsOther (Err (reading.Damaged named found)) = found ≢ named
 TellsOther (Err reading.NoMemory) = Unit {0}
 
 -- If bytes with another id were found, this id is the one that is named.
-abbrev pub Names : {T : Type 0} → Id20 → Result T TextRefusal → Type 0
-Names id (Ok given) = Unit {0}
-Names id (Err reading.DiskFault) = Unit {0}
-Names id (Err (reading.Damaged named found)) = named ≡ id
-Names id (Err reading.NoMemory) = Unit {0}
+abbrev pub NamesBlob : {T : Type 0} → Id20 → Result T TextRefusal → Type 0
+NamesBlob id (Ok given) = Unit {0}
+NamesBlob id (Err reading.DiskFault) = Unit {0}
+NamesBlob id (Err (reading.Damaged named found)) = named ≡ id
+NamesBlob id (Err reading.NoMemory) = Unit {0}
 
 -- The results of reading the text of a kept entry that meets a condition: a text of its size and
 -- blob id; or its blob id and the other one that was found. Where the disk tells its content, what was

@@ -14,7 +14,7 @@ ghost use Rattle.epoch_store.specs.Stores.{IsStoreWith, RecoversEitherWith};
 ghost use Rattle.archive_core.specs.Commands.{DoneBy, IsForCommand};
 ghost use Rattle.archive_core.specs.Engines.{Holds, Leaves, ReadsOn, is_ready, needs_opening as needs_opening_after, reading-same, reading-joined, store-left, now-left, reading-kept};
 ghost use Rattle.archive_core.specs.HandedBack.{disk_made, made_or_why, disk_opened, opened_or_why};
-ghost use Rattle.archive_core.specs.Numbers.{GivesTextKept, GivesBlobKept, Names};
+ghost use Rattle.archive_core.specs.Numbers.{GivesTextKept, GivesBlobKept, NamesBlob};
 ghost use Rattle.archive_core.specs.Openings.{RefusesKindly};
 
 use crate::archive::DiskArchive;
@@ -263,7 +263,7 @@ impl<D: Disk> Shelf for Engine<D> {
         ensures cause { ReadCause (D.faults self.old.disk) (D.faults self.new.disk) result }
         ensures reads { ReadsOnce (D.reads self.old.disk) (D.reads self.new.disk) }
         // Beyond any shelf: a damaged text is told by this id, and by that of the bytes there.
-        ensures named { Names id.now result }
+        ensures named { NamesBlob id.now result }
         ensures ids { GivesBlobKept self.old.view (D.content self.old.disk) id.now into.old into.new
             result }
     {

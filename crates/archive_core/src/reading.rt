@@ -8,7 +8,7 @@ ghost use Rattle.arch_model.specs.Standing.{IsLeastLive, GivesTextIn, GivesEpoch
 ghost use Rattle.arch_model.specs.declared.text_refusal.TextRefusal.{TextRefusal};
 ghost use Rattle.epoch_store.specs.Reads.{AnswersQuietly};
 ghost use Rattle.epoch_store.specs.Stores.{IsStoreWith, Keeps};
-ghost use Rattle.archive_core.specs.Numbers.{has_number, IsKnownLive, NumbersRise, IsNumberAt, IsCountBelow, IsCountUpTo, HasBlobAt, IsBlobIndex, GivesTextKept, GivesBlobKept, Names, TellsOther};
+ghost use Rattle.archive_core.specs.Numbers.{has_number, IsKnownLive, NumbersRise, IsNumberAt, IsCountBelow, IsCountUpTo, HasBlobAt, IsBlobIndex, GivesTextKept, GivesBlobKept, NamesBlob, TellsOther};
 ghost use Rattle.epoch_store.specs.declared.entries.StoredEntry.{StoredEntry};
 
 use crate::archive::DiskArchive;
@@ -122,7 +122,7 @@ impl DiskArchive {
             → IsStoreWith self.now cache a (D.content disk.old)
             → GivesBlobIn a.entries id.now.0 into.old into.new result }
         ensures read { GivesBlobKept self.now (D.content disk.old) id.now into.old into.new result }
-        ensures named { Names id.now result }
+        ensures named { NamesBlob id.now result }
         ensures other { TellsOther result }
         ensures kept { KeepsUnlessFound into.old into.new result }
         ensures appends { AppendsTo into.old into.new }
