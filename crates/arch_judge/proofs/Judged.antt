@@ -1,5 +1,5 @@
 -- The verdict on a delivery is that of the definition, and a text that is taken may be kept.
-use Rattle.std.specs.Prelude.{◌≡◌, ◌<◌, ◌≤◌, ℕ, Bool, true, false, not, nat_lt, List, Some, None, Result, Ok, refl, if◌then◌else◌}
+use Rattle.std.specs.Prelude.{◌≡◌, ◌<◌, ◌≤◌, ℕ, Bool, true, false, not, nat_lt, List, Some, None, is_some, Result, Ok, refl, if◌then◌else◌}
 use Rattle.std.proofs.Common.{◌∙◌, sym, ap, subst, arith}
 use Rattle.std.specs.Str.{bytes_eq}
 use Rattle.std.proofs.lemmas.Bool.Decides.{nat_tests}
@@ -11,6 +11,7 @@ use Rattle.mail_reader.specs.declared.storing.StoredRefusal.{StoredRefusal}
 use Rattle.arch_model.specs.Archives.{Archive, with_entry, blob_number}
 use Rattle.arch_model.specs.Shelves.{blob_text}
 use Rattle.arch_model.specs.Candidates.{choice_of}
+use Rattle.arch_model.specs.Keeping.{keeps_known, form_known}
 use Rattle.arch_model.specs.Delivery.{delivered, delivered_form, delivered_choice, delivered_kept, delivered_new, refused, new_epoch}
 use Rattle.arch_judge.specs.Judging.{IsKnownBy, Compares, unless_same, MayCome, MayBeKept, MayTake, TakesThis}
 use Rattle.arch_judge.specs.declared.judging.Verdict.{Verdict}
@@ -40,6 +41,7 @@ module _ (a : Archive) (config : Config) (index : Index) (count next : ℕ) (kno
           let first : blob_number a.entries blob.0 ≡ Some n = sym (known.indexed.blobs blob.0) ∙ sym given in
           record {
             first = first;
+            known = ap (form_known a) is ∙ ap (keeps_known a.entries) takes ∙ ap is_some (ap (λ (i : Id20). blob_number a.entries i.0) (sym blob_is) ∙ first);
             decides = λ agree kept kept_is moment.
                 chosen form (Take text) is (sym takes) moment
                 ∙ ap (delivered_kept a text moment)

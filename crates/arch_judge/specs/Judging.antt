@@ -1,5 +1,5 @@
 -- What the delivery of a message does, before anything is kept.
-use Rattle.std.specs.Prelude.{◌≡◌, ◌≤◌, ℕ, false, List, length, Option, Some, None, Ok, if◌then◌else◌}
+use Rattle.std.specs.Prelude.{◌≡◌, ◌≤◌, ℕ, true, false, List, length, Option, Some, None, Ok, if◌then◌else◌}
 use Rattle.std.specs.Str.{bytes_eq}
 use Rattle.arch_base.specs.declared.config.Config.{Config}
 use Rattle.arch_base.specs.declared.ids.Id20.{Id20}
@@ -9,6 +9,7 @@ use Rattle.mail_reader.specs.Ids.{own_id}
 use Rattle.git_objects.specs.Objects.{blob_id_of}
 use Rattle.arch_model.specs.Archives.{Archive, live, blob_number, with_entry}
 use Rattle.arch_model.specs.Delivery.{delivered, delivered_kept, refused, new_epoch}
+use Rattle.arch_model.specs.Keeping.{form_known}
 use Rattle.arch_model.specs.Shelves.{blob_text}
 use Rattle.arch_model.specs.Validity.{BlobsAgree}
 use Rattle.arch_judge.specs.Indexes.{IsIndex, owner_in, number_in}
@@ -54,10 +55,11 @@ RefusesBy a bytes (answer.Damaged file offset) = ⊥
 abbrev pub unless_same : List ℕ → List ℕ → ℕ → Option ℕ
 unless_same text kept number = if bytes_eq text kept then None else Some number
 
--- A number is that of the first entry with a blob id, and the text of that entry decides the
--- delivery.
+-- A number is that of the first entry with a blob id, which is that of the text that the delivery would
+-- keep, and the text of that entry decides the delivery.
 pub record Compares (a : Archive) (bytes text : List ℕ) (blob : Id20) (number : ℕ) : Type 0 where
   pub first : blob_number a.entries blob.0 ≡ Some number
+  pub known : form_known a (stored bytes) ≡ true
   pub decides : BlobsAgree a.entries → (kept : List ℕ) → blob_text a.entries blob.0 ≡ Some kept
       → (moment : ℕ)
       → delivered a bytes moment ≡ delivered_kept a text moment (unless_same text kept number)

@@ -1,5 +1,5 @@
 -- What `init`, `deliver` and `check` do, by the calls below them.
-use Rattle.std.specs.Prelude.{◌≡◌, ◌≢◌, ◌<◌, ◌≤◌, ℕ, zero, suc, true, List, [], length, Option, Some, None, Result, Ok, Err, refl}
+use Rattle.std.specs.Prelude.{◌≡◌, ◌≢◌, ◌<◌, ◌≤◌, ℕ, zero, suc, Bool, true, false, nat_lt, if◌then◌else◌, List, [], length, Option, Some, None, Result, Ok, Err, refl}
 use Rattle.std.proofs.Common.{◌∙◌, sym, ap, subst, inl, inr, arith}
 use Rattle.arch_base.specs.Counts.{Rose, RoseIf}
 use Rattle.arch_base.specs.declared.config.Config.{Config}
@@ -11,8 +11,15 @@ use Rattle.root_slots.specs.Each.{IfThere}
 use Rattle.root_slots.specs.Spelling.{spelling}
 use Rattle.root_slots.specs.declared.root.Root.{Root}
 use Rattle.std.specs.List.{Contains}
-use Rattle.arch_model.specs.Archives.{Archive, empty_archive}
-use Rattle.arch_model.specs.Delivery.{Done}
+use Rattle.arch_model.specs.Archives.{Archive, empty_archive, with_entry, live as live_entries}
+use Rattle.git_objects.specs.Objects.{blob_id_of}
+use Rattle.mail_reader.specs.Stored.{stored}
+use Rattle.mail_reader.specs.declared.storing.StoredRefusal.{StoredRefusal}
+use Rattle.mail_reader.specs.declared.storing.StoredRefusal.TheVariants as storing
+use Rattle.arch_model.specs.Candidates.{choice_of}
+use Rattle.arch_model.specs.declared.choice.Choice.{Choice}
+use Rattle.arch_model.specs.declared.choice.Choice.TheVariants as choice
+use Rattle.arch_model.specs.Delivery.{Done, delivered, delivered_form, delivered_choice, delivered_kept, refused, new_epoch, collision}
 use Rattle.arch_model.specs.Keeping.{Settles, Comes, Obeys, Doubts, AnswerCause}
 use Rattle.arch_model.specs.Standing.{Standing, standing, one_of, IsFound}
 use Rattle.arch_model.specs.declared.answer.Answer.{Answer}
@@ -31,7 +38,7 @@ use Rattle.epoch_store.specs.Stores.{View, IsStoreOf, IsStoreWith, IsDiskOf, Rec
 use Rattle.archive_core.specs.Commands.{DoneBy}
 use Rattle.archive_core.specs.Engines.{Owning}
 use Rattle.archive_core.specs.Openings.{LeavesKindly}
-use Rattle.archive_core.proofs.Counting.{stored_length}
+use Rattle.archive_core.proofs.Stored.{stored-length}
 use Rattle.archive_core.proofs.Engines.{all_recover, reads_one, stands_for}
 use Rattle.archive_cli.specs.DiskCommands.{Makes, unmade, IsFault, IsOpenedAs, Answers, DeliversTo, ChecksTo, StandsAs, StaysUnopened, DeliversOn, DeliveryLeaves, DeliveryLeavesAmong}
 use Rattle.archive_cli.specs.declared.outcome.Outcome.{Outcome}
@@ -135,30 +142,56 @@ unopened-checks a refusal.DiskFault old new reads want kind = tt
 unopened-checks a refusal.NoMemory old new reads want kind = kind a [] reads
 
 -- The counts of a store are those of its archive.
-pub opened-checks : (v : View) (a : Archive) (content : Option Content) (entries live next : ℕ) → IsStoreOf v a content → entries ≡ length v.entries → live ≡ length a.entries → next ≡ v.root.next → ChecksTo a (Checked entries live next) content
+pub opened-checks : (v : View) (a : Archive) (content : Option Content) (entries live next : ℕ) → IsStoreOf v a content → entries ≡ length v.entries → live ≡ length (live_entries a.entries) → next ≡ v.root.next → ChecksTo a (Checked entries live next) content
 opened-checks v a None entries live next store count lives following = absurd store
 opened-checks v a (Some k) entries live next store count lives following =
-    (count ∙ (ap (λ (es : List StoredEntry). length es) store.keeps.kept ∙ stored_length [] a.entries), lives, following ∙ store.keeps.names.next, (v, store))
+    (count ∙ (ap (λ (es : List StoredEntry). length es) store.keeps.kept ∙ stored-length [] a.entries), lives, following ∙ store.keeps.names.next, (v, store))
 
 -- They are those of what was opened.
 pub opened-as : (v : View) (content : Option Content) (entries live next : ℕ) → WhereTold (λ (k : Content). Opens (as_read k) (Ok v)) content → entries ≡ length v.entries → next ≡ v.root.next → WhereTold (λ (k : Content). IsOpenedAs (as_read k) (Checked entries live next)) content
 opened-as v None entries live next answer count following = tt
 opened-as v (Some k) entries live next answer count following = (v, answer, count, following)
 
+-- A delivery is never answered that a number isn't live.
+new_lives : (t : Bool) (a : Archive) (text : List ℕ) (moment n : ℕ) → (if t then refused a (answer.Full a.config.max) else record { archive = with_entry a (new_epoch a) text moment; answer = answer.Ok a.next (blob_id_of text) }).answer ≡ answer.NotLive n → ⊥
+new_lives true a text moment n is = cc
+new_lives false a text moment n is = cc
+
+kept_lives : (a : Archive) (text : List ℕ) (moment n : ℕ) (found : Option ℕ) → (delivered_kept a text moment found).answer ≡ answer.NotLive n → ⊥
+kept_lives a text moment n (Some number) is = cc
+kept_lives a text moment n None is = new_lives (nat_lt a.config.max a.next) a text moment n is
+
+choice_lives : (a : Archive) (moment n : ℕ) (taken : Choice) → (delivered_choice a moment taken).answer ≡ answer.NotLive n → ⊥
+choice_lives a moment n (choice.Repeat number) is = cc
+choice_lives a moment n (choice.Take text) is = kept_lives a text moment n (collision a.entries text) is
+
+form_lives : (a : Archive) (moment n : ℕ) (form : Result (List ℕ) StoredRefusal) → (delivered_form a moment form).answer ≡ answer.NotLive n → ⊥
+form_lives a moment n (Ok text) is = choice_lives a moment n (choice_of a text) is
+form_lives a moment n (Err storing.NoFields) is = cc
+form_lives a moment n (Err (storing.TooLarge len)) is = cc
+form_lives a moment n (Err storing.NoMemory) is = cc
+
+mirror_lives : (t : Bool) (a : Archive) (bytes : List ℕ) (moment n : ℕ) → (if t then refused a answer.IsMirror else delivered_form a moment (stored bytes)).answer ≡ answer.NotLive n → ⊥
+mirror_lives true a bytes moment n is = cc
+mirror_lives false a bytes moment n is = form_lives a moment n (stored bytes) is
+
+pub delivery-lives : (a : Archive) (bytes : List ℕ) (moment n : ℕ) → (delivered a bytes moment).answer ≡ answer.NotLive n → ⊥
+delivery-lives a bytes moment n is = mirror_lives a.config.mirror a bytes moment n is
+
 -- The answer of an open archive is the answer on the disk.
-pub done-answers : (v : View) (a : Archive) (wanted : Done) (reply : Answer) (content : Option Content) → DoneBy v [] a wanted reply content → Answers a wanted reply content
-done-answers v a wanted answer.NoMemory content done = (v, done)
-done-answers v a wanted answer.DiskFault content done = tt
-done-answers v a wanted (answer.Ok number id) content done = record { answer_is = done.answer_is; own = (v, done.store) }
-done-answers v a wanted (answer.Duplicate number) content done = record { answer_is = done.answer_is; own = (v, done.store) }
-done-answers v a wanted answer.NoFields content done = record { answer_is = done.answer_is; own = (v, done.store) }
-done-answers v a wanted (answer.TooLarge len) content done = record { answer_is = done.answer_is; own = (v, done.store) }
-done-answers v a wanted (answer.Full max) content done = record { answer_is = done.answer_is; own = (v, done.store) }
-done-answers v a wanted (answer.Collision number) content done = record { answer_is = done.answer_is; own = (v, done.store) }
-done-answers v a wanted answer.IsMirror content done = record { answer_is = done.answer_is; own = (v, done.store) }
-done-answers v a wanted (answer.NotLive number) content done = absurd done
-done-answers v a wanted (answer.NoText number) content done = absurd done
-done-answers v a wanted (answer.Damaged file at) content done = absurd done
+pub done-answers : (v : View) (a : Archive) (wanted : Done) (reply : Answer) (content : Option Content) → ((n : ℕ) → wanted.answer ≡ answer.NotLive n → ⊥) → DoneBy v [] a wanted reply content → Answers a wanted reply content
+done-answers v a wanted answer.NoMemory content living done = (v, done)
+done-answers v a wanted answer.DiskFault content living done = tt
+done-answers v a wanted (answer.Ok number id) content living done = record { answer_is = done.answer_is; own = (v, done.store) }
+done-answers v a wanted (answer.Duplicate number) content living done = record { answer_is = done.answer_is; own = (v, done.store) }
+done-answers v a wanted answer.NoFields content living done = record { answer_is = done.answer_is; own = (v, done.store) }
+done-answers v a wanted (answer.TooLarge len) content living done = record { answer_is = done.answer_is; own = (v, done.store) }
+done-answers v a wanted (answer.Full max) content living done = record { answer_is = done.answer_is; own = (v, done.store) }
+done-answers v a wanted (answer.Collision number) content living done = record { answer_is = done.answer_is; own = (v, done.store) }
+done-answers v a wanted answer.IsMirror content living done = record { answer_is = done.answer_is; own = (v, done.store) }
+done-answers v a wanted (answer.NotLive number) content living done = absurd (living number done.answer_is)
+done-answers v a wanted (answer.NoText number) content living done = absurd done
+done-answers v a wanted (answer.Damaged file at) content living done = absurd done
 
 -- A disk that stands so leaves nothing else at first.
 pub image-all : (may : List (Option Archive)) (k : Option Content) (image : Files) → AllRecoverOf may k → Image k image → RecoversOf may image
@@ -235,8 +268,8 @@ module _ {D : Type 0} (content : D → Option Content) (moment : D → ℕ) (lef
     module _ (new : Owning D) (wanted : Archive → Done) (reply : Answer)
         (taken : (a : Archive) (cache : List ℕ) → IsStoreWith e.view cache a (content e.disk) → DoneBy new.view cache a (wanted a) reply (content new.disk))
         (left : (a : Archive) (cache : List ℕ) → IsStoreWith e.view cache a (content e.disk) → LeavesOnly moment left_since e.disk new.disk (RecoversEitherWith cache a (wanted a).archive)) where
-      pub delivered-answers : (a : Archive) → ReadsAs a (content old) → Answers a (wanted a) reply (content new.disk)
-      delivered-answers a reads = done-answers new.view a (wanted a) reply (content new.disk) (taken a [] (done a [] reads))
+      pub delivered-answers : ((a : Archive) (n : ℕ) → (wanted a).answer ≡ answer.NotLive n → ⊥) → (a : Archive) → ReadsAs a (content old) → Answers a (wanted a) reply (content new.disk)
+      delivered-answers living a reads = done-answers new.view a (wanted a) reply (content new.disk) (living a) (taken a [] (done a [] reads))
 
       pub delivered-leaves : (s : Standing) → StandsAs s (content old) → DeliveryLeaves content moment left_since old new.disk s wanted
       delivered-leaves s all =
@@ -296,7 +329,7 @@ module _ {D : Type 0} (content : D → Option Content) (moment : D → ℕ) (lef
         stands-by (answer.Full max) is d = stands-done (answer.Full max) is d.answer_is d.store (λ t obeys. obeys)
         stands-by (answer.Collision number) is d = stands-done (answer.Collision number) is d.answer_is d.store (λ t obeys. obeys)
         stands-by answer.IsMirror is d = stands-done answer.IsMirror is d.answer_is d.store (λ t obeys. obeys)
-        stands-by (answer.NotLive number) is never = absurd never
+        stands-by (answer.NotLive number) is d = stands-done (answer.NotLive number) is d.answer_is d.store (λ t obeys. obeys)
         stands-by (answer.NoText number) is never = absurd never
         stands-by (answer.Damaged file at) is never = absurd never
 

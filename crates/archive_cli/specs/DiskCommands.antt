@@ -5,7 +5,7 @@ use Rattle.arch_base.specs.declared.config.Config.{Config}
 use Rattle.disk_model.specs.Disk.{Files, Content, Told, WhereTold, LeavesOnly}
 use Rattle.root_slots.specs.RootName.{root_name}
 use Rattle.root_slots.specs.Slots.{IsShutFile}
-use Rattle.arch_model.specs.Archives.{Archive, empty_archive}
+use Rattle.arch_model.specs.Archives.{Archive, empty_archive, live as live_entries}
 use Rattle.arch_model.specs.Delivery.{Done, delivered}
 use Rattle.arch_model.specs.Keeping.{Settles, Comes}
 use Rattle.arch_model.specs.Standing.{Standing, standing, one_of, IsFound}
@@ -88,10 +88,10 @@ DeliversTo a bytes moment (Made name) new = ⊥
 DeliversTo a bytes moment Exists new = ⊥
 DeliversTo a bytes moment (Checked entries live next) new = ⊥
 
--- How `check` ends on the disk of an archive, each of whose entries is a message.
+-- How `check` ends on the disk of an archive.
 abbrev pub ChecksTo : Archive → Outcome → Option Content → Type 0
 ChecksTo a (Checked entries live next) new = (entries ≡ length a.entries)
-    × (live ≡ length a.entries) × (next ≡ a.next) × IsOwn a new
+    × (live ≡ length (live_entries a.entries)) × (next ≡ a.next) × IsOwn a new
 ChecksTo a (Unopened refusal.DiskFault) new = Unit {0}
 ChecksTo a (Unopened refusal.NoMemory) new = ReadsAs a new
 ChecksTo a (Unopened refusal.NoArchive) new = ⊥

@@ -4,6 +4,7 @@ use Rattle.std.specs.List.{Contains}
 use Rattle.std.proofs.Common.{◌∙◌, sym, ap, subst, inl, inr, arith}
 use Rattle.std.proofs.lemmas.Bool.{false≢true}
 use Rattle.arch_base.specs.Counts.{RoseIf}
+use Rattle.arch_base.specs.declared.ids.Id20.{Id20}
 use Rattle.disk_model.specs.Disk.{Files, Content, Image, Told, Unchanged, ReadsFit, LeavesOnly}
 use Rattle.disk_model.specs.Moments.{started}
 use Rattle.arch_model.specs.Archives.{Archive}
@@ -19,15 +20,16 @@ use Rattle.arch_model.specs.declared.text_refusal.TextRefusal.{TextRefusal}
 use Rattle.arch_model.specs.declared.text_refusal.TextRefusal.TheVariants as reading
 use Rattle.arch_model.proofs.Keepers.{has-own, moves-stale, moves-on, comes-by, unopened-comes, unopened-ready, unopened-cause}
 use Rattle.epoch_store.specs.Files.{as_read}
+use Rattle.epoch_store.specs.declared.entries.StoredEntry.{StoredEntry}
 use Rattle.epoch_store.specs.Laws.{CachesOne}
 use Rattle.epoch_store.specs.Leaving.{disk_recovers}
 use Rattle.epoch_store.specs.Opens.{RecoversOfWith, AllRecoverWith, ReadsWith, IsWant}
 use Rattle.epoch_store.specs.Reads.{AnswersQuietly}
 use Rattle.epoch_store.specs.Recovery.{RecoversWith, RecoversSomeWith}
 use Rattle.epoch_store.specs.Stores.{View, Keeps, IsStoreWith, RecoversEitherWith}
-use Rattle.archive_core.specs.Commands.{DoneBy, OnRefusal, UnlessFault}
+use Rattle.archive_core.specs.Commands.{DoneBy, OnRefusal, UnlessFault, OnlyLooks}
 use Rattle.archive_core.specs.Engines.{Owning, needs_opening, Holds, is_ready, Leaves, ReadsOn, reading-same, store-left, now-left, reading-kept}
-use Rattle.archive_core.specs.Numbers.{TellsOther}
+use Rattle.archive_core.specs.Numbers.{GivesKept, GivesTextKept, GivesBlobKept, TellsOther}
 use Rattle.archive_core.proofs.Standing.{store_keeps}
 
 -- One of the archives that may be there is the archive, or the one in doubt.
@@ -127,10 +129,6 @@ ready-after was now Refuses ready = ready
 ready-after was now Starves ready = λ at_hand. ready refl
 ready-after was now Fails ready = ready
 ready-after was now Breaks ready = ready
-
--- A call that doesn't read reads at most once.
-pub reads-none : (before now : ℕ) → now ≡ before → ReadsOnce before now
-reads-none before now same = record { later = omega (arith, same); most = omega (arith, same) }
 
 module _ {D : Type 0} (content : D → Option Content) (moment : D → ℕ) (left_since : D → ℕ → Files → Type 0)
     (counts_now : (disk : D) (t : ℕ) (image : Files) → t ≤ moment disk → Image (content disk) image → left_since disk t image)
@@ -241,11 +239,18 @@ module _ {D : Type 0} (content : D → Option Content) (moment : D → ℕ) (lef
     }
 
     -- Memory ran out before anything was done.
-    taken-none : new.disk ≡ e.disk → IsStoreWith new.view cache a (content new.disk) → Going e (standing a None) new (standing a None)
-    taken-none same own = record {
+    taken-none : OnlyLooks content moment left_since e.disk new.disk → IsStoreWith new.view cache a (content new.disk) → Going e (standing a None) new (standing a None)
+    taken-none looks own = record {
       fits = record { settled = λ ready. ((cache, own), refl); left = λ may has. store-left content moment left_since counts_now only_now new a may (cache, own) has.archive };
-      passes = λ start may has left.
-          subst (λ (d : D). (moment start.disk ≤ moment d) × (c : List ℕ) × ((image : Files) → left_since d (moment start.disk) image → RecoversOfWith c may image)) (sym same) left;
+      passes = λ start may has left. (
+        omega (arith, left.0, looks.any_moment.later),
+        left.1,
+        λ image since. elim (looks.any_moment.before (moment start.disk) image left.0 since) [
+          | inl past
+              ↦ left.2 image past
+          | inr now ↦ left.2 image (counts_now e.disk (moment start.disk) image left.0 now)
+        ],
+      );
     }
 
     -- The disk failed.
@@ -258,7 +263,7 @@ module _ {D : Type 0} (content : D → Option Content) (moment : D → ℕ) (lef
       passes = λ start may has left. taken-passes start may has.1.0.archive has.1.0.doubt left;
     }
 
-    pub taken-at : (reply : Answer) → new.stale ≡ needs_opening reply → DoneBy new.view cache a (wanted a) reply (content new.disk) → OnRefusal reply (UnlessFault reply (new.disk ≡ e.disk)) → (t : Standing) × Going e (standing a None) new t × Comes true (standing a None) wanted reply t
+    pub taken-at : (reply : Answer) → new.stale ≡ needs_opening reply → DoneBy new.view cache a (wanted a) reply (content new.disk) → OnRefusal reply (UnlessFault reply (OnlyLooks content moment left_since e.disk new.disk)) → (t : Standing) × Going e (standing a None) new t × Comes true (standing a None) wanted reply t
     taken-at answer.NoMemory stale done untouched = (standing a None, taken-none untouched done, inr (record { found = inl refl; sure = refl }))
     taken-at answer.DiskFault stale done untouched = (standing a (Some (wanted a).archive), taken-failed (ap not stale), inr (record { found = a; is_found = inl refl; stands = refl }))
     taken-at (answer.Ok number id) stale done untouched =
@@ -273,7 +278,8 @@ module _ {D : Type 0} (content : D → Option Content) (moment : D → ℕ) (lef
     taken-at (answer.Collision number) stale done untouched =
         (standing (wanted a).archive None, taken-done (answer.Collision number) done.answer_is done.store, record { found = a; is_found = inl refl; answer_is = done.answer_is; stands = refl })
     taken-at answer.IsMirror stale done untouched = (standing (wanted a).archive None, taken-done answer.IsMirror done.answer_is done.store, record { found = a; is_found = inl refl; answer_is = done.answer_is; stands = refl })
-    taken-at (answer.NotLive number) stale never untouched = absurd never
+    taken-at (answer.NotLive number) stale done untouched =
+        (standing (wanted a).archive None, taken-done (answer.NotLive number) done.answer_is done.store, record { found = a; is_found = inl refl; answer_is = done.answer_is; stands = refl })
     taken-at (answer.NoText number) stale never untouched = absurd never
     taken-at (answer.Damaged file at) stale never untouched = absurd never
 
@@ -345,6 +351,12 @@ module _ {D : Type 0} (content : D → Option Content) (moment : D → ℕ) (lef
     pub cause-from : {T : Type 0} (faults : D → ℕ) (disk : D) (r : Result T TextRefusal) → RoseIf (r ≡ Err reading.DiskFault) (faults inside.disk) (faults disk) → TellsOther r → ReadCause (faults old.disk) (faults disk) r
     cause-from faults disk r rose other = subst (λ (o : Owning D). ReadCause (faults o.disk) (faults disk) r) is (read-cause (faults inside.disk) (faults disk) r rose other)
 
+    pub ids-from : (meets : StoredEntry → Type 0) (had has : List ℕ) (r : Result Unit TextRefusal) → GivesKept meets inside.view (content inside.disk) had has r → GivesKept meets old.view (content old.disk) had has r
+    ids-from meets had has r kept = subst (λ (o : Owning D). GivesKept meets o.view (content o.disk) had has r) is kept
+
+    pub blob-ids-from : (id : Id20) (had has : List ℕ) (r : Result Bool TextRefusal) → GivesBlobKept inside.view (content inside.disk) id had has r → GivesBlobKept old.view (content old.disk) id had has r
+    blob-ids-from id had has r kept = subst (λ (o : Owning D). GivesBlobKept o.view (content o.disk) id had has r) is kept
+
     pub once-from : (reads : D → ℕ) (disk : D) → reads inside.disk ≤ reads disk → reads disk ≤ reads inside.disk + 1 → ReadsOnce (reads old.disk) (reads disk)
     once-from reads disk later most = subst (λ (o : Owning D). ReadsOnce (reads o.disk) (reads disk)) is (record { later = later; most = most })
 
@@ -370,7 +382,7 @@ module _ {D : Type 0} (content : D → Option Content) (moment : D → ℕ) (lef
     passes-from new run = subst (λ (o : Owning D). (s : Standing) → Stands o s → Passes (Leaves moment left_since) o new []) is (reopening-passes inside new run)
 
     pub taken-from : CachesOne → (new : Owning D) (wanted : Archive → Done) (reply : Answer) → new.stale ≡ needs_opening reply → ((a : Archive) (cache : List ℕ) → IsStoreWith inside.view cache a (content inside.disk) → LeavesOnly moment left_since inside.disk new.disk (RecoversEitherWith cache a (wanted a).archive))
-        → ((a : Archive) (cache : List ℕ) → IsStoreWith inside.view cache a (content inside.disk) → DoneBy new.view cache a (wanted a) reply (content new.disk)) → OnRefusal reply (UnlessFault reply (new.disk ≡ inside.disk)) → (a : Archive) → Holds content old a → (t : Standing) × Going old (standing a None) new t × Comes true (standing a None) wanted reply t
+        → ((a : Archive) (cache : List ℕ) → IsStoreWith inside.view cache a (content inside.disk) → DoneBy new.view cache a (wanted a) reply (content new.disk)) → OnRefusal reply (UnlessFault reply (OnlyLooks content moment left_since inside.disk new.disk)) → (a : Archive) → Holds content old a → (t : Standing) × Going old (standing a None) new t × Comes true (standing a None) wanted reply t
     taken-from caches new wanted reply stale run done untouched =
         subst (λ (o : Owning D). (a : Archive) → Holds content o a → (t : Standing) × Going o (standing a None) new t × Comes true (standing a None) wanted reply t) is
         (λ a held. taken-at caches inside new a held.0 held.1 wanted (run a held.0 held.1) reply stale (done a held.0 held.1) untouched)

@@ -6,7 +6,9 @@ ghost use Rattle.disk_model.specs.Disk.{WhereTold, LeavesOnly};
 ghost use Rattle.disk_model.specs.Synced.{IsSettled};
 ghost use Rattle.arch_model.specs.Archives.{Archive, with_entry, live, text_of};
 ghost use Rattle.arch_model.specs.Delivery.{applied, delivered, removed, collision, new_epoch};
+ghost use Rattle.arch_model.specs.Keeping.{form_known, text_known};
 ghost use Rattle.arch_model.specs.Shelves.{ReadsOnce};
+ghost use Rattle.mail_reader.specs.Stored.{stored};
 ghost use Rattle.archive_core.specs.Numbers.{IsLiveAt};
 ghost use Rattle.epoch_file.specs.declared.refusal.StoreRefusal.{StoreRefusal};
 ghost use Rattle.archive_core.specs.Kept.{MayGoIn, TakesWhatMay};
@@ -136,6 +138,10 @@ impl DiskArchive {
         requires sizes { WhereTold (HasSizes self.old) (D.content disk.old) }
         ensures taken { TakesCommand D.content D.moment D.left_since D.faults D.reads disk.old
             disk.new self.old self.new (λ a. applied a command.now moment) result }
+        // A delivery whose blob id no entry has reads nothing.
+        ensures unread { (a : Archive) (cache : List ℕ)
+            → IsStoreWith self.old cache a (D.content disk.old) → text_known a command.now ≡ false
+            → D.reads disk.new ≡ D.reads disk.old }
     {
         match command {
             Command::Deliver(bytes) => self.deliver(disk, bytes, moment),
@@ -165,6 +171,9 @@ impl DiskArchive {
         ensures cause { RoseIf (result ≡ Answer.DiskFault) (D.faults disk.old) (D.faults disk.new) }
         ensures never_damaged { IsForCommand result }
         ensures count { ReadsOnce (D.reads disk.old) (D.reads disk.new) }
+        ensures unread { (a : Archive) (cache : List ℕ)
+            → IsStoreWith self.old cache a (D.content disk.old) → form_known a (stored bytes.now) ≡ false
+            → D.reads disk.new ≡ D.reads disk.old }
     {
         law_of_stores();
         match self.verdict(disk, bytes) {
@@ -190,6 +199,9 @@ impl DiskArchive {
         ensures looks { OnlyLooks D.content D.moment D.left_since disk.old disk.new }
         ensures cause { RoseIf (IsFaultRead result) (D.faults disk.old) (D.faults disk.new) }
         ensures count { ReadsOnce (D.reads disk.old) (D.reads disk.new) }
+        ensures unread { (a : Archive) (cache : List ℕ)
+            → IsStoreWith self.now cache a (D.content disk.old) → form_known a (stored bytes.now) ≡ false
+            → D.reads disk.new ≡ D.reads disk.old }
     {
         let count = self.store.stored().len();
         let next = self.store.next_number();

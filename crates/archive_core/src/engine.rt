@@ -1,18 +1,20 @@
 //! An archive that owns its disk.
-ghost use Rattle.std.specs.Prelude.{◌≡◌, ◌≢◌, ◌≤◌, true, false, IfOk, List, None, length, ℕ};
+ghost use Rattle.std.specs.Prelude.{◌≡◌, ◌≢◌, ◌≤◌, true, false, IfOk, IfErr, OnErr, Err, List, None, is_some, length, ℕ};
 ghost use Rattle.arch_base.specs.Configs.{IsConfig};
 ghost use Rattle.arch_base.specs.Moments.{last_moment};
 ghost use Rattle.disk_model.specs.Disk.{LeavesOnly};
-ghost use Rattle.arch_model.specs.Archives.{Archive};
+ghost use Rattle.arch_model.specs.Archives.{Archive, live, text_of};
 ghost use Rattle.arch_model.specs.Delivery.{applied};
-ghost use Rattle.arch_model.specs.Keeping.{Moves, Comes, AnswerCause};
-ghost use Rattle.arch_model.specs.Standing.{Standing, standing};
+ghost use Rattle.arch_model.specs.Keeping.{Moves, Comes, AnswerCause, text_known};
+ghost use Rattle.arch_model.specs.Shelves.{GivesBlobIn, AppendsTo, Stays, ReadCause, ReadsOnce};
+ghost use Rattle.arch_model.specs.Standing.{Standing, standing, GivesTextIn, KeepsUnlessFound};
 ghost use Rattle.arch_model.specs.declared.answer.Answer.{Answer};
 ghost use Rattle.epoch_store.specs.Promises.{MakesArchive, OpensArchive};
 ghost use Rattle.epoch_store.specs.Stores.{IsStoreWith, RecoversEitherWith};
 ghost use Rattle.archive_core.specs.Commands.{DoneBy, IsForCommand};
 ghost use Rattle.archive_core.specs.Engines.{Holds, Leaves, ReadsOn, is_ready, needs_opening as needs_opening_after, reading-same, reading-joined, store-left, now-left, reading-kept};
 ghost use Rattle.archive_core.specs.HandedBack.{disk_made, made_or_why, disk_opened, opened_or_why};
+ghost use Rattle.archive_core.specs.Numbers.{GivesTextKept, GivesBlobKept, Names};
 ghost use Rattle.archive_core.specs.Openings.{RefusesKindly};
 
 use crate::archive::DiskArchive;
@@ -144,9 +146,9 @@ impl<D: Disk> Engine<D> {
         self.archive.next_number()
     }
 
-    /// Returns the number of messages.
+    /// Returns the number of live messages.
     pub fn message_count(&self) -> u32
-        ensures { (a : Archive) → Holds D.content self.now a → result ≡ length a.entries }
+        ensures { (a : Archive) → Holds D.content self.now a → result ≡ length (live a.entries) }
     {
         self.archive.live_count()
     }
@@ -178,7 +180,12 @@ impl<D: Disk> Engine<D> {
         // Each fault of the disk is told.
         ensures steady { result ≢ Answer.DiskFault
             → D.faults self.new.disk ≡ D.faults self.old.disk }
-        ensures reads { D.reads self.new.disk ≡ D.reads self.old.disk }
+        ensures reads { ReadsOnce (D.reads self.old.disk) (D.reads self.new.disk) }
+        // A delivery whose blob id no entry has reads nothing.
+        ensures unread { (a : Archive) (cache : List ℕ)
+            → IsStoreWith self.old.view cache a (D.content self.old.disk)
+            → text_known a command.now ≡ false
+            → D.reads self.new.disk ≡ D.reads self.old.disk }
     {
         law_of_recovery();
         // After the last sequence of 64 bits nothing is done. No archive takes so many commands.
@@ -226,7 +233,23 @@ impl<D: Disk> Shelf for Engine<D> {
         self.archive.entry(index)
     }
 
-    fn text(&mut self, n: u32, into: &mut Bytes) -> Result<(), TextRefusal> {
+    fn text(&mut self, n: u32, into: &mut Bytes) -> Result<(), TextRefusal>
+        requires ready { is_ready self.old ≡ true }
+        requires live { (a : Archive) → Holds D.content self.old a
+            → is_some (text_of (live a.entries) n) ≡ true }
+        ensures text { (a : Archive) → Holds D.content self.old a
+            → GivesTextIn (live a.entries) n into.old into.new result }
+        ensures refused { OnErr result (into.new ≡ into.old) }
+        ensures appends { AppendsTo into.old into.new }
+        ensures shelf { Stays (Holds D.content) is_ready (ReadsOn D.content D.moment D.left_since)
+            (λ e. D.faults e.disk) self.old self.new }
+        ensures cause { ReadCause (D.faults self.old.disk) (D.faults self.new.disk) result }
+        ensures reads { ReadsOnce (D.reads self.old.disk) (D.reads self.new.disk) }
+        // Beyond any shelf: a damaged text is told by the blob id of its entry, and by that of the
+        // bytes there.
+        ensures ids { IfErr result (λ why.
+            GivesTextKept self.old.view (D.content self.old.disk) n into.old into.new (Err why)) }
+    {
         // A number without a text isn't asked for while an archive is held.
         if !self.archive.has_text(n) {
             return Ok(());
@@ -234,7 +257,21 @@ impl<D: Disk> Shelf for Engine<D> {
         self.archive.text(&mut self.disk, n, into)
     }
 
-    fn blob(&mut self, id: &ObjectId, into: &mut Bytes) -> Result<bool, TextRefusal> {
+    fn blob(&mut self, id: &ObjectId, into: &mut Bytes) -> Result<bool, TextRefusal>
+        requires ready { is_ready self.old ≡ true }
+        ensures blob { (a : Archive) → Holds D.content self.old a
+            → GivesBlobIn a.entries id.now.0 into.old into.new result }
+        ensures kept { KeepsUnlessFound into.old into.new result }
+        ensures appends { AppendsTo into.old into.new }
+        ensures shelf { Stays (Holds D.content) is_ready (ReadsOn D.content D.moment D.left_since)
+            (λ e. D.faults e.disk) self.old self.new }
+        ensures cause { ReadCause (D.faults self.old.disk) (D.faults self.new.disk) result }
+        ensures reads { ReadsOnce (D.reads self.old.disk) (D.reads self.new.disk) }
+        // Beyond any shelf: a damaged text is told by this id, and by that of the bytes there.
+        ensures named { Names id.now result }
+        ensures ids { GivesBlobKept self.old.view (D.content self.old.disk) id.now into.old into.new
+            result }
+    {
         self.archive.blob(&mut self.disk, id, into)
     }
 

@@ -1,2 +1,1 @@
 mod Mailing
-mod Pushing

@@ -5,12 +5,8 @@ use Rattle.arch_base.specs.Moments.{IsMoment}
 use Rattle.mail_rows.specs.declared.row.Row.{Row}
 use Rattle.web_text.specs.Addresses.{address_of}
 use Rattle.web_text.specs.Days.{moment_text}
-use Rattle.web_text.specs.Escapes.{escaped}
+use Rattle.web_text.specs.Escapes.{escaped, title_of}
 use Rattle.atom_mbox.specs.declared.feeds.Shown.{Shown}
-
--- The title of a mail with this subject.
-abbrev pub title_of : List ℕ → List ℕ
-title_of subject = if length subject == 0 then codes "(no subject)" else escaped subject
 
 -- What is before the entries, in the feed of the archive with a name.
 unfoldable pub feed_start : List ℕ → ℕ → List ℕ

@@ -3,13 +3,13 @@ ghost use Rattle.std.specs.Prelude.{◌≡◌, ◌++◌, OnOk};
 ghost use Rattle.arch_base.specs.Moments.{IsMoment};
 ghost use Rattle.web_text.specs.Addresses.{address_of};
 ghost use Rattle.web_text.specs.Days.{moment_text};
-ghost use Rattle.web_text.specs.Escapes.{escaped};
-ghost use Rattle.atom_mbox.specs.Feeds.{title_of, feed_start, feed_end, entry_of, entry_author, entry_place, entry_body};
+ghost use Rattle.web_text.specs.Escapes.{escaped, title_of};
+ghost use Rattle.atom_mbox.specs.Feeds.{feed_start, feed_end, entry_of, entry_author, entry_place, entry_body};
 
 use arch_base::{Bytes, Name, NoMemory};
 use mail_rows::Row;
 use std::alloc::Global;
-use web_text::{push_address, push_escaped, push_moment};
+use web_text::{push_address, push_escaped, push_moment, push_title};
 
 /// Appends what is before the entries of a feed: its title and its id by the name of the archive,
 /// and when it was updated, in seconds since 1970 UTC.
@@ -70,17 +70,6 @@ fn push_author(alloc: Global, row: &Row, into: &mut Bytes) -> Result<(), NoMemor
     into.push_slice(b"</name></author><title>")?;
     push_title(alloc, row.subject.as_slice(), into)?;
     into.push_slice(b"</title>")
-}
-
-/// Appends the title of a mail: its subject, or `(no subject)` if that is empty.
-fn push_title(alloc: Global, subject: &[u8], into: &mut Bytes) -> Result<(), NoMemory>
-    ensures { OnOk result (into.new ≡ into.old ++ title_of subject.now) }
-{
-    if subject.is_empty() {
-        into.push_slice(b"(no subject)")
-    } else {
-        push_escaped(alloc, subject, into)
-    }
 }
 
 /// Appends the middle of an entry: its id, when it arrived, and where its page is.

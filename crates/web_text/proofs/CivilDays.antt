@@ -9,8 +9,8 @@ use Rattle.jiff_core.proofs.CalendarLemmas.{day_count-epoch, days_from_civil-day
 use Rattle.jiff_core.proofs.DateLemmas.{days_from_civil-day, days_from_civil-next_month, days_from_civil-next_year, days_from_civil-max}
 use Rattle.mail_date.specs.Dates.{last_second, IsValid, second_of_day}
 use Rattle.mail_date.specs.Laws.{PrintedDateIsOne}
-use Rattle.mail_date.specs.Printed.{IsDateAt, utc, PrintsUtc, rfc3339_text}
-use Rattle.web_text.specs.Days.{Day, day_of, day_at, time_of, date_at, moment_text}
+use Rattle.mail_date.specs.Printed.{IsDateAt, utc, PrintsUtc, page_text, rfc3339_text}
+use Rattle.web_text.specs.Days.{Day, day_of, day_at, time_of, date_at, moment_text, page_moment}
 
 -- The calendar has the day, and it is so many days after the first of January 1970.
 record IsNth (n : ℕ) (d : Day) : Type 0 where
@@ -150,3 +150,9 @@ pub moment-printed : (secs : ℕ) (text : List ℕ) → PrintedDateIsOne → sec
 unfolding moment_text
 moment-printed secs text one within printed =
     printed.2 ∙ ap rfc3339_text (one (utc secs) printed.0 (date_at secs) printed.1 (date_shown secs within))
+
+-- What is printed for a moment is what a page has for it.
+pub page_moment-printed : (secs : ℕ) (text : List ℕ) → PrintedDateIsOne → secs ≤ last_second → PrintsUtc page_text secs text → text ≡ page_moment secs
+unfolding page_moment
+page_moment-printed secs text one within printed =
+    printed.2 ∙ ap page_text (one (utc secs) printed.0 (date_at secs) printed.1 (date_shown secs within))

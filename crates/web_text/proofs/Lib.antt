@@ -1,2 +1,4 @@
 mod CivilDays
+pub mod MomentBytes
 mod Pieces
+pub mod Pushing

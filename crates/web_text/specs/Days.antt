@@ -2,7 +2,7 @@
 use Rattle.std.specs.Prelude.{ℕ, zero, suc, ◌+◌, ◌/◌, ◌%◌, nat_lt, List, if◌then◌else◌, pos}
 use Rattle.jiff_core.specs.Calendar.{days_in_month}
 use Rattle.mail_date.specs.declared.moment.CivilDate.{CivilDate}
-use Rattle.mail_date.specs.Printed.{rfc3339_text}
+use Rattle.mail_date.specs.Printed.{page_text, rfc3339_text}
 
 -- A day of the calendar.
 pub record Day : Type 0 where
@@ -45,3 +45,7 @@ date_at secs = time_of (day_at (secs / 86400)) (secs % 86400)
 -- A moment in UTC as a feed has it (RFC 3339, section 5.6).
 unfoldable pub moment_text : ℕ → List ℕ
 moment_text secs = rfc3339_text (date_at secs)
+
+-- A moment in UTC as a page has it, to the minute.
+unfoldable pub page_moment : ℕ → List ℕ
+page_moment secs = page_text (date_at secs)

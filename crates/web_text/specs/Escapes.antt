@@ -1,5 +1,5 @@
 -- Text between tags and in quoted attributes (XML 1.0, sections 2.2 and 2.4).
-use Rattle.std.specs.Prelude.{ℕ, Bool, ◌&&◌, ◌||◌, not, ◌==◌, nat_lt, List, if◌then◌else◌, codes, chars}
+use Rattle.std.specs.Prelude.{ℕ, Bool, ◌&&◌, ◌||◌, not, ◌==◌, nat_lt, List, length, if◌then◌else◌, codes, chars}
 use Rattle.std.specs.List.{flat_map}
 use Rattle.std.specs.Char.{encode_utf8}
 use Rattle.std.specs.Str.Lossy.{utf8_lossy}
@@ -28,3 +28,7 @@ escaped_chars text = flat_map spelled (chars text)
 -- The same of any bytes. Those that aren't UTF-8 are read as U+FFFD.
 abbrev pub escaped : List ℕ → List ℕ
 escaped bytes = escaped_chars (utf8_lossy bytes)
+
+-- The title of a mail with this subject.
+abbrev pub title_of : List ℕ → List ℕ
+title_of subject = if length subject == 0 then codes "(no subject)" else escaped subject

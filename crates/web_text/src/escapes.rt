@@ -1,7 +1,7 @@
 //! Text between the tags of a page or a feed, and in quoted attributes.
 ghost use Rattle.std.specs.Prelude.{◌≡◌, ◌++◌, OnOk};
 ghost use Rattle.std.specs.Char.{encode_utf8};
-ghost use Rattle.web_text.specs.Escapes.{escaped, escaped_chars, spelled, shown, is_excluded as excluded};
+ghost use Rattle.web_text.specs.Escapes.{escaped, escaped_chars, spelled, shown, is_excluded as excluded, title_of};
 
 use arch_base::{Bytes, NoMemory};
 use std::alloc::Global;
@@ -16,6 +16,20 @@ pub fn push_escaped(alloc: Global, text: &[u8], into: &mut Bytes) -> Result<(), 
 {
     let read = String::from_utf8_lossy(alloc, text)?;
     push_chars(read.as_str(), into)
+}
+
+/// Appends the title of a mail: its subject as [`push_escaped`] appends it, or `(no subject)` if it is
+/// empty.
+///
+/// The only error is `NoMemory`. It may leave a part of the title appended.
+pub fn push_title(alloc: Global, subject: &[u8], into: &mut Bytes) -> Result<(), NoMemory>
+    ensures { OnOk result (into.new ≡ into.old ++ title_of subject.now) }
+{
+    if subject.is_empty() {
+        into.push_slice(b"(no subject)")
+    } else {
+        push_escaped(alloc, subject, into)
+    }
 }
 
 /// Appends the characters of a text as a page has them.

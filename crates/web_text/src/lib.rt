@@ -6,5 +6,5 @@ mod escapes;
 mod moments;
 
 pub use addresses::push_address;
-pub use escapes::push_escaped;
-pub use moments::push_moment;
+pub use escapes::{push_escaped, push_title};
+pub use moments::{push_moment, push_page_moment};

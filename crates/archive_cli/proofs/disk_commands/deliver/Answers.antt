@@ -2,7 +2,7 @@ use Rattle.std.proofs.Common.{[], inl}
 use Rattle.arch_model.specs.Archives.{Archive}
 use Rattle.arch_model.specs.Delivery.{delivered}
 use Rattle.arch_model.specs.Standing.{one_of}
-use Rattle.archive_cli.proofs.OnDisk.{unopened-delivers, unopened-stands, delivered-stands, delivered-leaves, delivered-answers, delivered-among, answered-cause, refused-cause}
+use Rattle.archive_cli.proofs.OnDisk.{unopened-delivers, unopened-stands, delivered-stands, delivered-leaves, delivered-answers, delivered-among, delivery-lives, answered-cause, refused-cause}
 use Rattle.archive_cli.proofs.disk_commands.deliver.Goals as goal
 
 pub returns-in-Ok-clause-any_moment : goal.returns-in-Ok-clause-any_moment
@@ -18,7 +18,7 @@ returns-in-Ok-clause-stands g c = rw c.into_disk.ensures
 pub returns-in-Ok-clause-done : goal.returns-in-Ok-clause-done
 returns-in-Ok-clause-done g c = rw c.into_disk.ensures
     (delivered-answers g.D.Disk.content g.D.Disk.moment g.D.Disk.left_since g.met.D.Disk.counts_now g.met.D.Disk.reads_fit c.args.disk c.in-Ok.engine c.in-Ok.ensures.opened.done c.in-Ok.ensures.opened.first c.take-answer.new.self (λ (a : Archive). delivered a c.args.bytes.now c.args.moment) c.take-answer.result
-    c.take-answer.ensures.done c.take-answer.ensures.any_moment)
+    c.take-answer.ensures.done c.take-answer.ensures.any_moment (λ a n is. delivery-lives a c.args.bytes.now c.args.moment n is))
 
 pub returns-in-Ok-clause-cause : goal.returns-in-Ok-clause-cause
 returns-in-Ok-clause-cause g c = rw c.into_disk.ensures

@@ -1,7 +1,7 @@
 use Rattle.std.proofs.Common.{◌≡◌, ℕ, List, ◌++◌, codes}
 use Rattle.web_text.specs.Escapes.{escaped}
 use Rattle.atom_mbox.specs.Feeds.{entry_body}
-use Rattle.atom_mbox.proofs.Pushing.{grown, last_grown}
+use Rattle.web_text.proofs.Pushing.{grown, last_grown}
 use Rattle.atom_mbox.proofs.entries.push_body.Goals as goal
 
 pub returns : goal.returns

@@ -1,7 +1,7 @@
 use Rattle.std.proofs.Common.{◌≡◌, ℕ, List, ◌++◌, ap, ◌∙◌, codes}
 use Rattle.web_text.specs.Days.{moment_text}
 use Rattle.atom_mbox.specs.Feeds.{feed_start}
-use Rattle.atom_mbox.proofs.Pushing.{grown, last_grown}
+use Rattle.web_text.proofs.Pushing.{grown, last_grown}
 use Rattle.atom_mbox.proofs.entries.push_feed_start.Goals as goal
 
 pub returns : goal.returns

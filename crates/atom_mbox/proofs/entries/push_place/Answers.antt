@@ -2,7 +2,7 @@ use Rattle.std.proofs.Common.{◌≡◌, ℕ, List, ◌++◌, ap, ◌∙◌, cod
 use Rattle.web_text.specs.Days.{moment_text}
 use Rattle.web_text.specs.Addresses.{address_of}
 use Rattle.atom_mbox.specs.Feeds.{entry_place}
-use Rattle.atom_mbox.proofs.Pushing.{grown, last_grown}
+use Rattle.web_text.proofs.Pushing.{grown, last_grown}
 use Rattle.atom_mbox.proofs.entries.push_place.Goals as goal
 
 pub returns : goal.returns

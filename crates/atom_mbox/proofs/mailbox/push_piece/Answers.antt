@@ -2,7 +2,7 @@ use Rattle.std.proofs.Common.{◌≡◌, ℕ, List, ◌++◌, ◌∷◌, []}
 use Rattle.std.specs.List.{flat_map}
 use Rattle.mail_reader.specs.Lines.{lines_of}
 use Rattle.mail_forms.specs.Mailboxes.{mbox_of, quoted, separator}
-use Rattle.atom_mbox.proofs.Pushing.{grown, last_grown}
+use Rattle.web_text.proofs.Pushing.{grown, last_grown}
 use Rattle.atom_mbox.proofs.mailbox.push_piece.Goals as goal
 
 pub returns-clause-ok : goal.returns-clause-ok

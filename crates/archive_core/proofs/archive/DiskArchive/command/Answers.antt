@@ -1,4 +1,5 @@
-use Rattle.std.proofs.Common.{rules, subst}
+use Rattle.std.proofs.Common.{◌≡◌, ◌∙◌, Bool, true, false, rules, sym, subst}
+use Rattle.arch_model.specs.Keeping.{text_known}
 use Rattle.disk_model.specs.Disk.{LeavesOnly}
 use Rattle.arch_model.specs.Archives.{Archive}
 use Rattle.arch_model.specs.Delivery.{Done}
@@ -23,6 +24,7 @@ returns-in-Deliver g c = record {
     never_damaged = c.deliver.ensures.never_damaged;
     count = c.deliver.ensures.count;
   };
+  unread = λ a cache store unknown. c.deliver.ensures.unread a cache store (subst (λ (t : Bool). t ≡ false) (search rules) unknown);
 }
 
 pub returns-in-Remove : goal.returns-in-Remove
@@ -42,4 +44,5 @@ returns-in-Remove g c = record {
     never_damaged = c.remove.ensures.for_command;
     count = c.remove.ensures.count;
   };
+  unread = λ a cache store unknown. (let known : text_known a c.args.command.now ≡ true = search rules in let wrong : true ≡ false = sym known ∙ unknown in absurd (cc));
 }

@@ -1,4 +1,4 @@
-use Rattle.std.proofs.Common.{◌≡◌, sym, ap, subst, ℕ, List, None}
+use Rattle.std.proofs.Common.{◌≡◌, ◌∙◌, sym, ap, subst, ℕ, List, None}
 use Rattle.disk_model.specs.Disk.{LeavesOnly}
 use Rattle.arch_model.specs.Archives.{Archive}
 use Rattle.arch_model.specs.Delivery.{Done, delivered, collision}
@@ -49,3 +49,9 @@ returns-clause-any_moment g c = λ a cache store room.
     let lone = subst (λ (t : List ℕ). collision a.entries t ≡ None) (sym c.as_slice.ensures) alone in
     read-first g.D.Disk.moment g.D.Disk.left_since c.law_of_stores.ensures.recovers c.args.self.now cache a (delivered a c.args.bytes.now c.args.moment).archive k c.args.disk.now c.verdict.new.disk c.keep.new.disk store c.in-Take.ensures.looks.any_moment
     (subst (λ (b : Archive). LeavesOnly g.D.Disk.moment g.D.Disk.left_since c.verdict.new.disk c.keep.new.disk (RecoversEitherWith cache a b)) same (c.keep.ensures.any_moment a cache own room lone))
+
+pub returns-in-Ok-clause-unread : goal.returns-in-Ok-clause-unread
+returns-in-Ok-clause-unread g c = λ a cache store unknown. c.keep.ensures.count ∙ c.verdict.ensures.unread a cache store unknown
+
+pub returns-clause-unread : goal.returns-clause-unread
+returns-clause-unread g c = λ a cache store unknown. c.keep.ensures.count ∙ c.verdict.ensures.unread a cache store unknown

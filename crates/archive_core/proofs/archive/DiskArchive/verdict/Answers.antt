@@ -1,4 +1,4 @@
-use Rattle.std.proofs.Common.{◌≡◌, ◌∙◌, sym, ap, subst, length, List, ℕ, Ok}
+use Rattle.std.proofs.Common.{◌≡◌, ◌∙◌, true, false, sym, ap, subst, length, List, ℕ, Ok}
 use Rattle.arch_model.specs.Delivery.{delivered, delivered_kept}
 use Rattle.arch_judge.specs.Judging.{unless_same}
 use Rattle.arch_judge.specs.declared.judging.Verdict.TheVariants.{Take, Compare, Refuse}
@@ -59,3 +59,23 @@ returns-in-Ok-clause-taken g c =
 
 pub returns-in-Err-clause-judged : goal.returns-in-Err-clause-judged
 returns-in-Err-clause-judged g c = λ a cache own. unread-judges a c.args.bytes.now c.in-Compare.number c.in-Err.answer (c.in-Err.ensures.text a cache own)
+
+pub returns-in-Ok-clause-unread : goal.returns-in-Ok-clause-unread
+returns-in-Ok-clause-unread g c = λ a cache own unknown.
+    let keeps = store_keeps c.args.self.now cache a (g.D.Disk.content c.args.disk.now) own in
+    let indexed : IndexesStored c.args.self.now.entries c.self.inside.index = subst (λ (v : View). IndexesStored v.entries c.self.inside.index) c.self.view_is c.self.invariant.0 in
+    let compared = c.in-Compare.ensures.judged a
+    (known c.args.self.now c.config.result.now c.self.inside.index c.next_number-next.result indexed (c.config.ensures ∙ ap (λ (v : View). v.root.config) c.self.view_is) (c.next_number-next.ensures ∙ ap (λ (v : View). v.root.next) c.self.view_is) a (length c.stored-count.result.now) keeps
+    (ap length (c.stored-count.ensures ∙ ap (λ (v : View). v.entries) c.self.view_is))) in
+    let wrong : true ≡ false = sym compared.known ∙ unknown in
+    absurd (cc)
+
+pub returns-in-Err-clause-unread : goal.returns-in-Err-clause-unread
+returns-in-Err-clause-unread g c = λ a cache own unknown.
+    let keeps = store_keeps c.args.self.now cache a (g.D.Disk.content c.args.disk.now) own in
+    let indexed : IndexesStored c.args.self.now.entries c.self.inside.index = subst (λ (v : View). IndexesStored v.entries c.self.inside.index) c.self.view_is c.self.invariant.0 in
+    let compared = c.in-Compare.ensures.judged a
+    (known c.args.self.now c.config.result.now c.self.inside.index c.next_number-next.result indexed (c.config.ensures ∙ ap (λ (v : View). v.root.config) c.self.view_is) (c.next_number-next.ensures ∙ ap (λ (v : View). v.root.next) c.self.view_is) a (length c.stored-count.result.now) keeps
+    (ap length (c.stored-count.ensures ∙ ap (λ (v : View). v.entries) c.self.view_is))) in
+    let wrong : true ≡ false = sym compared.known ∙ unknown in
+    absurd (cc)

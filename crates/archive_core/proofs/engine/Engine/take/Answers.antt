@@ -1,3 +1,7 @@
+use Rattle.std.proofs.Common.{◌≡◌, ℕ, List, false, subst}
+use Rattle.arch_model.specs.Keeping.{text_known}
+use Rattle.epoch_store.specs.Stores.{IsStoreWith}
+use Rattle.archive_core.specs.Engines.{Owning}
 use Rattle.arch_model.specs.Archives.{Archive}
 use Rattle.arch_model.specs.Delivery.{applied}
 use Rattle.archive_core.proofs.Engines.{starved-at, still-left, left-from, done-from, taken-from, answer-cause-from, steady-from}
@@ -45,3 +49,8 @@ pub returns-clause-steady : goal.returns-clause-steady
 returns-clause-steady g c = steady-from g.D.Disk.content g.D.Disk.moment g.D.Disk.left_since g.met.D.Disk.counts_now g.met.D.Disk.only_now g.met.D.Disk.reads_fit
     (record { disk = c.self.inside.disk; view = c.self.inside.archive; stale = c.self.inside.stale }) c.args.self.now c.self.view_is
     g.D.Disk.faults c.command-answer.new.disk c.command-answer.result c.command-answer.ensures.taken.cause
+
+pub returns-clause-unread : goal.returns-clause-unread
+returns-clause-unread g c =
+    subst (λ (o : Owning g.row.D.Denot). (a : Archive) (cache : List ℕ) → IsStoreWith o.view cache a (g.D.Disk.content o.disk) → text_known a c.args.command.now ≡ false → g.D.Disk.reads c.command-answer.new.disk ≡ g.D.Disk.reads o.disk)
+    c.self.view_is c.command-answer.ensures.unread

@@ -1,11 +1,12 @@
-use Rattle.std.proofs.Common.{◌∙◌, ap}
+use Rattle.std.proofs.Common.{◌∙◌, sym, ap, subst}
 use Rattle.std.proofs.lemmas.Bool.{false≢true}
 use Rattle.arch_model.specs.Archives.{Archive}
 use Rattle.arch_model.specs.Delivery.{applied}
 use Rattle.arch_model.specs.Keeping.{ending}
 use Rattle.arch_model.proofs.Keepers.{cause-earlier}
-use Rattle.archive_core.proofs.Engines.{not_true, commanded-after, refused-comes, refused-ready, refused-cause, ready-after, reads-none, stays-ready}
-use Rattle.archive_core.specs.Engines.{Owning, is_ready}
+use Rattle.archive_core.proofs.Engines.{not_true, commanded-after, refused-comes, refused-ready, refused-cause, ready-after, stays-ready}
+use Rattle.arch_model.specs.Shelves.{ReadsOnce}
+use Rattle.archive_core.specs.Engines.{Owning, Holds, is_ready}
 use Rattle.archive_core.proofs.engine.EngineKeep.command.Goals as goal
 
 pub take-requires-clause-ready : goal.take-requires-clause-ready
@@ -26,11 +27,13 @@ returns-in-Ok-clause-cause g c =
 
 pub returns-in-Ok-clause-reads : goal.returns-in-Ok-clause-reads
 returns-in-Ok-clause-reads g c = λ ready.
-    reads-none (g.D.Disk.reads c.args.self.now.disk) (g.D.Disk.reads c.take.new.self.disk)
-    (c.take.ensures.reads ∙ ap (λ (o : Owning g.row.D.Denot). g.D.Disk.reads o.disk) (c.in-Ok.ensures.nothing ready).1)
+    subst (λ (o : Owning g.row.D.Denot). ReadsOnce (g.D.Disk.reads o.disk) (g.D.Disk.reads c.take.new.self.disk)) (c.in-Ok.ensures.nothing ready).1 c.take.ensures.reads
 
 pub returns-in-Ok-clause-unread : goal.returns-in-Ok-clause-unread
-returns-in-Ok-clause-unread g c = λ a store ready unknown. c.take.ensures.reads ∙ ap (λ (o : Owning g.row.D.Denot). g.D.Disk.reads o.disk) (c.in-Ok.ensures.nothing ready).1
+returns-in-Ok-clause-unread g c = λ a store ready unknown.
+    let same = (c.in-Ok.ensures.nothing ready).1 in
+    let held = subst (λ (o : Owning g.row.D.Denot). Holds g.D.Disk.content o a) (sym same) store in
+    c.take.ensures.unread a held.0 held.1 unknown ∙ ap (λ (o : Owning g.row.D.Denot). g.D.Disk.reads o.disk) same
 
 pub returns-in-Err-clause-done : goal.returns-in-Err-clause-done
 returns-in-Err-clause-done g c = λ s fits.

@@ -1,4 +1,4 @@
-use Rattle.archive_core.proofs.Engines.{held-inside, stays-from, cause-from, once-from}
+use Rattle.archive_core.proofs.Engines.{held-inside, stays-from, cause-from, once-from, blob-ids-from}
 use Rattle.archive_core.proofs.engine.EngineShelf.blob.Goals as goal
 
 pub returns-clause-blob : goal.returns-clause-blob
@@ -21,3 +21,8 @@ pub returns-clause-reads : goal.returns-clause-reads
 returns-clause-reads g c = once-from g.D.Disk.content g.D.Disk.moment g.D.Disk.left_since g.met.D.Disk.counts_now g.met.D.Disk.only_now g.met.D.Disk.reads_fit
     (record { disk = c.self.inside.disk; view = c.self.inside.archive; stale = c.self.inside.stale }) c.args.self.now c.self.view_is
     g.D.Disk.reads c.blob.new.disk c.blob.ensures.fewest c.blob.ensures.count
+
+pub returns-clause-ids : goal.returns-clause-ids
+returns-clause-ids g c = blob-ids-from g.D.Disk.content g.D.Disk.moment g.D.Disk.left_since g.met.D.Disk.counts_now g.met.D.Disk.only_now g.met.D.Disk.reads_fit
+    (record { disk = c.self.inside.disk; view = c.self.inside.archive; stale = c.self.inside.stale }) c.args.self.now c.self.view_is
+    c.args.id.now c.args.into.now c.blob.new.into c.blob.result c.blob.ensures.read

@@ -1,0 +1,5 @@
+mod FieldLines
+mod ListingRows
+mod Markup
+mod Links
+mod Indents

@@ -1,0 +1,63 @@
+-- Laws of pages: no tag, and no value of an attribute, comes from a mail.
+use Rattle.std.specs.Prelude.{◌≡◌, ℕ, ◌^◌, ◌<◌, min, Bool, true, false, ◌||◌, ◌==◌, List, [], ◌++◌, length, filter, replicate, codes}
+use Rattle.std.specs.List.{concat}
+use Rattle.arch_base.specs.Names.{IsName}
+use Rattle.mail_rows.specs.declared.row.Row.{Row}
+use Rattle.web_text.specs.Escapes.{escaped}
+use Rattle.html_pages.specs.Pieces.{address}
+use Rattle.html_pages.specs.Pages.{listing_of, message_of, thread_of}
+use Rattle.html_pages.specs.declared.thread_line.ThreadLine.{ThreadLine}
+use Rattle.html_pages.specs.declared.thread_line.ThreadEntry.{ThreadEntry}
+use Rattle.html_pages.specs.declared.thread_line.ThreadEntry.TheVariants.{Mail, Missing}
+
+-- The byte begins or ends a tag, or the value of an attribute.
+abbrev pub is_markup : ℕ → Bool
+is_markup b = b == 60 || b == 62 || b == 34
+
+-- Those bytes of a text.
+abbrev pub markup : List ℕ → List ℕ
+markup text = filter is_markup text
+
+-- Those of a link: of its first tag, which has an address, and of its last tag.
+abbrev pub link_markup : List ℕ
+link_markup = codes "<\"\"><>"
+
+-- Those of so many links.
+abbrev pub links_markup : ℕ → List ℕ
+links_markup count = concat (replicate count link_markup)
+
+-- Those of a page with so many links: seven tags are before its lines, and three after them.
+abbrev pub page_markup : ℕ → List ℕ
+page_markup count = codes "<><><><><><><>" ++ links_markup count ++ codes "<><><>"
+
+-- A text of a mail has none in a page.
+abbrev pub TextMakesNoTag : Type 0
+TextMakesNoTag = (text : List ℕ) → markup (escaped text) ≡ []
+
+-- Nor has the address of a message.
+abbrev pub AddressMakesNoTag : Type 0
+AddressMakesNoTag = (name id : List ℕ) → IsName name → markup (address name id) ≡ []
+
+-- A listing has its own tags, and a link for each row that it shows and to older ones.
+abbrev pub ListingHasItsTags : Type 0
+ListingHasItsTags = (name : List ℕ) (rows : List Row) (skip : ℕ) → IsName name → skip < 2 ^ 64
+    → markup (listing_of name rows skip) ≡ page_markup (min (length rows) 201)
+
+-- The page of a message has its own tags, and two links.
+abbrev pub MessageHasItsTags : Type 0
+MessageHasItsTags = (name text body : List ℕ) (row : Row) → IsName name
+    → markup (message_of name row text body) ≡ page_markup 2
+
+-- The line is that of a mail.
+abbrev pub is_of_mail : ThreadEntry → Bool
+is_of_mail (Mail row) = true
+is_of_mail (Missing id) = false
+
+-- How many lines are those of mails.
+abbrev pub mail_count : List ThreadLine → ℕ
+mail_count lines = length (filter (λ (line : ThreadLine). is_of_mail line.entry) lines)
+
+-- The page of a thread has its own tags, and a link for each of its mails.
+abbrev pub ThreadHasItsTags : Type 0
+ThreadHasItsTags = (name : List ℕ) (row : Row) (lines : List ThreadLine) → IsName name
+    → markup (thread_of name row lines) ≡ page_markup (mail_count lines)

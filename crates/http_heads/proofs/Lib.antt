@@ -1,0 +1,3 @@
+mod ReplyDays
+mod Splits
+mod Targets

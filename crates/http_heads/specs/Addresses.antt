@@ -1,0 +1,71 @@
+-- The addresses of an archive (RFC 3986, section 3.3).
+use Rattle.std.specs.Prelude.{ℕ, Bool, ◌&&◌, ◌||◌, ◌==◌, List, [], ◌∷◌, length, map, codes, Option, Some, None, if◌then◌else◌}
+use Rattle.std.specs.Str.{bytes_eq}
+use Rattle.percent_encoding.specs.Percent.{percent_decode}
+use Rattle.http_heads.specs.declared.address.Address.{Address}
+use Rattle.http_heads.specs.declared.address.Address.TheVariants.{Listing, Text, Thread, Message}
+use Rattle.http_heads.specs.Pieces.{pieces_of}
+
+-- What a path names. The bytes are those of an id without its brackets.
+pub data Named : Type 0 where
+  TheListing : Named
+  TextOf : List ℕ → Named
+  ThreadOf : List ℕ → Named
+  MessageOf : List ℕ → Named
+
+-- What an address names, by the bytes of its id.
+abbrev pub shown : Address → Named
+shown Listing = TheListing
+shown (Text id) = TextOf id.now
+shown (Thread id) = ThreadOf id.now
+shown (Message id) = MessageOf id.now
+
+-- The segments of a path: its pieces between slashes, each decoded.
+abbrev pub segments_of : List ℕ → List (List ℕ)
+segments_of path = map percent_decode (pieces_of 47 path)
+
+-- The segment is that word.
+abbrev pub is_word : List ℕ → List ℕ → Bool
+is_word segment word = bytes_eq segment word
+
+-- The segment is empty.
+abbrev pub is_empty : List ℕ → Bool
+is_empty segment = length segment == 0
+
+-- After the name stands one segment. Feeds and mailboxes of a list aren't served yet.
+abbrev pub one_segment : List ℕ → Option Named
+one_segment a =
+    if is_empty a then Some TheListing
+    else if is_word a (codes "new.atom") || is_word a (codes "all.mbox") then None
+    else Some (MessageOf a)
+
+-- After the name stand two segments. What is below `_` isn't served yet.
+abbrev pub two_segments : List ℕ → List ℕ → Option Named
+two_segments a b =
+    if is_word a (codes "_") then None
+    else if is_empty b then Some (MessageOf a)
+    else if is_word b (codes "raw") then Some (TextOf a)
+    else None
+
+-- After the name stand three segments.
+abbrev pub three_segments : List ℕ → List ℕ → List ℕ → Option Named
+three_segments a b c =
+    if is_word a (codes "_") then None
+    else if is_word b (codes "t") && is_empty c then Some (ThreadOf a)
+    else None
+
+-- The path begins with a slash, and the name of the list follows.
+abbrev pub is_ours : List ℕ → List ℕ → List ℕ → Bool
+is_ours name first second = is_empty first && is_word second name
+
+-- What a path names, by its segments: `/NAME/`, `/NAME/ID` with a slash after it or not,
+-- `/NAME/ID/raw` and `/NAME/ID/t/`.
+abbrev pub named_by : List ℕ → List (List ℕ) → Option Named
+named_by name [] = None
+named_by name (first ∷ []) = None
+named_by name (first ∷ second ∷ []) = None
+named_by name (first ∷ second ∷ a ∷ []) = if is_ours name first second then one_segment a else None
+named_by name (first ∷ second ∷ a ∷ b ∷ []) = if is_ours name first second then two_segments a b else None
+named_by name (first ∷ second ∷ a ∷ b ∷ c ∷ []) =
+    if is_ours name first second then three_segments a b c else None
+named_by name (first ∷ second ∷ a ∷ b ∷ c ∷ d ∷ more) = None

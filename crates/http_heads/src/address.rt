@@ -1,0 +1,109 @@
+//! What a path names.
+ghost use Rattle.std.specs.Prelude.{◌≡◌, IfOk, map, option_map};
+ghost use Rattle.percent_encoding.specs.Percent.{percent_decode as decoded};
+ghost use Rattle.http_heads.specs.Addresses.{segments_of, shown, is_ours as ours, one_segment as one, two_segments as two, three_segments as three, named_by};
+
+use crate::pieces::Pieces;
+use arch_base::{Bytes, NoMemory, Texts};
+use percent_encoding::percent_decode;
+use std::alloc::Global;
+
+/// What a path names. The bytes are those of a message's id without its brackets.
+#[derive(Clone, Copy, Drop)]
+pub enum Address<'a> {
+    /// The page of the listing.
+    Listing,
+    /// The text of a message.
+    Text(&'a [u8]),
+    /// The page of a thread.
+    Thread(&'a [u8]),
+    /// The page of a message.
+    Message(&'a [u8]),
+}
+
+/// Returns the segments of a path: its pieces between slashes, each with its escapes decoded.
+///
+/// `NoMemory` if an allocation fails.
+pub fn segments(alloc: Global, path: &[u8]) -> Result<Texts, NoMemory>
+    ensures { IfOk result (λ made. made ≡ segments_of path.now) }
+{
+    let mut made = Texts::new(alloc);
+    for piece in Pieces::of(path, b'/') {
+        made.push(decoded_piece(alloc, piece)?)?;
+    }
+    Ok(made)
+}
+
+/// Returns bytes with their escapes decoded. What is no escape stays.
+fn decoded_piece(alloc: Global, piece: &[u8]) -> Result<Bytes, NoMemory>
+    ensures { IfOk result (λ made. made ≡ decoded piece.now) }
+{
+    let mut made = Vec::new(alloc);
+    percent_decode(piece).append_to(&mut made)?;
+    Ok(Bytes::from_vec(made))
+}
+
+/// Returns what a path of an archive with this name names, by its segments, or `None` if it names
+/// nothing.
+pub fn address_of<'a>(name: &[u8], segments: &'a [Bytes]) -> Option<Address<'a>>
+    ensures { option_map shown result ≡ named_by name.now segments.now }
+{
+    match segments {
+        [first, second, a] if is_ours(name, first, second) => one_segment(a.as_slice()),
+        [first, second, a, b] if is_ours(name, first, second) => {
+            two_segments(a.as_slice(), b.as_slice())
+        }
+        [first, second, a, b, c] if is_ours(name, first, second) => {
+            three_segments(a.as_slice(), b.as_slice(), c.as_slice())
+        }
+        _ => None,
+    }
+}
+
+/// Returns whether a path starts with a slash and the name of the archive, by its first segments.
+fn is_ours(name: &[u8], first: &Bytes, second: &Bytes) -> bool
+    ensures { result ≡ ours name.now first.now second.now }
+{
+    first.as_slice().is_empty() && second.as_slice() == name
+}
+
+/// Returns what a path with one segment after the name names.
+fn one_segment(a: &[u8]) -> Option<Address<'_>>
+    ensures { option_map shown result ≡ one a.now }
+{
+    if a.is_empty() {
+        Some(Address::Listing)
+    } else if a == b"new.atom".as_slice() || a == b"all.mbox".as_slice() {
+        None
+    } else {
+        Some(Address::Message(a))
+    }
+}
+
+/// Returns what a path with two segments after the name names.
+fn two_segments<'a>(a: &'a [u8], b: &[u8]) -> Option<Address<'a>>
+    ensures { option_map shown result ≡ two a.now b.now }
+{
+    if a == b"_".as_slice() {
+        None
+    } else if b.is_empty() {
+        Some(Address::Message(a))
+    } else if b == b"raw".as_slice() {
+        Some(Address::Text(a))
+    } else {
+        None
+    }
+}
+
+/// Returns what a path with three segments after the name names.
+fn three_segments<'a>(a: &'a [u8], b: &[u8], c: &[u8]) -> Option<Address<'a>>
+    ensures { option_map shown result ≡ three a.now b.now c.now }
+{
+    if a == b"_".as_slice() {
+        None
+    } else if b == b"t".as_slice() && c.is_empty() {
+        Some(Address::Thread(a))
+    } else {
+        None
+    }
+}

@@ -1,0 +1,40 @@
+//! Mails for the tests, and their rows.
+use arch_base::{Bytes, Name};
+use git_objects::blob_id;
+use mail_reader::is_stored;
+use mail_rows::{Row, row_of};
+use std::alloc::Global;
+
+/// A mail of three fields that are shown in a listing, and one line.
+pub(crate) const FIRST: &[u8] =
+    b"From: Ann <ann@example.org>\nDate: Thu, 1 Feb 2024 10:00:00 +0000\nSubject: first\nMessage-ID: <a@x>\n\none\n";
+
+/// Returns the name of the list.
+pub(crate) fn list() -> Option<Name> {
+    Name::read(b"list")
+}
+
+/// Returns the row of a mail that arrived at 2024-02-01 10:01:40, or `None` if the mail is not in
+/// storage form.
+pub(crate) fn row(alloc: Global, text: &[u8]) -> Option<Row> {
+    if !is_stored(text) {
+        return None;
+    }
+    row_of(alloc, 1, &blob_id(text), text, 1_706_781_700).ok()
+}
+
+/// Returns whether a page is the wanted one.
+pub(crate) fn is(page: Option<Bytes>, wanted: &[u8]) -> bool {
+    match page {
+        Some(made) => made.as_slice() == wanted,
+        None => false,
+    }
+}
+
+/// Returns the length of a page, or 0 if there is none.
+pub(crate) fn length(page: Option<Bytes>) -> usize {
+    match page {
+        Some(made) => made.as_slice().len(),
+        None => 0,
+    }
+}
