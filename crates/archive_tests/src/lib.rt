@@ -7,6 +7,7 @@ mod accepted;
 #[cfg(test)]
 mod core_tests;
 #[cfg(test)]
+mod disk_removal_tests;
 #[cfg(test)]
 mod engine_tests;
 #[cfg(test)]

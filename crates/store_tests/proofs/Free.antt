@@ -9,7 +9,7 @@ use Rattle.mail_reader.specs.Ids.{own_id}
 use Rattle.arch_model.specs.Archives.{Entry, Archive, is_message, is_ended, is_id, live, owner, IsFree}
 use Rattle.epoch_store.specs.declared.entries.StoredEntry.{StoredEntry}
 use Rattle.mail_reader.specs.StorageTexts.{IsStorageText}
-use Rattle.epoch_store.specs.Stores.{View, Keeps, Accepts, stored_at, stored_after}
+use Rattle.epoch_store.specs.Stores.{View, Keeps, Accepts, stored_after}
 
 -- Each of these entries has another own id than a text.
 abbrev pub Apart : List ℕ → List StoredEntry → Type 0

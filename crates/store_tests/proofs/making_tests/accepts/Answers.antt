@@ -1,6 +1,5 @@
-use Rattle.std.proofs.Common.{rules, ◌≢◌, ◌≤◌, Some, IsTrue, ◌≡◌, ℕ, ◌<◌, length, true, false, List, [], ◌∷◌, arith, ap, subst}
+use Rattle.std.proofs.Common.{◌≡◌, arith, ap, subst}
 use Rattle.arch_base.specs.declared.config.Config.{Config}
-use Rattle.epoch_store.specs.declared.entries.StoredEntry.{StoredEntry}
 use Rattle.store_tests.proofs.Free.{Apart, accepted, of_none, of_one}
 use Rattle.store_tests.proofs.making_tests.accepts.Goals as goal
 
