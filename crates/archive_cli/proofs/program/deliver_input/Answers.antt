@@ -14,7 +14,7 @@ returns-in-Err-TooLong-clause-ends g c = absurd (rw c.in-Err-TooLong.field-0-is 
 pub returns-in-Err-NoMemory-clause-ends : goal.returns-in-Err-NoMemory-clause-ends
 returns-in-Err-NoMemory-clause-ends g c =
     let kept = rw c.in-Err-NoMemory.field-0-is at c.in-Err-NoMemory.ensures.read in
-    inr (inl (unread-due _ _ _ _ _ _ _ refl (record { input = kept; clock = refl; disk = refl }) c.print_no_memory-in-Err-NoMemory.ensures.printed))
+    inr (inl (unread-due _ _ _ _ _ _ _ refl (record { input = kept; clock = refl; disk = refl }) c.print_no_memory.ensures.printed))
 
 pub returns-in-Err-TooLong-clause-any_moment : goal.returns-in-Err-TooLong-clause-any_moment
 returns-in-Err-TooLong-clause-any_moment g c = λ s all. run-first g.D.Disk.content g.D.Disk.moment g.D.Disk.left_since g.met.D.Disk.only_now s c.args.disk (g.S.Source.left c.args.input.now) (g.C.Clock.coming c.args.clock.now) all
