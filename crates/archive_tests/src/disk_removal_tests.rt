@@ -52,7 +52,12 @@ fn comes_and_goes<D: Disk>(archive: &mut DiskArchive, disk: &mut D) -> Result<bo
     requires sizes { WhereTold (HasSizes archive.old) (D.content disk.old) }
     ensures sizes { OnOk result (WhereTold (HasSizes archive.new) (D.content disk.new)) }
 {
-    let came = answers(archive, disk, &Command::Deliver(FIRST), accepted(1, FIRST_ID))?;
+    let came = answers(
+        archive,
+        disk,
+        &Command::Deliver(FIRST),
+        accepted(1, FIRST_ID),
+    )?;
     let went = answers(archive, disk, &Command::Remove(1), accepted(1, FIRST_ID))?;
     Ok(came && went)
 }
@@ -63,8 +68,18 @@ fn comes_again<D: Disk>(archive: &mut DiskArchive, disk: &mut D) -> Result<bool,
     ensures sizes { OnOk result (WhereTold (HasSizes archive.new) (D.content disk.new)) }
 {
     let gone = answers(archive, disk, &Command::Remove(1), Some(Answer::NotLive(1)))?;
-    let again = answers(archive, disk, &Command::Deliver(FIRST), accepted(2, FIRST_ID))?;
-    let twice = answers(archive, disk, &Command::Deliver(FIRST), Some(Answer::Duplicate(2)))?;
+    let again = answers(
+        archive,
+        disk,
+        &Command::Deliver(FIRST),
+        accepted(2, FIRST_ID),
+    )?;
+    let twice = answers(
+        archive,
+        disk,
+        &Command::Deliver(FIRST),
+        Some(Answer::Duplicate(2)),
+    )?;
     Ok(gone && again && twice)
 }
 
@@ -95,7 +110,11 @@ fn removed_len<D: Disk>(alloc: Global, disk: &mut D) -> Result<usize, Fail> {
     let gone = comes_and_goes(&mut archive, disk)?;
     let mut bytes = Bytes::new(alloc);
     let found = archive.epoch_bytes(disk, 0, &mut bytes)?;
-    Ok(if gone && found { bytes.as_slice().len() } else { 0 })
+    Ok(if gone && found {
+        bytes.as_slice().len()
+    } else {
+        0
+    })
 }
 
 #[test]
@@ -171,7 +190,10 @@ fn is_step(found: (u64, u32)) -> bool {
 fn filled_and_left(
     alloc: Global,
     passes: u64,
-) -> (Result<Option<(u64, u32)>, InitRefusal>, Result<(u64, u32), OpenRefusal>) {
+) -> (
+    Result<Option<(u64, u32)>, InitRefusal>,
+    Result<(u64, u32), OpenRefusal>,
+) {
     let mut fuse = FuseDisk::new(empty_disk(alloc), passes);
     let made = filled(alloc, &mut fuse);
     let mut disk = fuse.into_inner();
