@@ -51,9 +51,9 @@ front_by : (k : EntryKind) (e : StoredEntry) (es : List StoredEntry) (index : �
     × ((q : ℕ) → has_ended more q ≡ ((not (is_message k) && e.number == q) || is_ended_in es q))
 front_by Message e es index old new ended more by old_is ended_is = (
   by.0
-  ∙ ap (λ (ps : List MessagePlace). ps ++ place_of e.number index (not (has_ended ended e.number)) ∷ []) old_is
-  ∙ ap (λ (b : Bool). reverse (message_places (index + 1) es) ++ place_of e.number index (not b) ∷ []) (ended_is e.number)
-  ∙ sym (reverse_onto (message_places (index + 1) es) (place_of e.number index (not (is_ended_in es e.number))) []),
+      ∙ ap (λ (ps : List MessagePlace). ps ++ place_of e.number index (not (has_ended ended e.number)) ∷ []) old_is
+      ∙ ap (λ (b : Bool). reverse (message_places (index + 1) es) ++ place_of e.number index (not b) ∷ []) (ended_is e.number)
+      ∙ sym (reverse_onto (message_places (index + 1) es) (place_of e.number index (not (is_ended_in es e.number))) []),
   λ q. by.1 q ∙ ended_is q,
 )
 front_by Deletion e es index old new ended more by old_is ended_is = (by.0 ∙ old_is, λ q. by.1 q ∙ ap (λ (b : Bool). e.number == q || b) (ended_is q))

@@ -205,12 +205,26 @@ impl DiskArchive {
     {
         let count = self.store.stored().len();
         let next = self.store.next_number();
-        match judge(self.alloc, self.store.config(), &self.index, count, next, bytes) {
+        match judge(
+            self.alloc,
+            self.store.config(),
+            &self.index,
+            count,
+            next,
+            bytes,
+        ) {
             Verdict::Refuse(answer) => Verdict::Refuse(answer),
             Verdict::Take { text, blob, number } => Verdict::Take { text, blob, number },
             Verdict::Compare { text, blob, number } => match self.message_text(disk, number) {
                 Ok(kept) => {
-                    compared(self.store.config(), next, text, blob, number, kept.as_slice())
+                    compared(
+                        self.store.config(),
+                        next,
+                        text,
+                        blob,
+                        number,
+                        kept.as_slice(),
+                    )
                 }
                 Err(answer) => Verdict::Refuse(answer),
             },
@@ -349,7 +363,10 @@ impl DiskArchive {
         if !self.is_named(index, text) {
             return self.damaged(index);
         }
-        match self.store.remove_entry(self.alloc, disk, number, text, moment) {
+        match self
+            .store
+            .remove_entry(self.alloc, disk, number, text, moment)
+        {
             Ok(()) => {
                 end_text(&mut self.index, text);
                 end_place(self.places.as_mut_slice(), number);

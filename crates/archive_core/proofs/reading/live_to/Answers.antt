@@ -20,8 +20,8 @@ returns-then-places-index-clause-greatest c =
     let here : slice_get xs at ≡ Some (get_or xs at d) = slice_get-get_or xs at d (omega (arith, low, bound)) in
     let next : c.loop-index.index ≡ at + 1 = omega (arith, some) in
     let counted : PlacesRise xs → IsCountUpTo xs c.args.n count = λ rise.
-        count-to xs c.args.n count
-        (IsPartitionPoint-from_clause (λ (p : MessagePlace). leb p.number c.args.n) xs count c.partition_point-count.ensures.partitioned (IsPartitionedBy-leb (λ (p : MessagePlace). p.number) xs c.args.n (places-sorted xs rise)) (λ a r q k. search rules)) in
+    count-to xs c.args.n count
+    (IsPartitionPoint-from_clause (λ (p : MessagePlace). leb p.number c.args.n) xs count c.partition_point-count.ensures.partitioned (IsPartitionedBy-leb (λ (p : MessagePlace). p.number) xs c.args.n (places-sorted xs rise)) (λ a r q k. search rules)) in
     greatest-some xs c.args.n at count (get_or xs at d) counted low here c.if-places-index.true (subst (λ (i : ℕ). NoneLive xs i count) next c.loop-index.invariant)
 
 pub loop-index-preserved : goal.loop-index-preserved
@@ -45,6 +45,6 @@ returns-clause-greatest c =
     let over = c.loop-index-test.false in
     let none : c.loop-index.index ≡ 0 = omega (arith, over) in
     let counted : PlacesRise xs → IsCountUpTo xs c.args.n count = λ rise.
-        count-to xs c.args.n count
-        (IsPartitionPoint-from_clause (λ (p : MessagePlace). leb p.number c.args.n) xs count c.partition_point-count.ensures.partitioned (IsPartitionedBy-leb (λ (p : MessagePlace). p.number) xs c.args.n (places-sorted xs rise)) (λ a r q k. search rules)) in
+    count-to xs c.args.n count
+    (IsPartitionPoint-from_clause (λ (p : MessagePlace). leb p.number c.args.n) xs count c.partition_point-count.ensures.partitioned (IsPartitionedBy-leb (λ (p : MessagePlace). p.number) xs c.args.n (places-sorted xs rise)) (λ a r q k. search rules)) in
     greatest-none xs c.args.n count counted (subst (λ (i : ℕ). NoneLive xs i count) none c.loop-index.invariant)

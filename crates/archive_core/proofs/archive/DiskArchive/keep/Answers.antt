@@ -35,9 +35,9 @@ invariant_of-self-2 g c =
     let count : length c.stored-entry.result.now ≡ length c.self.inside.store.entries = ap length c.stored-entry.ensures in (
       indexes-added c.self.inside.store c.deliver_entry.new.self c.self.inside.index c.put_text.new.index c.args.text.now c.args.blob c.self.invariant.0 c.requires.may.blob_is puts c.in_default-deliver_entry.ensures.added,
       more
-      ∙ ap (λ (ps : List MessagePlace). ps ++ record { number = c.next_number-number.result; entry = length c.stored-entry.result.now; live = true } ∷ []) (c.reserve.ensures.items ∙ c.self.invariant.1)
-      ∙ ap (λ (n : ℕ). message_places 0 c.self.inside.store.entries ++ place_of n (length c.stored-entry.result.now) true ∷ []) number
-      ∙ places-added c.self.inside.store c.deliver_entry.new.self c.args.text.now (length c.stored-entry.result.now) count c.in_default-deliver_entry.ensures.added,
+          ∙ ap (λ (ps : List MessagePlace). ps ++ record { number = c.next_number-number.result; entry = length c.stored-entry.result.now; live = true } ∷ []) (c.reserve.ensures.items ∙ c.self.invariant.1)
+          ∙ ap (λ (n : ℕ). message_places 0 c.self.inside.store.entries ++ place_of n (length c.stored-entry.result.now) true ∷ []) number
+          ∙ places-added c.self.inside.store c.deliver_entry.new.self c.args.text.now (length c.stored-entry.result.now) count c.in_default-deliver_entry.ensures.added,
     )
 
 pub returns-in-Err-clause-any_moment : goal.returns-in-Err-clause-any_moment
