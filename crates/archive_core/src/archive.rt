@@ -166,7 +166,8 @@ impl DiskArchive {
         ensures goes_on { OnDone result (GoesOn self.old.root self.new.root) }
         ensures slot { OnDone result (self.new.slot ≡ 1 - self.old.slot) }
         ensures same { OnRefusal result (self.new ≡ self.old) }
-        ensures untouched { OnRefusal result (UnlessFault result (OnlyLooks D.content D.moment D.left_since disk.old disk.new)) }
+        ensures untouched { OnRefusal result (UnlessFault result (OnlyLooks D.content D.moment
+            D.left_since disk.old disk.new)) }
         ensures sizes { UnlessFault result (WhereTold (HasSizes self.new) (D.content disk.new)) }
         ensures cause { RoseIf (result ≡ Answer.DiskFault) (D.faults disk.old) (D.faults disk.new) }
         ensures never_damaged { IsForCommand result }
@@ -301,7 +302,8 @@ impl DiskArchive {
         ensures goes_on { OnDone result (GoesOn self.old.root self.new.root) }
         ensures slot { OnDone result (self.new.slot ≡ 1 - self.old.slot) }
         ensures same { OnRefusal result (self.new ≡ self.old) }
-        ensures untouched { OnRefusal result (UnlessFault result (OnlyLooks D.content D.moment D.left_since disk.old disk.new)) }
+        ensures untouched { OnRefusal result (UnlessFault result (OnlyLooks D.content D.moment
+            D.left_since disk.old disk.new)) }
         ensures sizes { UnlessFault result (WhereTold (HasSizes self.new) (D.content disk.new)) }
         ensures cause { RoseIf (result ≡ Answer.DiskFault) (D.faults disk.old) (D.faults disk.new) }
         ensures for_command { IsForCommand result }
