@@ -1,5 +1,5 @@
 use Rattle.std.proofs.Common.{length}
 use Rattle.entry_walk.proofs.walk.Given as goal
 
-abbrev pub decreases-loop-left : goal.decreases-loop-left
-decreases-loop-left l = length l.left
+abbrev pub decreases-loop-event : goal.decreases-loop-event
+decreases-loop-event l = length l.left
