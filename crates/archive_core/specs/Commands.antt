@@ -199,5 +199,5 @@ pub record TakesCommand {D : Type 0} (content : D → Option Content) (moment : 
   pub untouched : OnRefusal reply (UnlessFault reply (OnlyLooks content moment left_since old new))
   pub sizes : UnlessFault reply (WhereTold (HasSizes after) (content new))
   pub cause : RoseIf (reply ≡ answer.DiskFault) (faults old) (faults new)
-  pub never_damaged : IsForCommand reply
+  pub for_command : IsForCommand reply
   pub count : ReadsOnce (reads old) (reads new)

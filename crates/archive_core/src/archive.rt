@@ -170,7 +170,7 @@ impl DiskArchive {
             D.left_since disk.old disk.new)) }
         ensures sizes { UnlessFault result (WhereTold (HasSizes self.new) (D.content disk.new)) }
         ensures cause { RoseIf (result ≡ Answer.DiskFault) (D.faults disk.old) (D.faults disk.new) }
-        ensures never_damaged { IsForCommand result }
+        ensures for_command { IsForCommand result }
         ensures count { ReadsOnce (D.reads disk.old) (D.reads disk.new) }
         ensures unread { (a : Archive) (cache : List ℕ)
             → IsStoreWith self.old cache a (D.content disk.old) → form_known a (stored bytes.now) ≡ false

@@ -155,7 +155,8 @@ impl<D: Disk> Engine<D> {
 
     /// Carries out a command on an archive that needn't be reopened.
     ///
-    /// The archive has to be reopened after the answer `DiskFault`, and after no other one.
+    /// The archive has to be reopened after the answers `DiskFault` and `Damaged`, and after no other
+    /// one. `Damaged` never comes while an archive is held.
     pub fn take(&mut self, command: &Command<'_>, moment: u64) -> Answer
         requires ready { self.old.stale ≡ false }
         requires moment { moment ≤ last_moment }
@@ -174,7 +175,7 @@ impl<D: Disk> Engine<D> {
             (standing a None) self.new t
             × Comes true (standing a None) (λ (b : Archive). applied b command.now moment) result t }
         ensures ready { self.new.stale ≡ needs_opening_after result }
-        ensures never_damaged { IsForCommand result }
+        ensures for_command { IsForCommand result }
         ensures later { D.faults self.old.disk ≤ D.faults self.new.disk }
         ensures cause { AnswerCause (D.faults self.old.disk) (D.faults self.new.disk) result }
         // Each fault of the disk is told.
