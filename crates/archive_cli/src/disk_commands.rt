@@ -76,7 +76,7 @@ pub(crate) fn deliver<D: Disk>(alloc: Global, disk: D, bytes: &[u8], moment: u64
     }
 }
 
-/// Reads the whole archive on a disk, and counts its entries and messages.
+/// Reads the whole archive on a disk, and counts its entries and live messages.
 pub(crate) fn check<D: Disk>(alloc: Global, disk: D) -> (Outcome, D)
     ensures any_moment { (may : List (Option Archive)) → AllRecoverOf may (D.content disk)
         → LeavesOnly D.moment D.left_since disk result.1 (RecoversOf may) }

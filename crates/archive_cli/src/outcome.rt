@@ -18,7 +18,7 @@ pub(crate) enum Outcome {
     Made(Name),
     /// There is an archive already.
     Exists,
-    /// The whole archive was read. It has these counts of entries and messages, and this next
+    /// The whole archive was read. It has these counts of entries and live messages, and this next
     /// number.
     Checked { entries: u64, live: u32, next: u32 },
     /// A command was answered.

@@ -2,7 +2,9 @@
 //! checked.
 use crate::run_tests::{Due, bytes, numbers};
 use arch_base::{NoMemory, Numbers};
+use arch_model::{Answer, Command};
 use archive_cli::run;
+use archive_core::Engine;
 use disk_model::{Disk, FileKind, FileName, FuseDisk, MemDisk};
 use edge_io::{Clock, ClockFault, MemSink, MemSource};
 use std::alloc::Global;
@@ -131,6 +133,14 @@ const CHECKED: Due<'_> = Due {
     printed: ONE,
 };
 
+/// A run that delivers the message to an archive without messages.
+const DELIVERED: Due<'_> = Due {
+    words: &["deliver"],
+    input: MAIL,
+    status: 0,
+    printed: TAKEN,
+};
+
 /// Runs that make an archive and fill it, each way that a run may end.
 const FILLED: [Due<'_>; 8] = [
     Due {
@@ -158,12 +168,7 @@ const FILLED: [Due<'_>; 8] = [
         status: 1,
         printed: b"3 no fields\n",
     },
-    Due {
-        words: &["deliver"],
-        input: MAIL,
-        status: 0,
-        printed: TAKEN,
-    },
+    DELIVERED,
     Due {
         words: &["deliver"],
         input: MAIL,
@@ -179,6 +184,56 @@ fn an_archive_is_made_filled_and_checked(rt: HostRuntime) {
         return assert!(rt; false);
     };
     assert!(rt; has_files_of_one(&mut disk));
+}
+
+/// Removes the message of an archive, which has the number 1. `None` if it isn't answered so.
+fn without_message(alloc: Global, disk: MemDisk) -> Option<MemDisk> {
+    let mut engine = Engine::open(alloc, disk).ok()?;
+    match engine.take(&Command::Remove(1), 1_706_781_800) {
+        Answer::Ok { number: 1, .. } => Some(engine.into_disk()),
+        _ => None,
+    }
+}
+
+/// Runs on an archive whose message was removed: it is counted as an entry and not as live, and comes
+/// again under a number of its own.
+const REMOVED: [Due<'_>; 4] = [
+    Due {
+        words: &["check"],
+        input: b"",
+        status: 0,
+        printed: b"entries 2 live 0 next 2\n",
+    },
+    Due {
+        words: &["deliver"],
+        input: MAIL,
+        status: 0,
+        printed: b"1 ok 2 1d023c572ccd6f3cc82ae855343346b043adaba5\n",
+    },
+    Due {
+        words: &["deliver"],
+        input: MAIL,
+        status: 0,
+        printed: b"2 duplicate 2\n",
+    },
+    Due {
+        words: &["check"],
+        input: b"",
+        status: 0,
+        printed: b"entries 3 live 1 next 3\n",
+    },
+];
+
+/// Makes an archive, delivers a message, removes it, and makes the runs on what is left.
+fn removed_and_come_again(alloc: Global) -> Option<MemDisk> {
+    let disk = printing_all(alloc, empty(alloc), &[MADE, DELIVERED])?;
+    let disk = without_message(alloc, disk)?;
+    printing_all(alloc, disk, &REMOVED)
+}
+
+#[test]
+fn a_removed_message_is_counted_and_comes_again(rt: HostRuntime) {
+    assert!(rt; removed_and_come_again(rt.alloc()).is_some());
 }
 
 /// Runs that make a mirror and deliver to it.
