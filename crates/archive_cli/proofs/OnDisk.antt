@@ -1,5 +1,5 @@
 -- What `init`, `deliver` and `check` do, by the calls below them.
-use Rattle.std.specs.Prelude.{◌≡◌, ◌≢◌, ◌<◌, ◌≤◌, ℕ, zero, suc, Bool, true, false, nat_lt, if◌then◌else◌, List, [], length, Option, Some, None, Result, Ok, Err, refl}
+use Rattle.std.specs.Prelude.{◌≡◌, ◌≢◌, ◌<◌, ◌≤◌, ℕ, zero, suc, true, List, [], length, Option, Some, None, Result, Ok, Err, refl}
 use Rattle.std.proofs.Common.{◌∙◌, sym, ap, subst, inl, inr, arith}
 use Rattle.arch_base.specs.Counts.{Rose, RoseIf}
 use Rattle.arch_base.specs.declared.config.Config.{Config}
@@ -11,15 +11,8 @@ use Rattle.root_slots.specs.Each.{IfThere}
 use Rattle.root_slots.specs.Spelling.{spelling}
 use Rattle.root_slots.specs.declared.root.Root.{Root}
 use Rattle.std.specs.List.{Contains}
-use Rattle.arch_model.specs.Archives.{Archive, empty_archive, with_entry, live as live_entries}
-use Rattle.git_objects.specs.Objects.{blob_id_of}
-use Rattle.mail_reader.specs.Stored.{stored}
-use Rattle.mail_reader.specs.declared.storing.StoredRefusal.{StoredRefusal}
-use Rattle.mail_reader.specs.declared.storing.StoredRefusal.TheVariants as storing
-use Rattle.arch_model.specs.Candidates.{choice_of}
-use Rattle.arch_model.specs.declared.choice.Choice.{Choice}
-use Rattle.arch_model.specs.declared.choice.Choice.TheVariants as choice
-use Rattle.arch_model.specs.Delivery.{Done, delivered, delivered_form, delivered_choice, delivered_kept, refused, new_epoch, collision}
+use Rattle.arch_model.specs.Archives.{Archive, empty_archive, live as live_entries}
+use Rattle.arch_model.specs.Delivery.{Done}
 use Rattle.arch_model.specs.Keeping.{Settles, Comes, Obeys, Doubts, AnswerCause}
 use Rattle.arch_model.specs.Standing.{Standing, standing, one_of, IsFound}
 use Rattle.arch_model.specs.declared.answer.Answer.{Answer}
@@ -151,32 +144,6 @@ opened-checks v a (Some k) entries live next store count lives following =
 pub opened-as : (v : View) (content : Option Content) (entries live next : ℕ) → WhereTold (λ (k : Content). Opens (as_read k) (Ok v)) content → entries ≡ length v.entries → next ≡ v.root.next → WhereTold (λ (k : Content). IsOpenedAs (as_read k) (Checked entries live next)) content
 opened-as v None entries live next answer count following = tt
 opened-as v (Some k) entries live next answer count following = (v, answer, count, following)
-
--- A delivery is never answered that a number isn't live.
-new_lives : (t : Bool) (a : Archive) (text : List ℕ) (moment n : ℕ) → (if t then refused a (answer.Full a.config.max) else record { archive = with_entry a (new_epoch a) text moment; answer = answer.Ok a.next (blob_id_of text) }).answer ≡ answer.NotLive n → ⊥
-new_lives true a text moment n is = cc
-new_lives false a text moment n is = cc
-
-kept_lives : (a : Archive) (text : List ℕ) (moment n : ℕ) (found : Option ℕ) → (delivered_kept a text moment found).answer ≡ answer.NotLive n → ⊥
-kept_lives a text moment n (Some number) is = cc
-kept_lives a text moment n None is = new_lives (nat_lt a.config.max a.next) a text moment n is
-
-choice_lives : (a : Archive) (moment n : ℕ) (taken : Choice) → (delivered_choice a moment taken).answer ≡ answer.NotLive n → ⊥
-choice_lives a moment n (choice.Repeat number) is = cc
-choice_lives a moment n (choice.Take text) is = kept_lives a text moment n (collision a.entries text) is
-
-form_lives : (a : Archive) (moment n : ℕ) (form : Result (List ℕ) StoredRefusal) → (delivered_form a moment form).answer ≡ answer.NotLive n → ⊥
-form_lives a moment n (Ok text) is = choice_lives a moment n (choice_of a text) is
-form_lives a moment n (Err storing.NoFields) is = cc
-form_lives a moment n (Err (storing.TooLarge len)) is = cc
-form_lives a moment n (Err storing.NoMemory) is = cc
-
-mirror_lives : (t : Bool) (a : Archive) (bytes : List ℕ) (moment n : ℕ) → (if t then refused a answer.IsMirror else delivered_form a moment (stored bytes)).answer ≡ answer.NotLive n → ⊥
-mirror_lives true a bytes moment n is = cc
-mirror_lives false a bytes moment n is = form_lives a moment n (stored bytes) is
-
-pub delivery-lives : (a : Archive) (bytes : List ℕ) (moment n : ℕ) → (delivered a bytes moment).answer ≡ answer.NotLive n → ⊥
-delivery-lives a bytes moment n is = mirror_lives a.config.mirror a bytes moment n is
 
 -- The answer of an open archive is the answer on the disk.
 pub done-answers : (v : View) (a : Archive) (wanted : Done) (reply : Answer) (content : Option Content) → ((n : ℕ) → wanted.answer ≡ answer.NotLive n → ⊥) → DoneBy v [] a wanted reply content → Answers a wanted reply content

@@ -19,7 +19,3 @@ lines_same before (e ∷ es) (suc i) = lines_same (before ++ e ∷ []) es i
 
 pub line-kept : (v : View) (a : Archive) (i : ℕ) → Keeps v a → line_if (slice_get v.entries i) ≡ line_at a.entries i
 line-kept v a i keeps = ap (λ (es : List StoredEntry). line_if (slice_get es i)) keeps.kept ∙ lines_same [] a.entries i
-
--- The number that an index gives is that of the archive.
-pub number-kept : (v : View) (a : Archive) (index : Index) (blob : List ℕ) (r : Option ℕ) → IndexesStored v.entries index → Keeps v a → r ≡ number_in index.blobs blob → r ≡ blob_number a.entries blob
-number-kept v a index blob r indexed keeps is = is ∙ (index-of_kept v a index keeps indexed).blobs blob

@@ -137,9 +137,6 @@ none-other xs n i p count here other rise k q there same = elim (before_or_not k
 abbrev pub NoneLive : List MessagePlace → ℕ → ℕ → Type 0
 NoneLive xs low high = (k : ℕ) (p : MessagePlace) → slice_get xs k ≡ Some p → low ≤ k → k < high → p.live ≡ false
 
-pub none-yet : (xs : List MessagePlace) (i : ℕ) → NoneLive xs i i
-none-yet xs i k p there low high = absurd (omega (arith, low, high))
-
 pub none-up : (xs : List MessagePlace) (first i : ℕ) (p : MessagePlace) → slice_get xs i ≡ Some p → p.live ≡ false → NoneLive xs first i → NoneLive xs first (i + 1)
 none-up xs first i p here dead none k q there low high = elim (before_or_not k i) [
   | inl less ↦ none k q there low less

@@ -87,10 +87,6 @@ never_none [] x is = cc
 never_none (y ∷ xs) x is = cc
 
 -- Two lists with a last item are the same only if their parts are.
-tail_of : List StoredEntry → List StoredEntry
-tail_of [] = []
-tail_of (x ∷ xs) = xs
-
 heads : (x y : StoredEntry) (xs ys : List StoredEntry) → x ∷ xs ≡ y ∷ ys → (x ≡ y) × (xs ≡ ys)
 heads x y xs ys is = (cc, cc)
 

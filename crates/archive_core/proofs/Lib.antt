@@ -1,7 +1,8 @@
-pub mod Counting
+mod Counting
+pub mod Answered
 mod Standing
 mod Places
-mod Stored
+pub mod Stored
 mod Indexes
 mod Verdicts
 mod Openings

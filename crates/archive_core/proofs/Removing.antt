@@ -1,5 +1,5 @@
 -- A removal from an archive on a disk: which entry it ends, its answers, and what is kept after it.
-use Rattle.std.specs.Prelude.{◌≡◌, ◌≢◌, ◌+◌, ◌-◌, ◌<◌, ◌≤◌, ◌==◌, ◌&&◌, ◌||◌, ℕ, zero, suc, Bool, true, false, not, List, [], ◌∷◌, ◌++◌, length, take, drop, get_or, slice_get, Option, Some, None, Result, Ok, Err, IsSome, is_some, unwrap_or, if◌then◌else◌, refl}
+use Rattle.std.specs.Prelude.{◌≡◌, ◌≢◌, ◌+◌, ◌-◌, ◌<◌, ◌≤◌, ◌==◌, ◌&&◌, ◌||◌, ℕ, zero, suc, Bool, true, false, not, List, [], ◌∷◌, ◌++◌, length, take, drop, get_or, slice_get, Option, Some, None, Result, Ok, Err, IsSome, unwrap_or, if◌then◌else◌, refl}
 use Rattle.std.specs.List.{AllByRecursion}
 use Rattle.std.specs.Str.{bytes_eq}
 use Rattle.std.proofs.Common.{◌∙◌, sym, ap, subst, arith}
@@ -62,28 +62,15 @@ named-at v a n i text keeps at shown =
     let own : own_id e.text ≡ Some (unwrap_or (own_id e.text) []) = id_of (own_id e.text) (all_at IsEntry a.entries i e keeps.valid.entries found.there).text.id in
     (at.message.entry, at.message.there, ap own_id same ∙ own ∙ ap (λ (s : StoredEntry). Some s.seen.id) (sym found.kept.1))
 
--- The answers of a removal.
-mirror_is : (v : View) (a : Archive) (t : Bool) → Keeps v a → v.root.config.mirror ≡ t → a.config.mirror ≡ t
-mirror_is v a t keeps is = ap (λ c. c.mirror) (sym keeps.names.config) ∙ is
-
-pub removed-mirror : (v : View) (a : Archive) (number moment : ℕ) → Keeps v a → v.root.config.mirror ≡ true → removed a number moment ≡ refused a answer.IsMirror
-removed-mirror v a number moment keeps is = ap (λ (t : Bool). if t then refused a answer.IsMirror else removed_text a number moment (text_of (live a.entries) number)) (mirror_is v a true keeps is)
-
-writable : (v : View) (a : Archive) (number moment : ℕ) (found : Option (List ℕ)) → Keeps v a → v.root.config.mirror ≡ false → text_of (live a.entries) number ≡ found → removed a number moment ≡ removed_text a number moment found
-writable v a number moment found keeps is shown =
-    ap (λ (t : Bool). if t then refused a answer.IsMirror else removed_text a number moment (text_of (live a.entries) number)) (mirror_is v a false keeps is)
+-- What a removal does.
+shown_by : (v : View) (a : Archive) (number moment : ℕ) (found : Option (List ℕ)) → Keeps v a → v.root.config.mirror ≡ false → text_of (live a.entries) number ≡ found → removed a number moment ≡ removed_text a number moment found
+shown_by v a number moment found keeps is shown =
+    ap (λ (t : Bool). if t then refused a answer.IsMirror else removed_text a number moment (text_of (live a.entries) number)) (ap (λ c. c.mirror) (sym keeps.names.config) ∙ is)
     ∙ ap (removed_text a number moment) shown
-
-no_text : (found : Option (List ℕ)) → is_some found ≡ false → found ≡ None
-no_text None lacks = refl
-no_text (Some text) lacks = absurd (cc)
-
-pub removed-none : (v : View) (a : Archive) (number moment : ℕ) → Keeps v a → v.root.config.mirror ≡ false → is_some (text_of (live a.entries) number) ≡ false → removed a number moment ≡ refused a (answer.NotLive number)
-removed-none v a number moment keeps is lacks = writable v a number moment None keeps is (no_text (text_of (live a.entries) number) lacks)
 
 pub removed-is : (v : View) (a : Archive) (number moment : ℕ) (text : List ℕ) → Keeps v a → v.root.config.mirror ≡ false → text_of (live a.entries) number ≡ Some text
     → removed a number moment ≡ record { archive = with_deletion a number (new_epoch a) text moment; answer = answer.Ok number (blob_id_of text) }
-removed-is v a number moment text keeps is shown = writable v a number moment (Some text) keeps is shown
+removed-is v a number moment text keeps is shown = shown_by v a number moment (Some text) keeps is shown
 
 -- The places after one more entry.
 or_none : (b : Bool) → (b || false) ≡ b

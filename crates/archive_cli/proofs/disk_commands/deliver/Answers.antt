@@ -2,7 +2,8 @@ use Rattle.std.proofs.Common.{[], inl}
 use Rattle.arch_model.specs.Archives.{Archive}
 use Rattle.arch_model.specs.Delivery.{delivered}
 use Rattle.arch_model.specs.Standing.{one_of}
-use Rattle.archive_cli.proofs.OnDisk.{unopened-delivers, unopened-stands, delivered-stands, delivered-leaves, delivered-answers, delivered-among, delivery-lives, answered-cause, refused-cause}
+use Rattle.archive_core.proofs.Answered.{delivery-lives}
+use Rattle.archive_cli.proofs.OnDisk.{unopened-delivers, unopened-stands, delivered-stands, delivered-leaves, delivered-answers, delivered-among, answered-cause, refused-cause}
 use Rattle.archive_cli.proofs.disk_commands.deliver.Goals as goal
 
 pub returns-in-Ok-clause-any_moment : goal.returns-in-Ok-clause-any_moment
