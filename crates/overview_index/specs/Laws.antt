@@ -1,7 +1,7 @@
 -- A law of the listing.
 use Rattle.std.specs.Prelude.{◌≡◌, ◌⊎◌, ℕ, List, [], ◌∷◌}
 use Rattle.std.specs.List.Sorted.{IsStrictlySortedBy}
-use Rattle.mail_rows.specs.declared.row.Row.{Row}
+use Rattle.mail_forms.specs.declared.row.Row.{Row}
 use Rattle.overview_index.specs.Listings.{spot_of, spot_cmp, spots}
 use Rattle.overview_index.specs.declared.spot.Spot.{Spot}
 

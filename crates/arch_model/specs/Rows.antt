@@ -8,8 +8,8 @@ use Rattle.mail_forms.specs.WireForms.{wire_of, feeds_of}
 use Rattle.mail_reader.specs.Bodies.{body_of}
 use Rattle.mail_reader.specs.Content.{content_id_of}
 use Rattle.mail_reader.specs.References.{refs_of}
-use Rattle.mail_rows.specs.Overviews.{id_fact, over_of}
-use Rattle.mail_rows.specs.declared.row.Row.{Row}
+use Rattle.arch_model.specs.Overviews.{id_fact, over_of}
+use Rattle.mail_forms.specs.declared.row.Row.{Row}
 
 -- The row of a text with this number, which arrived at this moment.
 unfoldable pub row_of : ℕ → List ℕ → ℕ → Row
