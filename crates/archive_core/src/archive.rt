@@ -17,7 +17,7 @@ ghost use Rattle.arch_base.specs.Moments.{last_moment};
 ghost use Rattle.archive_core.specs.Openings.{RefusesKindly};
 ghost use Rattle.epoch_store.specs.Promises.{MakesArchive, OpensArchive};
 ghost use Rattle.epoch_store.specs.Stores.{IsStoreWith, Keeps, HasSizes, RecoversEitherWith, SeesNoDamage, GoesOn};
-ghost use Rattle.archive_core.specs.Commands.{DoneBy, OnDone, OnRefusal, UnlessFault, OnlyLooks, IsForCommand, IsFaultRead, JudgesRead, IsAlone, TakesCommand, refusal_answer, unread_answer, damaged_place, IsNamed, IsTextAt, ReadsMessage, IsUnread};
+ghost use Rattle.archive_core.specs.Commands.{DoneBy, OnDone, OnRefusal, UnlessFault, OnlyLooks, IsForCommand, IsFaultRead, JudgesRead, IsAlone, TakesCommand, refusal_answer, unread_answer, damaged_place, IsNamed, IsTextAt, ReadsMessage, IsUnread, is_delivery, IfDelivery, TellsText, KeepsText};
 
 use crate::entries::index_of;
 use crate::placing::{MessagePlace, end_place, places_of};
@@ -133,7 +133,15 @@ impl DiskArchive {
     /// `Ok` the latter. `DiskFault` comes only if the disk's count of faults rose: one of the two
     /// archives is then there, and the archive has to be reopened. `NoMemory` comes only if memory
     /// runs out, or if the epoch's file has 2^62 bytes or more; then nothing was done.
-    pub fn command<D: Disk>(&mut self, disk: &mut D, command: &Command<'_>, moment: u64) -> Answer
+    ///
+    /// `kept` is left with the text that an accepted delivery kept.
+    pub fn command<D: Disk>(
+        &mut self,
+        disk: &mut D,
+        command: &Command<'_>,
+        moment: u64,
+        kept: &mut Bytes,
+    ) -> Answer
         requires moment { moment ≤ last_moment }
         requires sizes { WhereTold (HasSizes self.old) (D.content disk.old) }
         ensures taken { TakesCommand D.content D.moment D.left_since D.faults D.reads disk.old
@@ -142,15 +150,26 @@ impl DiskArchive {
         ensures unread { (a : Archive) (cache : List ℕ)
             → IsStoreWith self.old cache a (D.content disk.old) → text_known a command.now ≡ false
             → D.reads disk.new ≡ D.reads disk.old }
+        ensures text { IfDelivery (is_delivery command.now) (TellsText result kept.new) }
+        ensures kept { (a : Archive) (cache : List ℕ)
+            → IsStoreWith self.old cache a (D.content disk.old)
+            → IfDelivery (is_delivery command.now)
+            (OnDone result (KeepsText a (applied a command.now moment) moment kept.new)) }
     {
         match command {
-            Command::Deliver(bytes) => self.deliver(disk, bytes, moment),
+            Command::Deliver(bytes) => self.deliver(disk, bytes, moment, kept),
             Command::Remove(number) => self.remove(disk, *number, moment),
         }
     }
 
-    /// Delivers a message, or refuses it.
-    fn deliver<D: Disk>(&mut self, disk: &mut D, bytes: &[u8], moment: u64) -> Answer
+    /// Delivers a message, or refuses it. `kept` is left with the text that was kept.
+    fn deliver<D: Disk>(
+        &mut self,
+        disk: &mut D,
+        bytes: &[u8],
+        moment: u64,
+        kept: &mut Bytes,
+    ) -> Answer
         requires moment { moment ≤ last_moment }
         requires sizes { WhereTold (HasSizes self.old) (D.content disk.old) }
         ensures any_moment { (a : Archive) (cache : List ℕ)
@@ -175,6 +194,10 @@ impl DiskArchive {
         ensures unread { (a : Archive) (cache : List ℕ)
             → IsStoreWith self.old cache a (D.content disk.old) → form_known a (stored bytes.now) ≡ false
             → D.reads disk.new ≡ D.reads disk.old }
+        ensures text { TellsText result kept.new }
+        ensures kept { (a : Archive) (cache : List ℕ)
+            → IsStoreWith self.old cache a (D.content disk.old)
+            → OnDone result (KeepsText a (delivered a bytes.now moment) moment kept.new) }
     {
         law_of_stores();
         match self.verdict(disk, bytes) {
@@ -183,7 +206,10 @@ impl DiskArchive {
             Verdict::Compare { .. } => Answer::NoMemory,
             Verdict::Take { text, blob, number } => {
                 match self.keep(disk, text.as_slice(), blob, moment) {
-                    Ok(()) => Answer::Ok { number, id: blob },
+                    Ok(()) => {
+                        *kept = text;
+                        Answer::Ok { number, id: blob }
+                    }
                     Err(refusal) => answer_of(&refusal),
                 }
             }
