@@ -29,11 +29,13 @@ GivesTextAt entries index old new (Err (refusal.Damaged named found)) = ⊥
 GivesTextAt entries index old new (Err refusal.DiskFault) = Unit {0}
 GivesTextAt entries index old new (Err refusal.NoMemory) = Unit {0}
 
--- A call that only reads: the states are alike, the archive and the lines stay, and the count of
--- faults didn't fall.
-pub record WalksOn {W : Type 0} (holds : W → Archive → Type 0) (lines : W → List EntryLine)
-    (alike : W → W → Type 0) (faults : W → ℕ) (old new : W) : Type 0 where
+-- A call that only reads: the states are alike, the archive and the lines stay, so do texts that are
+-- in their places, and the count of faults didn't fall.
+pub record WalksOn {W : Type 0} (holds : W → Archive → Type 0) (sound : W → Type 0)
+    (lines : W → List EntryLine) (alike : W → W → Type 0) (faults : W → ℕ) (old new : W)
+    : Type 0 where
   pub same : alike old new
   pub kept : (a : Archive) → holds old a → holds new a
+  pub sounds : sound old → sound new
   pub lines_are : lines new ≡ lines old
   pub later : faults old ≤ faults new

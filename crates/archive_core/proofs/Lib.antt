@@ -10,4 +10,7 @@ mod ByBlob
 mod ByNumber
 mod ByIndex
 mod Removing
+mod KeepingUp
+mod OpeningRows
+mod Walking
 pub mod Engines

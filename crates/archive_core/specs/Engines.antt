@@ -65,6 +65,22 @@ Leaves moment left_since start e may = (moment start.disk ≤ moment e.disk) × 
     × ((image : Files) → left_since e.disk (moment start.disk) image
     → RecoversOfWith cache may image)
 
+-- The rows keep up with a command that was answered so: they are those of the archive after it, unless
+-- the engine has to be reopened after `Ok`. After a fault they say nothing.
+abbrev pub RowsKeepUp : Answer → Bool → List (ℕ × Row) → Archive → Archive → Type 0
+RowsKeepUp (answer.Ok number id) ready rows a b = ready ≡ true → rows ≡ rows_of (live b.entries)
+RowsKeepUp answer.NoMemory ready rows a b = rows ≡ rows_of (live a.entries)
+RowsKeepUp answer.DiskFault ready rows a b = Unit {0}
+RowsKeepUp (answer.Damaged file at) ready rows a b = Unit {0}
+RowsKeepUp (answer.Duplicate number) ready rows a b = rows ≡ rows_of (live b.entries)
+RowsKeepUp answer.NoFields ready rows a b = rows ≡ rows_of (live b.entries)
+RowsKeepUp (answer.TooLarge len) ready rows a b = rows ≡ rows_of (live b.entries)
+RowsKeepUp (answer.Full max) ready rows a b = rows ≡ rows_of (live b.entries)
+RowsKeepUp (answer.Collision number) ready rows a b = rows ≡ rows_of (live b.entries)
+RowsKeepUp (answer.NotLive number) ready rows a b = rows ≡ rows_of (live b.entries)
+RowsKeepUp (answer.NoText number) ready rows a b = rows ≡ rows_of (live b.entries)
+RowsKeepUp answer.IsMirror ready rows a b = rows ≡ rows_of (live b.entries)
+
 -- Only reads of the disk lead from one state to the other.
 pub record ReadsOn {D : Type 0} (content : D → Option Content) (moment : D → ℕ)
     (left_since : D → ℕ → Files → Type 0) (old new : Owning D) : Type 0 where

@@ -1,10 +1,10 @@
 -- What an archive that wasn't opened leaves.
-use Rattle.std.specs.Prelude.{ℕ, List, Option, Some, None, Result, Ok, Err}
+use Rattle.std.specs.Prelude.{ℕ, List, Option, Result, Ok, Err}
 use Rattle.disk_model.specs.Disk.{Content, Told}
 use Rattle.arch_model.specs.Archives.{Archive}
 use Rattle.arch_model.specs.declared.opening.OpenRefusal.{OpenRefusal}
 use Rattle.arch_model.specs.declared.opening.OpenRefusal.TheVariants.{NoArchive, Damaged, DiskFault, NoMemory}
-use Rattle.epoch_store.specs.Opens.{ReadsWith, OpensWell, IsOnlySynced}
+use Rattle.epoch_store.specs.Opens.{ReadsWith, IsOnlySynced}
 
 -- Files that read as those of an archive with a cache still do.
 abbrev pub StillReads : Option Content → Option Content → Type 0
@@ -24,8 +24,3 @@ abbrev pub RefusesKindly : {T : Type 0} → Result T OpenRefusal → Option Cont
     → Type 0
 RefusesKindly (Ok made) old new = Unit {0}
 RefusesKindly (Err refusal) old new = LeavesKindly refusal old new
-
--- A refusal that leaves the archive open says nothing of the files of a disk that tells its content.
-abbrev pub StopsBetween : {T : Type 0} → Result T OpenRefusal → Option Content → Type 0
-StopsBetween result None = Unit {0}
-StopsBetween result (Some k) = OpensWell result

@@ -7,6 +7,7 @@ use Rattle.mail_forms.specs.declared.row.Row.{Row}
 use Rattle.arch_model.specs.Archives.{Entry, Archive}
 use Rattle.arch_model.specs.Shelves.{ReadingWhy, IsUndamaged}
 use Rattle.arch_model.specs.Rows.{row_of}
+use Rattle.arch_model.specs.Validity.{IsArchive}
 use Rattle.arch_model.specs.Walking.{HasTextAt}
 use Rattle.arch_model.specs.declared.answer.Answer.{Answer}
 use Rattle.arch_model.specs.declared.answer.Answer.TheVariants as answer
@@ -18,8 +19,8 @@ use Rattle.arch_model.specs.declared.opening.OpenRefusal.TheVariants as opening
 use Rattle.arch_model.specs.declared.text_refusal.TextRefusal.{TextRefusal}
 use Rattle.arch_model.specs.declared.text_refusal.TextRefusal.TheVariants as reading
 use Rattle.epoch_store.specs.Files.{epoch_file_of}
-use Rattle.epoch_store.specs.Reads.{line_of}
-use Rattle.epoch_store.specs.Stores.{View}
+use Rattle.epoch_store.specs.Reads.{line_of, HasTexts}
+use Rattle.epoch_store.specs.Stores.{View, IsStoreWith}
 use Rattle.epoch_store.specs.declared.entries.StoredEntry.{StoredEntry}
 use Rattle.overview_index.specs.Listings.{with_row, without}
 use Rattle.archive_core.specs.Commands.{OnlyLooks}
@@ -30,6 +31,11 @@ use Rattle.archive_core.specs.declared.rows.Unread.{Unread}
 abbrev pub lines_kept : List StoredEntry → List EntryLine
 lines_kept [] = []
 lines_kept (s ∷ ss) = line_of s ∷ lines_kept ss
+
+-- A disk tells its content, and each entry's text is in its place there.
+abbrev pub IsSound : View → Option Content → Type 0
+IsSound v None = ⊥
+IsSound v (Some k) = HasTexts v k
 
 -- Why a text of what is walked through wasn't read, or that memory ran out for a row.
 abbrev pub WalkWhy : {T : Type 0} → ℕ → ℕ → Result T Unread → Type 0
@@ -80,6 +86,12 @@ RowsAfter command answer.IsMirror text moment old new = new ≡ old
 RowsAfter command answer.DiskFault text moment old new = new ≡ old
 RowsAfter command (answer.Damaged file offset) text moment old new = new ≡ old
 RowsAfter command answer.NoMemory text moment old new = new ≡ old
+
+-- An archive whose own disk is there is valid.
+pub store-valid : (v : View) (cache : List ℕ) (a : Archive) (k : Option Content)
+    → IsStoreWith v cache a k → IsArchive a
+store-valid v cache a None store = absurd store
+store-valid v cache a (Some k) store = store.keeps.valid
 
 -- Laws of a disk that is only read.
 module _ {D : Type 0} (content : D → Option Content) (moment : D → ℕ)

@@ -1,5 +1,5 @@
 //! An archive that owns its disk.
-ghost use Rattle.std.specs.Prelude.{◌≡◌, ◌≢◌, ◌≤◌, true, false, IfOk, IfErr, OnErr, Err, List, [], None, is_some, length, ℕ};
+ghost use Rattle.std.specs.Prelude.{◌≡◌, ◌≢◌, ◌≤◌, true, false, IfOk, IfErr, OnErr, Err, List, [], None, not, ◌||◌, is_ok, is_some, length, ℕ};
 ghost use Rattle.arch_base.specs.Configs.{IsConfig};
 ghost use Rattle.arch_base.specs.Moments.{last_moment};
 ghost use Rattle.disk_model.specs.Disk.{LeavesOnly};
@@ -215,7 +215,7 @@ impl<D: Disk> Engine<D> {
             .command(&mut self.disk, command, moment, &mut text);
         let kept = text.as_slice();
         let followed = follow(self.alloc, &mut self.overview, command, &answer, kept, moment);
-        self.stale = needs_opening(&answer) || followed.is_err();
+        self.stale = is_left_stale(&answer, &followed);
         answer
     }
 }
@@ -369,4 +369,11 @@ fn needs_opening(answer: &Answer) -> bool
         Answer::Damaged { file: _, at: _ } => true,
         _other => false,
     }
+}
+
+/// Returns whether an archive has to be reopened after this answer, whose rows were brought up or not.
+fn is_left_stale(answer: &Answer, followed: &Result<(), NoMemory>) -> bool
+    ensures { result ≡ (needs_opening_after answer.now || not (is_ok followed.now)) }
+{
+    needs_opening(answer) || followed.is_err()
 }

@@ -6,13 +6,11 @@ ghost use Rattle.arch_model.specs.Listings.{rows_of};
 ghost use Rattle.arch_model.specs.declared.opening.OpenRefusal.{OpenRefusal};
 ghost use Rattle.epoch_store.specs.Opens.{ReadsWith, OpensWell};
 ghost use Rattle.epoch_store.specs.Promises.{OpensArchive};
-ghost use Rattle.epoch_store.specs.Reads.{HasTexts};
 ghost use Rattle.epoch_store.specs.Stores.{IsStoreWith};
-ghost use Rattle.disk_model.specs.Disk.{WhereTold};
 ghost use Rattle.archive_core.specs.Commands.{OnlyLooks};
 ghost use Rattle.archive_core.specs.HandedBack.{view_opened};
-ghost use Rattle.archive_core.specs.Openings.{RefusesKindly, StopsBetween};
-ghost use Rattle.archive_core.specs.Walks.{unread_opening};
+ghost use Rattle.archive_core.specs.Openings.{RefusesKindly};
+ghost use Rattle.archive_core.specs.Walks.{IsSound, unread_opening};
 
 use crate::archive::DiskArchive;
 use crate::rows::{Unread, walked_rows};
@@ -65,8 +63,7 @@ impl DiskArchive {
             → IfOk result (λ rows. rows ≡ rows_of (live a.entries)) }
         ensures well { (a : Archive) (cache : List ℕ)
             → IsStoreWith self.now cache a (D.content disk.old) → OpensWell result }
-        ensures told { WhereTold (HasTexts self.now) (D.content disk.old)
-            → StopsBetween result (D.content disk.old) }
+        ensures sound { IsSound self.now (D.content disk.old) → OpensWell result }
         ensures looks { OnlyLooks D.content D.moment D.left_since disk.old disk.new }
         ensures cause { RoseIf (result ≡ Err OpenRefusal.DiskFault) (D.faults disk.old)
             (D.faults disk.new) }

@@ -33,8 +33,9 @@ pub(crate) fn walked_rows<W: Walked>(alloc: Global, walked: &mut W) -> Result<Ov
     ensures rows { (a : Archive) → W.holds walked.old a
         → IfOk result (λ rows. rows ≡ rows_of (live a.entries)) }
     ensures undamaged { (a : Archive) → W.holds walked.old a → WalksUndamaged result }
+    ensures sound { W.sound walked.old → WalksUndamaged result }
     ensures within { StopsWithin (length (W.lines walked.old)) result }
-    ensures walk { WalksOn W.holds W.lines W.alike W.faults walked.old walked.new }
+    ensures walk { WalksOn W.holds W.sound W.lines W.alike W.faults walked.old walked.new }
     ensures cause { WalkWhy (W.faults walked.old) (W.faults walked.new) result }
 {
     let mut overview = Overview::new(alloc);
@@ -54,8 +55,9 @@ fn fill_rows<W: Walked>(
     ensures rows { (a : Archive) → W.holds walked.old a
         → OnOk result (overview.new ≡ rows_of (live a.entries)) }
     ensures undamaged { (a : Archive) → W.holds walked.old a → WalksUndamaged result }
+    ensures sound { W.sound walked.old → WalksUndamaged result }
     ensures within { StopsWithin (length (W.lines walked.old)) result }
-    ensures walk { WalksOn W.holds W.lines W.alike W.faults walked.old walked.new }
+    ensures walk { WalksOn W.holds W.sound W.lines W.alike W.faults walked.old walked.new }
     ensures cause { WalkWhy (W.faults walked.old) (W.faults walked.new) result }
 {
     let mut index: u64 = 0;
@@ -91,7 +93,8 @@ fn take_line<W: Walked>(
         → overview.old ≡ rows_of (live (take index a.entries))
         → OnOk result (overview.new ≡ rows_of (live (take (index + 1) a.entries))) }
     ensures undamaged { (a : Archive) → W.holds walked.old a → IfErr result IsUndamaged }
-    ensures walk { WalksOn W.holds W.lines W.alike W.faults walked.old walked.new }
+    ensures sound { W.sound walked.old → IfErr result IsUndamaged }
+    ensures walk { WalksOn W.holds W.sound W.lines W.alike W.faults walked.old walked.new }
     ensures cause { ReadCause (W.faults walked.old) (W.faults walked.new) result }
 {
     match line.kind {
@@ -116,7 +119,8 @@ fn add_message<W: Walked>(
     ensures row { (a : Archive) → W.holds walked.old a → OnOk result (AddsRowAt a.entries index
         line.now.number line.now.secs overview.old overview.new) }
     ensures undamaged { (a : Archive) → W.holds walked.old a → IfErr result IsUndamaged }
-    ensures walk { WalksOn W.holds W.lines W.alike W.faults walked.old walked.new }
+    ensures sound { W.sound walked.old → IfErr result IsUndamaged }
+    ensures walk { WalksOn W.holds W.sound W.lines W.alike W.faults walked.old walked.new }
     ensures cause { ReadCause (W.faults walked.old) (W.faults walked.new) result }
 {
     let mut text = Bytes::new(alloc);

@@ -2,7 +2,7 @@
 ghost use Rattle.std.specs.Prelude.{◌≡◌, ℕ, List, refl};
 ghost use Rattle.std.proofs.Common.{◌∙◌};
 ghost use Rattle.archive_core.specs.Commands.{OnlyLooks};
-ghost use Rattle.archive_core.specs.Walks.{lines_kept, looks-same, looks-joined};
+ghost use Rattle.archive_core.specs.Walks.{lines_kept, IsSound, store-valid, looks-same, looks-joined};
 ghost use Rattle.epoch_store.specs.Stores.{IsStoreWith};
 
 use arch_base::Bytes;
@@ -22,6 +22,8 @@ pub struct Walk<'a, D: Disk> {
 impl<'a, D: Disk> Walked for Walk<'a, D> {
     ghost holds = { λ w a. (cache : List ℕ) × IsStoreWith w.store.now cache a (D.content w.disk.now) };
 
+    ghost sound = { λ w. IsSound w.store.now (D.content w.disk.now) };
+
     ghost lines = { λ w. lines_kept w.store.now.entries };
 
     ghost reads = { λ w. D.reads w.disk.now };
@@ -39,6 +41,8 @@ impl<'a, D: Disk> Walked for Walk<'a, D> {
     fn text(&mut self, index: u64, into: &mut Bytes) -> Result<(), TextRefusal> {
         self.store.text(&mut *self.disk, index, into)
     }
+
+    ghost holds_valid = { λ w a store. store-valid w.store.now store.0 a (D.content w.disk.now) store.1 };
 
     ghost alike_same = { λ w. (refl, refl, looks-same D.content D.moment D.left_since D.only_now w.disk.now) };
 

@@ -21,33 +21,33 @@ pub returns-clause-any_moment : goal.returns-clause-any_moment
 returns-clause-any_moment g c =
     let room = c.has_next_root.ensures.0 c.if-not-has_next_root.false in
     left-from g.D.Disk.content g.D.Disk.moment g.D.Disk.left_since g.met.D.Disk.counts_now g.met.D.Disk.only_now g.met.D.Disk.reads_fit
-    (record { disk = c.self.inside.disk; view = c.self.inside.archive; stale = c.self.inside.stale }) c.args.self.now c.self.view_is c.command-answer.new.disk
+    (record { disk = c.self.inside.disk; view = c.self.inside.archive; rows = c.self.inside.overview; stale = c.self.inside.stale }) c.args.self.now c.self.view_is c.command-answer.new.disk
     (λ (a : Archive). (applied a c.args.command.now c.args.moment).archive) (λ a cache store. c.command-answer.ensures.taken.any_moment a cache store room)
 
 pub returns-clause-done : goal.returns-clause-done
 returns-clause-done g c =
     let room = c.has_next_root.ensures.0 c.if-not-has_next_root.false in
     done-from g.D.Disk.content g.D.Disk.moment g.D.Disk.left_since g.met.D.Disk.counts_now g.met.D.Disk.only_now g.met.D.Disk.reads_fit
-    (record { disk = c.self.inside.disk; view = c.self.inside.archive; stale = c.self.inside.stale }) c.args.self.now c.self.view_is c.command-answer.new.self c.command-answer.new.disk
+    (record { disk = c.self.inside.disk; view = c.self.inside.archive; rows = c.self.inside.overview; stale = c.self.inside.stale }) c.args.self.now c.self.view_is c.command-answer.new.self c.command-answer.new.disk
     (λ (a : Archive). applied a c.args.command.now c.args.moment) c.command-answer.result (λ a cache store. c.command-answer.ensures.taken.done a cache store room)
 
 pub returns-clause-stands : goal.returns-clause-stands
 returns-clause-stands g c =
     let room = c.has_next_root.ensures.0 c.if-not-has_next_root.false in
     taken-from g.D.Disk.content g.D.Disk.moment g.D.Disk.left_since g.met.D.Disk.counts_now g.met.D.Disk.only_now g.met.D.Disk.reads_fit
-    (record { disk = c.self.inside.disk; view = c.self.inside.archive; stale = c.self.inside.stale }) c.args.self.now c.self.view_is c.law_of_recovery.ensures.caches
+    (record { disk = c.self.inside.disk; view = c.self.inside.archive; rows = c.self.inside.overview; stale = c.self.inside.stale }) c.args.self.now c.self.view_is c.law_of_recovery.ensures.caches
     (record { disk = c.command-answer.new.disk; view = c.command-answer.new.self; stale = c.needs_opening-self-inside.result })
     (λ (a : Archive). applied a c.args.command.now c.args.moment) c.command-answer.result c.needs_opening-self-inside.ensures
     (λ a cache store. c.command-answer.ensures.taken.any_moment a cache store room) (λ a cache store. c.command-answer.ensures.taken.done a cache store room) c.command-answer.ensures.taken.untouched
 
 pub returns-clause-cause : goal.returns-clause-cause
 returns-clause-cause g c = answer-cause-from g.D.Disk.content g.D.Disk.moment g.D.Disk.left_since g.met.D.Disk.counts_now g.met.D.Disk.only_now g.met.D.Disk.reads_fit
-    (record { disk = c.self.inside.disk; view = c.self.inside.archive; stale = c.self.inside.stale }) c.args.self.now c.self.view_is
+    (record { disk = c.self.inside.disk; view = c.self.inside.archive; rows = c.self.inside.overview; stale = c.self.inside.stale }) c.args.self.now c.self.view_is
     g.D.Disk.faults c.command-answer.new.disk c.command-answer.result c.command-answer.ensures.taken.cause
 
 pub returns-clause-steady : goal.returns-clause-steady
 returns-clause-steady g c = steady-from g.D.Disk.content g.D.Disk.moment g.D.Disk.left_since g.met.D.Disk.counts_now g.met.D.Disk.only_now g.met.D.Disk.reads_fit
-    (record { disk = c.self.inside.disk; view = c.self.inside.archive; stale = c.self.inside.stale }) c.args.self.now c.self.view_is
+    (record { disk = c.self.inside.disk; view = c.self.inside.archive; rows = c.self.inside.overview; stale = c.self.inside.stale }) c.args.self.now c.self.view_is
     g.D.Disk.faults c.command-answer.new.disk c.command-answer.result c.command-answer.ensures.taken.cause
 
 pub returns-clause-unread : goal.returns-clause-unread
