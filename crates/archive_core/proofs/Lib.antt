@@ -11,6 +11,7 @@ mod ByNumber
 mod ByIndex
 mod Removing
 mod KeepingUp
+mod KeptTexts
 mod OpeningRows
 mod Walking
 pub mod Engines

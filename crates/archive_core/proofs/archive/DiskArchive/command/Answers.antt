@@ -2,9 +2,9 @@ use Rattle.std.proofs.Common.{◌≡◌, ◌∙◌, Bool, true, false, rules, sy
 use Rattle.arch_model.specs.Keeping.{text_known}
 use Rattle.disk_model.specs.Disk.{LeavesOnly}
 use Rattle.arch_model.specs.Archives.{Archive}
-use Rattle.arch_model.specs.Delivery.{Done}
+use Rattle.arch_model.specs.Delivery.{Done, applied}
 use Rattle.epoch_store.specs.Stores.{RecoversEitherWith}
-use Rattle.archive_core.specs.Commands.{DoneBy}
+use Rattle.archive_core.specs.Commands.{DoneBy, OnDone, is_delivery, IfDelivery, TellsText, KeepsText}
 use Rattle.archive_core.proofs.archive.DiskArchive.command.Goals as goal
 
 pub returns-in-Deliver : goal.returns-in-Deliver
@@ -25,6 +25,10 @@ returns-in-Deliver g c = record {
     count = c.deliver.ensures.count;
   };
   unread = λ a cache store unknown. c.deliver.ensures.unread a cache store (subst (λ (t : Bool). t ≡ false) (search rules) unknown);
+  text = (let yes : is_delivery c.args.command.now ≡ true = search rules in subst (λ (t : Bool). IfDelivery t (TellsText c.deliver.result c.deliver.new.kept)) (sym yes) c.deliver.ensures.text);
+  kept = λ a cache store. (let yes : is_delivery c.args.command.now ≡ true = search rules in
+      subst (λ (t : Bool). IfDelivery t (OnDone c.deliver.result (KeepsText a (applied a c.args.command.now c.args.moment) c.args.moment c.deliver.new.kept))) (sym yes)
+      (subst (λ (d : Done). OnDone c.deliver.result (KeepsText a d c.args.moment c.deliver.new.kept)) (search rules) (c.deliver.ensures.kept a cache store)));
 }
 
 pub returns-in-Remove : goal.returns-in-Remove
@@ -45,4 +49,7 @@ returns-in-Remove g c = record {
     count = c.remove.ensures.count;
   };
   unread = λ a cache store unknown. (let known : text_known a c.args.command.now ≡ true = search rules in let wrong : true ≡ false = sym known ∙ unknown in absurd (cc));
+  text = (let no : is_delivery c.args.command.now ≡ false = search rules in subst (λ (t : Bool). IfDelivery t (TellsText c.remove.result c.args.kept.now)) (sym no) tt);
+  kept = λ a cache store. (let no : is_delivery c.args.command.now ≡ false = search rules in
+      subst (λ (t : Bool). IfDelivery t (OnDone c.remove.result (KeepsText a (applied a c.args.command.now c.args.moment) c.args.moment c.args.kept.now))) (sym no) tt);
 }

@@ -21,7 +21,7 @@ returns-in-Ok-clause-nothing g c = λ ready. absurd (still-stale g.D.Disk.conten
 pub returns-in-Ok-clause-found : goal.returns-in-Ok-clause-found
 returns-in-Ok-clause-found g c = opened-from g.D.Disk.content g.D.Disk.moment g.D.Disk.left_since g.met.D.Disk.counts_now g.met.D.Disk.only_now g.met.D.Disk.reads_fit
     (record { disk = c.self.inside.disk; view = c.self.inside.archive; rows = c.self.inside.overview; stale = c.self.inside.stale }) c.args.self.now c.self.view_is
-    (record { disk = c.open.new.disk; view = c.in-Ok.archive; rows = c.in-Ok.overview; stale = false }) c.open.ensures.opened.any_moment c.in-Ok.ensures.opened.done
+    (record { disk = c.open.new.disk; view = c.in-Ok.archive; rows = c.in-Ok.overview; stale = false }) c.open.ensures.opened.any_moment (λ a cache reads. (c.in-Ok.ensures.opened.done a cache reads, c.in-Ok.ensures.rows a cache reads))
 
 pub returns-in-Ok-clause-any_moment : goal.returns-in-Ok-clause-any_moment
 returns-in-Ok-clause-any_moment g c = passes-from g.D.Disk.content g.D.Disk.moment g.D.Disk.left_since g.met.D.Disk.counts_now g.met.D.Disk.only_now g.met.D.Disk.reads_fit
