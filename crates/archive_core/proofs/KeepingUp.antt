@@ -143,6 +143,10 @@ pub on-ok : {T E : Type 0} (r : Result T E) (P : Type 0) → OnOk r P → is_ok 
 on-ok (Ok x) P holds ok = holds
 on-ok (Err e) P holds ok = absurd (cc)
 
+pub on-weaker : {T E : Type 0} (r : Result T E) (P Q : Type 0) → (P → Q) → OnOk r P → OnOk r Q
+on-weaker (Ok x) P Q less holds = less holds
+on-weaker (Err e) P Q less holds = tt
+
 -- An engine that is ready after a command brought its rows up.
 pub followed-ready : (needs ok : Bool) → not (needs || not ok) ≡ true → ok ≡ true
 followed-ready true ok is = absurd (cc)

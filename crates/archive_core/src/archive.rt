@@ -126,6 +126,23 @@ impl DiskArchive {
 
     /// Takes a command at a moment, in seconds since 1970.
     ///
+    /// As `command_keeping` does, but the text that a delivery kept isn't told.
+    pub fn command<D: Disk>(&mut self, disk: &mut D, command: &Command<'_>, moment: u64) -> Answer
+        requires moment { moment ≤ last_moment }
+        requires sizes { WhereTold (HasSizes self.old) (D.content disk.old) }
+        ensures taken { TakesCommand D.content D.moment D.left_since D.faults D.reads disk.old
+            disk.new self.old self.new (λ a. applied a command.now moment) result }
+        // A delivery whose blob id no entry has reads nothing.
+        ensures unread { (a : Archive) (cache : List ℕ)
+            → IsStoreWith self.old cache a (D.content disk.old) → text_known a command.now ≡ false
+            → D.reads disk.new ≡ D.reads disk.old }
+    {
+        let mut kept = Bytes::new(self.alloc);
+        self.command_keeping(disk, command, moment, &mut kept)
+    }
+
+    /// Takes a command at a moment, in seconds since 1970.
+    ///
     /// `Deliver`: the message takes the next number, or is refused by the first cause of these: a
     /// mirror, no field, too many bytes, the same message, another text with its blob id, and no
     /// number left. `Remove`: the message with a number is ended, or the archive is a mirror, or the
@@ -137,7 +154,7 @@ impl DiskArchive {
     /// runs out, or if the epoch's file has 2^62 bytes or more; then nothing was done.
     ///
     /// `kept` is left with the text that an accepted delivery kept.
-    pub fn command<D: Disk>(
+    pub fn command_keeping<D: Disk>(
         &mut self,
         disk: &mut D,
         command: &Command<'_>,

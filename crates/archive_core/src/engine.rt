@@ -212,7 +212,7 @@ impl<D: Disk> Engine<D> {
         let mut text = Bytes::new(self.alloc);
         let answer = self
             .archive
-            .command(&mut self.disk, command, moment, &mut text);
+            .command_keeping(&mut self.disk, command, moment, &mut text);
         let kept = text.as_slice();
         let followed = follow(self.alloc, &mut self.overview, command, &answer, kept, moment);
         self.stale = is_left_stale(&answer, &followed);

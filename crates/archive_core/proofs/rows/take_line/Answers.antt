@@ -1,8 +1,11 @@
+use Rattle.archive_core.proofs.KeepingUp.{on-weaker}
 use Rattle.archive_core.proofs.Walking.{rows-message, rows-deletion, walks-same}
 use Rattle.archive_core.proofs.rows.take_line.Goals as goal
 
 pub returns-in-Message-clause-rows : goal.returns-in-Message-clause-rows
-returns-in-Message-clause-rows g c = λ a held old_is. search rules
+returns-in-Message-clause-rows g c = λ a held old_is.
+    on-weaker c.add_message.result _ _ (λ adds. rows-message a c.args.index c.args.line.now c.args.overview.now c.add_message.new.overview (g.met.W.Walked.holds_valid c.args.walked.now a held) (c.requires.archive a held) c.in-Message.is old_is adds)
+    (c.add_message.ensures.row a held)
 
 pub returns-in-Deletion-clause-rows : goal.returns-in-Deletion-clause-rows
 returns-in-Deletion-clause-rows g c = λ a held old_is.

@@ -5,7 +5,7 @@ use Rattle.arch_model.specs.Archives.{Archive}
 use Rattle.arch_model.specs.Delivery.{Done, applied}
 use Rattle.epoch_store.specs.Stores.{RecoversEitherWith}
 use Rattle.archive_core.specs.Commands.{DoneBy, OnDone, is_delivery, IfDelivery, TellsText, KeepsText}
-use Rattle.archive_core.proofs.archive.DiskArchive.command.Goals as goal
+use Rattle.archive_core.proofs.archive.DiskArchive.command_keeping.Goals as goal
 
 pub returns-in-Deliver : goal.returns-in-Deliver
 returns-in-Deliver g c = record {
