@@ -10,6 +10,7 @@ mod ByBlob
 mod ByNumber
 mod ByIndex
 mod Removing
+mod RisingPlaces
 mod KeepingUp
 mod KeptTexts
 mod OpeningRows

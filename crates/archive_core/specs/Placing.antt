@@ -60,6 +60,11 @@ PlacesFrom number (p ∷ ps) = (number ≤ p.number) × PlacesFrom (p.number + 1
 abbrev pub PlacesRise : List MessagePlace → Type 0
 PlacesRise places = PlacesFrom 0 places
 
+-- A place with this number may follow places whose numbers rise.
+abbrev pub MayFollow : List MessagePlace → ℕ → Type 0
+MayFollow places number = (entry : ℕ) → PlacesRise places
+    → PlacesRise (places ++ record { number = number; entry = entry; live = true } ∷ [])
+
 -- A live place has this number.
 abbrev pub live_place : List MessagePlace → ℕ → Bool
 live_place places n = list_any (λ (p : MessagePlace). p.live && p.number == n) places

@@ -21,7 +21,7 @@ ghost use Rattle.epoch_store.specs.Stores.{IsStoreWith, Keeps, HasSizes, Recover
 ghost use Rattle.archive_core.specs.Commands.{DoneBy, OnDone, OnRefusal, UnlessFault, OnlyLooks, IsForCommand, IsFaultRead, JudgesRead, IsAlone, TakesCommand, refusal_answer, unread_answer, damaged_place, IsNamed, IsTextAt, ReadsMessage, IsUnread, is_delivery, IfDelivery, TellsText, KeepsText};
 
 use crate::entries::index_of;
-use crate::placing::{MessagePlace, end_place, places_of};
+use crate::placing::{MessagePlace, are_rising, end_place, may_follow, places_of};
 use crate::texts::{end_text, put_text, take_text};
 use arch_base::{Bytes, Config, NoMemory, ObjectId};
 use arch_judge::{Index, Verdict, compared, judge};
@@ -49,14 +49,14 @@ impl Model for DiskArchive {
     ghost use Rattle.epoch_store.specs.Stores.{View};
     ghost use Rattle.std.specs.Prelude.{◌≡◌};
     ghost use Rattle.archive_core.specs.Kept.{IndexesStored};
-    ghost use Rattle.archive_core.specs.Placing.{message_places};
+    ghost use Rattle.archive_core.specs.Placing.{message_places, PlacesRise};
 
     ghost Value = { View };
 
     ghost view = { λ s. s.store };
 
     ghost invariant = { λ s. IndexesStored s.store.entries s.index
-        × (s.places.items ≡ message_places 0 s.store.entries) };
+        × (s.places.items ≡ message_places 0 s.store.entries) × PlacesRise s.places.items };
 }
 
 impl DiskArchive {
@@ -116,6 +116,10 @@ impl DiskArchive {
         let Ok(places) = places_of(alloc, store.stored()) else {
             return Err(OpenRefusal::NoMemory);
         };
+        // The numbers of an archive's messages rise.
+        if !are_rising(places.as_slice()) {
+            return Err(OpenRefusal::NoMemory);
+        }
         Ok(DiskArchive {
             alloc,
             store,
@@ -466,6 +470,10 @@ impl DiskArchive {
         let Ok(()) = self.places.reserve(1) else {
             return Err(StoreRefusal::NoMemory);
         };
+        // The next number of an archive is above those of its messages.
+        if !may_follow(self.places.as_slice(), number) {
+            return Err(StoreRefusal::NoMemory);
+        }
         let older = self.index.number(&blob);
         put_text(self.alloc, &mut self.index, text, blob, number)?;
         if let Err(refusal) = self.store.deliver_entry(self.alloc, disk, text, moment) {
