@@ -67,47 +67,6 @@ front-more entries index e old new ended more less is front by =
       ended_are = λ q. both.1 q ∙ sym (ap (λ (es : List StoredEntry). is_ended_in es q) at);
     }
 
--- The first of some places, so many, with a number no longer live.
-abbrev pub ends_first : ℕ → ℕ → List MessagePlace → List MessagePlace
-ends_first zero number ps = ps
-ends_first (suc i) number [] = []
-ends_first (suc i) number (p ∷ ps) = ended_place number p ∷ ends_first i number ps
-
-ends_first-more : (i number : ℕ) (ps : List MessagePlace) (d : MessagePlace) → i < length ps → set (ends_first i number ps) i (ended_place number (get_or (ends_first i number ps) i d)) ≡ ends_first (i + 1) number ps
-ends_first-more i number [] d less = absurd (omega (arith, less))
-ends_first-more zero number (x ∷ ps) d less = refl
-ends_first-more (suc i) number (x ∷ ps) d less = let on : suc i + 1 ≡ suc (i + 1) = omega arith in rw on (ap (λ (l : List MessagePlace). ended_place number x ∷ l) (ends_first-more i number ps d (omega (arith, less))))
-
-ended_is : (number : ℕ) (p : MessagePlace) → p.number ≡ number → ended_place number p ≡ record { number = p.number; entry = p.entry; live = false }
-ended_is number p same =
-    let hit : (p.number == number) ≡ true = grind (arith, nat_tests, same) in
-    ap (λ (t : Bool). let q : MessagePlace = record { number = p.number; entry = p.entry; live = if t then false else p.live } in q) hit
-
-ended_not : (number : ℕ) (p : MessagePlace) → p.number ≢ number → ended_place number p ≡ p
-ended_not number p other =
-    let miss : (p.number == number) ≡ false = grind (arith, nat_tests, other) in
-    ap (λ (t : Bool). let q : MessagePlace = record { number = p.number; entry = p.entry; live = if t then false else p.live } in q) miss
-
-pub ends-then : (i number : ℕ) (ps old new : List MessagePlace) (d : MessagePlace) → old ≡ ends_first i number ps → i < length ps → (get_or old i d).number ≡ number → new ≡ set old i (record { number = (get_or old i d).number; entry = (get_or old i d).entry; live = false }) → new ≡ ends_first (i + 1) number ps
-ends-then i number ps old new d old_is less same new_is =
-    new_is
-    ∙ ap (λ (q : MessagePlace). set old i q) (sym (ended_is number (get_or old i d) same))
-    ∙ ap (λ (l : List MessagePlace). set l i (ended_place number (get_or l i d))) old_is
-    ∙ ends_first-more i number ps d less
-
-pub ends-else : (i number : ℕ) (ps old new : List MessagePlace) (d : MessagePlace) → old ≡ ends_first i number ps → i < length ps → (get_or old i d).number ≢ number → new ≡ set old i (get_or old i d) → new ≡ ends_first (i + 1) number ps
-ends-else i number ps old new d old_is less other new_is =
-    new_is
-    ∙ ap (λ (q : MessagePlace). set old i q) (sym (ended_not number (get_or old i d) other))
-    ∙ ap (λ (l : List MessagePlace). set l i (ended_place number (get_or l i d))) old_is
-    ∙ ends_first-more i number ps d less
-
-pub ends_first-all : (i number : ℕ) (ps : List MessagePlace) → length ps ≤ i → ends_first i number ps ≡ ends_place number ps
-ends_first-all zero number [] whole = refl
-ends_first-all (suc i) number [] whole = refl
-ends_first-all zero number (p ∷ ps) whole = absurd (omega (arith, whole))
-ends_first-all (suc i) number (p ∷ ps) whole = ap (λ (l : List MessagePlace). ended_place number p ∷ l) (ends_first-all i number ps (omega (arith, whole)))
-
 -- The live places have the numbers of the live entries.
 live_step : (m ended : Bool) (n number index : ℕ) (e : StoredEntry) (ps : List MessagePlace) (es : List StoredEntry) → number ≡ e.number → live_place ps n ≡ has_number es n
     → live_place (if m then place_of number index (not ended) ∷ ps else ps) n ≡ has_number (if m && not ended then e ∷ es else es) n

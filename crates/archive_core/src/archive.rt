@@ -497,14 +497,6 @@ impl DiskArchive {
         self.store.stored().len() as u64
     }
 
-    /// Returns how many numbers have a live message.
-    pub fn live_count(&self) -> u32
-        ensures { (a : Archive) → Keeps self.now a → result ≡ length (live a.entries) }
-    {
-        // There are no more messages than numbers.
-        self.live_between(0, u32::MAX).min(u64::from(u32::MAX)) as u32
-    }
-
     /// Returns the number of the next message.
     pub fn next_number(&self) -> u32
         ensures { result ≡ self.now.root.next }
