@@ -1,6 +1,6 @@
 -- The places of messages: how they follow from entries, and what they tell of them.
-use Rattle.std.proofs.Common.{◌≡◌, ◌≢◌, ◌⊎◌, inl, inr, ◌+◌, ◌-◌, ◌<◌, ◌≤◌, ◌==◌, ◌&&◌, ◌||◌, ℕ, zero, suc, Bool, true, false, not, nat_le, List, [], ◌∷◌, ◌++◌, length, drop, reverse, get_or, set, slice_get, Option, Some, None, refl, sym, ap, subst, ◌∙◌, arith, if◌then◌else◌}
-use Rattle.std.specs.List.{filter, list_any, AllAdjacentBelow, Contains}
+use Rattle.std.proofs.Common.{◌≡◌, ◌≢◌, ◌⊎◌, inl, inr, ◌+◌, ◌-◌, ◌<◌, ◌≤◌, ◌==◌, ◌&&◌, ◌||◌, ℕ, zero, suc, Bool, true, false, not, List, [], ◌∷◌, ◌++◌, length, drop, reverse, get_or, slice_get, Option, Some, None, refl, sym, ap, subst, ◌∙◌, arith, if◌then◌else◌}
+use Rattle.std.specs.List.{list_any, AllAdjacentBelow, Contains}
 use Rattle.std.specs.List.Sorted.{IsNonDecreasingBy}
 use Rattle.std.specs.Ordering.{nat_cmp}
 use Rattle.std.specs.BTreeSet.{BTreeSet}
@@ -195,28 +195,6 @@ tells_step false index e es i p one rest there = tells_later index e es p (rest 
 pub places-tell : (index : ℕ) (es : List StoredEntry) (i : ℕ) (p : MessagePlace) → slice_get (message_places index es) i ≡ Some p → PlaceTells index es p
 places-tell index [] i p there = absurd (cc)
 places-tell index (e ∷ es) i p there = tells_step (is_message e.seen.kind) index e es i p refl (λ j more. places-tell (index + 1) es j p more) there
-
--- As many live places have a number between two others as live entries.
-abbrev pub place_between : ℕ → ℕ → MessagePlace → Bool
-place_between low high p = p.live && (nat_le low p.number && nat_le p.number high)
-
-abbrev pub stored_between : ℕ → ℕ → StoredEntry → Bool
-stored_between low high e = nat_le low e.number && nat_le e.number high
-
-count_more : (t : Bool) (p : MessagePlace) (e : StoredEntry) (ps : List MessagePlace) (es : List StoredEntry) → length ps ≡ length es → length (if t then p ∷ ps else ps) ≡ length (if t then e ∷ es else es)
-count_more true p e ps es same = ap suc same
-count_more false p e ps es same = same
-
-count_step : (m ended : Bool) (low high index : ℕ) (e : StoredEntry) (ps : List MessagePlace) (es : List StoredEntry) → length (filter (place_between low high) ps) ≡ length (filter (stored_between low high) es)
-    → length (filter (place_between low high) (if m then place_of e.number index (not ended) ∷ ps else ps)) ≡ length (filter (stored_between low high) (if m && not ended then e ∷ es else es))
-count_step true true low high index e ps es same = same
-count_step true false low high index e ps es same =
-    count_more (nat_le low e.number && nat_le e.number high) (place_of e.number index true) e (filter (place_between low high) ps) (filter (stored_between low high) es) same
-count_step false ended low high index e ps es same = same
-
-pub places-between : (low high index : ℕ) (es : List StoredEntry) → length (filter (place_between low high) (message_places index es)) ≡ length (filter (stored_between low high) (live_kept es))
-places-between low high index [] = refl
-places-between low high index (e ∷ es) = count_step (is_message e.seen.kind) (is_ended_in es e.number) low high index e (message_places (index + 1) es) (live_kept es) (places-between low high (index + 1) es)
 
 -- A number that was delivered has a place.
 pub record NumberPlace (ps : List MessagePlace) (n : ℕ) : Type 0 where

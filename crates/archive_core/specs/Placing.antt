@@ -75,15 +75,3 @@ IsPlaceOf places number (Some index) =
     (p : MessagePlace) × (slice_get places index ≡ Some p) × (p.number ≡ number)
 IsPlaceOf places number None = PlacesRise places
     → (index : ℕ) (p : MessagePlace) → slice_get places index ≡ Some p → p.number ≢ number
-
--- The least number from one on that has a live place, or none.
-abbrev pub IsLeastPlace : List MessagePlace → ℕ → Option ℕ → Type 0
-IsLeastPlace places n None = (m : ℕ) → n ≤ m → live_place places m ≡ false
-IsLeastPlace places n (Some found) = (n ≤ found) × (live_place places found ≡ true)
-    × ((m : ℕ) → n ≤ m → m < found → live_place places m ≡ false)
-
--- The greatest number up to one that has a live place, or none.
-abbrev pub IsGreatestPlace : List MessagePlace → ℕ → Option ℕ → Type 0
-IsGreatestPlace places n None = (m : ℕ) → m ≤ n → live_place places m ≡ false
-IsGreatestPlace places n (Some found) = (found ≤ n) × (live_place places found ≡ true)
-    × ((m : ℕ) → found < m → m ≤ n → live_place places m ≡ false)
