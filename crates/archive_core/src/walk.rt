@@ -47,7 +47,10 @@ impl<'a, D: Disk> Walked for Walk<'a, D> {
     ghost alike_same = { λ w.
         (refl, refl, looks-same D.content D.moment D.left_since D.only_now w.disk.now) };
 
-    ghost alike_joined = { λ w x y p q. (q.0 ∙ p.0, q.1 ∙ p.1,
-        looks-joined D.content D.moment D.left_since D.only_now w.disk.now x.disk.now y.disk.now
-        p.2 q.2) };
+    ghost alike_joined = { λ w x y p q. (
+      q.0 ∙ p.0,
+      q.1 ∙ p.1,
+      looks-joined D.content D.moment D.left_since D.only_now w.disk.now x.disk.now y.disk.now
+          p.2 q.2,
+    ) };
 }

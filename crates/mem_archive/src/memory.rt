@@ -382,7 +382,14 @@ impl MemArchive {
         self.places.reserve(1)?;
         self.kept.reserve(1)?;
         let number = owner.number;
-        add_row(self.alloc, &mut self.overview, number, &blob, text.as_slice(), moment)?;
+        add_row(
+            self.alloc,
+            &mut self.overview,
+            number,
+            &blob,
+            text.as_slice(),
+            moment,
+        )?;
         if let Err(NoMemory) = self.index.insert(id, blob, owner) {
             self.overview.take(number);
             return Err(NoMemory);
