@@ -1,6 +1,6 @@
 -- An archive that was opened, and then read for its rows.
 use Rattle.std.specs.Prelude.{◌≡◌, ◌≤◌, ℕ, List, Option, Some, None, Result, Ok, Err, IfOk, refl}
-use Rattle.std.proofs.Common.{◌∙◌, sym, ap, subst}
+use Rattle.std.proofs.Common.{◌∙◌, sym, ap, subst, arith}
 use Rattle.arch_base.specs.Counts.{RoseIf}
 use Rattle.disk_model.specs.Disk.{Files, Content, Image, Told, WhereTold, Unchanged, LeavesOnly}
 use Rattle.disk_model.specs.Moments.{joined}
@@ -8,6 +8,10 @@ use Rattle.disk_model.specs.Synced.{IsSettled}
 use Rattle.arch_model.specs.Archives.{Archive}
 use Rattle.arch_model.specs.declared.opening.OpenRefusal.{OpenRefusal}
 use Rattle.arch_model.specs.declared.opening.OpenRefusal.TheVariants as opening
+use Rattle.arch_model.specs.Shelves.{ReadingWhy, IsUndamaged}
+use Rattle.arch_model.specs.declared.text_refusal.TextRefusal.{TextRefusal}
+use Rattle.arch_model.specs.declared.text_refusal.TextRefusal.TheVariants as reading
+use Rattle.epoch_store.specs.declared.entries.StoredEntry.{StoredEntry}
 use Rattle.epoch_store.specs.Files.{as_read}
 use Rattle.epoch_store.specs.Opens.{RecoversOfWith, AllRecoverWith, ReadsWith, Opens, OpensWell, SyncsFirst, OnSynced}
 use Rattle.epoch_store.specs.Promises.{OpensArchive}
@@ -17,7 +21,7 @@ use Rattle.epoch_store.specs.Settling.{IsSettledBy}
 use Rattle.epoch_store.specs.Stores.{View, IsStoreWith, HasSizes}
 use Rattle.archive_core.specs.Commands.{OnlyLooks}
 use Rattle.archive_core.specs.Engines.{unchanged-is}
-use Rattle.archive_core.specs.Walks.{IsSound}
+use Rattle.archive_core.specs.Walks.{IsSound, unread_opening}
 use Rattle.archive_core.proofs.Standing.{still_own}
 
 module _ {D : Type 0} (content : D → Option Content) (moment : D → ℕ) (left_since : D → ℕ → Files → Type 0) (faults : D → ℕ)
@@ -83,3 +87,19 @@ module _ {D : Type 0} (content : D → Option Content) (moment : D → ℕ) (lef
         answered None now w told texts_are is_sound = tt
         answered (Some k) None w told texts_are is_sound = absurd told
         answered (Some k) (Some m) w told texts_are is_sound = quiet k w (is_sound texts_are)
+
+-- Why an archive wasn't opened whose text wasn't read.
+pub unread-well : (v : View) (found : Option StoredEntry) (why : TextRefusal) (r : OpenRefusal) → r ≡ unread_opening v found why → IsUndamaged why → OpensWell {T = View} (Err r)
+unread-well v found why r is undamaged = subst (λ (w : OpenRefusal). OpensWell {T = View} (Err w)) (sym is) (by found why undamaged) where
+  by : (f : Option StoredEntry) (w : TextRefusal) → IsUndamaged w → OpensWell {T = View} (Err (unread_opening v f w))
+  by f reading.DiskFault fine = tt
+  by f reading.NoMemory fine = tt
+  by f (reading.Damaged named other) never = absurd never
+
+pub unread-cause : (v : View) (found : Option StoredEntry) (before now : ℕ) (why : TextRefusal) (r : OpenRefusal) → r ≡ unread_opening v found why → ReadingWhy before now why → RoseIf (◌≡◌ {A = OpenRefusal} r opening.DiskFault) before now
+unread-cause v found before now why r is cause = subst (λ (w : OpenRefusal). RoseIf (◌≡◌ {A = OpenRefusal} w opening.DiskFault) before now) (sym is) (by found why cause) where
+  by : (f : Option StoredEntry) (w : TextRefusal) → ReadingWhy before now w → RoseIf (◌≡◌ {A = OpenRefusal} (unread_opening v f w) opening.DiskFault) before now
+  by f reading.DiskFault rose = record { later = search rules; failed = λ fault. rose; kept = λ never. absurd (never refl) }
+  by f reading.NoMemory same = record { later = omega (arith, same); failed = λ fault. absurd (cc); kept = λ never. same }
+  by None (reading.Damaged named other) why_ = (let same = why_.1 in record { later = omega (arith, same); failed = λ fault. absurd (cc); kept = λ never. same })
+  by (Some e) (reading.Damaged named other) why_ = (let same = why_.1 in record { later = omega (arith, same); failed = λ fault. absurd (cc); kept = λ never. same })

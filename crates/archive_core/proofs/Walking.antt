@@ -1,7 +1,7 @@
 -- What is walked through of a store, and the rows of the entries so far.
-use Rattle.std.specs.Prelude.{◌≡◌, ◌≢◌, ◌+◌, ◌<◌, ◌≤◌, ℕ, zero, suc, List, [], ◌∷◌, ◌++◌, length, take, drop, slice_get, Option, Some, None, Result, Ok, Err, refl}
+use Rattle.std.specs.Prelude.{◌≡◌, ◌≢◌, ◌+◌, ◌<◌, ◌≤◌, ℕ, zero, suc, List, [], ◌∷◌, ◌++◌, length, take, drop, slice_get, Option, Some, None, Result, Ok, Err, IfErr, refl}
 use Rattle.std.proofs.Common.{◌∙◌, sym, ap, subst, arith}
-use Rattle.disk_model.specs.Disk.{Content}
+use Rattle.disk_model.specs.Disk.{Content, WhereTold}
 use Rattle.git_objects.specs.Objects.{blob_id_of}
 use Rattle.git_objects.specs.declared.entry_kind.EntryKind.{EntryKind}
 use Rattle.git_objects.specs.declared.entry_kind.EntryKind.TheVariants.{Message, Deletion}
@@ -23,7 +23,8 @@ use Rattle.epoch_store.specs.Stores.{View}
 use Rattle.epoch_store.specs.declared.entries.StoredEntry.{StoredEntry}
 use Rattle.overview_index.specs.Listings.{with_row, without}
 use Rattle.overview_index.proofs.Messages.{AllBelow, Ascends, rows-added, rows-taken}
-use Rattle.archive_core.specs.Walks.{lines_kept, AddsRowAt}
+use Rattle.archive_core.specs.Numbers.{TellsOther}
+use Rattle.archive_core.specs.Walks.{lines_kept, AddsRowAt, IsSound}
 use Rattle.archive_core.proofs.KeepingUp.{ascends-of}
 
 only : {X : Type 0} (x y : X) → Some x ≡ Some y → x ≡ y
@@ -69,6 +70,34 @@ sound-undamaged v k i s old new (reading.Damaged named found) texts there given 
     let here = texts i s there in
     let same : found ≡ named = finds.2 ∙ ap blob_id_of (finds.1 here.long) ∙ here.blob ∙ sym given.1 in
     given.2.0 same
+
+pub sound-if : (v : View) (k : Option Content) (i : ℕ) (s : StoredEntry) (old new : List ℕ) (r : Result Unit TextRefusal) → IsSound v k → slice_get v.entries i ≡ Some s → GivesText s old new r → WhereTold (FindsText v.root s old new r) k → IfErr r IsUndamaged
+sound-if v None i s old new r sound there given finds = absurd sound
+sound-if v (Some k) i s old new (Ok x) sound there given finds = tt
+sound-if v (Some k) i s old new (Err why) sound there given finds = sound-undamaged v k i s old new why sound there given finds
+
+-- If bytes with another id were found, the two ids differ.
+pub text-other : (s : StoredEntry) (old new : List ℕ) (r : Result Unit TextRefusal) → GivesText s old new r → TellsOther r
+text-other s old new (Ok x) given = tt
+text-other s old new (Err reading.DiskFault) given = tt
+text-other s old new (Err reading.NoMemory) given = tt
+text-other s old new (Err (reading.Damaged named found)) given = given.2.0
+
+-- There is an entry at an index below their number.
+pub entry-inside : (ss : List StoredEntry) (i : ℕ) → i < length ss → (s : StoredEntry) × (slice_get ss i ≡ Some s)
+entry-inside [] i less = absurd (omega (arith, less))
+entry-inside (s ∷ ss) zero less = (s, refl)
+entry-inside (s ∷ ss) (suc i) less = entry-inside ss i (omega (arith, less))
+
+-- An index of a line is below their number.
+pub line-within : (ls : List EntryLine) (i : ℕ) (line : EntryLine) → slice_get ls i ≡ Some line → i < length ls
+line-within [] i line is = absurd (cc)
+line-within (l ∷ ls) zero line is = omega arith
+line-within (l ∷ ls) (suc i) line is = (let rest = line-within ls i line is in omega (arith, rest))
+
+pub take-zero : (es : List Entry) → take 0 es ≡ []
+take-zero [] = refl
+take-zero (e ∷ es) = refl
 
 -- The entry of a line.
 pub record IsLineOf (es : List Entry) (i : ℕ) (line : EntryLine) : Type 0 where

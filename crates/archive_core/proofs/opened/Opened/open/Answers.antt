@@ -12,3 +12,6 @@ returns-in-Err-rows-clause-opened g c = unopened-read g.D.Disk.content g.D.Disk.
 
 pub returns-in-Ok-rows-clause-rows : goal.returns-in-Ok-rows-clause-rows
 returns-in-Ok-rows-clause-rows g c = λ a cache reads. c.in-Ok-rows.ensures.rows a cache (c.in-Ok.ensures.opened.done a cache reads)
+
+pub returns-in-Err-rows-clause-refused : goal.returns-in-Err-rows-clause-refused
+returns-in-Err-rows-clause-refused g c = search rules
