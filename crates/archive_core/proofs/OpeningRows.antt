@@ -21,6 +21,7 @@ use Rattle.epoch_store.specs.Settling.{IsSettledBy}
 use Rattle.epoch_store.specs.Stores.{View, IsStoreWith, HasSizes}
 use Rattle.archive_core.specs.Commands.{OnlyLooks}
 use Rattle.archive_core.specs.Engines.{unchanged-is}
+use Rattle.archive_core.specs.Openings.{StillReads, LeavesKindly}
 use Rattle.archive_core.specs.Walks.{IsSound, unread_opening}
 use Rattle.archive_core.proofs.Standing.{still_own}
 
@@ -103,3 +104,18 @@ unread-cause v found before now why r is cause = subst (λ (w : OpenRefusal). Ro
   by f reading.NoMemory same = record { later = omega (arith, same); failed = λ fault. absurd (cc); kept = λ never. same }
   by None (reading.Damaged named other) why_ = (let same = why_.1 in record { later = omega (arith, same); failed = λ fault. absurd (cc); kept = λ never. same })
   by (Some e) (reading.Damaged named other) why_ = (let same = why_.1 in record { later = omega (arith, same); failed = λ fault. absurd (cc); kept = λ never. same })
+
+-- What a refusal by a read leaves.
+pub kindly-read : (v : View) (before now after : Option Content) (w : OpenRefusal) → Told (IsSettledBy v.root v.slot) before now → WhereTold (HasTexts v) now → (IsSound v now → OpensWell {T = View} (Err w)) → Told Unchanged now after → StillReads before after → LeavesKindly w before after
+kindly-read v before now after opening.DiskFault told texts sound same still = tt
+kindly-read v before now after opening.NoMemory told texts sound same still = still
+kindly-read v None None None opening.NoArchive told texts sound same still = tt
+kindly-read v None None (Some n) opening.NoArchive told texts sound same still = absurd same
+kindly-read v None (Some m) after opening.NoArchive told texts sound same still = absurd told
+kindly-read v (Some k) None after opening.NoArchive told texts sound same still = absurd told
+kindly-read v (Some k) (Some m) after opening.NoArchive told texts sound same still = absurd (sound texts)
+kindly-read v None None None (opening.Damaged file at) told texts sound same still = tt
+kindly-read v None None (Some n) (opening.Damaged file at) told texts sound same still = absurd same
+kindly-read v None (Some m) after (opening.Damaged file at) told texts sound same still = absurd told
+kindly-read v (Some k) None after (opening.Damaged file at) told texts sound same still = absurd told
+kindly-read v (Some k) (Some m) after (opening.Damaged file at) told texts sound same still = absurd (sound texts)

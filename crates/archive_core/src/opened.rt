@@ -17,6 +17,7 @@ use crate::rows::{Unread, walked_rows};
 use crate::walk::Walk;
 use arch_model::{OpenRefusal, TextRefusal};
 use disk_model::Disk;
+use epoch_store::law_of_stores;
 use overview_index::Overview;
 use std::alloc::Global;
 
@@ -40,6 +41,7 @@ impl Opened {
         ensures rows { (a : Archive) (cache : List ℕ) → ReadsWith cache a (D.content disk.old)
             → IfOk result (λ opened. opened.overview ≡ rows_of (live a.entries)) }
     {
+        law_of_stores();
         let archive = match DiskArchive::open(alloc, disk) {
             Ok(archive) => archive,
             Err(refusal) => return Err(refusal),

@@ -1,8 +1,7 @@
 -- The texts of entries that were opened are in their places.
 use Rattle.std.specs.Prelude.{◌≡◌, ◌+◌, ◌<◌, ◌≤◌, ℕ, List, [], ◌++◌, ◌∷◌, length, take, drop, slice_get, Some, None, min, refl}
 use Rattle.std.specs.List.{AllByRecursion}
-use Rattle.std.proofs.Common.{◌∙◌, sym, ap, subst, arith}
-use Rattle.std.proofs.lemmas.List.{length-take}
+use Rattle.std.proofs.Common.{◌∙◌, sym, ap, subst, arith, length-take}
 use Rattle.disk_model.specs.Disk.{Content, File, bytes_of}
 use Rattle.disk_model.specs.Sizes.{epoch_count}
 use Rattle.arch_model.specs.Archives.{Entry, in_epoch}
@@ -22,7 +21,7 @@ use Rattle.epoch_store.proofs.Texts.{Divided, kept_found, one_of_all, in_epoch_s
 pub fronts-kept : (bytes : List ℕ) (old new : File) → Fronts bytes old → take (length bytes) (bytes_of new) ≡ take (length bytes) (bytes_of old) → Fronts bytes new
 fronts-kept bytes old new fronts same =
     let whole : length (take (length bytes) (bytes_of new)) ≡ length bytes = ap length (same ∙ fronts.front) in
-    let least : length (take (length bytes) (bytes_of new)) ≡ min (length bytes) (length (bytes_of new)) = length-take (length bytes) (bytes_of new) in
+    let least : length (take (length bytes) (bytes_of new)) ≡ min (length bytes) (length (bytes_of new)) = length-take {A = ℕ} (length bytes) (bytes_of new) in
     record { long = omega (arith, whole, least); front = same ∙ fronts.front }
 
 -- Where each epoch's file starts with the bytes of its entries, each text is in its place.

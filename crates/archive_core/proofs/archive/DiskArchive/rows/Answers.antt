@@ -1,6 +1,6 @@
 use Rattle.std.proofs.Common.{◌≡◌, Ok, Err}
 use Rattle.archive_core.proofs.OpeningRows.{unread-well, unread-cause}
-use Rattle.archive_core.proofs.opened.DiskArchive.rows.Goals as goal
+use Rattle.archive_core.proofs.archive.DiskArchive.rows.Goals as goal
 
 pub returns-in-Ok-clause-rows : goal.returns-in-Ok-clause-rows
 returns-in-Ok-clause-rows g c = λ a cache store. c.in-Ok.ensures.rows a (cache, rw (c.self.view_is) store)
