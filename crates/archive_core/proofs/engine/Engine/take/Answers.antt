@@ -48,7 +48,7 @@ returns-clause-stands g c =
     (λ a cache store old_is.
     kept-up a c.args.command.now c.args.moment c.as_slice-kept.result.now c.command_keeping-answer.new.self cache (g.D.Disk.content c.command_keeping-answer.new.disk) c.self.inside.overview c.follow-followed.new.overview (not c.is_left_stale-self-inside.result) ok reply
     (store_keeps c.self.inside.archive cache a (g.D.Disk.content c.self.inside.disk) store).valid old_is (c.command_keeping-answer.ensures.taken.done a cache store room)
-    (rw (sym c.as_slice-kept.ensures) (c.command_keeping-answer.ensures.kept a cache store)) (λ ready. followed-ready (needs_opening reply) ok (ap not (sym stale_is) ∙ ready)) c.follow-followed.ensures.refused
+    (rw c.as_slice-kept.ensures (c.command_keeping-answer.ensures.kept a cache store)) (λ ready. followed-ready (needs_opening reply) ok (ap not (sym stale_is) ∙ ready)) c.follow-followed.ensures.refused
     (λ went. on-ok c.follow-followed.result _ c.follow-followed.ensures.rows went))
     c.command_keeping-answer.ensures.taken.untouched
 
@@ -56,7 +56,7 @@ pub returns-clause-ready : goal.returns-clause-ready
 returns-clause-ready g c = stays-ready c.is_left_stale-self-inside.result (is_ok c.follow-followed.result) c.command_keeping-answer.result c.is_left_stale-self-inside.ensures c.follow-followed.ensures.refused
 
 pub follow-followed-requires : goal.follow-followed-requires
-follow-followed-requires g c = record { text = rw (sym c.as_slice-kept.ensures) c.command_keeping-answer.ensures.text }
+follow-followed-requires g c = record { text = rw c.as_slice-kept.ensures c.command_keeping-answer.ensures.text }
 
 pub returns-clause-cause : goal.returns-clause-cause
 returns-clause-cause g c = answer-cause-from g.D.Disk.content g.D.Disk.moment g.D.Disk.left_since g.met.D.Disk.counts_now g.met.D.Disk.only_now g.met.D.Disk.reads_fit

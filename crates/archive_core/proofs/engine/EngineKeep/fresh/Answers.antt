@@ -1,4 +1,5 @@
 use Rattle.std.proofs.Common.{false, ap, not}
+use Rattle.archive_core.specs.HandedBack.{view_opened}
 use Rattle.archive_core.proofs.Engines.{still-ready, still-stale, ready-at, opened-from, unopened-from, passes-from, opening-why-from, opened-cause-from}
 use Rattle.archive_core.proofs.engine.EngineKeep.fresh.Goals as goal
 
@@ -31,7 +32,7 @@ returns-in-Ok-clause-any_moment g c = passes-from g.D.Disk.content g.D.Disk.mome
 pub returns-in-Ok-clause-cause : goal.returns-in-Ok-clause-cause
 returns-in-Ok-clause-cause g c = opened-cause-from g.D.Disk.content g.D.Disk.moment g.D.Disk.left_since g.met.D.Disk.counts_now g.met.D.Disk.only_now g.met.D.Disk.reads_fit
     (record { disk = c.self.inside.disk; view = c.self.inside.archive; rows = c.self.inside.overview; stale = c.self.inside.stale }) c.args.self.now c.self.view_is
-    g.D.Disk.faults c.open.new.disk c.in-Ok.archive c.open.result c.in-Ok.is c.open.ensures.opened.cause
+    g.D.Disk.faults c.open.new.disk c.in-Ok.archive (view_opened c.open.result) (ap view_opened c.in-Ok.is) c.open.ensures.opened.cause
 
 pub returns-in-Err-clause-nothing : goal.returns-in-Err-clause-nothing
 returns-in-Err-clause-nothing g c = λ ready. absurd (still-stale g.D.Disk.content g.D.Disk.moment g.D.Disk.left_since g.met.D.Disk.counts_now g.met.D.Disk.only_now g.met.D.Disk.reads_fit
@@ -53,4 +54,4 @@ returns-in-Err-clause-ready g c = ap not c.if-not-self.false
 pub returns-in-Err-clause-cause : goal.returns-in-Err-clause-cause
 returns-in-Err-clause-cause g c = opening-why-from g.D.Disk.content g.D.Disk.moment g.D.Disk.left_since g.met.D.Disk.counts_now g.met.D.Disk.only_now g.met.D.Disk.reads_fit
     (record { disk = c.self.inside.disk; view = c.self.inside.archive; rows = c.self.inside.overview; stale = c.self.inside.stale }) c.args.self.now c.self.view_is
-    g.D.Disk.faults c.open.new.disk c.in-Err.refusal c.open.result c.in-Err.is c.open.ensures.opened.cause
+    g.D.Disk.faults c.open.new.disk c.in-Err.refusal (view_opened c.open.result) (ap view_opened c.in-Err.is) c.open.ensures.opened.cause
