@@ -4,6 +4,7 @@ use Rattle.arch_base.specs.declared.config.Config.{Config}
 use Rattle.arch_base.specs.declared.ids.Id20.{Id20}
 use Rattle.mail_reader.specs.StorageTexts.{IsStorageText}
 use Rattle.mail_reader.specs.Stored.{stored}
+use Rattle.mail_reader.specs.Content.{content_id_of}
 use Rattle.mail_reader.specs.Ids.{own_id}
 use Rattle.git_objects.specs.Objects.{blob_id_of}
 use Rattle.arch_model.specs.Archives.{Archive, with_entry}
@@ -49,19 +50,20 @@ RefusesBy a bytes (answer.Damaged file offset) = ⊥
 
 -- The verdict is what the definition says of the delivery, at each moment.
 abbrev pub Judges : Archive → List ℕ → Verdict → Type 0
-Judges a bytes (Take text blob number) = (moment : ℕ) → delivered a bytes moment
+Judges a bytes (Take text blob content number) = (moment : ℕ) → delivered a bytes moment
     ≡ record { archive = with_entry a (new_epoch a) text moment; answer = answer.Ok number blob }
 Judges a bytes (Refuse reply) = RefusesBy a bytes reply
 
 -- The text may be kept: the archive is not a mirror and has a number left, the text is a storage
--- text, and no message has its own id or its blob id.
+-- text, these are its blob id and its content id, and no message has its own id or its blob id.
 pub record MayBeKept (config : Config) (index : Index) (next : ℕ) (text : List ℕ) (blob : Id20)
-    (number : ℕ) : Type 0 where
+    (content : List ℕ) (number : ℕ) : Type 0 where
   pub writable : config.mirror ≡ false
   pub number_left : next ≤ config.max
   pub number_is : number ≡ next
   pub storage : IsStorageText text
   pub blob_is : blob ≡ blob_id_of text
+  pub content_is : content ≡ content_id_of text
   pub new_id : (id : List ℕ) → own_id text ≡ Some id → owner_in index.owners id ≡ None
   pub new_blob : number_in index.blobs blob.0 ≡ None
 
@@ -82,7 +84,8 @@ IsForDelivery (answer.Damaged file offset) = ⊥
 
 -- A text that is taken may be kept, and a refusal is for a delivery.
 abbrev pub MayTake : Config → Index → ℕ → Verdict → Type 0
-MayTake config index next (Take text blob number) = MayBeKept config index next text blob number
+MayTake config index next (Take text blob content number) =
+    MayBeKept config index next text blob content number
 MayTake config index next (Refuse reply) = IsForDelivery reply
 
 -- The text is the storage form of some bytes.
@@ -98,3 +101,8 @@ pub record IsNewText (index : Index) (text : List ℕ) : Type 0 where
 abbrev pub TakesNewText : Index → Choice → Type 0
 TakesNewText index (choice.Take text) = IsNewText index text
 TakesNewText index (choice.Repeat number) = Unit {0}
+
+-- The content id of a text that the candidate ids decide to take.
+abbrev pub HasContent : Choice → List ℕ → Type 0
+HasContent (choice.Take text) content = content ≡ content_id_of text
+HasContent (choice.Repeat number) content = Unit {0}

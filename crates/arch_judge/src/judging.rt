@@ -4,7 +4,7 @@ ghost use Rattle.mail_reader.specs.Content.{content_id_of};
 ghost use Rattle.mail_reader.specs.Stored.{stored as stored_of};
 ghost use Rattle.arch_model.specs.Archives.{Archive};
 ghost use Rattle.arch_model.specs.Candidates.{choice_of, made_choice};
-ghost use Rattle.arch_judge.specs.Judging.{IsKnownBy, IsNewText, IsStored, Judges, MayTake, TakesNewText};
+ghost use Rattle.arch_judge.specs.Judging.{HasContent, IsKnownBy, IsNewText, IsStored, Judges, MayTake, TakesNewText};
 ghost use Rattle.arch_model.specs.declared.choice.Choice.TheVariants.{Take};
 
 use crate::index::Index;
@@ -18,10 +18,12 @@ use std::alloc::Global;
 /// What the delivery of a message does.
 #[derive(Debug, Drop)]
 pub enum Verdict {
-    /// Keeps this text under this number. No message has its own id or its blob id.
+    /// Keeps this text, of this blob id and content id, under this number. No message has its own
+    /// id or its blob id.
     Take {
         text: Bytes,
         blob: ObjectId,
+        content: [u8; 32],
         number: u32,
     },
     /// Keeps nothing, and gives this answer.
@@ -75,33 +77,53 @@ fn judge_text(
 {
     match choose(alloc, config, index, count, text) {
         Err(NoMemory) => Verdict::Refuse(Answer::NoMemory),
-        Ok(Choice::Repeat(number)) => Verdict::Refuse(Answer::Duplicate(number)),
-        Ok(Choice::Take(text)) => judge_new(config, index, next, text),
+        Ok((Choice::Repeat(number), _)) => Verdict::Refuse(Answer::Duplicate(number)),
+        Ok((Choice::Take(text), content)) => judge_new(config, index, next, text, content),
     }
 }
 
-/// Returns what the candidate ids of a text decide.
+/// Returns what the candidate ids of a text decide, and the content id of a text that is taken.
 fn choose(
     alloc: Global,
     config: &Config,
     index: &Index,
     count: usize,
     text: Bytes,
-) -> Result<Choice, NoMemory>
+) -> Result<(Choice, [u8; 32]), NoMemory>
     requires stored { IsStored text }
     ensures choice { (a : Archive) → IsKnownBy config.now index.now count a.next a
-        → IfOk result (λ choice. choice ≡ choice_of a text) }
-    ensures new { IfOk result (TakesNewText index.now) }
+        → IfOk result (λ chosen. chosen.0 ≡ choice_of a text) }
+    ensures new { IfOk result (λ chosen. TakesNewText index.now chosen.0) }
+    ensures content { IfOk result (λ chosen. HasContent chosen.0 chosen.1) }
 {
     law_of_taken_texts();
     let content = content_id(text.as_slice());
     let Some(id) = own_id(text.as_slice()) else {
-        return choose_made(alloc, config, index, count, text.as_slice(), &content);
+        let choice = choose_made(alloc, config, index, count, text.as_slice(), &content)?;
+        return Ok(with_content(choice, content));
     };
     match index.meet(id, &content) {
-        Meeting::Free => Ok(Choice::Take(text)),
-        Meeting::Same(number) => Ok(Choice::Repeat(number)),
-        Meeting::Other => choose_made(alloc, config, index, count, text.as_slice(), &content),
+        Meeting::Free => Ok((Choice::Take(text), content)),
+        Meeting::Same(number) => Ok((Choice::Repeat(number), content)),
+        Meeting::Other => {
+            let choice = choose_made(alloc, config, index, count, text.as_slice(), &content)?;
+            Ok(with_content(choice, content))
+        }
+    }
+}
+
+/// Returns a choice with the content id of the text that it takes, or else with the given one.
+fn with_content(choice: Choice, content: [u8; 32]) -> (Choice, [u8; 32])
+    ensures choice { result.0 ≡ choice }
+    ensures content { HasContent result.0 result.1 }
+{
+    match choice {
+        // A made id is a new field at the front.
+        Choice::Take(text) => {
+            let content = content_id(text.as_slice());
+            (Choice::Take(text), content)
+        }
+        Choice::Repeat(number) => (Choice::Repeat(number), content),
     }
 }
 
@@ -160,9 +182,16 @@ fn first_made(
 }
 
 /// Decides what the delivery of a text does, if no message has its own id.
-fn judge_new(config: &Config, index: &Index, next: u32, text: Bytes) -> Verdict
+fn judge_new(
+    config: &Config,
+    index: &Index,
+    next: u32,
+    text: Bytes,
+    content: [u8; 32],
+) -> Verdict
     requires writable { config.now.mirror ≡ false }
     requires new { IsNewText index.now text }
+    requires content { content ≡ content_id_of text }
     ensures judged { (a : Archive) (bytes form : List ℕ)
         → IsKnownBy config.now index.now (length a.entries) next a → stored_of bytes ≡ Ok form
         → choice_of a form ≡ Take text → Judges a bytes result }
@@ -179,6 +208,7 @@ fn judge_new(config: &Config, index: &Index, next: u32, text: Bytes) -> Verdict
     Verdict::Take {
         text,
         blob,
+        content,
         number: next,
     }
 }

@@ -33,8 +33,8 @@ module _ (v : View) (config : Config) (index : Index) (next : ℕ) (indexed : In
   ids text (Some id) own some free = ids_free v.entries text id own (sym (indexed.owners id) ∙ free id own)
 
   -- A text that may be kept would be accepted.
-  accepted : (text : List ℕ) (blob : Id20) (number : ℕ) → MayBeKept config index next text blob number → Accepts v text
-  accepted text blob number may = record {
+  accepted : (text : List ℕ) (blob : Id20) (content : List ℕ) (number : ℕ) → MayBeKept config index next text blob content number → Accepts v text
+  accepted text blob content number may = record {
     writable = subst (λ (c : Config). c.mirror ≡ false) config_is may.writable;
     number_left = subst (λ (n : ℕ). n ≤ v.root.config.max) next_is (subst (λ (c : Config). next ≤ c.max) config_is may.number_left);
     storage = may.storage;
@@ -43,5 +43,5 @@ module _ (v : View) (config : Config) (index : Index) (next : ℕ) (indexed : In
   }
 
   pub taken : (verdict : Verdict) → MayTake config index next verdict → TakesWhatMay v verdict
-  taken (Take text blob number) may = record { accepts = accepted text blob number may; blob_is = may.blob_is }
+  taken (Take text blob content number) may = record { accepts = accepted text blob content number may; blob_is = may.blob_is; content_is = may.content_is }
   taken (Refuse reply) may = may

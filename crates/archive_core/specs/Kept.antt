@@ -44,12 +44,13 @@ PutsText old new text blob number = (id : List ℕ) → own_id text ≡ Some id
 abbrev pub TakesBackText : Index → Index → List ℕ → Id20 → Type 0
 TakesBackText put new text blob = (id : List ℕ) → own_id text ≡ Some id → TakesBack put new id blob
 
--- A text that is taken would be accepted, with this blob id.
-pub record MayGoIn (v : View) (text : List ℕ) (blob : Id20) : Type 0 where
+-- A text that is taken would be accepted, with this blob id and this content id.
+pub record MayGoIn (v : View) (text : List ℕ) (blob : Id20) (content : List ℕ) : Type 0 where
   pub accepts : Accepts v text
   pub blob_is : blob ≡ blob_id_of text
+  pub content_is : content ≡ content_id_of text
 
 -- A text that is taken may go in, and a refusal is an answer to a delivery.
 abbrev pub TakesWhatMay : View → Verdict → Type 0
-TakesWhatMay v (Take text blob number) = MayGoIn v text blob
+TakesWhatMay v (Take text blob content number) = MayGoIn v text blob content
 TakesWhatMay v (Refuse reply) = IsForDelivery reply

@@ -154,12 +154,15 @@ impl DiskArchive {
         law_of_stores();
         match self.verdict(bytes) {
             Verdict::Refuse(answer) => answer,
-            Verdict::Take { text, blob, number } => {
-                match self.keep(disk, text.as_slice(), blob, moment) {
-                    Ok(()) => Answer::Ok { number, id: blob },
-                    Err(refusal) => answer_of(&refusal),
-                }
-            }
+            Verdict::Take {
+                text,
+                blob,
+                content,
+                number,
+            } => match self.keep(disk, text.as_slice(), blob, content, moment) {
+                Ok(()) => Answer::Ok { number, id: blob },
+                Err(refusal) => answer_of(&refusal),
+            },
         }
     }
 
@@ -186,9 +189,10 @@ impl DiskArchive {
         disk: &mut D,
         text: &[u8],
         blob: ObjectId,
+        content: [u8; 32],
         moment: u64,
     ) -> Result<(), StoreRefusal>
-        requires may { MayGoIn self.old text.now blob }
+        requires may { MayGoIn self.old text.now blob content }
         requires moment { moment ≤ last_moment }
         requires sizes { WhereTold (HasSizes self.old) (D.content disk.old) }
         ensures any_moment { (a : Archive) (cache : List ℕ)
@@ -214,7 +218,7 @@ impl DiskArchive {
     {
         law_of_stores();
         let number = self.store.next_number();
-        put_text(self.alloc, &mut self.index, text, blob, number)?;
+        put_text(self.alloc, &mut self.index, text, blob, content, number)?;
         if let Err(refusal) = self.store.deliver_entry(self.alloc, disk, text, moment) {
             // The index is as it was before.
             take_text(&mut self.index, text, &blob);

@@ -104,8 +104,14 @@ fn refusal(
 fn takes_second(alloc: Global, config: &Config, index: &Index) -> bool {
     match judge(alloc, config, index, 1, 2, SECOND) {
         Verdict::Refuse(_) => false,
-        Verdict::Take { text, blob, number } => {
-            text.as_slice() == SECOND && blob == blob_id(SECOND) && number == 2
+        Verdict::Take {
+            text,
+            blob,
+            content,
+            number,
+        } => {
+            let ids = blob == blob_id(SECOND) && content == content_id(SECOND);
+            text.as_slice() == SECOND && ids && number == 2
         }
     }
 }

@@ -195,7 +195,9 @@ impl MemArchive {
         let next = self.next();
         match judge(self.alloc, &self.config, &self.index, count, next, bytes) {
             Verdict::Refuse(answer) => answer,
-            Verdict::Take { text, blob, number } => self.take(text, blob, number, moment),
+            Verdict::Take {
+                text, blob, number, ..
+            } => self.take(text, blob, number, moment),
         }
     }
 
