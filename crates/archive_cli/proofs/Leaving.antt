@@ -1,6 +1,6 @@
 -- What a crash leaves while a command works on a disk, at any first moment to come.
-use Rattle.std.specs.Prelude.{◌≡◌, ℕ, List, take, Option, Some, None}
-use Rattle.std.proofs.Common.{sym, subst, inl, inr}
+use Rattle.std.specs.Prelude.{◌≡◌, ℕ, List, take, Option}
+use Rattle.std.proofs.Common.{subst, inl, inr}
 use Rattle.arch_base.specs.declared.config.Config.{Config}
 use Rattle.disk_model.specs.Disk.{Files, Content, Image}
 use Rattle.disk_model.specs.Moments.{started}

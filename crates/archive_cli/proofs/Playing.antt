@@ -12,7 +12,7 @@ use Rattle.line_door.specs.Course.{talk, Fed}
 use Rattle.arch_base.specs.declared.config.Config.{Config}
 use Rattle.arch_model.specs.Archives.{Archive, empty_archive}
 use Rattle.arch_model.specs.Keeping.{Fits}
-use Rattle.arch_model.specs.Standing.{Standing, standing}
+use Rattle.arch_model.specs.Standing.{Standing}
 use Rattle.arch_model.proofs.Keepers.{fits-held}
 use Rattle.keep_course.specs.Courses.{CourseLeft}
 use Rattle.keep_course.proofs.Courses.{course-fed}

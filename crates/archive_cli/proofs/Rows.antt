@@ -1,6 +1,5 @@
 -- Runs on one disk, in order.
-use Rattle.std.specs.Prelude.{◌≡◌, ◌≢◌, ◌⊎◌, ℕ, true, false, List, [], ◌∷◌, length, codes, get_or, Option, Some, None, refl}
-use Rattle.std.specs.List.{Contains}
+use Rattle.std.specs.Prelude.{◌≡◌, ◌≢◌, ◌⊎◌, ℕ, true, List, [], ◌∷◌, codes, get_or, Option, Some, None, refl}
 use Rattle.std.proofs.Common.{◌∙◌, sym, ap, subst, inl, inr, arith}
 use Rattle.std.proofs.lemmas.Bool.{false≢true}
 use Rattle.arch_base.specs.declared.config.Config.{Config}
@@ -17,7 +16,6 @@ use Rattle.arch_model.specs.declared.opening.OpenRefusal.{OpenRefusal}
 use Rattle.arch_model.specs.declared.opening.OpenRefusal.TheVariants as refusal
 use Rattle.arch_model.proofs.Keepers.{found-one}
 use Rattle.epoch_store.specs.Opens.{RecoversOf}
-use Rattle.epoch_store.specs.Recovery.{Recovers}
 use Rattle.epoch_store.specs.Stores.{View, IsDiskOf}
 use Rattle.archive_core.specs.Engines.{store-recovers}
 use Rattle.archive_core.proofs.Engines.{recovers_either}
@@ -28,9 +26,9 @@ use Rattle.archive_cli.specs.declared.status.Status.TheVariants as exit
 use Rattle.archive_cli.specs.declared.words.Job.{Job}
 use Rattle.archive_cli.specs.declared.words.Job.TheVariants.{Help, Version, Replay, Init, Deliver, Check}
 use Rattle.archive_cli.specs.DiskCommands.{Makes, StandsAs, StaysUnopened, DeliversOn}
-use Rattle.archive_cli.specs.Laws.{WithMessage, Goes, IsLeft, RunsInARow}
+use Rattle.archive_cli.specs.Laws.{WithMessage, Goes, RunsInARow}
 use Rattle.archive_cli.specs.Outcomes.{status_of}
-use Rattle.archive_cli.specs.Program.{Edges, Acts, EndsBy, Does, IsDue, Ends, Ran, RanTo, IsInput, AsksForInit, message_of, made_at}
+use Rattle.archive_cli.specs.Program.{Edges, EndsBy, IsDue, Ends, Ran, IsInput, AsksForInit, message_of, made_at}
 use Rattle.archive_cli.specs.Statuses.{code_of}
 use Rattle.archive_cli.specs.Words.{AsksFor, IsJob}
 

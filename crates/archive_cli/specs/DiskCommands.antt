@@ -14,7 +14,6 @@ use Rattle.arch_model.specs.declared.opening.OpenRefusal.{OpenRefusal}
 use Rattle.arch_model.specs.declared.opening.OpenRefusal.TheVariants as refusal
 use Rattle.epoch_store.specs.declared.refusal.InitRefusal.{InitRefusal}
 use Rattle.epoch_store.specs.declared.refusal.InitRefusal.TheVariants as making
-use Rattle.epoch_store.specs.Files.{as_read}
 use Rattle.epoch_store.specs.Opens.{IsOnlySynced, Opens, ReadsAs, RecoversOf, AllRecoverOf}
 use Rattle.epoch_store.specs.Stores.{View, IsStoreOf, IsDiskOf, RecoversEither}
 use Rattle.archive_core.specs.Openings.{LeavesKindly}

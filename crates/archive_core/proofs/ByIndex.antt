@@ -1,14 +1,14 @@
 -- The entries of a store by their indexes, by their counts, and by blob ids.
-use Rattle.std.specs.Prelude.{◌≡◌, ◌==◌, ◌&&◌, ◌||◌, ℕ, zero, suc, Bool, true, false, cond, nat_le, count_by, List, [], ◌∷◌, ◌++◌, length, slice_get, Option, Some, None, Result, Ok, Err, is_some, option_map, unwrap_or, refl}
+use Rattle.std.specs.Prelude.{◌≡◌, ◌==◌, ◌&&◌, ◌||◌, ℕ, zero, suc, Bool, true, false, cond, nat_le, count_by, List, [], ◌∷◌, ◌++◌, length, slice_get, Option, Some, None, Ok, Err, option_map, unwrap_or, refl}
 use Rattle.std.specs.List.{filter, find}
 use Rattle.std.specs.Str.{bytes_eq}
-use Rattle.std.proofs.Common.{◌∙◌, sym, ap, subst, arith}
+use Rattle.std.proofs.Common.{◌∙◌, sym, ap, arith}
 use Rattle.std.proofs.lemmas.Bool.Decides.{nat_tests}
 use Rattle.std.proofs.lemmas.List.Sums.{length-filter}
 use Rattle.disk_model.specs.Disk.{Content}
-use Rattle.arch_model.specs.Archives.{Entry, Archive, text_of, blob_number}
-use Rattle.arch_model.specs.Shelves.{lines_after, line_at, is_between, live_between, blob_text, GivesBlobIn}
-use Rattle.arch_model.specs.Standing.{GivesTextIn, KeepsUnlessFound}
+use Rattle.arch_model.specs.Archives.{Entry, Archive, blob_number}
+use Rattle.arch_model.specs.Shelves.{lines_after, line_at, is_between, live_between, GivesBlobIn}
+use Rattle.arch_model.specs.Standing.{GivesTextIn}
 use Rattle.arch_model.specs.declared.text_refusal.TextRefusal.{TextRefusal}
 use Rattle.arch_model.specs.declared.text_refusal.TextRefusal.TheVariants.{DiskFault, Damaged, NoMemory}
 use Rattle.arch_model.proofs.Shelving.{rises-from, blob_found-text, blob-none}

@@ -1,5 +1,5 @@
 -- An archive in memory never fails, whatever the count of faults of its owner.
-use Rattle.std.proofs.Common.{◌≡◌, ℕ, Bool, true, false, Result, Ok, Err, arith}
+use Rattle.std.proofs.Common.{ℕ, Result, Ok, Err, arith}
 use Rattle.arch_model.specs.Shelves.{ReadCause}
 use Rattle.arch_model.specs.Keeping.{Ending, Accepts, Refuses, Starves, Fails, Breaks, CauseBy}
 use Rattle.arch_model.specs.declared.text_refusal.TextRefusal.{TextRefusal}

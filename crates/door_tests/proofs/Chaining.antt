@@ -1,5 +1,5 @@
 -- Three commands make one run.
-use Rattle.std.proofs.Common.{◌≡◌, Bool, List, [], ◌∷◌, Option}
+use Rattle.std.proofs.Common.{Bool, List, [], ◌∷◌, Option}
 use Rattle.arch_model.specs.Archives.{Archive}
 use Rattle.arch_model.specs.Keeping.{Passes, Fits, Moves}
 use Rattle.arch_model.specs.Standing.{Standing}

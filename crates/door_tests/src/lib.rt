@@ -1,6 +1,10 @@
 //! Tests of inputs, outputs, clocks and scripts, of the doors of lines, of the lines of answers and
-//! of the control door, by public calls alone.
+//! of the control door, by public calls alone; and a client of shelves, outside of the crates.
 #![tactic(auto)]
+
+mod shelf_client;
+
+pub use shelf_client::say_texts;
 
 #[cfg(test)]
 mod answer_tests;
@@ -19,4 +23,4 @@ mod keep_client;
 #[cfg(test)]
 mod line_tests;
 #[cfg(test)]
-mod shelf_client;
+mod streaming_tests;

@@ -8,13 +8,10 @@ ghost use Rattle.arch_model.specs.Archives.{Archive, text_of};
 ghost use Rattle.arch_model.specs.Shelves.{Stays};
 ghost use Rattle.door_tests.specs.Streams.{IsPart, texts_said};
 
-use crate::connection::archive;
-use crate::failing_keep::{Failing, FailingKeep};
 use answer_lines::say_unread;
-use arch_base::{Bytes, Numbers};
-use arch_model::{Command, Keep, Shelf, is_live};
-use edge_io::{MemSink, Sink, SinkFault, say_line};
-use mem_archive::MemArchive;
+use arch_base::Bytes;
+use arch_model::{Shelf, is_live};
+use edge_io::{Sink, SinkFault, say_line};
 use std::alloc::Global;
 
 /// What became of one number.
@@ -73,7 +70,7 @@ fn given(sent: Result<(), SinkFault>) -> Part
 }
 
 /// Says the texts of so many numbers from `low` on, and returns whether the session continues.
-fn say_texts<S: Shelf, O: Sink>(
+pub fn say_texts<S: Shelf, O: Sink>(
     alloc: Global,
     low: u32,
     count: u32,
@@ -104,60 +101,4 @@ fn say_texts<S: Shelf, O: Sink>(
         }
     }
     say_line(b"end", out).is_ok()
-}
-
-/// A request for numbers 1 to 3 of an archive with two messages.
-struct Request {
-    /// The call that fails.
-    failing: Failing,
-    words: &'static [u8],
-    /// Whether the session then continues.
-    goes_on: bool,
-}
-
-/// Requests to disks that fail. The first one's doesn't, since no epoch is read.
-///
-/// A text ends with the empty line after its header, and each text has a line feed after it.
-const REQUESTS: [Request; 3] = [
-    Request {
-        failing: Failing::Epoch,
-        words: b"Message-ID: <a@x>\n\n\nMessage-ID: <b@x>\n\n\nend\n",
-        goes_on: true,
-    },
-    Request {
-        failing: Failing::Text,
-        words: b"10 disk fault\n",
-        goes_on: true,
-    },
-    Request {
-        failing: Failing::LaterText,
-        words: b"Message-ID: <a@x>\n\n\n",
-        goes_on: false,
-    },
-];
-
-/// Returns an archive with two messages.
-fn with_two(alloc: Global) -> Option<MemArchive> {
-    let mut archive = archive(alloc)?;
-    let _ = Keep::command(&mut archive, &Command::Deliver(b"Message-ID: <a@x>\n"), 1);
-    let _ = Keep::command(&mut archive, &Command::Deliver(b"Message-ID: <b@x>\n"), 1);
-    Some(archive)
-}
-
-/// Returns whether a request is answered as its row says.
-fn is_answered(alloc: Global, request: &Request) -> bool {
-    let Some(archive) = with_two(alloc) else {
-        return false;
-    };
-    let mut keep = FailingKeep::new(archive, request.failing);
-    let mut out = MemSink::new(alloc, Numbers::new(alloc));
-    let goes_on = say_texts(alloc, 1, 3, &mut keep, &mut out);
-    out.taken() == request.words && goes_on == request.goes_on
-}
-
-#[test]
-fn a_streamed_reply_ends_or_stops(rt: HostRuntime) {
-    for request in &REQUESTS {
-        assert!(rt; is_answered(rt.alloc(), request), "{:?}", request.words);
-    }
 }

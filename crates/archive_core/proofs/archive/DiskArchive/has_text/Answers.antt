@@ -1,6 +1,5 @@
 use Rattle.std.proofs.Common.{◌≡◌, ◌==◌, true, arith}
 use Rattle.std.proofs.lemmas.Bool.Decides.{nat_tests}
-use Rattle.archive_core.specs.Numbers.{has_number}
 use Rattle.archive_core.proofs.ByNumber.{text_of-least, text_of-no_least}
 use Rattle.archive_core.proofs.archive.DiskArchive.has_text.Goals as goal
 

@@ -1,4 +1,4 @@
-use Rattle.std.proofs.Common.{false, refl, ap, not}
+use Rattle.std.proofs.Common.{false, ap, not}
 use Rattle.archive_core.proofs.Engines.{still-ready, still-stale, ready-at, opened-from, unopened-from, passes-from, opening-why-from}
 use Rattle.archive_core.proofs.engine.EngineKeep.fresh.Goals as goal
 

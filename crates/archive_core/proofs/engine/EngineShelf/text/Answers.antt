@@ -1,7 +1,7 @@
-use Rattle.std.proofs.Common.{◌≡◌, ◌∙◌, false, true, sym}
+use Rattle.std.proofs.Common.{◌∙◌, sym}
 use Rattle.std.proofs.lemmas.Bool.{false≢true}
 use Rattle.archive_core.proofs.ByNumber.{tells_other}
-use Rattle.archive_core.proofs.Engines.{kept-inside, held-inside, stays-still, stays-from, cause-from, once-from, not_true}
+use Rattle.archive_core.proofs.Engines.{kept-inside, held-inside, stays-still, stays-from, cause-from, once-from}
 use Rattle.archive_core.proofs.engine.EngineShelf.text.Goals as goal
 
 pub returns-then-not-has_text-clause-text : goal.returns-then-not-has_text-clause-text

@@ -1,6 +1,5 @@
-use Rattle.std.proofs.Common.{true, false, arith}
 use Rattle.arch_model.specs.Keeping.{ending}
-use Rattle.arch_model.proofs.Keepers.{untold-fits, cause-earlier, unopened-cause, unopened-ready}
+use Rattle.arch_model.proofs.Keepers.{untold-fits, cause-earlier, unopened-cause}
 use Rattle.door_tests.proofs.failing_keep.FailingKeepKeep.command.Goals as goal
 
 pub returns-in-Ok-clause-done : goal.returns-in-Ok-clause-done
