@@ -21,7 +21,7 @@ returns-in-Deliver g c = record {
     untouched = c.deliver.ensures.untouched;
     sizes = c.deliver.ensures.sizes;
     cause = c.deliver.ensures.cause;
-    for_command = c.deliver.ensures.for_command;
+    for_command = (subst (λ (m : Command). IsForCommand m c.deliver.result) (search rules) c.deliver.ensures.for_command);
     count = c.deliver.ensures.count;
   };
   unread = λ a cache store unknown. c.deliver.ensures.unread a cache store (subst (λ (t : Bool). t ≡ false) (search rules) unknown);
@@ -45,7 +45,7 @@ returns-in-Remove g c = record {
     untouched = c.remove.ensures.untouched;
     sizes = c.remove.ensures.sizes;
     cause = c.remove.ensures.cause;
-    for_command = c.remove.ensures.for_command;
+    for_command = (subst (λ (m : Command). IsForCommand m c.remove.result) (search rules) c.remove.ensures.for_command);
     count = c.remove.ensures.count;
   };
   unread = λ a cache store unknown. (let known : text_known a c.args.command.now ≡ true = search rules in let wrong : true ≡ false = sym known ∙ unknown in absurd (cc));
