@@ -1,0 +1,3 @@
+pub mod Waits
+pub mod Blocks
+pub mod Changed
