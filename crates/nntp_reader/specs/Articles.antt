@@ -3,10 +3,10 @@ use Rattle.std.specs.Prelude.{ℕ, List, [], ◌∷◌, ◌++◌, codes, decimal
 use Rattle.mail_reader.specs.Bodies.{body_of}
 use Rattle.mail_reader.specs.Fields.{fields_of}
 use Rattle.mail_reader.specs.Laws.{wholes}
-use Rattle.mail_rows.specs.Overviews.{id_fact}
-use Rattle.mail_rows.specs.declared.row.Row.{Row}
+use Rattle.arch_model.specs.Overviews.{id_fact}
+use Rattle.mail_forms.specs.declared.row.Row.{Row}
 use Rattle.arch_model.specs.Archives.{Archive, live, text_of}
-use Rattle.arch_model.specs.Rows.{row_in}
+use Rattle.arch_model.specs.Listings.{row_in}
 use Rattle.wire_replies.specs.Blocks.{crlf_line, block_lines, block_end}
 
 use Rattle.nntp_reader.specs.Notices.{notice_line}
@@ -22,12 +22,11 @@ use Rattle.nntp_reader.specs.declared.verb.Part.TheVariants as part
 unfoldable pub header_of : List ℕ → List ℕ
 header_of text = wholes (fields_of text)
 
--- The code of a part.
+-- The code of a reply with a part.
 abbrev pub part_code : Part → List ℕ
 part_code part.Article = codes "220 "
 part_code part.Head = codes "221 "
 part_code part.Body = codes "222 "
-part_code part.Stat = codes "223 "
 
 -- A code, a number and an id.
 abbrev pub status_line : List ℕ → ℕ → List ℕ → List ℕ
@@ -38,7 +37,6 @@ abbrev pub part_of : Part → List ℕ → List ℕ
 part_of part.Article text = text
 part_of part.Head text = header_of text
 part_of part.Body text = body_of text
-part_of part.Stat text = []
 
 -- A part of a text, as a block.
 abbrev pub part_words : Part → ℕ → List ℕ → List ℕ
@@ -57,22 +55,18 @@ row_id (Some row) = row.id
 
 -- A number and the id of its message, for STAT, NEXT and LAST.
 abbrev pub stat_words : Archive → ℕ → ℕ → List ℕ
-stat_words a shown number = status_line (codes "223 ") shown (row_id (row_in a.entries number))
+stat_words a shown number =
+    status_line (codes "223 ") shown (row_id (row_in (live a.entries) number))
 
--- What is said of a message.
-abbrev pub chosen_words : Archive → Part → ℕ → ℕ → List ℕ
-chosen_words a part.Article shown number =
-    text_words part.Article shown (text_of (live a.entries) number)
-chosen_words a part.Head shown number =
-    text_words part.Head shown (text_of (live a.entries) number)
-chosen_words a part.Body shown number =
-    text_words part.Body shown (text_of (live a.entries) number)
-chosen_words a part.Stat shown number = stat_words a shown number
-
--- What is said of a message, if there is one.
+-- What ARTICLE, HEAD or BODY says of a message, if there is one.
 abbrev pub read_words : Archive → Part → Result Chosen Notice → List ℕ
-read_words a what (Ok c) = chosen_words a what c.shown c.number
+read_words a what (Ok c) = text_words what c.shown (text_of (live a.entries) c.number)
 read_words a what (Err refusal) = notice_line refusal
+
+-- What STAT says of a message, if there is one.
+abbrev pub chosen_words : Archive → Result Chosen Notice → List ℕ
+chosen_words a (Ok c) = stat_words a c.shown c.number
+chosen_words a (Err refusal) = notice_line refusal
 
 -- The group after a choice. A refusal leaves it.
 abbrev pub group_chosen : Group → Result Chosen Notice → Group

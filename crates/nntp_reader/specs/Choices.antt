@@ -1,8 +1,8 @@
 -- Which article a command is about, and which are next and last (RFC 3977, sections 6.1 and 6.2).
 use Rattle.std.specs.Prelude.{ℕ, ◌+◌, List, [], ◌∷◌, Option, Some, None, Result, Ok, Err, if◌then◌else◌}
 use Rattle.nntp_words.specs.declared.numbers.Range.{Range}
-use Rattle.arch_model.specs.Archives.{Archive}
-use Rattle.arch_model.specs.Rows.{number_of_id}
+use Rattle.arch_model.specs.Archives.{Archive, live}
+use Rattle.arch_model.specs.Listings.{number_of_id}
 use Rattle.nntp_reader.specs.Commands.{Article, Current, Numbered, Identified}
 use Rattle.nntp_reader.specs.Numbers.{is_live, live_in, first_of, least_live, greatest_below}
 use Rattle.nntp_reader.specs.declared.choice.Chosen.{Chosen}
@@ -18,7 +18,7 @@ chosen number shown after = record { number = number; shown = shown; after = aft
 -- The message with a number, if it is live.
 abbrev pub if_live : Archive → ℕ → ℕ → Group → Notice → Result Chosen Notice
 if_live a number shown after refusal =
-    if is_live a.entries number then Ok (chosen number shown after) else Err refusal
+    if is_live (live a.entries) number then Ok (chosen number shown after) else Err refusal
 
 -- The current message.
 abbrev pub current_of : Archive → Group → Result Chosen Notice
@@ -40,7 +40,7 @@ identified_by a g (Some number) = if_live a number 0 g notice.NoArticle
 abbrev pub choice_of : Archive → Group → Article → Result Chosen Notice
 choice_of a g Current = current_of a g
 choice_of a g (Numbered n) = numbered_of a g n
-choice_of a g (Identified id) = identified_by a g (number_of_id a.entries id)
+choice_of a g (Identified id) = identified_by a g (number_of_id (live a.entries) id)
 
 -- The number, or why there is none.
 abbrev pub number_or : Option ℕ → Notice → Result ℕ Notice
@@ -51,16 +51,18 @@ number_or (Some n) refusal = Ok n
 abbrev pub range_start : Archive → Group → Range → Result ℕ Notice
 range_start a group.Unselected range = Err notice.NoGroup
 range_start a (group.Selected current) range =
-    number_or (first_of (live_in a.entries range.first range.last)) notice.NoNumber
+    number_or (first_of (live_in (live a.entries) range.first range.last)) notice.NoNumber
 
 -- The next live number after the current one, which may be live or gone.
 abbrev pub next_of : Archive → Group → Result ℕ Notice
 next_of a group.Unselected = Err notice.NoGroup
 next_of a (group.Selected None) = Err notice.NoCurrent
-next_of a (group.Selected (Some n)) = number_or (least_live a.entries (n + 1)) notice.NoNext
+next_of a (group.Selected (Some n)) =
+    number_or (least_live (live a.entries) (n + 1)) notice.NoNext
 
 -- The last live number before the current one, which may be live or gone.
 abbrev pub previous_of : Archive → Group → Result ℕ Notice
 previous_of a group.Unselected = Err notice.NoGroup
 previous_of a (group.Selected None) = Err notice.NoCurrent
-previous_of a (group.Selected (Some n)) = number_or (greatest_below a.entries n) notice.NoPrevious
+previous_of a (group.Selected (Some n)) =
+    number_or (greatest_below (live a.entries) n) notice.NoPrevious

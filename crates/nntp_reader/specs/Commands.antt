@@ -1,5 +1,5 @@
 -- The commands of a reader, and the lines that spell them (RFC 3977, sections 5 to 8).
-use Rattle.std.specs.Prelude.{ℕ, zero, Bool, true, List, [], ◌∷◌, codes, Option, Some, None, if◌then◌else◌, ℤ, pos, negsuc}
+use Rattle.std.specs.Prelude.{ℕ, zero, Bool, true, false, List, [], ◌∷◌, codes, Option, Some, None, if◌then◌else◌, ℤ, pos, negsuc}
 use Rattle.std.specs.List.{list_all, list_any}
 use Rattle.mail_reader.specs.Lines.{is_name_byte}
 use Rattle.nntp_words.specs.Moments.{moment_of}
@@ -45,6 +45,7 @@ pub data Command : Type 0 where
   Group : List ℕ → Command
   ListGroup : Option (List ℕ) → Range → Command
   Reads : Part → Article → Command
+  Stat : Article → Command
   Over : Articles → Command
   Headers : Header → Articles → Command
   Lists : Listing → Option (List ℕ) → Command
@@ -63,7 +64,7 @@ reading_verb word =
     if is_keyword (codes "ARTICLE") word then Some (verb.Read part.Article)
     else if is_keyword (codes "HEAD") word then Some (verb.Read part.Head)
     else if is_keyword (codes "BODY") word then Some (verb.Read part.Body)
-    else if is_keyword (codes "STAT") word then Some (verb.Read part.Stat)
+    else if is_keyword (codes "STAT") word then Some verb.Stat
     else if is_keyword (codes "OVER") word then Some verb.Over
     else if is_keyword (codes "XOVER") word then Some verb.Over
     else if is_keyword (codes "HDR") word then Some verb.Header
@@ -131,8 +132,7 @@ list_group_within name (Some range) = ListGroup (Some name) range
 abbrev pub list_group_with : List (List ℕ) → Command
 list_group_with [] = ListGroup None all_numbers
 list_group_with (name ∷ []) = ListGroup (Some name) all_numbers
-list_group_with (name ∷ range ∷ []) = list_group_within name (range_of range)
-list_group_with (name ∷ range ∷ word ∷ words) = Mistaken
+list_group_with (name ∷ range ∷ words) = alone (list_group_within name (range_of range)) words
 
 -- The article with a number, if there is one.
 abbrev pub numbered : Option ℕ → Option Article
@@ -165,10 +165,15 @@ articles_in [] = Some (Single Current)
 articles_in (word ∷ []) = articles_named word
 articles_in (word ∷ other ∷ words) = None
 
--- `ARTICLE`, `HEAD`, `BODY` or `STAT`, and an article.
+-- `ARTICLE`, `HEAD` or `BODY`, and an article.
 abbrev pub read_of : Part → Option Article → Command
 read_of what None = Mistaken
 read_of what (Some article) = Reads what article
+
+-- `STAT`, and an article.
+abbrev pub stat_of : Option Article → Command
+stat_of None = Mistaken
+stat_of (Some article) = Stat article
 
 -- `OVER`, and articles.
 abbrev pub over_of_articles : Option Articles → Command
@@ -242,14 +247,18 @@ abbrev pub since : Option ℤ → Option ℕ
 since None = None
 since (Some moment) = Some (since_1970 moment)
 
+-- No word, or only `GMT` in any case. Times are in UTC.
+abbrev pub ends_in_utc : List (List ℕ) → Bool
+ends_in_utc [] = true
+ends_in_utc (word ∷ []) = is_keyword (codes "GMT") word
+ends_in_utc (word ∷ other ∷ words) = false
+
 -- `date time [GMT]`, in a year.
 abbrev pub moment_in : ℕ → List (List ℕ) → Option ℕ
 moment_in year [] = None
 moment_in year (date ∷ []) = None
-moment_in year (date ∷ time ∷ []) = since (moment_of date time year)
-moment_in year (date ∷ time ∷ word ∷ []) =
-    if is_keyword (codes "GMT") word then since (moment_of date time year) else None
-moment_in year (date ∷ time ∷ word ∷ other ∷ words) = None
+moment_in year (date ∷ time ∷ words) =
+    if ends_in_utc words then since (moment_of date time year) else None
 
 -- `NEWGROUPS`, and a moment.
 abbrev pub new_groups_of : Option ℕ → Command
@@ -280,6 +289,7 @@ command_with verb.Last year words = alone Last words
 command_with verb.Group year words = group_with words
 command_with verb.ListGroup year words = list_group_with words
 command_with (verb.Read what) year words = read_of what (article_in words)
+command_with verb.Stat year words = stat_of (article_in words)
 command_with verb.Over year words = over_of_articles (articles_in words)
 command_with verb.Header year words = header_with words
 command_with verb.List year words = list_with words

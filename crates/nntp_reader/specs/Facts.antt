@@ -1,9 +1,9 @@
 -- The lines that are made of rows, without a text (RFC 3977, sections 7.4, 8.3 and 8.5).
 use Rattle.std.specs.Prelude.{ℕ, nat_le, List, [], ◌∷◌, ◌++◌, decimal, Option, Some, None, if◌then◌else◌}
 use Rattle.std.specs.List.{flat_map}
-use Rattle.mail_rows.specs.declared.row.Row.{Row}
+use Rattle.mail_forms.specs.declared.row.Row.{Row}
 use Rattle.arch_model.specs.Archives.{Entry}
-use Rattle.arch_model.specs.Rows.{row_in}
+use Rattle.arch_model.specs.Listings.{row_in}
 use Rattle.wire_replies.specs.Blocks.{crlf_line}
 use Rattle.nntp_reader.specs.Numbers.{live_in}
 use Rattle.nntp_reader.specs.declared.fact.Fact.{Fact}

@@ -21,20 +21,24 @@ live_count a = live_between (live a.entries) 1 greatest
 
 -- The least live number, or the next number if none is live.
 abbrev pub low : Archive → ℕ
-low a = unwrap_or (least_live a.entries 1) a.next
+low a = unwrap_or (least_live (live a.entries) 1) a.next
 
 -- The greatest number so far.
 abbrev pub high : Archive → ℕ
 high a = a.next - 1
 
--- `211 COUNT LOW HIGH NAME`, and what follows.
+-- `211 COUNT LOW HIGH NAME`.
+abbrev pub group_head : Archive → List ℕ
+group_head a = codes "211 " ++ (decimal (live_count a) ++ (32 ∷ (decimal (low a)
+    ++ (32 ∷ (decimal (high a) ++ (32 ∷ a.config.name))))))
+
+-- The same, and what follows in its line.
 abbrev pub group_line : Archive → List ℕ → List ℕ
-group_line a more = codes "211 " ++ (decimal (live_count a) ++ (32 ∷ (decimal (low a)
-    ++ (32 ∷ (decimal (high a) ++ (32 ∷ (a.config.name ++ crlf_line more)))))))
+group_line a more = group_head a ++ crlf_line more
 
 -- The group with its least live number as the current one, or with none.
 abbrev pub selected : Archive → Group
-selected a = group.Selected (least_live a.entries 1)
+selected a = group.Selected (least_live (live a.entries) 1)
 
 -- A name is compared by its bytes.
 abbrev pub is_group : Archive → List ℕ → Bool
@@ -54,7 +58,7 @@ no_group_line (Some name) = notice_line notice.NoSuchGroup
 -- What LISTGROUP says of its group: the live numbers in a range.
 abbrev pub group_list : Archive → Range → List ℕ
 group_list a range = group_line a (codes " list follows")
-    ++ (fact_lines fact.Number a.entries range.first range.last ++ block_end)
+    ++ (fact_lines fact.Number (live a.entries) range.first range.last ++ block_end)
 
 -- What GROUP says.
 abbrev pub group_words : Archive → List ℕ → List ℕ

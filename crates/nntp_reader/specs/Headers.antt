@@ -4,7 +4,7 @@ use Rattle.std.specs.List.{flat_map}
 use Rattle.mail_forms.specs.NamedValues.{flat_first}
 use Rattle.nntp_words.specs.declared.numbers.Range.{Range}
 use Rattle.arch_model.specs.Archives.{Entry, Archive, live, text_of}
-use Rattle.arch_model.specs.Rows.{row_in}
+use Rattle.arch_model.specs.Listings.{row_in}
 use Rattle.wire_replies.specs.Blocks.{crlf_line, block_end}
 use Rattle.nntp_reader.specs.Commands.{Articles, Single, Within, Header, Bytes, Lines, Field}
 use Rattle.nntp_reader.specs.Choices.{choice_of, range_start}
@@ -28,13 +28,13 @@ header_start = crlf_line (codes "225 headers follow")
 -- A first line, what rows give of one message, and the end; or why there is none.
 abbrev pub single_words : List ℕ → Fact → Archive → Result Chosen Notice → List ℕ
 single_words start what a (Ok c) =
-    start ++ (fact_line what c.shown (row_in a.entries c.number) ++ block_end)
+    start ++ (fact_line what c.shown (row_in (live a.entries) c.number) ++ block_end)
 single_words start what a (Err refusal) = notice_line refusal
 
 -- The same of the live numbers in a range.
 abbrev pub range_words : List ℕ → Fact → Archive → Range → Result ℕ Notice → List ℕ
 range_words start what a range (Ok n) =
-    start ++ (fact_lines what a.entries range.first range.last ++ block_end)
+    start ++ (fact_lines what (live a.entries) range.first range.last ++ block_end)
 range_words start what a range (Err refusal) = notice_line refusal
 
 -- What rows give of the articles that a command names.
@@ -49,7 +49,7 @@ field_line name shown (Some text) = header_line shown (flat_first name text)
 
 -- The line of a number.
 abbrev pub field_at : List ℕ → List Entry → ℕ → List ℕ
-field_at name entries n = field_line name n (text_of (live entries) n)
+field_at name entries n = field_line name n (text_of entries n)
 
 -- The lines of a field of the live messages from `first` to `last`, in order.
 unfoldable pub field_lines : List ℕ → List Entry → ℕ → ℕ → List ℕ
@@ -64,5 +64,5 @@ field_words a name (Err refusal) = notice_line refusal
 -- What HDR says of a field of the messages in a range.
 abbrev pub fields_words : Archive → List ℕ → Range → Result ℕ Notice → List ℕ
 fields_words a name range (Ok n) =
-    header_start ++ (field_lines name a.entries range.first range.last ++ block_end)
+    header_start ++ (field_lines name (live a.entries) range.first range.last ++ block_end)
 fields_words a name range (Err refusal) = notice_line refusal

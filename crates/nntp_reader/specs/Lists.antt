@@ -3,7 +3,7 @@ use Rattle.std.specs.Prelude.{ℕ, nat_le, Bool, List, [], ◌∷◌, ◌++◌, 
 use Rattle.std.specs.Option.{unwrap_or}
 use Rattle.nntp_words.specs.Numbers.{greatest}
 use Rattle.nntp_words.specs.Wildmats.{wildmat_matches}
-use Rattle.arch_model.specs.Archives.{Archive}
+use Rattle.arch_model.specs.Archives.{Archive, live}
 use Rattle.wire_replies.specs.Blocks.{crlf_line, block_end, listed}
 use Rattle.nntp_reader.specs.Facts.{fact_lines}
 use Rattle.nntp_reader.specs.Groups.{low, high}
@@ -84,4 +84,4 @@ new_groups_words moment a =
 abbrev pub new_news_words : List ℕ → ℕ → Archive → List ℕ
 new_news_words wildmat moment a = group_block (codes "230 list follows")
     (is_listed (Some wildmat) a.config.name)
-    (fact_lines (fact.ArrivedSince moment) a.entries 1 greatest)
+    (fact_lines (fact.ArrivedSince moment) (live a.entries) 1 greatest)

@@ -1,5 +1,8 @@
--- The replies that are one line of fixed words (RFC 3977, section 3.2).
-use Rattle.std.specs.Prelude.{ℕ, List, codes}
+-- The replies that are one line of fixed words, and the words for what was not read (RFC 3977, section 3.2).
+use Rattle.std.specs.Prelude.{ℕ, List, ◌∷◌, ◌++◌, codes}
+use Rattle.hex.specs.Hex.{encode_lower}
+use Rattle.arch_model.specs.declared.text_refusal.TextRefusal.{TextRefusal}
+use Rattle.arch_model.specs.declared.text_refusal.TextRefusal.TheVariants as reading
 use Rattle.wire_replies.specs.Blocks.{crlf_line}
 use Rattle.nntp_reader.specs.declared.notice.Notice.{Notice}
 use Rattle.nntp_reader.specs.declared.notice.Notice.TheVariants as notice
@@ -31,3 +34,10 @@ memory_line = crlf_line (codes "403 out of memory")
 -- The line for a fault of the disk.
 abbrev pub disk_line : List ℕ
 disk_line = crlf_line (codes "403 disk fault")
+
+-- Why a text was not read. If it is damaged, its id is said, and the id of what was found.
+abbrev pub unread_line : TextRefusal → List ℕ
+unread_line reading.DiskFault = disk_line
+unread_line (reading.Damaged named found) = codes "403 damaged " ++ (encode_lower named.0
+    ++ (32 ∷ crlf_line (encode_lower found.0)))
+unread_line reading.NoMemory = memory_line

@@ -3,20 +3,18 @@
 use Rattle.std.specs.Prelude.{ℕ, Bool, true, false, List, [], Option, Some, None, Result}
 use Rattle.nntp_words.specs.declared.numbers.Range.{Range}
 use Rattle.arch_model.specs.Archives.{Archive}
-use Rattle.nntp_reader.specs.Commands.{Command, Capabilities, ModeReader, Date, Help, Quit, Post, Next, Last, Group, ListGroup, Reads, Over, Headers, Lists, NewGroups, NewNews, Mistaken, Unknown, Article, Articles, Single, Within, Header, Bytes, Field}
+use Rattle.nntp_reader.specs.Commands.{Command, Capabilities, ModeReader, Date, Help, Quit, Post, Next, Last, Group, ListGroup, Reads, Stat, Over, Headers, Lists, NewGroups, NewNews, Mistaken, Unknown, Article, Articles, Single, Within, Header, Bytes, Field}
 use Rattle.nntp_reader.specs.Commands as commands
 use Rattle.nntp_reader.specs.Notices.{notice_line}
 use Rattle.nntp_reader.specs.Groups.{group_words, group_after, list_group_words, list_group_after}
 use Rattle.nntp_reader.specs.Choices.{choice_of, range_start, next_of, previous_of}
-use Rattle.nntp_reader.specs.Articles.{read_words, group_chosen, step_words, step_after}
+use Rattle.nntp_reader.specs.Articles.{read_words, chosen_words, group_chosen, step_words, step_after}
 use Rattle.nntp_reader.specs.Headers.{over_start, header_start, facts_words, field_words, fields_words}
 use Rattle.nntp_reader.specs.Lists.{capabilities_words, help_words, list_words, new_groups_words, new_news_words}
 use Rattle.nntp_reader.specs.Dates.{date_words}
 use Rattle.nntp_reader.specs.declared.fact.Fact.TheVariants as fact
 use Rattle.nntp_reader.specs.declared.group.Group as session
 use Rattle.nntp_reader.specs.declared.notice.Notice.TheVariants as notice
-use Rattle.nntp_reader.specs.declared.verb.Part.{Part}
-use Rattle.nntp_reader.specs.declared.verb.Part.TheVariants as part
 
 -- A reply: its words, the group after it (None if the session is closed), and whether it is streamed.
 pub record Reply : Type 0 where
@@ -63,6 +61,8 @@ answered moment a g (ListGroup name range) =
     replies (list_group_words a g name range) (list_group_after a g name)
 answered moment a g (Reads what article) =
     replies (read_words a what (choice_of a g article)) (group_chosen g (choice_of a g article))
+answered moment a g (Stat article) =
+    replies (chosen_words a (choice_of a g article)) (group_chosen g (choice_of a g article))
 answered moment a g (Over articles) = replies (facts_words over_start fact.Overview a g articles) g
 answered moment a g (Headers header articles) = header_reply a g header articles
 answered moment a g (Lists what wildmat) = replies (list_words what wildmat a) g
@@ -71,18 +71,13 @@ answered moment a g (NewNews wildmat since) = replies (new_news_words wildmat si
 answered moment a g Mistaken = replies (notice_line notice.Syntax) g
 answered moment a g Unknown = replies (notice_line notice.Unknown) g
 
--- The command reads texts, for which memory may run out and the disk may fail.
-abbrev pub is_text_part : Part → Bool
-is_text_part part.Article = true
-is_text_part part.Head = true
-is_text_part part.Body = true
-is_text_part part.Stat = false
-
+-- The header is a field, which is read from a text.
 abbrev pub is_field : Header → Bool
 is_field Bytes = false
 is_field commands.Lines = false
 is_field (Field name) = true
 
+-- The command reads texts, for which memory may run out and the disk may fail.
 abbrev pub reads_texts : Command → Bool
 reads_texts Capabilities = false
 reads_texts ModeReader = false
@@ -94,7 +89,8 @@ reads_texts Next = false
 reads_texts Last = false
 reads_texts (Group name) = false
 reads_texts (ListGroup name range) = false
-reads_texts (Reads what article) = is_text_part what
+reads_texts (Reads what article) = true
+reads_texts (Stat article) = false
 reads_texts (Over articles) = false
 reads_texts (Headers header articles) = is_field header
 reads_texts (Lists what wildmat) = false

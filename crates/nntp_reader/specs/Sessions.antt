@@ -52,6 +52,7 @@ meant (order.Group name) = commands.Group name.now
 meant (order.ListSelected range) = commands.ListGroup None range
 meant (order.ListGroup name range) = commands.ListGroup (Some name.now) range
 meant (order.Read what article) = commands.Reads what (article_of article)
+meant (order.Stat article) = commands.Stat (article_of article)
 meant (order.Over articles) = commands.Over (articles_of articles)
 meant (order.Header header articles) = commands.Headers (header_of header) (articles_of articles)
 meant (order.List what) = commands.Lists what None

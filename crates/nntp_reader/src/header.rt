@@ -1,0 +1,89 @@
+//! What OVER says, and HDR of what rows have.
+ghost use Rattle.std.specs.Prelude.{◌≡◌, ◌++◌, true};
+ghost use Rattle.arch_model.specs.Archives.{Archive, live};
+ghost use Rattle.arch_model.specs.Listings.{row_in};
+ghost use Rattle.edge_io.specs.Phrases.{Says};
+ghost use Rattle.wire_replies.specs.Blocks.{block_end};
+ghost use Rattle.nntp_reader.specs.Facts.{fact_line, fact_lines};
+ghost use Rattle.nntp_reader.specs.Headers.{facts_words};
+ghost use Rattle.nntp_reader.specs.Sessions.{articles_of};
+
+use crate::choice::{Chosen, choose, range_start};
+use crate::fact::{Fact, push_fact};
+use crate::group::Group;
+use crate::notice::say_notice;
+use crate::order::Span;
+use crate::ranges::push_facts;
+use arch_model::Shelf;
+use edge_io::{Sink, SinkFault};
+use nntp_words::Range;
+use wire_replies::Waiting;
+
+/// Says a first line and what rows give of the named articles, or why there are none.
+///
+/// Reads no text.
+pub(crate) fn say_facts<S: Shelf, O: Sink>(
+    start: &[u8],
+    fact: Fact,
+    articles: Span<'_>,
+    group: Group,
+    shelf: &S,
+    out: &mut O,
+) -> Result<(), SinkFault>
+    requires { S.ready shelf.now ≡ true }
+    ensures said { (a : Archive) → S.holds shelf.now a
+        → Says (facts_words start.now fact a group (articles_of articles))
+        (O.taken out.old) (O.faults out.old) (O.taken out.new) (O.faults out.new) result }
+    ensures sink { O.alike out.old out.new }
+{
+    match articles {
+        Span::Single(article) => match choose(group, article, shelf) {
+            Ok(chosen) => say_single(start, fact, chosen, shelf, out),
+            Err(refusal) => say_notice(refusal, out),
+        },
+        Span::Within(range) => match range_start(group, range, shelf) {
+            Ok(_) => say_range(start, fact, range, shelf, out),
+            Err(refusal) => say_notice(refusal, out),
+        },
+    }
+}
+
+/// Says a first line and what the row of a message gives.
+fn say_single<S: Shelf, O: Sink>(
+    start: &[u8],
+    fact: Fact,
+    chosen: Chosen,
+    shelf: &S,
+    out: &mut O,
+) -> Result<(), SinkFault>
+    requires { S.ready shelf.now ≡ true }
+    ensures said { (a : Archive) → S.holds shelf.now a → Says (start.now
+        ++ (fact_line fact chosen.shown (row_in (live a.entries) chosen.number) ++ block_end))
+        (O.taken out.old) (O.faults out.old) (O.taken out.new) (O.faults out.new) result }
+    ensures sink { O.alike out.old out.new }
+{
+    let mut reply = Waiting::new();
+    reply.say(start, out)?;
+    push_fact(fact, chosen.shown, chosen.number, shelf, &mut reply, out)?;
+    reply.finish(b".\r\n", out)
+}
+
+/// Says a first line and what the rows of the live messages in a range give.
+fn say_range<S: Shelf, O: Sink>(
+    start: &[u8],
+    fact: Fact,
+    range: Range,
+    shelf: &S,
+    out: &mut O,
+) -> Result<(), SinkFault>
+    requires { S.ready shelf.now ≡ true }
+    ensures said { (a : Archive) → S.holds shelf.now a → Says (start.now
+        ++ (fact_lines fact (live a.entries) range.first range.last ++ block_end))
+        (O.taken out.old) (O.faults out.old) (O.taken out.new) (O.faults out.new) result }
+    ensures sink { O.alike out.old out.new }
+{
+    let mut reply = Waiting::new();
+    reply.say(start, out)?;
+    push_facts(fact, range.first, range.last, shelf, &mut reply, out)?;
+    reply.finish(b".\r\n", out)
+}
