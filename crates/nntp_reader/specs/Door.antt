@@ -1,12 +1,14 @@
 -- The door of readers: its session, and what it says to each line (RFC 3977, section 3.1).
 use Rattle.std.specs.Prelude.{ℕ, Bool, List, [], ◌++◌, length, Option, Some, None, if◌then◌else◌}
 use Rattle.line_door.specs.Acts.{Said, Way}
-use Rattle.line_door.specs.Making.{says, in_ways}
+use Rattle.line_door.specs.Making.{says, streams, in_ways}
 use Rattle.line_door.specs.Plain.{silent}
 use Rattle.line_door.specs.Lines.{content}
 use Rattle.line_door.specs.Clipped.{clipped, longest_line}
 use Rattle.line_door.specs.Skipping.{Passing, Taken, Skipped, Unended, skipping_front, is_ended}
-use Rattle.arch_model.specs.Archives.{Archive}
+use Rattle.arch_model.specs.Archives.{Archive, live}
+use Rattle.nntp_words.specs.declared.numbers.Range.{Range}
+use Rattle.nntp_reader.specs.Headers.{fields_block}
 use Rattle.nntp_reader.specs.Commands.{Command, command_of}
 use Rattle.nntp_reader.specs.Dates.{year_at}
 use Rattle.nntp_reader.specs.Notices.{notice_line, memory_line, disk_line}
@@ -51,6 +53,12 @@ refused moment a g command rest words = if reads_texts command then says a (read
 abbrev pub said_to : ℕ → Archive → Group → Command → List ℕ → Way → Says
 said_to moment a g command rest way = in_ways (as_said a rest (answered moment a g command))
     (refused moment a g command rest memory_line) (refused moment a g command rest disk_line) way
+
+-- What HDR of a field says in each way of the messages in a range of which one is live.
+abbrev pub range_said : Archive → Group → List ℕ → Range → List ℕ → Way → Says
+range_said a g name range rest way = in_ways
+    (streams a (reader g rest) (fields_block name (live a.entries) range.first range.last))
+    (says a (reader g rest) memory_line) (says a (reader g rest) disk_line) way
 
 -- What is said to what is at the front of a session. A line that is too long is answered once it
 -- ends, and a part of a line is kept.

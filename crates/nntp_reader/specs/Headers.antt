@@ -55,6 +55,11 @@ field_at name entries n = field_line name n (text_of entries n)
 unfoldable pub field_lines : List ℕ → List Entry → ℕ → ℕ → List ℕ
 field_lines name entries first last = flat_map (field_at name entries) (live_in entries first last)
 
+-- The same as a reply.
+abbrev pub fields_block : List ℕ → List Entry → ℕ → ℕ → List ℕ
+fields_block name entries first last =
+    header_start ++ (field_lines name entries first last ++ block_end)
+
 -- What HDR says of a field of one message.
 abbrev pub field_words : Archive → List ℕ → Result Chosen Notice → List ℕ
 field_words a name (Ok c) =
@@ -64,5 +69,5 @@ field_words a name (Err refusal) = notice_line refusal
 -- What HDR says of a field of the messages in a range.
 abbrev pub fields_words : Archive → List ℕ → Range → Result ℕ Notice → List ℕ
 fields_words a name range (Ok n) =
-    header_start ++ (field_lines name (live a.entries) range.first range.last ++ block_end)
+    fields_block name (live a.entries) range.first range.last
 fields_words a name range (Err refusal) = notice_line refusal

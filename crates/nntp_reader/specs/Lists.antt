@@ -49,30 +49,25 @@ abbrev pub is_listed : Option (List ℕ) → List ℕ → Bool
 is_listed None name = true
 is_listed (Some wildmat) name = unwrap_or (wildmat_matches wildmat name) false
 
--- The line of the group in a list of groups.
-abbrev pub listing_line : Listing → Archive → List ℕ
-listing_line listing.Active a = active_line a
-listing_line listing.ActiveTimes a = times_line a
-listing_line listing.Newsgroups a = description_line a
-listing_line listing.OverviewFormat a = []
-listing_line listing.Headers a = []
-
 -- A first line, the line of the group if it is listed, and the end.
 abbrev pub group_block : List ℕ → Bool → List ℕ → List ℕ
 group_block first is_there line = crlf_line first ++ ((if is_there then line else []) ++ block_end)
 
 -- The list of groups, which has one at most.
-abbrev pub groups_words : Listing → Option (List ℕ) → Archive → List ℕ
-groups_words what wildmat a =
-    group_block (codes "215 list follows") (is_listed wildmat a.config.name) (listing_line what a)
+abbrev pub groups_block : Bool → List ℕ → List ℕ
+groups_block is_there line = group_block (codes "215 list follows") is_there line
+
+-- A list, where the group is in a list of groups or not.
+abbrev pub listing_words : Listing → Bool → Archive → List ℕ
+listing_words listing.Active is_there a = groups_block is_there (active_line a)
+listing_words listing.ActiveTimes is_there a = groups_block is_there (times_line a)
+listing_words listing.Newsgroups is_there a = groups_block is_there (description_line a)
+listing_words listing.OverviewFormat is_there a = overview_format_words
+listing_words listing.Headers is_there a = header_names_words
 
 -- What LIST says.
 abbrev pub list_words : Listing → Option (List ℕ) → Archive → List ℕ
-list_words listing.Active wildmat a = groups_words listing.Active wildmat a
-list_words listing.ActiveTimes wildmat a = groups_words listing.ActiveTimes wildmat a
-list_words listing.Newsgroups wildmat a = groups_words listing.Newsgroups wildmat a
-list_words listing.OverviewFormat wildmat a = overview_format_words
-list_words listing.Headers wildmat a = header_names_words
+list_words what wildmat a = listing_words what (is_listed wildmat a.config.name) a
 
 -- What NEWGROUPS says: the group, if it wasn't created before a moment.
 abbrev pub new_groups_words : ℕ → Archive → List ℕ

@@ -1,21 +1,29 @@
 -- The acts of the code.
-use Rattle.std.specs.Prelude.{◌≡◌, ◌<◌, ◌≤◌, ℕ, Bool, true, false, List, ◌++◌, length, drop, Option, Some, None, Result, Ok, Err}
+use Rattle.std.specs.Prelude.{◌≡◌, ◌<◌, ◌≤◌, ◌⊎◌, ℕ, Bool, true, false, not, List, [], ◌++◌, length, drop, Option, Some, None, Result, Ok, Err}
 use Rattle.line_door.specs.Acts.{Outside, Acts, held_if}
 use Rattle.line_door.specs.Clipped.{clipped, longest_line}
 use Rattle.arch_model.specs.Archives.{Archive, Entry, live, text_of}
 use Rattle.mail_forms.specs.NamedValues.{flat_first}
 use Rattle.arch_model.specs.Shelves.{IsUndamaged}
 use Rattle.arch_model.specs.declared.text_refusal.TextRefusal.{TextRefusal}
+use Rattle.arch_base.specs.Counts.{Rose}
+use Rattle.edge_io.specs.Phrases.{Says}
+use Rattle.edge_io.specs.declared.sink.SinkFault.{SinkFault}
+use Rattle.wire_replies.specs.Waits.{Waits}
 use Rattle.nntp_reader.specs.Commands as commands
 use Rattle.nntp_reader.specs.Commands.{Article, Articles, Header, Command}
 use Rattle.nntp_reader.specs.Door.{Reader, reader, said, said_to, has_request}
+use Rattle.nntp_reader.specs.Headers.{header_start, field_line}
+use Rattle.nntp_reader.specs.Notices.{memory_line, disk_line}
+use Rattle.nntp_reader.specs.declared.field.Value.{Value}
+use Rattle.nntp_reader.specs.declared.field.Value.TheVariants as field
 use Rattle.nntp_reader.specs.declared.group.Group.{Group}
 use Rattle.nntp_reader.specs.declared.order.Named.{Named}
 use Rattle.nntp_reader.specs.declared.order.Named.TheVariants as named
 use Rattle.nntp_reader.specs.declared.order.Span.{Span}
 use Rattle.nntp_reader.specs.declared.order.Span.TheVariants as span
-use Rattle.nntp_reader.specs.declared.order.Value.{Value}
-use Rattle.nntp_reader.specs.declared.order.Value.TheVariants as value
+use Rattle.nntp_reader.specs.declared.order.Asked.{Asked}
+use Rattle.nntp_reader.specs.declared.order.Asked.TheVariants as asked
 use Rattle.nntp_reader.specs.declared.order.Order.{Order}
 use Rattle.nntp_reader.specs.declared.order.Order.TheVariants as order
 use Rattle.nntp_reader.specs.declared.session.Turn.{Turn}
@@ -33,10 +41,10 @@ articles_of (span.Single article) = commands.Single (article_of article)
 articles_of (span.Within range) = commands.Within range
 
 -- The header that was read.
-abbrev pub header_of : Value → Header
-header_of value.Bytes = commands.Bytes
-header_of value.Lines = commands.Lines
-header_of (value.Field name) = commands.Field name.now
+abbrev pub header_of : Asked → Header
+header_of asked.Bytes = commands.Bytes
+header_of asked.Lines = commands.Lines
+header_of (asked.Field name) = commands.Field name.now
 
 -- The command that was read.
 abbrev pub meant : Order → Command
@@ -67,6 +75,43 @@ abbrev pub ReadsValue : List ℕ → Option (List ℕ) → Result (List ℕ) Tex
 ReadsValue name text (Ok value) =
     (found : List ℕ) × (text ≡ Some found) × (value ≡ flat_first name found)
 ReadsValue name text (Err refusal) = IsUndamaged refusal
+
+-- It was said why a text was not read: memory ran out, or the disk failed.
+abbrev pub SaysUnread : Outside → Result Unit SinkFault → Outside → Type 0
+SaysUnread i sent j =
+    (Rose i.disk j.disk × (i.disk ≤ j.disk) × Says disk_line i.out i.lost j.out j.lost sent)
+    ⊎ ((j.disk ≡ i.disk) × Says memory_line i.out i.lost j.out j.lost sent)
+
+-- These words were said of a text that was read, and the group is the one after them; or it was said
+-- why the text was not read, and the group stays.
+abbrev pub SaysOrNot : List ℕ → Group → Group → Outside → Result Unit SinkFault → Group → Outside
+    → Type 0
+SaysOrNot words after g i sent new j =
+    ((j.disk ≡ i.disk) × (new ≡ after) × Says words i.out i.lost j.out j.lost sent)
+    ⊎ ((new ≡ g) × SaysUnread i sent j)
+
+-- A part of a streamed reply was appended to what waits, and no fault of the disk was met.
+abbrev pub Given : List ℕ → List ℕ → Outside → Result Unit SinkFault → List ℕ → Outside → Type 0
+Given words old i sent new j =
+    (j.disk ≡ i.disk) × Waits words old i.out i.lost new j.out j.lost sent
+
+-- The line before the values of HDR, if it was not said yet.
+abbrev pub start_if : Bool → List ℕ
+start_if true = header_start
+start_if false = []
+
+-- What became of the value of one message: it was appended, the first one after a line before it; or
+-- it was not read, which was said if it is the first; or a write failed.
+abbrev pub IsValue : List ℕ → ℕ → Bool → Option (List ℕ) → List ℕ → Outside → Value → List ℕ
+    → Outside → Type 0
+IsValue name n begun text old i field.Said new j =
+    Given (start_if (not begun) ++ field_line name n text) old i (Ok tt) new j
+IsValue name n begun text old i (field.Unread sent) new j =
+    (begun ≡ false) × (new ≡ old) × SaysUnread i sent j
+IsValue name n begun text old i field.Short new j = (begun ≡ true) × (new ≡ old) × (j.out ≡ i.out)
+    × (j.lost ≡ i.lost) × (i.disk ≤ j.disk) × (Rose i.disk j.disk ⊎ (j.disk ≡ i.disk))
+IsValue name n begun text old i field.Lost new j = (fault : SinkFault)
+    × Given (start_if (not begun) ++ field_line name n text) old i (Err fault) new j
 
 -- One act on the bytes at the front: a line that took `n` bytes of the piece was answered and the
 -- session is open, or the piece was kept, or the session is closed.

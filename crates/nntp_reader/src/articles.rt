@@ -7,11 +7,11 @@ ghost use Rattle.arch_model.specs.Shelves.{Stays};
 ghost use Rattle.edge_io.specs.Phrases.{Says};
 ghost use Rattle.wire_replies.specs.Blocks.{crlf_line};
 ghost use Rattle.wire_replies.specs.Waits.{Waits};
-ghost use Rattle.nntp_reader.specs.Articles.{header_of, part_code, part_of as bytes_of_part, part_words, row_id, stat_words, chosen_words, group_chosen, step_words, step_after};
+ghost use Rattle.nntp_reader.specs.Articles.{header_of, part_code, part_of as bytes_of_part, part_words, text_words, row_id, stat_words, chosen_words, group_chosen, step_words, step_after};
 ghost use Rattle.nntp_reader.specs.Choices.{choice_of, next_of, previous_of};
 ghost use Rattle.nntp_reader.specs.Commands as commands;
 ghost use Rattle.nntp_reader.specs.Door.{reader, said_to};
-ghost use Rattle.nntp_reader.specs.Sessions.{article_of, TextActs};
+ghost use Rattle.nntp_reader.specs.Sessions.{article_of, SaysOrNot};
 
 use crate::choice::{Chosen, choose, next, previous};
 use crate::group::Group;
@@ -65,8 +65,8 @@ fn say_chosen<S: Shelf, O: Sink>(
     requires ready { S.ready shelf.old ≡ true }
     requires live { (a : Archive) → S.holds shelf.old a
         → is_some (text_of (live a.entries) chosen.number) ≡ true }
-    ensures acts { (a : Archive) → S.holds shelf.old a
-        → TextActs part chosen (text_of (live a.entries) chosen.number) group.old
+    ensures said { (a : Archive) → S.holds shelf.old a → SaysOrNot
+        (text_words part chosen.shown (text_of (live a.entries) chosen.number)) chosen.after group.old
         (outside (O.taken out.old) (S.faults shelf.old) (O.faults out.old)) result group.new
         (outside (O.taken out.new) (S.faults shelf.new) (O.faults out.new)) }
     ensures shelf { Stays S.holds S.ready S.alike S.faults shelf.old shelf.new }
@@ -131,6 +131,7 @@ fn push_status<O: Sink>(
 }
 
 /// Returns the own id of a text, or nothing if it has none.
+#[tactic(auto, unfolding(arch_model::specs::Overviews::id_fact))]
 fn id_of(text: &[u8]) -> &[u8]
     ensures { result.now ≡ id_fact text.now }
 {

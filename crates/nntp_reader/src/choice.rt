@@ -167,6 +167,8 @@ pub(crate) fn live_within<S: Shelf>(first: u32, last: u32, shelf: &S) -> Option<
     requires { S.ready shelf.now ≡ true }
     ensures number { (a : Archive) → S.holds shelf.now a
         → result ≡ first_of (live_in (live a.entries) first last) }
+    ensures live { (a : Archive) → S.holds shelf.now a
+        → IfSome result (λ n. is_some (text_of (live a.entries) n) ≡ true) }
     ensures within { IfSome result (λ n. (first ≤ n) × (n ≤ last)) }
 {
     let found = shelf.live_from(first)?;
@@ -181,6 +183,8 @@ pub(crate) fn live_after<S: Shelf>(n: u32, last: u32, shelf: &S) -> Option<u32>
     requires { S.ready shelf.now ≡ true }
     ensures number { (a : Archive) → S.holds shelf.now a
         → result ≡ first_of (live_in (live a.entries) (n + 1) last) }
+    ensures live { (a : Archive) → S.holds shelf.now a
+        → IfSome result (λ m. is_some (text_of (live a.entries) m) ≡ true) }
     ensures within { IfSome result (λ m. (n < m) × (m ≤ last)) }
 {
     if n >= last {

@@ -8,7 +8,7 @@ ghost use Rattle.nntp_reader.specs.Words.{words_of};
 ghost use Rattle.nntp_reader.specs.Commands as commands;
 ghost use Rattle.nntp_reader.specs.Sessions.{meant, article_of, articles_of, header_of};
 
-use crate::order::{Named, Order, Span, Value};
+use crate::order::{Asked, Named, Order, Span};
 use crate::verb::{Listing, Part, Verb, read_listing, read_verb};
 use crate::words::{is_keyword, next_word};
 use nntp_words::{Range, is_id, matches, read_moment, read_number, read_range};
@@ -223,7 +223,7 @@ fn read_header(rest: &[u8]) -> Order<'_>
 }
 
 /// Returns HDR of a header and articles, if both are there.
-fn headers_of<'a>(header: Option<Value<'a>>, articles: Option<Span<'a>>) -> Order<'a>
+fn headers_of<'a>(header: Option<Asked<'a>>, articles: Option<Span<'a>>) -> Order<'a>
     ensures { meant result
         ≡ commands.headers_of (option_map header_of header) (option_map articles_of articles) }
 {
@@ -234,17 +234,17 @@ fn headers_of<'a>(header: Option<Value<'a>>, articles: Option<Span<'a>>) -> Orde
 }
 
 /// Returns the header that a word names.
-fn header_named(word: &[u8]) -> Option<Value<'_>>
+fn header_named(word: &[u8]) -> Option<Asked<'_>>
     ensures { option_map header_of result ≡ commands.header_named word.now }
 {
     if is_keyword(b":bytes", word) {
-        return Some(Value::Bytes);
+        return Some(Asked::Bytes);
     }
     if is_keyword(b":lines", word) {
-        return Some(Value::Lines);
+        return Some(Asked::Lines);
     }
     if is_field_name(word) {
-        return Some(Value::Field(word));
+        return Some(Asked::Field(word));
     }
     None
 }

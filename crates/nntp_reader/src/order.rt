@@ -24,7 +24,7 @@ pub(crate) enum Span<'a> {
 
 /// What HDR gives of an article.
 #[derive(Clone, Copy, Debug, Drop)]
-pub(crate) enum Value<'a> {
+pub(crate) enum Asked<'a> {
     /// The length of its wire form, in bytes.
     Bytes,
     /// The number of line feeds in its body.
@@ -65,7 +65,7 @@ pub(crate) enum Order<'a> {
     /// Gives overview lines of articles.
     Over(Span<'a>),
     /// Gives a value of articles.
-    Header(Value<'a>, Span<'a>),
+    Header(Asked<'a>, Span<'a>),
     /// Gives a list.
     List(Listing),
     /// Gives a list of the groups that a wildmat matches.

@@ -1,0 +1,56 @@
+//! The moment as DATE says it, and its year.
+ghost use Rattle.std.specs.Prelude.{◌≡◌, ◌≤◌, ◌-◌};
+ghost use Rattle.std.specs.Int.{IsInRange};
+ghost use Rattle.arch_base.specs.Moments.{last_moment};
+ghost use Rattle.edge_io.specs.Phrases.{Says};
+ghost use Rattle.nntp_reader.specs.Dates.{year_at, date_words};
+
+use edge_io::{Sink, SinkFault, say};
+use mail_date::{print_rfc3339, printed_date_is_one};
+
+/// Says a moment, in seconds since 1970 UTC.
+pub(crate) fn say_date<O: Sink>(moment: u64, out: &mut O) -> Result<(), SinkFault>
+    requires { moment ≤ last_moment }
+    ensures said { Says (date_words moment) (O.taken out.old) (O.faults out.old) (O.taken out.new)
+        (O.faults out.new) result }
+    ensures sink { O.alike out.old out.new }
+{
+    say(&date_line(moment), out)
+}
+
+/// Returns the line that says a moment.
+fn date_line(moment: u64) -> [u8; 20]
+    requires { moment ≤ last_moment }
+    ensures { result ≡ date_words moment }
+{
+    printed_date_is_one();
+    let text = print_rfc3339(moment);
+    let mut line = *b"111 yyyymmddhhmmss\r\n";
+    line[4..8].copy_from_slice(&text[..4]);
+    line[8..10].copy_from_slice(&text[5..7]);
+    line[10..12].copy_from_slice(&text[8..10]);
+    line[12..14].copy_from_slice(&text[11..13]);
+    line[14..16].copy_from_slice(&text[14..16]);
+    line[16..18].copy_from_slice(&text[17..19]);
+    line
+}
+
+/// Returns the year of a moment, in UTC.
+pub(crate) fn year_of(moment: u64) -> u16
+    requires { moment ≤ last_moment }
+    ensures value { result ≡ year_at moment }
+    ensures bound { IsInRange 1970 9999 result }
+{
+    printed_date_is_one();
+    let text = print_rfc3339(moment);
+    let century = u16::from(digit(text[0])) * 10 + u16::from(digit(text[1]));
+    let year = u16::from(digit(text[2])) * 10 + u16::from(digit(text[3]));
+    century * 100 + year
+}
+
+/// Returns the value of a digit.
+fn digit(byte: u8) -> u8
+    ensures { result ≡ byte - 48 }
+{
+    byte.saturating_sub(b'0')
+}
