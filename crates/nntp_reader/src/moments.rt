@@ -1,5 +1,5 @@
 //! The moment as DATE says it, and its year.
-ghost use Rattle.std.specs.Prelude.{◌≡◌, ◌≤◌, ◌-◌};
+ghost use Rattle.std.specs.Prelude.{◌≡◌, ◌≤◌, ◌-◌, min};
 ghost use Rattle.std.specs.Int.{IsInRange};
 ghost use Rattle.arch_base.specs.Moments.{last_moment};
 ghost use Rattle.edge_io.specs.Phrases.{Says};
@@ -50,7 +50,8 @@ pub(crate) fn year_of(moment: u64) -> u16
 
 /// Returns the value of a digit.
 fn digit(byte: u8) -> u8
-    ensures { result ≡ byte - 48 }
+    ensures value { result ≡ min (byte - 48) 9 }
+    ensures bound { result ≤ 9 }
 {
-    byte.saturating_sub(b'0')
+    byte.saturating_sub(b'0').min(9)
 }
