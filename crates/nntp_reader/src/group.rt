@@ -20,7 +20,7 @@ const GREATEST: u32 = 2_147_483_647;
 
 /// The group of a session.
 #[derive(Clone, Copy, Debug, PartialEq, Eq, Drop)]
-pub(crate) enum Group {
+pub enum Group {
     /// None is selected.
     Unselected,
     /// The archive's group, with the number of the current article or none.

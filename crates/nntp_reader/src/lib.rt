@@ -20,5 +20,6 @@ mod unread;
 mod verb;
 mod words;
 
+pub use group::Group;
 pub use laws::cut_laws;
 pub use session::NntpSession;
