@@ -1,0 +1,6 @@
+pub mod WordLemmas
+pub mod Walking
+pub mod Acting
+pub mod Turning
+pub mod Doors
+pub mod Moments
