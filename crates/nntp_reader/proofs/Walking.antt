@@ -163,3 +163,8 @@ greatest-found entries n m greatest =
 pub greatest-none : (entries : List Entry) (n : ℕ) → IsGreatestLive entries n None → greatest_below entries (suc n) ≡ None
 unfolding live_in
 greatest-none entries n none = ap last_of (live-none entries 0 (n + 1 - 0) (λ m low high. none m (omega (arith, high))))
+
+-- How many numbers are left up to the last, from the next one on.
+abbrev pub numbers_left : ℕ → Option ℕ → ℕ
+numbers_left last None = 0
+numbers_left last (Some n) = last + 1 - n

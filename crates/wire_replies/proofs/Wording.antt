@@ -1,5 +1,6 @@
 -- Words that wait, one after another.
-use Rattle.std.proofs.Common.{◌≡◌, ◌+◌, ℕ, min, List, [], ◌∷◌, ◌++◌, length, take, Option, Result, Ok, Err, refl, sym, ap, ◌∙◌, append_assoc, append-nil, length-append, arith}
+use Rattle.std.proofs.Common.{◌≡◌, ◌+◌, ℕ, min, List, [], ◌∷◌, ◌++◌, length, take, drop, Option, Result, Ok, Err, refl, sym, ap, ◌∙◌, append_assoc, append-nil, length-append, arith}
+use Rattle.std.proofs.lemmas.List.{take-append-drop}
 use Rattle.std.proofs.Math.Seq.{take-append-add}
 use Rattle.std.specs.Result.{IsErr}
 use Rattle.edge_io.specs.Taken.{plus}
@@ -121,3 +122,7 @@ module _ (words old : List ℕ) (out : Option (List ℕ)) (lost : ℕ) where
         → Waits words old out lost next out'' lost'' said
     sofar-lost piece after next out'' lost'' fault said failed is lost_at =
         rw (before.joined, is) (Waits-then before.front (piece ++ after) old new next out out' out'' lost lost' lost'' tt said before.waits (Waits-lost piece after new next next out' out'' lost' lost'' fault said failed lost_at))
+
+-- A list that was split is its two parts.
+pub split-joined : (n : ℕ) (xs a b : List ℕ) → a ≡ take n xs → b ≡ drop n xs → xs ≡ a ++ b
+split-joined n xs a b front back = sym (take-append-drop n xs) ∙ ap (λ (x : List ℕ). x ++ drop n xs) (sym front) ∙ ap (λ (x : List ℕ). a ++ x) (sym back)
