@@ -2,5 +2,6 @@ pub mod WordLemmas
 pub mod Walking
 pub mod Acting
 pub mod Turning
+pub mod Streams
 pub mod Doors
 pub mod Moments

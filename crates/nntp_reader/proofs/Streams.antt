@@ -1,0 +1,113 @@
+-- HDR of a field over a range, as a streamed reply whose words wait.
+use Rattle.std.proofs.Common.{◌≡◌, ◌+◌, ◌≤◌, ◌<◌, ◌⊎◌, ℕ, zero, suc, min, Bool, true, false, not, List, [], ◌∷◌, ◌++◌, length, take, Option, Some, None, is_some, Result, Ok, Err, is_ok, inl, inr, refl, sym, ap, subst, ◌∙◌, append_assoc, append-nil, length-append, arith}
+use Rattle.arch_base.specs.Counts.{Rose}
+use Rattle.edge_io.specs.Taken.{plus}
+use Rattle.edge_io.specs.Phrases.{Says}
+use Rattle.edge_io.specs.declared.sink.SinkFault.{SinkFault}
+use Rattle.edge_io.proofs.Wording.{take-first}
+use Rattle.line_door.specs.Acts.{Outside, Said, Way, Plain, Memory, Disk, Newer, WayCause, SaidLost, SaidShort, Acts, held_if}
+use Rattle.line_door.specs.Making.{says, streams}
+use Rattle.line_door.proofs.Acting.{acts-by_held, acts-by_says}
+use Rattle.line_door.proofs.Streaming.{acts-short}
+use Rattle.arch_model.specs.Archives.{Entry, Archive, live, text_of}
+use Rattle.nntp_words.specs.declared.numbers.Range.{Range}
+use Rattle.wire_replies.specs.Blocks.{block_end}
+use Rattle.wire_replies.specs.Waits.{Waits}
+use Rattle.wire_replies.proofs.Wording.{SoFar, sofar-none, sofar-more}
+use Rattle.nntp_reader.specs.Door.{Reader, reader, range_said}
+use Rattle.nntp_reader.specs.Headers.{header_start, field_at, field_lines, fields_block}
+use Rattle.nntp_reader.specs.Notices.{memory_line, disk_line}
+use Rattle.nntp_reader.specs.Sessions.{SaysUnread, start_if}
+use Rattle.nntp_reader.specs.declared.group.Group.{Group}
+
+-- A write that failed after the reply had to stop: what was taken is a prefix of the reply.
+module _ {H A : Type 0} (words : Way → Said H A) (s : Said H A) (front more : List ℕ) (i k : Outside) (a : A) where
+  short_of : (count : ℕ) → words Plain ≡ s → s.streamed ≡ true → s.words ≡ front ++ more → 0 < length front → 0 < length more → a ≡ s.after → k.out ≡ plus i.out (take (suc count) front) → SaidShort (words Plain) i None a k
+  short_of count is streamed parts some rest after out = subst (λ (t : Said H A). SaidShort t i None a k) (sym is) (record {
+    streamed = streamed;
+    held_is = refl;
+    after_is = after;
+    count = min (suc count) (length front);
+    some = omega (arith, some);
+    proper = omega (arith, rest, ap length parts, length-append front more);
+    out_is = out ∙ ap (plus i.out) (sym (ap (take (min (suc count) (length front))) parts ∙ take-first (suc count) front more));
+  })
+
+  acts-lost_short : (way : Way) (count : ℕ) → ((w : Way) → a ≡ (words w).after) → (SaidShort (words Plain) i None a k → Acts words i None a k) → WayCause way i.disk k.disk → i.disk ≤ k.disk → i.lost ≤ k.lost → Rose i.lost k.lost
+      → words Plain ≡ s → s.streamed ≡ true → s.words ≡ front ++ more → 0 < length front → 0 < length more → k.out ≡ plus i.out (take count front) → Acts words i None a k
+  acts-lost_short way zero after by_short cause later lost rose is streamed parts some rest out = record {
+    way = way;
+    cause = cause;
+    disk_later = later;
+    lost_later = lost;
+    sent = inr (inl (record { lost_rose = rose; held_is = refl; after_is = after way; count = 0; out_is = out }));
+  }
+  acts-lost_short way (suc count) after by_short cause later lost rose is streamed parts some rest out =
+      by_short (short_of count is streamed parts some rest (after Plain ∙ ap (λ (t : Said H A). t.after) is) out)
+
+  -- A streamed reply stops: what waits of it is written, or the write fails, too.
+  pub acts-stopped : (sent : Result Unit SinkFault) → ((w : Way) → a ≡ (words w).after) → words Plain ≡ s → s.streamed ≡ true → s.words ≡ front ++ more → 0 < length front → 0 < length more
+      → Rose i.disk k.disk ⊎ (k.disk ≡ i.disk) → i.disk ≤ k.disk → Says front i.out i.lost k.out k.lost sent → Acts words i None a k
+  acts-stopped (Ok done) after is streamed parts some rest cause later said = acts-short words s front more i k a is streamed parts some rest cause later said (after Plain ∙ ap (λ (t : Said H A). t.after) is)
+  acts-stopped (Err fault) after is streamed parts some rest (inl rose) later said =
+      acts-lost_short Disk said.2.0 after (λ short. record { way = Disk; cause = rose; disk_later = later; lost_later = said.0; sent = inr (inr short) }) rose later said.0 said.1 is streamed parts some rest said.2.1
+  acts-stopped (Err fault) after is streamed parts some rest (inr kept) later said =
+      acts-lost_short Memory said.2.0 after (λ short. record { way = Memory; cause = kept; disk_later = later; lost_later = said.0; sent = inr (inr short) }) kept later said.0 said.1 is streamed parts some rest said.2.1
+
+-- What is left of the reply from a number on.
+abbrev pub fields_left : List ℕ → List Entry → Bool → ℕ → ℕ → List ℕ
+fields_left name entries begun at last = start_if (not begun) ++ (field_lines name entries at last ++ block_end)
+
+-- So many values were appended, and nothing is said before the first.
+pub record Begun (name : List ℕ) (entries : List Entry) (range : Range) (begun : Bool) (at : ℕ) (i : Outside) (waiting : List ℕ) (j : Outside) : Type 0 where
+  pub so_far : SoFar (fields_block name entries range.first range.last) (fields_left name entries begun at range.last) [] i.out i.lost waiting j.out j.lost
+  pub some : begun ≡ true → 0 < length so_far.front
+  pub none : begun ≡ false → (waiting ≡ []) × (j.out ≡ i.out) × (j.lost ≡ i.lost)
+  pub kept : j.disk ≡ i.disk
+
+-- What is left is the next value, and what is left after it.
+pub left-value : (name : List ℕ) (entries : List Entry) (begun : Bool) (at last n : ℕ) → field_lines name entries at last ≡ field_at name entries n ++ field_lines name entries (n + 1) last
+    → fields_left name entries begun at last ≡ (start_if (not begun) ++ field_at name entries n) ++ fields_left name entries true (n + 1) last
+left-value name entries begun at last n is =
+    ap (λ (x : List ℕ). start_if (not begun) ++ (x ++ block_end)) is
+    ∙ ap (λ (x : List ℕ). start_if (not begun) ++ x) (append_assoc (field_at name entries n) (field_lines name entries (n + 1) last) block_end)
+    ∙ sym (append_assoc (start_if (not begun)) (field_at name entries n) (field_lines name entries (n + 1) last ++ block_end))
+
+-- The reply begins with nothing.
+pub begun-none : (name : List ℕ) (entries : List Entry) (range : Range) (i : Outside) → Begun name entries range false range.first i [] i
+begun-none name entries range i = record { so_far = sofar-none (fields_block name entries range.first range.last) [] i.out i.lost; some = λ h. absurd (cc h); none = λ h. (refl, refl, refl); kept = refl }
+
+-- There is always something left.
+left-some : (name : List ℕ) (entries : List Entry) (begun : Bool) (at last : ℕ) → 0 < length (fields_left name entries begun at last)
+left-some name entries begun at last = omega (arith, length-append (start_if (not begun)) (field_lines name entries at last ++ block_end), length-append (field_lines name entries at last) block_end)
+
+-- No way changes the archive.
+range-after : (a : Archive) (g : Group) (name : List ℕ) (range : Range) (rest : List ℕ) (way : Way) → a ≡ (range_said a g name range rest way).after
+range-after a g name range rest Plain = refl
+range-after a g name range rest Memory = refl
+range-after a g name range rest Disk = refl
+range-after a g name range rest Newer = refl
+
+module _ (a : Archive) (g : Group) (name : List ℕ) (range : Range) (rest : List ℕ) where
+  -- All values were said.
+  pub range-said : (i j : Outside) (sent : Result Unit SinkFault) → j.disk ≡ i.disk → Says (fields_block name (live a.entries) range.first range.last) i.out i.lost j.out j.lost sent
+      → Acts (range_said a g name range rest) i (held_if (is_ok sent) (reader g rest)) a j
+  range-said i j sent kept said =
+      acts-by_held (range_said a g name range rest) Plain (streams a (reader g rest) (fields_block name (live a.entries) range.first range.last)) i j (reader g rest) a sent refl refl kept (omega (arith, kept)) said refl
+
+  -- A write failed.
+  pub range-lost : (i j : Outside) (fault : SinkFault) → j.disk ≡ i.disk → Says (fields_block name (live a.entries) range.first range.last) i.out i.lost j.out j.lost (Err fault) → Acts (range_said a g name range rest) i None a j
+  range-lost i j fault kept said =
+      acts-by_says (range_said a g name range rest) Plain (streams a (reader g rest) (fields_block name (live a.entries) range.first range.last)) i j None a (Err fault) refl kept (omega (arith, kept)) said refl refl
+
+  -- The first text was not read, and it was said why.
+  pub range-unread : (i j : Outside) (sent : Result Unit SinkFault) → SaysUnread i sent j → Acts (range_said a g name range rest) i (held_if (is_ok sent) (reader g rest)) a j
+  range-unread i j sent (inl disk) = acts-by_held (range_said a g name range rest) Disk (says a (reader g rest) disk_line) i j (reader g rest) a sent refl refl disk.0 disk.1 disk.2 refl
+  range-unread i j sent (inr memory) = acts-by_held (range_said a g name range rest) Memory (says a (reader g rest) memory_line) i j (reader g rest) a sent refl refl memory.0 (omega (arith, memory.0)) memory.1 refl
+
+  -- A later text was not read, and the reply stops.
+  pub range-stopped : (at : ℕ) (begun : Bool) (i k : Outside) (front : List ℕ) (sent : Result Unit SinkFault) → fields_block name (live a.entries) range.first range.last ≡ front ++ fields_left name (live a.entries) begun at range.last → 0 < length front
+      → Rose i.disk k.disk ⊎ (k.disk ≡ i.disk) → i.disk ≤ k.disk → Says front i.out i.lost k.out k.lost sent → Acts (range_said a g name range rest) i None a k
+  range-stopped at begun i k front sent parts some cause later said =
+      acts-stopped (range_said a g name range rest) (streams a (reader g rest) (fields_block name (live a.entries) range.first range.last)) front (fields_left name (live a.entries) begun at range.last) i k a sent
+      (range-after a g name range rest) refl refl parts some (left-some name (live a.entries) begun at range.last) cause later said
