@@ -1,9 +1,9 @@
 -- What is kept of bytes goes on as all the bytes would.
-use Rattle.std.proofs.Common.{◌≡◌, ◌≢◌, ◌<◌, ◌≤◌, ℕ, zero, suc, List, [], ◌∷◌, ◌++◌, length, take, get_or, eqb, Bool, true, false, None, refl, sym, ap, subst, ◌∙◌, length-append, append-nil, arith}
+use Rattle.std.proofs.Common.{◌≡◌, ◌≤◌, ℕ, zero, suc, List, [], ◌∷◌, ◌++◌, length, take, eqb, Bool, true, false, None, refl, sym, ap, ◌∙◌, append-nil, arith}
 use Rattle.std.proofs.lemmas.Bool.{ne_eqb}
 use Rattle.std.proofs.lemmas.List.{length-take-le, get_or-take}
 use Rattle.line_door.specs.Clipped.{clipped_from, clipped}
-use Rattle.line_door.specs.LineLaws.{NoFeed, IsLine}
+use Rattle.line_door.specs.LineLaws.{NoFeed}
 use Rattle.line_door.specs.Lines.{first_line}
 use Rattle.line_door.specs.Skipping.{Passing, Taken, Skipped, Unended, passed, skipping_front, is_ended, held_of}
 use Rattle.line_door.proofs.Fronts.{first_line-joined, first_line-single, first_line-append, first_line-none, first_line-no_feed}

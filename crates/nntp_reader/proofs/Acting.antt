@@ -1,19 +1,19 @@
 -- What is said of a command makes an act.
-use Rattle.std.proofs.Common.{◌≡◌, ◌≤◌, ◌⊎◌, ℕ, Bool, true, false, List, [], ◌++◌, Option, Some, None, Result, Ok, Err, is_ok, inl, inr, refl, sym, ap, subst, ◌∙◌, arith}
+use Rattle.std.proofs.Common.{◌≡◌, ◌≤◌, ℕ, true, List, [], Result, is_ok, inl, inr, refl, sym, ap, subst, ◌∙◌, arith}
 use Rattle.arch_base.specs.Counts.{Rose}
 use Rattle.edge_io.specs.Phrases.{Says}
 use Rattle.edge_io.specs.declared.sink.SinkFault.{SinkFault}
-use Rattle.line_door.specs.Acts.{Outside, Said, Way, Plain, Memory, Disk, Newer, Acts, held_if}
+use Rattle.line_door.specs.Acts.{Outside, Plain, Memory, Disk, Acts, held_if}
 use Rattle.line_door.specs.Making.{says}
-use Rattle.line_door.proofs.Acting.{acts-by_held, acts-closing, acts-words}
+use Rattle.line_door.proofs.Acting.{acts-by_held}
 use Rattle.arch_model.specs.Archives.{Archive}
 use Rattle.arch_model.specs.Shelves.{IsUndamaged, ReadingWhy}
 use Rattle.arch_model.specs.declared.text_refusal.TextRefusal.{TextRefusal}
 use Rattle.arch_model.specs.declared.text_refusal.TextRefusal.TheVariants as refusal
 use Rattle.nntp_reader.specs.Commands.{Command}
-use Rattle.nntp_reader.specs.Door.{Reader, reader, as_said, refused, said_to}
+use Rattle.nntp_reader.specs.Door.{reader, as_said, refused, said_to}
 use Rattle.nntp_reader.specs.Notices.{memory_line, disk_line, unread_line}
-use Rattle.nntp_reader.specs.Replies.{Reply, replies, answered, reads_texts}
+use Rattle.nntp_reader.specs.Replies.{replies, answered, reads_texts}
 use Rattle.nntp_reader.specs.Sessions.{SaysUnread, SaysOrNot}
 use Rattle.nntp_reader.specs.declared.group.Group.{Group}
 

@@ -1,7 +1,6 @@
 -- The digits of a printed moment.
-use Rattle.std.proofs.Common.{◌≡◌, ◌≤◌, ◌<◌, ◌+◌, ◌*◌, ◌/◌, ◌%◌, ◌-◌, ℕ, min, List, [], ◌∷◌, ◌++◌, refl, sym, ap, ◌∙◌, arith}
+use Rattle.std.proofs.Common.{◌≡◌, ◌≤◌, ◌+◌, ◌*◌, ◌/◌, ◌%◌, ◌-◌, ℕ, min, List, [], arith}
 use Rattle.mail_date.specs.Printed.{rfc3339_text}
-use Rattle.mail_date.specs.declared.moment.CivilDate.{CivilDate}
 use Rattle.web_text.specs.Days.{date_at, moment_text}
 
 -- A year of four digits, read digit by digit.

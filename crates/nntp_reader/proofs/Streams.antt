@@ -1,21 +1,20 @@
 -- HDR of a field over a range, as a streamed reply whose words wait.
-use Rattle.std.proofs.Common.{◌≡◌, ◌+◌, ◌≤◌, ◌<◌, ◌⊎◌, ℕ, zero, suc, min, Bool, true, false, not, List, [], ◌∷◌, ◌++◌, length, take, Option, Some, None, is_some, Result, Ok, Err, is_ok, inl, inr, refl, sym, ap, subst, ◌∙◌, append_assoc, append-nil, length-append, arith}
+use Rattle.std.proofs.Common.{◌≡◌, ◌+◌, ◌≤◌, ◌<◌, ◌⊎◌, ℕ, zero, suc, min, Bool, true, false, not, List, [], ◌++◌, length, take, None, Result, Ok, Err, is_ok, inl, inr, refl, sym, ap, subst, ◌∙◌, append_assoc, length-append, arith}
 use Rattle.arch_base.specs.Counts.{Rose}
 use Rattle.edge_io.specs.Taken.{plus}
 use Rattle.edge_io.specs.Phrases.{Says}
 use Rattle.edge_io.specs.declared.sink.SinkFault.{SinkFault}
 use Rattle.edge_io.proofs.Wording.{take-first}
-use Rattle.line_door.specs.Acts.{Outside, Said, Way, Plain, Memory, Disk, Newer, WayCause, SaidLost, SaidShort, Acts, held_if}
+use Rattle.line_door.specs.Acts.{Outside, Said, Way, Plain, Memory, Disk, Newer, WayCause, SaidShort, Acts, held_if}
 use Rattle.line_door.specs.Making.{says, streams}
 use Rattle.line_door.proofs.Acting.{acts-by_held, acts-by_says}
 use Rattle.line_door.proofs.Streaming.{acts-short}
-use Rattle.arch_model.specs.Archives.{Entry, Archive, live, text_of}
+use Rattle.arch_model.specs.Archives.{Entry, Archive, live}
 use Rattle.nntp_words.specs.declared.numbers.Range.{Range}
 use Rattle.wire_replies.specs.Blocks.{block_end}
-use Rattle.wire_replies.specs.Waits.{Waits}
-use Rattle.wire_replies.proofs.Wording.{SoFar, sofar-none, sofar-more}
-use Rattle.nntp_reader.specs.Door.{Reader, reader, range_said}
-use Rattle.nntp_reader.specs.Headers.{header_start, field_at, field_lines, fields_block}
+use Rattle.wire_replies.proofs.Wording.{SoFar, sofar-none}
+use Rattle.nntp_reader.specs.Door.{reader, range_said}
+use Rattle.nntp_reader.specs.Headers.{field_at, field_lines, fields_block}
 use Rattle.nntp_reader.specs.Notices.{memory_line, disk_line}
 use Rattle.nntp_reader.specs.Sessions.{SaysUnread, start_if}
 use Rattle.nntp_reader.specs.declared.group.Group.{Group}
@@ -90,9 +89,9 @@ range-after a g name range rest Newer = refl
 
 module _ (a : Archive) (g : Group) (name : List ℕ) (range : Range) (rest : List ℕ) where
   -- All values were said.
-  pub range-said : (i j : Outside) (sent : Result Unit SinkFault) → j.disk ≡ i.disk → Says (fields_block name (live a.entries) range.first range.last) i.out i.lost j.out j.lost sent
+  pub range-all : (i j : Outside) (sent : Result Unit SinkFault) → j.disk ≡ i.disk → Says (fields_block name (live a.entries) range.first range.last) i.out i.lost j.out j.lost sent
       → Acts (range_said a g name range rest) i (held_if (is_ok sent) (reader g rest)) a j
-  range-said i j sent kept said =
+  range-all i j sent kept said =
       acts-by_held (range_said a g name range rest) Plain (streams a (reader g rest) (fields_block name (live a.entries) range.first range.last)) i j (reader g rest) a sent refl refl kept (omega (arith, kept)) said refl
 
   -- A write failed.

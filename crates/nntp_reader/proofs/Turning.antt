@@ -1,11 +1,11 @@
 -- The acts of the code are acts of a session.
-use Rattle.std.proofs.Common.{◌≡◌, ◌⊎◌, ◌+◌, ◌∙◌, inl, inr, ℕ, Bool, true, false, List, [], ◌++◌, length, drop, Option, Some, None, Result, Ok, Err, is_ok, refl, sym, ap, subst, arith}
+use Rattle.std.proofs.Common.{◌≡◌, ◌+◌, ◌∙◌, inr, ℕ, Bool, true, false, List, [], ◌++◌, drop, Option, Some, None, Result, Ok, Err, is_ok, refl, sym, ap, arith}
 use Rattle.std.specs.Prelude.{if◌then◌else◌}
 use Rattle.edge_io.specs.Phrases.{Says}
 use Rattle.edge_io.specs.declared.sink.SinkFault.{SinkFault}
-use Rattle.line_door.specs.Acts.{Outside, Way, Plain, Acts, held_if}
+use Rattle.line_door.specs.Acts.{Outside, Plain, Acts, held_if}
 use Rattle.line_door.specs.Clipped.{clipped, longest_line}
-use Rattle.line_door.specs.Course.{Talk, talk, Last}
+use Rattle.line_door.specs.Course.{talk, Last}
 use Rattle.line_door.specs.Lines.{content}
 use Rattle.line_door.specs.Making.{says}
 use Rattle.line_door.specs.Plain.{silent}

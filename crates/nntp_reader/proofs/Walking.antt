@@ -1,5 +1,5 @@
 -- The live numbers of a range, one after another.
-use Rattle.std.proofs.Common.{◌≡◌, ◌⊎◌, ◌+◌, ◌-◌, ◌<◌, ◌≤◌, ℕ, zero, suc, Bool, true, false, List, [], ◌∷◌, ◌++◌, Option, Some, None, is_some, inl, inr, refl, sym, ap, subst, ◌∙◌, append-nil, arith, add-one}
+use Rattle.std.proofs.Common.{◌≡◌, ◌+◌, ◌-◌, ◌<◌, ◌≤◌, ℕ, zero, suc, Bool, true, false, List, [], ◌∷◌, ◌++◌, Option, Some, None, is_some, refl, sym, ap, subst, ◌∙◌, arith}
 use Rattle.std.specs.List.{filter, flat_map}
 use Rattle.arch_model.specs.Archives.{Entry, text_of}
 use Rattle.arch_model.specs.Shelves.{IsGreatestLive}
@@ -45,7 +45,7 @@ live-first entries first count (suc before) after is none alive =
     ap (live_from entries first) size
     ∙ skip entries first (before + suc after) (dead entries first (none first (omega arith) (omega arith)))
     ∙ subst (λ (n : ℕ). live_from entries (first + 1) (before + suc after) ≡ n ∷ live_from entries (n + 1) after) here
-        (live-first entries (first + 1) (before + suc after) before after refl (λ m low high. none m (omega (arith, low)) (omega (arith, high))) (subst (λ (n : ℕ). is_some (text_of entries n) ≡ true) (sym here) alive))
+    (live-first entries (first + 1) (before + suc after) before after refl (λ m low high. none m (omega (arith, low)) (omega (arith, high))) (subst (λ (n : ℕ). is_some (text_of entries n) ≡ true) (sym here) alive))
 
 -- No number of the range is live.
 pub range-none : (entries : List Entry) (first last : ℕ) → ((m : ℕ) → first ≤ m → m ≤ last → text_of entries m ≡ None) → live_in entries first last ≡ []
@@ -59,7 +59,7 @@ range-first entries first last n low high none alive =
     let at : first + (n - first) ≡ n = omega (arith, low) in
     let rest : last + 1 - (n + 1) ≡ last - n = omega (arith, high) in
     subst (λ (x : ℕ). live_from entries first (last + 1 - first) ≡ x ∷ live_from entries (x + 1) (last - n)) at
-        (live-first entries first (last + 1 - first) (n - first) (last - n) (omega (arith, low, high)) (λ m l h. none m l (omega (arith, h, low))) (subst (λ (x : ℕ). is_some (text_of entries x) ≡ true) (sym at) alive))
+    (live-first entries first (last + 1 - first) (n - first) (last - n) (omega (arith, low, high)) (λ m l h. none m l (omega (arith, h, low))) (subst (λ (x : ℕ). is_some (text_of entries x) ≡ true) (sym at) alive))
     ∙ ap (λ (c : ℕ). n ∷ live_from entries (n + 1) c) (sym rest)
 
 -- What a shelf finds from `first` on, within the range.
@@ -131,9 +131,9 @@ live-last entries first zero after alive none =
     let size : 0 + suc after ≡ suc after = omega arith in (
       [],
       ap (live_from entries first) size
-      ∙ take_one entries first after (subst (λ (n : ℕ). is_some (text_of entries n) ≡ true) (sym here) alive)
-      ∙ ap (λ (ns : List ℕ). first ∷ ns) (live-none entries (first + 1) after (λ m low high. none m (omega (arith, low)) (omega (arith, high))))
-      ∙ ap (λ (n : ℕ). n ∷ []) here,
+          ∙ take_one entries first after (subst (λ (n : ℕ). is_some (text_of entries n) ≡ true) (sym here) alive)
+          ∙ ap (λ (ns : List ℕ). first ∷ ns) (live-none entries (first + 1) after (λ m low high. none m (omega (arith, low)) (omega (arith, high))))
+          ∙ ap (λ (n : ℕ). n ∷ []) here,
     )
 live-last entries first (suc before) after alive none =
     let here : first + 1 + before ≡ first + suc before = omega arith in

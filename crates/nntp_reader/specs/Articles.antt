@@ -8,7 +8,6 @@ use Rattle.mail_forms.specs.declared.row.Row.{Row}
 use Rattle.arch_model.specs.Archives.{Archive, live, text_of}
 use Rattle.arch_model.specs.Listings.{row_in}
 use Rattle.wire_replies.specs.Blocks.{crlf_line, block_lines, block_end}
-
 use Rattle.nntp_reader.specs.Notices.{notice_line}
 use Rattle.nntp_reader.specs.declared.choice.Chosen.{Chosen}
 use Rattle.nntp_reader.specs.declared.group.Group.{Group}

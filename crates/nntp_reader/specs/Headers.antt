@@ -1,19 +1,18 @@
 -- What OVER and HDR say (RFC 3977, sections 8.3 and 8.5).
-use Rattle.std.specs.Prelude.{ℕ, List, [], ◌∷◌, ◌++◌, codes, Option, Some, None, Result, Ok, Err}
+use Rattle.std.specs.Prelude.{ℕ, List, [], ◌++◌, codes, Option, Some, None, Result, Ok, Err}
 use Rattle.std.specs.List.{flat_map}
 use Rattle.mail_forms.specs.NamedValues.{flat_first}
 use Rattle.nntp_words.specs.declared.numbers.Range.{Range}
 use Rattle.arch_model.specs.Archives.{Entry, Archive, live, text_of}
 use Rattle.arch_model.specs.Listings.{row_in}
 use Rattle.wire_replies.specs.Blocks.{crlf_line, block_end}
-use Rattle.nntp_reader.specs.Commands.{Articles, Single, Within, Header, Bytes, Lines, Field}
+use Rattle.nntp_reader.specs.Commands.{Articles, Single, Within}
 use Rattle.nntp_reader.specs.Choices.{choice_of, range_start}
 use Rattle.nntp_reader.specs.Facts.{fact_line, fact_lines, header_line}
 use Rattle.nntp_reader.specs.Notices.{notice_line}
 use Rattle.nntp_reader.specs.Numbers.{live_in}
 use Rattle.nntp_reader.specs.declared.choice.Chosen.{Chosen}
 use Rattle.nntp_reader.specs.declared.fact.Fact.{Fact}
-use Rattle.nntp_reader.specs.declared.fact.Fact.TheVariants as fact
 use Rattle.nntp_reader.specs.declared.group.Group.{Group}
 use Rattle.nntp_reader.specs.declared.notice.Notice.{Notice}
 

@@ -1,9 +1,8 @@
 -- The table of a reader's commands: what each says of an archive, at a moment, to a session with a
 -- group (RFC 3977, sections 5 to 8).
-use Rattle.std.specs.Prelude.{ℕ, Bool, true, false, List, [], Option, Some, None, Result}
-use Rattle.nntp_words.specs.declared.numbers.Range.{Range}
+use Rattle.std.specs.Prelude.{ℕ, Bool, true, false, List, [], Option, Some, None}
 use Rattle.arch_model.specs.Archives.{Archive}
-use Rattle.nntp_reader.specs.Commands.{Command, Capabilities, ModeReader, Date, Help, Quit, Post, Next, Last, Group, ListGroup, Reads, Stat, Over, Headers, Lists, NewGroups, NewNews, Mistaken, Unknown, Article, Articles, Single, Within, Header, Bytes, Field}
+use Rattle.nntp_reader.specs.Commands.{Command, Capabilities, ModeReader, Date, Help, Quit, Post, Next, Last, Group, ListGroup, Reads, Stat, Over, Headers, Lists, NewGroups, NewNews, Mistaken, Unknown, Articles, Single, Within, Header, Bytes, Field}
 use Rattle.nntp_reader.specs.Commands as commands
 use Rattle.nntp_reader.specs.Notices.{notice_line}
 use Rattle.nntp_reader.specs.Groups.{group_words, group_after, list_group_words, list_group_after}

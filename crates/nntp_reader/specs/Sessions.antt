@@ -1,8 +1,8 @@
 -- The acts of the code.
 use Rattle.std.specs.Prelude.{◌≡◌, ◌<◌, ◌≤◌, ◌⊎◌, ℕ, Bool, true, false, not, List, [], ◌++◌, length, drop, Option, Some, None, Result, Ok, Err}
-use Rattle.line_door.specs.Acts.{Outside, Acts, held_if}
+use Rattle.line_door.specs.Acts.{Outside, Acts}
 use Rattle.line_door.specs.Clipped.{clipped, longest_line}
-use Rattle.arch_model.specs.Archives.{Archive, Entry, live, text_of}
+use Rattle.arch_model.specs.Archives.{Archive}
 use Rattle.mail_forms.specs.NamedValues.{flat_first}
 use Rattle.arch_model.specs.Shelves.{IsUndamaged}
 use Rattle.arch_model.specs.declared.text_refusal.TextRefusal.{TextRefusal}
@@ -12,7 +12,7 @@ use Rattle.edge_io.specs.declared.sink.SinkFault.{SinkFault}
 use Rattle.wire_replies.specs.Waits.{Waits}
 use Rattle.nntp_reader.specs.Commands as commands
 use Rattle.nntp_reader.specs.Commands.{Article, Articles, Header, Command}
-use Rattle.nntp_reader.specs.Door.{Reader, reader, said, said_to, has_request}
+use Rattle.nntp_reader.specs.Door.{Reader, reader, said, has_request}
 use Rattle.nntp_reader.specs.Headers.{header_start, field_line}
 use Rattle.nntp_reader.specs.Notices.{memory_line, disk_line}
 use Rattle.nntp_reader.specs.declared.field.Value.{Value}

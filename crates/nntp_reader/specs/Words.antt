@@ -1,5 +1,5 @@
 -- The words of a line (RFC 3977, section 3.1).
-use Rattle.std.specs.Prelude.{◌≡◌, ℕ, Bool, true, false, not, ◌||◌, ◌==◌, List, [], ◌∷◌, drop, if◌then◌else◌}
+use Rattle.std.specs.Prelude.{ℕ, Bool, false, not, ◌||◌, ◌==◌, List, [], ◌∷◌, drop, if◌then◌else◌}
 use Rattle.std.specs.List.{onto_first, prefix_len}
 use Rattle.std.specs.Str.{str_eq_ignore_ascii_case}
 

@@ -83,12 +83,7 @@ fn say_chosen<S: Shelf, O: Sink>(
 }
 
 /// Says a part of a text, for which a number is shown.
-fn say_text<O: Sink>(
-    part: Part,
-    shown: u32,
-    text: &[u8],
-    out: &mut O,
-) -> Result<(), SinkFault>
+fn say_text<O: Sink>(part: Part, shown: u32, text: &[u8], out: &mut O) -> Result<(), SinkFault>
     ensures said { Says (part_words part shown text.now) (O.taken out.old) (O.faults out.old)
         (O.taken out.new) (O.faults out.new) result }
     ensures sink { O.alike out.old out.new }

@@ -71,11 +71,7 @@ fn numbered<S: Shelf>(group: Group, n: u32, shelf: &S) -> Result<Chosen, Notice>
 }
 
 /// Returns the message with the number that an id has, or why there is none.
-fn identified<S: Shelf>(
-    group: Group,
-    number: Option<u32>,
-    shelf: &S,
-) -> Result<Chosen, Notice>
+fn identified<S: Shelf>(group: Group, number: Option<u32>, shelf: &S) -> Result<Chosen, Notice>
     requires { S.ready shelf.now ≡ true }
     ensures value { (a : Archive) → S.holds shelf.now a → result ≡ identified_by a group number }
     ensures live { (a : Archive) → S.holds shelf.now a
@@ -112,18 +108,17 @@ fn if_live<S: Shelf>(
 }
 
 /// Returns the least live number of a range, or why a command on the range has none.
-pub(crate) fn range_start<S: Shelf>(
-    group: Group,
-    range: Range,
-    shelf: &S,
-) -> Result<u32, Notice>
+pub(crate) fn range_start<S: Shelf>(group: Group, range: Range, shelf: &S) -> Result<u32, Notice>
     requires { S.ready shelf.now ≡ true }
     ensures { (a : Archive) → S.holds shelf.now a → result ≡ range_start_of a group range }
 {
     match group {
         Group::Unselected => Err(Notice::NoGroup),
         Group::Selected(_) => {
-            number_or(live_within(range.first, range.last, shelf), Notice::NoNumber)
+            number_or(
+                live_within(range.first, range.last, shelf),
+                Notice::NoNumber,
+            )
         }
     }
 }

@@ -117,7 +117,14 @@ fn say_list<S: Shelf, O: Sink>(range: Range, shelf: &S, out: &mut O) -> Result<(
     let mut reply = Waiting::new();
     push_head(shelf, &mut reply, out)?;
     reply.say(b" list follows\r\n", out)?;
-    push_facts(Fact::Number, range.first, range.last, shelf, &mut reply, out)?;
+    push_facts(
+        Fact::Number,
+        range.first,
+        range.last,
+        shelf,
+        &mut reply,
+        out,
+    )?;
     reply.finish(b".\r\n", out)
 }
 

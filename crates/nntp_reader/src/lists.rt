@@ -25,7 +25,10 @@ pub(crate) fn say_capabilities<O: Sink>(out: &mut O) -> Result<(), SinkFault>
 {
     let mut reply = Waiting::new();
     reply.say(b"101 capabilities\r\nVERSION 2\r\nREADER\r\n", out)?;
-    reply.say(b"LIST ACTIVE ACTIVE.TIMES HEADERS NEWSGROUPS OVERVIEW.FMT\r\n", out)?;
+    reply.say(
+        b"LIST ACTIVE ACTIVE.TIMES HEADERS NEWSGROUPS OVERVIEW.FMT\r\n",
+        out,
+    )?;
     reply.finish(b"OVER MSGID\r\nHDR\r\nNEWNEWS\r\n.\r\n", out)
 }
 
@@ -74,11 +77,7 @@ fn is_listed<S: Shelf>(wildmat: Option<&[u8]>, shelf: &S) -> bool
 }
 
 /// Says the list of groups with the numbers of their articles.
-fn say_active<S: Shelf, O: Sink>(
-    listed: bool,
-    shelf: &S,
-    out: &mut O,
-) -> Result<(), SinkFault>
+fn say_active<S: Shelf, O: Sink>(listed: bool, shelf: &S, out: &mut O) -> Result<(), SinkFault>
     requires { S.ready shelf.now ≡ true }
     ensures said { (a : Archive) → S.holds shelf.now a → Says (groups_block listed (active_line a))
         (O.taken out.old) (O.faults out.old) (O.taken out.new) (O.faults out.new) result }
@@ -137,7 +136,10 @@ fn say_overview_format<O: Sink>(out: &mut O) -> Result<(), SinkFault>
 {
     let mut reply = Waiting::new();
     reply.say(b"215 list follows\r\nSubject:\r\nFrom:\r\nDate:\r\n", out)?;
-    reply.finish(b"Message-ID:\r\nReferences:\r\n:bytes\r\n:lines\r\n.\r\n", out)
+    reply.finish(
+        b"Message-ID:\r\nReferences:\r\n:bytes\r\n:lines\r\n.\r\n",
+        out,
+    )
 }
 
 /// Says what HDR takes.
@@ -183,7 +185,14 @@ pub(crate) fn say_new_news<S: Shelf, O: Sink>(
     let mut reply = Waiting::new();
     reply.say(b"230 list follows\r\n", out)?;
     if is_listed(Some(wildmat), shelf) {
-        push_facts(Fact::ArrivedSince(moment), 1, GREATEST, shelf, &mut reply, out)?;
+        push_facts(
+            Fact::ArrivedSince(moment),
+            1,
+            GREATEST,
+            shelf,
+            &mut reply,
+            out,
+        )?;
     }
     reply.finish(b".\r\n", out)
 }

@@ -12,13 +12,15 @@ use std::alloc::Global;
 const MOMENT: u64 = 1_706_781_700;
 
 /// The first message, which arrives at 09:50:00.
-const FIRST: &[u8] = b"Subject: first\nFrom: Ann <ann@x>\nDate: Thu, 1 Feb 2024 09:50:00 +0000\nMessage-ID: <a@x>\n\none\n.two\n";
+const FIRST: &[u8] =
+    b"Subject: first\nFrom: Ann <ann@x>\nDate: Thu, 1 Feb 2024 09:50:00 +0000\nMessage-ID: <a@x>\n\none\n.two\n";
 
 /// The second message, which arrives at 09:51:40 and is removed.
 const SECOND: &[u8] = b"Subject: gone\nMessage-ID: <b@x>\n\nbye\n";
 
 /// The third message, which arrives at 09:53:20.
-const THIRD: &[u8] = b"Subject: [PATCH 1/2] fix\n\tthe build\nFrom: Bo <bo@x>\nMessage-ID: <c@x>\nReferences: <a@x>\n <b@x>\n.Odd: dot\n\n..\nlast\n";
+const THIRD: &[u8] =
+    b"Subject: [PATCH 1/2] fix\n\tthe build\nFrom: Bo <bo@x>\nMessage-ID: <c@x>\nReferences: <a@x>\n <b@x>\n.Odd: dot\n\n..\nlast\n";
 
 /// A connection with an archive of its own.
 #[derive(Drop)]

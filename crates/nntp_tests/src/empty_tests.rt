@@ -12,23 +12,25 @@ fn empty_answers(alloc: Global, stream: &[u8], lines: &[&[u8]]) -> Option<bool> 
 
 #[test]
 fn an_archive_without_messages_is_read(rt: HostRuntime) {
-    assert!(rt; empty_answers(
-        rt.alloc(),
-        b"GROUP list\nARTICLE\nNEXT\nARTICLE 1\nLISTGROUP\nOVER 1-\nLIST\n",
-        &[
-            b"201 piv2 reader",
-            b"211 0 1 0 list",
-            b"420 no current article",
-            b"420 no current article",
-            b"423 no such number",
-            b"211 0 1 0 list list follows",
-            b".",
-            b"423 no such number",
-            b"215 list follows",
-            b"list 0 1 n",
-            b".",
-        ],
-    ) == Some(true));
+    assert!(rt;
+        empty_answers(
+            rt.alloc(),
+            b"GROUP list\nARTICLE\nNEXT\nARTICLE 1\nLISTGROUP\nOVER 1-\nLIST\n",
+            &[
+                b"201 piv2 reader",
+                b"211 0 1 0 list",
+                b"420 no current article",
+                b"420 no current article",
+                b"423 no such number",
+                b"211 0 1 0 list list follows",
+                b".",
+                b"423 no such number",
+                b"215 list follows",
+                b"list 0 1 n",
+                b".",
+            ],
+        ) == Some(true)
+    );
 }
 
 /// Returns whether a current article that is removed is gone, and NEXT and LAST go on from it.

@@ -14,8 +14,7 @@ const GROUP: &[u8] = b"GROUP list\n";
 const THIRD: &[u8] = b"GROUP list\nSTAT 3\n";
 
 /// The overview line of the first message.
-const OVER_1: &[u8] =
-    b"1\tfirst\tAnn <ann@x>\tThu, 1 Feb 2024 09:50:00 +0000\t<a@x>\t\t105\t2";
+const OVER_1: &[u8] = b"1\tfirst\tAnn <ann@x>\tThu, 1 Feb 2024 09:50:00 +0000\t<a@x>\t\t105\t2";
 
 /// The overview line of the third message.
 const OVER_3: &[u8] = b"3\t[PATCH 1/2] fix the build\tBo <bo@x>\t\t<c@x>\t<a@x> <b@x>\t124\t2";
@@ -66,18 +65,50 @@ static GROUPS: [Case; 22] = [
     (b"", b"GROUP\n", &[b"501 syntax"]),
     (b"", b"GROUP list x\n", &[b"501 syntax"]),
     (b"", b"LISTGROUP\n", &[b"412 no group selected"]),
-    (b"", b"LISTGROUP list\n", &[b"211 2 1 3 list list follows", b"1", b"3", b"."]),
-    (b"", b"LISTGROUP list 2-\n", &[b"211 2 1 3 list list follows", b"3", b"."]),
-    (b"", b"LISTGROUP list 5-2\n", &[b"211 2 1 3 list list follows", b"."]),
-    (b"", b"LISTGROUP list 001\n", &[b"211 2 1 3 list list follows", b"1", b"."]),
+    (
+        b"",
+        b"LISTGROUP list\n",
+        &[b"211 2 1 3 list list follows", b"1", b"3", b"."],
+    ),
+    (
+        b"",
+        b"LISTGROUP list 2-\n",
+        &[b"211 2 1 3 list list follows", b"3", b"."],
+    ),
+    (
+        b"",
+        b"LISTGROUP list 5-2\n",
+        &[b"211 2 1 3 list list follows", b"."],
+    ),
+    (
+        b"",
+        b"LISTGROUP list 001\n",
+        &[b"211 2 1 3 list list follows", b"1", b"."],
+    ),
     (b"", b"LISTGROUP list -2\n", &[b"501 syntax"]),
     (b"", b"LISTGROUP nope\n", &[b"411 no such group"]),
     (b"", b"LISTGROUP nope x\n", &[b"501 syntax"]),
     (b"LISTGROUP list 3\n", b"STAT\n", &[b"223 1 <a@x>"]),
-    (THIRD, b"LISTGROUP\n", &[b"211 2 1 3 list list follows", b"1", b"3", b"."]),
-    (b"GROUP list\nSTAT 3\nLISTGROUP\n", b"STAT\n", &[b"223 1 <a@x>"]),
-    (b"GROUP list\nSTAT 3\nGROUP list\n", b"STAT\n", &[b"223 1 <a@x>"]),
-    (b"GROUP list\nSTAT 3\nGROUP nope\n", b"STAT\n", &[b"223 3 <c@x>"]),
+    (
+        THIRD,
+        b"LISTGROUP\n",
+        &[b"211 2 1 3 list list follows", b"1", b"3", b"."],
+    ),
+    (
+        b"GROUP list\nSTAT 3\nLISTGROUP\n",
+        b"STAT\n",
+        &[b"223 1 <a@x>"],
+    ),
+    (
+        b"GROUP list\nSTAT 3\nGROUP list\n",
+        b"STAT\n",
+        &[b"223 1 <a@x>"],
+    ),
+    (
+        b"GROUP list\nSTAT 3\nGROUP nope\n",
+        b"STAT\n",
+        &[b"223 3 <c@x>"],
+    ),
     (GROUP, b"NEXT\n", &[b"223 3 <c@x>"]),
     (THIRD, b"NEXT\n", &[b"421 no next article"]),
     (THIRD, b"LAST\n", &[b"223 1 <a@x>"]),
@@ -150,8 +181,16 @@ static HEADERS: [Case; 26] = [
     (b"", b"OVER\n", &[b"412 no group selected"]),
     (b"", b"OVER 1-\n", &[b"412 no group selected"]),
     (GROUP, b"OVER\n", &[b"224 overview follows", OVER_1, b"."]),
-    (GROUP, b"OVER 1-\n", &[b"224 overview follows", OVER_1, OVER_3, b"."]),
-    (GROUP, b"XOVER 1-2147483647\n", &[b"224 overview follows", OVER_1, OVER_3, b"."]),
+    (
+        GROUP,
+        b"OVER 1-\n",
+        &[b"224 overview follows", OVER_1, OVER_3, b"."],
+    ),
+    (
+        GROUP,
+        b"XOVER 1-2147483647\n",
+        &[b"224 overview follows", OVER_1, OVER_3, b"."],
+    ),
     (GROUP, b"OVER 2\n", &[b"423 no such number"]),
     (GROUP, b"OVER 5-2\n", &[b"423 no such number"]),
     (GROUP, b"OVER 1-2147483648\n", &[b"501 syntax"]),
@@ -169,21 +208,46 @@ static HEADERS: [Case; 26] = [
     (b"GROUP list\nOVER 3\n", b"STAT\n", &[b"223 1 <a@x>"]),
     (b"", b"HDR\n", &[b"501 syntax"]),
     (b"", b"HDR Subject\n", &[b"412 no group selected"]),
-    (GROUP, b"HDR Subject\n", &[b"225 headers follow", b"1 first", b"."]),
+    (
+        GROUP,
+        b"HDR Subject\n",
+        &[b"225 headers follow", b"1 first", b"."],
+    ),
     (
         GROUP,
         b"hdr subject 1-9\n",
-        &[b"225 headers follow", b"1 first", b"3 [PATCH 1/2] fix the build", b"."],
+        &[
+            b"225 headers follow",
+            b"1 first",
+            b"3 [PATCH 1/2] fix the build",
+            b".",
+        ],
     ),
-    (GROUP, b"HDR Date 1-\n", &[
-        b"225 headers follow",
-        b"1 Thu, 1 Feb 2024 09:50:00 +0000",
-        b"3 ",
-        b".",
-    ]),
-    (GROUP, b"HDR :bytes 1-\n", &[b"225 headers follow", b"1 105", b"3 124", b"."]),
-    (GROUP, b"HDR :Lines 3\n", &[b"225 headers follow", b"3 2", b"."]),
-    (b"", b"HDR Xref <a@x>\n", &[b"225 headers follow", b"0 ", b"."]),
+    (
+        GROUP,
+        b"HDR Date 1-\n",
+        &[
+            b"225 headers follow",
+            b"1 Thu, 1 Feb 2024 09:50:00 +0000",
+            b"3 ",
+            b".",
+        ],
+    ),
+    (
+        GROUP,
+        b"HDR :bytes 1-\n",
+        &[b"225 headers follow", b"1 105", b"3 124", b"."],
+    ),
+    (
+        GROUP,
+        b"HDR :Lines 3\n",
+        &[b"225 headers follow", b"3 2", b"."],
+    ),
+    (
+        b"",
+        b"HDR Xref <a@x>\n",
+        &[b"225 headers follow", b"0 ", b"."],
+    ),
     (b"", b"HDR :foo <a@x>\n", &[b"501 syntax"]),
     (b"", b"HDR Subject <q@x>\n", &[b"430 no such article"]),
     (GROUP, b"HDR Subject 2\n", &[b"423 no such number"]),
@@ -195,16 +259,40 @@ static HEADERS: [Case; 26] = [
 /// Lists.
 static LISTS: [Case; 32] = [
     (b"", b"LIST\n", &[b"215 list follows", b"list 3 1 n", b"."]),
-    (b"", b"LIST ACTIVE\n", &[b"215 list follows", b"list 3 1 n", b"."]),
-    (b"", b"list active l?s*\n", &[b"215 list follows", b"list 3 1 n", b"."]),
+    (
+        b"",
+        b"LIST ACTIVE\n",
+        &[b"215 list follows", b"list 3 1 n", b"."],
+    ),
+    (
+        b"",
+        b"list active l?s*\n",
+        &[b"215 list follows", b"list 3 1 n", b"."],
+    ),
     (b"", b"LIST ACTIVE *,!list\n", &[b"215 list follows", b"."]),
-    (b"", b"LIST ACTIVE !list,*\n", &[b"215 list follows", b"list 3 1 n", b"."]),
+    (
+        b"",
+        b"LIST ACTIVE !list,*\n",
+        &[b"215 list follows", b"list 3 1 n", b"."],
+    ),
     (b"", b"LIST ACTIVE x\n", &[b"215 list follows", b"."]),
     (b"", b"LIST ACTIVE l[i]st\n", &[b"501 syntax"]),
     (b"", b"LIST ACTIVE * *\n", &[b"501 syntax"]),
-    (b"", b"LIST ACTIVE.TIMES\n", &[b"215 list follows", b"list 1706780000 piv2", b"."]),
-    (b"", b"LIST NEWSGROUPS\n", &[b"215 list follows", b"list\tpublic-inbox archive", b"."]),
-    (b"", b"LIST NEWSGROUPS other\n", &[b"215 list follows", b"."]),
+    (
+        b"",
+        b"LIST ACTIVE.TIMES\n",
+        &[b"215 list follows", b"list 1706780000 piv2", b"."],
+    ),
+    (
+        b"",
+        b"LIST NEWSGROUPS\n",
+        &[b"215 list follows", b"list\tpublic-inbox archive", b"."],
+    ),
+    (
+        b"",
+        b"LIST NEWSGROUPS other\n",
+        &[b"215 list follows", b"."],
+    ),
     (
         b"",
         b"LIST OVERVIEW.FMT\n",
@@ -221,23 +309,71 @@ static LISTS: [Case; 32] = [
         ],
     ),
     (b"", b"LIST OVERVIEW.FMT *\n", &[b"501 syntax"]),
-    (b"", b"LIST HEADERS\n", &[b"215 list follows", b":", b":bytes", b":lines", b"."]),
-    (b"", b"LIST HEADERS range\n", &[b"215 list follows", b":", b":bytes", b":lines", b"."]),
-    (b"", b"LIST HEADERS MSGID\n", &[b"215 list follows", b":", b":bytes", b":lines", b"."]),
+    (
+        b"",
+        b"LIST HEADERS\n",
+        &[b"215 list follows", b":", b":bytes", b":lines", b"."],
+    ),
+    (
+        b"",
+        b"LIST HEADERS range\n",
+        &[b"215 list follows", b":", b":bytes", b":lines", b"."],
+    ),
+    (
+        b"",
+        b"LIST HEADERS MSGID\n",
+        &[b"215 list follows", b":", b":bytes", b":lines", b"."],
+    ),
     (b"", b"LIST HEADERS x\n", &[b"501 syntax"]),
     (b"", b"LIST DISTRIB.PATS\n", &[b"501 syntax"]),
-    (b"", b"NEWGROUPS 20240201 093320\n", &[b"231 list follows", b"list 3 1 n", b"."]),
-    (b"", b"NEWGROUPS 20240201 093321 GMT\n", &[b"231 list follows", b"."]),
-    (b"", b"NEWGROUPS 240201 000000 gmt\n", &[b"231 list follows", b"list 3 1 n", b"."]),
-    (b"", b"NEWGROUPS 250101 000000\n", &[b"231 list follows", b"list 3 1 n", b"."]),
-    (b"", b"NEWGROUPS 19000101 000000\n", &[b"231 list follows", b"list 3 1 n", b"."]),
+    (
+        b"",
+        b"NEWGROUPS 20240201 093320\n",
+        &[b"231 list follows", b"list 3 1 n", b"."],
+    ),
+    (
+        b"",
+        b"NEWGROUPS 20240201 093321 GMT\n",
+        &[b"231 list follows", b"."],
+    ),
+    (
+        b"",
+        b"NEWGROUPS 240201 000000 gmt\n",
+        &[b"231 list follows", b"list 3 1 n", b"."],
+    ),
+    (
+        b"",
+        b"NEWGROUPS 250101 000000\n",
+        &[b"231 list follows", b"list 3 1 n", b"."],
+    ),
+    (
+        b"",
+        b"NEWGROUPS 19000101 000000\n",
+        &[b"231 list follows", b"list 3 1 n", b"."],
+    ),
     (b"", b"NEWGROUPS 230229 000000\n", &[b"501 syntax"]),
     (b"", b"NEWGROUPS 20240201\n", &[b"501 syntax"]),
     (b"", b"NEWGROUPS 20240201 093320 EST\n", &[b"501 syntax"]),
-    (b"", b"NEWNEWS * 20240201 095000\n", &[b"230 list follows", b"<a@x>", b"<c@x>", b"."]),
-    (b"", b"NEWNEWS list 20240201 095001 GMT\n", &[b"230 list follows", b"<c@x>", b"."]),
-    (b"", b"NEWNEWS list 20240201 095321\n", &[b"230 list follows", b"."]),
-    (b"", b"NEWNEWS other 20240201 000000\n", &[b"230 list follows", b"."]),
+    (
+        b"",
+        b"NEWNEWS * 20240201 095000\n",
+        &[b"230 list follows", b"<a@x>", b"<c@x>", b"."],
+    ),
+    (
+        b"",
+        b"NEWNEWS list 20240201 095001 GMT\n",
+        &[b"230 list follows", b"<c@x>", b"."],
+    ),
+    (
+        b"",
+        b"NEWNEWS list 20240201 095321\n",
+        &[b"230 list follows", b"."],
+    ),
+    (
+        b"",
+        b"NEWNEWS other 20240201 000000\n",
+        &[b"230 list follows", b"."],
+    ),
     (b"", b"NEWNEWS l\\st 20240201 000000\n", &[b"501 syntax"]),
     (b"", b"NEWNEWS * 20240201\n", &[b"501 syntax"]),
 ];

@@ -17,8 +17,16 @@ static STREAMS: [Stream; 22] = [
     (b"\r\n", &[b"500 unknown"], Next::Go),
     (b"QUIT\r\n", &[b"205 bye"], Next::Close),
     (b"QUIT\r\nDATE\r\n", &[b"205 bye"], Next::Close),
-    (b"QUIT x\r\nDATE\r\n", &[b"501 syntax", b"111 20240201100140"], Next::Go),
-    (b"GROUP list\r\nSTAT\r\n", &[b"211 2 1 3 list", b"223 1 <a@x>"], Next::Go),
+    (
+        b"QUIT x\r\nDATE\r\n",
+        &[b"501 syntax", b"111 20240201100140"],
+        Next::Go,
+    ),
+    (
+        b"GROUP list\r\nSTAT\r\n",
+        &[b"211 2 1 3 list", b"223 1 <a@x>"],
+        Next::Go,
+    ),
     (
         b"GROUP list\nNEXT\nNEXT\nLAST\nLAST\n",
         &[
@@ -31,7 +39,11 @@ static STREAMS: [Stream; 22] = [
         Next::Go,
     ),
     (b"STAT 1\nGROUP list", &[b"412 no group selected"], Next::Go),
-    (b"GROUP nope\nNEXT\n", &[b"411 no such group", b"412 no group selected"], Next::Go),
+    (
+        b"GROUP nope\nNEXT\n",
+        &[b"411 no such group", b"412 no group selected"],
+        Next::Go,
+    ),
     (
         b"GROUP list\nBODY 3\nBODY\n",
         &[
@@ -59,32 +71,51 @@ static STREAMS: [Stream; 22] = [
         ],
         Next::Close,
     ),
-    (b"LISTGROUP list 3\nSTAT\n", &[
-        b"211 2 1 3 list list follows",
-        b"3",
-        b".",
-        b"223 1 <a@x>",
-    ], Next::Go),
-    (b"STAT <c@x>\r\nSTAT <b@x>\r\n", &[b"223 0 <c@x>", b"430 no such article"], Next::Go),
-    (b"MODE READER\r\nPOST\r\n", &[b"201 no posting", b"440 no posting"], Next::Go),
-    (b"HELP\nHELP\n", &[
-        b"100 help",
-        b"see RFC 3977",
-        b".",
-        b"100 help",
-        b"see RFC 3977",
-        b".",
-    ], Next::Go),
-    (b"LIST\nNEWNEWS * 20240201 095001\n", &[
-        b"215 list follows",
-        b"list 3 1 n",
-        b".",
-        b"230 list follows",
-        b"<c@x>",
-        b".",
-    ], Next::Go),
+    (
+        b"LISTGROUP list 3\nSTAT\n",
+        &[b"211 2 1 3 list list follows", b"3", b".", b"223 1 <a@x>"],
+        Next::Go,
+    ),
+    (
+        b"STAT <c@x>\r\nSTAT <b@x>\r\n",
+        &[b"223 0 <c@x>", b"430 no such article"],
+        Next::Go,
+    ),
+    (
+        b"MODE READER\r\nPOST\r\n",
+        &[b"201 no posting", b"440 no posting"],
+        Next::Go,
+    ),
+    (
+        b"HELP\nHELP\n",
+        &[
+            b"100 help",
+            b"see RFC 3977",
+            b".",
+            b"100 help",
+            b"see RFC 3977",
+            b".",
+        ],
+        Next::Go,
+    ),
+    (
+        b"LIST\nNEWNEWS * 20240201 095001\n",
+        &[
+            b"215 list follows",
+            b"list 3 1 n",
+            b".",
+            b"230 list follows",
+            b"<c@x>",
+            b".",
+        ],
+        Next::Go,
+    ),
     (b" \t GROUP\t list \r\n", &[b"211 2 1 3 list"], Next::Go),
-    (b"DATE\r\r\nDATE\n", &[b"500 unknown", b"111 20240201100140"], Next::Go),
+    (
+        b"DATE\r\r\nDATE\n",
+        &[b"500 unknown", b"111 20240201100140"],
+        Next::Go,
+    ),
 ];
 
 /// The line of the greeting, with its end, in bytes.

@@ -1,10 +1,10 @@
 -- The wire form of bytes, piece by piece.
-use Rattle.std.proofs.Common.{◌≡◌, ◌<◌, ℕ, suc, ◌+◌, Bool, true, false, cond, eqb, not, List, [], ◌∷◌, ◌++◌, length, take, drop, refl, sym, ap, ◌∙◌, append_assoc, arith}
+use Rattle.std.proofs.Common.{◌≡◌, ℕ, suc, ◌+◌, Bool, true, false, cond, eqb, not, List, [], ◌∷◌, ◌++◌, take, drop, refl, sym, ap, ◌∙◌, arith}
 use Rattle.std.specs.Prelude.{◌||◌}
 use Rattle.std.specs.List.{flat_map, prefix_len}
 use Rattle.mail_reader.specs.Lines.{lines_of}
 use Rattle.mail_forms.specs.WireForms.{sent, wire_of}
-use Rattle.wire_replies.specs.Blocks.{dotted, block_line, block_lines}
+use Rattle.wire_replies.specs.Blocks.{block_line, block_lines}
 use Rattle.wire_replies.specs.Changed.{is_unchanged, first_sent}
 
 one-more : (n : ℕ) → 1 + n ≡ suc n

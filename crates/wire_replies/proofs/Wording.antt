@@ -1,5 +1,5 @@
 -- Words that wait, one after another.
-use Rattle.std.proofs.Common.{◌≡◌, ◌+◌, ℕ, min, List, [], ◌∷◌, ◌++◌, length, take, drop, Option, Result, Ok, Err, refl, sym, ap, ◌∙◌, append_assoc, append-nil, length-append, arith}
+use Rattle.std.proofs.Common.{◌≡◌, ◌+◌, ℕ, min, List, [], ◌++◌, length, take, drop, Option, Result, Ok, Err, refl, sym, ap, ◌∙◌, append_assoc, append-nil, arith}
 use Rattle.std.proofs.lemmas.List.{take-append-drop}
 use Rattle.std.proofs.Math.Seq.{take-append-add}
 use Rattle.std.specs.Result.{IsErr}
@@ -39,7 +39,7 @@ Waits-then a b old new next out out' out'' lost lost' lost'' done (Err fault) p 
       (
         length first.0 + cut.0,
         cut.1 ∙ ap (λ (o : Option (List ℕ)). plus o (take cut.0 (new ++ b))) first.1 ∙ plus-plus out first.0 (take cut.0 (new ++ b))
-        ∙ ap (plus out) (sym (take-append-add first.0 (new ++ b) cut.0) ∙ ap (take (length first.0 + cut.0)) all),
+            ∙ ap (plus out) (sym (take-append-add first.0 (new ++ b) cut.0) ∙ ap (take (length first.0 + cut.0)) all),
       ),
     )
 
@@ -69,7 +69,7 @@ Waits-flushed words old new out out' out'' lost lost' lost'' done (Err fault) p 
       (
         length first.0 + q.2.0,
         q.2.1 ∙ ap (λ (o : Option (List ℕ)). plus o (take q.2.0 new)) first.1 ∙ plus-plus out first.0 (take q.2.0 new)
-        ∙ ap (plus out) (sym (take-append-add first.0 new q.2.0) ∙ ap (take (length first.0 + q.2.0)) first.2),
+            ∙ ap (plus out) (sym (take-append-add first.0 new q.2.0) ∙ ap (take (length first.0 + q.2.0)) first.2),
       ),
     )
 

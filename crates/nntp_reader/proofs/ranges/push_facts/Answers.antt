@@ -20,7 +20,7 @@ loop-next-preserved g c = record {
         c.in-Some.number + 1,
         c.live_after.ensures.number a held,
         sofar-more (fact_lines c.args.fact (live a.entries) c.args.first c.args.last) c.args.reply.now _ _ (fact_lines c.args.fact (live a.entries) before.0 c.args.last) c.loop-next.reply _ _ before.2
-        (line_at c.args.fact (live a.entries) c.in-Some.number) (fact_lines c.args.fact (live a.entries) (c.in-Some.number + 1) c.args.last) c.push_fact.new.reply _ _ tt rest (c.in-Ok.ensures.said a held),
+            (line_at c.args.fact (live a.entries) c.in-Some.number) (fact_lines c.args.fact (live a.entries) (c.in-Some.number + 1) c.args.last) c.push_fact.new.reply _ _ tt rest (c.in-Ok.ensures.said a held),
       );
   within = search rules;
   sink = g.met.O.Sink.alike_joined _ _ _ c.loop-next.invariant.sink c.push_fact.ensures.sink;
