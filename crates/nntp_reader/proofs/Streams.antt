@@ -1,5 +1,5 @@
 -- HDR of a field over a range, as a streamed reply whose words wait.
-use Rattle.std.proofs.Common.{◌≡◌, ◌+◌, ◌≤◌, ◌<◌, ◌⊎◌, ℕ, zero, suc, min, Bool, true, false, not, List, [], ◌++◌, length, take, None, Result, Ok, Err, is_ok, inl, inr, refl, sym, ap, subst, ◌∙◌, append_assoc, length-append, arith}
+use Rattle.std.proofs.Common.{◌≡◌, ◌+◌, ◌≤◌, ◌<◌, ◌⊎◌, ℕ, zero, suc, min, Bool, true, false, not, List, [], ◌++◌, length, take, Option, Some, None, Result, Ok, Err, is_ok, inl, inr, refl, sym, ap, subst, ◌∙◌, append_assoc, length-append, arith}
 use Rattle.arch_base.specs.Counts.{Rose}
 use Rattle.edge_io.specs.Taken.{plus}
 use Rattle.edge_io.specs.Phrases.{Says}
@@ -13,7 +13,12 @@ use Rattle.arch_model.specs.Archives.{Entry, Archive, live}
 use Rattle.nntp_words.specs.declared.numbers.Range.{Range}
 use Rattle.wire_replies.specs.Blocks.{block_end}
 use Rattle.wire_replies.proofs.Wording.{SoFar, sofar-none}
-use Rattle.nntp_reader.specs.Door.{reader, range_said}
+use Rattle.nntp_reader.specs.Choices.{number_or, range_start}
+use Rattle.nntp_reader.specs.Commands.{Headers, Field, Within}
+use Rattle.nntp_reader.specs.Door.{reader, said_to, range_said}
+use Rattle.nntp_reader.specs.Numbers.{live_in, first_of}
+use Rattle.nntp_reader.specs.declared.group.Group.TheVariants as group
+use Rattle.nntp_reader.specs.declared.notice.Notice.TheVariants as notice
 use Rattle.nntp_reader.specs.Headers.{field_at, field_lines, fields_block}
 use Rattle.nntp_reader.specs.Notices.{memory_line, disk_line}
 use Rattle.nntp_reader.specs.Sessions.{SaysUnread, start_if}
@@ -110,3 +115,20 @@ module _ (a : Archive) (g : Group) (name : List ℕ) (range : Range) (rest : Lis
   range-stopped at begun i k front sent parts some cause later said =
       acts-stopped (range_said a g name range rest) (streams a (reader g rest) (fields_block name (live a.entries) range.first range.last)) front (fields_left name (live a.entries) begun at range.last) i k a sent
       (range-after a g name range rest) refl refl parts some (left-some name (live a.entries) begun at range.last) cause later said
+
+-- HDR of a field over a range of which one is live says what the range says.
+pub range-is : (moment : ℕ) (a : Archive) (g : Group) (name : List ℕ) (range : Range) (n : ℕ) (rest : List ℕ) (way : Way) → range_start a g range ≡ Ok n
+    → said_to moment a g (Headers (Field name) (Within range)) rest way ≡ range_said a g name range rest way
+range-is moment a g name range n rest Plain is = rw is refl
+range-is moment a g name range n rest Memory is = refl
+range-is moment a g name range n rest Disk is = refl
+range-is moment a g name range n rest Newer is = rw is refl
+
+-- A range that a command may use has a live number.
+pub start-live : (a : Archive) (g : Group) (range : Range) (n : ℕ) → range_start a g range ≡ Ok n → first_of (live_in (live a.entries) range.first range.last) ≡ Some n
+start-live a group.Unselected range n is = absurd (cc is)
+start-live a (group.Selected current) range n is = by (first_of (live_in (live a.entries) range.first range.last)) is
+  where
+    by : (o : Option ℕ) → number_or o notice.NoNumber ≡ Ok n → o ≡ Some n
+    by None e = absurd (cc e)
+    by (Some m) e = let same : m ≡ n = cc in ap Some same

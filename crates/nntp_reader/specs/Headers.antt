@@ -64,9 +64,3 @@ abbrev pub field_words : Archive → List ℕ → Result Chosen Notice → List 
 field_words a name (Ok c) =
     header_start ++ (field_line name c.shown (text_of (live a.entries) c.number) ++ block_end)
 field_words a name (Err refusal) = notice_line refusal
-
--- What HDR says of a field of the messages in a range.
-abbrev pub fields_words : Archive → List ℕ → Range → Result ℕ Notice → List ℕ
-fields_words a name range (Ok n) =
-    fields_block name (live a.entries) range.first range.last
-fields_words a name range (Err refusal) = notice_line refusal

@@ -1,4 +1,5 @@
--- The replies that are one line of fixed words, and the words for what was not read (RFC 3977, section 3.2).
+-- The replies that are one line of fixed words, and the words for what was not read (RFC 3977,
+-- section 3.2).
 use Rattle.std.specs.Prelude.{ℕ, List, ◌∷◌, ◌++◌, codes}
 use Rattle.hex.specs.Hex.{encode_lower}
 use Rattle.arch_model.specs.declared.text_refusal.TextRefusal.{TextRefusal}

@@ -1,18 +1,20 @@
 -- The table of a reader's commands: what each says of an archive, at a moment, to a session with a
 -- group (RFC 3977, sections 5 to 8).
-use Rattle.std.specs.Prelude.{ℕ, Bool, true, false, List, [], Option, Some, None}
-use Rattle.arch_model.specs.Archives.{Archive}
+use Rattle.std.specs.Prelude.{ℕ, Bool, true, false, List, Option, Some, None, Result, Ok, Err}
+use Rattle.nntp_words.specs.declared.numbers.Range.{Range}
+use Rattle.arch_model.specs.Archives.{Archive, live}
 use Rattle.nntp_reader.specs.Commands.{Command, Capabilities, ModeReader, Date, Help, Quit, Post, Next, Last, Group, ListGroup, Reads, Stat, Over, Headers, Lists, NewGroups, NewNews, Mistaken, Unknown, Articles, Single, Within, Header, Bytes, Field}
 use Rattle.nntp_reader.specs.Commands as commands
 use Rattle.nntp_reader.specs.Notices.{notice_line}
 use Rattle.nntp_reader.specs.Groups.{group_words, group_after, list_group_words, list_group_after}
 use Rattle.nntp_reader.specs.Choices.{choice_of, range_start, next_of, previous_of}
 use Rattle.nntp_reader.specs.Articles.{read_words, chosen_words, group_chosen, step_words, step_after}
-use Rattle.nntp_reader.specs.Headers.{over_start, header_start, facts_words, field_words, fields_words}
+use Rattle.nntp_reader.specs.Headers.{over_start, header_start, facts_words, fields_block, field_words}
 use Rattle.nntp_reader.specs.Lists.{capabilities_words, help_words, list_words, new_groups_words, new_news_words}
 use Rattle.nntp_reader.specs.Dates.{date_words}
 use Rattle.nntp_reader.specs.declared.fact.Fact.TheVariants as fact
 use Rattle.nntp_reader.specs.declared.group.Group as session
+use Rattle.nntp_reader.specs.declared.notice.Notice.{Notice}
 use Rattle.nntp_reader.specs.declared.notice.Notice.TheVariants as notice
 
 -- A reply: its words, the group after it (None if the session is closed), and whether it is streamed.
@@ -33,10 +35,17 @@ streams words g = record { words = words; group = Some g; streamed = true }
 abbrev pub ends : List ℕ → Reply
 ends words = record { words = words; group = None; streamed = false }
 
--- `HDR` of a field: over a range it is streamed, since texts are read.
+-- `HDR` of a field over a range, if one of its messages is live. It is streamed, since a text is read
+-- for each.
+abbrev pub fields_reply : Archive → session.Group → List ℕ → Range → Result ℕ Notice → Reply
+fields_reply a g name range (Ok n) =
+    streams (fields_block name (live a.entries) range.first range.last) g
+fields_reply a g name range (Err refusal) = replies (notice_line refusal) g
+
+-- `HDR` of a field.
 abbrev pub field_reply : Archive → session.Group → List ℕ → Articles → Reply
 field_reply a g name (Single article) = replies (field_words a name (choice_of a g article)) g
-field_reply a g name (Within range) = streams (fields_words a name range (range_start a g range)) g
+field_reply a g name (Within range) = fields_reply a g name range (range_start a g range)
 
 -- `HDR F [range or ID]`.
 abbrev pub header_reply : Archive → session.Group → Header → Articles → Reply
