@@ -205,10 +205,20 @@ fn push_started<O: Sink>(
         (O.taken out.old) (O.faults out.old) reply.new (O.taken out.new) (O.faults out.new) result }
     ensures sink { O.alike out.old out.new }
 {
-    if !begun {
-        reply.say(b"225 headers follow\r\n", out)?;
-    }
+    push_start_if(!begun, reply, out)?;
     push_value(shown, value, reply, out)
+}
+
+/// Appends the first line of the reply, if it is wanted.
+fn push_start_if<O: Sink>(wanted: bool, reply: &mut Waiting, out: &mut O) -> Result<(), SinkFault>
+    ensures said { Waits (start_if wanted) reply.old (O.taken out.old) (O.faults out.old) reply.new
+        (O.taken out.new) (O.faults out.new) result }
+    ensures sink { O.alike out.old out.new }
+{
+    if !wanted {
+        return Ok(());
+    }
+    reply.say(b"225 headers follow\r\n", out)
 }
 
 /// Reads the value of a field of a live message: the flat one of the first field with the name, or

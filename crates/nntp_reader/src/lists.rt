@@ -1,8 +1,11 @@
 //! What CAPABILITIES, HELP, LIST, NEWGROUPS and NEWNEWS say.
 ghost use Rattle.std.specs.Prelude.{◌≡◌, [], true, option_copied, if◌then◌else◌};
-ghost use Rattle.arch_model.specs.Archives.{Archive};
+ghost use Rattle.arch_model.specs.Archives.{Archive, live};
 ghost use Rattle.edge_io.specs.Phrases.{Says};
 ghost use Rattle.wire_replies.specs.Waits.{Waits};
+ghost use Rattle.nntp_words.specs.Numbers.{greatest};
+ghost use Rattle.nntp_reader.specs.Facts.{fact_lines};
+ghost use Rattle.nntp_reader.specs.declared.fact.Fact.TheVariants as fact;
 ghost use Rattle.nntp_reader.specs.Lists.{capabilities_words, help_words, overview_format_words, header_names_words, active_line, times_line, description_line, groups_block, is_listed as is_listed_of, list_words, new_groups_words, new_news_words};
 
 use crate::fact::Fact;
@@ -98,12 +101,7 @@ fn say_times<S: Shelf, O: Sink>(listed: bool, shelf: &S, out: &mut O) -> Result<
 {
     let mut reply = Waiting::new();
     reply.say(b"215 list follows\r\n", out)?;
-    if listed {
-        reply.say(shelf.config().name.as_slice(), out)?;
-        reply.say(b" ", out)?;
-        reply.number(u64::from(shelf.config().born), out)?;
-        reply.say(b" piv2\r\n", out)?;
-    }
+    push_times_if(listed, shelf, &mut reply, out)?;
     reply.finish(b".\r\n", out)
 }
 
@@ -121,10 +119,7 @@ fn say_descriptions<S: Shelf, O: Sink>(
 {
     let mut reply = Waiting::new();
     reply.say(b"215 list follows\r\n", out)?;
-    if listed {
-        reply.say(shelf.config().name.as_slice(), out)?;
-        reply.say(b"\tpublic-inbox archive\r\n", out)?;
-    }
+    push_description_if(listed, shelf, &mut reply, out)?;
     reply.finish(b".\r\n", out)
 }
 
@@ -219,4 +214,69 @@ fn push_active_if<S: Shelf, O: Sink>(
     reply.say(b" ", out)?;
     reply.number(u64::from(low_number(shelf)), out)?;
     reply.say(b" n\r\n", out)
+}
+
+/// Appends the group with when it was created, if it is listed.
+fn push_times_if<S: Shelf, O: Sink>(
+    listed: bool,
+    shelf: &S,
+    reply: &mut Waiting,
+    out: &mut O,
+) -> Result<(), SinkFault>
+    requires { S.ready shelf.now ≡ true }
+    ensures said { (a : Archive) → S.holds shelf.now a
+        → Waits (if listed then times_line a else [])
+        reply.old (O.taken out.old) (O.faults out.old) reply.new (O.taken out.new)
+        (O.faults out.new) result }
+    ensures sink { O.alike out.old out.new }
+{
+    if !listed {
+        return Ok(());
+    }
+    reply.say(shelf.config().name.as_slice(), out)?;
+    reply.say(b" ", out)?;
+    reply.number(u64::from(shelf.config().born), out)?;
+    reply.say(b" piv2\r\n", out)
+}
+
+/// Appends the group with what it is for, if it is listed.
+fn push_description_if<S: Shelf, O: Sink>(
+    listed: bool,
+    shelf: &S,
+    reply: &mut Waiting,
+    out: &mut O,
+) -> Result<(), SinkFault>
+    requires { S.ready shelf.now ≡ true }
+    ensures said { (a : Archive) → S.holds shelf.now a
+        → Waits (if listed then description_line a else [])
+        reply.old (O.taken out.old) (O.faults out.old) reply.new (O.taken out.new)
+        (O.faults out.new) result }
+    ensures sink { O.alike out.old out.new }
+{
+    if !listed {
+        return Ok(());
+    }
+    reply.say(shelf.config().name.as_slice(), out)?;
+    reply.say(b"\tpublic-inbox archive\r\n", out)
+}
+
+/// Appends the ids of live messages that arrived at a moment or later, if the group is listed.
+fn push_new_if<S: Shelf, O: Sink>(
+    listed: bool,
+    moment: u64,
+    shelf: &S,
+    reply: &mut Waiting,
+    out: &mut O,
+) -> Result<(), SinkFault>
+    requires { S.ready shelf.now ≡ true }
+    ensures said { (a : Archive) → S.holds shelf.now a
+        → Waits (if listed then fact_lines (fact.ArrivedSince moment) (live a.entries) 1 greatest else [])
+        reply.old (O.taken out.old) (O.faults out.old) reply.new (O.taken out.new)
+        (O.faults out.new) result }
+    ensures sink { O.alike out.old out.new }
+{
+    if !listed {
+        return Ok(());
+    }
+    push_facts(Fact::ArrivedSince(moment), 1, GREATEST, shelf, reply, out)
 }

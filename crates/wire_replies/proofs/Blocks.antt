@@ -5,7 +5,7 @@ use Rattle.std.specs.List.{flat_map, prefix_len}
 use Rattle.mail_reader.specs.Lines.{lines_of}
 use Rattle.mail_forms.specs.WireForms.{sent, wire_of}
 use Rattle.wire_replies.specs.Blocks.{block_line, block_lines}
-use Rattle.wire_replies.specs.Changed.{is_unchanged, first_sent}
+use Rattle.wire_replies.specs.Changed.{is_unchanged, first_sent, dot_before}
 
 one-more : (n : ℕ) → 1 + n ≡ suc n
 one-more n = omega arith
@@ -49,6 +49,11 @@ pub block-nil : block_lines [] ≡ []
 unfolding block_lines
 block-nil = refl
 
--- A line that starts with a dot has one more.
-pub dotted-dot : (line : List ℕ) → block_line (46 ∷ line) ≡ 46 ∷ wire_of (46 ∷ line)
-dotted-dot line = wire-cons 46 (46 ∷ line)
+-- A line that starts with a dot has one more before its wire form.
+pub line-dotted : (line : List ℕ) → block_line line ≡ dot_before line ++ wire_of line
+line-dotted [] = refl
+line-dotted (b ∷ bs) = by (eqb b 46)
+  where
+    by : (t : Bool) → wire_of (cond t (46 ∷ b ∷ bs) (b ∷ bs)) ≡ cond t (46 ∷ []) [] ++ wire_of (b ∷ bs)
+    by true = wire-cons 46 (b ∷ bs)
+    by false = refl

@@ -1,5 +1,5 @@
--- What of a text is sent unchanged.
-use Rattle.std.specs.Prelude.{ℕ, Bool, not, ◌||◌, ◌==◌, List, [], ◌∷◌}
+-- What of a text is sent unchanged, and what is sent before it.
+use Rattle.std.specs.Prelude.{ℕ, Bool, not, ◌||◌, ◌==◌, List, [], ◌∷◌, if◌then◌else◌}
 use Rattle.mail_forms.specs.WireForms.{sent}
 
 -- The byte is sent unchanged: it isn't a line feed, a carriage return or a NUL.
@@ -10,3 +10,8 @@ is_unchanged b = not (b == 10 || b == 13 || b == 0)
 abbrev pub first_sent : List ℕ → List ℕ
 first_sent [] = []
 first_sent (b ∷ bs) = sent b
+
+-- A dot, if a line starts with one.
+abbrev pub dot_before : List ℕ → List ℕ
+dot_before [] = []
+dot_before (b ∷ bs) = if b == 46 then 46 ∷ [] else []

@@ -4,7 +4,7 @@ ghost use Rattle.std.specs.List.{prefix_len};
 ghost use Rattle.edge_io.specs.Phrases.{Says};
 ghost use Rattle.mail_forms.specs.WireForms.{wire_of};
 ghost use Rattle.wire_replies.specs.Blocks.{block_line, block_lines};
-ghost use Rattle.wire_replies.specs.Changed.{is_unchanged as unchanged, first_sent};
+ghost use Rattle.wire_replies.specs.Changed.{is_unchanged as unchanged, first_sent, dot_before};
 ghost use Rattle.wire_replies.specs.Waits.{Waits, piece_limit};
 
 use edge_io::{Sink, SinkFault};
@@ -149,10 +149,20 @@ impl Waiting {
             self.new (O.taken out.new) (O.faults out.new) result }
         ensures sink { O.alike out.old out.new }
     {
-        if line.starts_with(b".") {
-            self.say(b".", out)?;
-        }
+        self.dot(line, out)?;
         self.wire(line, out)
+    }
+
+    /// Appends a dot if a line starts with one.
+    fn dot<O: Sink>(&mut self, line: &[u8], out: &mut O) -> Result<(), SinkFault>
+        ensures said { Waits (dot_before line.now) self.old (O.taken out.old) (O.faults out.old)
+            self.new (O.taken out.new) (O.faults out.new) result }
+        ensures sink { O.alike out.old out.new }
+    {
+        match line {
+            [b'.', ..] => self.say(b".", out),
+            _ => Ok(()),
+        }
     }
 
     /// Appends the wire form of bytes.
