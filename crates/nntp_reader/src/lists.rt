@@ -179,16 +179,8 @@ pub(crate) fn say_new_news<S: Shelf, O: Sink>(
 {
     let mut reply = Waiting::new();
     reply.say(b"230 list follows\r\n", out)?;
-    if is_listed(Some(wildmat), shelf) {
-        push_facts(
-            Fact::ArrivedSince(moment),
-            1,
-            GREATEST,
-            shelf,
-            &mut reply,
-            out,
-        )?;
-    }
+    let listed = is_listed(Some(wildmat), shelf);
+    push_new_if(listed, moment, shelf, &mut reply, out)?;
     reply.finish(b".\r\n", out)
 }
 
