@@ -7,7 +7,8 @@ use Rattle.arch_base.specs.Counts.{RoseIf}
 use Rattle.arch_base.specs.declared.ids.Id20.{Id20}
 use Rattle.disk_model.specs.Disk.{Files, Content, Image, Told, Unchanged, ReadsFit, LeavesOnly}
 use Rattle.disk_model.specs.Moments.{started}
-use Rattle.arch_model.specs.Archives.{Archive}
+use Rattle.arch_model.specs.Archives.{Archive, live}
+use Rattle.arch_model.specs.Listings.{rows_of}
 use Rattle.arch_model.specs.Delivery.{Done}
 use Rattle.arch_model.specs.Keeping.{Passes, Fits, Moves, Settles, StaysShut, Comes, Ending, Accepts, Refuses, Starves, Fails, Breaks, ReadyBy, StaysReady, AnswerCause, OpeningWhy, ending, opening_answer}
 use Rattle.arch_model.specs.Shelves.{Stays, ReadCause, ReadsOnce}
@@ -28,7 +29,7 @@ use Rattle.epoch_store.specs.Reads.{AnswersQuietly}
 use Rattle.epoch_store.specs.Recovery.{RecoversWith, RecoversSomeWith}
 use Rattle.epoch_store.specs.Stores.{View, Keeps, IsStoreWith, RecoversEitherWith}
 use Rattle.archive_core.specs.Commands.{DoneBy, OnRefusal, UnlessFault, OnlyLooks}
-use Rattle.archive_core.specs.Engines.{Owning, needs_opening, Holds, is_ready, Leaves, ReadsOn, reading-same, store-left, now-left, reading-kept}
+use Rattle.archive_core.specs.Engines.{Owning, needs_opening, Holds, RowsKeepUp, is_ready, Leaves, ReadsOn, reading-same, store-left, now-left, reading-kept}
 use Rattle.archive_core.specs.Numbers.{GivesKept, GivesTextKept, GivesBlobKept, TellsOther}
 use Rattle.archive_core.proofs.Standing.{store_keeps}
 
@@ -171,14 +172,15 @@ module _ {D : Type 0} (content : D → Option Content) (moment : D → ℕ) (lef
       )
 
   -- A reopening found the archive or the one in doubt.
-  pub opened-at : (e new : Owning D) → Reopening e new.disk → ((a : Archive) (cache : List ℕ) → ReadsWith cache a (content e.disk) → IsStoreWith new.view cache a (content new.disk)) → (s : Standing) → Stands e s → (t : Standing) × Going e s new t × Settles s t
+  pub opened-at : (e new : Owning D) → Reopening e new.disk → ((a : Archive) (cache : List ℕ) → ReadsWith cache a (content e.disk) → IsStoreWith new.view cache a (content new.disk) × (new.rows ≡ rows_of (live a.entries))) → (s : Standing) → Stands e s → (t : Standing) × Going e s new t × Settles s t
   opened-at e new run opened s fits =
       let own = fits_all e s fits in
       let found = reads_one s own.0 (content e.disk) (reads_fit e.disk) own.1 in
-      let store : Holds content new found.0 = (own.0, opened found.0 own.0 found.2) in (
+      let both = opened found.0 own.0 found.2 in
+      let store : Holds content new found.0 = (own.0, both.0, both.1) in (
         standing found.0 None,
         record {
-          fits = record { settled = λ ready. (store, refl); left = λ may has. store-left content moment left_since counts_now only_now new found.0 may store has.archive };
+          fits = record { settled = λ ready. (store, refl); left = λ may has. store-left content moment left_since counts_now only_now new found.0 may (store.0, store.1) has.archive };
           passes = λ start may has left. reopening-passes e new run s fits start may tt left;
         },
         record { found = found.1; sure = refl },
@@ -206,7 +208,7 @@ module _ {D : Type 0} (content : D → Option Content) (moment : D → ℕ) (lef
       let both = fits.settled ready in (
         standing s.archive None,
         record {
-          fits = record { settled = λ at_hand. (both.0, refl); left = λ may has. store-left content moment left_since counts_now only_now e s.archive may both.0 has.archive };
+          fits = record { settled = λ at_hand. (both.0, refl); left = λ may has. store-left content moment left_since counts_now only_now e s.archive may (both.0.0, both.0.1) has.archive };
           passes = λ start may has left. left;
         },
         record { found = inl refl; sure = refl },
@@ -232,16 +234,16 @@ module _ {D : Type 0} (content : D → Option Content) (moment : D → ℕ) (lef
     )
 
     -- It was carried out, or refused.
-    taken-done : (reply : Answer) → (wanted a).answer ≡ reply → IsStoreWith new.view cache (wanted a).archive (content new.disk) → Going e (standing a None) new (standing (wanted a).archive None)
-    taken-done reply answer_is own = record {
-      fits = record { settled = λ ready. ((cache, own), refl); left = λ may has. store-left content moment left_since counts_now only_now new (wanted a).archive may (cache, own) has.archive };
+    taken-done : (reply : Answer) → (wanted a).answer ≡ reply → IsStoreWith new.view cache (wanted a).archive (content new.disk) → (is_ready new ≡ true → new.rows ≡ rows_of (live (wanted a).archive.entries)) → Going e (standing a None) new (standing (wanted a).archive None)
+    taken-done reply answer_is own rows = record {
+      fits = record { settled = λ ready. ((cache, own, rows ready), refl); left = λ may has. store-left content moment left_since counts_now only_now new (wanted a).archive may (cache, own) has.archive };
       passes = λ start may has left. taken-passes start may has.0.archive has.1.0.archive left;
     }
 
     -- Memory ran out before anything was done.
-    taken-none : OnlyLooks content moment left_since e.disk new.disk → IsStoreWith new.view cache a (content new.disk) → Going e (standing a None) new (standing a None)
-    taken-none looks own = record {
-      fits = record { settled = λ ready. ((cache, own), refl); left = λ may has. store-left content moment left_since counts_now only_now new a may (cache, own) has.archive };
+    taken-none : OnlyLooks content moment left_since e.disk new.disk → IsStoreWith new.view cache a (content new.disk) → new.rows ≡ rows_of (live a.entries) → Going e (standing a None) new (standing a None)
+    taken-none looks own rows = record {
+      fits = record { settled = λ ready. ((cache, own, rows), refl); left = λ may has. store-left content moment left_since counts_now only_now new a may (cache, own) has.archive };
       passes = λ start may has left. (
         omega (arith, left.0, looks.any_moment.later),
         left.1,
@@ -263,32 +265,35 @@ module _ {D : Type 0} (content : D → Option Content) (moment : D → ℕ) (lef
       passes = λ start may has left. taken-passes start may has.1.0.archive has.1.0.doubt left;
     }
 
-    pub taken-at : (reply : Answer) → new.stale ≡ needs_opening reply → DoneBy new.view cache a (wanted a) reply (content new.disk) → OnRefusal reply (UnlessFault reply (OnlyLooks content moment left_since e.disk new.disk)) → (t : Standing) × Going e (standing a None) new t × Comes true (standing a None) wanted reply t
-    taken-at answer.NoMemory stale done untouched = (standing a None, taken-none untouched done, inr (record { found = inl refl; sure = refl }))
-    taken-at answer.DiskFault stale done untouched = (standing a (Some (wanted a).archive), taken-failed (ap not stale), inr (record { found = a; is_found = inl refl; stands = refl }))
-    taken-at (answer.Ok number id) stale done untouched =
-        (standing (wanted a).archive None, taken-done (answer.Ok number id) done.answer_is done.store, record { found = a; is_found = inl refl; answer_is = done.answer_is; stands = refl })
-    taken-at (answer.Duplicate number) stale done untouched =
-        (standing (wanted a).archive None, taken-done (answer.Duplicate number) done.answer_is done.store, record { found = a; is_found = inl refl; answer_is = done.answer_is; stands = refl })
-    taken-at answer.NoFields stale done untouched = (standing (wanted a).archive None, taken-done answer.NoFields done.answer_is done.store, record { found = a; is_found = inl refl; answer_is = done.answer_is; stands = refl })
-    taken-at (answer.TooLarge len) stale done untouched =
-        (standing (wanted a).archive None, taken-done (answer.TooLarge len) done.answer_is done.store, record { found = a; is_found = inl refl; answer_is = done.answer_is; stands = refl })
-    taken-at (answer.Full max) stale done untouched =
-        (standing (wanted a).archive None, taken-done (answer.Full max) done.answer_is done.store, record { found = a; is_found = inl refl; answer_is = done.answer_is; stands = refl })
-    taken-at (answer.Collision number) stale done untouched =
-        (standing (wanted a).archive None, taken-done (answer.Collision number) done.answer_is done.store, record { found = a; is_found = inl refl; answer_is = done.answer_is; stands = refl })
-    taken-at answer.IsMirror stale done untouched = (standing (wanted a).archive None, taken-done answer.IsMirror done.answer_is done.store, record { found = a; is_found = inl refl; answer_is = done.answer_is; stands = refl })
-    taken-at (answer.NotLive number) stale done untouched =
-        (standing (wanted a).archive None, taken-done (answer.NotLive number) done.answer_is done.store, record { found = a; is_found = inl refl; answer_is = done.answer_is; stands = refl })
-    taken-at (answer.NoText number) stale never untouched = absurd never
-    taken-at (answer.Damaged file at) stale never untouched = absurd never
+    pub taken-at : (reply : Answer) → (needs_opening reply ≡ true → new.stale ≡ true) → DoneBy new.view cache a (wanted a) reply (content new.disk) → RowsKeepUp reply (is_ready new) new.rows a (wanted a).archive
+        → OnRefusal reply (UnlessFault reply (OnlyLooks content moment left_since e.disk new.disk)) → (t : Standing) × Going e (standing a None) new t × Comes true (standing a None) wanted reply t
+    taken-at answer.NoMemory stale done rows untouched = (standing a None, taken-none untouched done rows, inr (record { found = inl refl; sure = refl }))
+    taken-at answer.DiskFault stale done rows untouched = (standing a (Some (wanted a).archive), taken-failed (ap not (stale refl)), inr (record { found = a; is_found = inl refl; stands = refl }))
+    taken-at (answer.Ok number id) stale done rows untouched =
+        (standing (wanted a).archive None, taken-done (answer.Ok number id) done.answer_is done.store rows, record { found = a; is_found = inl refl; answer_is = done.answer_is; stands = refl })
+    taken-at (answer.Duplicate number) stale done rows untouched =
+        (standing (wanted a).archive None, taken-done (answer.Duplicate number) done.answer_is done.store (λ ready. rows), record { found = a; is_found = inl refl; answer_is = done.answer_is; stands = refl })
+    taken-at answer.NoFields stale done rows untouched =
+        (standing (wanted a).archive None, taken-done answer.NoFields done.answer_is done.store (λ ready. rows), record { found = a; is_found = inl refl; answer_is = done.answer_is; stands = refl })
+    taken-at (answer.TooLarge len) stale done rows untouched =
+        (standing (wanted a).archive None, taken-done (answer.TooLarge len) done.answer_is done.store (λ ready. rows), record { found = a; is_found = inl refl; answer_is = done.answer_is; stands = refl })
+    taken-at (answer.Full max) stale done rows untouched =
+        (standing (wanted a).archive None, taken-done (answer.Full max) done.answer_is done.store (λ ready. rows), record { found = a; is_found = inl refl; answer_is = done.answer_is; stands = refl })
+    taken-at (answer.Collision number) stale done rows untouched =
+        (standing (wanted a).archive None, taken-done (answer.Collision number) done.answer_is done.store (λ ready. rows), record { found = a; is_found = inl refl; answer_is = done.answer_is; stands = refl })
+    taken-at answer.IsMirror stale done rows untouched =
+        (standing (wanted a).archive None, taken-done answer.IsMirror done.answer_is done.store (λ ready. rows), record { found = a; is_found = inl refl; answer_is = done.answer_is; stands = refl })
+    taken-at (answer.NotLive number) stale done rows untouched =
+        (standing (wanted a).archive None, taken-done (answer.NotLive number) done.answer_is done.store (λ ready. rows), record { found = a; is_found = inl refl; answer_is = done.answer_is; stands = refl })
+    taken-at (answer.NoText number) stale never rows untouched = absurd never
+    taken-at (answer.Damaged file at) stale never rows untouched = absurd never
 
   -- Memory ran out, and nothing was done on the archive that is held.
   pub starved-at : (e : Owning D) (a : Archive) (wanted : Archive → Done) → Holds content e a → (t : Standing) × Going e (standing a None) e t × Comes true (standing a None) wanted answer.NoMemory t
   starved-at e a wanted store = (
     standing a None,
     record {
-      fits = record { settled = λ ready. (store, refl); left = λ may has. store-left content moment left_since counts_now only_now e a may store has.archive };
+      fits = record { settled = λ ready. (store, refl); left = λ may has. store-left content moment left_since counts_now only_now e a may (store.0, store.1) has.archive };
       passes = λ start may has left. left;
     },
     inr (record { found = inl refl; sure = refl }),
@@ -308,12 +313,12 @@ module _ {D : Type 0} (content : D → Option Content) (moment : D → ℕ) (lef
 
   -- A call that only reads.
   pub stays-at : (faults : D → ℕ) (e : Owning D) (disk : D) → is_ready e ≡ true → Told Unchanged (content e.disk) (content disk) → LeavesOnly moment left_since e.disk disk (Image (content e.disk)) → faults e.disk ≤ faults disk
-      → Stays (Holds content) is_ready (ReadsOn content moment left_since) (λ (o : Owning D). faults o.disk) e (record { disk = disk; view = e.view; stale = e.stale })
+      → Stays (Holds content) is_ready (ReadsOn content moment left_since) (λ (o : Owning D). faults o.disk) e (record { disk = disk; view = e.view; rows = e.rows; stale = e.stale })
   stays-at faults e disk ready files run later =
-      let read : ReadsOn content moment left_since e (record { disk = disk; view = e.view; stale = e.stale }) = record { view_is = refl; stale_is = refl; files = files; run = run } in
+      let read : ReadsOn content moment left_since e (record { disk = disk; view = e.view; rows = e.rows; stale = e.stale }) = record { view_is = refl; rows_are = refl; stale_is = refl; files = files; run = run } in
       record {
         same = read;
-        kept = (reading-kept content moment left_since counts_now only_now e (record { disk = disk; view = e.view; stale = e.stale }) read).held;
+        kept = (reading-kept content moment left_since counts_now only_now e (record { disk = disk; view = e.view; rows = e.rows; stale = e.stale }) read).held;
         at_hand = ready;
         later = later;
       }
@@ -334,8 +339,12 @@ module _ {D : Type 0} (content : D → Option Content) (moment : D → ℕ) (lef
     pub still-stale : inside.stale ≡ true → is_ready old ≡ true → ⊥
     still-stale stale ready = let now : not true ≡ true = sym (ap not stale) ∙ ap (λ (o : Owning D). is_ready o) is ∙ ready in false≢true now
 
-    pub held-inside : (a : Archive) → Holds content old a → (cache : List ℕ) × IsStoreWith inside.view cache a (content inside.disk)
+    pub held-inside : (a : Archive) → Holds content old a → Holds content inside a
     held-inside a = subst (λ (o : Owning D). Holds content o a) (sym is)
+
+    -- The rows are those of the live messages.
+    pub rows-inside : (a : Archive) → Holds content old a → inside.rows ≡ rows_of (live a.entries)
+    rows-inside a held = let own = held-inside a held in own.2
 
     pub kept-inside : (a : Archive) → Holds content old a → Keeps inside.view a
     kept-inside a held = let own = held-inside a held in store_keeps inside.view own.0 a (content inside.disk) own.1
@@ -372,7 +381,7 @@ module _ {D : Type 0} (content : D → Option Content) (moment : D → ℕ) (lef
     pub answer-cause-from : (faults : D → ℕ) (disk : D) (reply : Answer) → RoseIf (reply ≡ answer.DiskFault) (faults inside.disk) (faults disk) → AnswerCause (faults old.disk) (faults disk) reply
     answer-cause-from faults disk reply rose = subst (λ (o : Owning D). AnswerCause (faults o.disk) (faults disk) reply) is (answer-cause (faults inside.disk) (faults disk) reply rose)
 
-    pub opened-from : (new : Owning D) → Reopening inside new.disk → ((a : Archive) (cache : List ℕ) → ReadsWith cache a (content inside.disk) → IsStoreWith new.view cache a (content new.disk)) → (s : Standing) → Stands old s → (t : Standing) × Going old s new t × Settles s t
+    pub opened-from : (new : Owning D) → Reopening inside new.disk → ((a : Archive) (cache : List ℕ) → ReadsWith cache a (content inside.disk) → IsStoreWith new.view cache a (content new.disk) × (new.rows ≡ rows_of (live a.entries))) → (s : Standing) → Stands old s → (t : Standing) × Going old s new t × Settles s t
     opened-from new run opened = subst (λ (o : Owning D). (s : Standing) → Stands o s → (t : Standing) × Going o s new t × Settles s t) is (opened-at inside new run opened)
 
     pub unopened-from : (new : Owning D) (why : OpenRefusal) → Reopening inside new.disk → ((a : Archive) (cache : List ℕ) → ReadsWith cache a (content inside.disk) → IsWant why) → is_ready new ≡ false → (s : Standing) → Stands old s → (t : Standing) × Going old s new t × StaysShut s why t
@@ -381,32 +390,19 @@ module _ {D : Type 0} (content : D → Option Content) (moment : D → ℕ) (lef
     pub passes-from : (new : Owning D) → Reopening inside new.disk → (s : Standing) → Stands old s → Passes (Leaves moment left_since) old new []
     passes-from new run = subst (λ (o : Owning D). (s : Standing) → Stands o s → Passes (Leaves moment left_since) o new []) is (reopening-passes inside new run)
 
-    pub taken-from : CachesOne → (new : Owning D) (wanted : Archive → Done) (reply : Answer) → new.stale ≡ needs_opening reply → ((a : Archive) (cache : List ℕ) → IsStoreWith inside.view cache a (content inside.disk) → LeavesOnly moment left_since inside.disk new.disk (RecoversEitherWith cache a (wanted a).archive))
-        → ((a : Archive) (cache : List ℕ) → IsStoreWith inside.view cache a (content inside.disk) → DoneBy new.view cache a (wanted a) reply (content new.disk)) → OnRefusal reply (UnlessFault reply (OnlyLooks content moment left_since inside.disk new.disk)) → (a : Archive) → Holds content old a → (t : Standing) × Going old (standing a None) new t × Comes true (standing a None) wanted reply t
-    taken-from caches new wanted reply stale run done untouched =
+    pub taken-from : CachesOne → (new : Owning D) (wanted : Archive → Done) (reply : Answer) → (needs_opening reply ≡ true → new.stale ≡ true) → ((a : Archive) (cache : List ℕ) → IsStoreWith inside.view cache a (content inside.disk) → LeavesOnly moment left_since inside.disk new.disk (RecoversEitherWith cache a (wanted a).archive))
+        → ((a : Archive) (cache : List ℕ) → IsStoreWith inside.view cache a (content inside.disk) → DoneBy new.view cache a (wanted a) reply (content new.disk))
+        → ((a : Archive) (cache : List ℕ) → IsStoreWith inside.view cache a (content inside.disk) → inside.rows ≡ rows_of (live a.entries) → RowsKeepUp reply (is_ready new) new.rows a (wanted a).archive)
+        → OnRefusal reply (UnlessFault reply (OnlyLooks content moment left_since inside.disk new.disk)) → (a : Archive) → Holds content old a → (t : Standing) × Going old (standing a None) new t × Comes true (standing a None) wanted reply t
+    taken-from caches new wanted reply stale run done rows untouched =
         subst (λ (o : Owning D). (a : Archive) → Holds content o a → (t : Standing) × Going o (standing a None) new t × Comes true (standing a None) wanted reply t) is
-        (λ a held. taken-at caches inside new a held.0 held.1 wanted (run a held.0 held.1) reply stale (done a held.0 held.1) untouched)
+        (λ a held. taken-at caches inside new a held.0 held.1 wanted (run a held.0 held.1) reply stale (done a held.0 held.1) (rows a held.0 held.1 held.2) untouched)
 
     pub stays-from : (faults : D → ℕ) (disk : D) → is_ready old ≡ true → Told Unchanged (content inside.disk) (content disk) → LeavesOnly moment left_since inside.disk disk (Image (content inside.disk)) → faults inside.disk ≤ faults disk
-        → Stays (Holds content) is_ready (ReadsOn content moment left_since) (λ (o : Owning D). faults o.disk) old (record { disk = disk; view = inside.view; stale = inside.stale })
+        → Stays (Holds content) is_ready (ReadsOn content moment left_since) (λ (o : Owning D). faults o.disk) old (record { disk = disk; view = inside.view; rows = inside.rows; stale = inside.stale })
     stays-from faults disk ready files run later =
-        subst (λ (o : Owning D). is_ready o ≡ true → Stays (Holds content) is_ready (ReadsOn content moment left_since) (λ (p : Owning D). faults p.disk) o (record { disk = disk; view = inside.view; stale = inside.stale })) is
+        subst (λ (o : Owning D). is_ready o ≡ true → Stays (Holds content) is_ready (ReadsOn content moment left_since) (λ (p : Owning D). faults p.disk) o (record { disk = disk; view = inside.view; rows = inside.rows; stale = inside.stale })) is
         (λ at_hand. stays-at faults inside disk at_hand files run later) ready
-
--- The keeper is ready after the answer unless the disk failed or a file is damaged.
-pub stays-ready : (stale : Bool) (reply : Answer) → stale ≡ needs_opening reply → StaysReady true reply (not stale)
-stays-ready stale answer.NoMemory is = λ was. ap not is
-stays-ready stale answer.DiskFault is = ap not is
-stays-ready stale (answer.Ok number id) is = tt
-stays-ready stale (answer.Duplicate number) is = ap not is
-stays-ready stale answer.NoFields is = ap not is
-stays-ready stale (answer.TooLarge len) is = ap not is
-stays-ready stale (answer.Full max) is = ap not is
-stays-ready stale (answer.Collision number) is = ap not is
-stays-ready stale (answer.NotLive number) is = ap not is
-stays-ready stale (answer.NoText number) is = ap not is
-stays-ready stale answer.IsMirror is = ap not is
-stays-ready stale (answer.Damaged file at) is = ap not is
 
 -- The answer to a command whose archive wasn't reopened, which was stale then.
 pub refused-comes : (was : Bool) (s t : Standing) (wanted : Archive → Done) (why : OpenRefusal) (reply : Answer) → reply ≡ opening_answer why → (was ≡ true → false ≡ true) → StaysShut s why t → Comes was s wanted reply t

@@ -10,4 +10,9 @@ mod ByBlob
 mod ByNumber
 mod ByIndex
 mod Removing
+mod RisingPlaces
+mod KeepingUp
+mod KeptTexts
+mod OpeningRows
+mod Walking
 pub mod Engines

@@ -1,8 +1,10 @@
 -- The answers to a command on an archive on a disk, and what the disk then holds.
-use Rattle.std.specs.Prelude.{◌≡◌, ◌+◌, ◌-◌, ◌<◌, ◌^◌, ℕ, List, slice_get, Option, Some, None, Result, Ok, Err}
+use Rattle.std.specs.Prelude.{◌≡◌, ◌+◌, ◌-◌, ◌<◌, ◌^◌, ℕ, Bool, true, false, List, slice_get, Option, Some, None, Result, Ok, Err}
 use Rattle.arch_base.specs.Counts.{RoseIf}
 use Rattle.disk_model.specs.Disk.{Files, Content, WhereTold, LeavesOnly, Told, Unchanged, Image}
 use Rattle.mail_reader.specs.Ids.{own_id}
+use Rattle.mail_reader.specs.StorageTexts.{IsStorageText}
+use Rattle.git_objects.specs.Objects.{blob_id_of}
 use Rattle.arch_model.specs.declared.text_refusal.TextRefusal.{TextRefusal}
 use Rattle.arch_model.specs.declared.text_refusal.TextRefusal.TheVariants as unread
 use Rattle.arch_judge.specs.Judging.{Judges}
@@ -12,8 +14,10 @@ use Rattle.epoch_store.specs.declared.entries.StoredEntry.{StoredEntry}
 use Rattle.epoch_store.specs.Files.{epoch_file_of}
 use Rattle.arch_model.specs.Shelves.{ReadsOnce, blob_text}
 use Rattle.disk_model.specs.Synced.{IsSettled}
-use Rattle.arch_model.specs.Archives.{Archive, blob_number}
-use Rattle.arch_model.specs.Delivery.{Done, collision}
+use Rattle.arch_model.specs.Archives.{Archive, blob_number, with_entry}
+use Rattle.arch_model.specs.Delivery.{Done, collision, new_epoch}
+use Rattle.arch_model.specs.declared.command.Command.{Command}
+use Rattle.arch_model.specs.declared.command.Command.TheVariants.{Deliver, Remove}
 use Rattle.arch_model.specs.declared.answer.Answer.{Answer}
 use Rattle.arch_model.specs.declared.answer.Answer.TheVariants as answer
 use Rattle.epoch_file.specs.declared.refusal.StoreRefusal.{StoreRefusal}
@@ -201,3 +205,32 @@ pub record TakesCommand {D : Type 0} (content : D → Option Content) (moment : 
   pub cause : RoseIf (reply ≡ answer.DiskFault) (faults old) (faults new)
   pub for_command : IsForCommand reply
   pub count : ReadsOnce (reads old) (reads new)
+
+-- The command is a delivery.
+abbrev pub is_delivery : Command → Bool
+is_delivery (Deliver bytes) = true
+is_delivery (Remove number) = false
+
+-- What holds of a delivery.
+abbrev pub IfDelivery : Bool → Type 0 → Type 0
+IfDelivery true P = P
+IfDelivery false P = Unit {0}
+
+-- The text of a delivery that was accepted is a storage text, and the answer has its blob id.
+abbrev pub TellsText : Answer → List ℕ → Type 0
+TellsText (answer.Ok number id) text = IsStorageText text × (id ≡ blob_id_of text)
+TellsText (answer.Duplicate number) text = Unit {0}
+TellsText answer.NoFields text = Unit {0}
+TellsText (answer.TooLarge len) text = Unit {0}
+TellsText (answer.Full max) text = Unit {0}
+TellsText (answer.Collision number) text = Unit {0}
+TellsText (answer.NotLive number) text = Unit {0}
+TellsText (answer.NoText number) text = Unit {0}
+TellsText answer.IsMirror text = Unit {0}
+TellsText answer.DiskFault text = Unit {0}
+TellsText (answer.Damaged file offset) text = Unit {0}
+TellsText answer.NoMemory text = Unit {0}
+
+-- An accepted delivery kept this text, as the last message of the archive before.
+abbrev pub KeepsText : Archive → Done → ℕ → List ℕ → Type 0
+KeepsText a wanted moment text = wanted.archive ≡ with_entry a (new_epoch a) text moment

@@ -11,6 +11,8 @@ mod disk_removal_tests;
 #[cfg(test)]
 mod engine_tests;
 #[cfg(test)]
+mod listing_tests;
+#[cfg(test)]
 mod model_tests;
 #[cfg(test)]
 mod reading_tests;

@@ -9,10 +9,11 @@ use Rattle.arch_base.specs.declared.ids.Id20.{Id20}
 use Rattle.epoch_store.specs.declared.entries.StoredEntry.{StoredEntry}
 use Rattle.epoch_store.specs.Stores.{View, IsStoreWith, RecoversEitherWith}
 use Rattle.archive_core.specs.Kept.{IndexesStored}
-use Rattle.archive_core.specs.Placing.{message_places, ends_place}
+use Rattle.archive_core.specs.Placing.{message_places, ends_place, PlacesRise}
 use Rattle.archive_core.specs.declared.placing.MessagePlace.{MessagePlace}
 use Rattle.archive_core.proofs.Indexes.{indexes-ended}
 use Rattle.archive_core.proofs.Removing.{named-at, removed-is, places-ended, written-back}
+use Rattle.archive_core.proofs.RisingPlaces.{rise-ended}
 use Rattle.archive_core.proofs.Standing.{store_keeps}
 use Rattle.archive_core.proofs.archive.DiskArchive.end_message.Goals as goal
 
@@ -30,9 +31,12 @@ returns-then-not-is_named-clause-done g c = λ a cache store room shown.
 pub invariant_of-self : goal.invariant_of-self
 invariant_of-self g c =
     let ended : ends_place c.args.number c.as_mut_slice.result.now ≡ ends_place c.args.number (message_places 0 c.self.inside.store.entries) = ap (ends_place c.args.number) (c.as_mut_slice.ensures.value ∙ c.self.invariant.1) in
-    let long : c.self.inside.places.len ≡ length c.end_place.new.places = sym (c.end_place.auto.places ∙ c.as_mut_slice.ensures.len) in (
+    let rise : PlacesRise c.as_mut_slice.result.now = subst PlacesRise (sym c.as_mut_slice.ensures.value) c.self.invariant.2 in
+    let long : c.self.inside.places.len ≡ length c.end_place.new.places = sym (c.end_place.auto.places ∙ c.as_mut_slice.ensures.len) in
+    let whole = written-back c.end_place.new.places _ c.self.inside.places.len long ∙ c.end_place.ensures rise in (
       indexes-ended c.self.inside.store c.remove_entry.new.self c.self.inside.index c.end_text.new.index c.args.number c.args.text.now c.self.invariant.0 c.end_text.ensures c.in-Ok.ensures.ended,
-      written-back c.end_place.new.places _ c.self.inside.places.len long ∙ c.end_place.ensures ∙ ended ∙ places-ended c.self.inside.store c.remove_entry.new.self c.args.number c.args.text.now c.in-Ok.ensures.ended,
+      whole ∙ ended ∙ places-ended c.self.inside.store c.remove_entry.new.self c.args.number c.args.text.now c.in-Ok.ensures.ended,
+      subst PlacesRise (sym whole) (rise-ended 0 c.args.number c.as_mut_slice.result.now rise),
     )
 
 pub returns-in-Ok-clause-any_moment : goal.returns-in-Ok-clause-any_moment
