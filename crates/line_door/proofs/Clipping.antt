@@ -2,7 +2,7 @@
 use Rattle.std.proofs.Common.{◌≡◌, ◌≤◌, ℕ, zero, suc, List, [], ◌∷◌, ◌++◌, length, take, eqb, Bool, true, false, None, refl, sym, ap, ◌∙◌, append-nil, arith}
 use Rattle.std.proofs.lemmas.Bool.{ne_eqb}
 use Rattle.std.proofs.lemmas.List.{length-take-le, get_or-take}
-use Rattle.line_door.specs.Clipped.{clipped_from, clipped}
+use Rattle.line_door.specs.Clipped.{clipped_from, clipped, ClippedLaw}
 use Rattle.line_door.specs.LineLaws.{NoFeed}
 use Rattle.line_door.specs.Lines.{first_line}
 use Rattle.line_door.specs.Skipping.{Passing, Taken, Skipped, Unended, passed, skipping_front, is_ended, held_of}
@@ -126,3 +126,12 @@ clipped-ended limit bytes = by (skipping_front limit bytes) refl
     by (Taken line rest) e = ap is_ended (clipped-taken limit bytes line rest e) ∙ sym (ap is_ended e)
     by (Skipped rest) e = ap is_ended (clipped-skipped limit bytes rest e) ∙ sym (ap is_ended e)
     by Unended e = ap is_ended (clipped-unended limit bytes e) ∙ sym (ap is_ended e)
+
+pub clipped_laws : ClippedLaw
+clipped_laws = record {
+  taken = λ limit bytes line rest e. clipped-taken limit bytes line rest e;
+  skipped = λ limit bytes rest e. clipped-skipped limit bytes rest e;
+  part = λ limit bytes e. clipped-part limit bytes e;
+  unended = λ limit bytes e. clipped-unended limit bytes e;
+  again = λ limit bytes more. clipped-again limit bytes more;
+}
