@@ -195,7 +195,16 @@ impl Waiting {
         ensures sink { O.alike out.old out.new }
     {
         self.say(front, out)?;
-        match back {
+        self.wire_first(back, out)
+    }
+
+    /// Appends what is sent for the first of some bytes, if there is one.
+    fn wire_first<O: Sink>(&mut self, bytes: &[u8], out: &mut O) -> Result<(), SinkFault>
+        ensures said { Waits (first_sent bytes.now) self.old (O.taken out.old) (O.faults out.old)
+            self.new (O.taken out.new) (O.faults out.new) result }
+        ensures sink { O.alike out.old out.new }
+    {
+        match bytes {
             [] => Ok(()),
             [b'\n', ..] => self.say(b"\r\n", out),
             [b'\r' | 0, ..] => self.say(b" ", out),
