@@ -8,16 +8,11 @@ use Rattle.edge_io.specs.declared.sink.SinkFault.{SinkFault}
 abbrev pub piece_limit : ℕ
 piece_limit = 4096
 
--- How words were appended to those that wait: some from the front were written, and the others wait.
--- If a write failed, a prefix of all of them was taken, and the count of faults rose.
-abbrev pub Appended : List ℕ → List ℕ → Option (List ℕ) → ℕ → List ℕ → Option (List ℕ) → ℕ
+-- Words were appended to those that wait: some from the front were written, and the others wait. If a
+-- write failed, a prefix of all of them was taken, and the count of faults rose.
+abbrev pub Waits : List ℕ → List ℕ → Option (List ℕ) → ℕ → List ℕ → Option (List ℕ) → ℕ
     → Result Unit SinkFault → Type 0
-Appended words old out lost new out' lost' (Ok done) =
+Waits words old out lost new out' lost' (Ok done) =
     (lost' ≡ lost) × ((sent : List ℕ) × (out' ≡ plus out sent) × (sent ++ new ≡ old ++ words))
-Appended words old out lost new out' lost' (Err fault) = (lost ≤ lost') × Rose lost lost'
+Waits words old out lost new out' lost' (Err fault) = (lost ≤ lost') × Rose lost lost'
     × ((n : ℕ) × (out' ≡ plus out (take n (old ++ words))))
-
--- Words were appended to those that wait before a sink.
-pub record Waits (words old : List ℕ) (out : Option (List ℕ)) (lost : ℕ) (new : List ℕ)
-    (out' : Option (List ℕ)) (lost' : ℕ) (said : Result Unit SinkFault) : Type 0 where
-  pub appended : Appended words old out lost new out' lost' said
