@@ -5,7 +5,7 @@ use Rattle.std.proofs.lemmas.List.{length-take-le, get_or-take, take_min}
 use Rattle.std.proofs.lemmas.Slice.{take-put_mid}
 use Rattle.std.proofs.Math.Seq.{take-append-add}
 use borrow.Rule.Slice.PartMut.{put_mid}
-use Rattle.line_door.specs.Clipped.{clipped_from, clipped}
+use Rattle.line_door.specs.Clipped.{clipped_from, clipped, ClippedLaw}
 use Rattle.line_door.specs.LineLaws.{NoFeed}
 use Rattle.line_door.specs.Lines.{first_line}
 use Rattle.line_door.specs.Skipping.{Passing, Taken, Skipped, Unended, passed, skipping_front, is_ended, held_of}
@@ -148,3 +148,12 @@ held-written limit n len k array held bytes front new fits long is count part sa
     ∙ ap (λ (x : List ℕ). x ++ new) (sym is)
     ∙ ap (λ (x : List ℕ). held ++ x) same
     ∙ held-appended limit n held bytes front (omega (arith, size, fits)) (count ∙ ap (λ (x : ℕ). min (length bytes) (limit - x)) (sym size)) part
+
+pub clipped_laws : ClippedLaw
+clipped_laws = record {
+  taken = λ limit bytes line rest e. clipped-taken limit bytes line rest e;
+  skipped = λ limit bytes rest e. clipped-skipped limit bytes rest e;
+  part = λ limit bytes e. clipped-part limit bytes e;
+  unended = λ limit bytes e. clipped-unended limit bytes e;
+  again = λ limit bytes more. clipped-again limit bytes more;
+}
