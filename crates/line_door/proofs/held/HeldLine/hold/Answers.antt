@@ -1,4 +1,4 @@
-use Rattle.std.proofs.Common.{◌≡◌, ◌++◌, ◌+◌, ◌≤◌, length, take, arith, ap, sym, ◌∙◌}
+use Rattle.std.proofs.Common.{◌++◌, arith, ap, sym, ◌∙◌}
 use Rattle.line_door.specs.Skipping.{skipping_front}
 use Rattle.line_door.proofs.Clipping.{held-written, held-unended}
 use Rattle.line_door.proofs.held.HeldLine.hold.Goals as goal
