@@ -8,6 +8,8 @@ mod line;
 mod skipping;
 
 pub use held::HeldLine;
-pub use laws::{calls_law, cut_law, lifting_law, line_law, pieces_law, plain_law, skipping_law};
+pub use laws::{
+    calls_law, clipped_law, cut_law, lifting_law, line_law, pieces_law, plain_law, skipping_law,
+};
 pub use line::{Ahead, line_content, next_in};
 pub use skipping::{Passage, next_passing};

@@ -1,5 +1,5 @@
 -- Phrases, one after another.
-use Rattle.std.proofs.Common.{◌≡◌, ◌+◌, ◌<◌, ◌≤◌, ℕ, List, [], ◌++◌, length, drop, get_or, Option, Result, Ok, Err, ap}
+use Rattle.std.proofs.Common.{◌≡◌, ◌+◌, ◌<◌, ◌≤◌, ℕ, List, [], ◌++◌, length, drop, get_or, Option, Ok, Err, ap}
 use Rattle.std.proofs.lemmas.List.{drop_more, drop_all}
 use Rattle.edge_io.specs.declared.sink.SinkFault.{SinkFault}
 use Rattle.wire_replies.specs.Phrases.{words_in, words_of}

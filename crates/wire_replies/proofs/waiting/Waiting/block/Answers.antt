@@ -1,4 +1,4 @@
-use Rattle.std.proofs.Common.{Ok, ◌≡◌, ◌++◌, ◌∷◌, ◌∙◌, [], ap, sym, refl, arith}
+use Rattle.std.proofs.Common.{Ok, ◌≡◌, ◌∷◌, ◌∙◌, [], ap, arith}
 use Rattle.std.proofs.lemmas.List.{nil_from_length}
 use Rattle.std.proofs.lemmas.Bool.Decides.{nat_tests}
 use Rattle.mail_reader.specs.Lines.{lines_of}

@@ -1,4 +1,4 @@
-use Rattle.std.proofs.Common.{◌++◌, [], append-nil, ap}
+use Rattle.std.proofs.Common.{[], append-nil}
 use Rattle.wire_replies.specs.Phrases.{words_of}
 use Rattle.wire_replies.proofs.Wording.{Waits-flushed, Says-failed}
 use Rattle.wire_replies.proofs.waiting.Waiting.finish.Goals as goal

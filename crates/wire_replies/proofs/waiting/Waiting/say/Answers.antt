@@ -1,4 +1,4 @@
-use Rattle.std.proofs.Common.{Ok, ◌++◌, ◌∙◌, ap, sym, refl, arith}
+use Rattle.std.proofs.Common.{Ok}
 use Rattle.wire_replies.proofs.Wording.{sofar-none, sofar-more, sofar-end, sofar-lost, split-joined, Waits-put}
 use Rattle.wire_replies.proofs.waiting.Waiting.say.Goals as goal
 
