@@ -38,7 +38,7 @@ pub(crate) fn say_part<S: Shelf, O: Sink>(
 ) -> Result<(), SinkFault>
     requires { S.ready shelf.old ≡ true }
     ensures acts { (moment : ℕ) (a : Archive) (rest : List ℕ) → S.holds shelf.old a
-        → Acts (said_to moment a group.old (commands.Reads part (article_of article)) rest)
+        → Acts (said_to moment a group.old (commands.Reads part (article_of article.entry)) rest)
         (outside (O.taken out.old) (S.faults shelf.old) (O.faults out.old))
         (held_if (is_ok result) (reader group.new rest)) a
         (outside (O.taken out.new) (S.faults shelf.new) (O.faults out.new)) }
@@ -165,10 +165,10 @@ pub(crate) fn say_stat<S: Shelf, O: Sink>(
 ) -> Result<(), SinkFault>
     requires { S.ready shelf.now ≡ true }
     ensures said { (a : Archive) → S.holds shelf.now a
-        → Says (chosen_words a (choice_of a group.old (article_of article)))
+        → Says (chosen_words a (choice_of a group.old (article_of article.entry)))
         (O.taken out.old) (O.faults out.old) (O.taken out.new) (O.faults out.new) result }
     ensures group { (a : Archive) → S.holds shelf.now a
-        → group.new ≡ group_chosen group.old (choice_of a group.old (article_of article)) }
+        → group.new ≡ group_chosen group.old (choice_of a group.old (article_of article.entry)) }
     ensures sink { O.alike out.old out.new }
 {
     match choose(*group, article, shelf) {

@@ -56,7 +56,7 @@ pub(crate) fn say_field<S: Shelf, O: Sink>(
     requires { S.ready shelf.old ≡ true }
     ensures acts { (moment : ℕ) (a : Archive) (rest : List ℕ) → S.holds shelf.old a
         → Acts (said_to moment a group
-        (commands.Headers (commands.Field name.now) (articles_of articles)) rest)
+        (commands.Headers (commands.Field name.now) (articles_of articles.entry)) rest)
         (outside (O.taken out.old) (S.faults shelf.old) (O.faults out.old))
         (held_if (continues result) (reader group rest)) a
         (outside (O.taken out.new) (S.faults shelf.new) (O.faults out.new)) }

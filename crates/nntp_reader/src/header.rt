@@ -31,7 +31,7 @@ pub(crate) fn say_facts<S: Shelf, O: Sink>(
 ) -> Result<(), SinkFault>
     requires { S.ready shelf.now ≡ true }
     ensures said { (a : Archive) → S.holds shelf.now a
-        → Says (facts_words start.now fact a group (articles_of articles))
+        → Says (facts_words start.now fact a group (articles_of articles.entry))
         (O.taken out.old) (O.faults out.old) (O.taken out.new) (O.faults out.new) result }
     ensures sink { O.alike out.old out.new }
 {
