@@ -4,5 +4,5 @@ pub mod Acting
 pub mod Turning
 pub mod Streams
 pub mod Doors
-pub mod Moments
+pub mod Digits
 pub mod Replying
