@@ -169,15 +169,15 @@ module _ (a : Archive) (g : Group) (name : List ℕ) (range : Range) (rest : Lis
   begun-lost n new k next lost =
       range-lost a g name range rest i k lost.0 (lost.1.0 ∙ before.kept)
       (sofar-lost (fields_block name (live a.entries) range.first range.last) [] i.out i.lost (fields_left name (live a.entries) begun at range.last) waiting j.out j.lost before.so_far
-          (start_if (not begun) ++ field_at name (live a.entries) n) (fields_left name (live a.entries) true (n + 1) range.last) k.out k.lost lost.0
-          (left-value name (live a.entries) begun at range.last n (fields-rest name (live a.entries) at range.last n next)) lost.1.1)
+      (start_if (not begun) ++ field_at name (live a.entries) n) (fields_left name (live a.entries) true (n + 1) range.last) k.out k.lost lost.0
+      (left-value name (live a.entries) begun at range.last n (fields-rest name (live a.entries) at range.last n next)) lost.1.1)
 
   -- The next text was not read after others were said, and what waits is written.
   pub begun-short : (n : ℕ) (new : List ℕ) (k m : Outside) (sent : Result Unit SinkFault) → IsValue name n begun (text_of (live a.entries) n) waiting j value.Short new k → m.disk ≡ k.disk → Says new k.out k.lost m.out m.lost sent → Acts (range_said a g name range rest) i None a m
   begun-short n new k m sent short same said =
       let on : Says waiting j.out j.lost m.out m.lost sent = subst (λ (x : List ℕ). Says x j.out j.lost m.out m.lost sent) short.1
       (subst (λ (o : Option (List ℕ)). Says new o j.lost m.out m.lost sent) short.2
-          (subst (λ (l : ℕ). Says new k.out l m.out m.lost sent) short.3 said)) in
+      (subst (λ (l : ℕ). Says new k.out l m.out m.lost sent) short.3 said)) in
       range-stopped a g name range rest at begun i m before.so_far.front sent before.so_far.joined (before.some short.0)
       (cause-on i.disk j.disk k.disk m.disk before.kept same short.5) (let later = short.4 in omega (arith, before.kept, same))
       (Waits-flushed before.so_far.front [] waiting i.out j.out m.out i.lost j.lost m.lost tt sent before.so_far.waits on)
@@ -194,7 +194,7 @@ module _ (a : Archive) (g : Group) (name : List ℕ) (range : Range) (rest : Lis
   begun-all k sent there next same said =
       range-all a g name range rest i k sent (same ∙ before.kept)
       (rw (before.so_far.joined ∙ ap (λ (x : List ℕ). before.so_far.front ++ x) (left-none name (live a.entries) begun at range.first range.last there next (λ h. (before.none h).0)))
-          (Waits-ended before.so_far.front block_end [] waiting i.out j.out k.out i.lost j.lost k.lost tt sent before.so_far.waits said))
+      (Waits-ended before.so_far.front block_end [] waiting i.out j.out k.out i.lost j.lost k.lost tt sent before.so_far.waits said))
 
 -- HDR of a field over a range of which one is live says what the range says.
 pub range-is : (moment : ℕ) (a : Archive) (g : Group) (name : List ℕ) (range : Range) (n : ℕ) (rest : List ℕ) (way : Way) → range_start a g range ≡ Ok n
