@@ -1,7 +1,10 @@
 -- What is kept of bytes goes on as all the bytes would.
-use Rattle.std.proofs.Common.{◌≡◌, ◌≤◌, ℕ, zero, suc, List, [], ◌∷◌, ◌++◌, length, take, eqb, Bool, true, false, None, refl, sym, ap, ◌∙◌, append-nil, arith}
+use Rattle.std.proofs.Common.{◌≡◌, ◌≤◌, ℕ, zero, suc, List, [], ◌∷◌, ◌++◌, ◌+◌, ◌-◌, min, length, take, eqb, Bool, true, false, None, refl, sym, ap, ◌∙◌, append-nil, arith}
 use Rattle.std.proofs.lemmas.Bool.{ne_eqb}
-use Rattle.std.proofs.lemmas.List.{length-take-le, get_or-take}
+use Rattle.std.proofs.lemmas.List.{length-take-le, get_or-take, take_min}
+use Rattle.std.proofs.lemmas.Slice.{take-put_mid}
+use Rattle.std.proofs.Math.Seq.{take-append-add}
+use borrow.Rule.Slice.PartMut.{put_mid}
 use Rattle.line_door.specs.Clipped.{clipped_from, clipped, ClippedLaw}
 use Rattle.line_door.specs.LineLaws.{NoFeed}
 use Rattle.line_door.specs.Lines.{first_line}
@@ -107,7 +110,7 @@ pub clipped-part : (limit : ℕ) (bytes : List ℕ) → skipping_front limit byt
 unfolding clipped
 clipped-part limit bytes e = cut-part limit limit bytes (first_line-no_feed bytes (passed-none limit (first_line bytes) e))
 
-held-unended : (limit : ℕ) (bytes : List ℕ) → skipping_front limit bytes ≡ Unended → skipping_front limit (held_of limit bytes) ≡ Unended
+pub held-unended : (limit : ℕ) (bytes : List ℕ) → skipping_front limit bytes ≡ Unended → skipping_front limit (held_of limit bytes) ≡ Unended
 held-unended limit bytes e =
     ap (skipping_front limit) (sym (append-nil (held_of limit bytes)))
     ∙ passing-held limit bytes [] (passed-none limit (first_line bytes) e)
@@ -126,6 +129,25 @@ clipped-ended limit bytes = by (skipping_front limit bytes) refl
     by (Taken line rest) e = ap is_ended (clipped-taken limit bytes line rest e) ∙ sym (ap is_ended e)
     by (Skipped rest) e = ap is_ended (clipped-skipped limit bytes rest e) ∙ sym (ap is_ended e)
     by Unended e = ap is_ended (clipped-unended limit bytes e) ∙ sym (ap is_ended e)
+
+-- The front of more bytes, for which there is room, is held after those that are held.
+held-appended : (limit n : ℕ) (held bytes front : List ℕ) → length held ≤ limit → n ≡ min (length bytes) (limit - length held) → front ≡ take n bytes → held ++ front ≡ held_of limit (held ++ bytes)
+held-appended limit n held bytes front fits is part =
+    let room : ℕ = limit - length held in
+    let all : limit ≡ length held + room = omega (arith, fits) in
+    let some : n ≡ min room (length bytes) = omega (arith, is) in
+    ap (λ (x : List ℕ). held ++ x) (part ∙ ap (λ (k : ℕ). take k bytes) some ∙ take_min room bytes)
+    ∙ sym (ap (λ (k : ℕ). take k (held ++ bytes)) all ∙ take-append-add held bytes room)
+
+-- What the array of held bytes has at its front after such a write.
+pub held-written : (limit n len k : ℕ) (array held bytes front new : List ℕ) → len ≤ limit → limit ≤ length array → held ≡ take len array → n ≡ min (length bytes) (limit - len) → front ≡ take n bytes → new ≡ front
+    → take (len + length front) (put_mid len k array new) ≡ held_of limit (held ++ bytes)
+held-written limit n len k array held bytes front new fits long is count part same =
+    let size : length held ≡ len = ap length is ∙ length-take-le len array (omega (arith, fits, long)) in
+    take-put_mid len k array new (len + length front) (omega (arith, ap length same)) (omega (arith, fits, long))
+    ∙ ap (λ (x : List ℕ). x ++ new) (sym is)
+    ∙ ap (λ (x : List ℕ). held ++ x) same
+    ∙ held-appended limit n held bytes front (omega (arith, size, fits)) (count ∙ ap (λ (x : ℕ). min (length bytes) (limit - x)) (sym size)) part
 
 pub clipped_laws : ClippedLaw
 clipped_laws = record {

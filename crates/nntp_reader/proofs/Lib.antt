@@ -4,4 +4,4 @@ pub mod Acting
 pub mod Turning
 pub mod Streams
 pub mod Doors
-pub mod Moments
+pub mod Digits

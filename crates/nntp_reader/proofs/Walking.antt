@@ -86,25 +86,25 @@ first-none [] e = refl
 first-none (m ∷ ms) e = absurd (cc)
 
 -- The first live number of the range is live, and the others are those after it.
-live-rest : (entries : List Entry) (first count n : ℕ) → first_of (live_from entries first count) ≡ Some n → (after : ℕ) × (n + 1 + after ≡ first + count) × (live_from entries first count ≡ n ∷ live_from entries (n + 1) after)
+live-rest : (entries : List Entry) (first count n : ℕ) → first_of (live_from entries first count) ≡ Some n → (after : ℕ) × (first ≤ n) × (n + 1 + after ≡ first + count) × (live_from entries first count ≡ n ∷ live_from entries (n + 1) after)
 live-rest entries first zero n e = absurd (cc)
 live-rest entries first (suc count) n e = by (is_live entries first) refl (λ f. live-rest entries (first + 1) count n f)
   where
-    by : (t : Bool) → is_live entries first ≡ t → (first_of (live_from entries (first + 1) count) ≡ Some n → (after : ℕ) × (n + 1 + after ≡ first + 1 + count) × (live_from entries (first + 1) count ≡ n ∷ live_from entries (n + 1) after))
-        → (after : ℕ) × (n + 1 + after ≡ first + suc count) × (live_from entries first (suc count) ≡ n ∷ live_from entries (n + 1) after)
+    by : (t : Bool) → is_live entries first ≡ t → (first_of (live_from entries (first + 1) count) ≡ Some n → (after : ℕ) × (first + 1 ≤ n) × (n + 1 + after ≡ first + 1 + count) × (live_from entries (first + 1) count ≡ n ∷ live_from entries (n + 1) after))
+        → (after : ℕ) × (first ≤ n) × (n + 1 + after ≡ first + suc count) × (live_from entries first (suc count) ≡ n ∷ live_from entries (n + 1) after)
     by true alive more =
         let same : first ≡ n = let f = sym (ap first_of (take_one entries first count alive)) ∙ e in cc in
-        (count, omega (arith, same), take_one entries first count alive ∙ ap (λ (x : ℕ). x ∷ live_from entries (x + 1) count) same)
+        (count, omega (arith, same), omega (arith, same), take_one entries first count alive ∙ ap (λ (x : ℕ). x ∷ live_from entries (x + 1) count) same)
     by false gone more =
         let rest = more (sym (ap first_of (skip entries first count gone)) ∙ e) in
-        (rest.0, omega (arith, rest.1), skip entries first count gone ∙ rest.2)
+        (rest.0, omega (arith, rest.1), omega (arith, rest.2), skip entries first count gone ∙ rest.3)
 
 pub range-rest : (entries : List Entry) (first last n : ℕ) → first_of (live_in entries first last) ≡ Some n → live_in entries first last ≡ n ∷ live_in entries (n + 1) last
 unfolding live_in
 range-rest entries first last n e =
     let rest = live-rest entries first (last + 1 - first) n e in
-    let count : rest.0 ≡ last + 1 - (n + 1) = omega (arith, rest.1) in
-    rest.2 ∙ ap (λ (c : ℕ). n ∷ live_from entries (n + 1) c) count
+    let count : rest.0 ≡ last + 1 - (n + 1) = omega (arith, rest.1, rest.2) in
+    rest.3 ∙ ap (λ (c : ℕ). n ∷ live_from entries (n + 1) c) count
 
 -- The lines of a range, one number after another.
 pub facts-rest : (what : Fact) (entries : List Entry) (first last n : ℕ) → first_of (live_in entries first last) ≡ Some n → fact_lines what entries first last ≡ line_at what entries n ++ fact_lines what entries (n + 1) last
@@ -157,12 +157,23 @@ pub greatest-found : (entries : List Entry) (n m : ℕ) → IsGreatestLive entri
 unfolding live_in
 greatest-found entries n m greatest =
     let size : n + 1 - 0 ≡ m + suc (n - m) = omega (arith, greatest.0) in
-    let rest = live-last entries 0 m (n - m) greatest.1 (λ k low high. greatest.2 k low (omega (arith, high, greatest.0))) in
-    ap last_of (ap (live_from entries 0) size ∙ rest.1) ∙ last-of-append rest.0 m
+    let here : 0 + m ≡ m = omega arith in
+    let rest = live-last entries 0 m (n - m) (subst (λ (k : ℕ). is_some (text_of entries k) ≡ true) (sym here) greatest.1) (λ k low high. greatest.2 k (omega (arith, low)) (omega (arith, high, greatest.0))) in
+    ap last_of (ap (live_from entries 0) size ∙ rest.1 ∙ ap (λ (k : ℕ). rest.0 ++ k ∷ []) here) ∙ last-of-append rest.0 m
 
 pub greatest-none : (entries : List Entry) (n : ℕ) → IsGreatestLive entries n None → greatest_below entries (suc n) ≡ None
 unfolding live_in
 greatest-none entries n none = ap last_of (live-none entries 0 (n + 1 - 0) (λ m low high. none m (omega (arith, high))))
+
+-- What a shelf finds up to the number before `n`.
+pub greatest-of : (entries : List Entry) (n : ℕ) (found : Option ℕ) → 0 < n → IsGreatestLive entries (n - 1) found → found ≡ greatest_below entries n
+greatest-of entries zero found more greatest = absurd (omega arith)
+greatest-of entries (suc n) None more none =
+    let here : suc n - 1 ≡ n = omega arith in
+    sym (greatest-none entries n (subst (λ (k : ℕ). IsGreatestLive entries k None) here none))
+greatest-of entries (suc n) (Some m) more greatest =
+    let here : suc n - 1 ≡ n = omega arith in
+    sym (greatest-found entries n m (subst (λ (k : ℕ). IsGreatestLive entries k (Some m)) here greatest))
 
 -- How many numbers are left up to the last, from the next one on.
 abbrev pub numbers_left : ℕ → Option ℕ → ℕ

@@ -42,7 +42,7 @@ pub(crate) fn say_order<S: Shelf, O: Sink>(
     requires ready { S.ready shelf.old ≡ true }
     requires moment { moment ≤ last_moment }
     ensures acts { (a : Archive) (rest : List ℕ) → S.holds shelf.old a
-        → Acts (said_to moment a group.old (meant order) rest)
+        → Acts (said_to moment a group.old (meant order.entry) rest)
         (outside (O.taken out.old) (S.faults shelf.old) (O.faults out.old))
         (held_if (continues result) (reader group.new rest)) a
         (outside (O.taken out.new) (S.faults shelf.new) (O.faults out.new)) }
@@ -100,7 +100,7 @@ fn say_header<S: Shelf, O: Sink>(
     requires { S.ready shelf.old ≡ true }
     ensures acts { (moment : ℕ) (a : Archive) (rest : List ℕ) → S.holds shelf.old a
         → Acts (said_to moment a group
-        (commands.Headers (header_of header) (articles_of articles)) rest)
+        (commands.Headers (header_of header.entry) (articles_of articles.entry)) rest)
         (outside (O.taken out.old) (S.faults shelf.old) (O.faults out.old))
         (held_if (continues result) (reader group rest)) a
         (outside (O.taken out.new) (S.faults shelf.new) (O.faults out.new)) }

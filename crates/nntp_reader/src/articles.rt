@@ -1,12 +1,10 @@
 //! What ARTICLE, HEAD, BODY, STAT, NEXT and LAST say.
-ghost use Rattle.std.specs.Prelude.{◌≡◌, ◌≤◌, ◌++◌, ◌∷◌, ℕ, List, length, true, is_ok, is_some, option_copied, decimal};
+ghost use Rattle.std.specs.Prelude.{◌≡◌, ◌≤◌, ℕ, List, length, true, is_ok, is_some, option_copied};
 ghost use Rattle.line_door.specs.Acts.{outside, Acts, held_if};
 ghost use Rattle.arch_model.specs.Archives.{Archive, live, text_of};
 ghost use Rattle.arch_model.specs.Overviews.{id_fact};
 ghost use Rattle.arch_model.specs.Shelves.{Stays};
 ghost use Rattle.edge_io.specs.Phrases.{Says};
-ghost use Rattle.wire_replies.specs.Blocks.{crlf_line};
-ghost use Rattle.wire_replies.specs.Waits.{Waits};
 ghost use Rattle.nntp_reader.specs.Articles.{header_of, part_code, part_of as bytes_of_part, part_words, text_words, row_id, stat_words, chosen_words, group_chosen, step_words, step_after};
 ghost use Rattle.nntp_reader.specs.Choices.{choice_of, next_of, previous_of};
 ghost use Rattle.nntp_reader.specs.Commands as commands;
@@ -24,7 +22,7 @@ use arch_model::{Row, Shelf};
 use edge_io::{Sink, SinkFault};
 use mail_reader::{body, fields, fields_are_front, own_id};
 use std::alloc::Global;
-use wire_replies::Waiting;
+use wire_replies::{Phrase, send};
 
 /// Says a part of the named article, or why there is none, or why its text was not read.
 ///
@@ -40,7 +38,7 @@ pub(crate) fn say_part<S: Shelf, O: Sink>(
 ) -> Result<(), SinkFault>
     requires { S.ready shelf.old ≡ true }
     ensures acts { (moment : ℕ) (a : Archive) (rest : List ℕ) → S.holds shelf.old a
-        → Acts (said_to moment a group.old (commands.Reads part (article_of article)) rest)
+        → Acts (said_to moment a group.old (commands.Reads part (article_of article.entry)) rest)
         (outside (O.taken out.old) (S.faults shelf.old) (O.faults out.old))
         (held_if (is_ok result) (reader group.new rest)) a
         (outside (O.taken out.new) (S.faults shelf.new) (O.faults out.new)) }
@@ -88,41 +86,29 @@ fn say_text<O: Sink>(part: Part, shown: u32, text: &[u8], out: &mut O) -> Result
         (O.taken out.new) (O.faults out.new) result }
     ensures sink { O.alike out.old out.new }
 {
-    let mut reply = Waiting::new();
-    push_code(part, &mut reply, out)?;
-    push_status(shown, id_of(text), &mut reply, out)?;
-    reply.block(part_of(part, text), out)?;
-    reply.finish(b".\r\n", out)
+    send(
+        &[
+            Phrase::Words(code(part)),
+            Phrase::Number(u64::from(shown)),
+            Phrase::Words(b" "),
+            Phrase::Words(id_of(text)),
+            Phrase::Words(b"\r\n"),
+            Phrase::Block(part_of(part, text)),
+            Phrase::Words(b".\r\n"),
+        ],
+        out,
+    )
 }
 
-/// Appends the code of a part.
-fn push_code<O: Sink>(part: Part, reply: &mut Waiting, out: &mut O) -> Result<(), SinkFault>
-    ensures said { Waits (part_code part) reply.old (O.taken out.old) (O.faults out.old) reply.new
-        (O.taken out.new) (O.faults out.new) result }
-    ensures sink { O.alike out.old out.new }
+/// Returns the code of a part.
+fn code(part: Part) -> &'static [u8]
+    ensures { result.now ≡ part_code part }
 {
     match part {
-        Part::Article => reply.say(b"220 ", out),
-        Part::Head => reply.say(b"221 ", out),
-        Part::Body => reply.say(b"222 ", out),
+        Part::Article => b"220 ",
+        Part::Head => b"221 ",
+        Part::Body => b"222 ",
     }
-}
-
-/// Appends a number that is shown, and an id.
-fn push_status<O: Sink>(
-    shown: u32,
-    id: &[u8],
-    reply: &mut Waiting,
-    out: &mut O,
-) -> Result<(), SinkFault>
-    ensures said { Waits (decimal shown ++ 32 ∷ crlf_line id.now) reply.old (O.taken out.old)
-        (O.faults out.old) reply.new (O.taken out.new) (O.faults out.new) result }
-    ensures sink { O.alike out.old out.new }
-{
-    reply.number(u64::from(shown), out)?;
-    reply.say(b" ", out)?;
-    reply.say(id, out)?;
-    reply.say(b"\r\n", out)
 }
 
 /// Returns the own id of a text, or nothing if it has none.
@@ -179,10 +165,10 @@ pub(crate) fn say_stat<S: Shelf, O: Sink>(
 ) -> Result<(), SinkFault>
     requires { S.ready shelf.now ≡ true }
     ensures said { (a : Archive) → S.holds shelf.now a
-        → Says (chosen_words a (choice_of a group.old (article_of article)))
+        → Says (chosen_words a (choice_of a group.old (article_of article.entry)))
         (O.taken out.old) (O.faults out.old) (O.taken out.new) (O.faults out.new) result }
     ensures group { (a : Archive) → S.holds shelf.now a
-        → group.new ≡ group_chosen group.old (choice_of a group.old (article_of article)) }
+        → group.new ≡ group_chosen group.old (choice_of a group.old (article_of article.entry)) }
     ensures sink { O.alike out.old out.new }
 {
     match choose(*group, article, shelf) {
@@ -263,10 +249,16 @@ fn say_number_and_id<S: Shelf, O: Sink>(
         (O.taken out.old) (O.faults out.old) (O.taken out.new) (O.faults out.new) result }
     ensures sink { O.alike out.old out.new }
 {
-    let mut reply = Waiting::new();
-    reply.say(b"223 ", out)?;
-    push_status(shown, id_of_row(shelf.row(number)), &mut reply, out)?;
-    reply.finish(b"", out)
+    send(
+        &[
+            Phrase::Words(b"223 "),
+            Phrase::Number(u64::from(shown)),
+            Phrase::Words(b" "),
+            Phrase::Words(id_of_row(shelf.row(number))),
+            Phrase::Words(b"\r\n"),
+        ],
+        out,
+    )
 }
 
 /// Returns the id of a row, or nothing without one.

@@ -30,7 +30,7 @@ pub(crate) fn choose<S: Shelf>(
 ) -> Result<Chosen, Notice>
     requires { S.ready shelf.now ≡ true }
     ensures value { (a : Archive) → S.holds shelf.now a
-        → result ≡ choice_of a group (article_of article) }
+        → result ≡ choice_of a group (article_of article.entry) }
     ensures live { (a : Archive) → S.holds shelf.now a
         → IfOk result (λ c. is_some (text_of (live a.entries) c.number) ≡ true) }
 {

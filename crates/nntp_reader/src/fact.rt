@@ -8,7 +8,7 @@ ghost use Rattle.nntp_reader.specs.Facts.{header_line, new_line, fact_line};
 
 use arch_model::{Row, Shelf};
 use edge_io::{Sink, SinkFault};
-use wire_replies::Waiting;
+use wire_replies::{Phrase, Waiting};
 
 /// What is said of a message by its row.
 #[derive(Clone, Copy, Debug, PartialEq, Eq, Drop)]
@@ -55,8 +55,10 @@ fn push_number<O: Sink>(shown: u32, reply: &mut Waiting, out: &mut O) -> Result<
         reply.new (O.taken out.new) (O.faults out.new) result }
     ensures sink { O.alike out.old out.new }
 {
-    reply.number(u64::from(shown), out)?;
-    reply.say(b"\r\n", out)
+    reply.push(
+        &[Phrase::Number(u64::from(shown)), Phrase::Words(b"\r\n")],
+        out,
+    )
 }
 
 /// Appends the line of a row.
@@ -91,10 +93,15 @@ fn push_over<O: Sink>(
         (O.faults out.old) reply.new (O.taken out.new) (O.faults out.new) result }
     ensures sink { O.alike out.old out.new }
 {
-    reply.number(u64::from(shown), out)?;
-    reply.say(b"\t", out)?;
-    reply.say(over, out)?;
-    reply.say(b"\r\n", out)
+    reply.push(
+        &[
+            Phrase::Number(u64::from(shown)),
+            Phrase::Words(b"\t"),
+            Phrase::Words(over),
+            Phrase::Words(b"\r\n"),
+        ],
+        out,
+    )
 }
 
 /// Appends a number that is shown, and a count.
@@ -108,27 +115,15 @@ fn push_count<O: Sink>(
         (O.faults out.old) reply.new (O.taken out.new) (O.faults out.new) result }
     ensures sink { O.alike out.old out.new }
 {
-    reply.number(u64::from(shown), out)?;
-    reply.say(b" ", out)?;
-    reply.number(count, out)?;
-    reply.say(b"\r\n", out)
-}
-
-/// Appends a number that is shown, and a value of HDR.
-pub(crate) fn push_value<O: Sink>(
-    shown: u32,
-    value: &[u8],
-    reply: &mut Waiting,
-    out: &mut O,
-) -> Result<(), SinkFault>
-    ensures said { Waits (header_line shown value.now) reply.old (O.taken out.old)
-        (O.faults out.old) reply.new (O.taken out.new) (O.faults out.new) result }
-    ensures sink { O.alike out.old out.new }
-{
-    reply.number(u64::from(shown), out)?;
-    reply.say(b" ", out)?;
-    reply.say(value, out)?;
-    reply.say(b"\r\n", out)
+    reply.push(
+        &[
+            Phrase::Number(u64::from(shown)),
+            Phrase::Words(b" "),
+            Phrase::Number(count),
+            Phrase::Words(b"\r\n"),
+        ],
+        out,
+    )
 }
 
 /// Appends the id of a row that arrived at a moment or later.
@@ -145,6 +140,8 @@ fn push_new<O: Sink>(
     if row.arrived < moment {
         return Ok(());
     }
-    reply.say(row.id.as_slice(), out)?;
-    reply.say(b"\r\n", out)
+    reply.push(
+        &[Phrase::Words(row.id.as_slice()), Phrase::Words(b"\r\n")],
+        out,
+    )
 }

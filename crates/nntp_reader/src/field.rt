@@ -12,10 +12,9 @@ ghost use Rattle.nntp_reader.specs.Door.{reader, said_to, range_said};
 ghost use Rattle.nntp_reader.specs.Facts.{header_line};
 ghost use Rattle.nntp_reader.specs.Headers.{header_start, field_line};
 ghost use Rattle.nntp_reader.specs.Numbers.{live_in, first_of};
-ghost use Rattle.nntp_reader.specs.Sessions.{articles_of, start_if, ReadsValue, SaysOrNot, IsValue};
+ghost use Rattle.nntp_reader.specs.Sessions.{articles_of, start_if as start_if_of, ReadsValue, SaysOrNot, IsValue};
 
 use crate::choice::{Chosen, choose, live_after, live_within, range_start};
-use crate::fact::push_value;
 use crate::group::Group;
 use crate::notice::say_notice;
 use crate::order::Span;
@@ -26,7 +25,7 @@ use edge_io::{Sink, SinkFault};
 use mail_forms::flat_first;
 use nntp_words::Range;
 use std::alloc::Global;
-use wire_replies::Waiting;
+use wire_replies::{Phrase, Waiting, send};
 
 /// What became of the value of one message.
 #[derive(Clone, Copy, Drop)]
@@ -57,7 +56,7 @@ pub(crate) fn say_field<S: Shelf, O: Sink>(
     requires { S.ready shelf.old ≡ true }
     ensures acts { (moment : ℕ) (a : Archive) (rest : List ℕ) → S.holds shelf.old a
         → Acts (said_to moment a group
-        (commands.Headers (commands.Field name.now) (articles_of articles)) rest)
+        (commands.Headers (commands.Field name.now) (articles_of articles.entry)) rest)
         (outside (O.taken out.old) (S.faults shelf.old) (O.faults out.old))
         (held_if (continues result) (reader group rest)) a
         (outside (O.taken out.new) (S.faults shelf.new) (O.faults out.new)) }
@@ -107,9 +106,16 @@ fn say_block<O: Sink>(shown: u32, value: &[u8], out: &mut O) -> Result<(), SinkF
         (O.taken out.old) (O.faults out.old) (O.taken out.new) (O.faults out.new) result }
     ensures sink { O.alike out.old out.new }
 {
-    let mut reply = Waiting::new();
-    push_started(false, shown, value, &mut reply, out)?;
-    reply.finish(b".\r\n", out)
+    send(
+        &[
+            Phrase::Words(b"225 headers follow\r\n"),
+            Phrase::Number(u64::from(shown)),
+            Phrase::Words(b" "),
+            Phrase::Words(value),
+            Phrase::Words(b"\r\n.\r\n"),
+        ],
+        out,
+    )
 }
 
 /// Says a field of the live messages in a range of which one is live, and returns whether the
@@ -149,7 +155,7 @@ fn say_range<S: Shelf, O: Sink>(
             Value::Lost => return Next::Close,
         }
     }
-    Next::after(reply.finish(b".\r\n", out))
+    Next::after(reply.finish(&[Phrase::Words(b".\r\n")], out))
 }
 
 /// Appends the value of one message to a reply that has begun or not, or says why it isn't read.
@@ -201,24 +207,31 @@ fn push_started<O: Sink>(
     reply: &mut Waiting,
     out: &mut O,
 ) -> Result<(), SinkFault>
-    ensures said { Waits (start_if (not begun) ++ header_line shown value.now) reply.old
+    ensures said { Waits (start_if_of (not begun) ++ header_line shown value.now) reply.old
         (O.taken out.old) (O.faults out.old) reply.new (O.taken out.new) (O.faults out.new) result }
     ensures sink { O.alike out.old out.new }
 {
-    push_start_if(!begun, reply, out)?;
-    push_value(shown, value, reply, out)
+    reply.push(
+        &[
+            Phrase::Words(start_if(!begun)),
+            Phrase::Number(u64::from(shown)),
+            Phrase::Words(b" "),
+            Phrase::Words(value),
+            Phrase::Words(b"\r\n"),
+        ],
+        out,
+    )
 }
 
-/// Appends the first line of the reply, if it is wanted.
-fn push_start_if<O: Sink>(wanted: bool, reply: &mut Waiting, out: &mut O) -> Result<(), SinkFault>
-    ensures said { Waits (start_if wanted) reply.old (O.taken out.old) (O.faults out.old) reply.new
-        (O.taken out.new) (O.faults out.new) result }
-    ensures sink { O.alike out.old out.new }
+/// Returns the first line of the reply if it is wanted, and else nothing.
+fn start_if(wanted: bool) -> &'static [u8]
+    ensures { result.now ≡ start_if_of wanted }
 {
-    if !wanted {
-        return Ok(());
+    if wanted {
+        b"225 headers follow\r\n"
+    } else {
+        b""
     }
-    reply.say(b"225 headers follow\r\n", out)
 }
 
 /// Reads the value of a field of a live message: the flat one of the first field with the name, or

@@ -63,7 +63,7 @@ fn read_arguments(verb: Verb, year: u16, rest: &[u8]) -> Order<'_>
 
 /// Returns a command if no word follows.
 fn alone<'a>(order: Order<'a>, rest: &[u8]) -> Order<'a>
-    ensures { meant result ≡ commands.alone (meant order) (words_of rest.now) }
+    ensures { meant result ≡ commands.alone (meant order.entry) (words_of rest.now) }
 {
     match next_word(rest) {
         None => order,
@@ -184,7 +184,7 @@ fn articles_named(word: &[u8]) -> Option<Span<'_>>
 
 /// Returns the command that gives a part of an article, if there is one.
 fn read_of(part: Part, article: Option<Named<'_>>) -> Order<'_>
-    ensures { meant result ≡ commands.read_of part (option_map article_of article) }
+    ensures { meant result ≡ commands.read_of part (option_map article_of article.entry) }
 {
     match article {
         None => Order::Mistaken,
@@ -194,7 +194,7 @@ fn read_of(part: Part, article: Option<Named<'_>>) -> Order<'_>
 
 /// Returns STAT of an article, if there is one.
 fn stat_of(article: Option<Named<'_>>) -> Order<'_>
-    ensures { meant result ≡ commands.stat_of (option_map article_of article) }
+    ensures { meant result ≡ commands.stat_of (option_map article_of article.entry) }
 {
     match article {
         None => Order::Mistaken,
@@ -225,7 +225,8 @@ fn read_header(rest: &[u8]) -> Order<'_>
 /// Returns HDR of a header and articles, if both are there.
 fn headers_of<'a>(header: Option<Asked<'a>>, articles: Option<Span<'a>>) -> Order<'a>
     ensures { meant result
-        ≡ commands.headers_of (option_map header_of header) (option_map articles_of articles) }
+        ≡ commands.headers_of (option_map header_of header.entry)
+        (option_map articles_of articles.entry) }
 {
     match (header, articles) {
         (Some(header), Some(articles)) => Order::Header(header, articles),

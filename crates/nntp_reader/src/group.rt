@@ -1,19 +1,19 @@
 //! The group of a session, and what GROUP and LISTGROUP say.
-ghost use Rattle.std.specs.Prelude.{◌≡◌, true, [], Some, None};
+ghost use Rattle.std.specs.Prelude.{◌≡◌, ◌++◌, true, [], Some, None};
 ghost use Rattle.arch_model.specs.Archives.{Archive, live};
 ghost use Rattle.edge_io.specs.Phrases.{Says};
-ghost use Rattle.wire_replies.specs.Waits.{Waits};
+ghost use Rattle.wire_replies.specs.Phrases.{words_of};
 ghost use Rattle.nntp_reader.specs.Groups.{low, high, group_head, group_line, selected as selected_of, is_group as is_group_of, group_words, group_after, group_list, list_group_words, list_group_after};
 ghost use Rattle.nntp_reader.specs.Numbers.{least_live};
 
 use crate::choice::live_within;
 use crate::fact::Fact;
 use crate::notice::{Notice, say_notice};
-use crate::ranges::push_facts;
+use crate::ranges::say_lines;
 use arch_model::Shelf;
 use edge_io::{Sink, SinkFault};
 use nntp_words::Range;
-use wire_replies::Waiting;
+use wire_replies::{Phrase, send};
 
 /// The greatest number that an article may have.
 const GREATEST: u32 = 2_147_483_647;
@@ -55,9 +55,7 @@ fn say_selected<S: Shelf, O: Sink>(shelf: &S, out: &mut O) -> Result<(), SinkFau
         (O.taken out.old) (O.faults out.old) (O.taken out.new) (O.faults out.new) result }
     ensures sink { O.alike out.old out.new }
 {
-    let mut reply = Waiting::new();
-    push_head(shelf, &mut reply, out)?;
-    reply.finish(b"\r\n", out)
+    send(&head(shelf, b"\r\n"), out)
 }
 
 /// Says what LISTGROUP says of a name and a range, and selects the group if it has that name.
@@ -114,39 +112,27 @@ fn say_list<S: Shelf, O: Sink>(range: Range, shelf: &S, out: &mut O) -> Result<(
         (O.taken out.old) (O.faults out.old) (O.taken out.new) (O.faults out.new) result }
     ensures sink { O.alike out.old out.new }
 {
-    let mut reply = Waiting::new();
-    push_head(shelf, &mut reply, out)?;
-    reply.say(b" list follows\r\n", out)?;
-    push_facts(
-        Fact::Number,
-        range.first,
-        range.last,
-        shelf,
-        &mut reply,
-        out,
-    )?;
-    reply.finish(b".\r\n", out)
+    let start = head(shelf, b" list follows\r\n");
+    say_lines(&start, Fact::Number, range, shelf, out)
 }
 
-/// Appends the group's count, its least and greatest numbers, and its name.
-fn push_head<S: Shelf, O: Sink>(
-    shelf: &S,
-    reply: &mut Waiting,
-    out: &mut O,
-) -> Result<(), SinkFault>
+/// Returns the group's count, its least and greatest numbers and its name, and then the end of the
+/// line.
+fn head<'a, S: Shelf>(shelf: &'a S, end: &'a [u8]) -> [Phrase<'a>; 9]
     requires { S.ready shelf.now ≡ true }
-    ensures said { (a : Archive) → S.holds shelf.now a → Waits (group_head a) reply.old
-        (O.taken out.old) (O.faults out.old) reply.new (O.taken out.new) (O.faults out.new) result }
-    ensures sink { O.alike out.old out.new }
+    ensures { (a : Archive) → S.holds shelf.now a → words_of result ≡ group_head a ++ end.now }
 {
-    reply.say(b"211 ", out)?;
-    reply.number(shelf.live_count(1, GREATEST), out)?;
-    reply.say(b" ", out)?;
-    reply.number(u64::from(low_number(shelf)), out)?;
-    reply.say(b" ", out)?;
-    reply.number(u64::from(high_number(shelf)), out)?;
-    reply.say(b" ", out)?;
-    reply.say(shelf.config().name.as_slice(), out)
+    [
+        Phrase::Words(b"211 "),
+        Phrase::Number(shelf.live_count(1, GREATEST)),
+        Phrase::Words(b" "),
+        Phrase::Number(u64::from(low_number(shelf))),
+        Phrase::Words(b" "),
+        Phrase::Number(u64::from(high_number(shelf))),
+        Phrase::Words(b" "),
+        Phrase::Words(shelf.config().name.as_slice()),
+        Phrase::Words(end),
+    ]
 }
 
 /// Returns the least live number, or the next number if none is live.

@@ -4,7 +4,7 @@ ghost use Rattle.arch_model.specs.Archives.{Archive, live};
 ghost use Rattle.arch_model.specs.Listings.{row_in};
 ghost use Rattle.edge_io.specs.Phrases.{Says};
 ghost use Rattle.wire_replies.specs.Blocks.{block_end};
-ghost use Rattle.nntp_reader.specs.Facts.{fact_line, fact_lines};
+ghost use Rattle.nntp_reader.specs.Facts.{fact_line};
 ghost use Rattle.nntp_reader.specs.Headers.{facts_words};
 ghost use Rattle.nntp_reader.specs.Sessions.{articles_of};
 
@@ -13,11 +13,10 @@ use crate::fact::{Fact, push_fact};
 use crate::group::Group;
 use crate::notice::say_notice;
 use crate::order::Span;
-use crate::ranges::push_facts;
+use crate::ranges::say_lines;
 use arch_model::Shelf;
 use edge_io::{Sink, SinkFault};
-use nntp_words::Range;
-use wire_replies::Waiting;
+use wire_replies::{Phrase, Waiting};
 
 /// Says a first line and what rows give of the named articles, or why there are none.
 ///
@@ -32,7 +31,7 @@ pub(crate) fn say_facts<S: Shelf, O: Sink>(
 ) -> Result<(), SinkFault>
     requires { S.ready shelf.now ≡ true }
     ensures said { (a : Archive) → S.holds shelf.now a
-        → Says (facts_words start.now fact a group (articles_of articles))
+        → Says (facts_words start.now fact a group (articles_of articles.entry))
         (O.taken out.old) (O.faults out.old) (O.taken out.new) (O.faults out.new) result }
     ensures sink { O.alike out.old out.new }
 {
@@ -42,7 +41,7 @@ pub(crate) fn say_facts<S: Shelf, O: Sink>(
             Err(refusal) => say_notice(refusal, out),
         },
         Span::Within(range) => match range_start(group, range, shelf) {
-            Ok(_) => say_range(start, fact, range, shelf, out),
+            Ok(_) => say_lines(&[Phrase::Words(start)], fact, range, shelf, out),
             Err(refusal) => say_notice(refusal, out),
         },
     }
@@ -63,27 +62,7 @@ fn say_single<S: Shelf, O: Sink>(
     ensures sink { O.alike out.old out.new }
 {
     let mut reply = Waiting::new();
-    reply.say(start, out)?;
+    reply.push(&[Phrase::Words(start)], out)?;
     push_fact(fact, chosen.shown, chosen.number, shelf, &mut reply, out)?;
-    reply.finish(b".\r\n", out)
-}
-
-/// Says a first line and what the rows of the live messages in a range give.
-fn say_range<S: Shelf, O: Sink>(
-    start: &[u8],
-    fact: Fact,
-    range: Range,
-    shelf: &S,
-    out: &mut O,
-) -> Result<(), SinkFault>
-    requires { S.ready shelf.now ≡ true }
-    ensures said { (a : Archive) → S.holds shelf.now a → Says (start.now
-        ++ (fact_lines fact (live a.entries) range.first range.last ++ block_end))
-        (O.taken out.old) (O.faults out.old) (O.taken out.new) (O.faults out.new) result }
-    ensures sink { O.alike out.old out.new }
-{
-    let mut reply = Waiting::new();
-    reply.say(start, out)?;
-    push_facts(fact, range.first, range.last, shelf, &mut reply, out)?;
-    reply.finish(b".\r\n", out)
+    reply.finish(&[Phrase::Words(b".\r\n")], out)
 }

@@ -1,24 +1,24 @@
 //! What CAPABILITIES, HELP, LIST, NEWGROUPS and NEWNEWS say.
-ghost use Rattle.std.specs.Prelude.{◌≡◌, [], true, option_copied, if◌then◌else◌};
-ghost use Rattle.arch_model.specs.Archives.{Archive, live};
+ghost use Rattle.std.specs.Prelude.{◌≡◌, ◌++◌, [], true, option_copied, if◌then◌else◌};
+ghost use Rattle.arch_model.specs.Archives.{Archive};
 ghost use Rattle.edge_io.specs.Phrases.{Says};
-ghost use Rattle.wire_replies.specs.Waits.{Waits};
-ghost use Rattle.nntp_words.specs.Numbers.{greatest};
-ghost use Rattle.nntp_reader.specs.Facts.{fact_lines};
-ghost use Rattle.nntp_reader.specs.declared.fact.Fact.TheVariants as fact;
+ghost use Rattle.wire_replies.specs.Blocks.{block_end};
 ghost use Rattle.nntp_reader.specs.Lists.{capabilities_words, help_words, overview_format_words, header_names_words, active_line, times_line, description_line, groups_block, is_listed as is_listed_of, list_words, new_groups_words, new_news_words};
 
 use crate::fact::Fact;
 use crate::group::{high_number, low_number};
-use crate::ranges::push_facts;
+use crate::ranges::say_lines;
 use crate::verb::Listing;
 use arch_model::Shelf;
 use edge_io::{Sink, SinkFault, say};
-use nntp_words::matches;
-use wire_replies::Waiting;
+use nntp_words::{Range, matches};
+use wire_replies::{Phrase, send};
 
 /// The greatest number that an article may have.
 const GREATEST: u32 = 2_147_483_647;
+
+/// The line before a list of groups.
+const LIST_START: &[u8] = b"215 list follows\r\n";
 
 /// Says what the door can do.
 pub(crate) fn say_capabilities<O: Sink>(out: &mut O) -> Result<(), SinkFault>
@@ -26,13 +26,14 @@ pub(crate) fn say_capabilities<O: Sink>(out: &mut O) -> Result<(), SinkFault>
         (O.faults out.new) result }
     ensures sink { O.alike out.old out.new }
 {
-    let mut reply = Waiting::new();
-    reply.say(b"101 capabilities\r\nVERSION 2\r\nREADER\r\n", out)?;
-    reply.say(
-        b"LIST ACTIVE ACTIVE.TIMES HEADERS NEWSGROUPS OVERVIEW.FMT\r\n",
+    send(
+        &[
+            Phrase::Words(b"101 capabilities\r\nVERSION 2\r\nREADER\r\n"),
+            Phrase::Words(b"LIST ACTIVE ACTIVE.TIMES HEADERS NEWSGROUPS OVERVIEW.FMT\r\n"),
+            Phrase::Words(b"OVER MSGID\r\nHDR\r\nNEWNEWS\r\n.\r\n"),
+        ],
         out,
-    )?;
-    reply.finish(b"OVER MSGID\r\nHDR\r\nNEWNEWS\r\n.\r\n", out)
+    )
 }
 
 /// Says where the commands are described.
@@ -53,13 +54,13 @@ pub(crate) fn say_list<S: Shelf, O: Sink>(
 ) -> Result<(), SinkFault>
     requires { S.ready shelf.now ≡ true }
     ensures said { (a : Archive) → S.holds shelf.now a
-        → Says (list_words listing (option_copied wildmat) a)
+        → Says (list_words listing (option_copied wildmat.entry) a)
         (O.taken out.old) (O.faults out.old) (O.taken out.new) (O.faults out.new) result }
     ensures sink { O.alike out.old out.new }
 {
     let listed = is_listed(wildmat, shelf);
     match listing {
-        Listing::Active => say_active(listed, shelf, out),
+        Listing::Active => say_active(LIST_START, listed, shelf, out),
         Listing::ActiveTimes => say_times(listed, shelf, out),
         Listing::Newsgroups => say_descriptions(listed, shelf, out),
         Listing::OverviewFormat => say_overview_format(out),
@@ -71,7 +72,7 @@ pub(crate) fn say_list<S: Shelf, O: Sink>(
 fn is_listed<S: Shelf>(wildmat: Option<&[u8]>, shelf: &S) -> bool
     requires { S.ready shelf.now ≡ true }
     ensures { (a : Archive) → S.holds shelf.now a
-        → result ≡ is_listed_of (option_copied wildmat) a.config.name }
+        → result ≡ is_listed_of (option_copied wildmat.entry) a.config.name }
 {
     match wildmat {
         None => true,
@@ -79,17 +80,34 @@ fn is_listed<S: Shelf>(wildmat: Option<&[u8]>, shelf: &S) -> bool
     }
 }
 
-/// Says the list of groups with the numbers of their articles.
-fn say_active<S: Shelf, O: Sink>(listed: bool, shelf: &S, out: &mut O) -> Result<(), SinkFault>
+/// Says a first line and the group with the numbers of its articles, if it is listed.
+fn say_active<S: Shelf, O: Sink>(
+    start: &[u8],
+    listed: bool,
+    shelf: &S,
+    out: &mut O,
+) -> Result<(), SinkFault>
     requires { S.ready shelf.now ≡ true }
-    ensures said { (a : Archive) → S.holds shelf.now a → Says (groups_block listed (active_line a))
+    ensures said { (a : Archive) → S.holds shelf.now a
+        → Says (start.now ++ ((if listed then active_line a else []) ++ block_end))
         (O.taken out.old) (O.faults out.old) (O.taken out.new) (O.faults out.new) result }
     ensures sink { O.alike out.old out.new }
 {
-    let mut reply = Waiting::new();
-    reply.say(b"215 list follows\r\n", out)?;
-    push_active_if(listed, shelf, &mut reply, out)?;
-    reply.finish(b".\r\n", out)
+    if !listed {
+        return send(&[Phrase::Words(start), Phrase::Words(b".\r\n")], out);
+    }
+    send(
+        &[
+            Phrase::Words(start),
+            Phrase::Words(shelf.config().name.as_slice()),
+            Phrase::Words(b" "),
+            Phrase::Number(u64::from(high_number(shelf))),
+            Phrase::Words(b" "),
+            Phrase::Number(u64::from(low_number(shelf))),
+            Phrase::Words(b" n\r\n.\r\n"),
+        ],
+        out,
+    )
 }
 
 /// Says the list of groups with when they were created.
@@ -99,10 +117,19 @@ fn say_times<S: Shelf, O: Sink>(listed: bool, shelf: &S, out: &mut O) -> Result<
         (O.taken out.old) (O.faults out.old) (O.taken out.new) (O.faults out.new) result }
     ensures sink { O.alike out.old out.new }
 {
-    let mut reply = Waiting::new();
-    reply.say(b"215 list follows\r\n", out)?;
-    push_times_if(listed, shelf, &mut reply, out)?;
-    reply.finish(b".\r\n", out)
+    if !listed {
+        return say(b"215 list follows\r\n.\r\n", out);
+    }
+    send(
+        &[
+            Phrase::Words(LIST_START),
+            Phrase::Words(shelf.config().name.as_slice()),
+            Phrase::Words(b" "),
+            Phrase::Number(u64::from(shelf.config().born)),
+            Phrase::Words(b" piv2\r\n.\r\n"),
+        ],
+        out,
+    )
 }
 
 /// Says the list of groups with what they are for.
@@ -117,10 +144,17 @@ fn say_descriptions<S: Shelf, O: Sink>(
         (O.taken out.old) (O.faults out.old) (O.taken out.new) (O.faults out.new) result }
     ensures sink { O.alike out.old out.new }
 {
-    let mut reply = Waiting::new();
-    reply.say(b"215 list follows\r\n", out)?;
-    push_description_if(listed, shelf, &mut reply, out)?;
-    reply.finish(b".\r\n", out)
+    if !listed {
+        return say(b"215 list follows\r\n.\r\n", out);
+    }
+    send(
+        &[
+            Phrase::Words(LIST_START),
+            Phrase::Words(shelf.config().name.as_slice()),
+            Phrase::Words(b"\tpublic-inbox archive\r\n.\r\n"),
+        ],
+        out,
+    )
 }
 
 /// Says the fields of an overview line, in order.
@@ -129,10 +163,11 @@ fn say_overview_format<O: Sink>(out: &mut O) -> Result<(), SinkFault>
         (O.taken out.new) (O.faults out.new) result }
     ensures sink { O.alike out.old out.new }
 {
-    let mut reply = Waiting::new();
-    reply.say(b"215 list follows\r\nSubject:\r\nFrom:\r\nDate:\r\n", out)?;
-    reply.finish(
-        b"Message-ID:\r\nReferences:\r\n:bytes\r\n:lines\r\n.\r\n",
+    send(
+        &[
+            Phrase::Words(b"215 list follows\r\nSubject:\r\nFrom:\r\nDate:\r\n"),
+            Phrase::Words(b"Message-ID:\r\nReferences:\r\n:bytes\r\n:lines\r\n.\r\n"),
+        ],
         out,
     )
 }
@@ -158,10 +193,7 @@ pub(crate) fn say_new_groups<S: Shelf, O: Sink>(
     ensures sink { O.alike out.old out.new }
 {
     let is_new = moment <= u64::from(shelf.config().born);
-    let mut reply = Waiting::new();
-    reply.say(b"231 list follows\r\n", out)?;
-    push_active_if(is_new, shelf, &mut reply, out)?;
-    reply.finish(b".\r\n", out)
+    say_active(b"231 list follows\r\n", is_new, shelf, out)
 }
 
 /// Says the ids of live messages that arrived at a moment or later, if a wildmat matches the group.
@@ -177,98 +209,13 @@ pub(crate) fn say_new_news<S: Shelf, O: Sink>(
         (O.taken out.old) (O.faults out.old) (O.taken out.new) (O.faults out.new) result }
     ensures sink { O.alike out.old out.new }
 {
-    let mut reply = Waiting::new();
-    reply.say(b"230 list follows\r\n", out)?;
-    let listed = is_listed(Some(wildmat), shelf);
-    push_new_if(listed, moment, shelf, &mut reply, out)?;
-    reply.finish(b".\r\n", out)
-}
-
-/// Appends the group with the numbers of its articles, if it is listed.
-fn push_active_if<S: Shelf, O: Sink>(
-    listed: bool,
-    shelf: &S,
-    reply: &mut Waiting,
-    out: &mut O,
-) -> Result<(), SinkFault>
-    requires { S.ready shelf.now ≡ true }
-    ensures said { (a : Archive) → S.holds shelf.now a
-        → Waits (if listed then active_line a else []) reply.old (O.taken out.old) (O.faults out.old)
-        reply.new (O.taken out.new) (O.faults out.new) result }
-    ensures sink { O.alike out.old out.new }
-{
-    if !listed {
-        return Ok(());
+    if !is_listed(Some(wildmat), shelf) {
+        return say(b"230 list follows\r\n.\r\n", out);
     }
-    reply.say(shelf.config().name.as_slice(), out)?;
-    reply.say(b" ", out)?;
-    reply.number(u64::from(high_number(shelf)), out)?;
-    reply.say(b" ", out)?;
-    reply.number(u64::from(low_number(shelf)), out)?;
-    reply.say(b" n\r\n", out)
-}
-
-/// Appends the group with when it was created, if it is listed.
-fn push_times_if<S: Shelf, O: Sink>(
-    listed: bool,
-    shelf: &S,
-    reply: &mut Waiting,
-    out: &mut O,
-) -> Result<(), SinkFault>
-    requires { S.ready shelf.now ≡ true }
-    ensures said { (a : Archive) → S.holds shelf.now a
-        → Waits (if listed then times_line a else [])
-        reply.old (O.taken out.old) (O.faults out.old) reply.new (O.taken out.new)
-        (O.faults out.new) result }
-    ensures sink { O.alike out.old out.new }
-{
-    if !listed {
-        return Ok(());
-    }
-    reply.say(shelf.config().name.as_slice(), out)?;
-    reply.say(b" ", out)?;
-    reply.number(u64::from(shelf.config().born), out)?;
-    reply.say(b" piv2\r\n", out)
-}
-
-/// Appends the group with what it is for, if it is listed.
-fn push_description_if<S: Shelf, O: Sink>(
-    listed: bool,
-    shelf: &S,
-    reply: &mut Waiting,
-    out: &mut O,
-) -> Result<(), SinkFault>
-    requires { S.ready shelf.now ≡ true }
-    ensures said { (a : Archive) → S.holds shelf.now a
-        → Waits (if listed then description_line a else [])
-        reply.old (O.taken out.old) (O.faults out.old) reply.new (O.taken out.new)
-        (O.faults out.new) result }
-    ensures sink { O.alike out.old out.new }
-{
-    if !listed {
-        return Ok(());
-    }
-    reply.say(shelf.config().name.as_slice(), out)?;
-    reply.say(b"\tpublic-inbox archive\r\n", out)
-}
-
-/// Appends the ids of live messages that arrived at a moment or later, if the group is listed.
-fn push_new_if<S: Shelf, O: Sink>(
-    listed: bool,
-    moment: u64,
-    shelf: &S,
-    reply: &mut Waiting,
-    out: &mut O,
-) -> Result<(), SinkFault>
-    requires { S.ready shelf.now ≡ true }
-    ensures said { (a : Archive) → S.holds shelf.now a
-        → Waits (if listed then fact_lines (fact.ArrivedSince moment) (live a.entries) 1 greatest else [])
-        reply.old (O.taken out.old) (O.faults out.old) reply.new (O.taken out.new)
-        (O.faults out.new) result }
-    ensures sink { O.alike out.old out.new }
-{
-    if !listed {
-        return Ok(());
-    }
-    push_facts(Fact::ArrivedSince(moment), 1, GREATEST, shelf, reply, out)
+    let all = Range {
+        first: 1,
+        last: GREATEST,
+    };
+    let start = [Phrase::Words(b"230 list follows\r\n")];
+    say_lines(&start, Fact::ArrivedSince(moment), all, shelf, out)
 }

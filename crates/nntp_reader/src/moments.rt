@@ -25,14 +25,10 @@ fn date_line(moment: u64) -> [u8; 20]
 {
     printed_date_is_one();
     let text = print_rfc3339(moment);
-    let mut line = *b"111 yyyymmddhhmmss\r\n";
-    line[4..8].copy_from_slice(&text[..4]);
-    line[8..10].copy_from_slice(&text[5..7]);
-    line[10..12].copy_from_slice(&text[8..10]);
-    line[12..14].copy_from_slice(&text[11..13]);
-    line[14..16].copy_from_slice(&text[14..16]);
-    line[16..18].copy_from_slice(&text[17..19]);
-    line
+    [
+        b'1', b'1', b'1', b' ', text[0], text[1], text[2], text[3], text[5], text[6], text[8],
+        text[9], text[11], text[12], text[14], text[15], text[17], text[18], b'\r', b'\n',
+    ]
 }
 
 /// Returns the year of a moment, in UTC.

@@ -8,6 +8,7 @@ ghost use Rattle.nntp_reader.specs.Notices.{unread_line};
 use arch_base::{ObjectId, hex_of};
 use arch_model::TextRefusal;
 use edge_io::{Sink, SinkFault, say};
+use wire_replies::{Phrase, send};
 
 /// Writes why a text was not read.
 pub(crate) fn say_unread<O: Sink>(refusal: TextRefusal, out: &mut O) -> Result<(), SinkFault>
@@ -29,9 +30,14 @@ fn say_other_text<O: Sink>(named: &ObjectId, found: &ObjectId, out: &mut O) -> R
         (O.taken out.new) (O.faults out.new) result }
     ensures sink { O.alike out.old out.new }
 {
-    say(b"403 damaged ", out)?;
-    say(&hex_of(named), out)?;
-    say(b" ", out)?;
-    say(&hex_of(found), out)?;
-    say(b"\r\n", out)
+    send(
+        &[
+            Phrase::Words(b"403 damaged "),
+            Phrase::Words(&hex_of(named)),
+            Phrase::Words(b" "),
+            Phrase::Words(&hex_of(found)),
+            Phrase::Words(b"\r\n"),
+        ],
+        out,
+    )
 }

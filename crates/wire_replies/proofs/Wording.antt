@@ -44,10 +44,10 @@ Waits-then a b old new next out out' out'' lost lost' lost'' done (Err fault) p 
     )
 
 -- If a write fails at the first words, those that follow are lost.
-pub Waits-lost : (a b old new new' : List ℕ) (out out' : Option (List ℕ)) (lost lost' : ℕ) (fault : SinkFault) (said : Result Unit SinkFault)
-    → IsErr said → Waits a old out lost new out' lost' (Err fault) → Waits (a ++ b) old out lost new' out' lost' said
-Waits-lost a b old new new' out out' lost lost' fault (Ok all) failed p = absurd (cc failed)
-Waits-lost a b old new new' out out' lost lost' fault (Err other) failed p =
+pub Waits-lost : (a b old new : List ℕ) (out out' : Option (List ℕ)) (lost lost' : ℕ) (fault : SinkFault) (said : Result Unit SinkFault)
+    → IsErr said → Waits a old out lost [] out' lost' (Err fault) → Waits (a ++ b) old out lost new out' lost' said
+Waits-lost a b old new out out' lost lost' fault (Ok all) failed p = absurd (cc failed)
+Waits-lost a b old new out out' lost lost' fault (Err other) failed p =
     let cut = p.2 in (
       p.0,
       p.1,
@@ -82,10 +82,10 @@ Waits-filled words old mid new out out' lost lost' (Err fault) is none said =
     (said.0, said.1, (said.2.0, said.2.1 ∙ ap (λ (x : List ℕ). plus out (take said.2.0 x)) is))
 
 -- A write that failed at the words so far loses the rest, too.
-pub Says-failed : (words more old new : List ℕ) (out out' : Option (List ℕ)) (lost lost' : ℕ) (fault : SinkFault) (said : Result Unit SinkFault)
-    → IsErr said → Waits words old out lost new out' lost' (Err fault) → Says (old ++ (words ++ more)) out lost out' lost' said
-Says-failed words more old new out out' lost lost' fault (Ok all) failed p = absurd (cc failed)
-Says-failed words more old new out out' lost lost' fault (Err other) failed p =
+pub Says-failed : (words more old : List ℕ) (out out' : Option (List ℕ)) (lost lost' : ℕ) (fault : SinkFault) (said : Result Unit SinkFault)
+    → IsErr said → Waits words old out lost [] out' lost' (Err fault) → Says (old ++ (words ++ more)) out lost out' lost' said
+Says-failed words more old out out' lost lost' fault (Ok all) failed p = absurd (cc failed)
+Says-failed words more old out out' lost lost' fault (Err other) failed p =
     let cut = p.2 in (
       p.0,
       p.1,
@@ -118,10 +118,9 @@ module _ (words old : List ℕ) (out : Option (List ℕ)) (lost : ℕ) where
         rw before.joined (Waits-then before.front rest old new next out out' out'' lost lost' lost'' tt said before.waits last)
 
     -- A write fails at the next of them.
-    pub sofar-lost : (piece after next : List ℕ) (out'' : Option (List ℕ)) (lost'' : ℕ) (fault : SinkFault) (said : Result Unit SinkFault) → IsErr said → rest ≡ piece ++ after → Waits piece new out' lost' next out'' lost'' (Err fault)
-        → Waits words old out lost next out'' lost'' said
-    sofar-lost piece after next out'' lost'' fault said failed is lost_at =
-        rw (before.joined, is) (Waits-then before.front (piece ++ after) old new next out out' out'' lost lost' lost'' tt said before.waits (Waits-lost piece after new next next out' out'' lost' lost'' fault said failed lost_at))
+    pub sofar-lost : (piece after : List ℕ) (out'' : Option (List ℕ)) (lost'' : ℕ) (fault : SinkFault) → rest ≡ piece ++ after → Waits piece new out' lost' [] out'' lost'' (Err fault) → Waits words old out lost [] out'' lost'' (Err fault)
+    sofar-lost piece after out'' lost'' fault is lost_at =
+        rw (before.joined, is) (Waits-then before.front (piece ++ after) old new [] out out' out'' lost lost' lost'' tt (Err fault) before.waits (Waits-lost piece after new [] out' out'' lost' lost'' fault (Err fault) refl lost_at))
 
 -- A list that was split is its two parts.
 pub split-joined : (n : ℕ) (xs a b : List ℕ) → a ≡ take n xs → b ≡ drop n xs → xs ≡ a ++ b

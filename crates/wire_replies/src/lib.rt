@@ -3,6 +3,8 @@
 //! copied once.
 #![tactic(auto)]
 
+mod phrase;
 mod waiting;
 
-pub use waiting::Waiting;
+pub use phrase::Phrase;
+pub use waiting::{Waiting, send};

@@ -4,9 +4,11 @@ ghost use Rattle.std.specs.List.{prefix_len};
 ghost use Rattle.edge_io.specs.Phrases.{Says};
 ghost use Rattle.mail_forms.specs.WireForms.{wire_of};
 ghost use Rattle.wire_replies.specs.Blocks.{block_line, block_lines};
-ghost use Rattle.wire_replies.specs.Changed.{is_unchanged as unchanged, first_sent, dot_before};
+ghost use Rattle.wire_replies.specs.Changed.{is_unchanged as unchanged, first_sent as first_sent_of, dot_before};
+ghost use Rattle.wire_replies.specs.Phrases.{words_in, words_of};
 ghost use Rattle.wire_replies.specs.Waits.{Waits, piece_limit};
 
+use crate::phrase::Phrase;
 use edge_io::{Sink, SinkFault};
 use itoa::Buffer;
 use mail_forms::line_len;
@@ -46,11 +48,42 @@ impl Waiting {
         }
     }
 
+    /// Appends phrases. Words that wait are written when there is no more room for them.
+    ///
+    /// `SinkFault` if a write failed. A prefix of what waited and of these phrases was taken, and the
+    /// sink's count of faults rose.
+    pub fn push<O: Sink>(&mut self, phrases: &[Phrase<'_>], out: &mut O) -> Result<(), SinkFault>
+        ensures said { Waits (words_of phrases.now) self.old (O.taken out.old) (O.faults out.old)
+            self.new (O.taken out.new) (O.faults out.new) result }
+        ensures sink { O.alike out.old out.new }
+    {
+        for phrase in phrases {
+            match self.push_phrase(phrase, out) {
+                Ok(()) => {}
+                Err(fault) => return Err(fault),
+            }
+        }
+        Ok(())
+    }
+
+    /// Appends a phrase.
+    fn push_phrase<O: Sink>(&mut self, phrase: &Phrase<'_>, out: &mut O) -> Result<(), SinkFault>
+        ensures said { Waits (words_in phrase.now) self.old (O.taken out.old) (O.faults out.old)
+            self.new (O.taken out.new) (O.faults out.new) result }
+        ensures sink { O.alike out.old out.new }
+    {
+        match *phrase {
+            Phrase::Words(words) => self.say(words, out),
+            Phrase::Number(number) => self.number(number, out),
+            Phrase::Block(text) => self.block(text, out),
+        }
+    }
+
     /// Appends words. Words that wait are written when there is no more room for them.
     ///
     /// `SinkFault` if a write failed. A prefix of what waited and of these words was taken, and the
     /// sink's count of faults rose.
-    pub fn say<O: Sink>(&mut self, words: &[u8], out: &mut O) -> Result<(), SinkFault>
+    fn say<O: Sink>(&mut self, words: &[u8], out: &mut O) -> Result<(), SinkFault>
         ensures said { Waits words.now self.old (O.taken out.old) (O.faults out.old) self.new
             (O.taken out.new) (O.faults out.new) result }
         ensures sink { O.alike out.old out.new }
@@ -104,18 +137,18 @@ impl Waiting {
         out.write(&self.bytes[..len])
     }
 
-    /// Appends words, and writes all that wait.
-    pub fn finish<O: Sink>(&mut self, words: &[u8], out: &mut O) -> Result<(), SinkFault>
-        ensures said { Says (self.old ++ words.now) (O.taken out.old) (O.faults out.old)
+    /// Appends phrases, and writes all that wait.
+    pub fn finish<O: Sink>(&mut self, phrases: &[Phrase<'_>], out: &mut O) -> Result<(), SinkFault>
+        ensures said { Says (self.old ++ words_of phrases.now) (O.taken out.old) (O.faults out.old)
             (O.taken out.new) (O.faults out.new) result }
         ensures sink { O.alike out.old out.new }
     {
-        self.say(words, out)?;
+        self.push(phrases, out)?;
         self.flush(out)
     }
 
     /// Appends a number in decimal.
-    pub fn number<O: Sink>(&mut self, number: u64, out: &mut O) -> Result<(), SinkFault>
+    fn number<O: Sink>(&mut self, number: u64, out: &mut O) -> Result<(), SinkFault>
         ensures said { Waits (decimal number) self.old (O.taken out.old) (O.faults out.old) self.new
             (O.taken out.new) (O.faults out.new) result }
         ensures sink { O.alike out.old out.new }
@@ -127,7 +160,7 @@ impl Waiting {
     /// Appends the lines of a text as a block has them: in their wire form, and with one more dot
     /// before each that starts with one.
     #[tactic(auto, unfolding(crate::specs::Blocks::block_lines))]
-    pub fn block<O: Sink>(&mut self, text: &[u8], out: &mut O) -> Result<(), SinkFault>
+    fn block<O: Sink>(&mut self, text: &[u8], out: &mut O) -> Result<(), SinkFault>
         ensures said { Waits (block_lines text.now) self.old (O.taken out.old) (O.faults out.old)
             self.new (O.taken out.new) (O.faults out.new) result }
         ensures sink { O.alike out.old out.new }
@@ -190,18 +223,26 @@ impl Waiting {
         back: &[u8],
         out: &mut O,
     ) -> Result<(), SinkFault>
-        ensures said { Waits (front.now ++ first_sent back.now) self.old (O.taken out.old)
+        ensures said { Waits (front.now ++ first_sent_of back.now) self.old (O.taken out.old)
             (O.faults out.old) self.new (O.taken out.new) (O.faults out.new) result }
         ensures sink { O.alike out.old out.new }
     {
         self.say(front, out)?;
-        match back {
-            [] => Ok(()),
-            [b'\n', ..] => self.say(b"\r\n", out),
-            [b'\r' | 0, ..] => self.say(b" ", out),
-            [byte, ..] => self.say(&[*byte], out),
-        }
+        self.say(first_sent(back), out)
     }
+}
+
+/// Writes a reply of these phrases.
+///
+/// `SinkFault` if a write failed. A prefix of the reply was taken, and the sink's count of faults
+/// rose.
+pub fn send<O: Sink>(phrases: &[Phrase<'_>], out: &mut O) -> Result<(), SinkFault>
+    ensures said { Says (words_of phrases.now) (O.taken out.old) (O.faults out.old)
+        (O.taken out.new) (O.faults out.new) result }
+    ensures sink { O.alike out.old out.new }
+{
+    let mut reply = Waiting::new();
+    reply.finish(phrases, out)
 }
 
 /// Returns the number of bytes at the front that are sent unchanged.
@@ -217,6 +258,18 @@ fn is_unchanged(byte: u8) -> bool
     ensures { result ≡ unchanged byte }
 {
     !(byte == b'\n' || byte == b'\r' || byte == 0)
+}
+
+/// Returns what is sent for the first of some bytes, or nothing if there is none.
+fn first_sent(bytes: &[u8]) -> &[u8]
+    ensures { result.now ≡ first_sent_of bytes.now }
+{
+    match bytes {
+        [] => bytes,
+        [b'\n', ..] => b"\r\n",
+        [b'\r' | 0, ..] => b" ",
+        [_, ..] => bytes.split_at(1).0,
+    }
 }
 
 /// Returns the bytes without the first, if there is one.

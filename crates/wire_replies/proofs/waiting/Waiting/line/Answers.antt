@@ -6,7 +6,7 @@ use Rattle.wire_replies.proofs.waiting.Waiting.line.Goals as goal
 
 pub returns-in_err-dot-clause-said : goal.returns-in_err-dot-clause-said
 returns-in_err-dot-clause-said g c =
-    rw (line-dotted c.args.line.now) (Waits-lost (dot_before c.args.line.now) (wire_of c.args.line.now) c.args.self.now _ _ _ _ _ _ _ c.from_residual.result c.from_residual.ensures.0 c.in_err-dot.ensures.said)
+    rw (line-dotted c.args.line.now) (Waits-lost (dot_before c.args.line.now) (wire_of c.args.line.now) c.args.self.now _ _ _ _ _ _ c.from_residual.result c.from_residual.ensures.0 c.in_err-dot.ensures.said)
 
 pub returns-clause-said : goal.returns-clause-said
 returns-clause-said g c =
