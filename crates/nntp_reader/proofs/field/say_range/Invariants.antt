@@ -7,8 +7,8 @@ use Rattle.nntp_reader.proofs.Streams.{Begun}
 use Rattle.nntp_reader.proofs.Walking.{numbers_left}
 use Rattle.nntp_reader.proofs.field.say_range.Given as goal
 
-abbrev pub invariant-loop-begun : goal.invariant-loop-begun
-invariant-loop-begun g l = record {
+abbrev pub invariant-loop-next : goal.invariant-loop-next
+invariant-loop-next g l = record {
   so_far :
       (a : Archive) → g.S.Shelf.holds l.fn.shelf a →
       (at : ℕ) × (l.next ≡ first_of (live_in (live a.entries) at l.range.last))
@@ -19,5 +19,5 @@ invariant-loop-begun g l = record {
   sink : g.O.Sink.alike l.fn.out l.out;
 }
 
-abbrev pub decreases-loop-begun : goal.decreases-loop-begun
-decreases-loop-begun g l = numbers_left l.range.last l.next
+abbrev pub decreases-loop-next : goal.decreases-loop-next
+decreases-loop-next g l = numbers_left l.range.last l.next
