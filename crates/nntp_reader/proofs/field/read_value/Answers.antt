@@ -1,6 +1,5 @@
-use Rattle.std.proofs.Common.{◌≡◌, ◌∙◌, ◌++◌, List, ℕ, ap, sym, refl}
+use Rattle.std.proofs.Common.{◌≡◌, ◌∙◌, ◌++◌, List, ℕ, ap}
 use Rattle.arch_model.specs.Archives.{live}
-use Rattle.arch_model.proofs.Shelving.{undamaged-text}
 use Rattle.mail_forms.specs.NamedValues.{flat_first}
 use Rattle.nntp_reader.proofs.field.read_value.Goals as goal
 
@@ -9,7 +8,3 @@ returns-in-Ok-flat_first-clause-value g c = λ a held.
     let text = c.in-Ok.ensures.text a held in
     let read : c.as_slice.result.now ≡ text.0 = c.as_slice.ensures ∙ text.2 ∙ ap (λ (t : List ℕ). t ++ text.0) c.new-text.ensures in
     (text.0, text.1, c.in-Ok-flat_first.ensures ∙ ap (flat_first c.args.name.now) read)
-
-pub returns-in-Err-clause-value : goal.returns-in-Err-clause-value
-returns-in-Err-clause-value g c = λ a held.
-    undamaged-text (live a.entries) c.args.number c.new-text.result c.text.new.into c.in-Err.refusal (c.in-Err.ensures.text a held)

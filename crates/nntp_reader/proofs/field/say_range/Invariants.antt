@@ -7,17 +7,17 @@ use Rattle.nntp_reader.proofs.Streams.{Begun}
 use Rattle.nntp_reader.proofs.Walking.{numbers_left}
 use Rattle.nntp_reader.proofs.field.say_range.Given as goal
 
-abbrev pub invariant-loop-begun : goal.invariant-loop-begun
-invariant-loop-begun g l = record {
+abbrev pub invariant-loop-next : goal.invariant-loop-next
+invariant-loop-next g l = record {
   so_far :
       (a : Archive) → g.S.Shelf.holds l.fn.shelf a →
       (at : ℕ) × (l.next ≡ first_of (live_in (live a.entries) at l.range.last))
       × Begun l.name (live a.entries) l.range l.begun at (outside (g.O.Sink.taken l.fn.out) (g.S.Shelf.faults l.fn.shelf) (g.O.Sink.faults l.fn.out)) l.reply (outside (g.O.Sink.taken l.out) (g.S.Shelf.faults l.shelf) (g.O.Sink.faults l.out));
-  alive : (a : Archive) → g.S.Shelf.holds l.fn.shelf a → IfSome l.next (λ n. is_some (text_of (live a.entries) n) ≡ true);
+  alive : (a : Archive) → g.S.Shelf.holds l.shelf a → IfSome l.next (λ n. is_some (text_of (live a.entries) n) ≡ true);
   within : IfSome l.next (λ n. n ≤ l.range.last);
   shelf : Stays g.S.Shelf.holds g.S.Shelf.ready g.S.Shelf.alike g.S.Shelf.faults l.fn.shelf l.shelf;
   sink : g.O.Sink.alike l.fn.out l.out;
 }
 
-abbrev pub decreases-loop-begun : goal.decreases-loop-begun
-decreases-loop-begun g l = numbers_left l.range.last l.next
+abbrev pub decreases-loop-next : goal.decreases-loop-next
+decreases-loop-next g l = numbers_left l.range.last l.next
