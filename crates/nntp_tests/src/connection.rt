@@ -1,4 +1,5 @@
 //! A reader's connection to an archive in memory.
+ghost use Rattle.std.specs.Prelude.{IfSome};
 ghost use Rattle.arch_base.specs.Configs.{IsConfig};
 
 use arch_base::{Config, Name, Numbers};
@@ -9,7 +10,7 @@ use nntp_reader::NntpSession;
 use std::alloc::Global;
 
 /// When the tests read: 2024-02-01 10:01:40 UTC.
-const MOMENT: u64 = 1_706_781_700;
+pub const MOMENT: u64 = 1_706_781_700;
 
 /// The first message, which arrives at 09:50:00.
 const FIRST: &[u8] =
@@ -56,8 +57,7 @@ impl Connection {
 
     /// Removes the message with a number.
     pub fn remove(&mut self, number: u32) -> bool {
-        let answer = self.archive.command(&Command::Remove(number), MOMENT);
-        matches!(answer, Answer::Ok { .. })
+        is_ok(Keep::command(&mut self.archive, &Command::Remove(number), MOMENT))
     }
 
     /// Feeds a piece if the connection is still open.
@@ -82,7 +82,7 @@ impl Connection {
 }
 
 /// Returns whether bytes are these lines, each with a carriage return and a line feed.
-fn are_lines(bytes: &[u8], lines: &[&[u8]]) -> bool {
+pub fn are_lines(bytes: &[u8], lines: &[&[u8]]) -> bool {
     let mut rest = bytes;
     for line in lines {
         match after_line(rest, line) {
@@ -112,18 +112,36 @@ fn config(name: Name) -> Config
     }
 }
 
-/// Creates an archive without messages of the name `list`.
+/// Returns the settings of an archive of the name `list`.
+pub fn list_config() -> Option<Config>
+    ensures { IfSome result (λ made. IsConfig made) }
+{
+    Some(config(Name::read(b"list")?))
+}
+
+/// Creates an archive without messages.
 fn empty(alloc: Global) -> Option<MemArchive> {
-    let name = Name::read(b"list")?;
-    Some(MemArchive::new(alloc, config(name)))
+    Some(MemArchive::new(alloc, list_config()?))
 }
 
 /// Creates an archive of three messages, of which the second is removed.
-fn two(alloc: Global) -> Option<MemArchive> {
+pub fn two(alloc: Global) -> Option<MemArchive> {
     let mut archive = empty(alloc)?;
-    archive.command(&Command::Deliver(FIRST), 1_706_781_000);
-    archive.command(&Command::Deliver(SECOND), 1_706_781_100);
-    archive.command(&Command::Deliver(THIRD), 1_706_781_200);
-    archive.command(&Command::Remove(2), 1_706_781_300);
+    if !fill(&mut archive) {
+        return None;
+    }
     Some(archive)
+}
+
+/// Delivers three messages and removes the second, and returns whether all that was carried out.
+pub fn fill<K: Keep>(keep: &mut K) -> bool {
+    is_ok(keep.command(&Command::Deliver(FIRST), 1_706_781_000))
+        && is_ok(keep.command(&Command::Deliver(SECOND), 1_706_781_100))
+        && is_ok(keep.command(&Command::Deliver(THIRD), 1_706_781_200))
+        && is_ok(keep.command(&Command::Remove(2), 1_706_781_300))
+}
+
+/// Returns whether a command was carried out.
+fn is_ok(answer: Answer) -> bool {
+    matches!(answer, Answer::Ok { .. })
 }

@@ -6,6 +6,8 @@ mod connection;
 #[cfg(test)]
 mod empty_tests;
 #[cfg(test)]
+mod failure_tests;
+#[cfg(test)]
 mod reply_tests;
 #[cfg(test)]
 mod stream_tests;
