@@ -69,7 +69,7 @@ sound-undamaged v k i s old new reading.NoMemory texts there given finds = tt
 sound-undamaged v k i s old new (reading.Damaged named found) texts there given finds =
     let here = texts i s there in
     let same : found ≡ named = finds.2 ∙ ap blob_id_of (finds.1 here.long) ∙ here.blob ∙ sym given.1 in
-    given.2.0 same
+    given.2 same
 
 pub sound-if : (v : View) (k : Option Content) (i : ℕ) (s : StoredEntry) (old new : List ℕ) (r : Result Unit TextRefusal) → IsSound v k → slice_get v.entries i ≡ Some s → GivesText s old new r → WhereTold (FindsText v.root s old new r) k → IfErr r IsUndamaged
 sound-if v None i s old new r sound there given finds = absurd sound
@@ -81,7 +81,7 @@ pub text-other : (s : StoredEntry) (old new : List ℕ) (r : Result Unit TextRef
 text-other s old new (Ok x) given = tt
 text-other s old new (Err reading.DiskFault) given = tt
 text-other s old new (Err reading.NoMemory) given = tt
-text-other s old new (Err (reading.Damaged named found)) given = given.2.0
+text-other s old new (Err (reading.Damaged named found)) given = given.2
 
 -- There is an entry at an index below their number.
 pub entry-inside : (ss : List StoredEntry) (i : ℕ) → i < length ss → (s : StoredEntry) × (slice_get ss i ≡ Some s)
@@ -138,7 +138,7 @@ last_above number (x ∷ xs) e rise =
     let rest = last_above (x.number + 1) xs e rise.1 in
     let low : number ≤ x.number = rise.0 in
     let above : x.number + 1 ≤ e.number = rest.0 in
-    (omega (arith, low, above), omega (arith, above), rest.1)
+    (omega (arith, low, above), (omega (arith, above), rest.1))
 
 as_message : (e : Entry) → e.kind ≡ Message → e ≡ message e.number e.epoch e.text e.moment
 as_message e is = ap (λ (k : EntryKind). let f : Entry = record { kind = k; number = e.number; epoch = e.epoch; text = e.text; moment = e.moment } in f) is

@@ -1,4 +1,4 @@
-use Rattle.std.proofs.Common.{◌≡◌, ◌∙◌, ◌+◌, ◌<◌, ◌++◌, ◌∷◌, [], ℕ, true, List, length, is_ok, sym, ap, subst, arith}
+use Rattle.std.proofs.Common.{◌≡◌, ◌∙◌, ◌+◌, ◌<◌, ◌++◌, ◌∷◌, [], ℕ, true, List, length, is_ok, sym, ap, subst, arith, rules}
 use Rattle.disk_model.specs.Moments.{started}
 use Rattle.arch_model.specs.Archives.{with_entry}
 use Rattle.arch_model.specs.Delivery.{new_epoch}
