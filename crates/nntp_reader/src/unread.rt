@@ -30,15 +30,6 @@ fn say_other_text<O: Sink>(named: &ObjectId, found: &ObjectId, out: &mut O) -> R
         (O.taken out.new) (O.faults out.new) result }
     ensures sink { O.alike out.old out.new }
 {
-    say_ids(&hex_of(named), &hex_of(found), out)
-}
-
-/// Writes that a text is damaged, by both ids in hexadecimal.
-fn say_ids<'a, O: Sink>(named: &'a [u8], found: &'a [u8], out: &mut O) -> Result<(), SinkFault>
-    ensures said { Says (codes "403 damaged " ++ (named.now ++ (32 ∷ crlf_line found.now)))
-        (O.taken out.old) (O.faults out.old) (O.taken out.new) (O.faults out.new) result }
-    ensures sink { O.alike out.old out.new }
-{
     send(
         &[
             Phrase::Words(b"403 damaged "),
