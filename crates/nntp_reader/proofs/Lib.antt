@@ -5,3 +5,4 @@ pub mod Turning
 pub mod Streams
 pub mod Doors
 pub mod Digits
+pub mod Replying

@@ -1,5 +1,6 @@
 -- The acts of the code are acts of a session.
-use Rattle.std.proofs.Common.{◌≡◌, ◌+◌, ◌∙◌, inr, ℕ, Bool, true, false, List, [], ◌++◌, drop, Option, Some, None, Result, Ok, Err, is_ok, refl, sym, ap, arith}
+use Rattle.std.proofs.Common.{◌≡◌, ◌+◌, ◌∙◌, inr, ℕ, Bool, true, false, ◌<◌, List, [], ◌++◌, length, take, drop, Option, Some, None, Result, Ok, Err, is_ok, refl, sym, ap, length-append, arith}
+use Rattle.std.proofs.lemmas.List.{take_all}
 use Rattle.std.specs.Prelude.{if◌then◌else◌}
 use Rattle.edge_io.specs.Phrases.{Says}
 use Rattle.edge_io.specs.declared.sink.SinkFault.{SinkFault}
@@ -9,10 +10,12 @@ use Rattle.line_door.specs.Course.{talk, Last}
 use Rattle.line_door.specs.Lines.{content}
 use Rattle.line_door.specs.Making.{says}
 use Rattle.line_door.specs.Plain.{silent}
-use Rattle.line_door.specs.Skipping.{Passing, Taken, Skipped, Unended, skipping_front, is_ended, held_of}
+use Rattle.line_door.specs.Skipping.{Passing, Taken, Skipped, Unended, skipping_front, is_ended, held_of, IsPassage}
+use Rattle.line_door.specs.declared.skipping.Passage.TheVariants as passage
 use Rattle.line_door.proofs.Acting.{acts-by_held, acts-silent, acts-words}
-use Rattle.line_door.proofs.Clipping.{clipped-taken, clipped-skipped, clipped-part, clipped-unended}
+use Rattle.line_door.proofs.Clipping.{clipped-taken, clipped-skipped, clipped-part, clipped-unended, held-unended}
 use Rattle.line_door.proofs.Courses.{Last-done}
+use Rattle.line_door.proofs.Passages.{skipping_laws, taken-is_line}
 use Rattle.arch_model.specs.Archives.{Archive}
 use Rattle.nntp_reader.specs.Commands.{command_of}
 use Rattle.nntp_reader.specs.Dates.{year_at}
@@ -64,6 +67,29 @@ module _ (moment : ℕ) (a : Archive) (g : Group) (held piece : List ℕ) where
   turn-kept new i is kept =
       let same : new ≡ clipped longest_line (held ++ piece) = kept ∙ sym (clipped-part longest_line (held ++ piece) is) in
       (ap (reader g) same, ap (λ (b : List ℕ). is_ended (skipping_front longest_line b)) same ∙ ap is_ended (clipped-unended longest_line (held ++ piece) is), refl)
+
+-- What is held of a part of a line has no line that has ended.
+pub part-kept : (new bytes : List ℕ) → skipping_front longest_line bytes ≡ Unended → new ≡ held_of longest_line bytes → is_ended (skipping_front longest_line new) ≡ false
+part-kept new bytes is kept = ap (λ (b : List ℕ). is_ended (skipping_front longest_line b)) kept ∙ ap is_ended (held-unended longest_line bytes is)
+
+-- A line that ends in the piece, after the part of it that is held.
+pub line-held : (held bytes piece part : List ℕ) (n : ℕ) → held ≡ bytes → IsPassage longest_line held piece (passage.Line n) → part ≡ take n piece → skipping_front longest_line (bytes ++ piece) ≡ Taken (bytes ++ part) (drop (n + 1) piece)
+line-held held bytes piece part n is passage front =
+    ap (λ (x : List ℕ). skipping_front longest_line (x ++ piece)) (sym is)
+    ∙ passage.1
+    ∙ ap (λ (x : List ℕ). Taken (held ++ x) (drop (n + 1) piece)) (sym front)
+    ∙ ap (λ (x : List ℕ). Taken (x ++ part) (drop (n + 1) piece)) is
+
+-- A line has no line feed, and is short.
+pub line-part : (bytes line rest : List ℕ) → skipping_front longest_line bytes ≡ Taken line rest → skipping_front longest_line line ≡ Unended
+line-part bytes line rest is = (skipping_laws.unended longest_line line).1 (taken-is_line longest_line bytes line rest is).single
+
+pub line-short : (bytes held part rest : List ℕ) → skipping_front longest_line bytes ≡ Taken (held ++ part) rest → length held + length part < longest_line
+line-short bytes held part rest is = let short = (taken-is_line longest_line bytes (held ++ part) rest is).short in omega (arith, short, length-append held part)
+
+-- All of a short line is held.
+pub line-whole : (held line : List ℕ) → length held + length line < longest_line → held_of longest_line (held ++ line) ≡ held ++ line
+line-whole held line short = take_all longest_line (held ++ line) (omega (arith, short, length-append held line))
 
 -- A part of a line that is kept ends a course.
 pub last-kept : (moment : ℕ) (a : Archive) (r : Reader) (i : Outside) → has_request r ≡ false → Last (said moment) has_request (talk (Some r) a i) (talk (Some r) a i)

@@ -126,8 +126,8 @@ IsTurn moment a old piece i Kept new j =
 IsTurn moment a old piece i Closed new j =
     Acts (said moment a (reader old.group (clipped longest_line (old.bytes ++ piece)))) i None a j
 
--- A line takes bytes of the piece.
-abbrev pub Takes : List ℕ → Turn → Type 0
-Takes piece (Went n) = (0 < n) × (n ≤ length piece)
-Takes piece Kept = Unit {0}
-Takes piece Closed = Unit {0}
+-- A line takes bytes of the piece. What is kept has no line that has ended.
+abbrev pub Takes : List ℕ → Turn → Reader → Type 0
+Takes piece (Went n) new = (0 < n) × (n ≤ length piece)
+Takes piece Kept new = has_request new ≡ false
+Takes piece Closed new = Unit {0}

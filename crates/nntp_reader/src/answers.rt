@@ -21,12 +21,13 @@ use crate::order::{Asked, Order, Span};
 use arch_model::{Next, Shelf};
 use edge_io::Sink;
 use std::alloc::Global;
+use wire_replies::Phrase;
 
 /// The line before overview lines.
-const OVER_START: &[u8] = b"224 overview follows\r\n";
+const OVER_START: &[Phrase<'static>] = &[Phrase::Words(b"224 overview follows\r\n")];
 
 /// The line before the values of HDR.
-const HEADER_START: &[u8] = b"225 headers follow\r\n";
+const HEADER_START: &[Phrase<'static>] = &[Phrase::Words(b"225 headers follow\r\n")];
 
 /// Answers a command at a moment, and returns whether the session continues.
 ///

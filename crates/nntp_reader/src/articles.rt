@@ -263,7 +263,7 @@ fn say_number_and_id<S: Shelf, O: Sink>(
 
 /// Returns the id of a row, or nothing without one.
 fn id_of_row(row: Option<&Row>) -> &[u8]
-    ensures { result.now ≡ row_id (option_copied row) }
+    ensures { result.now ≡ row_id (option_copied row.entry) }
 {
     match row {
         Some(row) => row.id.as_slice(),

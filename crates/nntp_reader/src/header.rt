@@ -4,6 +4,7 @@ ghost use Rattle.arch_model.specs.Archives.{Archive, live};
 ghost use Rattle.arch_model.specs.Listings.{row_in};
 ghost use Rattle.edge_io.specs.Phrases.{Says};
 ghost use Rattle.wire_replies.specs.Blocks.{block_end};
+ghost use Rattle.wire_replies.specs.Phrases.{words_of};
 ghost use Rattle.nntp_reader.specs.Facts.{fact_line};
 ghost use Rattle.nntp_reader.specs.Headers.{facts_words};
 ghost use Rattle.nntp_reader.specs.Sessions.{articles_of};
@@ -22,7 +23,7 @@ use wire_replies::{Phrase, Waiting};
 ///
 /// Reads no text.
 pub(crate) fn say_facts<S: Shelf, O: Sink>(
-    start: &[u8],
+    start: &[Phrase<'_>],
     fact: Fact,
     articles: Span<'_>,
     group: Group,
@@ -31,7 +32,7 @@ pub(crate) fn say_facts<S: Shelf, O: Sink>(
 ) -> Result<(), SinkFault>
     requires { S.ready shelf.now ≡ true }
     ensures said { (a : Archive) → S.holds shelf.now a
-        → Says (facts_words start.now fact a group (articles_of articles.entry))
+        → Says (facts_words (words_of start.now) fact a group (articles_of articles.entry))
         (O.taken out.old) (O.faults out.old) (O.taken out.new) (O.faults out.new) result }
     ensures sink { O.alike out.old out.new }
 {
@@ -41,7 +42,7 @@ pub(crate) fn say_facts<S: Shelf, O: Sink>(
             Err(refusal) => say_notice(refusal, out),
         },
         Span::Within(range) => match range_start(group, range, shelf) {
-            Ok(_) => say_lines(&[Phrase::Words(start)], fact, range, shelf, out),
+            Ok(_) => say_lines(start, fact, range, shelf, out),
             Err(refusal) => say_notice(refusal, out),
         },
     }
@@ -49,20 +50,20 @@ pub(crate) fn say_facts<S: Shelf, O: Sink>(
 
 /// Says a first line and what the row of a message gives.
 fn say_single<S: Shelf, O: Sink>(
-    start: &[u8],
+    start: &[Phrase<'_>],
     fact: Fact,
     chosen: Chosen,
     shelf: &S,
     out: &mut O,
 ) -> Result<(), SinkFault>
     requires { S.ready shelf.now ≡ true }
-    ensures said { (a : Archive) → S.holds shelf.now a → Says (start.now
+    ensures said { (a : Archive) → S.holds shelf.now a → Says (words_of start.now
         ++ (fact_line fact chosen.shown (row_in (live a.entries) chosen.number) ++ block_end))
         (O.taken out.old) (O.faults out.old) (O.taken out.new) (O.faults out.new) result }
     ensures sink { O.alike out.old out.new }
 {
     let mut reply = Waiting::new();
-    reply.push(&[Phrase::Words(start)], out)?;
+    reply.push(start, out)?;
     push_fact(fact, chosen.shown, chosen.number, shelf, &mut reply, out)?;
     reply.finish(&[Phrase::Words(b".\r\n")], out)
 }

@@ -81,10 +81,10 @@ fn is_listed<S: Shelf>(wildmat: Option<&[u8]>, shelf: &S) -> bool
 }
 
 /// Says a first line and the group with the numbers of its articles, if it is listed.
-fn say_active<S: Shelf, O: Sink>(
-    start: &[u8],
+fn say_active<'a, S: Shelf, O: Sink>(
+    start: &'a [u8],
     listed: bool,
-    shelf: &S,
+    shelf: &'a S,
     out: &mut O,
 ) -> Result<(), SinkFault>
     requires { S.ready shelf.now ≡ true }

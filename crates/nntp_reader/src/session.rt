@@ -139,7 +139,7 @@ impl NntpSession {
         ensures turn { (a : Archive) → S.holds shelf.old a → IsTurn moment a self.old piece.now
             (outside (O.taken out.old) (S.faults shelf.old) (O.faults out.old)) result self.new
             (outside (O.taken out.new) (S.faults shelf.new) (O.faults out.new)) }
-        ensures takes { Takes piece.now result }
+        ensures takes { Takes piece.now result self.new }
         ensures shelf { Stays S.holds S.ready S.alike S.faults shelf.old shelf.new }
         ensures sink { O.alike out.old out.new }
     {

@@ -6,8 +6,8 @@ use Rattle.arch_model.specs.Shelves.{Stays}
 use Rattle.nntp_reader.specs.Door.{said, has_request, with_piece}
 use Rattle.nntp_reader.proofs.session.NntpSession.feed.Given as goal
 
-abbrev pub invariant-loop-rest : goal.invariant-loop-rest
-invariant-loop-rest g l = record {
+abbrev pub invariant-loop-taken : goal.invariant-loop-taken
+invariant-loop-taken g l = record {
   going :
       (a : Archive) → g.S.Shelf.holds l.fn.shelf a →
       Going (said l.moment) has_request
@@ -17,5 +17,5 @@ invariant-loop-rest g l = record {
   sink : g.O.Sink.alike l.fn.out l.out;
 }
 
-abbrev pub decreases-loop-rest : goal.decreases-loop-rest
-decreases-loop-rest g l = length l.rest
+abbrev pub decreases-loop-taken : goal.decreases-loop-taken
+decreases-loop-taken g l = length l.rest
