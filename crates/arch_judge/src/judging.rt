@@ -192,7 +192,7 @@ fn judge_room(config: &Config, next: u32, text: Bytes, blob: ObjectId) -> Verdic
         → ((moment : ℕ) → delivered a bytes moment ≡ delivered_new a text moment)
         → Judges a bytes result }
     ensures taken { TakesThis config.now next text blob result }
-    // No other cause is left.
+    // It refuses only if no number is left, or if another text has the blob id.
     ensures last { RefusesLast result }
 {
     if next > config.max {
@@ -223,7 +223,7 @@ pub fn compared(
         → Judges a bytes result }
     // A text that is taken is the one that was compared.
     ensures taken { TakesThis config.now next text blob result }
-    // No other cause is left.
+    // It refuses only if no number is left, or if another text has the blob id.
     ensures last { RefusesLast result }
     // Another text is never taken.
     ensures same { TakesSame text kept.now result }

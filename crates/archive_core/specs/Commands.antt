@@ -99,6 +99,27 @@ UnlessFault answer.IsMirror P = P
 UnlessFault (answer.Damaged file offset) P = P
 UnlessFault answer.NoMemory P = P
 
+-- What holds of a refusal before which no text is read.
+abbrev pub IfUnread : Answer → Type 0 → Type 0
+IfUnread (answer.Ok number id) P = Unit {0}
+IfUnread (answer.Duplicate number) P = P
+IfUnread answer.NoFields P = P
+IfUnread (answer.TooLarge len) P = P
+IfUnread (answer.Full max) P = Unit {0}
+IfUnread (answer.Collision number) P = Unit {0}
+IfUnread (answer.NotLive number) P = P
+IfUnread (answer.NoText number) P = P
+IfUnread answer.IsMirror P = P
+IfUnread answer.DiskFault P = Unit {0}
+IfUnread (answer.Damaged file offset) P = Unit {0}
+IfUnread answer.NoMemory P = Unit {0}
+
+-- The same of a verdict.
+abbrev pub IfRefusedUnread : Verdict → Type 0 → Type 0
+IfRefusedUnread (Take text blob number) P = Unit {0}
+IfRefusedUnread (Compare text blob number) P = Unit {0}
+IfRefusedUnread (Refuse reply) P = IfUnread reply P
+
 -- The answers to a delivery. As long as no command purges or edits, no number is without a text.
 abbrev pub AnswersDelivery : Answer → Type 0
 AnswersDelivery (answer.Ok number id) = Unit {0}
@@ -205,8 +226,9 @@ pub record OnlyLooks {D : Type 0} (content : D → Option Content) (moment : D �
 -- the root's sequence can be raised, at each moment a crash leaves the archive before the command or
 -- the one after it, and the answer and the disk then are the wanted ones. After `Ok` all that reads
 -- give is on the disk, and the root, in the other slot, goes on from the one before. Any other
--- answer leaves what is kept in memory, and, but for a fault, the content of the disk. The command
--- fails only if the count of faults rose, and reads at most once.
+-- answer leaves what is kept in memory, and, but for a fault, the content of the disk; one before
+-- which no text is read leaves the disk as it was. The command fails only if the count of faults
+-- rose, and reads at most once.
 pub record TakesCommand {D : Type 0} (content : D → Option Content) (moment : D → ℕ)
     (left_since : D → ℕ → Files → Type 0) (faults reads : D → ℕ) (old new : D)
     (before after : View) (command : Command) (wanted : Archive → Done) (reply : Answer)
@@ -222,6 +244,7 @@ pub record TakesCommand {D : Type 0} (content : D → Option Content) (moment : 
   pub slot : OnDone reply (after.slot ≡ 1 - before.slot)
   pub same : OnRefusal reply (after ≡ before)
   pub untouched : OnRefusal reply (UnlessFault reply (OnlyLooks content moment left_since old new))
+  pub unmoved : IfUnread reply (new ≡ old)
   pub sizes : UnlessFault reply (WhereTold (HasSizes after) (content new))
   pub cause : RoseIf (reply ≡ answer.DiskFault) (faults old) (faults new)
   pub for_command : IsForCommand command reply

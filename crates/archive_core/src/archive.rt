@@ -18,7 +18,7 @@ ghost use Rattle.archive_core.specs.Openings.{RefusesKindly};
 ghost use Rattle.epoch_store.specs.Promises.{MakesArchive, OpensArchive};
 ghost use Rattle.epoch_store.specs.Reads.{HasTexts};
 ghost use Rattle.epoch_store.specs.Stores.{IsStoreWith, Keeps, HasSizes, RecoversEitherWith, SeesNoDamage, GoesOn};
-ghost use Rattle.archive_core.specs.Commands.{DoneBy, OnDone, OnRefusal, UnlessFault, OnlyLooks, AnswersDelivery, AnswersRemoval, IsFaultRead, JudgesRead, IsAlone, TakesCommand, refusal_answer, unread_answer, damaged_place, IsNamed, IsTextAt, ReadsMessage, IsUnread, is_delivery, IfDelivery, TellsText, KeepsText};
+ghost use Rattle.archive_core.specs.Commands.{DoneBy, OnDone, OnRefusal, UnlessFault, OnlyLooks, AnswersDelivery, AnswersRemoval, IfUnread, IfRefusedUnread, IsFaultRead, JudgesRead, IsAlone, TakesCommand, refusal_answer, unread_answer, damaged_place, IsNamed, IsTextAt, ReadsMessage, IsUnread, is_delivery, IfDelivery, TellsText, KeepsText};
 
 use crate::entries::index_of;
 use crate::placing::{MessagePlace, are_rising, end_place, may_follow, places_of};
@@ -210,6 +210,7 @@ impl DiskArchive {
         ensures same { OnRefusal result (self.new ≡ self.old) }
         ensures untouched { OnRefusal result (UnlessFault result (OnlyLooks D.content D.moment
             D.left_since disk.old disk.new)) }
+        ensures unmoved { IfUnread result (disk.new ≡ disk.old) }
         ensures sizes { UnlessFault result (WhereTold (HasSizes self.new) (D.content disk.new)) }
         ensures cause { RoseIf (result ≡ Answer.DiskFault) (D.faults disk.old) (D.faults disk.new) }
         ensures for_command { AnswersDelivery result }
@@ -247,6 +248,7 @@ impl DiskArchive {
             → IsStoreWith self.now cache a (D.content disk.old) → IsAlone a result }
         ensures taken { TakesWhatMay self.now result }
         ensures looks { OnlyLooks D.content D.moment D.left_since disk.old disk.new }
+        ensures unmoved { IfRefusedUnread result (disk.new ≡ disk.old) }
         ensures cause { RoseIf (IsFaultRead result) (D.faults disk.old) (D.faults disk.new) }
         ensures count { ReadsOnce (D.reads disk.old) (D.reads disk.new) }
         ensures unread { (a : Archive) (cache : List ℕ)
@@ -353,6 +355,7 @@ impl DiskArchive {
         ensures same { OnRefusal result (self.new ≡ self.old) }
         ensures untouched { OnRefusal result (UnlessFault result (OnlyLooks D.content D.moment
             D.left_since disk.old disk.new)) }
+        ensures unmoved { IfUnread result (disk.new ≡ disk.old) }
         ensures sizes { UnlessFault result (WhereTold (HasSizes self.new) (D.content disk.new)) }
         ensures cause { RoseIf (result ≡ Answer.DiskFault) (D.faults disk.old) (D.faults disk.new) }
         ensures for_command { AnswersRemoval number result }
@@ -405,6 +408,8 @@ impl DiskArchive {
         ensures slot { OnDone result (self.new.slot ≡ 1 - self.old.slot) }
         ensures same { OnRefusal result (self.new ≡ self.old) }
         ensures untouched { OnRefusal result (UnlessFault result (disk.new ≡ disk.old)) }
+        // Its answers come after the text was read.
+        ensures read { IfUnread result ⊥ }
         ensures sizes { UnlessFault result (WhereTold (HasSizes self.new) (D.content disk.new)) }
         ensures cause { RoseIf (result ≡ Answer.DiskFault) (D.faults disk.old) (D.faults disk.new) }
         ensures for_command { AnswersRemoval number result }
