@@ -193,7 +193,7 @@ impl<D: Disk> Engine<D> {
             (standing a None) self.new t
             × Comes true (standing a None) (λ (b : Archive). applied b command.now moment) result t }
         ensures ready { StaysReady true result (is_ready self.new) }
-        ensures for_command { IsForCommand result }
+        ensures for_command { IsForCommand command.now result }
         ensures later { D.faults self.old.disk ≤ D.faults self.new.disk }
         ensures cause { AnswerCause (D.faults self.old.disk) (D.faults self.new.disk) result }
         // Each fault of the disk is told.

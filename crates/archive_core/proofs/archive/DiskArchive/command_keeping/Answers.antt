@@ -3,8 +3,9 @@ use Rattle.arch_model.specs.Keeping.{text_known}
 use Rattle.disk_model.specs.Disk.{LeavesOnly}
 use Rattle.arch_model.specs.Archives.{Archive}
 use Rattle.arch_model.specs.Delivery.{Done, applied}
+use Rattle.arch_model.specs.declared.command.Command.{Command}
 use Rattle.epoch_store.specs.Stores.{RecoversEitherWith}
-use Rattle.archive_core.specs.Commands.{DoneBy, OnDone, is_delivery, IfDelivery, TellsText, KeepsText}
+use Rattle.archive_core.specs.Commands.{DoneBy, OnDone, IsForCommand, is_delivery, IfDelivery, TellsText, KeepsText}
 use Rattle.archive_core.proofs.archive.DiskArchive.command_keeping.Goals as goal
 
 pub returns-in-Deliver : goal.returns-in-Deliver
@@ -19,9 +20,10 @@ returns-in-Deliver g c = record {
     slot = c.deliver.ensures.slot;
     same = c.deliver.ensures.same;
     untouched = c.deliver.ensures.untouched;
+    unmoved = c.deliver.ensures.unmoved;
     sizes = c.deliver.ensures.sizes;
     cause = c.deliver.ensures.cause;
-    for_command = c.deliver.ensures.for_command;
+    for_command = (subst (λ (m : Command). IsForCommand m c.deliver.result) (search rules) c.deliver.ensures.for_command);
     count = c.deliver.ensures.count;
   };
   unread = λ a cache store unknown. c.deliver.ensures.unread a cache store (subst (λ (t : Bool). t ≡ false) (search rules) unknown);
@@ -43,9 +45,10 @@ returns-in-Remove g c = record {
     slot = c.remove.ensures.slot;
     same = c.remove.ensures.same;
     untouched = c.remove.ensures.untouched;
+    unmoved = c.remove.ensures.unmoved;
     sizes = c.remove.ensures.sizes;
     cause = c.remove.ensures.cause;
-    for_command = c.remove.ensures.for_command;
+    for_command = (subst (λ (m : Command). IsForCommand m c.remove.result) (search rules) c.remove.ensures.for_command);
     count = c.remove.ensures.count;
   };
   unread = λ a cache store unknown. (let known : text_known a c.args.command.now ≡ true = search rules in let wrong : true ≡ false = sym known ∙ unknown in absurd (cc));

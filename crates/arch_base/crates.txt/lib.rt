@@ -1,0 +1,17 @@
+//! The base types of the archive: lists, archive names, decimals, object ids, archive settings and
+//! moments.
+#![tactic(auto)]
+
+mod config;
+mod decimals;
+mod ids;
+mod moments;
+mod name;
+mod sequence;
+
+pub use config::Config;
+pub use decimals::{decimal, read_decimal};
+pub use ids::{Id20, ObjectId, hex_of, id_of_hex};
+pub use moments::{LAST_MOMENT, last_moment_is_defined};
+pub use name::Name;
+pub use sequence::{Bytes, Duplicate, NoMemory, Numbers, Sequence, Texts};

@@ -1,0 +1,65 @@
+//! Reads the fields, the body and the own id of a text.
+ghost use Rattle.std.specs.Prelude.{◌≡◌, ◌≤◌, length, option_copied};
+ghost use Rattle.std.specs.Str.{str_eq_ignore_ascii_case};
+ghost use Rattle.mail_reader.specs.Fields.{fields_of};
+ghost use Rattle.mail_reader.specs.Lines.{lines_of, after_header};
+ghost use Rattle.mail_reader.specs.Bodies.{body_of};
+ghost use Rattle.mail_reader.specs.Ids.{own_id};
+
+use crate::header::{Fields, field_len};
+use crate::ids::Ids;
+
+/// Returns the fields of a text's header, from first to last.
+///
+/// The header is the longest run of field lines and continuation lines from the start whose first
+/// line is a field line (RFC 5322, section 2.2).
+pub fn fields(text: &[u8]) -> Fields<'_>
+    ensures value { result ≡ fields_of text.now }
+    ensures len { length result ≤ length text.now }
+{
+    Fields::of(text)
+}
+
+/// Returns the body of a text: the bytes after the header and after the empty line that follows it
+/// (RFC 5322, section 2.3).
+pub fn body(text: &[u8]) -> &[u8]
+    ensures { result.now ≡ body_of text.now }
+{
+    match after_header(text) {
+        [b'\n', rest @ ..] => rest,
+        rest => rest,
+    }
+}
+
+/// Returns the rest of a text after its header.
+fn after_header(text: &[u8]) -> &[u8]
+    ensures { lines_of result.now ≡ after_header (lines_of text.now) }
+{
+    let mut rest = text;
+    while let Some(len) = field_len(rest) {
+        rest = rest.split_at(len).1;
+    }
+    rest
+}
+
+/// Returns the own id of a text: the first id of its first Message-ID field (RFC 5322, section
+/// 3.6.4), in its brackets.
+///
+/// `None` if the text has no such field, or the first one has no id.
+pub fn own_id(text: &[u8]) -> Option<&[u8]>
+    ensures { option_copied result ≡ own_id text.now }
+{
+    for field in Fields::of(text) {
+        if is_same_name(field.name, b"Message-ID") {
+            return Ids::of(field.value).next();
+        }
+    }
+    None
+}
+
+/// Returns whether two names are equal, ignoring case.
+pub(crate) fn is_same_name(name: &[u8], other: &[u8]) -> bool
+    ensures { result ≡ str_eq_ignore_ascii_case name.now other.now }
+{
+    name.eq_ignore_ascii_case(other)
+}

@@ -1,0 +1,69 @@
+//! Reads records from their bytes.
+ghost use Rattle.std.specs.Prelude.{◌≡◌, ◌≢◌, ◌<◌, ◌^◌, length, take, IfSome, IfNone};
+ghost use Rattle.arch_base.specs.Ids.{IsId};
+ghost use Rattle.disk_model.specs.BigEndian.{be32};
+ghost use Rattle.disk_model.specs.Sizes.{record_size};
+ghost use Rattle.number_map.specs.declared.line.Record.{Record};
+ghost use Rattle.number_map.specs.Records.{record_bytes, IsRecord};
+
+use crate::line::{Record, is_valid};
+use arch_base::{Id20, ObjectId};
+use disk_model::RECORD_SIZE;
+
+/// Reads a number of 32 bits, the highest byte first.
+fn number32(bytes: &[u8]) -> u32
+    requires { length bytes.now ≡ 4 }
+    ensures { be32 result ≡ bytes.now }
+{
+    let mut digits = [0; 4];
+    digits.copy_from_slice(bytes);
+    u32::from_be_bytes(digits)
+}
+
+/// Reads the id of a blob.
+fn blob_id(bytes: &[u8]) -> ObjectId
+    requires { length bytes.now ≡ 20 }
+    ensures bytes { result.0 ≡ bytes.now }
+    ensures valid { IsId result }
+{
+    let mut digits = [0; 20];
+    digits.copy_from_slice(bytes);
+    Id20(digits)
+}
+
+/// Reads the record with these bytes, valid or not.
+fn any_record(bytes: &[u8]) -> Record
+    requires { length bytes.now ≡ record_size }
+    ensures bytes { record_bytes result ≡ bytes.now }
+    ensures blob { IsId result.blob }
+    ensures number { result.number < 2 ^ 32 }
+    ensures epoch { result.epoch < 2 ^ 32 }
+{
+    let (number, rest) = bytes.split_at(4);
+    let (epoch, blob) = rest.split_at(4);
+    Record {
+        number: number32(number),
+        epoch: number32(epoch),
+        blob: blob_id(blob),
+    }
+}
+
+/// Returns the valid record of a number at the front of bytes, if there is one.
+pub fn record_in_front(bytes: &[u8], number: u32) -> Option<Record>
+    ensures some { IfSome result (λ line. IsRecord number line
+        × (take record_size bytes.now ≡ record_bytes line)) }
+    ensures none { IfNone result ((line : Record) → IsRecord number line
+        → take record_size bytes.now ≢ record_bytes line) }
+{
+    if bytes.len() < RECORD_SIZE {
+        return None;
+    }
+    let line = any_record(bytes.split_at(RECORD_SIZE).0);
+    if line.number != number {
+        return None;
+    }
+    if !is_valid(&line) {
+        return None;
+    }
+    Some(line)
+}

@@ -1,0 +1,102 @@
+//! Reads a map from its front.
+ghost use Rattle.std.specs.Prelude.{◌≡◌, ◌+◌, ◌*◌, ◌<◌, ◌^◌, [], Err, length, IfOk, OnOk};
+ghost use Rattle.arch_base.specs.Counts.{RoseIf};
+ghost use Rattle.disk_model.specs.Disk.{Image, Told, WhereTold, Unchanged, LeavesOnly, bytes_of};
+ghost use Rattle.disk_model.specs.Sizes.{record_size};
+ghost use Rattle.number_map.specs.Walks.{BeginsWith, Walks};
+ghost use Rattle.number_map.specs.Pieces.{ReadsOn};
+
+use crate::line::Records;
+use crate::pieces::read_piece;
+use arch_base::NoMemory;
+use disk_model::{Disk, DiskFault, FileName, RECORD_SIZE, WalkRefusal};
+use std::alloc::Global;
+
+/// The number of records that are read at once.
+const PIECE: u32 = 2340;
+
+/// Allocates room for a piece: 65,520 bytes, for 2,340 records.
+fn room(alloc: Global) -> Result<Vec<u8>, NoMemory>
+    ensures { IfOk result (λ made. length made.items ≡ record_size * 2340) }
+{
+    Ok(vec![in alloc; 0u8; 65_520]?)
+}
+
+/// Reads `wanted` more records, as one piece of a map.
+fn read_more<D: Disk>(
+    disk: &mut D,
+    file: FileName,
+    wanted: u32,
+    room: &mut [u8],
+    lines: &mut Records,
+) -> Result<(), WalkRefusal>
+    requires room { length room.old ≡ record_size * wanted }
+    requires count { length lines.old + wanted < 2 ^ 32 }
+    ensures read { WhereTold (λ k. BeginsWith lines.old (bytes_of (k file).seen) → ReadsOn result
+        (length lines.old + wanted) (bytes_of (k file).seen) lines.new) (D.content disk.old) }
+    ensures size { OnOk result (length lines.new ≡ length lines.old + wanted) }
+    ensures same { Told Unchanged (D.content disk.old) (D.content disk.new) }
+    ensures any_moment { LeavesOnly D.moment D.left_since disk.old disk.new
+        (Image (D.content disk.old)) }
+    ensures cause { RoseIf (result ≡ Err WalkRefusal.DiskFault) (D.faults disk.old) (D.faults disk.new) }
+{
+    let offset = RECORD_SIZE as u64 * lines.as_slice().len() as u64;
+    match disk.read(file, offset, room) {
+        Err(DiskFault) => Err(WalkRefusal::DiskFault),
+        Ok(n) => read_piece(&room[..n], wanted, lines),
+    }
+}
+
+/// Reads the first `count` records, piece by piece.
+fn read_all<D: Disk>(
+    disk: &mut D,
+    file: FileName,
+    count: u32,
+    room: &mut [u8],
+    lines: &mut Records,
+) -> Result<(), WalkRefusal>
+    requires room { length room.old ≡ record_size * 2340 }
+    requires none { lines.old ≡ [] }
+    ensures read { WhereTold (λ k.
+        ReadsOn result count (bytes_of (k file).seen) lines.new) (D.content disk.old) }
+    ensures same { Told Unchanged (D.content disk.old) (D.content disk.new) }
+    ensures any_moment { LeavesOnly D.moment D.left_since disk.old disk.new
+        (Image (D.content disk.old)) }
+    ensures cause { RoseIf (result ≡ Err WalkRefusal.DiskFault) (D.faults disk.old) (D.faults disk.new) }
+{
+    let mut done = 0;
+    while done < count {
+        let wanted = PIECE.min(count - done);
+        let into = &mut room[..RECORD_SIZE * wanted as usize];
+        if let Err(refusal) = read_more(disk, file, wanted, into, lines) {
+            return Err(refusal);
+        }
+        done += wanted;
+    }
+    Ok(())
+}
+
+/// Reads the first `count` records of a map, one for each number from 1 on.
+///
+/// The map is `Damaged` at the offset of the first of these records that isn't whole in the file or
+/// isn't a valid one of its number. The bytes after the last record aren't read.
+pub fn walk<D: Disk>(
+    alloc: Global,
+    disk: &mut D,
+    file: FileName,
+    count: u32,
+) -> Result<Records, WalkRefusal>
+    ensures walked { WhereTold (λ k.
+        Walks count (bytes_of (k file).seen) result) (D.content disk.old) }
+    ensures same { Told Unchanged (D.content disk.old) (D.content disk.new) }
+    ensures any_moment { LeavesOnly D.moment D.left_since disk.old disk.new
+        (Image (D.content disk.old)) }
+    ensures cause { RoseIf (result ≡ Err WalkRefusal.DiskFault) (D.faults disk.old) (D.faults disk.new) }
+{
+    let mut room = room(alloc)?;
+    let mut lines = Records::new(alloc);
+    match read_all(disk, file, count, &mut room, &mut lines) {
+        Ok(()) => Ok(lines),
+        Err(refusal) => Err(refusal),
+    }
+}

@@ -1,0 +1,121 @@
+//! The two slots, and the commit of a new root.
+ghost use Rattle.std.specs.Prelude.{◌≡◌, ◌-◌, ◌<◌, ◌∷◌, [], ℕ, List, length, OnOk, IfOk};
+ghost use Rattle.arch_base.specs.Counts.{HasCause};
+ghost use Rattle.disk_model.specs.Disk.{Image, Told, WhereTold, Unchanged, LeavesOnly};
+ghost use Rattle.disk_model.specs.Synced.{Writing, IsWritten};
+ghost use Rattle.root_slots.specs.RootName.{root_name};
+ghost use Rattle.root_slots.specs.Each.{EachRoot};
+ghost use Rattle.root_slots.specs.Spelling.{body_size, spelling};
+ghost use Rattle.root_slots.specs.Valid.{IsRoot};
+ghost use Rattle.root_slots.specs.Slots.{slot_number, HasRootSize, IsGateOpen, body_offset, sequence_of, Current, Ready, OthersStay, IsOldOrNew, HasNewRoot, IsCommitted};
+
+use crate::body::spell;
+use crate::root::Root;
+use crate::slot::Slot;
+use disk_model::{Disk, DiskFault, FileKind, FileName, write_and_sync};
+
+/// Returns the name of the root file.
+pub fn root_file() -> FileName
+    ensures { result ≡ root_name }
+{
+    FileName {
+        kind: FileKind::Root,
+        number: 0,
+        gen_: 0,
+    }
+}
+
+/// Returns whether the gate of a slot is open. The gate isn't open if the root file ends before it.
+pub fn is_open<D: Disk>(disk: &mut D, slot: Slot) -> Result<bool, DiskFault>
+    ensures gate { IfOk result (λ open_.
+        WhereTold (IsGateOpen (slot_number slot) open_) (D.content disk.old)) }
+    ensures same { Told Unchanged (D.content disk.old) (D.content disk.new) }
+    ensures any_moment { LeavesOnly D.moment D.left_since disk.old disk.new
+        (Image (D.content disk.old)) }
+    ensures cause { HasCause (D.faults disk.old) (D.faults disk.new) result }
+{
+    let mut gate = [0];
+    disk.read(root_file(), slot.gate() as u64, &mut gate)?;
+    Ok(gate[0] == 1)
+}
+
+/// Shuts the gate of a slot, and syncs.
+pub fn shut<D: Disk>(disk: &mut D, slot: Slot) -> Result<(), DiskFault>
+    requires size { WhereTold HasRootSize (D.content disk.old) }
+    ensures any_moment { LeavesOnly D.moment D.left_since disk.old disk.new
+        (Writing root_name (slot_number slot) 1 (D.content disk.old)) }
+    ensures written { OnOk result (Told (IsWritten root_name (slot_number slot)
+        (0 ∷ [])) (D.content disk.old) (D.content disk.new)) }
+    ensures cause { HasCause (D.faults disk.old) (D.faults disk.new) result }
+    ensures count { D.reads disk.new ≡ D.reads disk.old }
+{
+    write_and_sync(disk, root_file(), slot.gate() as u64, &[0])
+}
+
+/// Writes a root to the body of a slot, and syncs.
+pub fn fill<D: Disk>(disk: &mut D, slot: Slot, root: &Root) -> Result<(), DiskFault>
+    requires size { WhereTold HasRootSize (D.content disk.old) }
+    requires root { IsRoot root.now }
+    ensures any_moment { LeavesOnly D.moment D.left_since disk.old disk.new
+        (Writing root_name (body_offset (slot_number slot)) body_size (D.content disk.old)) }
+    ensures written { OnOk result (Told (IsWritten root_name (body_offset (slot_number slot))
+        (spelling root.now)) (D.content disk.old) (D.content disk.new)) }
+    ensures whole { length (spelling root.now) ≡ body_size }
+    ensures cause { HasCause (D.faults disk.old) (D.faults disk.new) result }
+    ensures count { D.reads disk.new ≡ D.reads disk.old }
+{
+    write_and_sync(disk, root_file(), slot.body() as u64, &spell(root))
+}
+
+/// Opens the gate of a slot, and syncs.
+pub fn raise<D: Disk>(disk: &mut D, slot: Slot) -> Result<(), DiskFault>
+    requires size { WhereTold HasRootSize (D.content disk.old) }
+    ensures any_moment { LeavesOnly D.moment D.left_since disk.old disk.new
+        (Writing root_name (slot_number slot) 1 (D.content disk.old)) }
+    ensures written { OnOk result (Told (IsWritten root_name (slot_number slot)
+        (1 ∷ [])) (D.content disk.old) (D.content disk.new)) }
+    ensures cause { HasCause (D.faults disk.old) (D.faults disk.new) result }
+    ensures count { D.reads disk.new ≡ D.reads disk.old }
+{
+    write_and_sync(disk, root_file(), slot.gate() as u64, &[1])
+}
+
+/// Replaces the current root by a new one, in the slot that isn't current.
+///
+/// Shuts the gate of that slot, writes its body and opens its gate, with a sync after each.
+pub fn commit<D: Disk>(disk: &mut D, slot: Slot, root: &Root) -> Result<(), DiskFault>
+    requires size { WhereTold HasRootSize (D.content disk.old) }
+    requires root { IsRoot root.now }
+
+    // At each moment a crash leaves the old root or the new one, and all other files as before.
+    ensures any_moment { (old : List ℕ) → EachRoot (Ready (slot_number slot) old)
+        (D.content disk.old) → sequence_of old < root.now.sequence
+        → LeavesOnly D.moment D.left_since disk.old disk.new
+        (IsOldOrNew old (spelling root.now) (D.content disk.old)) }
+    // After `Ok` a crash leaves the new one.
+    ensures done { (old : List ℕ) → EachRoot (Ready (slot_number slot) old) (D.content disk.old)
+        → sequence_of old < root.now.sequence
+        → OnOk result
+        (EachRoot (Current (slot_number slot) (spelling root.now)) (D.content disk.new)) }
+    // The slot of the old root is then ready for the next one.
+    ensures again { (old : List ℕ) → EachRoot (Ready (slot_number slot) old) (D.content disk.old)
+        → sequence_of old < root.now.sequence
+        → OnOk result
+        (EachRoot (Ready (1 - slot_number slot) (spelling root.now)) (D.content disk.new)) }
+    // No other file changes, whatever the root file holds.
+    ensures elsewhere { LeavesOnly D.moment D.left_since disk.old disk.new
+        (OthersStay (D.content disk.old)) }
+    // After `Ok` the slot has the body and an open gate, and the rest of the root file is as it
+    // was.
+    ensures written { OnOk result (Told (HasNewRoot (slot_number slot) (spelling root.now))
+        (D.content disk.old) (D.content disk.new)) }
+    ensures whole { OnOk result (length (spelling root.now) ≡ body_size) }
+    ensures committed { OnOk result (Told IsCommitted (D.content disk.old) (D.content disk.new)) }
+    ensures cause { HasCause (D.faults disk.old) (D.faults disk.new) result }
+    ensures count { D.reads disk.new ≡ D.reads disk.old }
+{
+    let _sequence = root.sequence; // brings the range of a field behind a `&` into the proof
+    shut(disk, slot)?;
+    fill(disk, slot, root)?;
+    raise(disk, slot)
+}
