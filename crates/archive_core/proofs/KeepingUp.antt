@@ -1,7 +1,7 @@
 -- The rows of live messages after a command.
-use Rattle.std.specs.Prelude.{◌≡◌, ◌||◌, ◌<◌, ◌+◌, ℕ, Bool, true, false, not, nat_lt, List, [], ◌∷◌, ◌++◌, Option, Some, None, Result, Ok, Err, OnOk, is_ok, if◌then◌else◌, refl}
+use Rattle.std.specs.Prelude.{◌≡◌, ◌||◌, ◌<◌, ◌+◌, ℕ, Bool, true, false, not, nat_lt, List, [], ◌∷◌, ◌++◌, Option, Some, None, Result, Ok, Err, OnOk, is_ok, is_some, option_copied, if◌then◌else◌, refl}
 use Rattle.std.specs.List.{AllByRecursion}
-use Rattle.std.proofs.Common.{◌∙◌, sym, ap, subst}
+use Rattle.std.proofs.Common.{Bor, ◌∙◌, sym, ap, subst}
 use Rattle.arch_base.specs.declared.ids.Id20.{Id20}
 use Rattle.arch_base.specs.declared.sequence.NoMemory.{NoMemory}
 use Rattle.disk_model.specs.Disk.{Content}
@@ -32,6 +32,11 @@ use Rattle.overview_index.proofs.Messages.{HasId, AllBelow, Ascends, rows-added,
 use Rattle.archive_core.specs.Commands.{DoneBy, OnRefusal, KeepsText, is_delivery, IfDelivery, OnDone}
 use Rattle.archive_core.specs.Engines.{needs_opening, RowsKeepUp}
 use Rattle.archive_core.specs.Walks.{RowsDone, RowsAfter}
+
+-- What wasn't found isn't there.
+pub none-copied : {X : Type 0} (found : Option (Bor X)) (row : Option X) (t : Bool) → t ≡ is_some found → t ≡ false → option_copied found ≡ row → row ≡ None
+none-copied None row t test none is = sym is
+none-copied (Some x) row t test none is = absurd (let wrong : true ≡ false = sym test ∙ none in cc)
 
 -- A command that isn't accepted keeps the archive.
 abbrev pub KeepsUnlessOk : Archive → Done → Type 0

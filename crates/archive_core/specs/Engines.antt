@@ -99,7 +99,7 @@ unchanged-is None (Some m) told = absurd told
 unchanged-is (Some k) None told = absurd told
 unchanged-is (Some k) (Some m) told = λ i. Some (λ (name : FileName). told name i)
 
-told-same : (k : Option Content) → Told Unchanged k k
+pub told-same : (k : Option Content) → Told Unchanged k k
 told-same None = tt
 told-same (Some k) = λ name. refl
 
