@@ -1,5 +1,5 @@
 -- The laws of the door of readers.
-use Rattle.std.proofs.Common.{◌≡◌, ◌<◌, ◌∙◌, inr, ℕ, Bool, true, false, List, [], ◌++◌, length, Option, Some, None, refl, ap, append_assoc, arith}
+use Rattle.std.proofs.Common.{◌≡◌, ◌<◌, ◌∙◌, inr, ℕ, Bool, true, false, List, ◌++◌, length, Option, Some, None, refl, ap, append_assoc, arith}
 use Rattle.std.specs.Prelude.{if◌then◌else◌}
 use Rattle.line_door.specs.Acts.{Way, Plain, Memory, Disk, Newer}
 use Rattle.line_door.specs.Clipped.{clipped, longest_line}

@@ -1,5 +1,5 @@
 -- Which article a command is about, and which are next and last (RFC 3977, sections 6.1 and 6.2).
-use Rattle.std.specs.Prelude.{ℕ, ◌+◌, [], Option, Some, None, Result, Ok, Err, if◌then◌else◌}
+use Rattle.std.specs.Prelude.{ℕ, ◌+◌, Option, Some, None, Result, Ok, Err, if◌then◌else◌}
 use Rattle.nntp_words.specs.declared.numbers.Range.{Range}
 use Rattle.arch_model.specs.Archives.{Archive, live}
 use Rattle.arch_model.specs.Listings.{number_of_id}

@@ -1,9 +1,8 @@
-use Rattle.std.proofs.Common.{◌∙◌, ap, sym, refl}
+use Rattle.std.proofs.Common.{ap, sym, refl}
 use Rattle.nntp_reader.specs.Articles.{read_words, group_chosen}
 use Rattle.nntp_reader.specs.Commands.{Reads}
 use Rattle.nntp_reader.specs.Replies.{replies}
 use Rattle.nntp_reader.specs.Sessions.{article_of}
-use Rattle.nntp_reader.specs.declared.group.Group.{Group}
 use Rattle.nntp_reader.proofs.Acting.{acts-said, acts-read}
 use Rattle.nntp_reader.proofs.articles.say_part.Goals as goal
 

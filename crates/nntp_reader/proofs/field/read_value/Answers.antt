@@ -1,5 +1,4 @@
 use Rattle.std.proofs.Common.{◌≡◌, ◌∙◌, ◌++◌, List, ℕ, ap}
-use Rattle.arch_model.specs.Archives.{live}
 use Rattle.mail_forms.specs.NamedValues.{flat_first}
 use Rattle.nntp_reader.proofs.field.read_value.Goals as goal
 

@@ -1,9 +1,9 @@
-use Rattle.std.proofs.Common.{◌∙◌, ap, sym, refl, is_some}
+use Rattle.std.proofs.Common.{ap, sym, refl, is_some}
 use Rattle.line_door.proofs.Acting.{acts-words}
 use Rattle.nntp_reader.specs.Commands.{Headers, Field, Single, Within}
 use Rattle.nntp_reader.specs.Door.{said_to, range_said}
 use Rattle.nntp_reader.specs.Headers.{field_words}
-use Rattle.nntp_reader.specs.Replies.{replies, fields_reply}
+use Rattle.nntp_reader.specs.Replies.{replies}
 use Rattle.nntp_reader.specs.Sessions.{article_of, articles_of}
 use Rattle.nntp_reader.proofs.Acting.{acts-said, acts-read}
 use Rattle.nntp_reader.proofs.Streams.{range-is, start-live}

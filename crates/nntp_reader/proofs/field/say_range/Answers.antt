@@ -1,7 +1,7 @@
-use Rattle.std.proofs.Common.{◌≡◌, ◌+◌, ◌∙◌, true, Some, IfSome, is_some, refl, sym, subst, rules}
+use Rattle.std.proofs.Common.{◌≡◌, ◌+◌, ◌∙◌, true, IfSome, is_some, refl, sym, subst, rules}
 use Rattle.arch_model.specs.Archives.{live, text_of}
 use Rattle.arch_model.proofs.Shelving.{stays-joined}
-use Rattle.nntp_reader.proofs.Streams.{begun-none, begun-said, begun-lost, begun-short, begun-unread, begun-all}
+use Rattle.nntp_reader.proofs.Streams.{begun-said, begun-lost, begun-short, begun-all}
 use Rattle.nntp_reader.proofs.field.say_range.Goals as goal
 
 pub push_field-requires-clause-live : goal.push_field-requires-clause-live

@@ -1,4 +1,4 @@
-use Rattle.std.proofs.Common.{◌≡◌, ◌≤◌, ℕ, Bool, true, IfSome, is_some}
+use Rattle.std.proofs.Common.{◌≡◌, ◌≤◌, ℕ, true, IfSome, is_some}
 use Rattle.line_door.specs.Acts.{outside}
 use Rattle.arch_model.specs.Archives.{Archive, live, text_of}
 use Rattle.arch_model.specs.Shelves.{Stays}

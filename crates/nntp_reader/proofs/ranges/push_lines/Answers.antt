@@ -1,4 +1,4 @@
-use Rattle.std.proofs.Common.{Ok, ◌≡◌, ◌+◌, ◌∙◌, sym, ap, arith, rules}
+use Rattle.std.proofs.Common.{Ok, ◌+◌, ◌∙◌, sym, rules}
 use Rattle.arch_model.specs.Archives.{live}
 use Rattle.nntp_reader.specs.Facts.{line_at, fact_lines}
 use Rattle.wire_replies.proofs.Wording.{sofar-none, sofar-more, sofar-end, sofar-lost, Waits-none}

@@ -1,4 +1,4 @@
-use Rattle.std.proofs.Common.{◌≡◌, ◌+◌, ◌-◌, ◌≤◌, ℕ, IfSome, MatchOption}
+use Rattle.std.proofs.Common.{◌≡◌, ◌≤◌, ℕ, IfSome}
 use Rattle.arch_model.specs.Archives.{Archive, live}
 use Rattle.nntp_reader.specs.Facts.{fact_lines}
 use Rattle.nntp_reader.specs.Numbers.{live_in, first_of}

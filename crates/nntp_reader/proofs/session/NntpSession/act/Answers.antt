@@ -1,10 +1,9 @@
-use Rattle.std.proofs.Common.{◌≡◌, ◌+◌, ◌++◌, ◌∙◌, ap, sym, refl, drop}
-use Rattle.line_door.specs.Acts.{outside}
+use Rattle.std.proofs.Common.{◌≡◌, ◌+◌, ◌++◌, ap, refl, drop}
 use Rattle.line_door.specs.Clipped.{clipped, longest_line}
-use Rattle.line_door.specs.Skipping.{Taken, Skipped, Unended, skipping_front}
+use Rattle.line_door.specs.Skipping.{Skipped, skipping_front}
 use Rattle.arch_model.specs.Next.{continues}
 use Rattle.nntp_reader.specs.Door.{Reader}
-use Rattle.nntp_reader.proofs.Turning.{line-held, line-part, line-short, turn-line, turn-skipped, turn-kept, part-kept}
+use Rattle.nntp_reader.proofs.Turning.{line-held, line-part, turn-line, turn-skipped, turn-kept, part-kept}
 use Rattle.nntp_reader.proofs.session.NntpSession.act.Goals as goal
 
 pub answer-requires-clause-part : goal.answer-requires-clause-part

@@ -1,6 +1,4 @@
-use Rattle.std.proofs.Common.{◌++◌, true, refl, sym, ap, subst, inl, arith, Some, None}
-use Rattle.line_door.specs.Acts.{outside}
-use Rattle.line_door.specs.Course.{talk, Last}
+use Rattle.std.proofs.Common.{refl, inl, None}
 use Rattle.line_door.proofs.Courses.{Going-same, Going-more, Fed-last, Last-done}
 use Rattle.arch_model.proofs.Shelving.{stays-same, stays-joined}
 use Rattle.nntp_reader.specs.Door.{Reader, said, has_request, with_piece}
