@@ -200,6 +200,12 @@ module _ (word : List ℕ) (more : List (List ℕ)) where
   pub removal_read : (number : ℕ) → more ≡ [] → IsUpTo 2147483647 number → word ≡ decimal number → IsRemove (codes "remove" ∷ word ∷ more) number
   removal_read number none range spelling = record { is = cc (none, spelling); range = range }
 
+-- Words ask for the removal of at most one number.
+pub same_number : (words : List (List ℕ)) (m n : ℕ) → IsRemove words m → IsRemove words n → m ≡ n
+same_number words m n a b =
+    let spelling : decimal m ≡ decimal n = cc (a.is, b.is) in
+    decimal_injective m n (omega (arith, a.range.1)) (omega (arith, b.range.1)) spelling
+
 -- The words of no words.
 pub spelled-none : (words : List (Bor (List ℕ))) → spelled words ≡ [] → words ≡ []
 spelled-none [] e = refl
