@@ -206,6 +206,16 @@ same_number words m n a b =
     let spelling : decimal m ≡ decimal n = cc (a.is, b.is) in
     decimal_injective m n (omega (arith, a.range.1)) (omega (arith, b.range.1)) spelling
 
+-- Words that ask for a removal ask for nothing else.
+pub only_removes : (words : List (List ℕ)) (number : ℕ) (job : Job) → IsRemove words number → AsksFor words job → job ≡ Remove number
+only_removes words number (Remove other) asked also = ap Remove (same_number words other number also asked)
+only_removes words number Help asked also = absurd (cc (asked.is, also))
+only_removes words number Version asked also = absurd (cc (asked.is, also))
+only_removes words number Deliver asked also = absurd (cc (asked.is, also))
+only_removes words number Check asked also = absurd (cc (asked.is, also))
+only_removes words number (Init config) asked also = absurd (remove-init (cc (asked.is, also.is)))
+only_removes words number (Replay config) asked also = absurd (remove-replay (cc (asked.is, also.is)))
+
 -- The words of no words.
 pub spelled-none : (words : List (Bor (List ℕ))) → spelled words ≡ [] → words ≡ []
 spelled-none [] e = refl

@@ -1,5 +1,5 @@
 -- Runs on one disk, in order.
-use Rattle.std.specs.Prelude.{◌≡◌, ◌≢◌, ◌⊎◌, ℕ, true, List, [], ◌∷◌, codes, decimal, drop, get_or, Option, Some, None, refl}
+use Rattle.std.specs.Prelude.{◌≡◌, ◌≢◌, ◌⊎◌, ℕ, true, List, [], ◌∷◌, codes, decimal, get_or, Option, Some, None, refl}
 use Rattle.std.proofs.Common.{◌∙◌, sym, ap, subst, inl, inr, arith}
 use Rattle.std.proofs.lemmas.Bool.{false≢true}
 use Rattle.arch_base.specs.declared.config.Config.{Config}
@@ -31,16 +31,23 @@ use Rattle.archive_cli.specs.Outcomes.{status_of}
 use Rattle.archive_cli.specs.Program.{Edges, EndsBy, InitActs, CommandActs, DeliverActs, IsDue, Ends, Ran, IsInput, AsksForInit, AsksForCommand, message_of, made_at}
 use Rattle.archive_cli.specs.Statuses.{code_of}
 use Rattle.archive_cli.specs.Words.{AsksFor, IsJob}
+use Rattle.archive_cli.proofs.Grammar.{only_removes}
 
 -- Words that start with different bytes differ.
 other-words : (c d : ℕ) (x y : List ℕ) (xs ys : List (List ℕ)) → c ≢ d → (c ∷ x) ∷ xs ≡ (d ∷ y) ∷ ys → ⊥
 other-words c d x y xs ys apart same = apart (ap (λ (words : List (List ℕ)). get_or (get_or words 0 []) 0 0) same)
 
--- Words that start with words whose third bytes differ differ.
-third-words : (c d : ℕ) (x y : List ℕ) (xs ys : List (List ℕ)) → c ≢ d → (114 ∷ 101 ∷ c ∷ x) ∷ xs ≡ (114 ∷ 101 ∷ d ∷ y) ∷ ys → ⊥
-third-words c d x y xs ys apart same = apart (ap (λ (words : List (List ℕ)). get_or (drop 2 (get_or words 0 [])) 0 0) same)
+-- Words that ask for a delivery ask for nothing else.
+only-delivers : (words : List (List ℕ)) (job : Job) → AsksFor words Deliver → AsksFor words job → job ≡ Deliver
+only-delivers words Deliver asked also = refl
+only-delivers words Help asked also = absurd (other-words 100 45 (codes "eliver") (codes "-help") [] [] (omega arith) (sym asked ∙ also))
+only-delivers words Version asked also = absurd (other-words 100 45 (codes "eliver") (codes "-version") [] [] (omega arith) (sym asked ∙ also))
+only-delivers words Check asked also = absurd (other-words 100 99 (codes "eliver") (codes "heck") [] [] (omega arith) (sym asked ∙ also))
+only-delivers words (Remove number) asked also = absurd (other-words 100 114 (codes "eliver") (codes "emove") [] (decimal number ∷ []) (omega arith) (sym asked ∙ also.is))
+only-delivers words (Replay config) asked also = absurd (other-words 100 114 (codes "eliver") (codes "eplay") [] also.after (omega arith) (sym asked ∙ also.is))
+only-delivers words (Init config) asked also = absurd (other-words 100 105 (codes "eliver") (codes "nit") [] also.after (omega arith) (sym asked ∙ also.is))
 
--- The jobs that are a command on an archive.
+-- The job is a command on an archive.
 abbrev IsCommand : Job → Type 0
 IsCommand Deliver = Unit {0}
 IsCommand (Remove number) = Unit {0}
@@ -52,18 +59,8 @@ IsCommand (Init config) = ⊥
 
 -- Words that ask for a command ask for nothing else.
 only-commands : (words : List (List ℕ)) (job : Job) → AsksForCommand words → AsksFor words job → IsCommand job
-only-commands words Deliver asked also = tt
-only-commands words (Remove number) asked also = tt
-only-commands words Help (inl asked) also = absurd (other-words 100 45 (codes "eliver") (codes "-help") [] [] (omega arith) (sym asked ∙ also))
-only-commands words Version (inl asked) also = absurd (other-words 100 45 (codes "eliver") (codes "-version") [] [] (omega arith) (sym asked ∙ also))
-only-commands words Check (inl asked) also = absurd (other-words 100 99 (codes "eliver") (codes "heck") [] [] (omega arith) (sym asked ∙ also))
-only-commands words (Replay config) (inl asked) also = absurd (other-words 100 114 (codes "eliver") (codes "eplay") [] also.after (omega arith) (sym asked ∙ also.is))
-only-commands words (Init config) (inl asked) also = absurd (other-words 100 105 (codes "eliver") (codes "nit") [] also.after (omega arith) (sym asked ∙ also.is))
-only-commands words Help (inr asked) also = absurd (other-words 114 45 (codes "emove") (codes "-help") (decimal asked.0 ∷ []) [] (omega arith) (sym asked.1.is ∙ also))
-only-commands words Version (inr asked) also = absurd (other-words 114 45 (codes "emove") (codes "-version") (decimal asked.0 ∷ []) [] (omega arith) (sym asked.1.is ∙ also))
-only-commands words Check (inr asked) also = absurd (other-words 114 99 (codes "emove") (codes "heck") (decimal asked.0 ∷ []) [] (omega arith) (sym asked.1.is ∙ also))
-only-commands words (Replay config) (inr asked) also = absurd (third-words 109 112 (codes "ove") (codes "lay") (decimal asked.0 ∷ []) also.after (omega arith) (sym asked.1.is ∙ also.is))
-only-commands words (Init config) (inr asked) also = absurd (other-words 114 105 (codes "emove") (codes "nit") (decimal asked.0 ∷ []) also.after (omega arith) (sym asked.1.is ∙ also.is))
+only-commands words job (inl asked) also = subst IsCommand (sym (only-delivers words job asked also)) tt
+only-commands words job (inr asked) also = subst IsCommand (sym (only_removes words asked.0 job asked.1 also)) tt
 
 -- Nor do words that ask to make an archive.
 only-makes : (words : List (List ℕ)) (job : Job) → AsksForInit words → AsksFor words job → (config : Config) × (job ≡ Init config)
