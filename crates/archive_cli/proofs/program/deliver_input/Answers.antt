@@ -26,8 +26,12 @@ pub returns-in-Ok-clause-ends : goal.returns-in-Ok-clause-ends
 returns-in-Ok-clause-ends g c =
     let front = c.in-Ok.ensures.read.0 in
     let is : c.as_slice.result.now ≡ message_of front.0 = rw c.as_slice.ensures front.2 in
-    inl (front.0, front.1, job-moved (DeliverActs (message_of front.0)) c.carry_out.result.0 _ _ _ _ _ _ _ _ _ _ _ _ _ _ _ _ c.in-Ok.ensures.read.1
-    (job-as (CommandActs (delivering c.as_slice.result.now)) (DeliverActs (message_of front.0)) c.carry_out.result.0 _ _ (delivers-as c.as_slice.result.now front.0 is) c.carry_out.ensures.ends))
+    inl (
+      front.0,
+      front.1,
+      job-moved (DeliverActs (message_of front.0)) c.carry_out.result.0 _ _ _ _ _ _ _ _ _ _ _ _ _ _ _ _ c.in-Ok.ensures.read.1
+          (job-as (CommandActs (delivering c.as_slice.result.now)) (DeliverActs (message_of front.0)) c.carry_out.result.0 _ _ (delivers-as c.as_slice.result.now front.0 is) c.carry_out.ensures.ends),
+    )
 
 pub returns-in-Ok-clause-any_moment : goal.returns-in-Ok-clause-any_moment
 returns-in-Ok-clause-any_moment g c = λ s all.
