@@ -175,26 +175,42 @@ remove-init e = apart 114 105 (codes "emove") (codes "nit") (omega arith) e
 remove-replay : codes "remove" ≢ codes "replay"
 remove-replay e = apart 109 112 (codes "ove") (codes "lay") (omega arith) (ap (drop 2) e)
 
+-- Equal words have equal first and second words and equal rests.
+module _ (v w x y : List ℕ) (xs ys : List (List ℕ)) where
+  first-word : v ∷ xs ≡ w ∷ ys → v ≡ w
+  first-word e = cc e
+
+  second-word : v ∷ x ∷ xs ≡ w ∷ y ∷ ys → x ≡ y
+  second-word e = cc e
+
+  third-words : v ∷ x ∷ xs ≡ w ∷ y ∷ ys → xs ≡ ys
+  third-words e = cc e
+
+  not-alone : v ∷ x ∷ xs ≡ w ∷ [] → ⊥
+  not-alone e = cc e
+
+-- Words that start with `remove` and one more word, and that ask for a job, ask for a removal.
 module _ (word : List ℕ) (more : List (List ℕ)) where
+  remove_only : (job : Job) → AsksFor (codes "remove" ∷ word ∷ more) job → (number : ℕ) × (job ≡ Remove number) × IsRemove (codes "remove" ∷ word ∷ more) number
+  remove_only Help e = absurd (not-alone (codes "remove") (codes "--help") word [] more [] e)
+  remove_only Version e = absurd (not-alone (codes "remove") (codes "--version") word [] more [] e)
+  remove_only Deliver e = absurd (not-alone (codes "remove") (codes "deliver") word [] more [] e)
+  remove_only Check e = absurd (not-alone (codes "remove") (codes "check") word [] more [] e)
+  remove_only (Remove number) r = (number, refl, r)
+  remove_only (Init config) i = absurd (remove-init (first-word (codes "remove") (codes "init") [] [] (word ∷ more) i.after i.is))
+  remove_only (Replay config) r = absurd (remove-replay (first-word (codes "remove") (codes "replay") [] [] (word ∷ more) r.after r.is))
+
   -- More words after the number ask for no job.
   pub removal_long : more ≢ [] → (job : Job) → AsksFor (codes "remove" ∷ word ∷ more) job → ⊥
-  removal_long some Help e = cc e
-  removal_long some Version e = cc e
-  removal_long some Deliver e = cc e
-  removal_long some Check e = cc e
-  removal_long some (Remove number) r = some (cc r.is)
-  removal_long some (Init config) i = remove-init (cc i.is)
-  removal_long some (Replay config) r = remove-replay (cc r.is)
+  removal_long some job asked =
+      let removal = remove_only job asked in
+      some (third-words (codes "remove") (codes "remove") word (decimal removal.0) more [] removal.2.is)
 
   -- Nor does a word that spells no number.
   pub removal_unread : ((number : ℕ) → IsUpTo 2147483647 number → word ≢ decimal number) → (job : Job) → AsksFor (codes "remove" ∷ word ∷ more) job → ⊥
-  removal_unread none Help e = cc e
-  removal_unread none Version e = cc e
-  removal_unread none Deliver e = cc e
-  removal_unread none Check e = cc e
-  removal_unread none (Remove number) r = none number r.range (cc r.is)
-  removal_unread none (Init config) i = remove-init (cc i.is)
-  removal_unread none (Replay config) r = remove-replay (cc r.is)
+  removal_unread none job asked =
+      let removal = remove_only job asked in
+      none removal.0 removal.2.range (second-word (codes "remove") (codes "remove") word (decimal removal.0) more [] removal.2.is)
 
   -- A number alone.
   pub removal_read : (number : ℕ) → more ≡ [] → IsUpTo 2147483647 number → word ≡ decimal number → IsRemove (codes "remove" ∷ word ∷ more) number
@@ -203,18 +219,14 @@ module _ (word : List ℕ) (more : List (List ℕ)) where
 -- Words ask for the removal of at most one number.
 pub same_number : (words : List (List ℕ)) (m n : ℕ) → IsRemove words m → IsRemove words n → m ≡ n
 same_number words m n a b =
-    let spelling : decimal m ≡ decimal n = cc (a.is, b.is) in
+    let spelling : decimal m ≡ decimal n = second-word (codes "remove") (codes "remove") (decimal m) (decimal n) [] [] (sym a.is ∙ b.is) in
     decimal_injective m n (omega (arith, a.range.1)) (omega (arith, b.range.1)) spelling
 
 -- Words that ask for a removal ask for nothing else.
 pub only_removes : (words : List (List ℕ)) (number : ℕ) (job : Job) → IsRemove words number → AsksFor words job → job ≡ Remove number
-only_removes words number (Remove other) asked also = ap Remove (same_number words other number also asked)
-only_removes words number Help asked also = absurd (cc (asked.is, also))
-only_removes words number Version asked also = absurd (cc (asked.is, also))
-only_removes words number Deliver asked also = absurd (cc (asked.is, also))
-only_removes words number Check asked also = absurd (cc (asked.is, also))
-only_removes words number (Init config) asked also = absurd (remove-init (cc (asked.is, also.is)))
-only_removes words number (Replay config) asked also = absurd (remove-replay (cc (asked.is, also.is)))
+only_removes words number job asked also =
+    let removal = remove_only (decimal number) [] job (subst (λ (ws : List (List ℕ)). AsksFor ws job) asked.is also) in
+    removal.1 ∙ ap Remove (same_number (codes "remove" ∷ decimal number ∷ []) removal.0 number removal.2 (subst (λ (ws : List (List ℕ)). IsRemove ws number) asked.is asked))
 
 -- The words of no words.
 pub spelled-none : (words : List (Bor (List ℕ))) → spelled words ≡ [] → words ≡ []
@@ -267,7 +279,7 @@ module _ (word name : List ℕ) (options : List (List ℕ)) where
     not_replayed e Version f = cc f
     not_replayed e Deliver f = cc f
     not_replayed e Check f = cc f
-    not_replayed e (Remove number) r = remove-replay (cc (r.is, is))
+    not_replayed e (Remove number) r = remove-replay (sym (first-word word (codes "remove") [] [] (name ∷ options) (decimal number ∷ []) r.is) ∙ is)
     not_replayed e (Init other) i = apart 105 114 (codes "nit") (codes "eplay") (omega arith) (cc (i.is, is))
     not_replayed e (Replay other) r =
         let found : IsMade (name ∷ options) r.settings other = after_word (codes "replay") r.after r.settings other r.is r.made in
