@@ -27,6 +27,9 @@ const GONE: &[u8] = b"entries 2 live 0 next 2\n";
 /// More calls than a command makes on a disk.
 const ENOUGH: u64 = 1000;
 
+/// Fewer calls than a command makes that is done: tests of stopped commands are cut in two here.
+const LATE: u64 = 15;
+
 /// A clock that stands still.
 #[derive(Drop)]
 pub(crate) struct Still;
@@ -394,7 +397,7 @@ fn ends_so(status: u8, printed: &[u8], command: &Stopped<'_>) -> bool {
 }
 
 /// Runs a command over a disk that stops after this many calls. `None` if the answer is wrong.
-fn stopped(alloc: Global, disk: MemDisk, command: &Stopped<'_>, passes: u64) -> Option<Left> {
+fn run_stopped(alloc: Global, disk: MemDisk, command: &Stopped<'_>, passes: u64) -> Option<Left> {
     let start = disk.moments();
     let fuse = FuseDisk::new(disk, passes);
     let (status, fuse, sink) = ran_on(alloc, fuse, command.run.words, command.run.input)?;
@@ -419,17 +422,26 @@ fn is_done_or_not(
     passes: u64,
 ) -> Result<bool, Fail> {
     let disk = disk.ok_or("no disk to begin with")?;
-    let left = stopped(alloc, disk, command, passes).ok_or("a wrong answer")?;
+    let left = run_stopped(alloc, disk, command, passes).ok_or("a wrong answer")?;
     check_since(rt, alloc, &left, command)?;
     Ok(left.done)
 }
 
 #[test]
-fn a_stopped_delivery_is_done_or_not(rt: HostRuntime) -> Result<(), Fail> {
-    for passes in 0..ENOUGH {
+fn a_delivery_that_is_stopped_early_is_done_or_not(rt: HostRuntime) -> Result<(), Fail> {
+    for passes in 0..LATE {
+        let made = with_archive(rt.alloc());
+        let done = is_done_or_not(&rt, rt.alloc(), made, &DELIVERY, passes)?;
+        assert!(rt; !done);
+    }
+    Ok(())
+}
+
+#[test]
+fn a_delivery_that_is_stopped_late_is_done_or_not(rt: HostRuntime) -> Result<(), Fail> {
+    for passes in LATE..ENOUGH {
         let made = with_archive(rt.alloc());
         if is_done_or_not(&rt, rt.alloc(), made, &DELIVERY, passes)? {
-            assert!(rt; passes > 5);
             return Ok(());
         }
     }
@@ -442,11 +454,20 @@ fn with_message(alloc: Global) -> Option<MemDisk> {
 }
 
 #[test]
-fn a_stopped_removal_is_done_or_not(rt: HostRuntime) -> Result<(), Fail> {
-    for passes in 0..ENOUGH {
+fn a_removal_that_is_stopped_early_is_done_or_not(rt: HostRuntime) -> Result<(), Fail> {
+    for passes in 0..LATE {
+        let filled = with_message(rt.alloc());
+        let done = is_done_or_not(&rt, rt.alloc(), filled, &REMOVAL, passes)?;
+        assert!(rt; !done);
+    }
+    Ok(())
+}
+
+#[test]
+fn a_removal_that_is_stopped_late_is_done_or_not(rt: HostRuntime) -> Result<(), Fail> {
+    for passes in LATE..ENOUGH {
         let filled = with_message(rt.alloc());
         if is_done_or_not(&rt, rt.alloc(), filled, &REMOVAL, passes)? {
-            assert!(rt; passes > 5);
             return Ok(());
         }
     }
