@@ -1,18 +1,17 @@
 -- The rows of live messages after a command.
-use Rattle.std.specs.Prelude.{◌≡◌, ◌||◌, ◌<◌, ◌+◌, ℕ, Bool, true, false, not, nat_lt, List, [], ◌∷◌, ◌++◌, Option, Some, None, Result, Ok, Err, OnOk, is_ok, if◌then◌else◌, refl}
+use Rattle.std.specs.Prelude.{◌≡◌, ◌||◌, ◌<◌, ◌+◌, ℕ, Bool, true, false, not, nat_lt, List, [], ◌∷◌, Option, Some, None, Result, Ok, Err, OnOk, is_ok, is_some, option_copied, if◌then◌else◌, refl}
 use Rattle.std.specs.List.{AllByRecursion}
-use Rattle.std.proofs.Common.{◌∙◌, sym, ap, subst}
+use Rattle.std.proofs.Common.{Bor, ◌∙◌, sym, ap}
 use Rattle.arch_base.specs.declared.ids.Id20.{Id20}
-use Rattle.arch_base.specs.declared.sequence.NoMemory.{NoMemory}
 use Rattle.disk_model.specs.Disk.{Content}
 use Rattle.git_objects.specs.Objects.{blob_id_of}
 use Rattle.mail_forms.specs.declared.row.Row.{Row}
 use Rattle.mail_reader.specs.Stored.{stored}
 use Rattle.mail_reader.specs.declared.storing.StoredRefusal.{StoredRefusal}
 use Rattle.mail_reader.specs.declared.storing.StoredRefusal.TheVariants as storing
-use Rattle.arch_model.specs.Archives.{Entry, Archive, message, with_entry, with_deletion, live, text_of}
+use Rattle.arch_model.specs.Archives.{Entry, Archive, message, with_entry, live, text_of}
 use Rattle.arch_model.specs.Candidates.{choice_of}
-use Rattle.arch_model.specs.Delivery.{Done, applied, delivered, delivered_form, delivered_choice, delivered_kept, removed, removed_text, refused, new_epoch, collision}
+use Rattle.arch_model.specs.Delivery.{Done, applied, delivered, delivered_form, delivered_choice, delivered_kept, removed_text, refused, new_epoch, collision}
 use Rattle.arch_model.specs.Keeping.{StaysReady}
 use Rattle.arch_model.specs.Listings.{rows_of, row_at}
 use Rattle.arch_model.specs.Rows.{row_of}
@@ -32,6 +31,11 @@ use Rattle.overview_index.proofs.Messages.{HasId, AllBelow, Ascends, rows-added,
 use Rattle.archive_core.specs.Commands.{DoneBy, OnRefusal, KeepsText, is_delivery, IfDelivery, OnDone}
 use Rattle.archive_core.specs.Engines.{needs_opening, RowsKeepUp}
 use Rattle.archive_core.specs.Walks.{RowsDone, RowsAfter}
+
+-- What wasn't found isn't there.
+pub none-copied : {X : Type 0} (found : Option (Bor X)) (row : Option X) (t : Bool) → t ≡ is_some found → t ≡ false → option_copied found ≡ row → row ≡ None
+none-copied None row t test none is = sym is
+none-copied (Some x) row t test none is = absurd (let wrong : true ≡ false = sym test ∙ none in cc)
 
 -- A command that isn't accepted keeps the archive.
 abbrev pub KeepsUnlessOk : Archive → Done → Type 0

@@ -1,13 +1,15 @@
 -- A delivery that isn't accepted keeps no text.
-use Rattle.std.specs.Prelude.{◌≡◌, ℕ, List}
+use Rattle.std.specs.Prelude.{◌≡◌, ℕ, List, true}
 use Rattle.std.proofs.Common.{sym, subst}
 use Rattle.arch_model.specs.declared.answer.Answer.{Answer}
 use Rattle.arch_model.specs.declared.answer.Answer.TheVariants as answer
+use Rattle.arch_model.specs.declared.command.Command.{Command}
+use Rattle.arch_model.specs.declared.command.Command.TheVariants.{Deliver, Remove}
 use Rattle.arch_judge.specs.declared.judging.Verdict.TheVariants.{Refuse}
 use Rattle.epoch_file.specs.declared.refusal.StoreRefusal.{StoreRefusal}
 use Rattle.epoch_file.specs.declared.refusal.StoreRefusal.TheVariants as refusal
 use Rattle.epoch_store.specs.Stores.{View}
-use Rattle.archive_core.specs.Commands.{OnDone, TellsText, refusal_answer}
+use Rattle.archive_core.specs.Commands.{AnswersDelivery, IsForCommand, OnDone, TellsText, is_delivery, refusal_answer}
 use Rattle.archive_core.specs.Kept.{TakesWhatMay}
 
 pub refuse-tells : (v : View) (reply : Answer) (text : List ℕ) → TakesWhatMay v (Refuse reply) → TellsText reply text
@@ -53,3 +55,8 @@ error_done (refusal.Damaged file at) P = tt
 
 pub error-done : (why : StoreRefusal) (reply : Answer) (P : Type 0) → reply ≡ refusal_answer why → OnDone reply P
 error-done why reply P is = subst (λ (r : Answer). OnDone r P) (sym is) (error_done why P)
+
+-- An answer to a delivery is one to the command.
+pub for-delivery : (m : Command) (reply : Answer) → is_delivery m ≡ true → AnswersDelivery reply → IsForCommand m reply
+for-delivery (Deliver bytes) reply delivers is = is
+for-delivery (Remove number) reply delivers is = absurd (cc)

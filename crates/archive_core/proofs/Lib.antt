@@ -14,5 +14,6 @@ mod RisingPlaces
 mod KeepingUp
 mod KeptTexts
 mod OpeningRows
+mod Unmoved
 mod Walking
 pub mod Engines

@@ -1,6 +1,6 @@
 -- An archive that was opened, and then read for its rows.
-use Rattle.std.specs.Prelude.{◌≡◌, ◌≤◌, ℕ, List, Option, Some, None, Result, Ok, Err, IfOk, refl}
-use Rattle.std.proofs.Common.{◌∙◌, sym, ap, subst, arith}
+use Rattle.std.specs.Prelude.{◌≡◌, ◌≤◌, ℕ, List, Option, Some, None, Result, Ok, Err, refl}
+use Rattle.std.proofs.Common.{sym, ap, subst}
 use Rattle.arch_base.specs.Counts.{RoseIf}
 use Rattle.disk_model.specs.Disk.{Files, Content, Image, Told, WhereTold, Unchanged, LeavesOnly}
 use Rattle.disk_model.specs.Moments.{joined}
@@ -13,7 +13,7 @@ use Rattle.arch_model.specs.declared.text_refusal.TextRefusal.{TextRefusal}
 use Rattle.arch_model.specs.declared.text_refusal.TextRefusal.TheVariants as reading
 use Rattle.epoch_store.specs.declared.entries.StoredEntry.{StoredEntry}
 use Rattle.epoch_store.specs.Files.{as_read}
-use Rattle.epoch_store.specs.Opens.{RecoversOfWith, AllRecoverWith, ReadsWith, Opens, OpensWell, SyncsFirst, OnSynced}
+use Rattle.epoch_store.specs.Opens.{RecoversOfWith, Opens, OpensWell, SyncsFirst, OnSynced}
 use Rattle.epoch_store.specs.Promises.{OpensArchive}
 use Rattle.epoch_store.specs.Reads.{HasTexts}
 use Rattle.epoch_store.specs.Recovery.{RecoversWith}
@@ -89,6 +89,13 @@ module _ {D : Type 0} (content : D → Option Content) (moment : D → ℕ) (lef
         answered (Some k) None w told texts_are is_sound = absurd told
         answered (Some k) (Some m) w told texts_are is_sound = quiet k w (is_sound texts_are)
 
+-- The disk that was lent is the one that was only read.
+pub looked : {D : Type 0} (content : D → Option Content) (moment : D → ℕ) (left_since : D → ℕ → Files → Type 0) (old new last : D) → last ≡ new → OnlyLooks content moment left_since old new → OnlyLooks content moment left_since old last
+looked content moment left_since old new last same looks = subst (λ d. OnlyLooks content moment left_since old d) (sym same) looks
+
+pub caused : {D : Type 0} (faults : D → ℕ) (P : Type 0) (old new last : D) → last ≡ new → RoseIf P (faults old) (faults new) → RoseIf P (faults old) (faults last)
+caused faults P old new last same cause = subst (λ d. RoseIf P (faults old) (faults d)) (sym same) cause
+
 -- Why an archive wasn't opened whose text wasn't read.
 pub unread-well : (v : View) (found : Option StoredEntry) (why : TextRefusal) (r : OpenRefusal) → r ≡ unread_opening v found why → IsUndamaged why → OpensWell {T = View} (Err r)
 unread-well v found why r is undamaged = subst (λ (w : OpenRefusal). OpensWell {T = View} (Err w)) (sym is) (by found why undamaged) where
@@ -97,25 +104,38 @@ unread-well v found why r is undamaged = subst (λ (w : OpenRefusal). OpensWell 
   by f reading.NoMemory fine = tt
   by f (reading.Damaged named other) never = absurd never
 
-pub unread-cause : (v : View) (found : Option StoredEntry) (before now : ℕ) (why : TextRefusal) (r : OpenRefusal) → r ≡ unread_opening v found why → ReadingWhy before now why → RoseIf (◌≡◌ {A = OpenRefusal} r opening.DiskFault) before now
-unread-cause v found before now why r is cause = subst (λ (w : OpenRefusal). RoseIf (◌≡◌ {A = OpenRefusal} w opening.DiskFault) before now) (sym is) (by found why cause) where
-  by : (f : Option StoredEntry) (w : TextRefusal) → ReadingWhy before now w → RoseIf (◌≡◌ {A = OpenRefusal} (unread_opening v f w) opening.DiskFault) before now
-  by f reading.DiskFault rose = record { later = search rules; failed = λ fault. rose; kept = λ never. absurd (never refl) }
-  by f reading.NoMemory same = record { later = omega (arith, same); failed = λ fault. absurd (cc); kept = λ never. same }
-  by None (reading.Damaged named other) why_ = (let same = why_.1 in record { later = omega (arith, same); failed = λ fault. absurd (cc); kept = λ never. same })
-  by (Some e) (reading.Damaged named other) why_ = (let same = why_.1 in record { later = omega (arith, same); failed = λ fault. absurd (cc); kept = λ never. same })
+pub unread-cause : {T : Type 0} (v : View) (found : Option StoredEntry) (before now : ℕ) (why : TextRefusal) (r : OpenRefusal) → r ≡ unread_opening v found why → before ≤ now → ReadingWhy before now why → RoseIf (◌≡◌ {A = Result T OpenRefusal} (Err r) (Err opening.DiskFault)) before now
+unread-cause {T} v found before now why r is later cause = subst (λ (w : OpenRefusal). RoseIf (◌≡◌ {A = Result T OpenRefusal} (Err w) (Err opening.DiskFault)) before now) (sym is) (by found why cause) where
+  by : (f : Option StoredEntry) (w : TextRefusal) → ReadingWhy before now w → RoseIf (◌≡◌ {A = Result T OpenRefusal} (Err (unread_opening v f w)) (Err opening.DiskFault)) before now
+  by f reading.DiskFault rose = record { later = later; failed = λ fault. rose; kept = λ never. absurd (never refl) }
+  by f reading.NoMemory same = record { later = later; failed = λ fault. absurd (cc); kept = λ never. same }
+  by None (reading.Damaged named other) why_ = record { later = later; failed = λ fault. absurd (cc); kept = λ never. why_.1 }
+  by (Some e) (reading.Damaged named other) why_ = record { later = later; failed = λ fault. absurd (cc); kept = λ never. why_.1 }
+
+-- A refusal has the same cause, whatever would have been given.
+pub cause-of : {T U : Type 0} (w : OpenRefusal) (before now : ℕ) → RoseIf (◌≡◌ {A = Result T OpenRefusal} (Err w) (Err opening.DiskFault)) before now → RoseIf (◌≡◌ {A = Result U OpenRefusal} (Err w) (Err opening.DiskFault)) before now
+cause-of {T} {U} w before now cause = record {
+  later = cause.later;
+  failed = λ fault. cause.failed (there fault);
+  kept = λ never. cause.kept (λ fault. never (back fault));
+} where
+  there : ◌≡◌ {A = Result U OpenRefusal} (Err w) (Err opening.DiskFault) → ◌≡◌ {A = Result T OpenRefusal} (Err w) (Err opening.DiskFault)
+  there fault = (let same : w ≡ opening.DiskFault = cc in ap (λ (x : OpenRefusal). Err x) same)
+
+  back : ◌≡◌ {A = Result T OpenRefusal} (Err w) (Err opening.DiskFault) → ◌≡◌ {A = Result U OpenRefusal} (Err w) (Err opening.DiskFault)
+  back fault = (let same : w ≡ opening.DiskFault = cc in ap (λ (x : OpenRefusal). Err x) same)
 
 -- What a refusal by a read leaves.
 pub kindly-read : (v : View) (before now after : Option Content) (w : OpenRefusal) → Told (IsSettledBy v.root v.slot) before now → WhereTold (HasTexts v) now → (IsSound v now → OpensWell {T = View} (Err w)) → Told Unchanged now after → StillReads before after → LeavesKindly w before after
-kindly-read v before now after opening.DiskFault told texts sound same still = tt
-kindly-read v before now after opening.NoMemory told texts sound same still = still
-kindly-read v None None None opening.NoArchive told texts sound same still = tt
-kindly-read v None None (Some n) opening.NoArchive told texts sound same still = absurd same
-kindly-read v None (Some m) after opening.NoArchive told texts sound same still = absurd told
-kindly-read v (Some k) None after opening.NoArchive told texts sound same still = absurd told
-kindly-read v (Some k) (Some m) after opening.NoArchive told texts sound same still = absurd (sound texts)
-kindly-read v None None None (opening.Damaged file at) told texts sound same still = tt
-kindly-read v None None (Some n) (opening.Damaged file at) told texts sound same still = absurd same
-kindly-read v None (Some m) after (opening.Damaged file at) told texts sound same still = absurd told
-kindly-read v (Some k) None after (opening.Damaged file at) told texts sound same still = absurd told
-kindly-read v (Some k) (Some m) after (opening.Damaged file at) told texts sound same still = absurd (sound texts)
+kindly-read v before now after opening.DiskFault told texts sound unchanged still = tt
+kindly-read v before now after opening.NoMemory told texts sound unchanged still = still
+kindly-read v None None None opening.NoArchive told texts sound unchanged still = tt
+kindly-read v None None (Some n) opening.NoArchive told texts sound unchanged still = absurd unchanged
+kindly-read v None (Some m) after opening.NoArchive told texts sound unchanged still = absurd told
+kindly-read v (Some k) None after opening.NoArchive told texts sound unchanged still = absurd told
+kindly-read v (Some k) (Some m) after opening.NoArchive told texts sound unchanged still = absurd (sound texts)
+kindly-read v None None None (opening.Damaged file at) told texts sound unchanged still = tt
+kindly-read v None None (Some n) (opening.Damaged file at) told texts sound unchanged still = absurd unchanged
+kindly-read v None (Some m) after (opening.Damaged file at) told texts sound unchanged still = absurd told
+kindly-read v (Some k) None after (opening.Damaged file at) told texts sound unchanged still = absurd told
+kindly-read v (Some k) (Some m) after (opening.Damaged file at) told texts sound unchanged still = absurd (sound texts)

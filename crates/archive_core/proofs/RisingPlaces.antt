@@ -1,5 +1,5 @@
 -- Places whose numbers rise: one more, and one that is no longer live.
-use Rattle.std.specs.Prelude.{◌≡◌, ◌≢◌, ◌+◌, ◌-◌, ◌<◌, ◌≤◌, ◌==◌, ℕ, zero, suc, Bool, true, false, List, [], ◌∷◌, ◌++◌, length, drop, set, get_or, slice_get, Option, Some, None, if◌then◌else◌, refl}
+use Rattle.std.specs.Prelude.{◌≡◌, ◌≢◌, ◌+◌, ◌-◌, ◌<◌, ◌≤◌, ◌==◌, ℕ, zero, suc, Bool, true, false, List, [], ◌∷◌, ◌++◌, length, drop, set, get_or, slice_get, Some, if◌then◌else◌, refl}
 use Rattle.std.proofs.Common.{◌∙◌, sym, ap, subst, arith}
 use Rattle.std.proofs.lemmas.Bool.Decides.{nat_tests}
 use Rattle.std.proofs.lemmas.List.{drop_more, drop_all}
@@ -64,15 +64,23 @@ pub rising-more : (ps : List MessagePlace) (i : ℕ) (p : MessagePlace) (least :
 rising-more ps i p least within low rest = subst (λ (qs : List MessagePlace). PlacesFrom least qs) (sym (drop_more ps i p within)) (low, rest)
 
 pub rising-all : (ps : List MessagePlace) (i least : ℕ) → length ps ≤ i → PlacesFrom least (drop i ps)
-rising-all ps i least past = subst (λ (qs : List MessagePlace). PlacesFrom least qs) (sym (drop_all ps i past)) tt
+rising-all ps i least past = subst (λ (qs : List MessagePlace). PlacesFrom least qs) (sym (drop_all i ps past)) tt
+
+-- Any place may follow none.
+pub follows-none : (ps : List MessagePlace) (number entry : ℕ) → length ps ≤ 0 → PlacesRise (ps ++ record { number = number; entry = entry; live = true } ∷ [])
+follows-none [] number entry none = (omega arith, tt)
+follows-none (p ∷ ps) number entry none = absurd (omega (arith, none))
 
 -- A place with a number above the last one may follow.
 pub follows-last : (low : ℕ) (ps : List MessagePlace) (last : MessagePlace) (number entry : ℕ) → PlacesFrom low ps → get_or ps (length ps - 1) last ≡ last → last.number < number → low ≤ number → PlacesFrom low (ps ++ record { number = number; entry = entry; live = true } ∷ [])
 follows-last low [] last number entry rise is less least = (least, tt)
 follows-last low (p ∷ []) last number entry rise is less least = (rise.0, (let same : p.number ≡ last.number = ap (λ (q : MessagePlace). q.number) is in omega (arith, same, less), tt))
 follows-last low (p ∷ (q ∷ ps)) last number entry rise is less least =
-    let below = at-least (p.number + 1) (q ∷ ps) (length ps) last rise.1 (at_last q ps last is) in
-    (rise.0, follows-last (p.number + 1) (q ∷ ps) last number entry rise.1 is less (omega (arith, below, less)))
+    let one_less : length (p ∷ (q ∷ ps)) - 1 ≡ suc (length ps) = omega arith in
+    let here : get_or (q ∷ ps) (length ps) last ≡ last = subst (λ (i : ℕ). get_or (p ∷ (q ∷ ps)) i last ≡ last) one_less is in
+    let rest_less : length ps ≡ length (q ∷ ps) - 1 = omega arith in
+    let below = at-least (p.number + 1) (q ∷ ps) (length ps) last rise.1 (at_last q ps last here) in
+    (rise.0, follows-last (p.number + 1) (q ∷ ps) last number entry rise.1 (subst (λ (i : ℕ). get_or (q ∷ ps) i last ≡ last) rest_less here) less (omega (arith, below, less)))
   where
     at_last : (x : MessagePlace) (xs : List MessagePlace) (d : MessagePlace) → get_or (x ∷ xs) (length xs) d ≡ d → slice_get (x ∷ xs) (length xs) ≡ Some d
     at_last x [] d same = ap (λ (y : MessagePlace). Some y) same

@@ -1,5 +1,5 @@
 -- What is walked through of a store, and the rows of the entries so far.
-use Rattle.std.specs.Prelude.{◌≡◌, ◌≢◌, ◌+◌, ◌<◌, ◌≤◌, ℕ, zero, suc, List, [], ◌∷◌, ◌++◌, length, take, drop, slice_get, Option, Some, None, Result, Ok, Err, IfErr, refl}
+use Rattle.std.specs.Prelude.{◌≡◌, ◌+◌, ◌<◌, ◌≤◌, ℕ, zero, suc, List, [], ◌∷◌, ◌++◌, length, take, slice_get, Option, Some, None, Result, Ok, Err, IfErr, refl}
 use Rattle.std.proofs.Common.{◌∙◌, sym, ap, subst, arith}
 use Rattle.disk_model.specs.Disk.{Content, WhereTold}
 use Rattle.git_objects.specs.Objects.{blob_id_of}
@@ -7,7 +7,7 @@ use Rattle.git_objects.specs.declared.entry_kind.EntryKind.{EntryKind}
 use Rattle.git_objects.specs.declared.entry_kind.EntryKind.TheVariants.{Message, Deletion}
 use Rattle.mail_forms.specs.declared.row.Row.{Row}
 use Rattle.arch_model.specs.Archives.{Entry, Archive, message, deletion, live}
-use Rattle.arch_model.specs.Listings.{rows_of, row_at}
+use Rattle.arch_model.specs.Listings.{rows_of}
 use Rattle.arch_model.specs.Rows.{row_of}
 use Rattle.arch_model.specs.Shelves.{line_after, lines_after, line_at, IsUndamaged}
 use Rattle.arch_model.specs.Validity.{IsArchive, Rise, number_after}
@@ -17,7 +17,6 @@ use Rattle.arch_model.specs.declared.text_refusal.TextRefusal.{TextRefusal}
 use Rattle.arch_model.specs.declared.text_refusal.TextRefusal.TheVariants as reading
 use Rattle.arch_model.proofs.LiveEntries.{live-message, live-deletion, without as without_number}
 use Rattle.arch_judge.proofs.Endings.{Ascend, live-ascend}
-use Rattle.epoch_store.specs.Files.{epoch_file_of}
 use Rattle.epoch_store.specs.Reads.{line_of, line_if, GivesText, FindsText, GivesTextOf, HasTexts, text_if}
 use Rattle.epoch_store.specs.Stores.{View}
 use Rattle.epoch_store.specs.declared.entries.StoredEntry.{StoredEntry}
@@ -69,7 +68,7 @@ sound-undamaged v k i s old new reading.NoMemory texts there given finds = tt
 sound-undamaged v k i s old new (reading.Damaged named found) texts there given finds =
     let here = texts i s there in
     let same : found ≡ named = finds.2 ∙ ap blob_id_of (finds.1 here.long) ∙ here.blob ∙ sym given.1 in
-    given.2.0 same
+    given.2 same
 
 pub sound-if : (v : View) (k : Option Content) (i : ℕ) (s : StoredEntry) (old new : List ℕ) (r : Result Unit TextRefusal) → IsSound v k → slice_get v.entries i ≡ Some s → GivesText s old new r → WhereTold (FindsText v.root s old new r) k → IfErr r IsUndamaged
 sound-if v None i s old new r sound there given finds = absurd sound
@@ -81,7 +80,7 @@ pub text-other : (s : StoredEntry) (old new : List ℕ) (r : Result Unit TextRef
 text-other s old new (Ok x) given = tt
 text-other s old new (Err reading.DiskFault) given = tt
 text-other s old new (Err reading.NoMemory) given = tt
-text-other s old new (Err (reading.Damaged named found)) given = given.2.0
+text-other s old new (Err (reading.Damaged named found)) given = given.2
 
 -- There is an entry at an index below their number.
 pub entry-inside : (ss : List StoredEntry) (i : ℕ) → i < length ss → (s : StoredEntry) × (slice_get ss i ≡ Some s)
@@ -138,7 +137,7 @@ last_above number (x ∷ xs) e rise =
     let rest = last_above (x.number + 1) xs e rise.1 in
     let low : number ≤ x.number = rise.0 in
     let above : x.number + 1 ≤ e.number = rest.0 in
-    (omega (arith, low, above), omega (arith, above), rest.1)
+    (omega (arith, low, above), (omega (arith, above), rest.1))
 
 as_message : (e : Entry) → e.kind ≡ Message → e ≡ message e.number e.epoch e.text e.moment
 as_message e is = ap (λ (k : EntryKind). let f : Entry = record { kind = k; number = e.number; epoch = e.epoch; text = e.text; moment = e.moment } in f) is

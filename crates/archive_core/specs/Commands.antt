@@ -99,20 +99,61 @@ UnlessFault answer.IsMirror P = P
 UnlessFault (answer.Damaged file offset) P = P
 UnlessFault answer.NoMemory P = P
 
--- The answers to a command. As long as no command purges or edits, no number is without a text.
-abbrev pub IsForCommand : Answer → Type 0
-IsForCommand (answer.Ok number id) = Unit {0}
-IsForCommand (answer.Duplicate number) = Unit {0}
-IsForCommand answer.NoFields = Unit {0}
-IsForCommand (answer.TooLarge len) = Unit {0}
-IsForCommand (answer.Full max) = Unit {0}
-IsForCommand (answer.Collision number) = Unit {0}
-IsForCommand answer.IsMirror = Unit {0}
-IsForCommand answer.DiskFault = Unit {0}
-IsForCommand answer.NoMemory = Unit {0}
-IsForCommand (answer.NotLive number) = Unit {0}
-IsForCommand (answer.NoText number) = ⊥
-IsForCommand (answer.Damaged file offset) = Unit {0}
+-- What holds of a refusal before which no text is read.
+abbrev pub IfUnread : Answer → Type 0 → Type 0
+IfUnread (answer.Ok number id) P = Unit {0}
+IfUnread (answer.Duplicate number) P = P
+IfUnread answer.NoFields P = P
+IfUnread (answer.TooLarge len) P = P
+IfUnread (answer.Full max) P = Unit {0}
+IfUnread (answer.Collision number) P = Unit {0}
+IfUnread (answer.NotLive number) P = P
+IfUnread (answer.NoText number) P = P
+IfUnread answer.IsMirror P = P
+IfUnread answer.DiskFault P = Unit {0}
+IfUnread (answer.Damaged file offset) P = Unit {0}
+IfUnread answer.NoMemory P = Unit {0}
+
+-- The same of a verdict.
+abbrev pub IfRefusedUnread : Verdict → Type 0 → Type 0
+IfRefusedUnread (Take text blob number) P = Unit {0}
+IfRefusedUnread (Compare text blob number) P = Unit {0}
+IfRefusedUnread (Refuse reply) P = IfUnread reply P
+
+-- The answers to a delivery. As long as no command purges or edits, no number is without a text.
+abbrev pub AnswersDelivery : Answer → Type 0
+AnswersDelivery (answer.Ok number id) = Unit {0}
+AnswersDelivery (answer.Duplicate number) = Unit {0}
+AnswersDelivery answer.NoFields = Unit {0}
+AnswersDelivery (answer.TooLarge len) = Unit {0}
+AnswersDelivery (answer.Full max) = Unit {0}
+AnswersDelivery (answer.Collision number) = Unit {0}
+AnswersDelivery answer.IsMirror = Unit {0}
+AnswersDelivery answer.DiskFault = Unit {0}
+AnswersDelivery answer.NoMemory = Unit {0}
+AnswersDelivery (answer.NotLive number) = ⊥
+AnswersDelivery (answer.NoText number) = ⊥
+AnswersDelivery (answer.Damaged file offset) = Unit {0}
+
+-- The answers to the removal of a number. `Ok` and `NotLive` have this number.
+abbrev pub AnswersRemoval : ℕ → Answer → Type 0
+AnswersRemoval n (answer.Ok number id) = number ≡ n
+AnswersRemoval n (answer.Duplicate number) = ⊥
+AnswersRemoval n answer.NoFields = ⊥
+AnswersRemoval n (answer.TooLarge len) = ⊥
+AnswersRemoval n (answer.Full max) = ⊥
+AnswersRemoval n (answer.Collision number) = ⊥
+AnswersRemoval n answer.IsMirror = Unit {0}
+AnswersRemoval n answer.DiskFault = Unit {0}
+AnswersRemoval n answer.NoMemory = Unit {0}
+AnswersRemoval n (answer.NotLive number) = number ≡ n
+AnswersRemoval n (answer.NoText number) = ⊥
+AnswersRemoval n (answer.Damaged file offset) = Unit {0}
+
+-- The answers to a command.
+abbrev pub IsForCommand : Command → Answer → Type 0
+IsForCommand (Deliver bytes) reply = AnswersDelivery reply
+IsForCommand (Remove number) reply = AnswersRemoval number reply
 
 -- The answer for an error of the store.
 abbrev pub refusal_answer : StoreRefusal → Answer
@@ -185,11 +226,13 @@ pub record OnlyLooks {D : Type 0} (content : D → Option Content) (moment : D �
 -- the root's sequence can be raised, at each moment a crash leaves the archive before the command or
 -- the one after it, and the answer and the disk then are the wanted ones. After `Ok` all that reads
 -- give is on the disk, and the root, in the other slot, goes on from the one before. Any other
--- answer leaves what is kept in memory, and, but for a fault, the content of the disk. The command
--- fails only if the count of faults rose, and reads at most once.
+-- answer leaves what is kept in memory, and, but for a fault, the content of the disk; one before
+-- which no text is read leaves the disk as it was. The command fails only if the count of faults
+-- rose, and reads at most once.
 pub record TakesCommand {D : Type 0} (content : D → Option Content) (moment : D → ℕ)
     (left_since : D → ℕ → Files → Type 0) (faults reads : D → ℕ) (old new : D)
-    (before after : View) (wanted : Archive → Done) (reply : Answer) : Type 0 where
+    (before after : View) (command : Command) (wanted : Archive → Done) (reply : Answer)
+    : Type 0 where
   pub any_moment : (a : Archive) (cache : List ℕ) → IsStoreWith before cache a (content old)
       → before.root.sequence + 1 < 2 ^ 64
       → LeavesOnly moment left_since old new (RecoversEitherWith cache a (wanted a).archive)
@@ -201,9 +244,10 @@ pub record TakesCommand {D : Type 0} (content : D → Option Content) (moment : 
   pub slot : OnDone reply (after.slot ≡ 1 - before.slot)
   pub same : OnRefusal reply (after ≡ before)
   pub untouched : OnRefusal reply (UnlessFault reply (OnlyLooks content moment left_since old new))
+  pub unmoved : IfUnread reply (new ≡ old)
   pub sizes : UnlessFault reply (WhereTold (HasSizes after) (content new))
   pub cause : RoseIf (reply ≡ answer.DiskFault) (faults old) (faults new)
-  pub for_command : IsForCommand reply
+  pub for_command : IsForCommand command reply
   pub count : ReadsOnce (reads old) (reads new)
 
 -- The command is a delivery.

@@ -18,7 +18,7 @@ ghost use Rattle.archive_core.specs.Openings.{RefusesKindly};
 ghost use Rattle.epoch_store.specs.Promises.{MakesArchive, OpensArchive};
 ghost use Rattle.epoch_store.specs.Reads.{HasTexts};
 ghost use Rattle.epoch_store.specs.Stores.{IsStoreWith, Keeps, HasSizes, RecoversEitherWith, SeesNoDamage, GoesOn};
-ghost use Rattle.archive_core.specs.Commands.{DoneBy, OnDone, OnRefusal, UnlessFault, OnlyLooks, IsForCommand, IsFaultRead, JudgesRead, IsAlone, TakesCommand, refusal_answer, unread_answer, damaged_place, IsNamed, IsTextAt, ReadsMessage, IsUnread, is_delivery, IfDelivery, TellsText, KeepsText};
+ghost use Rattle.archive_core.specs.Commands.{DoneBy, OnDone, OnRefusal, UnlessFault, OnlyLooks, AnswersDelivery, AnswersRemoval, IfUnread, IfRefusedUnread, IsFaultRead, JudgesRead, IsAlone, TakesCommand, refusal_answer, unread_answer, damaged_place, IsNamed, IsTextAt, ReadsMessage, IsUnread, is_delivery, IfDelivery, TellsText, KeepsText};
 
 use crate::entries::index_of;
 use crate::placing::{MessagePlace, are_rising, end_place, may_follow, places_of};
@@ -135,7 +135,7 @@ impl DiskArchive {
         requires moment { moment ≤ last_moment }
         requires sizes { WhereTold (HasSizes self.old) (D.content disk.old) }
         ensures taken { TakesCommand D.content D.moment D.left_since D.faults D.reads disk.old
-            disk.new self.old self.new (λ a. applied a command.now moment) result }
+            disk.new self.old self.new command.now (λ a. applied a command.now moment) result }
         // A delivery whose blob id no entry has reads nothing.
         ensures unread { (a : Archive) (cache : List ℕ)
             → IsStoreWith self.old cache a (D.content disk.old) → text_known a command.now ≡ false
@@ -168,7 +168,7 @@ impl DiskArchive {
         requires moment { moment ≤ last_moment }
         requires sizes { WhereTold (HasSizes self.old) (D.content disk.old) }
         ensures taken { TakesCommand D.content D.moment D.left_since D.faults D.reads disk.old
-            disk.new self.old self.new (λ a. applied a command.now moment) result }
+            disk.new self.old self.new command.now (λ a. applied a command.now moment) result }
         // A delivery whose blob id no entry has reads nothing.
         ensures unread { (a : Archive) (cache : List ℕ)
             → IsStoreWith self.old cache a (D.content disk.old) → text_known a command.now ≡ false
@@ -210,9 +210,10 @@ impl DiskArchive {
         ensures same { OnRefusal result (self.new ≡ self.old) }
         ensures untouched { OnRefusal result (UnlessFault result (OnlyLooks D.content D.moment
             D.left_since disk.old disk.new)) }
+        ensures unmoved { IfUnread result (disk.new ≡ disk.old) }
         ensures sizes { UnlessFault result (WhereTold (HasSizes self.new) (D.content disk.new)) }
         ensures cause { RoseIf (result ≡ Answer.DiskFault) (D.faults disk.old) (D.faults disk.new) }
-        ensures for_command { IsForCommand result }
+        ensures for_command { AnswersDelivery result }
         ensures count { ReadsOnce (D.reads disk.old) (D.reads disk.new) }
         ensures unread { (a : Archive) (cache : List ℕ)
             → IsStoreWith self.old cache a (D.content disk.old) → form_known a (stored bytes.now) ≡ false
@@ -247,6 +248,7 @@ impl DiskArchive {
             → IsStoreWith self.now cache a (D.content disk.old) → IsAlone a result }
         ensures taken { TakesWhatMay self.now result }
         ensures looks { OnlyLooks D.content D.moment D.left_since disk.old disk.new }
+        ensures unmoved { IfRefusedUnread result (disk.new ≡ disk.old) }
         ensures cause { RoseIf (IsFaultRead result) (D.faults disk.old) (D.faults disk.new) }
         ensures count { ReadsOnce (D.reads disk.old) (D.reads disk.new) }
         ensures unread { (a : Archive) (cache : List ℕ)
@@ -353,9 +355,10 @@ impl DiskArchive {
         ensures same { OnRefusal result (self.new ≡ self.old) }
         ensures untouched { OnRefusal result (UnlessFault result (OnlyLooks D.content D.moment
             D.left_since disk.old disk.new)) }
+        ensures unmoved { IfUnread result (disk.new ≡ disk.old) }
         ensures sizes { UnlessFault result (WhereTold (HasSizes self.new) (D.content disk.new)) }
         ensures cause { RoseIf (result ≡ Answer.DiskFault) (D.faults disk.old) (D.faults disk.new) }
-        ensures for_command { IsForCommand result }
+        ensures for_command { AnswersRemoval number result }
         ensures count { ReadsOnce (D.reads disk.old) (D.reads disk.new) }
     {
         law_of_stores();
@@ -405,9 +408,11 @@ impl DiskArchive {
         ensures slot { OnDone result (self.new.slot ≡ 1 - self.old.slot) }
         ensures same { OnRefusal result (self.new ≡ self.old) }
         ensures untouched { OnRefusal result (UnlessFault result (disk.new ≡ disk.old)) }
+        // Its answers come after the text was read.
+        ensures read { IfUnread result ⊥ }
         ensures sizes { UnlessFault result (WhereTold (HasSizes self.new) (D.content disk.new)) }
         ensures cause { RoseIf (result ≡ Answer.DiskFault) (D.faults disk.old) (D.faults disk.new) }
-        ensures for_command { IsForCommand result }
+        ensures for_command { AnswersRemoval number result }
         ensures count { D.reads disk.new ≡ D.reads disk.old }
     {
         law_of_stores();

@@ -1,5 +1,5 @@
 //! The rows of live messages, as entries are walked through and as commands change them.
-ghost use Rattle.std.specs.Prelude.{◌≡◌, ◌+◌, ◌<◌, ℕ, List, true, Some, take, length, slice_get, is_ok, IfOk, IfErr, OnOk, OnErr};
+ghost use Rattle.std.specs.Prelude.{◌≡◌, ◌+◌, ◌<◌, ℕ, List, [], true, Some, take, length, slice_get, is_ok, IfOk, IfErr, OnOk, OnErr};
 ghost use Rattle.git_objects.specs.Objects.{blob_id_of};
 ghost use Rattle.mail_reader.specs.StorageTexts.{IsStorageText};
 ghost use Rattle.arch_model.specs.Archives.{Archive, live};

@@ -9,6 +9,8 @@ mod core_tests;
 #[cfg(test)]
 mod disk_removal_tests;
 #[cfg(test)]
+mod doubt_tests;
+#[cfg(test)]
 mod engine_tests;
 #[cfg(test)]
 mod listing_tests;

@@ -52,8 +52,10 @@ fn first_row_is_right<K: Keep>(keep: &mut K) -> Result<bool, OpenRefusal> {
     match keep.row(1) {
         None => Ok(false),
         Some(row) => {
-            let names = row.subject.as_slice() == b"first" && row.from.as_slice() == b"Ann";
-            let line = row.over.as_slice() == FIRST_OVER && row.id.as_slice() == b"<a@x>";
+            let names = row.subject.as_slice() == b"first".as_slice()
+                && row.from.as_slice() == b"Ann".as_slice();
+            let line = row.over.as_slice() == FIRST_OVER
+                && row.id.as_slice() == b"<a@x>".as_slice();
             let dates = row.date.secs == 1_706_781_600 && row.arrived == MOMENT;
             let sizes = row.size == 103 && row.wire == 109 && row.mbox == 143 && row.lines == 1;
             Ok(names && line && dates && sizes && row.number == 1)

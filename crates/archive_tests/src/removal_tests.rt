@@ -81,7 +81,7 @@ fn epoch_len<K: Keep>(alloc: Global, keep: &mut K, epoch: u32) -> Result<Option<
 }
 
 /// Returns whether the first mail and its removal are the two entries, in an epoch of 672 bytes.
-fn has_both<K: Keep>(alloc: Global, keep: &mut K) -> Result<bool, Fail> {
+pub(crate) fn has_both<K: Keep>(alloc: Global, keep: &mut K) -> Result<bool, Fail> {
     let first = is_entry(line(keep, 0)?, EntryKind::Message, 1, FIRST_COMMIT);
     let second = is_entry(line(keep, 1)?, EntryKind::Deletion, 1, REMOVAL_COMMIT);
     let third = line(keep, 2)?.is_none();

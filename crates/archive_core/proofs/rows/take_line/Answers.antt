@@ -9,7 +9,7 @@ returns-in-Message-clause-rows g c = λ a held old_is.
 
 pub returns-in-Deletion-clause-rows : goal.returns-in-Deletion-clause-rows
 returns-in-Deletion-clause-rows g c = λ a held old_is.
-    rows-deletion a c.args.index c.args.line.now c.args.overview.now c.take.new.overview (g.met.W.Walked.holds_valid c.args.walked.now a held) (c.requires.archive a held) c.in-Deletion.is old_is c.take.ensures.rows
+    rows-deletion a c.args.index c.args.line.now c.args.overview.now c.take.new.self (g.met.W.Walked.holds_valid c.args.walked.now a held) (c.requires.archive a held) c.in-Deletion.is old_is c.take.ensures.rows
 
 pub returns-in-Deletion-clause-walk : goal.returns-in-Deletion-clause-walk
 returns-in-Deletion-clause-walk g c = walks-same g.W.Walked.holds g.W.Walked.sound g.W.Walked.lines g.W.Walked.alike g.W.Walked.faults g.met.W.Walked.alike_same g.met.W.Walked.alike_joined c.args.walked.now

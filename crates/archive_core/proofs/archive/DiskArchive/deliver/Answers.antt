@@ -5,6 +5,7 @@ use Rattle.arch_model.specs.Delivery.{Done, delivered, collision}
 use Rattle.epoch_store.specs.Stores.{IsStoreWith, RecoversEitherWith}
 use Rattle.archive_core.proofs.Standing.{archive_taken, still_own, only-read, read-first, refusal-done}
 use Rattle.archive_core.proofs.KeptTexts.{refuse-tells, refuse-done, error-tells, error-done}
+use Rattle.archive_core.proofs.Unmoved.{if-error}
 use Rattle.archive_core.proofs.archive.DiskArchive.deliver.Goals as goal
 
 pub returns-in-Refuse-clause-any_moment : goal.returns-in-Refuse-clause-any_moment
@@ -76,3 +77,6 @@ returns-clause-text g c = error-tells c.in-Err.refusal c.answer_of.result c.args
 
 pub returns-clause-kept : goal.returns-clause-kept
 returns-clause-kept g c = λ a cache store. error-done c.in-Err.refusal c.answer_of.result _ c.answer_of.ensures
+
+pub returns-clause-unmoved : goal.returns-clause-unmoved
+returns-clause-unmoved g c = if-error c.in-Err.refusal c.answer_of.result _ c.answer_of.ensures

@@ -22,17 +22,17 @@ returns-in-Ok-clause-nothing g c = λ ready. absurd (still-stale g.D.Disk.conten
 pub returns-in-Ok-clause-found : goal.returns-in-Ok-clause-found
 returns-in-Ok-clause-found g c = opened-from g.D.Disk.content g.D.Disk.moment g.D.Disk.left_since g.met.D.Disk.counts_now g.met.D.Disk.only_now g.met.D.Disk.reads_fit
     (record { disk = c.self.inside.disk; view = c.self.inside.archive; rows = c.self.inside.overview; stale = c.self.inside.stale }) c.args.self.now c.self.view_is
-    (record { disk = c.open.new.disk; view = c.in-Ok.archive; rows = c.in-Ok.overview; stale = false }) c.open.ensures.opened.any_moment (λ a cache reads. (c.in-Ok.ensures.opened.done a cache reads, c.in-Ok.ensures.rows a cache reads))
+    (record { disk = c.open.new.disk; view = c.in-Ok.field-0.archive; rows = c.in-Ok.field-0.overview; stale = false }) c.open.ensures.opened.any_moment (λ a cache reads. (c.in-Ok.ensures.opened.done a cache reads, c.in-Ok.ensures.rows a cache reads))
 
 pub returns-in-Ok-clause-any_moment : goal.returns-in-Ok-clause-any_moment
 returns-in-Ok-clause-any_moment g c = passes-from g.D.Disk.content g.D.Disk.moment g.D.Disk.left_since g.met.D.Disk.counts_now g.met.D.Disk.only_now g.met.D.Disk.reads_fit
     (record { disk = c.self.inside.disk; view = c.self.inside.archive; rows = c.self.inside.overview; stale = c.self.inside.stale }) c.args.self.now c.self.view_is
-    (record { disk = c.open.new.disk; view = c.in-Ok.archive; rows = c.in-Ok.overview; stale = false }) c.open.ensures.opened.any_moment
+    (record { disk = c.open.new.disk; view = c.in-Ok.field-0.archive; rows = c.in-Ok.field-0.overview; stale = false }) c.open.ensures.opened.any_moment
 
 pub returns-in-Ok-clause-cause : goal.returns-in-Ok-clause-cause
 returns-in-Ok-clause-cause g c = opened-cause-from g.D.Disk.content g.D.Disk.moment g.D.Disk.left_since g.met.D.Disk.counts_now g.met.D.Disk.only_now g.met.D.Disk.reads_fit
     (record { disk = c.self.inside.disk; view = c.self.inside.archive; rows = c.self.inside.overview; stale = c.self.inside.stale }) c.args.self.now c.self.view_is
-    g.D.Disk.faults c.open.new.disk c.in-Ok.archive (view_opened c.open.result) (ap view_opened c.in-Ok.is) c.open.ensures.opened.cause
+    g.D.Disk.faults c.open.new.disk c.in-Ok.field-0.archive (view_opened c.open.result) (ap view_opened c.in-Ok.is) c.open.ensures.opened.cause
 
 pub returns-in-Err-clause-nothing : goal.returns-in-Err-clause-nothing
 returns-in-Err-clause-nothing g c = λ ready. absurd (still-stale g.D.Disk.content g.D.Disk.moment g.D.Disk.left_since g.met.D.Disk.counts_now g.met.D.Disk.only_now g.met.D.Disk.reads_fit
