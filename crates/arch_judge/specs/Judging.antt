@@ -124,6 +124,14 @@ TakesSame text kept (Take taken named number) = kept ≡ text
 TakesSame text kept (Compare other named number) = ⊥
 TakesSame text kept (Refuse reply) = Unit {0}
 
+-- After the texts were compared, only another text with the blob id and want of numbers refuse.
+abbrev pub RefusesLast : Verdict → Type 0
+RefusesLast (Take text blob number) = Unit {0}
+RefusesLast (Compare text blob number) = Unit {0}
+RefusesLast (Refuse (answer.Full max)) = Unit {0}
+RefusesLast (Refuse (answer.Collision number)) = Unit {0}
+RefusesLast (Refuse other) = ⊥
+
 -- The text is the storage form of some bytes.
 abbrev pub IsStored : List ℕ → Type 0
 IsStored text = (bytes : List ℕ) × (stored bytes ≡ Ok text)

@@ -6,7 +6,7 @@ ghost use Rattle.git_objects.specs.Objects.{blob_id_of};
 ghost use Rattle.arch_model.specs.Archives.{Archive, live};
 ghost use Rattle.arch_model.specs.Delivery.{delivered, delivered_kept, delivered_new};
 ghost use Rattle.arch_model.specs.Candidates.{choice_of, made_choice};
-ghost use Rattle.arch_judge.specs.Judging.{IsKnownBy, IsNewText, IsStored, Judges, MayTake, TakesNewText, TakesThis, TakesSame, unless_same};
+ghost use Rattle.arch_judge.specs.Judging.{IsKnownBy, IsNewText, IsStored, Judges, MayTake, RefusesLast, TakesNewText, TakesThis, TakesSame, unless_same};
 ghost use Rattle.arch_model.specs.declared.choice.Choice.TheVariants.{Take};
 
 use crate::index::Index;
@@ -192,6 +192,8 @@ fn judge_room(config: &Config, next: u32, text: Bytes, blob: ObjectId) -> Verdic
         → ((moment : ℕ) → delivered a bytes moment ≡ delivered_new a text moment)
         → Judges a bytes result }
     ensures taken { TakesThis config.now next text blob result }
+    // It refuses only if no number is left, or if another text has the blob id.
+    ensures last { RefusesLast result }
 {
     if next > config.max {
         return Verdict::Refuse(Answer::Full(config.max));
@@ -221,6 +223,8 @@ pub fn compared(
         → Judges a bytes result }
     // A text that is taken is the one that was compared.
     ensures taken { TakesThis config.now next text blob result }
+    // It refuses only if no number is left, or if another text has the blob id.
+    ensures last { RefusesLast result }
     // Another text is never taken.
     ensures same { TakesSame text kept.now result }
 {

@@ -5,8 +5,12 @@ pub mod Epochs
 pub mod Following
 pub mod Keeping
 pub mod Laws
+pub mod Listings
 pub mod Next
+pub mod Overviews
+pub mod Rows
 pub mod Shelves
 pub mod Standing
 pub mod Untold
 pub mod Validity
+pub mod Walking

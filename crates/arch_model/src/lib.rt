@@ -12,6 +12,7 @@ mod next;
 mod opening;
 mod shelf;
 mod text_refusal;
+mod walked;
 
 pub use answer::Answer;
 pub use choice::{Choice, Meeting};
@@ -23,7 +24,9 @@ pub use laws::{
 };
 pub use line::EntryLine;
 pub use mail_commits::{EntryIds, entry_commit, push_entry};
+pub use mail_forms::Row;
 pub use next::Next;
 pub use opening::OpenRefusal;
 pub use shelf::{Shelf, is_live};
 pub use text_refusal::TextRefusal;
+pub use walked::Walked;

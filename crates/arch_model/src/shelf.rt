@@ -1,14 +1,16 @@
 //! The trait of shelves: values that give the texts of one archive.
-ghost use Rattle.std.specs.Prelude.{◌≡◌, ℕ, Bool, true, OnErr, is_some};
+ghost use Rattle.std.specs.Prelude.{◌≡◌, ℕ, Bool, true, IfOk, OnErr, is_some, option_copied, take, drop};
 ghost use Rattle.arch_model.specs.Archives.{Archive, live, text_of};
+ghost use Rattle.arch_model.specs.Listings.{row_in, number_of_id, listing};
 ghost use Rattle.arch_model.specs.Shelves.{IsGreatestLive, live_between, line_at, GivesBlobIn, AppendsTo, Stays, ReadCause, ReadsOnce};
 ghost use Rattle.arch_model.specs.Standing.{IsLeastLive, GivesTextIn, KeepsUnlessFound};
 
 use crate::line::EntryLine;
 use crate::text_refusal::TextRefusal;
-use arch_base::{Bytes, Config, ObjectId};
+use arch_base::{Bytes, Config, NoMemory, Numbers, ObjectId};
+use mail_forms::Row;
 
-/// A shelf: a value that gives the entries and texts of one archive.
+/// A shelf: a value that gives the entries, the texts and the rows of one archive.
 ///
 /// A shelf is ready, or has to be reopened by its owner first. Each call needs a ready shelf, and
 /// leaves it ready and its archive unchanged. What a call gives is that of the archive, if the
@@ -40,6 +42,18 @@ pub trait Shelf {
         requires ready { ready self.now ≡ true }
         ensures { (a : Archive) → holds self.now a → result ≡ a.next };
 
+    /// Returns the row of a live message, or `None` if the number is not live.
+    fn row(&self, n: u32) -> Option<&Row>
+        requires ready { ready self.now ≡ true }
+        ensures { (a : Archive) → holds self.now a
+            → option_copied result ≡ row_in (live a.entries) n };
+
+    /// Returns the number of the live message with an own id, or `None` if there is none.
+    fn by_id(&self, id: &[u8]) -> Option<u32>
+        requires ready { ready self.now ≡ true }
+        ensures { (a : Archive) → holds self.now a
+            → result ≡ number_of_id (live a.entries) id.now };
+
     /// Returns the least number of a live message that is at least this one, or `None` if there is none.
     fn live_from(&self, n: u32) -> Option<u32>
         requires ready { ready self.now ≡ true }
@@ -54,6 +68,16 @@ pub trait Shelf {
     fn live_count(&self, low: u32, high: u32) -> u64
         requires ready { ready self.now ≡ true }
         ensures { (a : Archive) → holds self.now a → result ≡ live_between (live a.entries) low high };
+
+    /// Returns the numbers of live messages, newest first: by the seconds of their dates, and then by
+    /// number, both falling. These are so many after so many that are skipped, or as many as there
+    /// are.
+    ///
+    /// `NoMemory` if an allocation fails.
+    fn order_page(&self, skip: u64, count: u64) -> Result<Numbers, NoMemory>
+        requires ready { ready self.now ≡ true }
+        ensures { (a : Archive) → holds self.now a
+            → IfOk result (λ page. page ≡ take count (drop skip (listing (live a.entries)))) };
 
     /// Returns the entry at an index, from 0, without its text, or `None` if there are not so many.
     fn entry(&self, index: u64) -> Option<EntryLine>

@@ -1,28 +1,25 @@
 -- The messages of a store by their numbers: the places that are found, and their texts.
-use Rattle.std.specs.Prelude.{◌≡◌, ◌≢◌, ◌⊎◌, ◌+◌, ◌<◌, ◌≤◌, ◌==◌, ◌&&◌, ◌||◌, ℕ, zero, suc, Bool, true, false, List, [], ◌∷◌, length, count_by, get_or, slice_get, Option, Some, None, Result, Ok, Err, is_some, refl}
-use Rattle.std.specs.List.{filter}
+use Rattle.std.specs.Prelude.{◌≡◌, ◌≢◌, ◌⊎◌, ◌+◌, ◌<◌, ◌≤◌, ◌==◌, ◌&&◌, ◌||◌, ℕ, zero, suc, Bool, true, false, List, [], ◌∷◌, length, get_or, slice_get, Option, Some, None, Result, Ok, Err, is_some, refl}
 use Rattle.std.specs.List.Sorted.{IsPartitionPoint}
-use Rattle.std.proofs.Common.{◌-◌, ◌∙◌, sym, ap, subst, inl, inr, arith, ltb, ltb-true, ltb-false, leb, leb-true, leb-false}
+use Rattle.std.proofs.Common.{◌∙◌, sym, ap, subst, inl, inr, arith, ltb, ltb-true, ltb-false}
 use Rattle.std.proofs.lemmas.Bool.Decides.{nat_tests}
-use Rattle.std.proofs.lemmas.List.Sums.{length-filter}
 use Rattle.std.proofs.lemmas.Option.{slice_get_within, slice_get-get_or}
 use Rattle.disk_model.specs.Disk.{Content, WhereTold}
 use Rattle.arch_model.specs.Archives.{Entry, Archive, is_message, live, messages, text_of}
-use Rattle.arch_model.specs.Shelves.{IsGreatestLive, live_between, AppendsTo}
-use Rattle.arch_model.specs.Standing.{IsLeastLive, GivesTextIn, KeepsUnlessFound}
+use Rattle.arch_model.specs.Shelves.{AppendsTo}
+use Rattle.arch_model.specs.Standing.{GivesTextIn, KeepsUnlessFound}
 use Rattle.arch_model.proofs.Shelving.{appends-none}
 use Rattle.arch_model.specs.declared.text_refusal.TextRefusal.{TextRefusal}
 use Rattle.arch_model.specs.declared.text_refusal.TextRefusal.TheVariants.{DiskFault, Damaged, NoMemory}
 use Rattle.epoch_store.specs.declared.entries.StoredEntry.{StoredEntry}
 use Rattle.epoch_store.specs.Reads.{GivesText, FindsText, GivesTextOf, text_if, IsEpochFound}
-use Rattle.epoch_store.specs.Stores.{View, Keeps, IsStoreWith, live_kept, stored_after}
-use Rattle.archive_core.specs.Numbers.{has_live, IsKnownLive, IsMessageAt, IsLiveAt, GivesKept, GivesTextKept, TellsOther}
-use Rattle.archive_core.specs.Placing.{message_places, PlacesFrom, PlacesRise, live_place, IsPlaceOf, IsLeastPlace, IsGreatestPlace}
+use Rattle.epoch_store.specs.Stores.{View, Keeps, live_kept, stored_after}
+use Rattle.archive_core.specs.Numbers.{has_live, IsMessageAt, IsLiveAt, GivesKept, GivesTextKept, TellsOther}
+use Rattle.archive_core.specs.Placing.{message_places, PlacesFrom, PlacesRise, live_place, IsPlaceOf}
 use Rattle.archive_core.specs.declared.placing.MessagePlace.{MessagePlace}
-use Rattle.archive_core.proofs.Places.{place_between, stored_between, places-sorted, places-rise, places-low, places-one, places-tell, live-places, places-between, message-place}
+use Rattle.archive_core.proofs.Places.{places-rise, places-low, places-one, places-tell, live-places, message-place}
 use Rattle.archive_core.proofs.ByBlob.{message-of}
-use Rattle.archive_core.proofs.Stored.{live-kept, has_live-is, between-kept, kept-at, shown-at, contains-number, live-number}
-use Rattle.archive_core.proofs.Standing.{store_keeps}
+use Rattle.archive_core.proofs.Stored.{has_live-is, kept-at, shown-at, contains-number, live-number}
 
 only : {X : Type 0} (x y : X) → Some x ≡ Some y → x ≡ y
 only x y is = cc
@@ -59,24 +56,12 @@ rise_at number (x ∷ xs) (suc i) (suc j) p q from less here there = rise_at (x.
 abbrev pub IsCountBelow : List MessagePlace → ℕ → ℕ → Type 0
 IsCountBelow xs n count = (index : ℕ) (p : MessagePlace) → slice_get xs index ≡ Some p → (index < count → p.number < n) × (count ≤ index → n ≤ p.number)
 
--- Before an index the numbers are at most n, and from it on they are greater.
-abbrev pub IsCountUpTo : List MessagePlace → ℕ → ℕ → Type 0
-IsCountUpTo xs n count = (index : ℕ) (p : MessagePlace) → slice_get xs index ≡ Some p → (index < count → p.number ≤ n) × (count ≤ index → n < p.number)
-
 pub count-is : (xs : List MessagePlace) (n i : ℕ) → IsPartitionPoint (λ (p : MessagePlace). ltb p.number n ≡ true) (λ (p : MessagePlace). ltb p.number n ≡ false) xs i → IsCountBelow xs n i
 count-is xs n i point place p is =
     let at = ap (λ (q : MessagePlace). q.number) (got xs place p p is) in
     let inside = slice_get_within xs place p is in (
       λ less. (let low = ltb-true (get_or xs place p).number n (point.0 place p (omega arith) less) in omega (arith, low, at)),
       λ most. (let high = ltb-false (get_or xs place p).number n (point.1 place p most inside) in omega (arith, high, at)),
-    )
-
-pub count-to : (xs : List MessagePlace) (n i : ℕ) → IsPartitionPoint (λ (p : MessagePlace). leb p.number n ≡ true) (λ (p : MessagePlace). leb p.number n ≡ false) xs i → IsCountUpTo xs n i
-count-to xs n i point place p is =
-    let at = ap (λ (q : MessagePlace). q.number) (got xs place p p is) in
-    let inside = slice_get_within xs place p is in (
-      λ less. (let low = leb-true (get_or xs place p).number n (point.0 place p (omega arith) less) in omega (arith, low, at)),
-      λ most. (let high = leb-false (get_or xs place p).number n (point.1 place p most inside) in omega (arith, high, at)),
     )
 
 -- Where a live place has a number.
@@ -133,104 +118,10 @@ none-other xs n i p count here other rise k q there same = elim (before_or_not k
       | inr again ↦ (let at_is : k ≡ i = omega (arith, most, again) in other (ap (λ (r : MessagePlace). r.number) (only p q (sym here ∙ ap (slice_get xs) (sym at_is) ∙ there)) ∙ same))
     ]
 
--- None of the places from one index to another is live.
-abbrev pub NoneLive : List MessagePlace → ℕ → ℕ → Type 0
-NoneLive xs low high = (k : ℕ) (p : MessagePlace) → slice_get xs k ≡ Some p → low ≤ k → k < high → p.live ≡ false
-
-pub none-up : (xs : List MessagePlace) (first i : ℕ) (p : MessagePlace) → slice_get xs i ≡ Some p → p.live ≡ false → NoneLive xs first i → NoneLive xs first (i + 1)
-none-up xs first i p here dead none k q there low high = elim (before_or_not k i) [
-  | inl less ↦ none k q there low less
-  | inr most ↦ (let at : k ≡ i = omega (arith, most, high) in ap (λ (r : MessagePlace). r.live) (only q p (sym there ∙ ap (slice_get xs) at ∙ here)) ∙ dead)
-]
-
-pub none-down : (xs : List MessagePlace) (i count : ℕ) (p : MessagePlace) → slice_get xs i ≡ Some p → p.live ≡ false → NoneLive xs (i + 1) count → NoneLive xs i count
-none-down xs i count p here dead none k q there low high = elim (before_or_not i k) [
-  | inl less ↦ none k q there (omega (arith, less)) high
-  | inr most ↦ (let at : k ≡ i = omega (arith, most, low) in ap (λ (r : MessagePlace). r.live) (only q p (sym there ∙ ap (slice_get xs) at ∙ here)) ∙ dead)
-]
-
-false_true : (t : Bool) → t ≡ true → t ≡ false → ⊥
-false_true t one two = let wrong : true ≡ false = sym one ∙ two in cc
-
--- The first live place from an index on has the least number, from the one of that index on.
-pub least-some : (xs : List MessagePlace) (n first i : ℕ) (p : MessagePlace) → (PlacesRise xs → IsCountBelow xs n first) → first ≤ i → slice_get xs i ≡ Some p → p.live ≡ true → NoneLive xs first i → PlacesRise xs → IsLeastPlace xs n (Some p.number)
-least-some xs n first i p count low here live none rise = ((count rise i p here).1 low, place-live xs i p here live, λ m at_least below. not_true (live_place xs m) (never m at_least below)) where
-  never : (m : ℕ) → n ≤ m → m < p.number → live_place xs m ≡ true → ⊥
-  never m at_least below has =
-      let at = live-at xs m has in
-      let same : at.place.number ≡ m = at.number_is in
-      elim (before_or_not at.index first) [
-        | inl less ↦ (let less_n : at.place.number < n = (count rise at.index at.place at.there).0 less in omega (arith, less_n, same, at_least))
-        | inr most ↦ later m below at most
-      ]
-    where
-      later : (m : ℕ) → m < p.number → (at : LiveAt xs m) → first ≤ at.index → ⊥
-      later m below at most = elim (before_or_not at.index i) [
-        | inl less ↦ false_true at.place.live at.live_is (none at.index at.place at.there most less)
-        | inr past ↦ (let up : p.number ≤ at.place.number = not_before at past in let same : at.place.number ≡ m = at.number_is in omega (arith, up, same, below))
-      ]
-        where
-          not_before : (at : LiveAt xs m) → i ≤ at.index → p.number ≤ at.place.number
-          not_before at past = elim (before_or_not i at.index) [
-            | inl less ↦ (let up : p.number < at.place.number = rise_at 0 xs i at.index p at.place rise less here at.there in omega (arith, up))
-            | inr again ↦ (let at_is : at.index ≡ i = omega (arith, past, again) in let same : p.number ≡ at.place.number = ap (λ (r : MessagePlace). r.number) (only p at.place (sym here ∙ ap (slice_get xs) (sym at_is) ∙ at.there)) in omega (arith, same))
-          ]
-
-pub least-none : (xs : List MessagePlace) (n first i : ℕ) → (PlacesRise xs → IsCountBelow xs n first) → length xs ≤ i → NoneLive xs first i → PlacesRise xs → IsLeastPlace xs n None
-least-none xs n first i count whole none rise = λ m at_least. not_true (live_place xs m) (never m at_least) where
-  never : (m : ℕ) → n ≤ m → live_place xs m ≡ true → ⊥
-  never m at_least has =
-      let at = live-at xs m has in
-      let same : at.place.number ≡ m = at.number_is in
-      let inside : at.index < length xs = slice_get_within xs at.index at.place at.there in
-      elim (before_or_not at.index first) [
-        | inl less ↦ (let less_n : at.place.number < n = (count rise at.index at.place at.there).0 less in omega (arith, less_n, same, at_least))
-        | inr most ↦ false_true at.place.live at.live_is (none at.index at.place at.there most (omega (arith, inside, whole)))
-      ]
-
--- The last live place before an index has the greatest number, up to the one of that index.
-pub greatest-some : (xs : List MessagePlace) (n i count : ℕ) (p : MessagePlace) → (PlacesRise xs → IsCountUpTo xs n count) → i < count → slice_get xs i ≡ Some p → p.live ≡ true → NoneLive xs (i + 1) count → PlacesRise xs → IsGreatestPlace xs n (Some p.number)
-greatest-some xs n i count p counted low here live none rise = ((counted rise i p here).0 low, place-live xs i p here live, λ m above at_most. not_true (live_place xs m) (never m above at_most)) where
-  never : (m : ℕ) → p.number < m → m ≤ n → live_place xs m ≡ true → ⊥
-  never m above at_most has =
-      let at = live-at xs m has in
-      let same : at.place.number ≡ m = at.number_is in
-      elim (before_or_not at.index count) [
-        | inl less ↦ earlier m above at less
-        | inr most ↦ (let high : n < at.place.number = (counted rise at.index at.place at.there).1 most in omega (arith, high, same, at_most))
-      ]
-    where
-      earlier : (m : ℕ) → p.number < m → (at : LiveAt xs m) → at.index < count → ⊥
-      earlier m above at less = elim (before_or_not i at.index) [
-        | inl past ↦ false_true at.place.live at.live_is (none at.index at.place at.there (omega (arith, past)) less)
-        | inr most ↦ (let up : at.place.number ≤ p.number = not_after at most in let same : at.place.number ≡ m = at.number_is in omega (arith, up, same, above))
-      ]
-        where
-          not_after : (at : LiveAt xs m) → at.index ≤ i → at.place.number ≤ p.number
-          not_after at most = elim (before_or_not at.index i) [
-            | inl first ↦ (let up : at.place.number < p.number = rise_at 0 xs at.index i at.place p rise first at.there here in omega (arith, up))
-            | inr again ↦ (let at_is : at.index ≡ i = omega (arith, most, again) in let same : p.number ≡ at.place.number = ap (λ (r : MessagePlace). r.number) (only p at.place (sym here ∙ ap (slice_get xs) (sym at_is) ∙ at.there)) in omega (arith, same))
-          ]
-
-pub greatest-none : (xs : List MessagePlace) (n count : ℕ) → (PlacesRise xs → IsCountUpTo xs n count) → NoneLive xs 0 count → PlacesRise xs → IsGreatestPlace xs n None
-greatest-none xs n count counted none rise = λ m at_most. not_true (live_place xs m) (never m at_most) where
-  never : (m : ℕ) → m ≤ n → live_place xs m ≡ true → ⊥
-  never m at_most has =
-      let at = live-at xs m has in
-      let same : at.place.number ≡ m = at.number_is in
-      elim (before_or_not at.index count) [
-        | inl less ↦ false_true at.place.live at.live_is (none at.index at.place at.there (omega arith) less)
-        | inr most ↦ (let high : n < at.place.number = (counted rise at.index at.place at.there).1 most in omega (arith, high, same, at_most))
-      ]
-
 -- What places tell of the archive that a store keeps.
 module _ (v : View) (places : List MessagePlace) (placed : places ≡ message_places 0 v.entries) where
   pub live-known : (n : ℕ) → live_place places n ≡ has_live v.entries n
   live-known n = ap (λ (ps : List MessagePlace). live_place ps n) placed ∙ live-places 0 v.entries n
-
-  pub known-live : (r : Option ℕ) → IsKnownLive (live_place places) r → IsKnownLive (has_live v.entries) r
-  known-live None known = tt
-  known-live (Some n) known = sym (live-known n) ∙ known
 
   pub message-found : (at n : ℕ) (p : MessagePlace) → slice_get places at ≡ Some p → p.number ≡ n → IsMessageAt v.entries n p.entry
   message-found at n p there same =
@@ -255,29 +146,6 @@ module _ (v : View) (places : List MessagePlace) (placed : places ≡ message_pl
     no_text : (found : Option (List ℕ)) → is_some found ≡ false → found ≡ None
     no_text None lacks = refl
     no_text (Some text) lacks = absurd (cc)
-
-    none_shown : (n : ℕ) → live_place places n ≡ false → text_of (live a.entries) n ≡ None
-    none_shown n dead = no_text (text_of (live a.entries) n) (sym (live-shown n) ∙ dead)
-
-    pub least-is : (n : ℕ) (r : Option ℕ) → (PlacesRise places → IsLeastPlace places n r) → IsLeastLive (live a.entries) n r
-    least-is n r least = by r (least rises) where
-      by : (f : Option ℕ) → IsLeastPlace places n f → IsLeastLive (live a.entries) n f
-      by None none = λ m at_least. none_shown m (none m at_least)
-      by (Some m) found = (found.0, sym (live-shown m) ∙ found.1, λ k at_least below. none_shown k (found.2 k at_least below))
-
-    pub greatest-is : (n : ℕ) (r : Option ℕ) → (PlacesRise places → IsGreatestPlace places n r) → IsGreatestLive (live a.entries) n r
-    greatest-is n r greatest = by r (greatest rises) where
-      by : (f : Option ℕ) → IsGreatestPlace places n f → IsGreatestLive (live a.entries) n f
-      by None none = λ m at_most. none_shown m (none m at_most)
-      by (Some m) found = (found.0, sym (live-shown m) ∙ found.1, λ k above at_most. none_shown k (found.2 k above at_most))
-
-    pub between-is : (low high : ℕ) → count_by (place_between low high) places ≡ live_between (live a.entries) low high
-    between-is low high =
-        sym (length-filter (place_between low high) places)
-        ∙ ap (λ (ps : List MessagePlace). length (filter (place_between low high) ps)) placed
-        ∙ places-between low high 0 v.entries
-        ∙ ap (λ (es : List StoredEntry). length (filter (stored_between low high) (live_kept es))) keeps.kept
-        ∙ between-kept low high (live_kept (stored_after [] a.entries)) (live a.entries) (live-kept [] a.entries)
 
     -- The number that isn't found, or whose place isn't live, isn't shown.
     pub unfound : (n : ℕ) → IsPlaceOf places n None → is_some (text_of (live a.entries) n) ≡ false

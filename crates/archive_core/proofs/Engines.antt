@@ -1,5 +1,5 @@
 -- What the calls of an archive that owns its disk do, by the calls below it.
-use Rattle.std.specs.Prelude.{◌≡◌, ◌⊎◌, ◌+◌, ◌≤◌, ◌<◌, ℕ, zero, suc, Bool, true, false, not, List, [], length, get_or, Option, Some, None, Result, Ok, Err, refl}
+use Rattle.std.specs.Prelude.{◌≡◌, ◌⊎◌, ◌||◌, ◌+◌, ◌≤◌, ◌<◌, ℕ, zero, suc, Bool, true, false, not, List, [], length, get_or, Option, Some, None, Result, Ok, Err, refl}
 use Rattle.std.specs.List.{Contains}
 use Rattle.std.proofs.Common.{◌∙◌, sym, ap, subst, inl, inr, arith}
 use Rattle.std.proofs.lemmas.Bool.{false≢true}
@@ -7,29 +7,31 @@ use Rattle.arch_base.specs.Counts.{RoseIf}
 use Rattle.arch_base.specs.declared.ids.Id20.{Id20}
 use Rattle.disk_model.specs.Disk.{Files, Content, Image, Told, Unchanged, ReadsFit, LeavesOnly}
 use Rattle.disk_model.specs.Moments.{started}
-use Rattle.arch_model.specs.Archives.{Archive}
+use Rattle.arch_model.specs.Archives.{Archive, live}
+use Rattle.arch_model.specs.Listings.{rows_of}
 use Rattle.arch_model.specs.Delivery.{Done}
 use Rattle.arch_model.specs.Keeping.{Passes, Fits, Moves, Settles, StaysShut, Comes, Ending, Accepts, Refuses, Starves, Fails, Breaks, ReadyBy, StaysReady, AnswerCause, OpeningWhy, ending, opening_answer}
 use Rattle.arch_model.specs.Shelves.{Stays, ReadCause, ReadsOnce}
 use Rattle.arch_model.specs.Standing.{Standing, standing, with_doubt, one_of, IsFound}
 use Rattle.arch_model.specs.declared.answer.Answer.{Answer}
 use Rattle.arch_model.specs.declared.answer.Answer.TheVariants as answer
+use Rattle.arch_model.specs.declared.command.Command.{Command}
 use Rattle.arch_model.specs.declared.opening.OpenRefusal.{OpenRefusal}
 use Rattle.arch_model.specs.declared.opening.OpenRefusal.TheVariants as refusal
 use Rattle.arch_model.specs.declared.text_refusal.TextRefusal.{TextRefusal}
 use Rattle.arch_model.specs.declared.text_refusal.TextRefusal.TheVariants as reading
 use Rattle.arch_model.proofs.Keepers.{has-own, moves-stale, moves-on, comes-by, unopened-comes, unopened-ready, unopened-cause}
 use Rattle.epoch_store.specs.Files.{as_read}
-use Rattle.epoch_store.specs.declared.entries.StoredEntry.{StoredEntry}
 use Rattle.epoch_store.specs.Laws.{CachesOne}
 use Rattle.epoch_store.specs.Leaving.{disk_recovers}
 use Rattle.epoch_store.specs.Opens.{RecoversOfWith, AllRecoverWith, ReadsWith, IsWant}
 use Rattle.epoch_store.specs.Reads.{AnswersQuietly}
 use Rattle.epoch_store.specs.Recovery.{RecoversWith, RecoversSomeWith}
 use Rattle.epoch_store.specs.Stores.{View, Keeps, IsStoreWith, RecoversEitherWith}
-use Rattle.archive_core.specs.Commands.{DoneBy, OnRefusal, UnlessFault, OnlyLooks}
-use Rattle.archive_core.specs.Engines.{Owning, needs_opening, Holds, is_ready, Leaves, ReadsOn, reading-same, store-left, now-left, reading-kept}
-use Rattle.archive_core.specs.Numbers.{GivesKept, GivesTextKept, GivesBlobKept, TellsOther}
+use Rattle.archive_core.specs.Commands.{DoneBy, OnRefusal, UnlessFault, IfUnread, OnlyLooks}
+use Rattle.archive_core.specs.Engines.{Owning, needs_opening, Holds, RowsKeepUp, IfRefused, is_ready, Leaves, ReadsOn, reading-same, store-left, now-left, reading-kept}
+use Rattle.archive_core.specs.Numbers.{GivesBlobKept, TellsOther}
+use Rattle.archive_core.specs.Walks.{RowsAfter}
 use Rattle.archive_core.proofs.Standing.{store_keeps}
 
 -- One of the archives that may be there is the archive, or the one in doubt.
@@ -171,14 +173,15 @@ module _ {D : Type 0} (content : D → Option Content) (moment : D → ℕ) (lef
       )
 
   -- A reopening found the archive or the one in doubt.
-  pub opened-at : (e new : Owning D) → Reopening e new.disk → ((a : Archive) (cache : List ℕ) → ReadsWith cache a (content e.disk) → IsStoreWith new.view cache a (content new.disk)) → (s : Standing) → Stands e s → (t : Standing) × Going e s new t × Settles s t
+  pub opened-at : (e new : Owning D) → Reopening e new.disk → ((a : Archive) (cache : List ℕ) → ReadsWith cache a (content e.disk) → IsStoreWith new.view cache a (content new.disk) × (new.rows ≡ rows_of (live a.entries))) → (s : Standing) → Stands e s → (t : Standing) × Going e s new t × Settles s t
   opened-at e new run opened s fits =
       let own = fits_all e s fits in
       let found = reads_one s own.0 (content e.disk) (reads_fit e.disk) own.1 in
-      let store : Holds content new found.0 = (own.0, opened found.0 own.0 found.2) in (
+      let both = opened found.0 own.0 found.2 in
+      let store : Holds content new found.0 = (own.0, both.0, both.1) in (
         standing found.0 None,
         record {
-          fits = record { settled = λ ready. (store, refl); left = λ may has. store-left content moment left_since counts_now only_now new found.0 may store has.archive };
+          fits = record { settled = λ ready. (store, refl); left = λ may has. store-left content moment left_since counts_now only_now new found.0 may (store.0, store.1) has.archive };
           passes = λ start may has left. reopening-passes e new run s fits start may tt left;
         },
         record { found = found.1; sure = refl },
@@ -206,7 +209,7 @@ module _ {D : Type 0} (content : D → Option Content) (moment : D → ℕ) (lef
       let both = fits.settled ready in (
         standing s.archive None,
         record {
-          fits = record { settled = λ at_hand. (both.0, refl); left = λ may has. store-left content moment left_since counts_now only_now e s.archive may both.0 has.archive };
+          fits = record { settled = λ at_hand. (both.0, refl); left = λ may has. store-left content moment left_since counts_now only_now e s.archive may (both.0.0, both.0.1) has.archive };
           passes = λ start may has left. left;
         },
         record { found = inl refl; sure = refl },
@@ -232,16 +235,16 @@ module _ {D : Type 0} (content : D → Option Content) (moment : D → ℕ) (lef
     )
 
     -- It was carried out, or refused.
-    taken-done : (reply : Answer) → (wanted a).answer ≡ reply → IsStoreWith new.view cache (wanted a).archive (content new.disk) → Going e (standing a None) new (standing (wanted a).archive None)
-    taken-done reply answer_is own = record {
-      fits = record { settled = λ ready. ((cache, own), refl); left = λ may has. store-left content moment left_since counts_now only_now new (wanted a).archive may (cache, own) has.archive };
+    taken-done : (reply : Answer) → (wanted a).answer ≡ reply → IsStoreWith new.view cache (wanted a).archive (content new.disk) → (is_ready new ≡ true → new.rows ≡ rows_of (live (wanted a).archive.entries)) → Going e (standing a None) new (standing (wanted a).archive None)
+    taken-done reply answer_is own rows = record {
+      fits = record { settled = λ ready. ((cache, own, rows ready), refl); left = λ may has. store-left content moment left_since counts_now only_now new (wanted a).archive may (cache, own) has.archive };
       passes = λ start may has left. taken-passes start may has.0.archive has.1.0.archive left;
     }
 
     -- Memory ran out before anything was done.
-    taken-none : OnlyLooks content moment left_since e.disk new.disk → IsStoreWith new.view cache a (content new.disk) → Going e (standing a None) new (standing a None)
-    taken-none looks own = record {
-      fits = record { settled = λ ready. ((cache, own), refl); left = λ may has. store-left content moment left_since counts_now only_now new a may (cache, own) has.archive };
+    taken-none : OnlyLooks content moment left_since e.disk new.disk → IsStoreWith new.view cache a (content new.disk) → new.rows ≡ rows_of (live a.entries) → Going e (standing a None) new (standing a None)
+    taken-none looks own rows = record {
+      fits = record { settled = λ ready. ((cache, own, rows), refl); left = λ may has. store-left content moment left_since counts_now only_now new a may (cache, own) has.archive };
       passes = λ start may has left. (
         omega (arith, left.0, looks.any_moment.later),
         left.1,
@@ -263,32 +266,73 @@ module _ {D : Type 0} (content : D → Option Content) (moment : D → ℕ) (lef
       passes = λ start may has left. taken-passes start may has.1.0.archive has.1.0.doubt left;
     }
 
-    pub taken-at : (reply : Answer) → new.stale ≡ needs_opening reply → DoneBy new.view cache a (wanted a) reply (content new.disk) → OnRefusal reply (UnlessFault reply (OnlyLooks content moment left_since e.disk new.disk)) → (t : Standing) × Going e (standing a None) new t × Comes true (standing a None) wanted reply t
-    taken-at answer.NoMemory stale done untouched = (standing a None, taken-none untouched done, inr (record { found = inl refl; sure = refl }))
-    taken-at answer.DiskFault stale done untouched = (standing a (Some (wanted a).archive), taken-failed (ap not stale), inr (record { found = a; is_found = inl refl; stands = refl }))
-    taken-at (answer.Ok number id) stale done untouched =
-        (standing (wanted a).archive None, taken-done (answer.Ok number id) done.answer_is done.store, record { found = a; is_found = inl refl; answer_is = done.answer_is; stands = refl })
-    taken-at (answer.Duplicate number) stale done untouched =
-        (standing (wanted a).archive None, taken-done (answer.Duplicate number) done.answer_is done.store, record { found = a; is_found = inl refl; answer_is = done.answer_is; stands = refl })
-    taken-at answer.NoFields stale done untouched = (standing (wanted a).archive None, taken-done answer.NoFields done.answer_is done.store, record { found = a; is_found = inl refl; answer_is = done.answer_is; stands = refl })
-    taken-at (answer.TooLarge len) stale done untouched =
-        (standing (wanted a).archive None, taken-done (answer.TooLarge len) done.answer_is done.store, record { found = a; is_found = inl refl; answer_is = done.answer_is; stands = refl })
-    taken-at (answer.Full max) stale done untouched =
-        (standing (wanted a).archive None, taken-done (answer.Full max) done.answer_is done.store, record { found = a; is_found = inl refl; answer_is = done.answer_is; stands = refl })
-    taken-at (answer.Collision number) stale done untouched =
-        (standing (wanted a).archive None, taken-done (answer.Collision number) done.answer_is done.store, record { found = a; is_found = inl refl; answer_is = done.answer_is; stands = refl })
-    taken-at answer.IsMirror stale done untouched = (standing (wanted a).archive None, taken-done answer.IsMirror done.answer_is done.store, record { found = a; is_found = inl refl; answer_is = done.answer_is; stands = refl })
-    taken-at (answer.NotLive number) stale done untouched =
-        (standing (wanted a).archive None, taken-done (answer.NotLive number) done.answer_is done.store, record { found = a; is_found = inl refl; answer_is = done.answer_is; stands = refl })
-    taken-at (answer.NoText number) stale never untouched = absurd never
-    taken-at (answer.Damaged file at) stale never untouched = absurd never
+    pub taken-at : (reply : Answer) → (needs_opening reply ≡ true → new.stale ≡ true) → DoneBy new.view cache a (wanted a) reply (content new.disk) → RowsKeepUp reply (is_ready new) new.rows a (wanted a).archive
+        → OnRefusal reply (UnlessFault reply (OnlyLooks content moment left_since e.disk new.disk)) → (t : Standing) × Going e (standing a None) new t × Comes true (standing a None) wanted reply t
+    taken-at answer.NoMemory stale done rows untouched = (standing a None, taken-none untouched done rows, inr (record { found = inl refl; sure = refl }))
+    taken-at answer.DiskFault stale done rows untouched = (standing a (Some (wanted a).archive), taken-failed (ap not (stale refl)), inr (record { found = a; is_found = inl refl; stands = refl }))
+    taken-at (answer.Ok number id) stale done rows untouched =
+        (standing (wanted a).archive None, taken-done (answer.Ok number id) done.answer_is done.store rows, record { found = a; is_found = inl refl; answer_is = done.answer_is; stands = refl })
+    taken-at (answer.Duplicate number) stale done rows untouched =
+        (standing (wanted a).archive None, taken-done (answer.Duplicate number) done.answer_is done.store (λ ready. rows), record { found = a; is_found = inl refl; answer_is = done.answer_is; stands = refl })
+    taken-at answer.NoFields stale done rows untouched =
+        (standing (wanted a).archive None, taken-done answer.NoFields done.answer_is done.store (λ ready. rows), record { found = a; is_found = inl refl; answer_is = done.answer_is; stands = refl })
+    taken-at (answer.TooLarge len) stale done rows untouched =
+        (standing (wanted a).archive None, taken-done (answer.TooLarge len) done.answer_is done.store (λ ready. rows), record { found = a; is_found = inl refl; answer_is = done.answer_is; stands = refl })
+    taken-at (answer.Full max) stale done rows untouched =
+        (standing (wanted a).archive None, taken-done (answer.Full max) done.answer_is done.store (λ ready. rows), record { found = a; is_found = inl refl; answer_is = done.answer_is; stands = refl })
+    taken-at (answer.Collision number) stale done rows untouched =
+        (standing (wanted a).archive None, taken-done (answer.Collision number) done.answer_is done.store (λ ready. rows), record { found = a; is_found = inl refl; answer_is = done.answer_is; stands = refl })
+    taken-at answer.IsMirror stale done rows untouched =
+        (standing (wanted a).archive None, taken-done answer.IsMirror done.answer_is done.store (λ ready. rows), record { found = a; is_found = inl refl; answer_is = done.answer_is; stands = refl })
+    taken-at (answer.NotLive number) stale done rows untouched =
+        (standing (wanted a).archive None, taken-done (answer.NotLive number) done.answer_is done.store (λ ready. rows), record { found = a; is_found = inl refl; answer_is = done.answer_is; stands = refl })
+    taken-at (answer.NoText number) stale never rows untouched = absurd never
+    taken-at (answer.Damaged file at) stale never rows untouched = absurd never
+
+  -- A refusal leaves all but the disk as it was, and the disk was only read.
+  module _ (e new : Owning D) (ok : Bool) (command : Command) (text : List ℕ) (arrived : ℕ) where
+    only-reads : new.view ≡ e.view → new.rows ≡ e.rows → new.stale ≡ e.stale → OnlyLooks content moment left_since e.disk new.disk → ReadsOn content moment left_since e new
+    only-reads view rows stale looks = record { view_is = view; rows_are = rows; stale_is = stale; files = looks.same; run = looks.any_moment }
+
+    same-owning : new.disk ≡ e.disk → new.view ≡ e.view → new.rows ≡ e.rows → new.stale ≡ e.stale → new ≡ e
+    same-owning disk view rows stale = λ i. record { disk = disk i; view = view i; rows = rows i; stale = stale i }
+
+    pub refused-at : (reply : Answer) → e.stale ≡ false → new.stale ≡ (needs_opening reply || not ok) → OnRefusal reply (ok ≡ true) → OnRefusal reply (new.view ≡ e.view) → (ok ≡ true → RowsAfter command reply text arrived e.rows new.rows)
+        → OnRefusal reply (UnlessFault reply (OnlyLooks content moment left_since e.disk new.disk)) → IfRefused reply (ReadsOn content moment left_since e new)
+    refused-at answer.NoMemory ready stale followed view rows looks = only-reads view (rows followed) (stale ∙ ap not followed ∙ sym ready) looks
+    refused-at (answer.Duplicate n) ready stale followed view rows looks = only-reads view (rows followed) (stale ∙ ap not followed ∙ sym ready) looks
+    refused-at answer.NoFields ready stale followed view rows looks = only-reads view (rows followed) (stale ∙ ap not followed ∙ sym ready) looks
+    refused-at (answer.TooLarge len) ready stale followed view rows looks = only-reads view (rows followed) (stale ∙ ap not followed ∙ sym ready) looks
+    refused-at (answer.Full max) ready stale followed view rows looks = only-reads view (rows followed) (stale ∙ ap not followed ∙ sym ready) looks
+    refused-at (answer.Collision n) ready stale followed view rows looks = only-reads view (rows followed) (stale ∙ ap not followed ∙ sym ready) looks
+    refused-at (answer.NotLive n) ready stale followed view rows looks = only-reads view (rows followed) (stale ∙ ap not followed ∙ sym ready) looks
+    refused-at (answer.NoText n) ready stale followed view rows looks = only-reads view (rows followed) (stale ∙ ap not followed ∙ sym ready) looks
+    refused-at answer.IsMirror ready stale followed view rows looks = only-reads view (rows followed) (stale ∙ ap not followed ∙ sym ready) looks
+    refused-at (answer.Ok n id) ready stale followed view rows looks = tt
+    refused-at answer.DiskFault ready stale followed view rows looks = tt
+    refused-at (answer.Damaged file at) ready stale followed view rows looks = tt
+
+    pub unmoved-at : (reply : Answer) → e.stale ≡ false → new.stale ≡ (needs_opening reply || not ok) → OnRefusal reply (ok ≡ true) → OnRefusal reply (new.view ≡ e.view) → (ok ≡ true → RowsAfter command reply text arrived e.rows new.rows) → IfUnread reply (new.disk ≡ e.disk)
+        → IfUnread reply (new ≡ e)
+    unmoved-at answer.NoMemory ready stale followed view rows disk = tt
+    unmoved-at (answer.Duplicate n) ready stale followed view rows disk = same-owning disk view (rows followed) (stale ∙ ap not followed ∙ sym ready)
+    unmoved-at answer.NoFields ready stale followed view rows disk = same-owning disk view (rows followed) (stale ∙ ap not followed ∙ sym ready)
+    unmoved-at (answer.TooLarge len) ready stale followed view rows disk = same-owning disk view (rows followed) (stale ∙ ap not followed ∙ sym ready)
+    unmoved-at (answer.Full max) ready stale followed view rows disk = tt
+    unmoved-at (answer.Collision n) ready stale followed view rows disk = tt
+    unmoved-at (answer.NotLive n) ready stale followed view rows disk = same-owning disk view (rows followed) (stale ∙ ap not followed ∙ sym ready)
+    unmoved-at (answer.NoText n) ready stale followed view rows disk = same-owning disk view (rows followed) (stale ∙ ap not followed ∙ sym ready)
+    unmoved-at answer.IsMirror ready stale followed view rows disk = same-owning disk view (rows followed) (stale ∙ ap not followed ∙ sym ready)
+    unmoved-at (answer.Ok n id) ready stale followed view rows disk = tt
+    unmoved-at answer.DiskFault ready stale followed view rows disk = tt
+    unmoved-at (answer.Damaged file at) ready stale followed view rows disk = tt
 
   -- Memory ran out, and nothing was done on the archive that is held.
   pub starved-at : (e : Owning D) (a : Archive) (wanted : Archive → Done) → Holds content e a → (t : Standing) × Going e (standing a None) e t × Comes true (standing a None) wanted answer.NoMemory t
   starved-at e a wanted store = (
     standing a None,
     record {
-      fits = record { settled = λ ready. (store, refl); left = λ may has. store-left content moment left_since counts_now only_now e a may store has.archive };
+      fits = record { settled = λ ready. (store, refl); left = λ may has. store-left content moment left_since counts_now only_now e a may (store.0, store.1) has.archive };
       passes = λ start may has left. left;
     },
     inr (record { found = inl refl; sure = refl }),
@@ -308,12 +352,12 @@ module _ {D : Type 0} (content : D → Option Content) (moment : D → ℕ) (lef
 
   -- A call that only reads.
   pub stays-at : (faults : D → ℕ) (e : Owning D) (disk : D) → is_ready e ≡ true → Told Unchanged (content e.disk) (content disk) → LeavesOnly moment left_since e.disk disk (Image (content e.disk)) → faults e.disk ≤ faults disk
-      → Stays (Holds content) is_ready (ReadsOn content moment left_since) (λ (o : Owning D). faults o.disk) e (record { disk = disk; view = e.view; stale = e.stale })
+      → Stays (Holds content) is_ready (ReadsOn content moment left_since) (λ (o : Owning D). faults o.disk) e (record { disk = disk; view = e.view; rows = e.rows; stale = e.stale })
   stays-at faults e disk ready files run later =
-      let read : ReadsOn content moment left_since e (record { disk = disk; view = e.view; stale = e.stale }) = record { view_is = refl; stale_is = refl; files = files; run = run } in
+      let read : ReadsOn content moment left_since e (record { disk = disk; view = e.view; rows = e.rows; stale = e.stale }) = record { view_is = refl; rows_are = refl; stale_is = refl; files = files; run = run } in
       record {
         same = read;
-        kept = (reading-kept content moment left_since counts_now only_now e (record { disk = disk; view = e.view; stale = e.stale }) read).held;
+        kept = (reading-kept content moment left_since counts_now only_now e (record { disk = disk; view = e.view; rows = e.rows; stale = e.stale }) read).held;
         at_hand = ready;
         later = later;
       }
@@ -334,8 +378,12 @@ module _ {D : Type 0} (content : D → Option Content) (moment : D → ℕ) (lef
     pub still-stale : inside.stale ≡ true → is_ready old ≡ true → ⊥
     still-stale stale ready = let now : not true ≡ true = sym (ap not stale) ∙ ap (λ (o : Owning D). is_ready o) is ∙ ready in false≢true now
 
-    pub held-inside : (a : Archive) → Holds content old a → (cache : List ℕ) × IsStoreWith inside.view cache a (content inside.disk)
+    pub held-inside : (a : Archive) → Holds content old a → Holds content inside a
     held-inside a = subst (λ (o : Owning D). Holds content o a) (sym is)
+
+    -- The rows are those of the live messages.
+    pub rows-inside : (a : Archive) → Holds content old a → inside.rows ≡ rows_of (live a.entries)
+    rows-inside a held = let own = held-inside a held in own.2
 
     pub kept-inside : (a : Archive) → Holds content old a → Keeps inside.view a
     kept-inside a held = let own = held-inside a held in store_keeps inside.view own.0 a (content inside.disk) own.1
@@ -350,9 +398,6 @@ module _ {D : Type 0} (content : D → Option Content) (moment : D → ℕ) (lef
 
     pub cause-from : {T : Type 0} (faults : D → ℕ) (disk : D) (r : Result T TextRefusal) → RoseIf (r ≡ Err reading.DiskFault) (faults inside.disk) (faults disk) → TellsOther r → ReadCause (faults old.disk) (faults disk) r
     cause-from faults disk r rose other = subst (λ (o : Owning D). ReadCause (faults o.disk) (faults disk) r) is (read-cause (faults inside.disk) (faults disk) r rose other)
-
-    pub ids-from : (meets : StoredEntry → Type 0) (had has : List ℕ) (r : Result Unit TextRefusal) → GivesKept meets inside.view (content inside.disk) had has r → GivesKept meets old.view (content old.disk) had has r
-    ids-from meets had has r kept = subst (λ (o : Owning D). GivesKept meets o.view (content o.disk) had has r) is kept
 
     pub blob-ids-from : (id : Id20) (had has : List ℕ) (r : Result Bool TextRefusal) → GivesBlobKept inside.view (content inside.disk) id had has r → GivesBlobKept old.view (content old.disk) id had has r
     blob-ids-from id had has r kept = subst (λ (o : Owning D). GivesBlobKept o.view (content o.disk) id had has r) is kept
@@ -372,7 +417,7 @@ module _ {D : Type 0} (content : D → Option Content) (moment : D → ℕ) (lef
     pub answer-cause-from : (faults : D → ℕ) (disk : D) (reply : Answer) → RoseIf (reply ≡ answer.DiskFault) (faults inside.disk) (faults disk) → AnswerCause (faults old.disk) (faults disk) reply
     answer-cause-from faults disk reply rose = subst (λ (o : Owning D). AnswerCause (faults o.disk) (faults disk) reply) is (answer-cause (faults inside.disk) (faults disk) reply rose)
 
-    pub opened-from : (new : Owning D) → Reopening inside new.disk → ((a : Archive) (cache : List ℕ) → ReadsWith cache a (content inside.disk) → IsStoreWith new.view cache a (content new.disk)) → (s : Standing) → Stands old s → (t : Standing) × Going old s new t × Settles s t
+    pub opened-from : (new : Owning D) → Reopening inside new.disk → ((a : Archive) (cache : List ℕ) → ReadsWith cache a (content inside.disk) → IsStoreWith new.view cache a (content new.disk) × (new.rows ≡ rows_of (live a.entries))) → (s : Standing) → Stands old s → (t : Standing) × Going old s new t × Settles s t
     opened-from new run opened = subst (λ (o : Owning D). (s : Standing) → Stands o s → (t : Standing) × Going o s new t × Settles s t) is (opened-at inside new run opened)
 
     pub unopened-from : (new : Owning D) (why : OpenRefusal) → Reopening inside new.disk → ((a : Archive) (cache : List ℕ) → ReadsWith cache a (content inside.disk) → IsWant why) → is_ready new ≡ false → (s : Standing) → Stands old s → (t : Standing) × Going old s new t × StaysShut s why t
@@ -381,32 +426,29 @@ module _ {D : Type 0} (content : D → Option Content) (moment : D → ℕ) (lef
     pub passes-from : (new : Owning D) → Reopening inside new.disk → (s : Standing) → Stands old s → Passes (Leaves moment left_since) old new []
     passes-from new run = subst (λ (o : Owning D). (s : Standing) → Stands o s → Passes (Leaves moment left_since) o new []) is (reopening-passes inside new run)
 
-    pub taken-from : CachesOne → (new : Owning D) (wanted : Archive → Done) (reply : Answer) → new.stale ≡ needs_opening reply → ((a : Archive) (cache : List ℕ) → IsStoreWith inside.view cache a (content inside.disk) → LeavesOnly moment left_since inside.disk new.disk (RecoversEitherWith cache a (wanted a).archive))
-        → ((a : Archive) (cache : List ℕ) → IsStoreWith inside.view cache a (content inside.disk) → DoneBy new.view cache a (wanted a) reply (content new.disk)) → OnRefusal reply (UnlessFault reply (OnlyLooks content moment left_since inside.disk new.disk)) → (a : Archive) → Holds content old a → (t : Standing) × Going old (standing a None) new t × Comes true (standing a None) wanted reply t
-    taken-from caches new wanted reply stale run done untouched =
+    pub taken-from : CachesOne → (new : Owning D) (wanted : Archive → Done) (reply : Answer) → (needs_opening reply ≡ true → new.stale ≡ true) → ((a : Archive) (cache : List ℕ) → IsStoreWith inside.view cache a (content inside.disk) → LeavesOnly moment left_since inside.disk new.disk (RecoversEitherWith cache a (wanted a).archive))
+        → ((a : Archive) (cache : List ℕ) → IsStoreWith inside.view cache a (content inside.disk) → DoneBy new.view cache a (wanted a) reply (content new.disk))
+        → ((a : Archive) (cache : List ℕ) → IsStoreWith inside.view cache a (content inside.disk) → inside.rows ≡ rows_of (live a.entries) → RowsKeepUp reply (is_ready new) new.rows a (wanted a).archive)
+        → OnRefusal reply (UnlessFault reply (OnlyLooks content moment left_since inside.disk new.disk)) → (a : Archive) → Holds content old a → (t : Standing) × Going old (standing a None) new t × Comes true (standing a None) wanted reply t
+    taken-from caches new wanted reply stale run done rows untouched =
         subst (λ (o : Owning D). (a : Archive) → Holds content o a → (t : Standing) × Going o (standing a None) new t × Comes true (standing a None) wanted reply t) is
-        (λ a held. taken-at caches inside new a held.0 held.1 wanted (run a held.0 held.1) reply stale (done a held.0 held.1) untouched)
+        (λ a held. taken-at caches inside new a held.0 held.1 wanted (run a held.0 held.1) reply stale (done a held.0 held.1) (rows a held.0 held.1 held.2) untouched)
 
     pub stays-from : (faults : D → ℕ) (disk : D) → is_ready old ≡ true → Told Unchanged (content inside.disk) (content disk) → LeavesOnly moment left_since inside.disk disk (Image (content inside.disk)) → faults inside.disk ≤ faults disk
-        → Stays (Holds content) is_ready (ReadsOn content moment left_since) (λ (o : Owning D). faults o.disk) old (record { disk = disk; view = inside.view; stale = inside.stale })
+        → Stays (Holds content) is_ready (ReadsOn content moment left_since) (λ (o : Owning D). faults o.disk) old (record { disk = disk; view = inside.view; rows = inside.rows; stale = inside.stale })
     stays-from faults disk ready files run later =
-        subst (λ (o : Owning D). is_ready o ≡ true → Stays (Holds content) is_ready (ReadsOn content moment left_since) (λ (p : Owning D). faults p.disk) o (record { disk = disk; view = inside.view; stale = inside.stale })) is
+        subst (λ (o : Owning D). is_ready o ≡ true → Stays (Holds content) is_ready (ReadsOn content moment left_since) (λ (p : Owning D). faults p.disk) o (record { disk = disk; view = inside.view; rows = inside.rows; stale = inside.stale })) is
         (λ at_hand. stays-at faults inside disk at_hand files run later) ready
 
--- The keeper is ready after the answer unless the disk failed or a file is damaged.
-pub stays-ready : (stale : Bool) (reply : Answer) → stale ≡ needs_opening reply → StaysReady true reply (not stale)
-stays-ready stale answer.NoMemory is = λ was. ap not is
-stays-ready stale answer.DiskFault is = ap not is
-stays-ready stale (answer.Ok number id) is = tt
-stays-ready stale (answer.Duplicate number) is = ap not is
-stays-ready stale answer.NoFields is = ap not is
-stays-ready stale (answer.TooLarge len) is = ap not is
-stays-ready stale (answer.Full max) is = ap not is
-stays-ready stale (answer.Collision number) is = ap not is
-stays-ready stale (answer.NotLive number) is = ap not is
-stays-ready stale (answer.NoText number) is = ap not is
-stays-ready stale answer.IsMirror is = ap not is
-stays-ready stale (answer.Damaged file at) is = ap not is
+    pub refused-from : (new : Owning D) (ok : Bool) (command : Command) (text : List ℕ) (arrived : ℕ) (reply : Answer) → old.stale ≡ false → new.stale ≡ (needs_opening reply || not ok) → OnRefusal reply (ok ≡ true) → OnRefusal reply (new.view ≡ inside.view)
+        → (ok ≡ true → RowsAfter command reply text arrived inside.rows new.rows) → OnRefusal reply (UnlessFault reply (OnlyLooks content moment left_since inside.disk new.disk)) → IfRefused reply (ReadsOn content moment left_since old new)
+    refused-from new ok command text arrived reply ready stale followed view rows looks =
+        subst (λ (o : Owning D). o.stale ≡ false → IfRefused reply (ReadsOn content moment left_since o new)) is (λ at_hand. refused-at inside new ok command text arrived reply at_hand stale followed view rows looks) ready
+
+    pub unmoved-from : (new : Owning D) (ok : Bool) (command : Command) (text : List ℕ) (arrived : ℕ) (reply : Answer) → old.stale ≡ false → new.stale ≡ (needs_opening reply || not ok) → OnRefusal reply (ok ≡ true) → OnRefusal reply (new.view ≡ inside.view)
+        → (ok ≡ true → RowsAfter command reply text arrived inside.rows new.rows) → IfUnread reply (new.disk ≡ inside.disk) → IfUnread reply (new ≡ old)
+    unmoved-from new ok command text arrived reply ready stale followed view rows disk =
+        subst (λ (o : Owning D). o.stale ≡ false → IfUnread reply (new ≡ o)) is (λ at_hand. unmoved-at inside new ok command text arrived reply at_hand stale followed view rows disk) ready
 
 -- The answer to a command whose archive wasn't reopened, which was stale then.
 pub refused-comes : (was : Bool) (s t : Standing) (wanted : Archive → Done) (why : OpenRefusal) (reply : Answer) → reply ≡ opening_answer why → (was ≡ true → false ≡ true) → StaysShut s why t → Comes was s wanted reply t

@@ -10,4 +10,10 @@ mod ByBlob
 mod ByNumber
 mod ByIndex
 mod Removing
+mod RisingPlaces
+mod KeepingUp
+mod KeptTexts
+mod OpeningRows
+mod Unmoved
+mod Walking
 pub mod Engines

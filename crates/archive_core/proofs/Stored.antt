@@ -1,17 +1,15 @@
 -- What is kept of entries: which of it is live, and which entry an index and a number mean.
-use Rattle.std.proofs.Common.{◌≡◌, ◌≢◌, ◌+◌, ◌<◌, ◌≤◌, ◌==◌, ◌&&◌, ◌||◌, ℕ, zero, suc, Bool, true, false, not, nat_le, List, [], ◌∷◌, ◌++◌, length, slice_get, slice_index_or, Option, Some, None, is_some, refl, sym, ap, subst, ◌∙◌, arith, if◌then◌else◌}
-use Rattle.std.specs.List.{filter, Contains}
+use Rattle.std.proofs.Common.{◌≡◌, ◌<◌, ◌≤◌, ◌==◌, ◌&&◌, ◌||◌, ℕ, zero, suc, Bool, true, false, not, List, [], ◌∷◌, ◌++◌, length, slice_get, slice_index_or, Option, Some, None, is_some, refl, sym, ap, subst, ◌∙◌, arith, if◌then◌else◌}
+use Rattle.std.specs.List.{Contains}
 use Rattle.std.proofs.lemmas.Bool.Decides.{nat_tests}
 use Rattle.git_objects.specs.declared.entry_kind.EntryKind.{EntryKind}
 use Rattle.git_objects.specs.declared.entry_kind.EntryKind.TheVariants.{Message, Deletion}
 use Rattle.arch_model.specs.Archives.{Entry, is_message, is_ended, live, messages, text_of}
-use Rattle.arch_model.specs.Shelves.{is_between, live_between}
 use Rattle.arch_model.specs.Validity.{IsFrom, number_after, Rise}
 use Rattle.arch_model.proofs.LiveEntries.{live-one}
 use Rattle.epoch_store.specs.declared.entries.StoredEntry.{StoredEntry}
 use Rattle.epoch_store.specs.Stores.{is_ended_in, live_kept, stored_at, stored_after}
 use Rattle.archive_core.specs.Numbers.{has_number, has_live}
-use Rattle.archive_core.proofs.Places.{stored_between}
 
 -- What is kept of an entry, after some others.
 abbrev pub IsKeptOf : StoredEntry → Entry → Type 0
@@ -57,19 +55,6 @@ numbers-kept (s ∷ ss) (e ∷ es) n kept =
 -- A number is live in what is kept just if it is shown.
 pub has_live-is : (es : List Entry) (n : ℕ) → has_live (stored_after [] es) n ≡ is_some (text_of (live es) n)
 has_live-is es n = numbers-kept (live_kept (stored_after [] es)) (live es) n (live-kept [] es)
-
-between_step : (t : Bool) (s : StoredEntry) (e : Entry) (ss : List StoredEntry) (es : List Entry) → length ss ≡ length es → length (if t then s ∷ ss else ss) ≡ length (if t then e ∷ es else es)
-between_step true s e ss es same = ap suc same
-between_step false s e ss es same = same
-
--- It has as many numbers between two others.
-pub between-kept : (low high : ℕ) (ss : List StoredEntry) (es : List Entry) → AreKeptOf ss es → length (filter (stored_between low high) ss) ≡ live_between es low high
-between-kept low high [] [] kept = refl
-between-kept low high [] (e ∷ es) kept = absurd kept
-between-kept low high (s ∷ ss) [] kept = absurd kept
-between-kept low high (s ∷ ss) (e ∷ es) kept =
-    ap (λ (x : StoredEntry). length (filter (stored_between low high) (x ∷ ss))) kept.0.1
-    ∙ between_step (nat_le low e.number && nat_le e.number high) (stored_at kept.0.0 e) e (filter (stored_between low high) ss) (filter (is_between low high) es) (between-kept low high ss es kept.1)
 
 -- As many are kept as there are.
 pub stored-length : (before es : List Entry) → length (stored_after before es) ≡ length es

@@ -1,8 +1,10 @@
 -- The answers to a command on an archive on a disk, and what the disk then holds.
-use Rattle.std.specs.Prelude.{◌≡◌, ◌+◌, ◌-◌, ◌<◌, ◌^◌, ℕ, List, slice_get, Option, Some, None, Result, Ok, Err}
+use Rattle.std.specs.Prelude.{◌≡◌, ◌+◌, ◌-◌, ◌<◌, ◌^◌, ℕ, Bool, true, false, List, slice_get, Option, Some, None, Result, Ok, Err}
 use Rattle.arch_base.specs.Counts.{RoseIf}
 use Rattle.disk_model.specs.Disk.{Files, Content, WhereTold, LeavesOnly, Told, Unchanged, Image}
 use Rattle.mail_reader.specs.Ids.{own_id}
+use Rattle.mail_reader.specs.StorageTexts.{IsStorageText}
+use Rattle.git_objects.specs.Objects.{blob_id_of}
 use Rattle.arch_model.specs.declared.text_refusal.TextRefusal.{TextRefusal}
 use Rattle.arch_model.specs.declared.text_refusal.TextRefusal.TheVariants as unread
 use Rattle.arch_judge.specs.Judging.{Judges}
@@ -12,8 +14,10 @@ use Rattle.epoch_store.specs.declared.entries.StoredEntry.{StoredEntry}
 use Rattle.epoch_store.specs.Files.{epoch_file_of}
 use Rattle.arch_model.specs.Shelves.{ReadsOnce, blob_text}
 use Rattle.disk_model.specs.Synced.{IsSettled}
-use Rattle.arch_model.specs.Archives.{Archive, blob_number}
-use Rattle.arch_model.specs.Delivery.{Done, collision}
+use Rattle.arch_model.specs.Archives.{Archive, blob_number, with_entry}
+use Rattle.arch_model.specs.Delivery.{Done, collision, new_epoch}
+use Rattle.arch_model.specs.declared.command.Command.{Command}
+use Rattle.arch_model.specs.declared.command.Command.TheVariants.{Deliver, Remove}
 use Rattle.arch_model.specs.declared.answer.Answer.{Answer}
 use Rattle.arch_model.specs.declared.answer.Answer.TheVariants as answer
 use Rattle.epoch_file.specs.declared.refusal.StoreRefusal.{StoreRefusal}
@@ -95,20 +99,61 @@ UnlessFault answer.IsMirror P = P
 UnlessFault (answer.Damaged file offset) P = P
 UnlessFault answer.NoMemory P = P
 
--- The answers to a command. As long as no command purges or edits, no number is without a text.
-abbrev pub IsForCommand : Answer → Type 0
-IsForCommand (answer.Ok number id) = Unit {0}
-IsForCommand (answer.Duplicate number) = Unit {0}
-IsForCommand answer.NoFields = Unit {0}
-IsForCommand (answer.TooLarge len) = Unit {0}
-IsForCommand (answer.Full max) = Unit {0}
-IsForCommand (answer.Collision number) = Unit {0}
-IsForCommand answer.IsMirror = Unit {0}
-IsForCommand answer.DiskFault = Unit {0}
-IsForCommand answer.NoMemory = Unit {0}
-IsForCommand (answer.NotLive number) = Unit {0}
-IsForCommand (answer.NoText number) = ⊥
-IsForCommand (answer.Damaged file offset) = Unit {0}
+-- What holds of a refusal before which no text is read.
+abbrev pub IfUnread : Answer → Type 0 → Type 0
+IfUnread (answer.Ok number id) P = Unit {0}
+IfUnread (answer.Duplicate number) P = P
+IfUnread answer.NoFields P = P
+IfUnread (answer.TooLarge len) P = P
+IfUnread (answer.Full max) P = Unit {0}
+IfUnread (answer.Collision number) P = Unit {0}
+IfUnread (answer.NotLive number) P = P
+IfUnread (answer.NoText number) P = P
+IfUnread answer.IsMirror P = P
+IfUnread answer.DiskFault P = Unit {0}
+IfUnread (answer.Damaged file offset) P = Unit {0}
+IfUnread answer.NoMemory P = Unit {0}
+
+-- The same of a verdict.
+abbrev pub IfRefusedUnread : Verdict → Type 0 → Type 0
+IfRefusedUnread (Take text blob number) P = Unit {0}
+IfRefusedUnread (Compare text blob number) P = Unit {0}
+IfRefusedUnread (Refuse reply) P = IfUnread reply P
+
+-- The answers to a delivery. As long as no command purges or edits, no number is without a text.
+abbrev pub AnswersDelivery : Answer → Type 0
+AnswersDelivery (answer.Ok number id) = Unit {0}
+AnswersDelivery (answer.Duplicate number) = Unit {0}
+AnswersDelivery answer.NoFields = Unit {0}
+AnswersDelivery (answer.TooLarge len) = Unit {0}
+AnswersDelivery (answer.Full max) = Unit {0}
+AnswersDelivery (answer.Collision number) = Unit {0}
+AnswersDelivery answer.IsMirror = Unit {0}
+AnswersDelivery answer.DiskFault = Unit {0}
+AnswersDelivery answer.NoMemory = Unit {0}
+AnswersDelivery (answer.NotLive number) = ⊥
+AnswersDelivery (answer.NoText number) = ⊥
+AnswersDelivery (answer.Damaged file offset) = Unit {0}
+
+-- The answers to the removal of a number. `Ok` and `NotLive` have this number.
+abbrev pub AnswersRemoval : ℕ → Answer → Type 0
+AnswersRemoval n (answer.Ok number id) = number ≡ n
+AnswersRemoval n (answer.Duplicate number) = ⊥
+AnswersRemoval n answer.NoFields = ⊥
+AnswersRemoval n (answer.TooLarge len) = ⊥
+AnswersRemoval n (answer.Full max) = ⊥
+AnswersRemoval n (answer.Collision number) = ⊥
+AnswersRemoval n answer.IsMirror = Unit {0}
+AnswersRemoval n answer.DiskFault = Unit {0}
+AnswersRemoval n answer.NoMemory = Unit {0}
+AnswersRemoval n (answer.NotLive number) = number ≡ n
+AnswersRemoval n (answer.NoText number) = ⊥
+AnswersRemoval n (answer.Damaged file offset) = Unit {0}
+
+-- The answers to a command.
+abbrev pub IsForCommand : Command → Answer → Type 0
+IsForCommand (Deliver bytes) reply = AnswersDelivery reply
+IsForCommand (Remove number) reply = AnswersRemoval number reply
 
 -- The answer for an error of the store.
 abbrev pub refusal_answer : StoreRefusal → Answer
@@ -181,11 +226,13 @@ pub record OnlyLooks {D : Type 0} (content : D → Option Content) (moment : D �
 -- the root's sequence can be raised, at each moment a crash leaves the archive before the command or
 -- the one after it, and the answer and the disk then are the wanted ones. After `Ok` all that reads
 -- give is on the disk, and the root, in the other slot, goes on from the one before. Any other
--- answer leaves what is kept in memory, and, but for a fault, the content of the disk. The command
--- fails only if the count of faults rose, and reads at most once.
+-- answer leaves what is kept in memory, and, but for a fault, the content of the disk; one before
+-- which no text is read leaves the disk as it was. The command fails only if the count of faults
+-- rose, and reads at most once.
 pub record TakesCommand {D : Type 0} (content : D → Option Content) (moment : D → ℕ)
     (left_since : D → ℕ → Files → Type 0) (faults reads : D → ℕ) (old new : D)
-    (before after : View) (wanted : Archive → Done) (reply : Answer) : Type 0 where
+    (before after : View) (command : Command) (wanted : Archive → Done) (reply : Answer)
+    : Type 0 where
   pub any_moment : (a : Archive) (cache : List ℕ) → IsStoreWith before cache a (content old)
       → before.root.sequence + 1 < 2 ^ 64
       → LeavesOnly moment left_since old new (RecoversEitherWith cache a (wanted a).archive)
@@ -197,7 +244,37 @@ pub record TakesCommand {D : Type 0} (content : D → Option Content) (moment : 
   pub slot : OnDone reply (after.slot ≡ 1 - before.slot)
   pub same : OnRefusal reply (after ≡ before)
   pub untouched : OnRefusal reply (UnlessFault reply (OnlyLooks content moment left_since old new))
+  pub unmoved : IfUnread reply (new ≡ old)
   pub sizes : UnlessFault reply (WhereTold (HasSizes after) (content new))
   pub cause : RoseIf (reply ≡ answer.DiskFault) (faults old) (faults new)
-  pub for_command : IsForCommand reply
+  pub for_command : IsForCommand command reply
   pub count : ReadsOnce (reads old) (reads new)
+
+-- The command is a delivery.
+abbrev pub is_delivery : Command → Bool
+is_delivery (Deliver bytes) = true
+is_delivery (Remove number) = false
+
+-- What holds of a delivery.
+abbrev pub IfDelivery : Bool → Type 0 → Type 0
+IfDelivery true P = P
+IfDelivery false P = Unit {0}
+
+-- The text of a delivery that was accepted is a storage text, and the answer has its blob id.
+abbrev pub TellsText : Answer → List ℕ → Type 0
+TellsText (answer.Ok number id) text = IsStorageText text × (id ≡ blob_id_of text)
+TellsText (answer.Duplicate number) text = Unit {0}
+TellsText answer.NoFields text = Unit {0}
+TellsText (answer.TooLarge len) text = Unit {0}
+TellsText (answer.Full max) text = Unit {0}
+TellsText (answer.Collision number) text = Unit {0}
+TellsText (answer.NotLive number) text = Unit {0}
+TellsText (answer.NoText number) text = Unit {0}
+TellsText answer.IsMirror text = Unit {0}
+TellsText answer.DiskFault text = Unit {0}
+TellsText (answer.Damaged file offset) text = Unit {0}
+TellsText answer.NoMemory text = Unit {0}
+
+-- An accepted delivery kept this text, as the last message of the archive before.
+abbrev pub KeepsText : Archive → Done → ℕ → List ℕ → Type 0
+KeepsText a wanted moment text = wanted.archive ≡ with_entry a (new_epoch a) text moment

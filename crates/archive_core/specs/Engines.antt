@@ -6,7 +6,9 @@ use native.Mathlib.Omega.{arith}
 use Rattle.disk_model.specs.declared.name.FileName.{FileName}
 use Rattle.disk_model.specs.Disk.{Files, Content, Image, Told, WhereTold, Unchanged, LeavesOnly}
 use Rattle.disk_model.specs.Moments.{started, joined}
-use Rattle.arch_model.specs.Archives.{Archive}
+use Rattle.mail_forms.specs.declared.row.Row.{Row}
+use Rattle.arch_model.specs.Archives.{Archive, live}
+use Rattle.arch_model.specs.Listings.{rows_of}
 use Rattle.arch_model.specs.Keeping.{OnlyRead}
 use Rattle.arch_model.specs.declared.answer.Answer.{Answer}
 use Rattle.arch_model.specs.declared.answer.Answer.TheVariants as answer
@@ -14,10 +16,12 @@ use Rattle.epoch_store.specs.Opens.{RecoversOfWith}
 use Rattle.epoch_store.specs.Stores.{View, HasSizes, IsStoreWith}
 use Rattle.epoch_store.specs.Leaving.{disk_recovers}
 
--- A disk, what is kept in memory of its archive, and whether it has to be reopened.
+-- A disk, what is kept in memory of its archive, the rows of its live messages by their numbers, and
+-- whether it has to be reopened.
 pub record Owning (D : Type 0) : Type 0 where
   pub disk : D
   pub view : View
+  pub rows : List (ℕ × Row)
   pub stale : Bool
 
 -- While it needn't be reopened, the files that the archive names have their sizes.
@@ -39,9 +43,15 @@ needs_opening answer.IsMirror = false
 needs_opening (answer.Damaged file at) = true
 needs_opening answer.NoMemory = false
 
--- The archive that it holds: the disk is the archive's own, with whatever cache.
+-- The archive that it holds: the disk is the archive's own, with whatever cache, and the rows are
+-- those of the archive's live messages.
 abbrev pub Holds : {D : Type 0} → (D → Option Content) → Owning D → Archive → Type 0
 Holds content e a = (cache : List ℕ) × IsStoreWith e.view cache a (content e.disk)
+    × (e.rows ≡ rows_of (live a.entries))
+
+-- The disk is the archive's own, with whatever cache.
+abbrev pub Owns : {D : Type 0} → (D → Option Content) → Owning D → Archive → Type 0
+Owns content e a = (cache : List ℕ) × IsStoreWith e.view cache a (content e.disk)
 
 -- It is ready if it needn't be reopened.
 abbrev pub is_ready : {D : Type 0} → Owning D → Bool
@@ -55,10 +65,42 @@ Leaves moment left_since start e may = (moment start.disk ≤ moment e.disk) × 
     × ((image : Files) → left_since e.disk (moment start.disk) image
     → RecoversOfWith cache may image)
 
+-- The rows keep up with a command that was answered so: they are those of the archive after it, unless
+-- the engine has to be reopened after `Ok`. After a fault they say nothing.
+abbrev pub RowsKeepUp : Answer → Bool → List (ℕ × Row) → Archive → Archive → Type 0
+RowsKeepUp (answer.Ok number id) ready rows a b = ready ≡ true → rows ≡ rows_of (live b.entries)
+RowsKeepUp answer.NoMemory ready rows a b = rows ≡ rows_of (live a.entries)
+RowsKeepUp answer.DiskFault ready rows a b = Unit {0}
+RowsKeepUp (answer.Damaged file at) ready rows a b = Unit {0}
+RowsKeepUp (answer.Duplicate number) ready rows a b = rows ≡ rows_of (live b.entries)
+RowsKeepUp answer.NoFields ready rows a b = rows ≡ rows_of (live b.entries)
+RowsKeepUp (answer.TooLarge len) ready rows a b = rows ≡ rows_of (live b.entries)
+RowsKeepUp (answer.Full max) ready rows a b = rows ≡ rows_of (live b.entries)
+RowsKeepUp (answer.Collision number) ready rows a b = rows ≡ rows_of (live b.entries)
+RowsKeepUp (answer.NotLive number) ready rows a b = rows ≡ rows_of (live b.entries)
+RowsKeepUp (answer.NoText number) ready rows a b = rows ≡ rows_of (live b.entries)
+RowsKeepUp answer.IsMirror ready rows a b = rows ≡ rows_of (live b.entries)
+
+-- What holds after a refusal by the rules, or where memory ran out.
+abbrev pub IfRefused : Answer → Type 0 → Type 0
+IfRefused (answer.Ok number id) P = Unit {0}
+IfRefused answer.DiskFault P = Unit {0}
+IfRefused (answer.Damaged file at) P = Unit {0}
+IfRefused answer.NoMemory P = P
+IfRefused (answer.Duplicate number) P = P
+IfRefused answer.NoFields P = P
+IfRefused (answer.TooLarge len) P = P
+IfRefused (answer.Full max) P = P
+IfRefused (answer.Collision number) P = P
+IfRefused (answer.NotLive number) P = P
+IfRefused (answer.NoText number) P = P
+IfRefused answer.IsMirror P = P
+
 -- Only reads of the disk lead from one state to the other.
 pub record ReadsOn {D : Type 0} (content : D → Option Content) (moment : D → ℕ)
     (left_since : D → ℕ → Files → Type 0) (old new : Owning D) : Type 0 where
   pub view_is : new.view ≡ old.view
+  pub rows_are : new.rows ≡ old.rows
   pub stale_is : new.stale ≡ old.stale
   pub files : Told Unchanged (content old.disk) (content new.disk)
   pub run : LeavesOnly moment left_since old.disk new.disk (Image (content old.disk))
@@ -72,7 +114,7 @@ unchanged-is None (Some m) told = absurd told
 unchanged-is (Some k) None told = absurd told
 unchanged-is (Some k) (Some m) told = λ i. Some (λ (name : FileName). told name i)
 
-told-same : (k : Option Content) → Told Unchanged k k
+pub told-same : (k : Option Content) → Told Unchanged k k
 told-same None = tt
 told-same (Some k) = λ name. refl
 
@@ -93,6 +135,7 @@ module _ {D : Type 0} (content : D → Option Content) (moment : D → ℕ)
   pub reading-same : (e : Owning D) → ReadsOn content moment left_since e e
   reading-same e = record {
     view_is = refl;
+    rows_are = refl;
     stale_is = refl;
     files = told-same (content e.disk);
     run = started moment left_since e.disk (Image (content e.disk))
@@ -106,6 +149,7 @@ module _ {D : Type 0} (content : D → Option Content) (moment : D → ℕ)
       let two = unchanged-is (content e.disk) (content f.disk) second.files in
       record {
         view_is = second.view_is ∙ first.view_is;
+        rows_are = second.rows_are ∙ first.rows_are;
         stale_is = second.stale_is ∙ first.stale_is;
         files = subst (λ (k : Option Content). Told Unchanged (content d.disk) k) (sym (two ∙ one))
             (told-same (content d.disk));
@@ -115,7 +159,7 @@ module _ {D : Type 0} (content : D → Option Content) (moment : D → ℕ)
             (λ image left. subst (λ (k : Option Content). Image k image) one left);
       }
 
-  pub store-left : (e : Owning D) (a : Archive) (may : List (Option Archive)) → Holds content e a
+  pub store-left : (e : Owning D) (a : Archive) (may : List (Option Archive)) → Owns content e a
       → Contains may (Some a) → Leaves moment left_since e e may
   store-left e a may store has = (
     omega arith,
@@ -142,6 +186,7 @@ module _ {D : Type 0} (content : D → Option Content) (moment : D → ℕ)
           store.0,
           subst (λ (v : View). IsStoreWith v store.0 a (content e.disk)) (sym read.view_is)
               (subst (λ (k : Option Content). IsStoreWith d.view store.0 a k) (sym same) store.1),
+          read.rows_are ∙ store.2,
         );
         same = ap not read.stale_is;
         passes = λ start may has left. (

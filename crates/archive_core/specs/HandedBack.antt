@@ -6,6 +6,7 @@ use Rattle.epoch_store.specs.Stores.{View}
 use Rattle.archive_core.specs.Engines.{Owning}
 use Rattle.archive_core.specs.declared.not_made.NotMade.{NotMade}
 use Rattle.archive_core.specs.declared.not_made.NotOpened.{NotOpened}
+use Rattle.archive_core.specs.declared.opened.Opened.{Opened}
 
 -- The disk after an archive was to be created.
 abbrev pub disk_made : {D : Type 0} → Result (Owning D) (NotMade D) → D
@@ -26,3 +27,8 @@ disk_opened (Err refused) = refused.disk
 abbrev pub opened_or_why : {D : Type 0} → Result (Owning D) (NotOpened D) → Result View OpenRefusal
 opened_or_why (Ok opened) = Ok opened.view
 opened_or_why (Err refused) = Err refused.why
+
+-- What is kept of an archive that was opened with its rows, or why none was.
+abbrev pub view_opened : Result Opened OpenRefusal → Result View OpenRefusal
+view_opened (Ok opened) = Ok opened.archive
+view_opened (Err why) = Err why

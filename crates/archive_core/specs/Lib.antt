@@ -5,3 +5,4 @@ pub mod Numbers
 pub mod Engines
 pub mod HandedBack
 pub mod Placing
+pub mod Walks

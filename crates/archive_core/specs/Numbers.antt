@@ -31,11 +31,6 @@ pub record IsLiveAt (entries : List StoredEntry) (n index : ℕ) : Type 0 where
   pub message : IsMessageAt entries n index
   pub is_live : Contains (live_kept entries) message.entry
 
--- A number that was found is one of these.
-abbrev pub IsKnownLive : (ℕ → Bool) → Option ℕ → Type 0
-IsKnownLive live None = Unit {0}
-IsKnownLive live (Some n) = live n ≡ true
-
 -- The entry at this index has this blob id.
 abbrev pub HasBlobAt : List StoredEntry → Id20 → ℕ → Type 0
 HasBlobAt entries id index = (e : StoredEntry) × (slice_get entries index ≡ Some e)

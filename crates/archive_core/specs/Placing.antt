@@ -1,5 +1,5 @@
 -- Where the messages among the entries of a store are.
-use Rattle.std.specs.Prelude.{◌≡◌, ◌≢◌, ◌+◌, ◌<◌, ◌≤◌, ◌==◌, ◌&&◌, ◌||◌, ℕ, Bool, true, false, not, List, [], ◌∷◌, ◌++◌, slice_get, Option, Some, None, if◌then◌else◌}
+use Rattle.std.specs.Prelude.{◌≡◌, ◌≢◌, ◌+◌, ◌≤◌, ◌==◌, ◌&&◌, ◌||◌, ℕ, Bool, true, false, not, List, [], ◌∷◌, ◌++◌, slice_get, Option, Some, None, if◌then◌else◌}
 use Rattle.std.specs.List.{list_any}
 use Rattle.std.specs.Ordering.{nat_cmp}
 use Rattle.std.specs.BTreeSet.{BTreeSet, contains}
@@ -60,6 +60,11 @@ PlacesFrom number (p ∷ ps) = (number ≤ p.number) × PlacesFrom (p.number + 1
 abbrev pub PlacesRise : List MessagePlace → Type 0
 PlacesRise places = PlacesFrom 0 places
 
+-- A place with this number may follow places whose numbers rise.
+abbrev pub MayFollow : List MessagePlace → ℕ → Type 0
+MayFollow places number = (entry : ℕ) → PlacesRise places
+    → PlacesRise (places ++ record { number = number; entry = entry; live = true } ∷ [])
+
 -- A live place has this number.
 abbrev pub live_place : List MessagePlace → ℕ → Bool
 live_place places n = list_any (λ (p : MessagePlace). p.live && p.number == n) places
@@ -70,15 +75,3 @@ IsPlaceOf places number (Some index) =
     (p : MessagePlace) × (slice_get places index ≡ Some p) × (p.number ≡ number)
 IsPlaceOf places number None = PlacesRise places
     → (index : ℕ) (p : MessagePlace) → slice_get places index ≡ Some p → p.number ≢ number
-
--- The least number from one on that has a live place, or none.
-abbrev pub IsLeastPlace : List MessagePlace → ℕ → Option ℕ → Type 0
-IsLeastPlace places n None = (m : ℕ) → n ≤ m → live_place places m ≡ false
-IsLeastPlace places n (Some found) = (n ≤ found) × (live_place places found ≡ true)
-    × ((m : ℕ) → n ≤ m → m < found → live_place places m ≡ false)
-
--- The greatest number up to one that has a live place, or none.
-abbrev pub IsGreatestPlace : List MessagePlace → ℕ → Option ℕ → Type 0
-IsGreatestPlace places n None = (m : ℕ) → m ≤ n → live_place places m ≡ false
-IsGreatestPlace places n (Some found) = (found ≤ n) × (live_place places found ≡ true)
-    × ((m : ℕ) → found < m → m ≤ n → live_place places m ≡ false)

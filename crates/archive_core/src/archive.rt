@@ -1,5 +1,5 @@
 //! An archive on a disk that is handed in. Each of its commands has the result of the definition.
-ghost use Rattle.std.specs.Prelude.{true, false, Some, None, ◌≡◌, ◌≤◌, ◌<◌, ◌+◌, ◌-◌, ◌^◌, ℕ, length, slice_get, Err, IfErr, OnOk, OnErr, List};
+ghost use Rattle.std.specs.Prelude.{true, false, Some, None, ◌≡◌, ◌≤◌, ◌<◌, ◌+◌, ◌-◌, ◌^◌, ℕ, length, slice_get, Err, IfOk, IfErr, OnOk, OnErr, List};
 ghost use Rattle.arch_base.specs.Configs.{IsConfig};
 ghost use Rattle.arch_base.specs.Counts.{RoseIf};
 ghost use Rattle.disk_model.specs.Disk.{WhereTold, LeavesOnly};
@@ -16,11 +16,12 @@ ghost use Rattle.arch_model.specs.declared.answer.Answer.{Answer};
 ghost use Rattle.arch_base.specs.Moments.{last_moment};
 ghost use Rattle.archive_core.specs.Openings.{RefusesKindly};
 ghost use Rattle.epoch_store.specs.Promises.{MakesArchive, OpensArchive};
+ghost use Rattle.epoch_store.specs.Reads.{HasTexts};
 ghost use Rattle.epoch_store.specs.Stores.{IsStoreWith, Keeps, HasSizes, RecoversEitherWith, SeesNoDamage, GoesOn};
-ghost use Rattle.archive_core.specs.Commands.{DoneBy, OnDone, OnRefusal, UnlessFault, OnlyLooks, IsForCommand, IsFaultRead, JudgesRead, IsAlone, TakesCommand, refusal_answer, unread_answer, damaged_place, IsNamed, IsTextAt, ReadsMessage, IsUnread};
+ghost use Rattle.archive_core.specs.Commands.{DoneBy, OnDone, OnRefusal, UnlessFault, OnlyLooks, AnswersDelivery, AnswersRemoval, IfUnread, IfRefusedUnread, IsFaultRead, JudgesRead, IsAlone, TakesCommand, refusal_answer, unread_answer, damaged_place, IsNamed, IsTextAt, ReadsMessage, IsUnread, is_delivery, IfDelivery, TellsText, KeepsText};
 
 use crate::entries::index_of;
-use crate::placing::{MessagePlace, end_place, places_of};
+use crate::placing::{MessagePlace, are_rising, end_place, may_follow, places_of};
 use crate::texts::{end_text, put_text, take_text};
 use arch_base::{Bytes, Config, NoMemory, ObjectId};
 use arch_judge::{Index, Verdict, compared, judge};
@@ -48,14 +49,14 @@ impl Model for DiskArchive {
     ghost use Rattle.epoch_store.specs.Stores.{View};
     ghost use Rattle.std.specs.Prelude.{◌≡◌};
     ghost use Rattle.archive_core.specs.Kept.{IndexesStored};
-    ghost use Rattle.archive_core.specs.Placing.{message_places};
+    ghost use Rattle.archive_core.specs.Placing.{message_places, PlacesRise};
 
     ghost Value = { View };
 
     ghost view = { λ s. s.store };
 
     ghost invariant = { λ s. IndexesStored s.store.entries s.index
-        × (s.places.items ≡ message_places 0 s.store.entries) };
+        × (s.places.items ≡ message_places 0 s.store.entries) × PlacesRise s.places.items };
 }
 
 impl DiskArchive {
@@ -102,6 +103,7 @@ impl DiskArchive {
         ensures opened { OpensArchive D.content D.moment D.left_since D.faults disk.old disk.new
             result }
         ensures refused { RefusesKindly result (D.content disk.old) (D.content disk.new) }
+        ensures texts { IfOk result (λ archive. WhereTold (HasTexts archive) (D.content disk.new)) }
     {
         law_of_stores();
         let store = match Store::open(alloc, disk) {
@@ -114,12 +116,33 @@ impl DiskArchive {
         let Ok(places) = places_of(alloc, store.stored()) else {
             return Err(OpenRefusal::NoMemory);
         };
+        // The numbers of an archive's messages rise.
+        if !are_rising(places.as_slice()) {
+            return Err(OpenRefusal::NoMemory);
+        }
         Ok(DiskArchive {
             alloc,
             store,
             index,
             places,
         })
+    }
+
+    /// Takes a command at a moment, in seconds since 1970.
+    ///
+    /// As `command_keeping` does, but the text that a delivery kept isn't told.
+    pub fn command<D: Disk>(&mut self, disk: &mut D, command: &Command<'_>, moment: u64) -> Answer
+        requires moment { moment ≤ last_moment }
+        requires sizes { WhereTold (HasSizes self.old) (D.content disk.old) }
+        ensures taken { TakesCommand D.content D.moment D.left_since D.faults D.reads disk.old
+            disk.new self.old self.new command.now (λ a. applied a command.now moment) result }
+        // A delivery whose blob id no entry has reads nothing.
+        ensures unread { (a : Archive) (cache : List ℕ)
+            → IsStoreWith self.old cache a (D.content disk.old) → text_known a command.now ≡ false
+            → D.reads disk.new ≡ D.reads disk.old }
+    {
+        let mut kept = Bytes::new(self.alloc);
+        self.command_keeping(disk, command, moment, &mut kept)
     }
 
     /// Takes a command at a moment, in seconds since 1970.
@@ -133,24 +156,43 @@ impl DiskArchive {
     /// `Ok` the latter. `DiskFault` comes only if the disk's count of faults rose: one of the two
     /// archives is then there, and the archive has to be reopened. `NoMemory` comes only if memory
     /// runs out, or if the epoch's file has 2^62 bytes or more; then nothing was done.
-    pub fn command<D: Disk>(&mut self, disk: &mut D, command: &Command<'_>, moment: u64) -> Answer
+    ///
+    /// `kept` is left with the text that an accepted delivery kept.
+    pub fn command_keeping<D: Disk>(
+        &mut self,
+        disk: &mut D,
+        command: &Command<'_>,
+        moment: u64,
+        kept: &mut Bytes,
+    ) -> Answer
         requires moment { moment ≤ last_moment }
         requires sizes { WhereTold (HasSizes self.old) (D.content disk.old) }
         ensures taken { TakesCommand D.content D.moment D.left_since D.faults D.reads disk.old
-            disk.new self.old self.new (λ a. applied a command.now moment) result }
+            disk.new self.old self.new command.now (λ a. applied a command.now moment) result }
         // A delivery whose blob id no entry has reads nothing.
         ensures unread { (a : Archive) (cache : List ℕ)
             → IsStoreWith self.old cache a (D.content disk.old) → text_known a command.now ≡ false
             → D.reads disk.new ≡ D.reads disk.old }
+        ensures text { IfDelivery (is_delivery command.now) (TellsText result kept.new) }
+        ensures kept { (a : Archive) (cache : List ℕ)
+            → IsStoreWith self.old cache a (D.content disk.old)
+            → IfDelivery (is_delivery command.now)
+            (OnDone result (KeepsText a (applied a command.now moment) moment kept.new)) }
     {
         match command {
-            Command::Deliver(bytes) => self.deliver(disk, bytes, moment),
+            Command::Deliver(bytes) => self.deliver(disk, bytes, moment, kept),
             Command::Remove(number) => self.remove(disk, *number, moment),
         }
     }
 
-    /// Delivers a message, or refuses it.
-    fn deliver<D: Disk>(&mut self, disk: &mut D, bytes: &[u8], moment: u64) -> Answer
+    /// Delivers a message, or refuses it. `kept` is left with the text that was kept.
+    fn deliver<D: Disk>(
+        &mut self,
+        disk: &mut D,
+        bytes: &[u8],
+        moment: u64,
+        kept: &mut Bytes,
+    ) -> Answer
         requires moment { moment ≤ last_moment }
         requires sizes { WhereTold (HasSizes self.old) (D.content disk.old) }
         ensures any_moment { (a : Archive) (cache : List ℕ)
@@ -168,13 +210,18 @@ impl DiskArchive {
         ensures same { OnRefusal result (self.new ≡ self.old) }
         ensures untouched { OnRefusal result (UnlessFault result (OnlyLooks D.content D.moment
             D.left_since disk.old disk.new)) }
+        ensures unmoved { IfUnread result (disk.new ≡ disk.old) }
         ensures sizes { UnlessFault result (WhereTold (HasSizes self.new) (D.content disk.new)) }
         ensures cause { RoseIf (result ≡ Answer.DiskFault) (D.faults disk.old) (D.faults disk.new) }
-        ensures for_command { IsForCommand result }
+        ensures for_command { AnswersDelivery result }
         ensures count { ReadsOnce (D.reads disk.old) (D.reads disk.new) }
         ensures unread { (a : Archive) (cache : List ℕ)
             → IsStoreWith self.old cache a (D.content disk.old) → form_known a (stored bytes.now) ≡ false
             → D.reads disk.new ≡ D.reads disk.old }
+        ensures text { TellsText result kept.new }
+        ensures kept { (a : Archive) (cache : List ℕ)
+            → IsStoreWith self.old cache a (D.content disk.old)
+            → OnDone result (KeepsText a (delivered a bytes.now moment) moment kept.new) }
     {
         law_of_stores();
         match self.verdict(disk, bytes) {
@@ -183,7 +230,10 @@ impl DiskArchive {
             Verdict::Compare { .. } => Answer::NoMemory,
             Verdict::Take { text, blob, number } => {
                 match self.keep(disk, text.as_slice(), blob, moment) {
-                    Ok(()) => Answer::Ok { number, id: blob },
+                    Ok(()) => {
+                        *kept = text;
+                        Answer::Ok { number, id: blob }
+                    }
                     Err(refusal) => answer_of(&refusal),
                 }
             }
@@ -198,6 +248,7 @@ impl DiskArchive {
             → IsStoreWith self.now cache a (D.content disk.old) → IsAlone a result }
         ensures taken { TakesWhatMay self.now result }
         ensures looks { OnlyLooks D.content D.moment D.left_since disk.old disk.new }
+        ensures unmoved { IfRefusedUnread result (disk.new ≡ disk.old) }
         ensures cause { RoseIf (IsFaultRead result) (D.faults disk.old) (D.faults disk.new) }
         ensures count { ReadsOnce (D.reads disk.old) (D.reads disk.new) }
         ensures unread { (a : Archive) (cache : List ℕ)
@@ -304,9 +355,10 @@ impl DiskArchive {
         ensures same { OnRefusal result (self.new ≡ self.old) }
         ensures untouched { OnRefusal result (UnlessFault result (OnlyLooks D.content D.moment
             D.left_since disk.old disk.new)) }
+        ensures unmoved { IfUnread result (disk.new ≡ disk.old) }
         ensures sizes { UnlessFault result (WhereTold (HasSizes self.new) (D.content disk.new)) }
         ensures cause { RoseIf (result ≡ Answer.DiskFault) (D.faults disk.old) (D.faults disk.new) }
-        ensures for_command { IsForCommand result }
+        ensures for_command { AnswersRemoval number result }
         ensures count { ReadsOnce (D.reads disk.old) (D.reads disk.new) }
     {
         law_of_stores();
@@ -356,9 +408,11 @@ impl DiskArchive {
         ensures slot { OnDone result (self.new.slot ≡ 1 - self.old.slot) }
         ensures same { OnRefusal result (self.new ≡ self.old) }
         ensures untouched { OnRefusal result (UnlessFault result (disk.new ≡ disk.old)) }
+        // Its answers come after the text was read.
+        ensures read { IfUnread result ⊥ }
         ensures sizes { UnlessFault result (WhereTold (HasSizes self.new) (D.content disk.new)) }
         ensures cause { RoseIf (result ≡ Answer.DiskFault) (D.faults disk.old) (D.faults disk.new) }
-        ensures for_command { IsForCommand result }
+        ensures for_command { AnswersRemoval number result }
         ensures count { D.reads disk.new ≡ D.reads disk.old }
     {
         law_of_stores();
@@ -421,6 +475,10 @@ impl DiskArchive {
         let Ok(()) = self.places.reserve(1) else {
             return Err(StoreRefusal::NoMemory);
         };
+        // The next number of an archive is above those of its messages.
+        if !may_follow(self.places.as_slice(), number) {
+            return Err(StoreRefusal::NoMemory);
+        }
         let older = self.index.number(&blob);
         put_text(self.alloc, &mut self.index, text, blob, number)?;
         if let Err(refusal) = self.store.deliver_entry(self.alloc, disk, text, moment) {
@@ -442,14 +500,6 @@ impl DiskArchive {
         ensures { result ≡ length self.now.entries }
     {
         self.store.stored().len() as u64
-    }
-
-    /// Returns how many numbers have a live message.
-    pub fn live_count(&self) -> u32
-        ensures { (a : Archive) → Keeps self.now a → result ≡ length (live a.entries) }
-    {
-        // There are no more messages than numbers.
-        self.live_between(0, u32::MAX).min(u64::from(u32::MAX)) as u32
     }
 
     /// Returns the number of the next message.

@@ -1,41 +1,49 @@
 //! An archive that owns its disk.
-ghost use Rattle.std.specs.Prelude.{◌≡◌, ◌≢◌, ◌≤◌, true, false, IfOk, IfErr, OnErr, Err, List, None, is_some, length, ℕ};
+ghost use Rattle.std.specs.Prelude.{◌≡◌, ◌≢◌, ◌≤◌, true, false, IfOk, IfErr, OnErr, Err, List, [], None, not, ◌||◌, is_ok, is_some, length, ℕ};
 ghost use Rattle.arch_base.specs.Configs.{IsConfig};
 ghost use Rattle.arch_base.specs.Moments.{last_moment};
 ghost use Rattle.disk_model.specs.Disk.{LeavesOnly};
 ghost use Rattle.arch_model.specs.Archives.{Archive, live, text_of};
 ghost use Rattle.arch_model.specs.Delivery.{applied};
-ghost use Rattle.arch_model.specs.Keeping.{Moves, Comes, AnswerCause, text_known};
+ghost use Rattle.arch_model.specs.Keeping.{Moves, Comes, StaysReady, AnswerCause, text_known};
+ghost use Rattle.arch_model.specs.Listings.{rows_of};
 ghost use Rattle.arch_model.specs.Shelves.{GivesBlobIn, AppendsTo, Stays, ReadCause, ReadsOnce};
 ghost use Rattle.arch_model.specs.Standing.{Standing, standing, GivesTextIn, KeepsUnlessFound};
 ghost use Rattle.arch_model.specs.declared.answer.Answer.{Answer};
+ghost use Rattle.epoch_store.specs.Opens.{ReadsWith};
 ghost use Rattle.epoch_store.specs.Promises.{MakesArchive, OpensArchive};
 ghost use Rattle.epoch_store.specs.Stores.{IsStoreWith, RecoversEitherWith};
-ghost use Rattle.archive_core.specs.Commands.{DoneBy, IsForCommand};
-ghost use Rattle.archive_core.specs.Engines.{Holds, Leaves, ReadsOn, is_ready, needs_opening as needs_opening_after, reading-same, reading-joined, store-left, now-left, reading-kept};
+ghost use Rattle.archive_core.specs.Commands.{DoneBy, IfUnread, IsForCommand};
+ghost use Rattle.archive_core.specs.Engines.{Holds, IfRefused, Leaves, ReadsOn, is_ready, needs_opening as needs_opening_after, reading-same, reading-joined, store-left, now-left, reading-kept};
 ghost use Rattle.archive_core.specs.HandedBack.{disk_made, made_or_why, disk_opened, opened_or_why};
 ghost use Rattle.archive_core.specs.Numbers.{GivesTextKept, GivesBlobKept, Names};
 ghost use Rattle.archive_core.specs.Openings.{RefusesKindly};
 
 use crate::archive::DiskArchive;
 use crate::not_made::{NotMade, NotOpened};
-use arch_base::{Bytes, Config, ObjectId};
-use arch_model::{Answer, Command, EntryLine, Keep, OpenRefusal, Shelf, TextRefusal};
+use crate::opened::Opened;
+use crate::rows::follow;
+use arch_base::{Bytes, Config, NoMemory, Numbers, ObjectId};
+use arch_model::{Answer, Command, EntryLine, Keep, OpenRefusal, Row, Shelf, TextRefusal};
 use disk_model::Disk;
 use epoch_store::law_of_recovery;
+use overview_index::Overview;
 use std::alloc::Global;
 use std::marker::Model;
 
-/// An archive that owns its disk; implements `Shelf` and `Keep`.
+/// An archive that owns its disk, and keeps the rows of its live messages; implements `Shelf` and
+/// `Keep`.
 ///
 /// The archive is stale after a command whose answer is `DiskFault`: it isn't known whether the
 /// command was done, and nothing else is answered until the archive is reopened. It is stale after
-/// the answer `Damaged` too, which a command on an archive's own disk never gives.
+/// the answer `Damaged` too, which a command on an archive's own disk never gives, and after an `Ok`
+/// for whose row there was no memory, where nothing is in doubt.
 #[derive(Drop)]
 pub struct Engine<D: Disk> {
     alloc: Global,
     disk: D,
     archive: DiskArchive,
+    overview: Overview,
     stale: bool,
 }
 
@@ -44,7 +52,7 @@ impl<D: Disk> Model for Engine<D> {
 
     ghost Value = { Owning D };
 
-    ghost view = { λ e. record { disk = e.disk; view = e.archive; stale = e.stale } };
+    ghost view = { λ e. record { disk = e.disk; view = e.archive; rows = e.overview; stale = e.stale } };
 
     ghost invariant = { λ e. SizesUnless e.stale e.archive (D.content e.disk) };
 }
@@ -65,6 +73,7 @@ impl<D: Disk> Engine<D> {
         requires config { IsConfig config.now }
         ensures made { MakesArchive D.content D.moment D.left_since D.faults disk
             (disk_made result) config.now (made_or_why result) }
+        ensures rows { IfOk result (λ made. made.rows ≡ []) }
         ensures ready { IfOk result (λ made. made.stale ≡ false) }
     {
         let mut disk = disk;
@@ -73,6 +82,7 @@ impl<D: Disk> Engine<D> {
                 alloc,
                 disk,
                 archive,
+                overview: Overview::new(alloc),
                 stale: false,
             }),
             Err(why) => Err(NotMade { disk, why }),
@@ -96,14 +106,17 @@ impl<D: Disk> Engine<D> {
             (disk_opened result) (opened_or_why result) }
         ensures refused { RefusesKindly (opened_or_why result) (D.content disk)
             (D.content (disk_opened result)) }
+        ensures rows { (a : Archive) (cache : List ℕ) → ReadsWith cache a (D.content disk)
+            → IfOk result (λ opened. opened.rows ≡ rows_of (live a.entries)) }
         ensures ready { IfOk result (λ opened. opened.stale ≡ false) }
     {
         let mut disk = disk;
-        match DiskArchive::open(alloc, &mut disk) {
-            Ok(archive) => Ok(Engine {
+        match Opened::open(alloc, &mut disk) {
+            Ok(Opened { archive, overview }) => Ok(Engine {
                 alloc,
                 disk,
                 archive,
+                overview,
                 stale: false,
             }),
             Err(why) => Err(NotOpened { disk, why }),
@@ -118,6 +131,7 @@ impl<D: Disk> Engine<D> {
             alloc: _,
             disk,
             archive: _,
+            overview: _,
             stale: _,
         } = self;
         disk
@@ -150,13 +164,17 @@ impl<D: Disk> Engine<D> {
     pub fn message_count(&self) -> u32
         ensures { (a : Archive) → Holds D.content self.now a → result ≡ length (live a.entries) }
     {
-        self.archive.live_count()
+        // There are no more messages than numbers.
+        self.overview
+            .live_count(0, u32::MAX)
+            .min(u64::from(u32::MAX)) as u32
     }
 
     /// Carries out a command on an archive that needn't be reopened.
     ///
-    /// The archive has to be reopened after the answers `DiskFault` and `Damaged`, and after no other
-    /// one. `Damaged` never comes while an archive is held.
+    /// The archive has to be reopened after the answers `DiskFault` and `Damaged`, and after an `Ok`
+    /// for whose row there was no memory: then nothing is in doubt. It needn't be after any other
+    /// answer. `Damaged` never comes while an archive is held.
     pub fn take(&mut self, command: &Command<'_>, moment: u64) -> Answer
         requires ready { self.old.stale ≡ false }
         requires moment { moment ≤ last_moment }
@@ -174,8 +192,13 @@ impl<D: Disk> Engine<D> {
             × Moves (Holds D.content) is_ready (Leaves D.moment D.left_since) self.old
             (standing a None) self.new t
             × Comes true (standing a None) (λ (b : Archive). applied b command.now moment) result t }
-        ensures ready { self.new.stale ≡ needs_opening_after result }
-        ensures for_command { IsForCommand result }
+        ensures ready { StaysReady true result (is_ready self.new) }
+        // A refusal by the rules, and `NoMemory`, change nothing but what reading changes, and a
+        // refusal before which no text is read changes nothing at all.
+        ensures untouched { IfRefused result (ReadsOn D.content D.moment D.left_since self.old
+            self.new) }
+        ensures unmoved { IfUnread result (self.new ≡ self.old) }
+        ensures for_command { IsForCommand command.now result }
         ensures later { D.faults self.old.disk ≤ D.faults self.new.disk }
         ensures cause { AnswerCause (D.faults self.old.disk) (D.faults self.new.disk) result }
         // Each fault of the disk is told.
@@ -193,8 +216,20 @@ impl<D: Disk> Engine<D> {
         if !self.archive.has_next_root() {
             return Answer::NoMemory;
         }
-        let answer = self.archive.command(&mut self.disk, command, moment);
-        self.stale = needs_opening(&answer);
+        let mut text = Bytes::new(self.alloc);
+        let answer = self
+            .archive
+            .command_keeping(&mut self.disk, command, moment, &mut text);
+        let kept = text.as_slice();
+        let followed = follow(
+            self.alloc,
+            &mut self.overview,
+            command,
+            &answer,
+            kept,
+            moment,
+        );
+        self.stale = is_left_stale(&answer, &followed);
         answer
     }
 }
@@ -218,16 +253,28 @@ impl<D: Disk> Shelf for Engine<D> {
         self.archive.next_number()
     }
 
+    fn row(&self, n: u32) -> Option<&Row> {
+        self.overview.get(n)
+    }
+
+    fn by_id(&self, id: &[u8]) -> Option<u32> {
+        self.overview.by_id(id)
+    }
+
     fn live_from(&self, n: u32) -> Option<u32> {
-        self.archive.live_from(n)
+        self.overview.live_from(n)
     }
 
     fn live_to(&self, n: u32) -> Option<u32> {
-        self.archive.live_to(n)
+        self.overview.live_to(n)
     }
 
     fn live_count(&self, low: u32, high: u32) -> u64 {
-        self.archive.live_between(low, high)
+        self.overview.live_count(low, high)
+    }
+
+    fn order_page(&self, skip: u64, count: u64) -> Result<Numbers, NoMemory> {
+        self.overview.page(skip, count)
     }
 
     fn entry(&self, index: u64) -> Option<EntryLine> {
@@ -293,9 +340,10 @@ impl<D: Disk> Keep for Engine<D> {
         if !self.stale {
             return Ok(());
         }
-        match DiskArchive::open(self.alloc, &mut self.disk) {
-            Ok(archive) => {
+        match Opened::open(self.alloc, &mut self.disk) {
+            Ok(Opened { archive, overview }) => {
                 self.archive = archive;
+                self.overview = overview;
                 self.stale = false;
                 Ok(())
             }
@@ -315,7 +363,7 @@ impl<D: Disk> Keep for Engine<D> {
     }
 
     ghost holds_left = { λ e a may store has.
-        store-left D.content D.moment D.left_since D.counts_now D.only_now e a may store has };
+        store-left D.content D.moment D.left_since D.counts_now D.only_now e a may (store.0, store.1) has };
 
     ghost leaves_now = { λ start e may left.
         now-left D.content D.moment D.left_since D.counts_now D.only_now start e may left };
@@ -335,4 +383,11 @@ fn needs_opening(answer: &Answer) -> bool
         Answer::Damaged { file: _, at: _ } => true,
         _other => false,
     }
+}
+
+/// Returns whether an archive has to be reopened after this answer, whose rows were brought up or not.
+fn is_left_stale(answer: &Answer, followed: &Result<(), NoMemory>) -> bool
+    ensures { result ≡ (needs_opening_after answer.now || not (is_ok followed.now)) }
+{
+    needs_opening(answer) || followed.is_err()
 }

@@ -1,14 +1,19 @@
-//! An archive on a disk that takes commands: its store, and an index of its messages by their ids.
+//! An archive on a disk that takes commands: its store, an index of its messages by their ids, and
+//! the rows of its live messages.
 #![tactic(auto)]
 
 mod archive;
 mod engine;
 mod entries;
 mod not_made;
+mod opened;
 mod placing;
 mod reading;
+mod rows;
 mod texts;
+mod walk;
 
 pub use archive::DiskArchive;
 pub use engine::Engine;
 pub use not_made::{NotMade, NotOpened};
+pub use walk::Walk;

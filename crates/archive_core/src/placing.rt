@@ -1,6 +1,6 @@
 //! Where the messages of an archive on a disk are, by their numbers.
-ghost use Rattle.std.specs.Prelude.{◌≡◌, IfOk, OnOk, length};
-ghost use Rattle.archive_core.specs.Placing.{message_places, PlacesBy, IsPlaceOf, ends_place};
+ghost use Rattle.std.specs.Prelude.{◌≡◌, true, IfOk, OnOk, length};
+ghost use Rattle.archive_core.specs.Placing.{message_places, PlacesBy, PlacesRise, MayFollow, IsPlaceOf, ends_place};
 
 use arch_base::NoMemory;
 use epoch_store::StoredEntry;
@@ -63,14 +63,36 @@ fn place_entry(
     }
 }
 
-/// Makes the places of a number no longer live.
-pub(crate) fn end_place(places: &mut [MessagePlace], number: u32)
-    ensures { places.new ≡ ends_place number places.old }
+/// Returns whether numbers rise from one place to the next.
+pub(crate) fn are_rising(places: &[MessagePlace]) -> bool
+    ensures { result ≡ true → PlacesRise places.now }
 {
-    for place in places.iter_mut() {
-        if place.number == number {
-            place.live = false;
+    let mut least: u64 = 0;
+    for place in places {
+        if u64::from(place.number) < least {
+            return false;
         }
+        least = u64::from(place.number) + 1;
+    }
+    true
+}
+
+/// Returns whether a number is above those of all places, which rise.
+pub(crate) fn may_follow(places: &[MessagePlace], number: u32) -> bool
+    ensures { result ≡ true → MayFollow places.now number }
+{
+    match places.last() {
+        None => true,
+        Some(last) => last.number < number,
+    }
+}
+
+/// Makes the place of a number no longer live, by one search.
+pub(crate) fn end_place(places: &mut [MessagePlace], number: u32)
+    ensures { PlacesRise places.old → places.new ≡ ends_place number places.old }
+{
+    if let Some(index) = place_index(places, number) {
+        places[index].live = false;
     }
 }
 

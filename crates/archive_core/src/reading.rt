@@ -1,19 +1,17 @@
 //! Reads an archive on a disk: its messages by their numbers, and its epochs.
-ghost use Rattle.std.specs.Prelude.{◌≡◌, ◌≤◌, ◌<◌, ◌+◌, ◌^◌, ◌↔◌, ◌&&◌, ℕ, List, nat_le, true, length, count_by, Err, IsTrue, IsSome, IfSome, OnErr, is_some};
+ghost use Rattle.std.specs.Prelude.{◌≡◌, ◌≤◌, ◌<◌, ◌+◌, ◌^◌, ◌↔◌, ℕ, List, true, Err, IsTrue, IfSome, OnErr, is_some};
 ghost use Rattle.arch_base.specs.Counts.{RoseIf};
 ghost use Rattle.disk_model.specs.Disk.{Image, Told, Unchanged, LeavesOnly};
 ghost use Rattle.arch_model.specs.Archives.{Archive, live, messages, in_epoch, text_of, blob_number};
-ghost use Rattle.arch_model.specs.Shelves.{IsGreatestLive, live_between, line_at, GivesBlobIn, AppendsTo};
-ghost use Rattle.arch_model.specs.Standing.{IsLeastLive, GivesTextIn, GivesEpochIn, KeepsUnlessFound};
+ghost use Rattle.arch_model.specs.Shelves.{line_at, GivesBlobIn, AppendsTo};
+ghost use Rattle.arch_model.specs.Standing.{GivesTextIn, GivesEpochIn, KeepsUnlessFound};
 ghost use Rattle.arch_model.specs.declared.text_refusal.TextRefusal.{TextRefusal};
 ghost use Rattle.epoch_store.specs.Reads.{AnswersQuietly};
 ghost use Rattle.epoch_store.specs.Stores.{IsStoreWith, Keeps};
-ghost use Rattle.archive_core.specs.Numbers.{has_live, IsKnownLive, IsMessageAt, IsLiveAt, HasBlobAt, IsBlobIndex, GivesTextKept, GivesBlobKept, Names, TellsOther};
-ghost use Rattle.archive_core.specs.Placing.{live_place, PlacesRise, IsLeastPlace, IsGreatestPlace};
-ghost use Rattle.archive_core.specs.declared.placing.MessagePlace.{MessagePlace};
+ghost use Rattle.archive_core.specs.Numbers.{has_live, IsMessageAt, IsLiveAt, HasBlobAt, IsBlobIndex, GivesTextKept, GivesBlobKept, Names, TellsOther};
 
 use crate::archive::DiskArchive;
-use crate::placing::{MessagePlace, place_index};
+use crate::placing::place_index;
 use arch_base::{Bytes, ObjectId};
 use arch_model::{EntryLine, TextRefusal};
 use disk_model::Disk;
@@ -24,29 +22,6 @@ impl DiskArchive {
         ensures { IsTrue result ↔ self.now.root.sequence + 1 < 2 ^ 64 }
     {
         self.store.sequence() < u64::MAX
-    }
-
-    /// Returns the least number of a live message that is at least `n`, or `None` if there is none.
-    pub fn live_from(&self, n: u32) -> Option<u32>
-        ensures known { IsKnownLive (has_live self.now.entries) result }
-        ensures number { (a : Archive) → Keeps self.now a → IsLeastLive (live a.entries) n result }
-    {
-        live_from(self.places.as_slice(), n)
-    }
-
-    /// Returns the greatest number of a live message that is at most `n`, or `None` if there is none.
-    pub fn live_to(&self, n: u32) -> Option<u32>
-        ensures { (a : Archive) → Keeps self.now a → IsGreatestLive (live a.entries) n result }
-    {
-        live_to(self.places.as_slice(), n)
-    }
-
-    /// Returns how many live messages have a number from `low` to `high`.
-    pub fn live_between(&self, low: u32, high: u32) -> u64
-        ensures { (a : Archive) → Keeps self.now a
-            → result ≡ live_between (live a.entries) low high }
-    {
-        count_between(self.places.as_slice(), low, high)
     }
 
     /// Returns the index of the entry of a number's message, live or not, or `None` if there is none.
@@ -224,43 +199,4 @@ impl DiskArchive {
     {
         self.store.epoch(disk, epoch, into)
     }
-}
-
-/// Returns the least live number from `n` on, or `None` if there is none.
-fn live_from(places: &[MessagePlace], n: u32) -> Option<u32>
-    ensures known { IsKnownLive (live_place places.now) result }
-    ensures least { PlacesRise places.now → IsLeastPlace places.now n result }
-{
-    let first = places.partition_point(|place| place.number < n);
-    for index in first..places.len() {
-        if places[index].live {
-            return Some(places[index].number);
-        }
-    }
-    None
-}
-
-/// Returns the greatest live number up to `n`, or `None` if there is none.
-fn live_to(places: &[MessagePlace], n: u32) -> Option<u32>
-    ensures known { IsKnownLive (live_place places.now) result }
-    ensures greatest { PlacesRise places.now → IsGreatestPlace places.now n result }
-{
-    let count = places.partition_point(|place| place.number <= n);
-    for index in (0..count).rev() {
-        if places[index].live {
-            return Some(places[index].number);
-        }
-    }
-    None
-}
-
-/// Returns how many live places have a number from `low` to `high`.
-fn count_between(places: &[MessagePlace], low: u32, high: u32) -> u64
-    ensures { result ≡ count_by (λ (p : MessagePlace).
-        p.live && (nat_le low p.number && nat_le p.number high)) places.now }
-{
-    places
-        .iter()
-        .filter(|place| place.live && low <= place.number && place.number <= high)
-        .count() as u64
 }

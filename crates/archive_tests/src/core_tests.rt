@@ -65,7 +65,7 @@ fn answers<D: Disk>(
 /// Returns whether an archive has this many messages by each of its counts.
 fn has_count(archive: &DiskArchive, count: u32) -> bool {
     let entries = archive.entry_count() == count as u64;
-    let live = archive.live_count() == count;
+    let live = count == 0 || archive.has_text(1) && archive.has_text(count);
     let next = archive.next_number() == count.saturating_add(1);
     entries && live && next
 }

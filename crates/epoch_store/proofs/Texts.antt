@@ -45,7 +45,7 @@ pub record IsKeptOf (before es : List Entry) (i : ℕ) (s : StoredEntry) : Type 
   pub here : slice_get es i ≡ Some entry
   pub kept : s ≡ stored_at (before ++ front) entry
 
-kept_found : (before es : List Entry) (i : ℕ) (s : StoredEntry) → slice_get (stored_after before es) i ≡ Some s → IsKeptOf before es i s
+pub kept_found : (before es : List Entry) (i : ℕ) (s : StoredEntry) → slice_get (stored_after before es) i ≡ Some s → IsKeptOf before es i s
 kept_found before [] i s is = let wrong = slice_get_within {A = StoredEntry} [] i s is in absurd (omega (arith, wrong))
 kept_found before (e ∷ es) zero s is = record {
   front = [];
@@ -67,7 +67,7 @@ kept_found before (e ∷ es) (suc i) s is =
     }
 
 -- What holds of all items holds of one among them.
-one_of_all : (P : Entry → Type 0) (xs : List Entry) (e : Entry) (ys : List Entry) → AllByRecursion P (xs ++ e ∷ ys) → P e
+pub one_of_all : (P : Entry → Type 0) (xs : List Entry) (e : Entry) (ys : List Entry) → AllByRecursion P (xs ++ e ∷ ys) → P e
 one_of_all P [] e ys all = all.0
 one_of_all P (x ∷ xs) e ys all = one_of_all P xs e ys all.1
 

@@ -12,6 +12,7 @@ use Rattle.root_slots.specs.declared.root.Root.{Root}
 use Rattle.root_slots.specs.Valid.{no_place}
 use Rattle.epoch_store.specs.declared.entries.StoredEntry.{StoredEntry}
 use Rattle.epoch_store.specs.Files.{epoch_file_of}
+use Rattle.epoch_store.specs.Stores.{View}
 
 -- An entry without its text.
 abbrev pub line_of : StoredEntry → EntryLine
@@ -111,3 +112,14 @@ FindsEpoch root e old new (Ok true) k = (bytes : List ℕ)
     (get_or root.epochs e no_place).length bytes × (new ≡ old ++ bytes)
 FindsEpoch root e old new (Ok false) k = Unit {0}
 FindsEpoch root e old new (Err refused) k = Unit {0}
+
+-- The text of an entry is in its place in the file of its epoch: bytes with the entry's blob id.
+pub record HasText (root : Root) (s : StoredEntry) (k : Content) : Type 0 where
+  pub long : s.seen.text_at + s.seen.size
+      ≤ length (bytes_of (k (epoch_file_of root s.epoch)).seen)
+  pub blob : blob_id_of (take s.seen.size (drop s.seen.text_at
+      (bytes_of (k (epoch_file_of root s.epoch)).seen))) ≡ s.seen.blob
+
+-- The texts of all entries that are kept are in their places.
+abbrev pub HasTexts : View → Content → Type 0
+HasTexts v k = (i : ℕ) (s : StoredEntry) → slice_get v.entries i ≡ Some s → HasText v.root s k

@@ -15,6 +15,7 @@ ghost use Rattle.epoch_store.specs.Files.{as_read};
 ghost use Rattle.epoch_store.specs.Finding.{Finds};
 ghost use Rattle.epoch_store.specs.Joined.{AreBefore};
 ghost use Rattle.epoch_store.specs.Settling.{FoundOn, IsSettledBy};
+ghost use Rattle.epoch_store.specs.Reads.{HasTexts};
 ghost use Rattle.epoch_store.specs.Stores.{IsStoreWith, HasSizes};
 ghost use Rattle.epoch_store.specs.Opens.{RecoversOfWith, AllRecoverWith, ReadsWith, Opens, OpensWell, SyncsBy, RefusesBefore, SyncsFirst, OnSynced};
 
@@ -117,6 +118,8 @@ impl Store {
         ensures kept { IfOk result (λ store. Told (IsSettledBy store.root store.slot)
             (D.content disk.old) (D.content disk.new)) }
         ensures sizes { IfOk result (λ store. WhereTold (HasSizes store) (D.content disk.new)) }
+        // Each text that was read when it was opened is in its place.
+        ensures texts { IfOk result (λ store. WhereTold (HasTexts store) (D.content disk.new)) }
         ensures cause { RoseIf (result ≡ Err OpenRefusal.DiskFault) (D.faults disk.old)
             (D.faults disk.new) }
     {

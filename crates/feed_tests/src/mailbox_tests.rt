@@ -2,8 +2,9 @@
 use arch_base::{Bytes, NoMemory};
 use atom_mbox::{mbox_len, mbox_piece};
 use git_objects::blob_id;
+use mail_forms::Row;
 use mail_reader::is_stored;
-use mail_rows::{Row, row_of};
+use mail_rows::row_of;
 use std::alloc::Global;
 
 /// The text that has 103 bytes.

@@ -10,7 +10,7 @@ use Rattle.arch_base.specs.Names.{IsName}
 use Rattle.mail_reader.specs.Fields.{FieldText, fields_of, first_named}
 use Rattle.mail_reader.specs.Values.{flat_of}
 use Rattle.mime_words.specs.Decoding.{decoded}
-use Rattle.mail_rows.specs.declared.row.Row.{Row}
+use Rattle.mail_forms.specs.declared.row.Row.{Row}
 use Rattle.web_text.specs.Days.{page_moment}
 use Rattle.web_text.specs.Escapes.{escaped, title_of}
 use Rattle.web_text.proofs.MomentBytes.{moment_bytes}

@@ -6,7 +6,7 @@ use Rattle.std.specs.Prelude.{map, codes}
 use Rattle.std.proofs.lemmas.Bool.{cases_order}
 use Rattle.std.proofs.lemmas.List.{take-map, drop-map, take_all, drop_all, length-map}
 use Rattle.std.proofs.lemmas.List.Folds.{flat_map-map}
-use Rattle.mail_rows.specs.declared.row.Row.{Row}
+use Rattle.mail_forms.specs.declared.row.Row.{Row}
 use Rattle.html_pages.specs.Lines.{row_line, older_link}
 use Rattle.html_pages.specs.Pages.{page_of, listing_of}
 

@@ -2,7 +2,7 @@
 use Rattle.std.specs.Prelude.{◌≡◌, ℕ, ◌^◌, ◌<◌, min, Bool, true, false, ◌||◌, ◌==◌, List, [], ◌++◌, length, filter, replicate, codes}
 use Rattle.std.specs.List.{concat}
 use Rattle.arch_base.specs.Names.{IsName}
-use Rattle.mail_rows.specs.declared.row.Row.{Row}
+use Rattle.mail_forms.specs.declared.row.Row.{Row}
 use Rattle.web_text.specs.Escapes.{escaped}
 use Rattle.html_pages.specs.Pieces.{address}
 use Rattle.html_pages.specs.Pages.{listing_of, message_of, thread_of}

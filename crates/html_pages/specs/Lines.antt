@@ -4,7 +4,7 @@ use Rattle.std.specs.Fmt.{decimal}
 use Rattle.mail_reader.specs.Fields.{FieldText, fields_of, first_named}
 use Rattle.mail_reader.specs.Values.{flat_of}
 use Rattle.mime_words.specs.Decoding.{decoded}
-use Rattle.mail_rows.specs.declared.row.Row.{Row}
+use Rattle.mail_forms.specs.declared.row.Row.{Row}
 use Rattle.web_text.specs.Escapes.{escaped, title_of}
 use Rattle.html_pages.specs.Pieces.{page_date, address}
 use Rattle.html_pages.specs.declared.thread_line.ThreadLine.{ThreadLine}

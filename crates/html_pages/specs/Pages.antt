@@ -1,7 +1,7 @@
 -- Pages (HTML Living Standard, section 13.1).
 use Rattle.std.specs.Prelude.{ℕ, List, [], ◌∷◌, ◌++◌, length, take, drop, codes}
 use Rattle.std.specs.List.{flat_map}
-use Rattle.mail_rows.specs.declared.row.Row.{Row}
+use Rattle.mail_forms.specs.declared.row.Row.{Row}
 use Rattle.web_text.specs.Escapes.{escaped, title_of}
 use Rattle.html_pages.specs.Lines.{row_line, rows_shown, older_link, header_line, links_line, thread_line}
 use Rattle.html_pages.specs.declared.thread_line.ThreadLine.{ThreadLine}

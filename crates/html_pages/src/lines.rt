@@ -4,7 +4,7 @@ ghost use Rattle.html_pages.specs.Lines.{row_line};
 
 use crate::pieces::{push_date, push_place};
 use arch_base::{Bytes, Name, NoMemory};
-use mail_rows::Row;
+use mail_forms::Row;
 use std::alloc::Global;
 use web_text::{push_escaped, push_title};
 

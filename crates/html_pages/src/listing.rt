@@ -8,7 +8,7 @@ ghost use Rattle.html_pages.specs.Pages.{listing_of};
 use crate::lines::{end_page, end_title, open_page, push_row};
 use arch_base::{Bytes, Name, NoMemory};
 use itoa::Buffer;
-use mail_rows::Row;
+use mail_forms::Row;
 use std::alloc::Global;
 
 /// How many rows a listing shows at once.

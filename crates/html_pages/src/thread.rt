@@ -8,7 +8,7 @@ ghost use Rattle.html_pages.specs.Pages.{thread_of};
 use crate::lines::{end_page, end_title, open_page, push_row};
 use crate::thread_line::{ThreadEntry, ThreadLine};
 use arch_base::{Bytes, Name, NoMemory};
-use mail_rows::Row;
+use mail_forms::Row;
 use std::alloc::Global;
 use web_text::{push_escaped, push_title};
 

@@ -1,5 +1,5 @@
 //! The lines of a thread.
-use mail_rows::Row;
+use mail_forms::Row;
 
 /// What a line of a thread stands for.
 #[derive(Clone, Copy, Drop)]

@@ -1,12 +1,15 @@
-//! The forms in which a text is sent, with their lengths, and the values of its fields.
+//! The forms in which a text is sent, with their lengths, the values of its fields, and the row of a
+//! mail.
 #![tactic(auto)]
 
 mod laws;
 mod mailbox;
 mod named_values;
+mod row;
 mod wire_form;
 
 pub use laws::{wire_len_is_sum, wire_lines_end_as_sent};
 pub use mailbox::{is_from_line, line_len, mbox_len};
 pub use named_values::{first_value, flat_first};
+pub use row::Row;
 pub use wire_form::{line_feeds, wire, wire_len};

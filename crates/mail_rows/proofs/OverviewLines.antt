@@ -5,7 +5,7 @@ use Rattle.std.specs.Prelude.{codes}
 use Rattle.mail_reader.specs.Bodies.{body_of}
 use Rattle.mail_forms.specs.NamedValues.{flat_first}
 use Rattle.mail_forms.specs.WireForms.{wire_of, feeds_of}
-use Rattle.mail_rows.specs.Overviews.{id_fact, tabbed, over_of}
+use Rattle.arch_model.specs.Overviews.{id_fact, tabbed, over_of}
 
 -- Each field is appended with its tab.
 seven-fields : (s f d i r w l : List ℕ)

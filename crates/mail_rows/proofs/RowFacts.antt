@@ -18,9 +18,9 @@ use Rattle.mail_reader.specs.Ids.{own_id}
 use Rattle.mail_reader.specs.References.{refs_of}
 use Rattle.mail_reader.specs.Values.{flat_of}
 use Rattle.mime_words.specs.Decoding.{decoded}
-use Rattle.mail_rows.specs.Overviews.{id_or_nothing, id_fact, over_of}
-use Rattle.mail_rows.specs.Rows.{row_of}
-use Rattle.mail_rows.specs.declared.row.Row.{Row}
+use Rattle.arch_model.specs.Overviews.{id_or_nothing, id_fact, over_of}
+use Rattle.arch_model.specs.Rows.{row_of}
+use Rattle.mail_forms.specs.declared.row.Row.{Row}
 use Rattle.std.specs.Prelude.{codes}
 
 some_subject : (field : Option FieldText) (value : List ℕ) → Some value ≡ option_map (λ (f : FieldText). f.value) field → decoded (flat_of value) ≡ subject_of field

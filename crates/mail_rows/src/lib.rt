@@ -2,8 +2,6 @@
 #![tactic(auto)]
 
 mod overview;
-mod row;
 mod rows;
 
-pub use row::Row;
 pub use rows::row_of;

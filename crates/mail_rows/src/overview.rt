@@ -3,7 +3,7 @@ ghost use Rattle.std.specs.Prelude.{◌≡◌, ◌++◌, ◌∷◌, [], length, 
 ghost use Rattle.mail_forms.specs.NamedValues.{flat_first as flat_of_first};
 ghost use Rattle.mail_forms.specs.WireForms.{wire_of, feeds_of};
 ghost use Rattle.mail_reader.specs.Bodies.{body_of};
-ghost use Rattle.mail_rows.specs.Overviews.{id_fact, over_of};
+ghost use Rattle.arch_model.specs.Overviews.{id_fact, over_of};
 
 use arch_base::{Bytes, NoMemory};
 use itoa::Buffer;

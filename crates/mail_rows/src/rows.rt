@@ -10,15 +10,14 @@ ghost use Rattle.mail_reader.specs.References.{refs_of as refs_in};
 ghost use Rattle.mail_reader.specs.StorageTexts.{IsStorageText};
 ghost use Rattle.mail_reader.specs.Values.{flat_of};
 ghost use Rattle.mime_words.specs.Decoding.{decoded};
-ghost use Rattle.mail_rows.specs.Overviews.{id_fact};
-ghost use Rattle.mail_rows.specs.Rows.{row_of as row_fact};
+ghost use Rattle.arch_model.specs.Overviews.{id_fact};
+ghost use Rattle.arch_model.specs.Rows.{row_of as row_fact};
 
 use crate::overview::overview_line;
-use crate::row::Row;
 use arch_base::{Bytes, NoMemory, ObjectId, Texts};
 use mail_commits::entry_commit;
 use mail_date::Moment;
-use mail_forms::{first_value, line_feeds, mbox_len, wire_len};
+use mail_forms::{Row, first_value, line_feeds, mbox_len, wire_len};
 use mail_reader::{body, content_id, flat, own_id, refs_of};
 use mime_words::decode;
 use std::alloc::Global;

@@ -6,3 +6,5 @@ mod Keeping
 mod EpochSteps
 mod Delivering
 mod Commanding
+mod RowsKept
+mod OwnIds

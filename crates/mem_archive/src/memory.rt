@@ -1,5 +1,5 @@
 //! A plain archive in memory, which does what the definitions say, call by call.
-ghost use Rattle.std.specs.Prelude.{◌≡◌, ◌++◌, ◌≤◌, false, option_copied, IfOk, OnOk, OnErr, IsSome, Some, None};
+ghost use Rattle.std.specs.Prelude.{◌≡◌, ◌++◌, ◌≤◌, false, take, drop, option_copied, IfOk, OnOk, OnErr, IsSome, Some, None};
 ghost use Rattle.arch_base.specs.Configs.{IsConfig};
 ghost use Rattle.mail_reader.specs.Content.{content_id_of};
 ghost use Rattle.mail_reader.specs.Ids.{own_id as own_id_of};
@@ -9,17 +9,22 @@ ghost use Rattle.arch_model.specs.Delivery.{Delivers, applied, delivered, remove
 ghost use Rattle.arch_judge.specs.Judging.{Judges};
 ghost use Rattle.arch_model.specs.Epochs.{epoch_bytes};
 ghost use Rattle.mem_archive.specs.Memory.{GivesEpoch, Grows, MayKeep};
+ghost use Rattle.arch_model.specs.Listings.{row_in, number_of_id, listing};
+ghost use Rattle.arch_model.specs.Rows.{row_of as row_fact};
+ghost use Rattle.overview_index.specs.Listings.{with_row};
 ghost use Rattle.arch_model.specs.Shelves.{IsGreatestLive, live_between, line_at, blob_text};
 ghost use Rattle.arch_model.specs.Standing.{IsLeastLive, IsUntouched};
 ghost use Rattle.arch_model.specs.declared.answer.Answer.{Answer};
 
 use crate::kept::{End, Kept, Place, push_after};
 use crate::placing::{count_live, greatest_live, hide, least_live, once_at, place_of, shown_at};
-use arch_base::{Bytes, Config, NoMemory, ObjectId};
+use arch_base::{Bytes, Config, NoMemory, Numbers, ObjectId};
 use arch_judge::{Index, Owner, Verdict, compared, judge};
-use arch_model::{Answer, Command, EntryLine};
+use arch_model::{Answer, Command, EntryLine, Row};
 use git_objects::{EntryKind, blob_id};
-use mail_reader::{content_id, own_id};
+use mail_reader::{content_id, is_stored, own_id};
+use mail_rows::row_of;
+use overview_index::Overview;
 use std::alloc::Global;
 use std::marker::Model;
 
@@ -31,18 +36,22 @@ pub struct MemArchive {
     kept: Vec<Kept>,
     places: Vec<Place>,
     index: Index,
+    overview: Overview,
     end: End,
 }
 
 impl Model for MemArchive {
-    ghost use Rattle.arch_model.specs.Archives.{Archive};
-    ghost use Rattle.mem_archive.specs.Memory.{archive_of, IsKept};
+    ghost use Rattle.std.specs.Prelude.{◌≡◌};
+    ghost use Rattle.arch_model.specs.Archives.{Archive, live};
+    ghost use Rattle.arch_model.specs.Listings.{rows_of};
+    ghost use Rattle.mem_archive.specs.Memory.{archive_of, entries_of, IsKept};
 
     ghost Value = { Archive };
 
     ghost view = { λ m. archive_of m.config m.kept.items m.places.items };
 
-    ghost invariant = { λ m. IsKept m.config m.kept.items m.places.items m.index m.end };
+    ghost invariant = { λ m. IsKept m.config m.kept.items m.places.items m.index m.end
+        × (m.overview ≡ rows_of (live (entries_of m.kept.items))) };
 }
 
 impl MemArchive {
@@ -58,6 +67,7 @@ impl MemArchive {
             kept: Vec::new(alloc),
             places: Vec::new(alloc),
             index: Index::new(alloc),
+            overview: Overview::new(alloc),
             end: End {
                 epoch: 0,
                 room,
@@ -103,6 +113,31 @@ impl MemArchive {
         ensures { result ≡ live_between (live self.now.entries) low high }
     {
         count_live(self.places.as_slice(), low, high)
+    }
+
+    /// Returns the row of a live message, or `None` if the number is not live.
+    pub(crate) fn row_at(&self, number: u32) -> Option<&Row>
+        ensures { option_copied result ≡ row_in (live self.now.entries) number }
+    {
+        self.overview.get(number)
+    }
+
+    /// Returns the number of the live message with an own id, or `None` if there is none.
+    pub(crate) fn number_by_id(&self, id: &[u8]) -> Option<u32>
+        ensures { result ≡ number_of_id (live self.now.entries) id.now }
+    {
+        match self.index.owner(id) {
+            None => None,
+            Some(owner) => Some(owner.number),
+        }
+    }
+
+    /// Returns so many numbers of live messages, newest first, after so many that are skipped.
+    pub(crate) fn page(&self, skip: u64, count: u64) -> Result<Numbers, NoMemory>
+        ensures { IfOk result (λ page.
+            page ≡ take count (drop skip (listing (live self.now.entries)))) }
+    {
+        self.overview.page(skip, count)
     }
 
     /// Returns the entry at an index, from 0, without its text, or `None` if there are not so many.
@@ -304,6 +339,7 @@ impl MemArchive {
             commit,
         })?;
         self.index.remove(id.as_slice());
+        self.overview.take(number);
         hide(&mut self.places, number as usize - 1);
         self.end = end;
         Ok(())
@@ -344,18 +380,28 @@ impl MemArchive {
         let owner = self.owner_of(text.as_slice());
         let entry = self.kept.len();
         self.places.reserve(1)?;
+        self.kept.reserve(1)?;
+        let number = owner.number;
+        add_row(
+            self.alloc,
+            &mut self.overview,
+            number,
+            &blob,
+            text.as_slice(),
+            moment,
+        )?;
+        if let Err(NoMemory) = self.index.insert(id, blob, owner) {
+            self.overview.take(number);
+            return Err(NoMemory);
+        }
         self.kept.push(Kept {
             kind,
-            number: owner.number,
+            number,
             epoch: end.epoch,
             text,
             moment,
             commit,
         })?;
-        if let Err(NoMemory) = self.index.insert(id, blob, owner) {
-            let _ = self.kept.pop();
-            return Err(NoMemory);
-        }
         self.places.push(Place { entry, live: true })?;
         self.end = end;
         Ok(())
@@ -371,4 +417,31 @@ fn own_id_bytes(alloc: Global, text: &[u8]) -> Result<Vec<u8>, NoMemory>
         None => Ok(Vec::new(alloc)),
         Some(id) => Ok(Vec::from_slice(alloc, id)?),
     }
+}
+
+/// Adds the row of a message.
+///
+/// `NoMemory` if an allocation fails. It would also be if the text were no storage text, or if a row
+/// had the number or the own id, which never happens. It leaves the rows unchanged.
+fn add_row(
+    alloc: Global,
+    overview: &mut Overview,
+    number: u32,
+    blob: &ObjectId,
+    text: &[u8],
+    moment: u64,
+) -> Result<(), NoMemory>
+    requires blob { blob.now ≡ blob_id_of text.now }
+    ensures ok { OnOk result (overview.new
+        ≡ with_row overview.old (row_fact number text.now moment)) }
+    ensures err { OnErr result (overview.new ≡ overview.old) }
+{
+    if !is_stored(text) {
+        return Err(NoMemory);
+    }
+    let row = row_of(alloc, number, blob, text, moment)?;
+    if overview.get(number).is_some() || overview.by_id(row.id.as_slice()).is_some() {
+        return Err(NoMemory);
+    }
+    overview.add(row)
 }

@@ -5,8 +5,8 @@ ghost use Rattle.std.specs.List.{Contains};
 ghost use Rattle.mem_archive.specs.Crashes.{held-left, same-read};
 
 use crate::memory::MemArchive;
-use arch_base::{Bytes, Config, NoMemory, ObjectId};
-use arch_model::{Answer, Command, EntryLine, Keep, OpenRefusal, Shelf, TextRefusal};
+use arch_base::{Bytes, Config, NoMemory, Numbers, ObjectId};
+use arch_model::{Answer, Command, EntryLine, Keep, OpenRefusal, Row, Shelf, TextRefusal};
 
 impl Shelf for MemArchive {
     ghost holds = { λ m a. a ≡ m };
@@ -27,6 +27,14 @@ impl Shelf for MemArchive {
         self.next()
     }
 
+    fn row(&self, n: u32) -> Option<&Row> {
+        self.row_at(n)
+    }
+
+    fn by_id(&self, id: &[u8]) -> Option<u32> {
+        self.number_by_id(id)
+    }
+
     fn live_from(&self, n: u32) -> Option<u32> {
         self.number_from(n)
     }
@@ -37,6 +45,10 @@ impl Shelf for MemArchive {
 
     fn live_count(&self, low: u32, high: u32) -> u64 {
         self.count_between(low, high)
+    }
+
+    fn order_page(&self, skip: u64, count: u64) -> Result<Numbers, NoMemory> {
+        self.page(skip, count)
     }
 
     fn entry(&self, index: u64) -> Option<EntryLine> {

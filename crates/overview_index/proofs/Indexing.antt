@@ -10,7 +10,7 @@ use Rattle.std.specs.BTreeMap.{is_at, insert_entry}
 use Rattle.std.specs.BTreeSet.{insert_key}
 use Rattle.std.specs.Set.{remove_key}
 use Rattle.std.specs.Str.{bytes_eq}
-use Rattle.mail_rows.specs.declared.row.Row.{Row}
+use Rattle.mail_forms.specs.declared.row.Row.{Row}
 use Rattle.overview_index.specs.Listings.{row_in, number_of, with_row, without, spot_of, spot_cmp, spots}
 use Rattle.overview_index.specs.Views.{number_in, AreViews, Adds, Loses, IsSame}
 use Rattle.overview_index.specs.declared.spot.Spot.{Spot}

@@ -5,3 +5,4 @@ pub mod Ranges
 pub mod Indexing
 pub mod SpotLaws
 pub mod Pages
+pub mod Messages

@@ -13,7 +13,7 @@ use Rattle.std.specs.Set.{remove_key}
 use Rattle.std.proofs.lemmas.Bool.{or_parts}
 use Rattle.std.proofs.lemmas.Map.Lookups.{CmpEqualImpliesEq, exact_pairs, exact_unsigned}
 use Rattle.ranked_set.proofs.SortedKeys.{insert-insert, remove-insert}
-use Rattle.mail_rows.specs.declared.row.Row.{Row}
+use Rattle.mail_forms.specs.declared.row.Row.{Row}
 use Rattle.overview_index.specs.Listings.{row_in, without, spot_of, spot_cmp, spots}
 use Rattle.overview_index.specs.declared.spot.Spot.{Spot}
 use Rattle.overview_index.proofs.RowLists.{none_front, put-back}

@@ -7,7 +7,7 @@ use Rattle.std.specs.Ordering.{match_ordering}
 use Rattle.std.specs.BTreeSet.{insert_key}
 use Rattle.std.specs.List.Sorted.{IsStrictlySortedBy}
 use Rattle.ranked_set.proofs.SortedKeys.{sorted-insert, sorted_nil}
-use Rattle.mail_rows.specs.declared.row.Row.{Row}
+use Rattle.mail_forms.specs.declared.row.Row.{Row}
 use Rattle.overview_index.specs.Laws.{Among, AreSpots}
 use Rattle.overview_index.specs.Listings.{spot_of, spot_cmp, spots}
 use Rattle.overview_index.specs.declared.spot.Spot.{Spot}

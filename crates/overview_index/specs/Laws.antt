@@ -1,8 +1,10 @@
--- A law of the listing.
+-- Laws of the listing.
 use Rattle.std.specs.Prelude.{◌≡◌, ◌⊎◌, ℕ, List, [], ◌∷◌}
 use Rattle.std.specs.List.Sorted.{IsStrictlySortedBy}
-use Rattle.mail_rows.specs.declared.row.Row.{Row}
-use Rattle.overview_index.specs.Listings.{spot_of, spot_cmp, spots}
+use Rattle.mail_forms.specs.declared.row.Row.{Row}
+use Rattle.arch_model.specs.Archives.{Entry}
+use Rattle.arch_model.specs.Listings.{rows_of, listing as listed}
+use Rattle.overview_index.specs.Listings.{spot_of, spot_cmp, spots, listing}
 use Rattle.overview_index.specs.declared.spot.Spot.{Spot}
 
 -- One of a list.
@@ -20,3 +22,7 @@ pub record AreSpots (rows : List (ℕ × Row)) (found : List Spot) : Type 0 wher
 -- The spots of rows, whichever way the rows are ordered, rise and are just theirs.
 abbrev pub SpotsAreInOrder : Type 0
 SpotsAreInOrder = (rows : List (ℕ × Row)) → AreSpots rows (spots rows)
+
+-- The listing of the rows of messages is the listing of the messages.
+abbrev pub ListingIsTheArchives : Type 0
+ListingIsTheArchives = (es : List Entry) → listing (rows_of es) ≡ listed es

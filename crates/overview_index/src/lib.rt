@@ -6,5 +6,5 @@ mod overview;
 mod spot;
 mod views;
 
-pub use laws::spots_are_in_order;
+pub use laws::{listing_is_the_archives, spots_are_in_order};
 pub use overview::Overview;

@@ -5,7 +5,7 @@ ghost use Rattle.overview_index.specs.Listings.{row_in, number_of, number_at, wi
 use crate::spot::Spot;
 use crate::views::Views;
 use arch_base::{NoMemory, Numbers};
-use mail_rows::Row;
+use mail_forms::Row;
 use std::alloc::Global;
 use std::collections::BTreeMap;
 use std::marker::Model;
@@ -25,7 +25,7 @@ pub struct Overview {
 // A clause sees the rows by their numbers, which rise.
 impl Model for Overview {
     ghost use Rattle.std.specs.Prelude.{List, ℕ};
-    ghost use Rattle.mail_rows.specs.declared.row.Row.{Row};
+    ghost use Rattle.mail_forms.specs.declared.row.Row.{Row};
     ghost use Rattle.overview_index.specs.Views.{AreViews};
 
     ghost Value = { List (ℕ × Row) };

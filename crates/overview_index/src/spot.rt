@@ -2,7 +2,7 @@
 ghost use Rattle.std.specs.Prelude.{◌≡◌};
 ghost use Rattle.overview_index.specs.Listings.{spot_of};
 
-use mail_rows::Row;
+use mail_forms::Row;
 
 /// Where a row stands in the order of dates: by the seconds of its date, and then by its number.
 #[derive(Clone, Copy, Debug, PartialEq, Eq, PartialOrd, Ord, Drop)]

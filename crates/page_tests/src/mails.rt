@@ -1,8 +1,9 @@
 //! Mails for the tests, and their rows.
 use arch_base::{Bytes, Name};
 use git_objects::blob_id;
+use mail_forms::Row;
 use mail_reader::is_stored;
-use mail_rows::{Row, row_of};
+use mail_rows::row_of;
 use std::alloc::Global;
 
 /// A mail of three fields that are shown in a listing, and one line.

@@ -1,7 +1,7 @@
 //! The overview of rows, beside what the rules say of them.
 use arch_base::{Bytes, Id20, NoMemory, Numbers, Texts};
 use mail_date::Moment;
-use mail_rows::Row;
+use mail_forms::Row;
 use overview_index::Overview;
 use std::alloc::Global;
 

@@ -1,6 +1,6 @@
 //! Mails and their rows, worked out by hand from the rules.
 use arch_base::Texts;
-use mail_rows::Row;
+use mail_forms::Row;
 
 /// When each mail arrived, in seconds since 1970 UTC.
 pub(crate) const ARRIVED: u64 = 1_706_781_700;

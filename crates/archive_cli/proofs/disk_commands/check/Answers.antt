@@ -8,7 +8,7 @@ returns-in-Ok-clause-any_moment g c = λ may all. rw c.into_disk.ensures (c.in-O
 pub returns-in-Ok-clause-done : goal.returns-in-Ok-clause-done
 returns-in-Ok-clause-done g c = λ a reads.
     let store = c.in-Ok.ensures.opened.done a [] reads in
-    rw c.into_disk.ensures (opened-checks c.in-Ok.engine.view a (g.D.Disk.content c.in-Ok.engine.disk) c.entry_count.result c.message_count.result c.next_of_root.result store c.entry_count.ensures (c.message_count.ensures a ([], store)) c.next_of_root.ensures)
+    rw c.into_disk.ensures (opened-checks c.in-Ok.engine.view a (g.D.Disk.content c.in-Ok.engine.disk) c.entry_count.result c.message_count.result c.next_of_root.result store c.entry_count.ensures (c.message_count.ensures a ([], store, c.in-Ok.ensures.rows a [] reads)) c.next_of_root.ensures)
 
 pub returns-in-Ok-clause-answer : goal.returns-in-Ok-clause-answer
 returns-in-Ok-clause-answer g c = opened-as c.in-Ok.engine.view (g.D.Disk.content c.args.disk) c.entry_count.result c.message_count.result c.next_of_root.result c.in-Ok.ensures.opened.answer c.entry_count.ensures c.next_of_root.ensures

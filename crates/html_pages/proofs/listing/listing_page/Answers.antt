@@ -2,7 +2,7 @@ use Rattle.std.proofs.Common.{◌++◌, ap, ◌∙◌}
 use Rattle.std.specs.Borrow.{Bor}
 use Rattle.std.specs.List.{flat_map}
 use Rattle.std.specs.Prelude.{codes, length}
-use Rattle.mail_rows.specs.declared.row.Row.{Row}
+use Rattle.mail_forms.specs.declared.row.Row.{Row}
 use Rattle.html_pages.specs.Lines.{row_line, older_link}
 use Rattle.html_pages.proofs.ListingRows.{listing-made}
 use Rattle.html_pages.proofs.listing.listing_page.Goals as goal

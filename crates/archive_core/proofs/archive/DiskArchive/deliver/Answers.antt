@@ -1,9 +1,11 @@
-use Rattle.std.proofs.Common.{◌≡◌, ◌∙◌, sym, ap, subst, ℕ, List, None}
+use Rattle.std.proofs.Common.{◌≡◌, ◌∙◌, sym, ap, subst, refl, ℕ, List, None}
 use Rattle.disk_model.specs.Disk.{LeavesOnly}
 use Rattle.arch_model.specs.Archives.{Archive}
 use Rattle.arch_model.specs.Delivery.{Done, delivered, collision}
 use Rattle.epoch_store.specs.Stores.{IsStoreWith, RecoversEitherWith}
 use Rattle.archive_core.proofs.Standing.{archive_taken, still_own, only-read, read-first, refusal-done}
+use Rattle.archive_core.proofs.KeptTexts.{refuse-tells, refuse-done, error-tells, error-done}
+use Rattle.archive_core.proofs.Unmoved.{if-error}
 use Rattle.archive_core.proofs.archive.DiskArchive.deliver.Goals as goal
 
 pub returns-in-Refuse-clause-any_moment : goal.returns-in-Refuse-clause-any_moment
@@ -55,3 +57,26 @@ returns-in-Ok-clause-unread g c = λ a cache store unknown. c.keep.ensures.count
 
 pub returns-clause-unread : goal.returns-clause-unread
 returns-clause-unread g c = λ a cache store unknown. c.keep.ensures.count ∙ c.verdict.ensures.unread a cache store unknown
+
+pub returns-in-Refuse-clause-text : goal.returns-in-Refuse-clause-text
+returns-in-Refuse-clause-text g c = refuse-tells c.args.self.now c.in-Refuse.answer c.args.kept.now c.in-Refuse.ensures.taken
+
+pub returns-in-Refuse-clause-kept : goal.returns-in-Refuse-clause-kept
+returns-in-Refuse-clause-kept g c = λ a cache store. refuse-done c.args.self.now c.in-Refuse.answer _ c.in-Refuse.ensures.taken
+
+pub returns-in-Ok-clause-text : goal.returns-in-Ok-clause-text
+returns-in-Ok-clause-text g c = (c.in-Take.ensures.taken.accepts.storage, c.in-Take.ensures.taken.blob_is)
+
+pub returns-in-Ok-clause-kept : goal.returns-in-Ok-clause-kept
+returns-in-Ok-clause-kept g c = λ a cache store.
+    let judged = c.in-Take.ensures.judged a cache store c.args.moment in
+    sym (archive_taken a c.in-Take.text c.in-Take.text c.args.moment (delivered a c.args.bytes.now c.args.moment) _ refl judged)
+
+pub returns-clause-text : goal.returns-clause-text
+returns-clause-text g c = error-tells c.in-Err.refusal c.answer_of.result c.args.kept.now c.answer_of.ensures
+
+pub returns-clause-kept : goal.returns-clause-kept
+returns-clause-kept g c = λ a cache store. error-done c.in-Err.refusal c.answer_of.result _ c.answer_of.ensures
+
+pub returns-clause-unmoved : goal.returns-clause-unmoved
+returns-clause-unmoved g c = if-error c.in-Err.refusal c.answer_of.result _ c.answer_of.ensures

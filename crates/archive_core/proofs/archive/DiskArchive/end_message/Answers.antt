@@ -1,19 +1,17 @@
-use Rattle.std.proofs.Common.{◌≡◌, ◌+◌, ◌<◌, ◌∙◌, sym, ap, subst, false, true, List, length, Some, refl}
+use Rattle.std.proofs.Common.{◌≡◌, ◌+◌, ◌<◌, ◌∙◌, sym, ap, subst, length, refl}
 use Rattle.std.proofs.lemmas.Option.{slice_get_within}
 use Rattle.disk_model.specs.Disk.{LeavesOnly}
-use Rattle.arch_model.specs.Archives.{Archive, with_deletion}
-use Rattle.arch_model.specs.Delivery.{Done, removed, new_epoch}
+use Rattle.arch_model.specs.Archives.{Archive}
+use Rattle.arch_model.specs.Delivery.{Done}
 use Rattle.arch_model.specs.declared.answer.Answer.TheVariants as answer
-use Rattle.git_objects.specs.Objects.{blob_id_of}
 use Rattle.arch_base.specs.declared.ids.Id20.{Id20}
-use Rattle.epoch_store.specs.declared.entries.StoredEntry.{StoredEntry}
 use Rattle.epoch_store.specs.Stores.{View, IsStoreWith, RecoversEitherWith}
-use Rattle.archive_core.specs.Kept.{IndexesStored}
-use Rattle.archive_core.specs.Placing.{message_places, ends_place}
-use Rattle.archive_core.specs.declared.placing.MessagePlace.{MessagePlace}
+use Rattle.archive_core.specs.Placing.{message_places, ends_place, PlacesRise}
 use Rattle.archive_core.proofs.Indexes.{indexes-ended}
 use Rattle.archive_core.proofs.Removing.{named-at, removed-is, places-ended, written-back}
+use Rattle.archive_core.proofs.RisingPlaces.{rise-ended}
 use Rattle.archive_core.proofs.Standing.{store_keeps}
+use Rattle.archive_core.proofs.Unmoved.{if-error, if-damaged}
 use Rattle.archive_core.proofs.archive.DiskArchive.end_message.Goals as goal
 
 pub is_named-requires : goal.is_named-requires
@@ -30,9 +28,12 @@ returns-then-not-is_named-clause-done g c = λ a cache store room shown.
 pub invariant_of-self : goal.invariant_of-self
 invariant_of-self g c =
     let ended : ends_place c.args.number c.as_mut_slice.result.now ≡ ends_place c.args.number (message_places 0 c.self.inside.store.entries) = ap (ends_place c.args.number) (c.as_mut_slice.ensures.value ∙ c.self.invariant.1) in
-    let long : c.self.inside.places.len ≡ length c.end_place.new.places = sym (c.end_place.auto.places ∙ c.as_mut_slice.ensures.len) in (
+    let rise : PlacesRise c.as_mut_slice.result.now = subst PlacesRise (sym c.as_mut_slice.ensures.value) c.self.invariant.2 in
+    let long : c.self.inside.places.len ≡ length c.end_place.new.places = sym (c.end_place.auto.places ∙ c.as_mut_slice.ensures.len) in
+    let whole = written-back c.end_place.new.places _ c.self.inside.places.len long ∙ c.end_place.ensures rise in (
       indexes-ended c.self.inside.store c.remove_entry.new.self c.self.inside.index c.end_text.new.index c.args.number c.args.text.now c.self.invariant.0 c.end_text.ensures c.in-Ok.ensures.ended,
-      written-back c.end_place.new.places _ c.self.inside.places.len long ∙ c.end_place.ensures ∙ ended ∙ places-ended c.self.inside.store c.remove_entry.new.self c.args.number c.args.text.now c.in-Ok.ensures.ended,
+      whole ∙ ended ∙ places-ended c.self.inside.store c.remove_entry.new.self c.args.number c.args.text.now c.in-Ok.ensures.ended,
+      subst PlacesRise (sym whole) (rise-ended 0 c.args.number c.as_mut_slice.result.now rise),
     )
 
 pub returns-in-Ok-clause-any_moment : goal.returns-in-Ok-clause-any_moment
@@ -58,3 +59,9 @@ returns-in-Err-clause-any_moment g c = λ a cache store room shown.
     let is = removed-is c.args.self.now a c.args.number c.args.moment c.args.text.now (store_keeps c.args.self.now cache a k store) c.requires.writable shown in
     subst (λ (b : Archive). LeavesOnly g.D.Disk.moment g.D.Disk.left_since c.args.disk.now c.remove_entry.new.disk (RecoversEitherWith cache a b)) (sym (ap (λ (d : Done). d.archive) is))
     (c.in-Err.ensures.any_moment a cache (subst (λ (v : View). IsStoreWith v cache a k) (sym c.self.view_is) store) (subst (λ (v : View). v.root.sequence + 1 < 18446744073709551616) (sym c.self.view_is) room) shown)
+
+pub returns-then-not-is_named-clause-read : goal.returns-then-not-is_named-clause-read
+returns-then-not-is_named-clause-read g c = if-damaged c.args.self.now _ c.damaged.result ⊥ c.damaged.ensures
+
+pub returns-in-Err-clause-read : goal.returns-in-Err-clause-read
+returns-in-Err-clause-read g c = if-error c.in-Err.refusal c.answer_of.result ⊥ c.answer_of.ensures

@@ -1,19 +1,26 @@
-use Rattle.std.proofs.Common.{◌≡◌, ◌∙◌, ◌+◌, ◌<◌, ◌++◌, ◌∷◌, [], ℕ, true, List, length, is_ok, sym, ap, subst, arith}
+use Rattle.std.proofs.Common.{◌≡◌, ◌∙◌, ◌+◌, ◌<◌, ◌++◌, ◌∷◌, [], ℕ, true, List, length, is_ok, sym, ap, subst, arith, rules}
 use Rattle.disk_model.specs.Moments.{started}
 use Rattle.arch_model.specs.Archives.{with_entry}
 use Rattle.arch_model.specs.Delivery.{new_epoch}
-use Rattle.epoch_store.specs.Stores.{View, IsStoreWith, RecoversEitherWith, GoesOn}
-use Rattle.archive_core.specs.Kept.{IndexesStored, PutsText, IsNewTo}
-use Rattle.archive_core.specs.Placing.{message_places}
+use Rattle.epoch_store.specs.Stores.{View, IsStoreWith, RecoversEitherWith}
+use Rattle.archive_core.specs.Kept.{PutsText}
+use Rattle.archive_core.specs.Placing.{message_places, PlacesRise}
 use Rattle.archive_core.specs.declared.placing.MessagePlace.{MessagePlace}
 use Rattle.archive_core.proofs.Places.{place_of}
-use Rattle.archive_core.proofs.Indexes.{indexes-again, indexes-added}
+use Rattle.archive_core.proofs.Indexes.{indexes-added}
 use Rattle.archive_core.proofs.Removing.{places-added}
 use Rattle.archive_core.proofs.Standing.{stands, pushed}
 use Rattle.archive_core.proofs.archive.DiskArchive.keep.Goals as goal
 
 pub returns-in_default-clause-any_moment : goal.returns-in_default-clause-any_moment
 returns-in_default-clause-any_moment g c = λ a cache store room alone.
+    let disk = c.args.disk.now in
+    let b = with_entry a (new_epoch a) c.args.text.now c.args.moment in
+    started g.D.Disk.moment g.D.Disk.left_since disk (RecoversEitherWith cache a b)
+    (λ image left. stands c.law_of_stores.ensures.recovers c.args.self.now cache a b (g.D.Disk.content disk) image store (g.met.D.Disk.only_now disk image left))
+
+pub returns-then-not-may_follow-clause-any_moment : goal.returns-then-not-may_follow-clause-any_moment
+returns-then-not-may_follow-clause-any_moment g c = λ a cache store room alone.
     let disk = c.args.disk.now in
     let b = with_entry a (new_epoch a) c.args.text.now c.args.moment in
     started g.D.Disk.moment g.D.Disk.left_since disk (RecoversEitherWith cache a b)
@@ -38,6 +45,9 @@ invariant_of-self-2 g c =
           ∙ ap (λ (ps : List MessagePlace). ps ++ record { number = c.next_number-number.result; entry = length c.stored-entry.result.now; live = true } ∷ []) (c.reserve.ensures.items ∙ c.self.invariant.1)
           ∙ ap (λ (n : ℕ). message_places 0 c.self.inside.store.entries ++ place_of n (length c.stored-entry.result.now) true ∷ []) number
           ∙ places-added c.self.inside.store c.deliver_entry.new.self c.args.text.now (length c.stored-entry.result.now) count c.in_default-deliver_entry.ensures.added,
+      subst PlacesRise (sym more)
+          (subst (λ (ps : List MessagePlace). PlacesRise (ps ++ record { number = c.next_number-number.result; entry = length c.stored-entry.result.now; live = true } ∷ [])) c.as_slice.ensures.value
+          (c.may_follow.ensures (search rules) (length c.stored-entry.result.now) (subst PlacesRise (sym (c.as_slice.ensures.value ∙ c.reserve.ensures.items)) c.self.invariant.2))),
     )
 
 pub returns-in-Err-clause-any_moment : goal.returns-in-Err-clause-any_moment

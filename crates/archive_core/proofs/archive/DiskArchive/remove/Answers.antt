@@ -6,6 +6,7 @@ use Rattle.epoch_store.specs.Reads.{GivesTextOf}
 use Rattle.epoch_store.specs.Stores.{View, IsStoreWith, RecoversEitherWith}
 use Rattle.archive_core.proofs.ByNumber.{inside-message, text-gives}
 use Rattle.archive_core.proofs.Standing.{store_keeps, still_own, stands, only-read, read-first, unread-done}
+use Rattle.archive_core.proofs.Unmoved.{if-read, if-text}
 use Rattle.archive_core.proofs.archive.DiskArchive.remove.Goals as goal
 
 pub returns-then-config-clause-any_moment : goal.returns-then-config-clause-any_moment
@@ -58,3 +59,9 @@ returns-clause-done g c = λ a cache store room.
     let own = subst (λ (v : View). IsStoreWith v cache a k) (sym c.self.view_is) store in
     unread-done c.args.self.now cache a c.in-Some.index c.new-text.result c.text.new.into c.in-Err.refusal c.unread.result (removed a c.args.number c.args.moment) (g.D.Disk.content c.text.new.disk) c.unread.ensures (c.in-Err.ensures.archive a cache own)
     (still_own c.args.self.now cache a k (g.D.Disk.content c.text.new.disk) c.text.ensures.same store)
+
+pub returns-in-Ok-clause-unmoved : goal.returns-in-Ok-clause-unmoved
+returns-in-Ok-clause-unmoved g c = if-read c.end_message.result _ c.end_message.ensures.read
+
+pub returns-clause-unmoved : goal.returns-clause-unmoved
+returns-clause-unmoved g c = if-text c.args.self.now c.in-Some.index c.in-Err.refusal c.unread.result _ c.unread.ensures

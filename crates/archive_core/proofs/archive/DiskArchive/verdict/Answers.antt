@@ -1,12 +1,12 @@
-use Rattle.std.proofs.Common.{◌≡◌, ◌∙◌, true, false, sym, ap, subst, length, List, ℕ, Ok}
-use Rattle.arch_model.specs.Delivery.{delivered, delivered_kept}
+use Rattle.std.proofs.Common.{◌≡◌, ◌∙◌, true, false, sym, ap, subst, refl, length, List, ℕ, Ok}
 use Rattle.arch_judge.specs.Judging.{unless_same}
-use Rattle.arch_judge.specs.declared.judging.Verdict.TheVariants.{Take, Compare, Refuse}
+use Rattle.arch_judge.specs.declared.judging.Verdict.TheVariants.{Refuse}
 use Rattle.epoch_store.specs.Stores.{View}
 use Rattle.archive_core.specs.Kept.{IndexesStored}
 use Rattle.archive_core.specs.Commands.{ReadsMessage}
 use Rattle.archive_core.proofs.Standing.{store_keeps}
 use Rattle.archive_core.proofs.Verdicts.{known, judges-read, unread-judges, compares, alone-new, alone-same, compared-taken}
+use Rattle.archive_core.proofs.Unmoved.{if-unread, if-none-read, if-compared}
 use Rattle.archive_core.proofs.archive.DiskArchive.verdict.Goals as goal
 
 pub returns-in-Refuse-clause-judged : goal.returns-in-Refuse-clause-judged
@@ -79,3 +79,12 @@ returns-in-Err-clause-unread g c = λ a cache own unknown.
     (ap length (c.stored-count.ensures ∙ ap (λ (v : View). v.entries) c.self.view_is))) in
     let wrong : true ≡ false = sym compared.known ∙ unknown in
     absurd (cc)
+
+pub returns-in-Refuse-clause-unmoved : goal.returns-in-Refuse-clause-unmoved
+returns-in-Refuse-clause-unmoved g c = if-unread c.in-Refuse.answer _ refl
+
+pub returns-in-Ok-clause-unmoved : goal.returns-in-Ok-clause-unmoved
+returns-in-Ok-clause-unmoved g c = if-compared c.compared.result _ c.compared.ensures.last
+
+pub returns-in-Err-clause-unmoved : goal.returns-in-Err-clause-unmoved
+returns-in-Err-clause-unmoved g c = if-none-read c.in-Err.answer _ c.in-Err.ensures.unread

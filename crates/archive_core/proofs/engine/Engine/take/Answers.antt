@@ -1,10 +1,12 @@
-use Rattle.std.proofs.Common.{◌≡◌, ℕ, List, false, subst}
+use Rattle.std.proofs.Common.{◌≡◌, ◌∙◌, ◌||◌, ℕ, List, false, not, is_ok, ap, sym, subst}
 use Rattle.arch_model.specs.Keeping.{text_known}
 use Rattle.epoch_store.specs.Stores.{IsStoreWith}
-use Rattle.archive_core.specs.Engines.{Owning}
+use Rattle.archive_core.specs.Engines.{Owning, needs_opening, reading-same}
 use Rattle.arch_model.specs.Archives.{Archive}
 use Rattle.arch_model.specs.Delivery.{applied}
-use Rattle.archive_core.proofs.Engines.{starved-at, still-left, left-from, done-from, taken-from, answer-cause-from, steady-from}
+use Rattle.archive_core.proofs.Engines.{starved-at, still-left, left-from, done-from, taken-from, answer-cause-from, steady-from, refused-from, unmoved-from}
+use Rattle.archive_core.proofs.KeepingUp.{kept-up, followed-ready, needs-stale, on-ok, stays-ready}
+use Rattle.archive_core.proofs.Standing.{store_keeps}
 use Rattle.archive_core.proofs.engine.Engine.take.Goals as goal
 
 pub returns-then-not-has_next_root-clause-any_moment : goal.returns-then-not-has_next_root-clause-any_moment
@@ -21,36 +23,69 @@ pub returns-clause-any_moment : goal.returns-clause-any_moment
 returns-clause-any_moment g c =
     let room = c.has_next_root.ensures.0 c.if-not-has_next_root.false in
     left-from g.D.Disk.content g.D.Disk.moment g.D.Disk.left_since g.met.D.Disk.counts_now g.met.D.Disk.only_now g.met.D.Disk.reads_fit
-    (record { disk = c.self.inside.disk; view = c.self.inside.archive; stale = c.self.inside.stale }) c.args.self.now c.self.view_is c.command-answer.new.disk
-    (λ (a : Archive). (applied a c.args.command.now c.args.moment).archive) (λ a cache store. c.command-answer.ensures.taken.any_moment a cache store room)
+    (record { disk = c.self.inside.disk; view = c.self.inside.archive; rows = c.self.inside.overview; stale = c.self.inside.stale }) c.args.self.now c.self.view_is c.command_keeping-answer.new.disk
+    (λ (a : Archive). (applied a c.args.command.now c.args.moment).archive) (λ a cache store. c.command_keeping-answer.ensures.taken.any_moment a cache store room)
 
 pub returns-clause-done : goal.returns-clause-done
 returns-clause-done g c =
     let room = c.has_next_root.ensures.0 c.if-not-has_next_root.false in
     done-from g.D.Disk.content g.D.Disk.moment g.D.Disk.left_since g.met.D.Disk.counts_now g.met.D.Disk.only_now g.met.D.Disk.reads_fit
-    (record { disk = c.self.inside.disk; view = c.self.inside.archive; stale = c.self.inside.stale }) c.args.self.now c.self.view_is c.command-answer.new.self c.command-answer.new.disk
-    (λ (a : Archive). applied a c.args.command.now c.args.moment) c.command-answer.result (λ a cache store. c.command-answer.ensures.taken.done a cache store room)
+    (record { disk = c.self.inside.disk; view = c.self.inside.archive; rows = c.self.inside.overview; stale = c.self.inside.stale }) c.args.self.now c.self.view_is c.command_keeping-answer.new.self c.command_keeping-answer.new.disk
+    (λ (a : Archive). applied a c.args.command.now c.args.moment) c.command_keeping-answer.result (λ a cache store. c.command_keeping-answer.ensures.taken.done a cache store room)
 
 pub returns-clause-stands : goal.returns-clause-stands
 returns-clause-stands g c =
     let room = c.has_next_root.ensures.0 c.if-not-has_next_root.false in
+    let reply = c.command_keeping-answer.result in
+    let ok = is_ok c.follow-followed.result in
+    let wanted = λ (a : Archive). applied a c.args.command.now c.args.moment in
+    let stale_is : c.is_left_stale-self-inside.result ≡ (needs_opening reply || not ok) = c.is_left_stale-self-inside.ensures in
     taken-from g.D.Disk.content g.D.Disk.moment g.D.Disk.left_since g.met.D.Disk.counts_now g.met.D.Disk.only_now g.met.D.Disk.reads_fit
-    (record { disk = c.self.inside.disk; view = c.self.inside.archive; stale = c.self.inside.stale }) c.args.self.now c.self.view_is c.law_of_recovery.ensures.caches
-    (record { disk = c.command-answer.new.disk; view = c.command-answer.new.self; stale = c.needs_opening-self-inside.result })
-    (λ (a : Archive). applied a c.args.command.now c.args.moment) c.command-answer.result c.needs_opening-self-inside.ensures
-    (λ a cache store. c.command-answer.ensures.taken.any_moment a cache store room) (λ a cache store. c.command-answer.ensures.taken.done a cache store room) c.command-answer.ensures.taken.untouched
+    (record { disk = c.self.inside.disk; view = c.self.inside.archive; rows = c.self.inside.overview; stale = c.self.inside.stale }) c.args.self.now c.self.view_is c.law_of_recovery.ensures.caches
+    (record { disk = c.command_keeping-answer.new.disk; view = c.command_keeping-answer.new.self; rows = c.follow-followed.new.overview; stale = c.is_left_stale-self-inside.result })
+    wanted reply (λ needs. stale_is ∙ needs-stale (needs_opening reply) ok needs)
+    (λ a cache store. c.command_keeping-answer.ensures.taken.any_moment a cache store room) (λ a cache store. c.command_keeping-answer.ensures.taken.done a cache store room)
+    (λ a cache store old_is.
+    kept-up a c.args.command.now c.args.moment c.as_slice-kept.result.now c.command_keeping-answer.new.self cache (g.D.Disk.content c.command_keeping-answer.new.disk) c.self.inside.overview c.follow-followed.new.overview (not c.is_left_stale-self-inside.result) ok reply
+    (store_keeps c.self.inside.archive cache a (g.D.Disk.content c.self.inside.disk) store).valid old_is (c.command_keeping-answer.ensures.taken.done a cache store room)
+    (rw c.as_slice-kept.ensures (c.command_keeping-answer.ensures.kept a cache store)) (λ ready. followed-ready (needs_opening reply) ok (ap not (sym stale_is) ∙ ready)) c.follow-followed.ensures.refused
+    (λ went. on-ok c.follow-followed.result _ c.follow-followed.ensures.rows went))
+    c.command_keeping-answer.ensures.taken.untouched
+
+pub returns-clause-ready : goal.returns-clause-ready
+returns-clause-ready g c = stays-ready c.is_left_stale-self-inside.result (is_ok c.follow-followed.result) c.command_keeping-answer.result c.is_left_stale-self-inside.ensures c.follow-followed.ensures.refused
+
+pub follow-followed-requires : goal.follow-followed-requires
+follow-followed-requires g c = record { text = rw c.as_slice-kept.ensures c.command_keeping-answer.ensures.text }
 
 pub returns-clause-cause : goal.returns-clause-cause
 returns-clause-cause g c = answer-cause-from g.D.Disk.content g.D.Disk.moment g.D.Disk.left_since g.met.D.Disk.counts_now g.met.D.Disk.only_now g.met.D.Disk.reads_fit
-    (record { disk = c.self.inside.disk; view = c.self.inside.archive; stale = c.self.inside.stale }) c.args.self.now c.self.view_is
-    g.D.Disk.faults c.command-answer.new.disk c.command-answer.result c.command-answer.ensures.taken.cause
+    (record { disk = c.self.inside.disk; view = c.self.inside.archive; rows = c.self.inside.overview; stale = c.self.inside.stale }) c.args.self.now c.self.view_is
+    g.D.Disk.faults c.command_keeping-answer.new.disk c.command_keeping-answer.result c.command_keeping-answer.ensures.taken.cause
 
 pub returns-clause-steady : goal.returns-clause-steady
 returns-clause-steady g c = steady-from g.D.Disk.content g.D.Disk.moment g.D.Disk.left_since g.met.D.Disk.counts_now g.met.D.Disk.only_now g.met.D.Disk.reads_fit
-    (record { disk = c.self.inside.disk; view = c.self.inside.archive; stale = c.self.inside.stale }) c.args.self.now c.self.view_is
-    g.D.Disk.faults c.command-answer.new.disk c.command-answer.result c.command-answer.ensures.taken.cause
+    (record { disk = c.self.inside.disk; view = c.self.inside.archive; rows = c.self.inside.overview; stale = c.self.inside.stale }) c.args.self.now c.self.view_is
+    g.D.Disk.faults c.command_keeping-answer.new.disk c.command_keeping-answer.result c.command_keeping-answer.ensures.taken.cause
 
 pub returns-clause-unread : goal.returns-clause-unread
 returns-clause-unread g c =
-    subst (λ (o : Owning g.row.D.Denot). (a : Archive) (cache : List ℕ) → IsStoreWith o.view cache a (g.D.Disk.content o.disk) → text_known a c.args.command.now ≡ false → g.D.Disk.reads c.command-answer.new.disk ≡ g.D.Disk.reads o.disk)
-    c.self.view_is c.command-answer.ensures.unread
+    subst (λ (o : Owning g.row.D.Denot). (a : Archive) (cache : List ℕ) → IsStoreWith o.view cache a (g.D.Disk.content o.disk) → text_known a c.args.command.now ≡ false → g.D.Disk.reads c.command_keeping-answer.new.disk ≡ g.D.Disk.reads o.disk)
+    c.self.view_is c.command_keeping-answer.ensures.unread
+
+pub returns-then-not-has_next_root-clause-untouched : goal.returns-then-not-has_next_root-clause-untouched
+returns-then-not-has_next_root-clause-untouched g c = reading-same g.D.Disk.content g.D.Disk.moment g.D.Disk.left_since g.met.D.Disk.counts_now g.met.D.Disk.only_now c.args.self.now
+
+pub returns-clause-untouched : goal.returns-clause-untouched
+returns-clause-untouched g c = refused-from g.D.Disk.content g.D.Disk.moment g.D.Disk.left_since g.met.D.Disk.counts_now g.met.D.Disk.only_now g.met.D.Disk.reads_fit
+    (record { disk = c.self.inside.disk; view = c.self.inside.archive; rows = c.self.inside.overview; stale = c.self.inside.stale }) c.args.self.now c.self.view_is
+    (record { disk = c.command_keeping-answer.new.disk; view = c.command_keeping-answer.new.self; rows = c.follow-followed.new.overview; stale = c.is_left_stale-self-inside.result })
+    (is_ok c.follow-followed.result) c.args.command.now c.as_slice-kept.result.now c.args.moment c.command_keeping-answer.result c.requires.ready c.is_left_stale-self-inside.ensures c.follow-followed.ensures.refused c.command_keeping-answer.ensures.taken.same
+    (λ went. on-ok c.follow-followed.result _ c.follow-followed.ensures.rows went) c.command_keeping-answer.ensures.taken.untouched
+
+pub returns-clause-unmoved : goal.returns-clause-unmoved
+returns-clause-unmoved g c = unmoved-from g.D.Disk.content g.D.Disk.moment g.D.Disk.left_since g.met.D.Disk.counts_now g.met.D.Disk.only_now g.met.D.Disk.reads_fit
+    (record { disk = c.self.inside.disk; view = c.self.inside.archive; rows = c.self.inside.overview; stale = c.self.inside.stale }) c.args.self.now c.self.view_is
+    (record { disk = c.command_keeping-answer.new.disk; view = c.command_keeping-answer.new.self; rows = c.follow-followed.new.overview; stale = c.is_left_stale-self-inside.result })
+    (is_ok c.follow-followed.result) c.args.command.now c.as_slice-kept.result.now c.args.moment c.command_keeping-answer.result c.requires.ready c.is_left_stale-self-inside.ensures c.follow-followed.ensures.refused c.command_keeping-answer.ensures.taken.same
+    (λ went. on-ok c.follow-followed.result _ c.follow-followed.ensures.rows went) c.command_keeping-answer.ensures.taken.unmoved

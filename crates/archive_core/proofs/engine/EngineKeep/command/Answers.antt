@@ -4,7 +4,7 @@ use Rattle.arch_model.specs.Archives.{Archive}
 use Rattle.arch_model.specs.Delivery.{applied}
 use Rattle.arch_model.specs.Keeping.{ending}
 use Rattle.arch_model.proofs.Keepers.{cause-earlier}
-use Rattle.archive_core.proofs.Engines.{not_true, commanded-after, refused-comes, refused-ready, refused-cause, ready-after, stays-ready}
+use Rattle.archive_core.proofs.Engines.{not_true, commanded-after, refused-comes, refused-ready, refused-cause, ready-after}
 use Rattle.arch_model.specs.Shelves.{ReadsOnce}
 use Rattle.archive_core.specs.Engines.{Owning, Holds, is_ready}
 use Rattle.archive_core.proofs.engine.EngineKeep.command.Goals as goal
@@ -19,7 +19,7 @@ returns-in-Ok-clause-done g c = λ s fits.
     (λ (a : Archive). applied a c.args.command.now c.args.moment) c.take.result found.1 found.2 c.in-Ok.ensures.ready c.take.ensures.stands
 
 pub returns-in-Ok-clause-ready : goal.returns-in-Ok-clause-ready
-returns-in-Ok-clause-ready g c = ready-after (is_ready c.args.self.now) (is_ready c.take.new.self) (ending c.take.result) (stays-ready c.take.new.self.stale c.take.result c.take.ensures.ready)
+returns-in-Ok-clause-ready g c = ready-after (is_ready c.args.self.now) (is_ready c.take.new.self) (ending c.take.result) c.take.ensures.ready
 
 pub returns-in-Ok-clause-cause : goal.returns-in-Ok-clause-cause
 returns-in-Ok-clause-cause g c =

@@ -7,7 +7,7 @@ use Rattle.epoch_store.specs.Opens.{RecoversOfWith, SyncsFirst}
 use Rattle.epoch_store.specs.Recovery.{RecoversWith}
 use Rattle.epoch_store.specs.Stores.{View}
 use Rattle.epoch_store.specs.declared.finding.Found.{Found}
-use Rattle.epoch_store.proofs.Reopening.{texts_found, opening_stands, reading_stands, synced_recovers, refused_first, on_synced, opened_store, opened_kept, opened_sizes, opens_well, in_epochs, at_first}
+use Rattle.epoch_store.proofs.Reopening.{texts_found, opening_stands, reading_stands, synced_recovers, refused_first, on_synced, opened_store, opened_kept, opened_sizes, opened_texts, opens_well, in_epochs, at_first}
 use Rattle.epoch_store.proofs.store.Store.open.Goals as goal
 
 pub returns-in-Err-clause-well : goal.returns-in-Err-clause-well
@@ -93,3 +93,7 @@ returns-in-Err-settle-clause-first g c =
           let so = reading_stands c.law_of_spellings.ensures.differ found cache a (g.D.Disk.content disk) (g.D.Disk.content d1) c.in-Ok.ensures.found reads c.in-Ok.ensures.synced in
           weaker g.D.Disk.moment g.D.Disk.left_since d1 c.settle.new.disk (StandsFor found.root (texts_found found cache a)) (λ (image : Files). RecoversWith cache image a) (c.settle.ensures.any_moment (texts_found found cache a) so.0) so.1;
     })
+
+pub returns-in-Ok-settle-clause-texts : goal.returns-in-Ok-settle-clause-texts
+returns-in-Ok-settle-clause-texts g c =
+    opened_texts c.in-Ok.found (g.D.Disk.content c.args.disk.now) (g.D.Disk.content c.find_synced.new.disk) (g.D.Disk.content c.settle.new.disk) c.in-Ok.ensures.found c.in-Ok.ensures.synced c.in-Ok-settle.ensures.kept

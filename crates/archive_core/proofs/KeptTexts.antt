@@ -1,0 +1,62 @@
+-- A delivery that isn't accepted keeps no text.
+use Rattle.std.specs.Prelude.{◌≡◌, ℕ, List, true}
+use Rattle.std.proofs.Common.{sym, subst}
+use Rattle.arch_model.specs.declared.answer.Answer.{Answer}
+use Rattle.arch_model.specs.declared.answer.Answer.TheVariants as answer
+use Rattle.arch_model.specs.declared.command.Command.{Command}
+use Rattle.arch_model.specs.declared.command.Command.TheVariants.{Deliver, Remove}
+use Rattle.arch_judge.specs.declared.judging.Verdict.TheVariants.{Refuse}
+use Rattle.epoch_file.specs.declared.refusal.StoreRefusal.{StoreRefusal}
+use Rattle.epoch_file.specs.declared.refusal.StoreRefusal.TheVariants as refusal
+use Rattle.epoch_store.specs.Stores.{View}
+use Rattle.archive_core.specs.Commands.{AnswersDelivery, IsForCommand, OnDone, TellsText, is_delivery, refusal_answer}
+use Rattle.archive_core.specs.Kept.{TakesWhatMay}
+
+pub refuse-tells : (v : View) (reply : Answer) (text : List ℕ) → TakesWhatMay v (Refuse reply) → TellsText reply text
+refuse-tells v (answer.Ok number id) text never = absurd never
+refuse-tells v answer.NoMemory text is = tt
+refuse-tells v (answer.Duplicate number) text is = tt
+refuse-tells v answer.NoFields text is = tt
+refuse-tells v (answer.TooLarge len) text is = tt
+refuse-tells v (answer.Full max) text is = tt
+refuse-tells v (answer.Collision number) text is = tt
+refuse-tells v (answer.NotLive number) text is = tt
+refuse-tells v (answer.NoText number) text is = tt
+refuse-tells v answer.IsMirror text is = tt
+refuse-tells v answer.DiskFault text is = tt
+refuse-tells v (answer.Damaged file at) text is = tt
+
+pub refuse-done : (v : View) (reply : Answer) (P : Type 0) → TakesWhatMay v (Refuse reply) → OnDone reply P
+refuse-done v (answer.Ok number id) P never = absurd never
+refuse-done v answer.NoMemory P is = tt
+refuse-done v (answer.Duplicate number) P is = tt
+refuse-done v answer.NoFields P is = tt
+refuse-done v (answer.TooLarge len) P is = tt
+refuse-done v (answer.Full max) P is = tt
+refuse-done v (answer.Collision number) P is = tt
+refuse-done v (answer.NotLive number) P is = tt
+refuse-done v (answer.NoText number) P is = tt
+refuse-done v answer.IsMirror P is = tt
+refuse-done v answer.DiskFault P is = tt
+refuse-done v (answer.Damaged file at) P is = tt
+
+error_tells : (why : StoreRefusal) (text : List ℕ) → TellsText (refusal_answer why) text
+error_tells refusal.DiskFault text = tt
+error_tells refusal.NoMemory text = tt
+error_tells (refusal.Damaged file at) text = tt
+
+pub error-tells : (why : StoreRefusal) (reply : Answer) (text : List ℕ) → reply ≡ refusal_answer why → TellsText reply text
+error-tells why reply text is = subst (λ (r : Answer). TellsText r text) (sym is) (error_tells why text)
+
+error_done : (why : StoreRefusal) (P : Type 0) → OnDone (refusal_answer why) P
+error_done refusal.DiskFault P = tt
+error_done refusal.NoMemory P = tt
+error_done (refusal.Damaged file at) P = tt
+
+pub error-done : (why : StoreRefusal) (reply : Answer) (P : Type 0) → reply ≡ refusal_answer why → OnDone reply P
+error-done why reply P is = subst (λ (r : Answer). OnDone r P) (sym is) (error_done why P)
+
+-- An answer to a delivery is one to the command.
+pub for-delivery : (m : Command) (reply : Answer) → is_delivery m ≡ true → AnswersDelivery reply → IsForCommand m reply
+for-delivery (Deliver bytes) reply delivers is = is
+for-delivery (Remove number) reply delivers is = absurd (cc)

@@ -1,0 +1,118 @@
+-- The entries of a store and their texts, one after another, and the rows of the live ones.
+use Rattle.std.specs.Prelude.{◌≡◌, ◌<◌, ℕ, List, [], ◌∷◌, Option, Some, None, Result, Ok, Err}
+use Rattle.std.proofs.Common.{◌∙◌, sym, subst}
+use Rattle.disk_model.specs.Disk.{Files, Content, Image, Told, Unchanged}
+use Rattle.disk_model.specs.Moments.{started, joined}
+use Rattle.mail_forms.specs.declared.row.Row.{Row}
+use Rattle.arch_model.specs.Archives.{Entry, Archive}
+use Rattle.arch_model.specs.Shelves.{ReadingWhy, IsUndamaged}
+use Rattle.arch_model.specs.Rows.{row_of}
+use Rattle.arch_model.specs.Validity.{IsArchive}
+use Rattle.arch_model.specs.Walking.{HasTextAt}
+use Rattle.arch_model.specs.declared.answer.Answer.{Answer}
+use Rattle.arch_model.specs.declared.answer.Answer.TheVariants as answer
+use Rattle.arch_model.specs.declared.command.Command.{Command}
+use Rattle.arch_model.specs.declared.command.Command.TheVariants.{Deliver, Remove}
+use Rattle.arch_model.specs.declared.line.EntryLine.{EntryLine}
+use Rattle.arch_model.specs.declared.opening.OpenRefusal.{OpenRefusal}
+use Rattle.arch_model.specs.declared.opening.OpenRefusal.TheVariants as opening
+use Rattle.arch_model.specs.declared.text_refusal.TextRefusal.{TextRefusal}
+use Rattle.arch_model.specs.declared.text_refusal.TextRefusal.TheVariants as reading
+use Rattle.epoch_store.specs.Files.{epoch_file_of}
+use Rattle.epoch_store.specs.Reads.{line_of, HasTexts}
+use Rattle.epoch_store.specs.Stores.{View, IsStoreWith}
+use Rattle.epoch_store.specs.declared.entries.StoredEntry.{StoredEntry}
+use Rattle.overview_index.specs.Listings.{with_row, without}
+use Rattle.archive_core.specs.Commands.{OnlyLooks}
+use Rattle.archive_core.specs.Engines.{unchanged-is, told-same}
+use Rattle.archive_core.specs.declared.rows.Unread.{Unread}
+
+-- The entries that are kept, without their texts.
+abbrev pub lines_kept : List StoredEntry → List EntryLine
+lines_kept [] = []
+lines_kept (s ∷ ss) = line_of s ∷ lines_kept ss
+
+-- A disk tells its content, and each entry's text is in its place there.
+abbrev pub IsSound : View → Option Content → Type 0
+IsSound v None = ⊥
+IsSound v (Some k) = HasTexts v k
+
+-- Why a text of what is walked through wasn't read, or that memory ran out for a row.
+abbrev pub WalkWhy : {T : Type 0} → ℕ → ℕ → Result T Unread → Type 0
+WalkWhy before now (Ok rows) = now ≡ before
+WalkWhy before now (Err unread) = ReadingWhy before now unread.why
+
+-- No text was damaged.
+abbrev pub WalksUndamaged : {T : Type 0} → Result T Unread → Type 0
+WalksUndamaged (Ok rows) = Unit {0}
+WalksUndamaged (Err unread) = IsUndamaged unread.why
+
+-- The entry whose text wasn't read is there.
+abbrev pub StopsWithin : {T : Type 0} → ℕ → Result T Unread → Type 0
+StopsWithin count (Ok rows) = Unit {0}
+StopsWithin count (Err unread) = unread.index < count
+
+-- The row of the text of the entry at an index was added, with a number and a moment.
+abbrev pub AddsRowAt : List Entry → ℕ → ℕ → ℕ → List (ℕ × Row) → List (ℕ × Row) → Type 0
+AddsRowAt entries index number moment old new =
+    (text : List ℕ) × HasTextAt entries index text × (new ≡ with_row old (row_of number text moment))
+
+-- Why an archive wasn't opened whose entry, if it is there, has a text that wasn't read.
+abbrev pub unread_opening : View → Option StoredEntry → TextRefusal → OpenRefusal
+unread_opening v found reading.DiskFault = opening.DiskFault
+unread_opening v found reading.NoMemory = opening.NoMemory
+unread_opening v None (reading.Damaged named other) = opening.NoMemory
+unread_opening v (Some e) (reading.Damaged named other) =
+    opening.Damaged (epoch_file_of v.root e.epoch) e.seen.at
+
+-- What an accepted command does to the rows of live messages: a delivery adds the row of its text, and
+-- a removal takes the row of its number.
+abbrev pub RowsDone : Command → ℕ → List ℕ → ℕ → List (ℕ × Row) → List (ℕ × Row) → Type 0
+RowsDone (Deliver bytes) number text moment old new = new ≡ with_row old (row_of number text moment)
+RowsDone (Remove n) number text moment old new = new ≡ without old n
+
+-- What a command that was answered so does to them. A refusal leaves them.
+abbrev pub RowsAfter : Command → Answer → List ℕ → ℕ → List (ℕ × Row) → List (ℕ × Row) → Type 0
+RowsAfter command (answer.Ok number id) text moment old new =
+    RowsDone command number text moment old new
+RowsAfter command (answer.Duplicate number) text moment old new = new ≡ old
+RowsAfter command answer.NoFields text moment old new = new ≡ old
+RowsAfter command (answer.TooLarge len) text moment old new = new ≡ old
+RowsAfter command (answer.Full max) text moment old new = new ≡ old
+RowsAfter command (answer.Collision number) text moment old new = new ≡ old
+RowsAfter command (answer.NotLive number) text moment old new = new ≡ old
+RowsAfter command (answer.NoText number) text moment old new = new ≡ old
+RowsAfter command answer.IsMirror text moment old new = new ≡ old
+RowsAfter command answer.DiskFault text moment old new = new ≡ old
+RowsAfter command (answer.Damaged file offset) text moment old new = new ≡ old
+RowsAfter command answer.NoMemory text moment old new = new ≡ old
+
+-- An archive whose own disk is there is valid.
+pub store-valid : (v : View) (cache : List ℕ) (a : Archive) (k : Option Content)
+    → IsStoreWith v cache a k → IsArchive a
+store-valid v cache a None store = absurd store
+store-valid v cache a (Some k) store = store.keeps.valid
+
+-- Laws of a disk that is only read.
+module _ {D : Type 0} (content : D → Option Content) (moment : D → ℕ)
+    (left_since : D → ℕ → Files → Type 0)
+    (only_now : (disk : D) (image : Files) → left_since disk (moment disk) image
+    → Image (content disk) image) where
+  pub looks-same : (d : D) → OnlyLooks content moment left_since d d
+  looks-same d = record {
+    same = told-same (content d);
+    any_moment = started moment left_since d (Image (content d)) (λ image left. only_now d image left);
+  }
+
+  pub looks-joined : (d e f : D) → OnlyLooks content moment left_since d e
+      → OnlyLooks content moment left_since e f → OnlyLooks content moment left_since d f
+  looks-joined d e f first second =
+      let one = unchanged-is (content d) (content e) first.same in
+      let two = unchanged-is (content e) (content f) second.same in
+      record {
+        same = subst (λ (k : Option Content). Told Unchanged (content d) k) (sym (two ∙ one))
+            (told-same (content d));
+        any_moment = joined moment left_since d e f (Image (content d)) (Image (content e))
+            (Image (content d)) first.any_moment second.any_moment (λ image left. left)
+            (λ image left. subst (λ (k : Option Content). Image k image) one left);
+      }

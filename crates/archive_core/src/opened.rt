@@ -1,0 +1,97 @@
+//! An archive that was opened on a disk, with the rows of its live messages.
+ghost use Rattle.std.specs.Prelude.{◌≡◌, ℕ, List, Err, IfOk, slice_get};
+ghost use Rattle.arch_base.specs.Counts.{RoseIf};
+ghost use Rattle.arch_model.specs.Archives.{Archive, live};
+ghost use Rattle.arch_model.specs.Listings.{rows_of};
+ghost use Rattle.arch_model.specs.declared.opening.OpenRefusal.{OpenRefusal};
+ghost use Rattle.epoch_store.specs.Opens.{ReadsWith, OpensWell};
+ghost use Rattle.epoch_store.specs.Promises.{OpensArchive};
+ghost use Rattle.epoch_store.specs.Stores.{IsStoreWith};
+ghost use Rattle.archive_core.specs.Commands.{OnlyLooks};
+ghost use Rattle.archive_core.specs.HandedBack.{view_opened};
+ghost use Rattle.archive_core.specs.Openings.{RefusesKindly};
+ghost use Rattle.archive_core.specs.Walks.{IsSound, unread_opening};
+
+use crate::archive::DiskArchive;
+use crate::rows::{Unread, walked_rows};
+use crate::walk::Walk;
+use arch_model::{OpenRefusal, TextRefusal};
+use disk_model::Disk;
+use epoch_store::law_of_stores;
+use overview_index::Overview;
+use std::alloc::Global;
+
+/// An archive that was opened on a disk, and the rows of its live messages.
+#[derive(Drop)]
+pub(crate) struct Opened {
+    pub(crate) archive: DiskArchive,
+    pub(crate) overview: Overview,
+}
+
+impl Opened {
+    /// Opens the archive on a disk, and reads the texts of its messages for their rows.
+    ///
+    /// The promises and the refusals are those of `DiskArchive::open`. `Damaged` may also have the
+    /// offset of an entry whose text had another id when it was read again, which never happens on a
+    /// disk that tells its content.
+    pub(crate) fn open<D: Disk>(alloc: Global, disk: &mut D) -> Result<Opened, OpenRefusal>
+        ensures opened { OpensArchive D.content D.moment D.left_since D.faults disk.old disk.new
+            (view_opened result) }
+        ensures refused { RefusesKindly result (D.content disk.old) (D.content disk.new) }
+        ensures rows { (a : Archive) (cache : List ℕ) → ReadsWith cache a (D.content disk.old)
+            → IfOk result (λ opened. opened.overview ≡ rows_of (live a.entries)) }
+    {
+        law_of_stores();
+        let archive = match DiskArchive::open(alloc, disk) {
+            Ok(archive) => archive,
+            Err(refusal) => return Err(refusal),
+        };
+        match archive.rows(alloc, disk) {
+            Ok(overview) => Ok(Opened { archive, overview }),
+            Err(refusal) => Err(refusal),
+        }
+    }
+}
+
+impl DiskArchive {
+    /// Returns the rows of the live messages. Reads the text of each message once.
+    ///
+    /// `DiskFault` comes only if the disk's count of faults rose, and `NoMemory` only if memory runs
+    /// out. `Damaged` comes if a text has another id than its entry, with the entry's file and offset,
+    /// which never happens where the texts of all entries are in their places.
+    pub(crate) fn rows<D: Disk>(&self, alloc: Global, disk: &mut D) -> Result<Overview, OpenRefusal>
+        ensures rows { (a : Archive) (cache : List ℕ)
+            → IsStoreWith self.now cache a (D.content disk.old)
+            → IfOk result (λ rows. rows ≡ rows_of (live a.entries)) }
+        ensures well { (a : Archive) (cache : List ℕ)
+            → IsStoreWith self.now cache a (D.content disk.old) → OpensWell result }
+        ensures sound { IsSound self.now (D.content disk.old) → OpensWell result }
+        ensures looks { OnlyLooks D.content D.moment D.left_since disk.old disk.new }
+        ensures cause { RoseIf (result ≡ Err OpenRefusal.DiskFault) (D.faults disk.old)
+            (D.faults disk.new) }
+    {
+        let mut walk = Walk {
+            store: &self.store,
+            disk: &mut *disk,
+        };
+        match walked_rows(alloc, &mut walk) {
+            Ok(overview) => Ok(overview),
+            Err(unread) => Err(self.unopened(&unread)),
+        }
+    }
+
+    /// Returns why an archive wasn't opened, a text of which wasn't read.
+    fn unopened(&self, unread: &Unread) -> OpenRefusal
+        ensures { result ≡ unread_opening self.now (slice_get self.now.entries unread.now.index)
+            unread.now.why }
+    {
+        match unread.why {
+            TextRefusal::DiskFault => OpenRefusal::DiskFault,
+            TextRefusal::NoMemory => OpenRefusal::NoMemory,
+            TextRefusal::Damaged { .. } => match self.store.place(unread.index) {
+                None => OpenRefusal::NoMemory,
+                Some((file, at)) => OpenRefusal::Damaged { file, at },
+            },
+        }
+    }
+}

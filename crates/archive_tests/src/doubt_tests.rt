@@ -1,0 +1,99 @@
+//! Removals in doubt: the disk failed in one, and the archive is reopened.
+use crate::accepted::accepted;
+use crate::removal_tests::has_both;
+use arch_model::{Answer, Command, Keep, Shelf};
+use archive_core::{Engine, NotMade};
+use disk_model::{Disk, DiskFault, FileKind, FileName, MemDisk};
+use epoch_store::InitRefusal;
+use epoch_tests::{FIRST, FIRST_ID, LATER, MOMENT, failing};
+use std::alloc::Global;
+use std::test::Fail;
+use store_tests::settings;
+
+/// The file of the first epoch, which the second root names first.
+const EPOCH: FileName = FileName {
+    kind: FileKind::Epoch,
+    number: 0,
+    gen_: 2,
+};
+
+/// The file of the map, which the first root names.
+const MAP: FileName = FileName {
+    kind: FileKind::Map,
+    number: 0,
+    gen_: 1,
+};
+
+/// Makes an archive on a disk, whose epochs take several entries each.
+fn made(alloc: Global, disk: MemDisk) -> Result<Engine<MemDisk>, InitRefusal> {
+    match settings(2000, 10, false) {
+        None => Err(InitRefusal::NoMemory),
+        Some(config) => match Engine::make(alloc, disk, &config) {
+            Ok(engine) => Ok(engine),
+            Err(NotMade { disk: _, why }) => Err(why),
+        },
+    }
+}
+
+/// Delivers the first mail to an archive and removes it, and returns whether the disk failed in the
+/// removal. Exactly after a command in which it failed the archive is stale.
+fn fails_to_remove(engine: &mut Engine<MemDisk>) -> bool {
+    let came = engine.command(&Command::Deliver(FIRST), MOMENT);
+    let ready = !engine.is_stale();
+    let went = engine.command(&Command::Remove(1), LATER);
+    let told = engine.is_stale() == (went == Answer::DiskFault);
+    ready && told && Some(came) == accepted(1, FIRST_ID) && went == Answer::DiskFault
+}
+
+/// Makes an archive of one mail over a disk of which a call fails, by its ordinal from 1, and removes
+/// the mail. Returns the archive in doubt, or `None` if the disk fails before the removal or not at
+/// all.
+fn in_doubt(alloc: Global, ordinal: u64) -> Result<Option<Engine<MemDisk>>, Fail> {
+    let disk = failing(alloc, &[ordinal])?;
+    match made(alloc, disk) {
+        Ok(mut engine) => {
+            let failed = fails_to_remove(&mut engine);
+            Ok(failed.then_some(engine))
+        }
+        Err(_refusal) => Ok(None),
+    }
+}
+
+/// Returns whether there are just a root, a map of one message and an epoch of this length.
+fn are_exact(disk: &mut MemDisk, epoch: u64) -> Result<bool, DiskFault> {
+    let mapped = disk.length(MAP)? == 28;
+    let filled = disk.length(EPOCH)? == epoch;
+    let no_other = disk.name_at(3)?.is_none();
+    Ok(mapped && filled && no_other)
+}
+
+/// Reopens an archive in doubt, and returns how many entries it has: one, or two where the removal is
+/// found. Returns `None` if these aren't the entries, or the files aren't exactly those of that archive.
+fn entries_found(alloc: Global, engine: Engine<MemDisk>) -> Result<Option<u64>, Fail> {
+    let mut engine = engine;
+    engine.fresh()?;
+    let count = engine.entry_count();
+    let ready = !engine.is_stale();
+    let gone = engine.live_from(0).is_none() == (count == 2);
+    let both = has_both(alloc, &mut engine)? == (count == 2);
+    let mut disk = engine.into_disk();
+    let exact = are_exact(&mut disk, if count == 2 { 672 } else { 316 })?;
+    Ok((ready && gone && both && exact).then_some(count))
+}
+
+#[test]
+fn a_removal_in_doubt_is_found_or_not(rt: HostRuntime) -> Result<(), Fail> {
+    let mut before = false;
+    let mut last = None;
+    for ordinal in 1..80 {
+        if let Some(engine) = in_doubt(rt.alloc(), ordinal)? {
+            last = entries_found(rt.alloc(), engine)?;
+
+            assert!(rt; last == Some(1) || last == Some(2));
+            before = before || last == Some(1);
+        }
+    }
+    // The last call of a removal is a sync. When it fails, the next root was written before.
+    assert!(rt; before && last == Some(2));
+    Ok(())
+}

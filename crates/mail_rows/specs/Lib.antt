@@ -1,2 +1,0 @@
-pub mod Overviews
-pub mod Rows
