@@ -4,5 +4,6 @@ pub mod Courses
 pub mod Lifting
 pub mod Fronts
 pub mod Passages
+pub mod Clipping
 pub mod Cutting
 pub mod Echoes

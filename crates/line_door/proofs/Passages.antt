@@ -48,10 +48,10 @@ passed-skipped limit (Some p) rest e =
     (p.0, line_found-is p p.0 rest refl parts.1, ltb-false (length p.0) limit parts.0)
 
 -- A first line that is short is whole, and one that is too long is skipped.
-passed-short : (limit : ℕ) (line rest : List ℕ) → length line < limit → passed limit (Some (line, rest)) ≡ Taken line rest
+pub passed-short : (limit : ℕ) (line rest : List ℕ) → length line < limit → passed limit (Some (line, rest)) ≡ Taken line rest
 passed-short limit line rest l = ap (λ (t : Bool). if t then Taken line rest else Skipped rest) (lt-ltb (length line) limit l)
 
-passed-long : (limit : ℕ) (line rest : List ℕ) → limit ≤ length line → passed limit (Some (line, rest)) ≡ Skipped rest
+pub passed-long : (limit : ℕ) (line rest : List ℕ) → limit ≤ length line → passed limit (Some (line, rest)) ≡ Skipped rest
 passed-long limit line rest l = ap (λ (t : Bool). if t then Taken line rest else Skipped rest) (le-ltb (length line) limit l)
 
 -- More bytes leave a whole line unchanged.
@@ -113,13 +113,13 @@ passing-held limit xs ys e = by (first_line ys) refl
         ∙ same p.0 p.1 (order (length xs) limit)
         ∙ sym (ap (passed limit) (first_line-append xs ys p e is))
 
-taken-from : (limit : ℕ) (bytes line rest : List ℕ) → IsLine limit bytes line rest → skipping_front limit bytes ≡ Taken line rest
+pub taken-from : (limit : ℕ) (bytes line rest : List ℕ) → IsLine limit bytes line rest → skipping_front limit bytes ≡ Taken line rest
 taken-from limit bytes line rest is =
     ap (skipping_front limit) is.joined
     ∙ ap (passed limit) (first_line-append line (10 ∷ rest) ([], rest) (first_line-none line is.single) refl ∙ ap (λ (x : List ℕ). line_found x rest) (append-nil line))
     ∙ passed-short limit line rest is.short
 
-taken-is_line : (limit : ℕ) (bytes line rest : List ℕ) → skipping_front limit bytes ≡ Taken line rest → IsLine limit bytes line rest
+pub taken-is_line : (limit : ℕ) (bytes line rest : List ℕ) → skipping_front limit bytes ≡ Taken line rest → IsLine limit bytes line rest
 taken-is_line limit bytes line rest e =
     let parts = passed-taken limit (first_line bytes) line rest e in
     record { joined = first_line-joined bytes (line, rest) parts.0; single = first_line-single bytes (line, rest) parts.0; short = parts.1 }

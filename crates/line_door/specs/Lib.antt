@@ -8,4 +8,5 @@ pub mod Lines
 pub mod LineLaws
 pub mod Ahead
 pub mod Skipping
+pub mod Clipped
 pub mod Echo

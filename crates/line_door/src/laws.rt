@@ -1,4 +1,5 @@
 //! Laws of doors, stated at a small door, and the law of the line at the front.
+ghost use Rattle.line_door.specs.Clipped.{ClippedLaw};
 ghost use Rattle.line_door.specs.Echo.{EchoCut, EchoPieces, EchoCalls, EchoPlain, EchoLifts};
 ghost use Rattle.line_door.specs.LineLaws.{LineLaw};
 ghost use Rattle.line_door.specs.Skipping.{SkippingLaw};
@@ -48,6 +49,14 @@ pub fn line_law()
 /// bytes of a part of a line go on as all of them would.
 pub fn skipping_law()
     ensures { SkippingLaw }
+{}
+
+/// Shows that bytes of which each line is cut to its first `limit` octets go on as all of them would.
+///
+/// Each line at their front is the same, whole, too long or a part; and it makes no difference
+/// whether they are cut once or piece by piece.
+pub fn clipped_law()
+    ensures { ClippedLaw }
 {}
 
 /// Shows that the course of a session is one of a door that has the session among its own.

@@ -2,10 +2,14 @@
 //! into pieces, the lifting of a session to one of many, and the line at the front of its bytes.
 #![tactic(auto)]
 
+mod held;
 mod laws;
 mod line;
 mod skipping;
 
-pub use laws::{calls_law, cut_law, lifting_law, line_law, pieces_law, plain_law, skipping_law};
+pub use held::HeldLine;
+pub use laws::{
+    calls_law, clipped_law, cut_law, lifting_law, line_law, pieces_law, plain_law, skipping_law,
+};
 pub use line::{Ahead, line_content, next_in};
 pub use skipping::{Passage, next_passing};

@@ -1,27 +1,57 @@
 -- The rows of the archive in memory after one more entry.
-use Rattle.std.specs.Prelude.{◌≡◌, ◌+◌, ◌<◌, ℕ, List, [], ◌∷◌, ◌++◌, length}
+use Rattle.std.specs.Prelude.{◌≡◌, ◌==◌, ◌+◌, ◌<◌, ℕ, Bool, true, false, List, [], ◌∷◌, ◌++◌, length, Option, Some, None, is_some, option_copied, refl, if◌then◌else◌}
 use Rattle.std.specs.List.{AllByRecursion}
-use Rattle.std.proofs.Common.{◌∙◌, sym, ap}
+use Rattle.std.specs.BTreeMap.{insert_entry}
+use Rattle.std.specs.Ordering.{nat_cmp}
+use Rattle.std.proofs.Common.{Bor, ◌∙◌, sym, ap, subst, arith}
+use Rattle.std.proofs.lemmas.Bool.{eqb-true}
+use Rattle.arch_base.specs.declared.config.Config.{Config}
+use Rattle.arch_base.specs.declared.ids.Id20.{Id20}
+use Rattle.git_objects.specs.declared.entry_kind.EntryKind.TheVariants.{Message}
 use Rattle.mail_forms.specs.declared.row.Row.{Row}
-use Rattle.arch_model.specs.Archives.{Entry, message, deletion, live}
-use Rattle.arch_model.specs.Listings.{rows_of, row_at}
+use Rattle.arch_model.specs.Archives.{Archive, Entry, message, deletion, live}
+use Rattle.arch_model.specs.Listings.{rows_of, row_at, row_in as row_shown}
 use Rattle.arch_model.specs.Rows.{row_of}
 use Rattle.arch_model.specs.Validity.{Rise}
 use Rattle.arch_model.proofs.LiveEntries.{live-message, live-deletion, live-all}
 use Rattle.arch_model.proofs.ValidArchives.{all_weaker}
+use Rattle.arch_judge.specs.Indexes.{HasSame}
+use Rattle.arch_judge.specs.declared.index.Index.{Index}
 use Rattle.arch_judge.proofs.Endings.{Ascend, live-ascend}
-use Rattle.overview_index.specs.Listings.{with_row, without}
-use Rattle.overview_index.proofs.Messages.{AllBelow, Ascends, rows-added, rows-taken}
-use Rattle.mem_archive.specs.Memory.{IsUpTo}
+use Rattle.arch_judge.proofs.Indexes.{IsIndex-same}
+use Rattle.overview_index.specs.Listings.{row_in, with_row, without}
+use Rattle.overview_index.proofs.Messages.{AllBelow, Ascends, row-is, row-number, rows-added, rows-taken}
+use Rattle.overview_index.proofs.RowLists.{without-with}
+use Rattle.mem_archive.specs.Memory.{archive_of, entries_of, IsKept, IsUpTo}
+use Rattle.mem_archive.specs.declared.kept.End.{End}
+use Rattle.mem_archive.specs.declared.kept.Kept.{Kept}
+use Rattle.mem_archive.specs.declared.kept.Place.{Place}
+use Rattle.mem_archive.proofs.Lines.{entries_of-push}
+
+-- No row was found.
+pub none-copied : {X : Type 0} (found : Option (Bor X)) (row : Option X) (t : Bool) → t ≡ is_some found → t ≡ false → option_copied found ≡ row → row ≡ None
+none-copied None row t test none is = sym is
+none-copied (Some x) row t test none is = absurd (let wrong : true ≡ false = sym test ∙ none in cc)
+
+-- A number above those of all messages has no row.
+other_front : (m n : ℕ) → m < n → (m == n) ≡ false
+other_front m n less = by (m == n) refl where
+  by : (t : Bool) → (m == n) ≡ t → t ≡ false
+  by true e = absurd (let same : m ≡ n = eqb-true m n e in omega (arith, same, less))
+  by false e = refl
+
+none_above : (es : List Entry) (n : ℕ) → AllBelow n es → row_shown es n ≡ None
+none_above [] n below = refl
+none_above (e ∷ es) n below = ap (λ (t : Bool). if t then Some (row_at e) else row_shown es n) (other_front e.number n below.0) ∙ none_above es n below.1
 
 ascends-of : (number : ℕ) (es : List Entry) → Ascend number es → Ascends number es
 ascends-of number [] rise = tt
 ascends-of number (e ∷ es) rise = (rise.0, ascends-of (e.number + 1) es rise.1)
 
 -- One message more, with the next number.
-pub rows-message : (es more : List Entry) (next epoch : ℕ) (text : List ℕ) (moment : ℕ) (old new : List (ℕ × Row)) → more ≡ es ++ message next epoch text moment ∷ [] → AllByRecursion (λ (e : Entry). e.number < next) es → old ≡ rows_of (live es)
+rows_message : (es more : List Entry) (next epoch : ℕ) (text : List ℕ) (moment : ℕ) (old new : List (ℕ × Row)) → more ≡ es ++ message next epoch text moment ∷ [] → AllByRecursion (λ (e : Entry). e.number < next) es → old ≡ rows_of (live es)
     → new ≡ with_row old (row_of next text moment) → new ≡ rows_of (live more)
-rows-message es more next epoch text moment old new more_is below old_is new_is =
+rows_message es more next epoch text moment old new more_is below old_is new_is =
     let one : Entry = message next epoch text moment in
     new_is
     ∙ ap (λ rs. with_row rs (row_at one)) old_is
@@ -35,3 +65,47 @@ rows-deletion es more n epoch text moment old new more_is rise old_is new_is =
     ∙ ap (λ rs. without rs n) old_is
     ∙ rows-taken (live es) 1 n (ascends-of 1 (live es) (live-ascend 1 0 es rise))
     ∙ ap rows_of (sym (ap live more_is ∙ live-deletion es n epoch text moment))
+
+-- The same of what is kept, with the number that was made for the message. Where it is not kept, all
+-- is as before.
+module _ (config : Config) (ks : List Kept) (places : List Place) (index : Index) (end_ : End) (a : Archive) (is : archive_of config ks places ≡ a) (kept : IsKept config ks places index end_) (rows : List (ℕ × Row)) (rows_are : rows ≡ rows_of (live (entries_of ks))) (number : ℕ) (number_is : number ≡ a.next) (read : List ℕ) (moment : ℕ) (mid : List (ℕ × Row)) (mid_is : mid ≡ with_row rows (row_of number read moment)) where
+  last : number ≡ length places + 1
+  last = number_is ∙ ap (λ (b : Archive). b.next) (sym is)
+
+  below : AllByRecursion (λ (e : Entry). e.number < number) (entries_of ks)
+  below = all_weaker (IsUpTo (length places)) (λ (e : Entry). e.number < number) (entries_of ks) (λ e up. let most = up.1 in omega (arith, most, last)) kept.numbered
+
+  pub row-kept : (epoch : ℕ) (text : List ℕ) (commit : Id20) → read ≡ text → (held : List Kept) → held ≡ ks ++ record { kind = Message; number = number; epoch = epoch; text = text; moment = moment; commit = commit } ∷ [] → mid ≡ rows_of (live (entries_of held))
+  row-kept epoch text commit read_is held held_is =
+      rows_message (entries_of ks) (entries_of held) number epoch text moment rows mid (ap entries_of held_is ∙ entries_of-push ks (record { kind = Message; number = number; epoch = epoch; text = text; moment = moment; commit = commit })) below rows_are
+      (mid_is ∙ ap (λ t. with_row rows (row_of number t moment)) read_is)
+
+  free : row_in rows number ≡ None
+  free = ap (λ rs. row_in rs number) rows_are ∙ row-is (live (entries_of ks)) number ∙ none_above (live (entries_of ks)) number (live-all (λ (e : Entry). e.number < number) (entries_of ks) below)
+
+  back : (new : List (ℕ × Row)) → new ≡ without mid number → new ≡ rows
+  back new new_is =
+      new_is
+      ∙ ap (λ rs. without rs number) (mid_is ∙ ap (λ n. insert_entry nat_cmp rows n (row_of number read moment)) (row-number number read moment))
+      ∙ without-with rows number (row_of number read moment) free
+
+  pub row-left : (held : List Kept) → held ≡ ks → (spots : List Place) → spots ≡ places → (other : Index) → HasSame index other → (new : List (ℕ × Row)) → new ≡ without mid number → IsKept config held spots other end_ × (new ≡ rows_of (live (entries_of held)))
+  row-left held held_is spots spots_are other same new new_is = (
+    subst (λ (ks2 : List Kept). IsKept config ks2 spots other end_) (sym held_is)
+        (subst (λ (places2 : List Place). IsKept config ks places2 other end_) (sym spots_are) (record {
+          settings = kept.settings;
+          numbers = kept.numbers;
+          placed = kept.placed;
+          numbered = kept.numbered;
+          order = kept.order;
+          deletions = kept.deletions;
+          ids = kept.ids;
+          blobs = kept.blobs;
+          named = kept.named;
+          indexed = IsIndex-same (entries_of ks) index other kept.indexed same;
+          lines = kept.lines;
+          last = kept.last;
+          ends = kept.ends;
+        })),
+    back new new_is ∙ rows_are ∙ ap (λ (held2 : List Kept). rows_of (live (entries_of held2))) (sym held_is),
+  )

@@ -1,4 +1,4 @@
-mod CivilDays
+pub mod CivilDays
 pub mod MomentBytes
 mod Pieces
 pub mod Pushing

@@ -1,0 +1,7 @@
+use Rattle.std.proofs.Common.{◌≡◌, ◌+◌, length}
+use Rattle.mail_reader.specs.Fields.{fields_of}
+use Rattle.mail_reader.specs.Laws.{wholes}
+use Rattle.nntp_reader.proofs.articles.header_len.Given as goal
+
+abbrev pub invariant-loop-field : goal.invariant-loop-field
+invariant-loop-field l = l.len + length (wholes l.field-iterator) ≡ length (wholes (fields_of l.text))

@@ -1,0 +1,33 @@
+use Rattle.std.proofs.Common.{◌≡◌, ◌+◌, ◌++◌, ap, refl, drop}
+use Rattle.line_door.specs.Clipped.{clipped, longest_line}
+use Rattle.line_door.specs.Skipping.{Skipped, skipping_front}
+use Rattle.arch_model.specs.Next.{continues}
+use Rattle.nntp_reader.specs.Door.{Reader}
+use Rattle.nntp_reader.proofs.Turning.{line-held, line-part, turn-line, turn-skipped, turn-kept, part-kept}
+use Rattle.nntp_reader.proofs.session.NntpSession.act.Goals as goal
+
+pub answer-requires-clause-part : goal.answer-requires-clause-part
+answer-requires-clause-part g c =
+    let held = ap (λ (r : Reader). r.bytes) c.self.view_is in
+    line-part (c.args.self.now.bytes ++ c.args.piece.now) _ _ (line-held c.self.inside.held c.args.self.now.bytes c.args.piece.now c.split_at.result.0.now c.in-Line.end held c.in-Line.ensures c.split_at.ensures.front)
+
+pub returns-in-Line-clause-turn : goal.returns-in-Line-clause-turn
+returns-in-Line-clause-turn g c = λ a held.
+    let bytes = ap (λ (r : Reader). r.bytes) c.self.view_is in
+    let is = line-held c.self.inside.held c.args.self.now.bytes c.args.piece.now c.split_at.result.0.now c.in-Line.end bytes c.in-Line.ensures c.split_at.ensures.front in
+    rw c.went.ensures
+    (turn-line c.args.moment a c.args.self.now.group c.args.self.now.bytes c.args.piece.now (c.args.self.now.bytes ++ c.split_at.result.0.now) c.answer.new.self.bytes c.answer.new.self.group (c.in-Line.end + 1) _ _ (continues c.answer.result) is c.answer.ensures.empty
+    (c.answer.ensures.acts a (clipped longest_line (drop (c.in-Line.end + 1) c.args.piece.now)) held))
+
+pub returns-in-Skipped-clause-turn : goal.returns-in-Skipped-clause-turn
+returns-in-Skipped-clause-turn g c = λ a held.
+    let is : skipping_front longest_line (c.self.inside.held ++ c.args.piece.now) ≡ Skipped (drop (c.in-Skipped.end + 1) c.args.piece.now) = c.in-Skipped.ensures.1 in
+    rw (← c.self.view_is, c.went-in-Skipped.ensures, c.after.ensures)
+    (turn-skipped c.args.moment a c.self.inside.group c.self.inside.held c.args.piece.now c.clear.new.self (c.in-Skipped.end + 1) _ _ c.say_notice.result is c.clear.ensures refl c.say_notice.ensures.said)
+
+pub returns-in-More-clause-turn : goal.returns-in-More-clause-turn
+returns-in-More-clause-turn g c = λ a held.
+    rw (← c.self.view_is) (turn-kept c.args.moment a c.self.inside.group c.self.inside.held c.args.piece.now c.hold.new.self _ c.in-More.ensures c.hold.ensures)
+
+pub returns-in-More-clause-takes : goal.returns-in-More-clause-takes
+returns-in-More-clause-takes g c = part-kept c.hold.new.self (c.self.inside.held ++ c.args.piece.now) c.in-More.ensures c.hold.ensures

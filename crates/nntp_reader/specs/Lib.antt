@@ -1,0 +1,15 @@
+pub mod Words
+pub mod Commands
+pub mod Notices
+pub mod Numbers
+pub mod Groups
+pub mod Choices
+pub mod Facts
+pub mod Articles
+pub mod Headers
+pub mod Lists
+pub mod Dates
+pub mod Replies
+pub mod Door
+pub mod Sessions
+pub mod Laws

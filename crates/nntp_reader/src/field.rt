@@ -1,0 +1,261 @@
+//! What HDR says of a field of texts.
+ghost use Rattle.std.specs.Prelude.{◌≡◌, ◌++◌, ℕ, List, true, not, is_ok, is_some, if◌then◌else◌};
+ghost use Rattle.line_door.specs.Acts.{outside, Acts, held_if};
+ghost use Rattle.arch_model.specs.Archives.{Archive, live, text_of};
+ghost use Rattle.arch_model.specs.Next.{continues};
+ghost use Rattle.arch_model.specs.Shelves.{Stays, ReadCause};
+ghost use Rattle.edge_io.specs.Phrases.{Says};
+ghost use Rattle.wire_replies.specs.Blocks.{block_end};
+ghost use Rattle.wire_replies.specs.Waits.{Waits};
+ghost use Rattle.nntp_reader.specs.Commands as commands;
+ghost use Rattle.nntp_reader.specs.Door.{reader, said_to, range_said};
+ghost use Rattle.nntp_reader.specs.Facts.{header_line};
+ghost use Rattle.nntp_reader.specs.Headers.{header_start, field_line};
+ghost use Rattle.nntp_reader.specs.Numbers.{live_in, first_of};
+ghost use Rattle.nntp_reader.specs.Sessions.{articles_of, start_if as start_if_of, ReadsValue, SaysOrNot, IsValue};
+
+use crate::choice::{Chosen, choose, live_after, live_within, range_start};
+use crate::group::Group;
+use crate::notice::say_notice;
+use crate::order::Span;
+use crate::unread::say_unread;
+use arch_base::{Bytes, NoMemory};
+use arch_model::{Next, Shelf, TextRefusal};
+use edge_io::{Sink, SinkFault};
+use mail_forms::flat_first;
+use nntp_words::Range;
+use std::alloc::Global;
+use wire_replies::{Phrase, Waiting, send};
+
+/// What became of the value of one message.
+#[derive(Clone, Copy, Drop)]
+pub(crate) enum Value {
+    /// It was appended to the reply.
+    Said,
+    /// Its text wasn't read, and nothing was said before. The word for that was taken or lost.
+    Unread(Result<(), SinkFault>),
+    /// Its text wasn't read, after something was said.
+    Short,
+    /// A write failed.
+    Lost,
+}
+
+/// Says a field of the named articles, or why there are none, and returns whether the session
+/// continues.
+///
+/// Over a range the reply is streamed: if a text isn't read after others were, it stops and the
+/// session is closed. If the first one isn't read, the reply says why, and the session continues.
+pub(crate) fn say_field<S: Shelf, O: Sink>(
+    name: &[u8],
+    articles: Span<'_>,
+    alloc: Global,
+    group: Group,
+    shelf: &mut S,
+    out: &mut O,
+) -> Next
+    requires { S.ready shelf.old ≡ true }
+    ensures acts { (moment : ℕ) (a : Archive) (rest : List ℕ) → S.holds shelf.old a
+        → Acts (said_to moment a group
+        (commands.Headers (commands.Field name.now) (articles_of articles.entry)) rest)
+        (outside (O.taken out.old) (S.faults shelf.old) (O.faults out.old))
+        (held_if (continues result) (reader group rest)) a
+        (outside (O.taken out.new) (S.faults shelf.new) (O.faults out.new)) }
+    ensures shelf { Stays S.holds S.ready S.alike S.faults shelf.old shelf.new }
+    ensures sink { O.alike out.old out.new }
+{
+    match articles {
+        Span::Single(article) => match choose(group, article, shelf) {
+            Ok(chosen) => Next::after(say_single(name, chosen, alloc, group, shelf, out)),
+            Err(refusal) => Next::after(say_notice(refusal, out)),
+        },
+        Span::Within(range) => match range_start(group, range, shelf) {
+            Ok(_) => say_range(name, range, alloc, group, shelf, out),
+            Err(refusal) => Next::after(say_notice(refusal, out)),
+        },
+    }
+}
+
+/// Says a field of a live message, or why its text was not read.
+fn say_single<S: Shelf, O: Sink>(
+    name: &[u8],
+    chosen: Chosen,
+    alloc: Global,
+    group: Group,
+    shelf: &mut S,
+    out: &mut O,
+) -> Result<(), SinkFault>
+    requires ready { S.ready shelf.old ≡ true }
+    requires live { (a : Archive) → S.holds shelf.old a
+        → is_some (text_of (live a.entries) chosen.number) ≡ true }
+    ensures said { (a : Archive) → S.holds shelf.old a → SaysOrNot (header_start
+        ++ (field_line name.now chosen.shown (text_of (live a.entries) chosen.number) ++ block_end))
+        group group (outside (O.taken out.old) (S.faults shelf.old) (O.faults out.old)) result group
+        (outside (O.taken out.new) (S.faults shelf.new) (O.faults out.new)) }
+    ensures shelf { Stays S.holds S.ready S.alike S.faults shelf.old shelf.new }
+    ensures sink { O.alike out.old out.new }
+{
+    match read_value(name, chosen.number, alloc, shelf) {
+        Ok(value) => say_block(chosen.shown, value.as_slice(), out),
+        Err(refusal) => say_unread(refusal, out),
+    }
+}
+
+/// Says one value as a block.
+fn say_block<O: Sink>(shown: u32, value: &[u8], out: &mut O) -> Result<(), SinkFault>
+    ensures said { Says (header_start ++ (header_line shown value.now ++ block_end))
+        (O.taken out.old) (O.faults out.old) (O.taken out.new) (O.faults out.new) result }
+    ensures sink { O.alike out.old out.new }
+{
+    send(
+        &[
+            Phrase::Words(b"225 headers follow\r\n"),
+            Phrase::Number(u64::from(shown)),
+            Phrase::Words(b" "),
+            Phrase::Words(value),
+            Phrase::Words(b"\r\n.\r\n"),
+        ],
+        out,
+    )
+}
+
+/// Says a field of the live messages in a range of which one is live, and returns whether the
+/// session continues.
+fn say_range<S: Shelf, O: Sink>(
+    name: &[u8],
+    range: Range,
+    alloc: Global,
+    group: Group,
+    shelf: &mut S,
+    out: &mut O,
+) -> Next
+    requires ready { S.ready shelf.old ≡ true }
+    ensures acts { (a : Archive) (rest : List ℕ) → S.holds shelf.old a
+        → is_some (first_of (live_in (live a.entries) range.first range.last)) ≡ true
+        → Acts (range_said a group name.now range rest)
+        (outside (O.taken out.old) (S.faults shelf.old) (O.faults out.old))
+        (held_if (continues result) (reader group rest)) a
+        (outside (O.taken out.new) (S.faults shelf.new) (O.faults out.new)) }
+    ensures shelf { Stays S.holds S.ready S.alike S.faults shelf.old shelf.new }
+    ensures sink { O.alike out.old out.new }
+{
+    let mut reply = Waiting::new();
+    let mut begun = false;
+    let mut next = live_within(range.first, range.last, shelf);
+    while let Some(number) = next {
+        match push_field(name, number, begun, alloc, shelf, &mut reply, out) {
+            Value::Said => {
+                begun = true;
+                next = live_after(number, range.last, shelf);
+            }
+            Value::Unread(sent) => return Next::after(sent),
+            Value::Short => {
+                let _ = reply.flush(out);
+                return Next::Close;
+            }
+            Value::Lost => return Next::Close,
+        }
+    }
+    Next::after(reply.finish(&[Phrase::Words(b".\r\n")], out))
+}
+
+/// Appends the value of one message to a reply that has begun or not, or says why it isn't read.
+fn push_field<S: Shelf, O: Sink>(
+    name: &[u8],
+    number: u32,
+    begun: bool,
+    alloc: Global,
+    shelf: &mut S,
+    reply: &mut Waiting,
+    out: &mut O,
+) -> Value
+    requires ready { S.ready shelf.old ≡ true }
+    requires live { (a : Archive) → S.holds shelf.old a
+        → is_some (text_of (live a.entries) number) ≡ true }
+    ensures value { (a : Archive) → S.holds shelf.old a
+        → IsValue name.now number begun (text_of (live a.entries) number) reply.old
+        (outside (O.taken out.old) (S.faults shelf.old) (O.faults out.old)) result reply.new
+        (outside (O.taken out.new) (S.faults shelf.new) (O.faults out.new)) }
+    ensures shelf { Stays S.holds S.ready S.alike S.faults shelf.old shelf.new }
+    ensures sink { O.alike out.old out.new }
+{
+    match read_value(name, number, alloc, shelf) {
+        Ok(value) => given(push_started(begun, number, value.as_slice(), reply, out)),
+        Err(refusal) => {
+            if begun {
+                return Value::Short;
+            }
+            Value::Unread(say_unread(refusal, out))
+        }
+    }
+}
+
+/// Returns what became of a value that was appended.
+fn given(sent: Result<(), SinkFault>) -> Value
+    ensures { result ≡ (if is_ok sent then Value.Said else Value.Lost) }
+{
+    match sent {
+        Ok(()) => Value::Said,
+        Err(SinkFault) => Value::Lost,
+    }
+}
+
+/// Appends a value, after the first line of the reply if that hasn't begun.
+fn push_started<O: Sink>(
+    begun: bool,
+    shown: u32,
+    value: &[u8],
+    reply: &mut Waiting,
+    out: &mut O,
+) -> Result<(), SinkFault>
+    ensures said { Waits (start_if_of (not begun) ++ header_line shown value.now) reply.old
+        (O.taken out.old) (O.faults out.old) reply.new (O.taken out.new) (O.faults out.new) result }
+    ensures sink { O.alike out.old out.new }
+{
+    reply.push(
+        &[
+            Phrase::Words(start_if(!begun)),
+            Phrase::Number(u64::from(shown)),
+            Phrase::Words(b" "),
+            Phrase::Words(value),
+            Phrase::Words(b"\r\n"),
+        ],
+        out,
+    )
+}
+
+/// Returns the first line of the reply if it is wanted, and else nothing.
+fn start_if(wanted: bool) -> &'static [u8]
+    ensures { result.now ≡ start_if_of wanted }
+{
+    if wanted {
+        b"225 headers follow\r\n"
+    } else {
+        b""
+    }
+}
+
+/// Reads the value of a field of a live message: the flat one of the first field with the name, or
+/// an empty one.
+fn read_value<S: Shelf>(
+    name: &[u8],
+    number: u32,
+    alloc: Global,
+    shelf: &mut S,
+) -> Result<Bytes, TextRefusal>
+    requires ready { S.ready shelf.old ≡ true }
+    requires live { (a : Archive) → S.holds shelf.old a
+        → is_some (text_of (live a.entries) number) ≡ true }
+    ensures value { (a : Archive) → S.holds shelf.old a
+        → ReadsValue name.now (text_of (live a.entries) number) result }
+    ensures shelf { Stays S.holds S.ready S.alike S.faults shelf.old shelf.new }
+    ensures cause { ReadCause (S.faults shelf.old) (S.faults shelf.new) result }
+{
+    let mut text = Bytes::new(alloc);
+    match shelf.text(number, &mut text) {
+        Ok(()) => match flat_first(alloc, text.as_slice(), name) {
+            Ok(value) => Ok(value),
+            Err(NoMemory) => Err(TextRefusal::NoMemory),
+        },
+        Err(refusal) => Err(refusal),
+    }
+}

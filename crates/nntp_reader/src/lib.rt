@@ -1,0 +1,25 @@
+//! The door of readers of news (RFC 3977): a session reads one archive, as one group.
+#![tactic(auto)]
+
+mod answers;
+mod articles;
+mod choice;
+mod fact;
+mod field;
+mod grammar;
+mod group;
+mod header;
+mod laws;
+mod lists;
+mod moments;
+mod notice;
+mod order;
+mod ranges;
+mod session;
+mod unread;
+mod verb;
+mod words;
+
+pub use group::Group;
+pub use laws::cut_laws;
+pub use session::NntpSession;

@@ -1,0 +1,200 @@
+//! A reader's connection: its group, the bytes that are not answered yet, and the answer to a piece.
+ghost use Rattle.std.specs.Prelude.{◌≡◌, ◌≤◌, ◌+◌, ◌<◌, ◌++◌, ℕ, List, [], length, Some, true, false, if◌then◌else◌};
+ghost use Rattle.arch_base.specs.Moments.{last_moment};
+ghost use Rattle.line_door.specs.Acts.{outside, Acts, held_if};
+ghost use Rattle.line_door.specs.Clipped.{longest_line};
+ghost use Rattle.line_door.specs.Course.{talk, Fed};
+ghost use Rattle.line_door.specs.Lines.{content};
+ghost use Rattle.line_door.specs.Skipping.{skipping_front, Unended};
+ghost use Rattle.arch_model.specs.Archives.{Archive};
+ghost use Rattle.arch_model.specs.Next.{continues};
+ghost use Rattle.arch_model.specs.Shelves.{Stays};
+ghost use Rattle.nntp_reader.specs.Commands.{command_of};
+ghost use Rattle.nntp_reader.specs.Dates.{year_at};
+ghost use Rattle.nntp_reader.specs.Door.{reader, new_reader, greeting, said, said_to, has_request, with_piece};
+
+use crate::answers::say_order;
+use crate::grammar::read_order;
+use crate::group::Group;
+use crate::moments::year_of;
+use crate::notice::{Notice, say_notice};
+use arch_model::{Next, Shelf};
+use edge_io::Sink;
+use line_door::{HeldLine, Passage, line_content};
+use std::alloc::Global;
+use std::marker::Model;
+
+/// The result of one act on the bytes at the front.
+#[derive(Clone, Copy, Drop)]
+pub(crate) enum Turn {
+    /// A line that took this many bytes of the piece was answered, and the session continues.
+    Went(usize),
+    /// The piece was kept.
+    Kept,
+    /// The session is closed.
+    Closed,
+}
+
+/// A session of a reader.
+///
+/// A contract sees it as its group and the bytes that are not answered yet. Of a line that has not
+/// ended it holds the first 512 octets, since a line with more is too long whatever follows.
+#[derive(Drop)]
+pub struct NntpSession {
+    alloc: Global,
+    group: Group,
+    held: HeldLine,
+}
+
+impl Model for NntpSession {
+    ghost use Rattle.nntp_reader.specs.Door.{Reader, reader};
+
+    ghost Value = { Reader };
+
+    ghost view = { λ s. reader s.group s.held };
+}
+
+impl NntpSession {
+    ghost use Rattle.nntp_reader.specs.Sessions.{IsTurn, Takes};
+
+    /// Opens a session without a group, and says the greeting. Returns whether the session
+    /// continues.
+    ///
+    /// Allocates nothing. The session is closed if the greeting is lost.
+    pub fn open<O: Sink>(alloc: Global, out: &mut O) -> (NntpSession, Next)
+        ensures greeted { (a : Archive) (disk : ℕ) → Acts (greeting a)
+            (outside (O.taken out.old) disk (O.faults out.old))
+            (held_if (continues result.1) result.0) a
+            (outside (O.taken out.new) disk (O.faults out.new)) }
+        ensures session { result.0 ≡ new_reader }
+        ensures sink { O.alike out.old out.new }
+    {
+        let session = NntpSession {
+            alloc,
+            group: Group::Unselected,
+            held: HeldLine::new(),
+        };
+        let next = Next::after(say_notice(Notice::Welcome, out));
+        (session, next)
+    }
+
+    /// Answers the whole lines of a piece in order, and keeps the rest. Returns whether the session
+    /// continues.
+    ///
+    /// `moment` is in seconds since 1970 UTC. The archive stays, and the shelf is ready after the
+    /// call as before it. A line ends with a line feed, and one carriage return before it is
+    /// dropped. A line of more than 512 octets with its end is answered by `501 syntax` when it
+    /// ends.
+    ///
+    /// The session ends, and the remaining bytes are dropped:
+    ///
+    /// * at QUIT, which says `205 bye`;
+    /// * if HDR of a field over a range stops after some values, because memory ran out or the disk
+    ///   failed;
+    /// * if a send is lost. A prefix of the words was taken, and the sink's count of faults rose.
+    ///
+    /// The contract then says nothing of what the session holds.
+    ///
+    /// ARTICLE, HEAD, BODY and HDR of a field say `403 out of memory` if an allocation fails, and
+    /// `403 disk fault` if the disk fails; the shelf's count of faults rose exactly then. The group
+    /// stays, and the session continues. Other commands read no text, and need neither.
+    pub fn feed<S: Shelf, O: Sink>(
+        &mut self,
+        piece: &[u8],
+        moment: u64,
+        shelf: &mut S,
+        out: &mut O,
+    ) -> Next
+        requires ready { S.ready shelf.old ≡ true }
+        requires moment { moment ≤ last_moment }
+        ensures fed { (a : Archive) → S.holds shelf.old a → Fed (said moment) has_request
+            (talk (Some (with_piece piece.now self.old)) a
+            (outside (O.taken out.old) (S.faults shelf.old) (O.faults out.old)))
+            (talk (held_if (continues result) self.new) a
+            (outside (O.taken out.new) (S.faults shelf.new) (O.faults out.new))) }
+        ensures rest { continues result ≡ true → has_request self.new ≡ false }
+        ensures shelf { Stays S.holds S.ready S.alike S.faults shelf.old shelf.new }
+        ensures sink { O.alike out.old out.new }
+    {
+        let mut rest = piece;
+        loop {
+            match self.act(rest, moment, shelf, out) {
+                Turn::Went(taken) => rest = rest.split_at(taken).1,
+                Turn::Kept => return Next::Go,
+                Turn::Closed => return Next::Close,
+            }
+        }
+    }
+
+    /// Does one act on the bytes at the front.
+    fn act<S: Shelf, O: Sink>(
+        &mut self,
+        piece: &[u8],
+        moment: u64,
+        shelf: &mut S,
+        out: &mut O,
+    ) -> Turn
+        requires ready { S.ready shelf.old ≡ true }
+        requires moment { moment ≤ last_moment }
+        ensures turn { (a : Archive) → S.holds shelf.old a → IsTurn moment a self.old piece.now
+            (outside (O.taken out.old) (S.faults shelf.old) (O.faults out.old)) result self.new
+            (outside (O.taken out.new) (S.faults shelf.new) (O.faults out.new)) }
+        ensures takes { Takes piece.now result self.new }
+        ensures shelf { Stays S.holds S.ready S.alike S.faults shelf.old shelf.new }
+        ensures sink { O.alike out.old out.new }
+    {
+        match self.held.next(piece) {
+            Passage::Line(end) => {
+                let line = piece.split_at(end).0;
+                went(end + 1, self.answer(line, moment, shelf, out))
+            }
+            Passage::Skipped(end) => {
+                self.held.clear();
+                went(end + 1, Next::after(say_notice(Notice::Syntax, out)))
+            }
+            Passage::More => {
+                self.held.hold(piece);
+                Turn::Kept
+            }
+        }
+    }
+
+    /// Answers a line, the first part of which is held, and holds no bytes after it.
+    fn answer<S: Shelf, O: Sink>(
+        &mut self,
+        line: &[u8],
+        moment: u64,
+        shelf: &mut S,
+        out: &mut O,
+    ) -> Next
+        requires ready { S.ready shelf.old ≡ true }
+        requires moment { moment ≤ last_moment }
+        requires part { skipping_front longest_line (self.old.bytes ++ line.now) ≡ Unended }
+        requires short { length self.old.bytes + length line.now < longest_line }
+        ensures acts { (a : Archive) (rest : List ℕ) → S.holds shelf.old a
+            → Acts (said_to moment a self.old.group
+            (command_of (year_at moment) (content (self.old.bytes ++ line.now))) rest)
+            (outside (O.taken out.old) (S.faults shelf.old) (O.faults out.old))
+            (held_if (continues result) (reader self.new.group rest)) a
+            (outside (O.taken out.new) (S.faults shelf.new) (O.faults out.new)) }
+        ensures empty { self.new.bytes ≡ [] }
+        ensures shelf { Stays S.holds S.ready S.alike S.faults shelf.old shelf.new }
+        ensures sink { O.alike out.old out.new }
+    {
+        self.held.hold(line);
+        let order = read_order(year_of(moment), line_content(self.held.as_slice()));
+        let next = say_order(order, moment, self.alloc, &mut self.group, shelf, out);
+        self.held.clear();
+        next
+    }
+}
+
+/// Continues after a line that took `taken` bytes of the piece, or closes.
+fn went(taken: usize, next: Next) -> Turn
+    ensures { result ≡ (if continues next then Turn.Went taken else Turn.Closed) }
+{
+    match next {
+        Next::Go => Turn::Went(taken),
+        Next::Close => Turn::Closed,
+    }
+}

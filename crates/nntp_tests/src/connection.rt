@@ -1,0 +1,147 @@
+//! A reader's connection to an archive in memory.
+ghost use Rattle.std.specs.Prelude.{IfSome};
+ghost use Rattle.arch_base.specs.Configs.{IsConfig};
+
+use arch_base::{Config, Name, Numbers};
+use arch_model::{Answer, Command, Keep, Next};
+use edge_io::MemSink;
+use mem_archive::MemArchive;
+use nntp_reader::NntpSession;
+use std::alloc::Global;
+
+/// When the tests read: 2024-02-01 10:01:40 UTC.
+pub const MOMENT: u64 = 1_706_781_700;
+
+/// The first message, which arrives at 09:50:00.
+const FIRST: &[u8] =
+    b"Subject: first\nFrom: Ann <ann@x>\nDate: Thu, 1 Feb 2024 09:50:00 +0000\nMessage-ID: <a@x>\n\none\n.two\n";
+
+/// The second message, which arrives at 09:51:40 and is removed.
+const SECOND: &[u8] = b"Subject: gone\nMessage-ID: <b@x>\n\nbye\n";
+
+/// The third message, which arrives at 09:53:20.
+const THIRD: &[u8] =
+    b"Subject: [PATCH 1/2] fix\n\tthe build\nFrom: Bo <bo@x>\nMessage-ID: <c@x>\nReferences: <a@x>\n <b@x>\n.Odd: dot\n\n..\nlast\n";
+
+/// A connection with an archive of its own.
+#[derive(Drop)]
+pub struct Connection {
+    session: NntpSession,
+    archive: MemArchive,
+    out: MemSink,
+    next: Next,
+}
+
+impl Connection {
+    /// Opens a connection to an archive.
+    fn to(alloc: Global, archive: MemArchive) -> Self {
+        let mut out = MemSink::new(alloc, Numbers::new(alloc));
+        let (session, next) = NntpSession::open(alloc, &mut out);
+        Connection {
+            session,
+            archive,
+            out,
+            next,
+        }
+    }
+
+    /// Opens a connection to an archive without messages.
+    pub fn to_empty(alloc: Global) -> Option<Self> {
+        Some(Connection::to(alloc, empty(alloc)?))
+    }
+
+    /// Opens a connection to an archive whose live numbers are 1 and 3.
+    pub fn to_two(alloc: Global) -> Option<Self> {
+        Some(Connection::to(alloc, two(alloc)?))
+    }
+
+    /// Removes the message with a number.
+    pub fn remove(&mut self, number: u32) -> bool {
+        is_ok(Keep::command(&mut self.archive, &Command::Remove(number), MOMENT))
+    }
+
+    /// Feeds a piece if the connection is still open.
+    pub fn hear(&mut self, piece: &[u8]) {
+        if self.next == Next::Go {
+            self.next = self
+                .session
+                .feed(piece, MOMENT, &mut self.archive, &mut self.out);
+        }
+    }
+
+    /// Returns the number of bytes that were said.
+    pub fn said(&self) -> usize {
+        self.out.taken().len()
+    }
+
+    /// Returns whether these lines, and no others, were said after the first bytes, and the
+    /// connection then continues or is closed, as `next` says.
+    pub fn has_said(&self, after: usize, lines: &[&[u8]], next: Next) -> bool {
+        are_lines(&self.out.taken()[after.min(self.said())..], lines) && self.next == next
+    }
+}
+
+/// Returns whether bytes are these lines, each with a carriage return and a line feed.
+pub fn are_lines(bytes: &[u8], lines: &[&[u8]]) -> bool {
+    let mut rest = bytes;
+    for line in lines {
+        match after_line(rest, line) {
+            Some(after) => rest = after,
+            None => return false,
+        }
+    }
+    rest.is_empty()
+}
+
+/// Returns the bytes after a line, if they start with it.
+fn after_line<'a>(bytes: &'a [u8], line: &[u8]) -> Option<&'a [u8]> {
+    bytes.strip_prefix(line)?.strip_prefix(b"\r\n")
+}
+
+/// Returns the settings of an archive of this name, created at 2024-02-01 09:33:20 UTC.
+fn config(name: Name) -> Config
+    ensures { IsConfig result }
+{
+    Config {
+        name,
+        limit: 1_073_741_824,
+        slice: 50_000,
+        max: 2_147_483_647,
+        mirror: false,
+        born: 1_706_780_000,
+    }
+}
+
+/// Returns the settings of an archive of the name `list`.
+pub fn list_config() -> Option<Config>
+    ensures { IfSome result (λ made. IsConfig made) }
+{
+    Some(config(Name::read(b"list")?))
+}
+
+/// Creates an archive without messages.
+fn empty(alloc: Global) -> Option<MemArchive> {
+    Some(MemArchive::new(alloc, list_config()?))
+}
+
+/// Creates an archive of three messages, of which the second is removed.
+pub fn two(alloc: Global) -> Option<MemArchive> {
+    let mut archive = empty(alloc)?;
+    if !fill(&mut archive) {
+        return None;
+    }
+    Some(archive)
+}
+
+/// Delivers three messages and removes the second, and returns whether all that was carried out.
+pub fn fill<K: Keep>(keep: &mut K) -> bool {
+    is_ok(keep.command(&Command::Deliver(FIRST), 1_706_781_000))
+        && is_ok(keep.command(&Command::Deliver(SECOND), 1_706_781_100))
+        && is_ok(keep.command(&Command::Deliver(THIRD), 1_706_781_200))
+        && is_ok(keep.command(&Command::Remove(2), 1_706_781_300))
+}
+
+/// Returns whether a command was carried out.
+fn is_ok(answer: Answer) -> bool {
+    matches!(answer, Answer::Ok { .. })
+}
