@@ -22,7 +22,6 @@ use Rattle.arch_model.specs.declared.text_refusal.TextRefusal.{TextRefusal}
 use Rattle.arch_model.specs.declared.text_refusal.TextRefusal.TheVariants as reading
 use Rattle.arch_model.proofs.Keepers.{has-own, moves-stale, moves-on, comes-by, unopened-comes, unopened-ready, unopened-cause}
 use Rattle.epoch_store.specs.Files.{as_read}
-use Rattle.epoch_store.specs.declared.entries.StoredEntry.{StoredEntry}
 use Rattle.epoch_store.specs.Laws.{CachesOne}
 use Rattle.epoch_store.specs.Leaving.{disk_recovers}
 use Rattle.epoch_store.specs.Opens.{RecoversOfWith, AllRecoverWith, ReadsWith, IsWant}
@@ -31,7 +30,7 @@ use Rattle.epoch_store.specs.Recovery.{RecoversWith, RecoversSomeWith}
 use Rattle.epoch_store.specs.Stores.{View, Keeps, IsStoreWith, RecoversEitherWith}
 use Rattle.archive_core.specs.Commands.{DoneBy, OnRefusal, UnlessFault, IfUnread, OnlyLooks}
 use Rattle.archive_core.specs.Engines.{Owning, needs_opening, Holds, RowsKeepUp, IfRefused, is_ready, Leaves, ReadsOn, reading-same, store-left, now-left, reading-kept}
-use Rattle.archive_core.specs.Numbers.{GivesKept, GivesTextKept, GivesBlobKept, TellsOther}
+use Rattle.archive_core.specs.Numbers.{GivesBlobKept, TellsOther}
 use Rattle.archive_core.specs.Walks.{RowsAfter}
 use Rattle.archive_core.proofs.Standing.{store_keeps}
 
@@ -399,9 +398,6 @@ module _ {D : Type 0} (content : D → Option Content) (moment : D → ℕ) (lef
 
     pub cause-from : {T : Type 0} (faults : D → ℕ) (disk : D) (r : Result T TextRefusal) → RoseIf (r ≡ Err reading.DiskFault) (faults inside.disk) (faults disk) → TellsOther r → ReadCause (faults old.disk) (faults disk) r
     cause-from faults disk r rose other = subst (λ (o : Owning D). ReadCause (faults o.disk) (faults disk) r) is (read-cause (faults inside.disk) (faults disk) r rose other)
-
-    pub ids-from : (meets : StoredEntry → Type 0) (had has : List ℕ) (r : Result Unit TextRefusal) → GivesKept meets inside.view (content inside.disk) had has r → GivesKept meets old.view (content old.disk) had has r
-    ids-from meets had has r kept = subst (λ (o : Owning D). GivesKept meets o.view (content o.disk) had has r) is kept
 
     pub blob-ids-from : (id : Id20) (had has : List ℕ) (r : Result Bool TextRefusal) → GivesBlobKept inside.view (content inside.disk) id had has r → GivesBlobKept old.view (content old.disk) id had has r
     blob-ids-from id had has r kept = subst (λ (o : Owning D). GivesBlobKept o.view (content o.disk) id had has r) is kept
