@@ -46,6 +46,12 @@ fn id_is<K: Keep>(keep: &mut K, id: &[u8], wanted: Option<u32>) -> Result<bool, 
     Ok(keep.by_id(id) == wanted)
 }
 
+/// Returns whether a number has a row.
+fn has_row<K: Keep>(keep: &mut K, n: u32) -> Result<bool, OpenRefusal> {
+    keep.fresh()?;
+    Ok(keep.row(n).is_some())
+}
+
 /// Returns whether the row of the first mail says what the mail does.
 fn first_row_is_right<K: Keep>(keep: &mut K) -> Result<bool, OpenRefusal> {
     keep.fresh()?;
@@ -89,7 +95,7 @@ fn follows_removals<K: Keep>(keep: &mut K) -> Result<bool, Fail> {
     let _ = answer(keep, &Command::Remove(2), LATER)?;
     let ready = !keep.is_stale();
     let rest = page_is(keep, 0, 9, &[4, 3])?;
-    let lost = id_is(keep, b"<a@x>", None)? && keep.row(1).is_none();
+    let lost = id_is(keep, b"<a@x>", None)? && !has_row(keep, 1)?;
     let again = answer(keep, &Command::Deliver(FIRST), LATER)?;
     let new = page_is(keep, 0, 9, &[4, 5, 3])? && id_is(keep, b"<a@x>", Some(5))?;
     let answered = Some(gone) == accepted(1, FIRST_ID) && Some(again) == accepted(5, FIRST_ID);
@@ -129,6 +135,7 @@ fn rows_are_the_same_after_a_reopening(rt: HostRuntime) -> Result<(), Fail> {
     let mut engine = reopened(rt.alloc())?;
     assert!(rt; page_is(&mut engine, 0, 9, &[4, 5, 3])?);
     assert!(rt; id_is(&mut engine, b"<a@x>", Some(5))?);
-    assert!(rt; engine.row(2).is_none() && engine.message_count() == 3);
+    assert!(rt; !has_row(&mut engine, 2)? && has_row(&mut engine, 3)?);
+    assert!(rt; engine.message_count() == 3);
     Ok(())
 }
