@@ -77,7 +77,8 @@ impl Connection {
     /// Returns whether these lines, and no others, were said after the first bytes, and the
     /// connection then continues or is closed, as `next` says.
     pub fn has_said(&self, after: usize, lines: &[&[u8]], next: Next) -> bool {
-        are_lines(&self.out.taken()[after.min(self.said())..], lines) && self.next == next
+        let said = self.out.taken();
+        are_lines(&said[after.min(said.len())..], lines) && self.next == next
     }
 }
 

@@ -107,7 +107,7 @@ fn kept(alloc: Global, passes: u64) -> Option<Kept> {
 fn kept_with(alloc: Global, more: u64) -> Option<Kept> {
     for passes in 0..MOST_CALLS {
         if kept(alloc, passes).is_some() {
-            return kept(alloc, passes + more);
+            return kept(alloc, passes.saturating_add(more));
         }
     }
     None
@@ -149,7 +149,7 @@ static SENT: [&[u8]; 4] = [
 /// Returns whether a connection that loses one of four lines has the lines before it, and is closed.
 fn is_closed(alloc: Global, lost: usize) -> Result<bool, Fail> {
     let mut faults = Numbers::new(alloc);
-    faults.push(lost as u64 + 1)?;
+    faults.push((lost as u64).saturating_add(1))?;
     let mut out = MemSink::new(alloc, faults);
     let mut archive = two(alloc).ok_or("no archive")?;
     let (mut session, greeted) = NntpSession::open(alloc, &mut out);
