@@ -166,7 +166,8 @@ fn long_line_is_answered(alloc: Global, len: usize, at: usize, wanted: &[u8]) ->
     stream[len - 1] = b'\n';
     stream[len..len + 5].copy_from_slice(b"DATE\n");
     let mut connection = Connection::to_two(alloc)?;
-    let (front, back) = stream[..len + 5].split_at(at.min(len + 5));
+    let whole = stream.get(..len + 5)?;
+    let (front, back) = whole.split_at(at.min(whole.len()));
     connection.hear(front);
     connection.hear(back);
     Some(connection.has_said(GREETING, &[wanted, b"111 20240201100140"], Next::Go))
