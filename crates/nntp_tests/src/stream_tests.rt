@@ -1,5 +1,6 @@
 //! Streams worked out by hand, each fed whole, byte by byte, and cut in two at every offset.
 use crate::connection::Connection;
+use arch_base::Bytes;
 use arch_model::Next;
 use nntp_reader::cut_laws;
 use std::alloc::Global;
@@ -156,18 +157,23 @@ fn streams_are_answered_however_they_are_cut(rt: HostRuntime) {
     }
 }
 
+/// Returns a line of `len` octets with its line feed, and DATE after it.
+fn long_line(alloc: Global, len: usize) -> Option<Bytes> {
+    let mut stream = Bytes::new(alloc);
+    for _ in 1..len {
+        stream.push(b'a').ok()?;
+    }
+    stream.push_slice(b"\nDATE\n").ok()?;
+    Some(stream)
+}
+
 /// Returns whether a line of `len` octets with its line feed, cut in two at an offset, gets this
 /// line, and DATE after it is answered.
 fn long_line_is_answered(alloc: Global, len: usize, at: usize, wanted: &[u8]) -> Option<bool> {
-    let mut stream = [b'a'; 1300];
-    if len == 0 || len > 1200 {
-        return Some(false);
-    }
-    stream[len - 1] = b'\n';
-    stream[len..len + 5].copy_from_slice(b"DATE\n");
+    let stream = long_line(alloc, len)?;
     let mut connection = Connection::to_two(alloc)?;
-    let whole = stream.get(..len + 5)?;
-    let (front, back) = whole.split_at(at.min(whole.len()));
+    let bytes = stream.as_slice();
+    let (front, back) = bytes.split_at(at.min(bytes.len()));
     connection.hear(front);
     connection.hear(back);
     Some(connection.has_said(GREETING, &[wanted, b"111 20240201100140"], Next::Go))
