@@ -1,0 +1,112 @@
+-- The acts of the code are acts of a session.
+use Rattle.std.specs.Prelude.{◌≡◌, ◌<◌, ◌≤◌, ℕ, Bool, true, false, List, ◌++◌, length, take, drop, reverse, Option, Some, None, Result, Ok, Err}
+use Rattle.line_door.specs.Acts.{Outside, Acts, held_if}
+use Rattle.line_door.specs.Course.{talk, Fed}
+use Rattle.arch_model.specs.Archives.{Archive}
+use Rattle.arch_model.specs.Shelves.{IsUndamaged}
+use Rattle.arch_model.specs.Rows.{row_in}
+use Rattle.arch_model.specs.declared.text_refusal.TextRefusal.{TextRefusal}
+use Rattle.arch_model.specs.declared.text_refusal.TextRefusal.TheVariants as refusal
+use Rattle.http_heads.specs.Heads.{Asked}
+use Rattle.http_heads.specs.declared.reply.Body.TheVariants.{Mailbox}
+use Rattle.http_front.specs.Views.{shown_text}
+use Rattle.http_front.specs.Threads.{thread_rows, oldest_first}
+use Rattle.http_front.specs.Asking.{Reading, IsReading, Found, Gives, Streams, Missing, message_found, text_found, thread_found, feed_found, feed_len}
+use Rattle.http_front.specs.Door.{said, said_head, said_asked, has_request}
+use Rattle.http_front.specs.Mailboxes.{mailbox_at, whole_mailbox}
+use Rattle.http_front.specs.declared.session.Turn.{Turn}
+use Rattle.http_front.specs.declared.session.Turn.TheVariants.{Went, Kept, Closed}
+use Rattle.http_front.specs.declared.found.Held.{Held}
+use Rattle.http_front.specs.declared.found.Held.TheVariants as held
+use Rattle.http_front.specs.declared.found.Form.{Form}
+use Rattle.http_front.specs.declared.found.Form.TheVariants as form
+
+-- One act on the bytes at the front: a request that took `n` bytes of the piece and left the session
+-- open, or the keeping of the piece, or the close.
+abbrev pub IsTurn : Reading → ℕ → Archive → List ℕ → List ℕ → Outside → Turn → List ℕ → Outside
+    → Type 0
+IsTurn reading moment a old piece i (Went n) new j =
+    (has_request (old ++ piece) ≡ true)
+    × Acts (said reading moment a (old ++ piece)) i (Some (new ++ drop n piece)) a j
+IsTurn reading moment a old piece i Kept new j =
+    (has_request (old ++ piece) ≡ false) × (j.disk ≡ i.disk)
+    × Acts (said reading moment a (old ++ piece)) i (Some new) a j
+IsTurn reading moment a old piece i Closed new j =
+    Acts (said reading moment a (old ++ piece)) i None a j
+
+-- A request takes bytes of the piece.
+abbrev pub Takes : List ℕ → Turn → Type 0
+Takes piece (Went n) = (0 < n) × (n ≤ length piece)
+Takes piece Kept = Unit {0}
+Takes piece Closed = Unit {0}
+
+-- What was found under a target, as the code has it: the body, or the numbers of a mailbox file.
+abbrev pub IsHeldFor : Archive → Found → Held → Type 0
+IsHeldFor a found (held.Whole body bytes) = found ≡ Gives body bytes
+IsHeldFor a found held.EveryMail = found ≡ Streams Mailbox (whole_mailbox a.entries)
+IsHeldFor a found (held.Mails numbers) = found ≡ Streams Mailbox (mailbox_at a.entries numbers)
+IsHeldFor a found held.Nothing = found ≡ Missing
+
+-- What stands under a target was found, or memory ran out; or the disk failed, where texts are read.
+abbrev pub Finds : Archive → Found → Bool → Result Held TextRefusal → Type 0
+Finds a found reads (Ok held) = IsHeldFor a found held
+Finds a found reads (Err refusal.DiskFault) = reads ≡ true
+Finds a found reads (Err (refusal.Damaged named found')) = ⊥
+Finds a found reads (Err refusal.NoMemory) = Unit {0}
+
+-- A page, a text or a feed was made, or there is none; or memory ran out, or the disk failed.
+abbrev pub Makes : Found → Result Held TextRefusal → Type 0
+Makes found (Ok (held.Whole body bytes)) = found ≡ Gives body bytes
+Makes found (Ok held.Nothing) = found ≡ Missing
+Makes found (Ok held.EveryMail) = ⊥
+Makes found (Ok (held.Mails numbers)) = ⊥
+Makes found (Err refusal) = IsUndamaged refusal
+
+-- What is found of a live number, by the form in which it is asked for.
+abbrev pub form_found : Reading → Archive → Form → ℕ → Found
+form_found reading a form.Message n = message_found a (row_in a.entries n) (shown_text a.entries n)
+form_found reading a form.Text n = text_found (shown_text a.entries n)
+form_found reading a form.Thread n = thread_found reading a n (row_in a.entries n)
+form_found reading a form.Feed n =
+    feed_found a (take feed_len (reverse (oldest_first (thread_rows a.entries n))))
+form_found reading a form.Mailbox n =
+    Streams Mailbox (mailbox_at a.entries (oldest_first (thread_rows a.entries n)))
+
+-- Texts are read for a form.
+abbrev pub form_reads : Form → Bool
+form_reads form.Message = true
+form_reads form.Text = true
+form_reads form.Thread = false
+form_reads form.Feed = true
+form_reads form.Mailbox = true
+
+-- A shelf: the archives that it holds.
+module _ {S : Type 0} (holds : S → Archive → Type 0) where
+  -- Whichever archive is held, this was found.
+  abbrev pub FindsIn : (Reading → Archive → Found) → (Archive → Bool) → S → Result Held TextRefusal
+      → Type 0
+  FindsIn found reads shelf result = (reading : Reading) → IsReading reading → (a : Archive)
+      → holds shelf a → Finds a (found reading a) (reads a) result
+
+  -- Whichever archive is held and whatever follows, a head is answered.
+  abbrev pub AnswersHead : ℕ → List ℕ → S → Outside → Bool → Outside → Type 0
+  AnswersHead moment head shelf i goes_on j = (reading : Reading) → IsReading reading
+      → (a : Archive) (rest : List ℕ) → holds shelf a
+      → Acts (said_head reading moment a (reading.reads head) rest) i (held_if goes_on rest) a j
+
+  -- Whichever archive is held and whatever follows, a request is served.
+  abbrev pub Serves : ℕ → Asked → Bool → S → Outside → Bool → Outside → Type 0
+  Serves moment asked sends shelf i goes_on j = (reading : Reading) → IsReading reading
+      → (a : Archive) (rest : List ℕ) → holds shelf a
+      → Acts (said_asked reading moment a asked sends rest) i (held_if goes_on rest) a j
+
+  -- Whichever archive is held, one act is done.
+  abbrev pub Turns : ℕ → List ℕ → List ℕ → S → Outside → Turn → List ℕ → Outside → Type 0
+  Turns moment old piece shelf i turn new j = (reading : Reading) → IsReading reading
+      → (a : Archive) → holds shelf a → IsTurn reading moment a old piece i turn new j
+
+  -- Whichever archive is held, these bytes of a session are answered by a course.
+  abbrev pub Feeds : ℕ → List ℕ → S → Outside → Bool → List ℕ → Outside → Type 0
+  Feeds moment bytes shelf i goes_on left j = (reading : Reading) → IsReading reading
+      → (a : Archive) → holds shelf a → Fed (said reading moment) has_request
+      (talk (Some bytes) a i) (talk (held_if goes_on left) a j)

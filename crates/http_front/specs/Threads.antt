@@ -1,0 +1,79 @@
+-- The thread of a mail: its mails by date, and its tree.
+use Rattle.std.specs.Prelude.{◌≡◌, ℕ, List, [], ◌∷◌, ◌++◌, map, reverse, codes, if◌then◌else◌}
+use Rattle.std.specs.List.{flat_map}
+use Rattle.std.specs.declared.cmp.Ordering.{Ordering}
+use Rattle.std.specs.Ordering.{nat_cmp, ordering_then}
+use Rattle.std.specs.BTreeSet.{insert_key}
+use Rattle.arch_model.specs.Archives.{Entry}
+use Rattle.arch_model.specs.Rows.{thread_in}
+use Rattle.html_pages.specs.Lines.{row_line, indent}
+use Rattle.html_pages.specs.Pages.{page_of}
+use Rattle.mail_rows.specs.declared.row.Row.{Row}
+use Rattle.thread_tree.specs.Trees.{Prints, roots, names_id}
+use Rattle.thread_tree.specs.declared.twigs.Twig.{Twig}
+use Rattle.thread_tree.specs.declared.lines.Line.{Line}
+use Rattle.thread_tree.specs.declared.lines.Who.{Who}
+use Rattle.thread_tree.specs.declared.lines.Who.TheVariants.{Live, Ghost}
+use Rattle.web_text.specs.Escapes.{escaped, title_of}
+use Rattle.http_front.specs.Views.{row_at, rows_at}
+
+-- A mail's place among others: the seconds of its date, and then its number.
+abbrev pub Place : Type 0
+Place = ℕ × ℕ
+
+abbrev pub place_of : Row → Place
+place_of row = (row.date.secs, row.number)
+
+-- The order of dates.
+abbrev pub place_cmp : Place → Place → Ordering
+place_cmp a b = ordering_then (nat_cmp a.0 b.0) (nat_cmp a.1 b.1)
+
+-- Places put one after the other where they belong.
+abbrev pub put_places : List Place → List Row → List Place
+put_places done [] = done
+put_places done (row ∷ rows) = put_places (insert_key place_cmp done (place_of row)) rows
+
+-- The number of a place.
+abbrev pub number_at : Place → ℕ
+number_at place = place.1
+
+-- The numbers of rows by date and then by number, both rising.
+unfoldable pub oldest_first : List Row → List ℕ
+oldest_first rows = map number_at (put_places [] rows)
+
+-- The rows of the thread of a number.
+abbrev pub thread_rows : List Entry → ℕ → List Row
+thread_rows entries n = rows_at entries (thread_in entries n)
+
+-- The mail of a row in a tree.
+abbrev pub twig_of : Row → Twig
+twig_of row = record { number = row.number; id = row.id; refs = row.refs; secs = row.date.secs }
+
+-- One more mail of a tree. No two mails of an archive have the same id; of two that had, the first
+-- would stay.
+abbrev pub with_twig : List Twig → Twig → List Twig
+with_twig twigs twig = if names_id twigs twig.id then twigs else twigs ++ twig ∷ []
+
+-- The mails of these rows in a tree.
+abbrev pub twigs_after : List Twig → List Row → List Twig
+twigs_after twigs [] = twigs
+twigs_after twigs (row ∷ rows) = twigs_after (with_twig twigs (twig_of row)) rows
+
+-- A line of a page: the mail of a number, or the id of a mail that the archive doesn't have.
+abbrev pub who_line : List ℕ → List Entry → Who → List ℕ
+who_line name entries (Live n) = flat_map (row_line name) (row_at entries n)
+who_line name entries (Ghost id) = codes "[not found] " ++ escaped id ++ codes "\n"
+
+abbrev pub tree_line : List ℕ → List Entry → Line → List ℕ
+tree_line name entries line = indent line.depth ++ who_line name entries line.who
+
+-- The page of a thread by the lines of its tree. Its title is the subject of the row that was asked
+-- for.
+unfoldable pub tree_page : List ℕ → List Entry → Row → List Line → List ℕ
+tree_page name entries row lines =
+    page_of (title_of row.subject) (flat_map (tree_line name entries) lines)
+
+-- A function of mails gives the lines of their tree, wherever there are such lines.
+abbrev pub LaysTrees : (List Twig → List Line) → Type 0
+LaysTrees lays = (twigs : List Twig) (lines : List Line) → Prints twigs 0 (roots twigs) lines
+    → lays twigs ≡ lines
