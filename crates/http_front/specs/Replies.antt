@@ -1,12 +1,10 @@
 -- Whole replies (RFC 9112, section 4).
-use Rattle.std.specs.Prelude.{ℕ, Bool, true, false, List, [], ◌∷◌, ◌++◌, length, codes, if◌then◌else◌}
+use Rattle.std.specs.Prelude.{ℕ, Bool, true, List, [], ◌∷◌, ◌++◌, length, codes, if◌then◌else◌}
 use Rattle.hex.specs.Hex.{encode_lower}
 use Rattle.std.specs.Fmt.{decimal}
 use Rattle.arch_model.specs.Delivery.{file_words}
 use Rattle.arch_model.specs.declared.opening.OpenRefusal.{OpenRefusal}
 use Rattle.arch_model.specs.declared.opening.OpenRefusal.TheVariants as opening
-use Rattle.arch_model.specs.declared.text_refusal.TextRefusal.{TextRefusal}
-use Rattle.arch_model.specs.declared.text_refusal.TextRefusal.TheVariants as reading
 use Rattle.http_heads.specs.Replies.{reply_head}
 use Rattle.http_heads.specs.declared.reply.Body.{Body}
 use Rattle.http_heads.specs.declared.reply.Body.TheVariants.{Words}
@@ -48,13 +46,6 @@ word status moment sends closes = word_of status (status_line status) moment sen
 -- The line of a damaged text: its id, and the id of what was found.
 abbrev pub damaged_line : List ℕ → List ℕ → List ℕ
 damaged_line named found = line (codes "damaged " ++ encode_lower named ++ codes " " ++ encode_lower found)
-
--- Why a text was not read. The connection is closed.
-abbrev pub unread_word : TextRefusal → ℕ → Bool → List ℕ
-unread_word reading.DiskFault moment sends = word ServerError moment sends true
-unread_word (reading.Damaged named found) moment sends =
-    word_of ServerError (damaged_line named.0 found.0) moment sends true
-unread_word reading.NoMemory moment sends = word Unavailable moment sends true
 
 -- The line of a damaged file: its name, and the offset of the damage.
 abbrev pub file_line : List ℕ → ℕ → List ℕ

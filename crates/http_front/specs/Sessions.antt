@@ -1,5 +1,5 @@
 -- The acts of the code are acts of a session.
-use Rattle.std.specs.Prelude.{◌≡◌, ◌<◌, ◌≤◌, ℕ, Bool, true, false, List, ◌++◌, length, take, drop, reverse, Option, Some, None, Result, Ok, Err}
+use Rattle.std.specs.Prelude.{◌≡◌, ◌<◌, ◌≤◌, ◌⊎◌, ◌&&◌, not, is_ok, ℕ, Bool, true, false, List, ◌++◌, length, take, drop, reverse, Option, Some, None, Result, Ok, Err}
 use Rattle.line_door.specs.Acts.{Outside, Acts, held_if}
 use Rattle.line_door.specs.Course.{talk, Fed}
 use Rattle.arch_model.specs.Archives.{Archive}
@@ -7,13 +7,18 @@ use Rattle.arch_model.specs.Shelves.{IsUndamaged}
 use Rattle.arch_model.specs.Rows.{row_in}
 use Rattle.arch_model.specs.declared.text_refusal.TextRefusal.{TextRefusal}
 use Rattle.arch_model.specs.declared.text_refusal.TextRefusal.TheVariants as refusal
+use Rattle.edge_io.specs.Phrases.{Says}
+use Rattle.edge_io.specs.declared.sink.SinkFault.{SinkFault}
 use Rattle.http_heads.specs.Heads.{Asked}
+use Rattle.http_heads.specs.declared.reply.Body.{Body}
 use Rattle.http_heads.specs.declared.reply.Body.TheVariants.{Mailbox}
+use Rattle.http_heads.specs.declared.reply.Status.TheVariants.{Done, ServerError, Unavailable}
 use Rattle.http_front.specs.Views.{shown_text}
 use Rattle.http_front.specs.Threads.{thread_rows, oldest_first}
 use Rattle.http_front.specs.Asking.{Reading, IsReading, Found, Gives, Streams, Missing, message_found, text_found, thread_found, feed_found, feed_len}
 use Rattle.http_front.specs.Door.{said, said_head, said_asked, has_request}
 use Rattle.http_front.specs.Mailboxes.{mailbox_at, whole_mailbox}
+use Rattle.http_front.specs.Replies.{reply, word, word_of, damaged_line}
 use Rattle.http_front.specs.declared.session.Turn.{Turn}
 use Rattle.http_front.specs.declared.session.Turn.TheVariants.{Went, Kept, Closed}
 use Rattle.http_front.specs.declared.found.Held.{Held}
@@ -110,3 +115,30 @@ module _ {S : Type 0} (holds : S → Archive → Type 0) where
   Feeds moment bytes shelf i goes_on left j = (reading : Reading) → IsReading reading
       → (a : Archive) → holds shelf a → Fed (said reading moment) has_request
       (talk (Some bytes) a i) (talk (held_if goes_on left) a j)
+
+-- The words were taken, and the session continues unless the reply closes it; or they were lost, and
+-- it is closed.
+pub record SaysThen (words : List ℕ) (closes : Bool) (out : Option (List ℕ)) (lost : ℕ)
+    (out' : Option (List ℕ)) (lost' : ℕ) (goes_on : Bool) : Type 0 where
+  pub sent : Result Unit SinkFault
+  pub says : Says words out lost out' lost' sent
+  pub next : goes_on ≡ is_ok sent && not closes
+
+-- A reply with a body was said, or that memory ran out, which closes the session.
+abbrev pub SaysWhole : Body → List ℕ → ℕ → Bool → Bool → Option (List ℕ) → ℕ → Option (List ℕ) → ℕ
+    → Bool → Type 0
+SaysWhole body bytes moment sends closes out lost out' lost' goes_on =
+    SaysThen (reply Done moment body bytes sends closes) closes out lost out' lost' goes_on
+    ⊎ SaysThen (word Unavailable moment sends true) true out lost out' lost' goes_on
+
+-- It was said why a text was not read, and that the connection is closed. Out of memory for the ids of
+-- a damaged text, that is said.
+abbrev pub SaysUnread : TextRefusal → ℕ → Bool → Option (List ℕ) → ℕ → Option (List ℕ) → ℕ
+    → Result Unit SinkFault → Type 0
+SaysUnread refusal.DiskFault moment sends out lost out' lost' sent =
+    Says (word ServerError moment sends true) out lost out' lost' sent
+SaysUnread refusal.NoMemory moment sends out lost out' lost' sent =
+    Says (word Unavailable moment sends true) out lost out' lost' sent
+SaysUnread (refusal.Damaged named found) moment sends out lost out' lost' sent =
+    Says (word_of ServerError (damaged_line named.0 found.0) moment sends true) out lost out' lost' sent
+    ⊎ Says (word Unavailable moment sends true) out lost out' lost' sent

@@ -70,7 +70,6 @@ impl HeldHead {
         ensures err { OnErr result (self.new ≡ self.old) }
     {
         if self.buffer.len() < HEAD_LIMIT {
-            self.len = 0;
             self.buffer.resize(HEAD_LIMIT, 0)?;
         }
         put_at(self.buffer.as_mut_slice(), self.len, piece);
