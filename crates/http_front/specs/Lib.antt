@@ -7,4 +7,6 @@ pub mod Asking
 pub mod Replies
 pub mod Door
 pub mod Sessions
+pub mod Feeding
+pub mod Streaming
 pub mod Laws

@@ -1,10 +1,14 @@
 -- The acts of the code are acts of a session.
 use Rattle.std.specs.Prelude.{◌≡◌, ◌<◌, ◌≤◌, ◌⊎◌, ◌&&◌, not, is_ok, ℕ, Bool, true, false, List, ◌++◌, length, take, drop, reverse, Option, Some, None, Result, Ok, Err}
-use Rattle.line_door.specs.Acts.{Outside, Acts, held_if}
+use Rattle.line_door.specs.Acts.{Outside, Way, Acts, held_if}
+use Rattle.line_door.specs.Making as door
+use Rattle.line_door.specs.Making.{in_ways}
 use Rattle.line_door.specs.Course.{talk, Fed}
 use Rattle.arch_model.specs.Archives.{Archive}
-use Rattle.arch_model.specs.Shelves.{IsUndamaged}
+use Rattle.arch_base.specs.declared.sequence.NoMemory.{NoMemory}
 use Rattle.arch_model.specs.Rows.{row_in}
+use Rattle.arch_model.specs.declared.opening.OpenRefusal.{OpenRefusal}
+use Rattle.arch_model.specs.declared.opening.OpenRefusal.TheVariants as opening
 use Rattle.arch_model.specs.declared.text_refusal.TextRefusal.{TextRefusal}
 use Rattle.arch_model.specs.declared.text_refusal.TextRefusal.TheVariants as refusal
 use Rattle.edge_io.specs.Phrases.{Says}
@@ -16,9 +20,9 @@ use Rattle.http_heads.specs.declared.reply.Status.TheVariants.{Done, ServerError
 use Rattle.http_front.specs.Views.{shown_text}
 use Rattle.http_front.specs.Threads.{thread_rows, oldest_first}
 use Rattle.http_front.specs.Asking.{Reading, IsReading, Found, Gives, Streams, Missing, message_found, text_found, thread_found, feed_found, feed_len}
-use Rattle.http_front.specs.Door.{said, said_head, said_asked, has_request}
+use Rattle.http_front.specs.Door.{Says, replies, served, said, said_head, said_asked, has_request}
 use Rattle.http_front.specs.Mailboxes.{mailbox_at, whole_mailbox}
-use Rattle.http_front.specs.Replies.{reply, word, word_of, damaged_line}
+use Rattle.http_front.specs.Replies.{reply, word, word_of, damaged_line, unopened_word}
 use Rattle.http_front.specs.declared.session.Turn.{Turn}
 use Rattle.http_front.specs.declared.session.Turn.TheVariants.{Went, Kept, Closed}
 use Rattle.http_front.specs.declared.found.Held.{Held}
@@ -59,13 +63,13 @@ Finds a found reads (Err refusal.DiskFault) = reads ≡ true
 Finds a found reads (Err (refusal.Damaged named found')) = ⊥
 Finds a found reads (Err refusal.NoMemory) = Unit {0}
 
--- A page, a text or a feed was made, or there is none; or memory ran out, or the disk failed.
-abbrev pub Makes : Found → Result Held TextRefusal → Type 0
-Makes found (Ok (held.Whole body bytes)) = found ≡ Gives body bytes
-Makes found (Ok held.Nothing) = found ≡ Missing
-Makes found (Ok held.EveryMail) = ⊥
-Makes found (Ok (held.Mails numbers)) = ⊥
-Makes found (Err refusal) = IsUndamaged refusal
+-- A page was made, or there is none; or memory ran out.
+abbrev pub MakesPage : Found → Result Held NoMemory → Type 0
+MakesPage found (Ok (held.Whole body bytes)) = found ≡ Gives body bytes
+MakesPage found (Ok held.Nothing) = found ≡ Missing
+MakesPage found (Ok held.EveryMail) = ⊥
+MakesPage found (Ok (held.Mails numbers)) = ⊥
+MakesPage found (Err refused) = Unit {0}
 
 -- What is found of a live number, by the form in which it is asked for.
 abbrev pub form_found : Reading → Archive → Form → ℕ → Found
@@ -84,6 +88,19 @@ form_reads form.Text = true
 form_reads form.Thread = false
 form_reads form.Feed = true
 form_reads form.Mailbox = true
+
+-- A streamed reply of these words in each way: the words, or why no text was read.
+abbrev pub said_stream : ℕ → Archive → Bool → List ℕ → List ℕ → Way → Says
+said_stream moment a ends rest words = in_ways (replies a rest ends true words)
+    (door.closes a (word Unavailable moment true true))
+    (door.closes a (word ServerError moment true true))
+
+-- The reply with a mailbox file in each way.
+abbrev pub said_mailbox : ℕ → Archive → Bool → Bool → List ℕ → List ℕ → Way → Says
+said_mailbox moment a sends ends rest bytes =
+    in_ways (served moment a sends ends rest (Streams Mailbox bytes))
+    (door.closes a (word Unavailable moment sends true))
+    (door.closes a (word ServerError moment sends true))
 
 -- A shelf: the archives that it holds.
 module _ {S : Type 0} (holds : S → Archive → Type 0) where
@@ -104,6 +121,18 @@ module _ {S : Type 0} (holds : S → Archive → Type 0) where
   Serves moment asked sends shelf i goes_on j = (reading : Reading) → IsReading reading
       → (a : Archive) (rest : List ℕ) → holds shelf a
       → Acts (said_asked reading moment a asked sends rest) i (held_if goes_on rest) a j
+
+  -- Whichever archive is held and whatever follows, the reply with a mailbox file is said.
+  abbrev pub ServesMailbox : (Archive → List ℕ) → ℕ → Bool → Bool → S → Outside → Bool → Outside
+      → Type 0
+  ServesMailbox bytes moment sends closes shelf i goes_on j = (a : Archive) (rest : List ℕ)
+      → holds shelf a → Acts (said_mailbox moment a sends closes rest (bytes a)) i
+      (held_if goes_on rest) a j
+
+  -- The same by the words of the reply, of which none were said yet.
+  abbrev pub StreamsOn : (Archive → List ℕ) → ℕ → Bool → S → Outside → Bool → Outside → Type 0
+  StreamsOn words moment closes shelf i goes_on j = (a : Archive) (rest : List ℕ) → holds shelf a
+      → Acts (said_stream moment a closes rest (words a)) i (held_if goes_on rest) a j
 
   -- Whichever archive is held, one act is done.
   abbrev pub Turns : ℕ → List ℕ → List ℕ → S → Outside → Turn → List ℕ → Outside → Type 0
@@ -142,3 +171,24 @@ SaysUnread refusal.NoMemory moment sends out lost out' lost' sent =
 SaysUnread (refusal.Damaged named found) moment sends out lost out' lost' sent =
     Says (word_of ServerError (damaged_line named.0 found.0) moment sends true) out lost out' lost' sent
     ⊎ Says (word Unavailable moment sends true) out lost out' lost' sent
+
+-- A reply stopped for a refusal: its words were begun, or it was said why.
+abbrev pub SaysStopped : Bool → TextRefusal → ℕ → Option (List ℕ) → ℕ → Option (List ℕ) → ℕ
+    → Type 0
+SaysStopped true refused moment out lost out' lost' = (out' ≡ out) × (lost' ≡ lost)
+SaysStopped false refused moment out lost out' lost' = (sent : Result Unit SinkFault)
+    × SaysUnread refused moment true out lost out' lost' sent
+
+-- It was said why an archive was not opened, and that the connection is closed. Out of memory for the
+-- name of a damaged file, that is said.
+abbrev pub SaysUnopened : OpenRefusal → ℕ → Option (List ℕ) → ℕ → Option (List ℕ) → ℕ
+    → Result Unit SinkFault → Type 0
+SaysUnopened (opening.Damaged file at) moment out lost out' lost' sent =
+    Says (unopened_word (opening.Damaged file at) moment) out lost out' lost' sent
+    ⊎ Says (word Unavailable moment true true) out lost out' lost' sent
+SaysUnopened opening.NoArchive moment out lost out' lost' sent =
+    Says (unopened_word opening.NoArchive moment) out lost out' lost' sent
+SaysUnopened opening.DiskFault moment out lost out' lost' sent =
+    Says (unopened_word opening.DiskFault moment) out lost out' lost' sent
+SaysUnopened opening.NoMemory moment out lost out' lost' sent =
+    Says (unopened_word opening.NoMemory moment) out lost out' lost' sent

@@ -1,13 +1,14 @@
 -- The thread of a mail: its mails by date, and its tree.
-use Rattle.std.specs.Prelude.{◌≡◌, ℕ, List, [], ◌∷◌, ◌++◌, map, reverse, codes, if◌then◌else◌}
+use Rattle.std.specs.Prelude.{◌≡◌, ℕ, List, [], ◌∷◌, ◌++◌, map, Option, Some, None, codes, if◌then◌else◌}
 use Rattle.std.specs.List.{flat_map}
 use Rattle.std.specs.declared.cmp.Ordering.{Ordering}
 use Rattle.std.specs.Ordering.{nat_cmp, ordering_then}
 use Rattle.std.specs.BTreeSet.{insert_key}
 use Rattle.arch_model.specs.Archives.{Entry}
 use Rattle.arch_model.specs.Rows.{thread_in}
-use Rattle.html_pages.specs.Lines.{row_line, indent}
+use Rattle.html_pages.specs.Lines.{row_line, indent, entry_line}
 use Rattle.html_pages.specs.Pages.{page_of}
+use Rattle.html_pages.specs.declared.thread_line.ThreadEntry.{ThreadEntry}
 use Rattle.mail_rows.specs.declared.row.Row.{Row}
 use Rattle.thread_tree.specs.Trees.{Prints, roots, names_id}
 use Rattle.thread_tree.specs.declared.twigs.Twig.{Twig}
@@ -59,13 +60,21 @@ abbrev pub twigs_after : List Twig → List Row → List Twig
 twigs_after twigs [] = twigs
 twigs_after twigs (row ∷ rows) = twigs_after (with_twig twigs (twig_of row)) rows
 
--- A line of a page: the mail of a number, or the id of a mail that the archive doesn't have.
-abbrev pub who_line : List ℕ → List Entry → Who → List ℕ
-who_line name entries (Live n) = flat_map (row_line name) (row_at entries n)
-who_line name entries (Ghost id) = codes "[not found] " ++ escaped id ++ codes "\n"
+-- A line of a page after its indent: the mail of a number, or the id of a mail that the archive doesn't
+-- have. Of a number without a mail, which no tree has, there is no line.
+abbrev pub who_line : List ℕ → List Entry → List ℕ → Who → List ℕ
+who_line name entries before (Live n) =
+    flat_map (λ (row : Row). before ++ row_line name row) (row_at entries n)
+who_line name entries before (Ghost id) = before ++ codes "[not found] " ++ escaped id ++ codes "\n"
 
 abbrev pub tree_line : List ℕ → List Entry → Line → List ℕ
-tree_line name entries line = indent line.depth ++ who_line name entries line.who
+tree_line name entries line = who_line name entries (indent line.depth) line.who
+
+-- What a line of a tree stands for, as a page has it.
+abbrev pub IsEntryOf : List ℕ → List Entry → Who → Option ThreadEntry → Type 0
+IsEntryOf name entries who None = (before : List ℕ) → who_line name entries before who ≡ []
+IsEntryOf name entries who (Some entry) = (before : List ℕ)
+    → who_line name entries before who ≡ before ++ entry_line name entry
 
 -- The page of a thread by the lines of its tree. Its title is the subject of the row that was asked
 -- for.

@@ -1,5 +1,5 @@
 -- What an archive shows of its mails.
-use Rattle.std.specs.Prelude.{ℕ, nat_le, List, [], ◌∷◌, ◌++◌, Option, Some, None, codes, if◌then◌else◌}
+use Rattle.std.specs.Prelude.{ℕ, Bool, nat_le, nat_lt, List, [], ◌∷◌, ◌++◌, Option, Some, None, codes, if◌then◌else◌}
 use Rattle.std.specs.List.{flat_map}
 use Rattle.arch_base.specs.Moments.{last_moment}
 use Rattle.arch_model.specs.Archives.{Entry, live, text_of}
@@ -21,9 +21,13 @@ abbrev pub one_row : Option Row → List Row
 one_row None = []
 one_row (Some row) = row ∷ []
 
+-- The number has 32 bits, as each number of an archive has.
+abbrev pub is_number : ℕ → Bool
+is_number n = nat_lt n 4294967296
+
 -- The row of a number, if it is live.
 abbrev pub row_at : List Entry → ℕ → List Row
-row_at entries n = one_row (row_in entries n)
+row_at entries n = if is_number n then one_row (row_in entries n) else []
 
 -- The rows of these numbers, in their order.
 abbrev pub rows_at : List Entry → List ℕ → List Row
@@ -40,7 +44,8 @@ shown_by (Some row) (Some text) =
 
 -- The mail of a number as a feed shows it, if it is live.
 abbrev pub shown_at : List Entry → ℕ → List Shown
-shown_at entries n = shown_by (row_in entries n) (shown_text entries n)
+shown_at entries n =
+    if is_number n then shown_by (row_in entries n) (shown_text entries n) else []
 
 -- The mails of these numbers, in their order.
 abbrev pub shown_all : List Entry → List ℕ → List Shown

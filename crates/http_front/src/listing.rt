@@ -1,9 +1,9 @@
 //! The page of the listing.
-ghost use Rattle.std.specs.Prelude.{◌≡◌, IfOk, None, true, false, codes, map};
+ghost use Rattle.std.specs.Prelude.{◌≡◌, IfOk, None, true, false, codes, map, option_copied};
 ghost use Rattle.arch_model.specs.Archives.{Archive};
 ghost use Rattle.http_heads.specs.Addresses.{TheListing};
 ghost use Rattle.http_heads.specs.Parameters.{parameter as parameter_of, skipped};
-ghost use Rattle.http_front.specs.Views.{rows_at};
+ghost use Rattle.http_front.specs.Views.{one_row, row_at, rows_at};
 ghost use Rattle.http_front.specs.Asking.{Gives, named_found, listing_found};
 ghost use Rattle.http_front.specs.Sessions.{FindsIn};
 
@@ -68,9 +68,22 @@ pub(crate) fn rows_of<'a, S: Shelf>(
 {
     let mut rows = Vec::new(alloc);
     for n in numbers {
-        if let Some(row) = shelf.row(*n as u32) {
+        if let Some(row) = row_of_number(*n, shelf) {
             rows.push(row)?;
         }
     }
     Ok(rows)
+}
+
+/// Returns the row of a number, if it is live. Numbers of more than 32 bits aren't.
+pub(crate) fn row_of_number<S: Shelf>(n: u64, shelf: &S) -> Option<&Row>
+    requires { S.ready shelf.now ≡ true }
+    ensures { (a : Archive) → S.holds shelf.now a
+        → one_row (option_copied result) ≡ row_at a.entries n }
+{
+    if n <= u64::from(u32::MAX) {
+        shelf.row(n as u32)
+    } else {
+        None
+    }
 }
