@@ -10,3 +10,4 @@ pub mod Shelves
 pub mod Standing
 pub mod Untold
 pub mod Validity
+pub mod Threading

@@ -1,7 +1,7 @@
 -- What an archive has under the target of a request.
 use Rattle.std.specs.Prelude.{◌≡◌, ℕ, Bool, true, false, List, [], ◌∷◌, take, drop, reverse, codes, Option, Some, None}
-use Rattle.arch_model.specs.Archives.{Archive}
-use Rattle.arch_model.specs.Rows.{row_in, listing}
+use Rattle.arch_model.specs.Archives.{Archive, live}
+use Rattle.arch_model.specs.Listings.{listing}
 use Rattle.atom_mbox.specs.Feeds.{feed_of}
 use Rattle.html_pages.specs.Pages.{listing_of, message_of}
 use Rattle.http_heads.specs.Addresses.{Named, TheListing, TextOf, ThreadOf, MessageOf, TheFeed, TheMailbox, ThreadFeedOf, ThreadMailboxOf, named_by, segments_of}
@@ -10,11 +10,11 @@ use Rattle.http_heads.specs.Parameters.{path_of, query_of, parameter, skipped}
 use Rattle.http_heads.specs.declared.reply.Body.{Body}
 use Rattle.http_heads.specs.declared.reply.Body.TheVariants.{Page, Text, Feed, Mailbox}
 use Rattle.httparse.specs.Grammar.{RequestHead}
-use Rattle.mail_rows.specs.declared.row.Row.{Row}
+use Rattle.mail_forms.specs.declared.row.Row.{Row}
 use Rattle.mime_parts.specs.Texts.{body_text_of}
 use Rattle.thread_tree.specs.declared.twigs.Twig.{Twig}
 use Rattle.thread_tree.specs.declared.lines.Line.{Line}
-use Rattle.http_front.specs.Views.{number_named, rows_at, shown_text, shown_all}
+use Rattle.http_front.specs.Views.{number_named, shown_row, rows_at, shown_text, shown_all}
 use Rattle.http_front.specs.Threads.{LaysTrees, thread_rows, oldest_first, twigs_after, tree_page}
 use Rattle.http_front.specs.Mailboxes.{mailbox_at, whole_mailbox}
 
@@ -44,7 +44,7 @@ pub data Found : Type 0 where
 -- The page of a listing. Searches aren't served yet: a target with words to search for has no page.
 abbrev pub listing_found : Archive → Option (List ℕ) → ℕ → Found
 listing_found a None skip = Gives Page
-    (listing_of a.config.name (rows_at a.entries (drop skip (listing a.entries))) skip)
+    (listing_of a.config.name (rows_at a.entries (drop skip (listing (live a.entries)))) skip)
 listing_found a (Some words) skip = Missing
 
 -- What is found of a number, if a live mail has the id.
@@ -85,12 +85,12 @@ abbrev pub named_found : Reading → Archive → List ℕ → Named → Found
 named_found reading a query TheListing = listing_found a (parameter (codes "q") query)
     (skipped (parameter (codes "o") query))
 named_found reading a query (MessageOf id) = found_of (number_named a.entries id)
-    (λ (n : ℕ). message_found a (row_in a.entries n) (shown_text a.entries n))
+    (λ (n : ℕ). message_found a (shown_row a.entries n) (shown_text a.entries n))
 named_found reading a query (TextOf id) = found_of (number_named a.entries id)
     (λ (n : ℕ). text_found (shown_text a.entries n))
 named_found reading a query (ThreadOf id) = found_of (number_named a.entries id)
-    (λ (n : ℕ). thread_found reading a n (row_in a.entries n))
-named_found reading a query TheFeed = feed_found a (take feed_len (listing a.entries))
+    (λ (n : ℕ). thread_found reading a n (shown_row a.entries n))
+named_found reading a query TheFeed = feed_found a (take feed_len (listing (live a.entries)))
 named_found reading a query (ThreadFeedOf id) = found_of (number_named a.entries id)
     (λ (n : ℕ). feed_found a (take feed_len (reverse (oldest_first (thread_rows a.entries n)))))
 named_found reading a query TheMailbox = Streams Mailbox (whole_mailbox a.entries)

@@ -6,7 +6,6 @@ use Rattle.line_door.specs.Making.{in_ways}
 use Rattle.line_door.specs.Course.{talk, Fed}
 use Rattle.arch_model.specs.Archives.{Archive}
 use Rattle.arch_base.specs.declared.sequence.NoMemory.{NoMemory}
-use Rattle.arch_model.specs.Rows.{row_in}
 use Rattle.arch_model.specs.declared.opening.OpenRefusal.{OpenRefusal}
 use Rattle.arch_model.specs.declared.opening.OpenRefusal.TheVariants as opening
 use Rattle.arch_model.specs.declared.text_refusal.TextRefusal.{TextRefusal}
@@ -17,7 +16,7 @@ use Rattle.http_heads.specs.Heads.{Asked}
 use Rattle.http_heads.specs.declared.reply.Body.{Body}
 use Rattle.http_heads.specs.declared.reply.Body.TheVariants.{Mailbox}
 use Rattle.http_heads.specs.declared.reply.Status.TheVariants.{Done, ServerError, Unavailable}
-use Rattle.http_front.specs.Views.{shown_text}
+use Rattle.http_front.specs.Views.{shown_row, shown_text}
 use Rattle.http_front.specs.Threads.{thread_rows, oldest_first}
 use Rattle.http_front.specs.Asking.{Reading, IsReading, Found, Gives, Streams, Missing, message_found, text_found, thread_found, feed_found, feed_len}
 use Rattle.http_front.specs.Door.{Says, replies, served, said, said_head, said_asked, has_request}
@@ -73,9 +72,9 @@ MakesPage found (Err refused) = Unit {0}
 
 -- What is found of a live number, by the form in which it is asked for.
 abbrev pub form_found : Reading → Archive → Form → ℕ → Found
-form_found reading a form.Message n = message_found a (row_in a.entries n) (shown_text a.entries n)
+form_found reading a form.Message n = message_found a (shown_row a.entries n) (shown_text a.entries n)
 form_found reading a form.Text n = text_found (shown_text a.entries n)
-form_found reading a form.Thread n = thread_found reading a n (row_in a.entries n)
+form_found reading a form.Thread n = thread_found reading a n (shown_row a.entries n)
 form_found reading a form.Feed n =
     feed_found a (take feed_len (reverse (oldest_first (thread_rows a.entries n))))
 form_found reading a form.Mailbox n =

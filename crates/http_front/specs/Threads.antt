@@ -1,15 +1,14 @@
 -- The thread of a mail: its mails by date, and its tree.
 use Rattle.std.specs.Prelude.{◌≡◌, ℕ, List, [], ◌∷◌, ◌++◌, map, Option, Some, None, codes, if◌then◌else◌}
 use Rattle.std.specs.List.{flat_map}
-use Rattle.std.specs.declared.cmp.Ordering.{Ordering}
-use Rattle.std.specs.Ordering.{nat_cmp, ordering_then}
 use Rattle.std.specs.BTreeSet.{insert_key}
-use Rattle.arch_model.specs.Archives.{Entry}
-use Rattle.arch_model.specs.Rows.{thread_in}
+use Rattle.arch_model.specs.Archives.{Entry, live}
+use Rattle.arch_model.specs.Listings.{date_cmp, number_beside}
+use Rattle.arch_model.specs.Threading.{thread_in}
 use Rattle.html_pages.specs.Lines.{row_line, indent, entry_line}
 use Rattle.html_pages.specs.Pages.{page_of}
 use Rattle.html_pages.specs.declared.thread_line.ThreadEntry.{ThreadEntry}
-use Rattle.mail_rows.specs.declared.row.Row.{Row}
+use Rattle.mail_forms.specs.declared.row.Row.{Row}
 use Rattle.thread_tree.specs.Trees.{Prints, roots, names_id}
 use Rattle.thread_tree.specs.declared.twigs.Twig.{Twig}
 use Rattle.thread_tree.specs.declared.lines.Line.{Line}
@@ -19,32 +18,21 @@ use Rattle.web_text.specs.Escapes.{escaped, title_of}
 use Rattle.http_front.specs.Views.{row_at, rows_at}
 
 -- A mail's place among others: the seconds of its date, and then its number.
-abbrev pub Place : Type 0
-Place = ℕ × ℕ
-
-abbrev pub place_of : Row → Place
+abbrev pub place_of : Row → ℕ × ℕ
 place_of row = (row.date.secs, row.number)
 
--- The order of dates.
-abbrev pub place_cmp : Place → Place → Ordering
-place_cmp a b = ordering_then (nat_cmp a.0 b.0) (nat_cmp a.1 b.1)
-
 -- Places put one after the other where they belong.
-abbrev pub put_places : List Place → List Row → List Place
+abbrev pub put_places : List (ℕ × ℕ) → List Row → List (ℕ × ℕ)
 put_places done [] = done
-put_places done (row ∷ rows) = put_places (insert_key place_cmp done (place_of row)) rows
-
--- The number of a place.
-abbrev pub number_at : Place → ℕ
-number_at place = place.1
+put_places done (row ∷ rows) = put_places (insert_key date_cmp done (place_of row)) rows
 
 -- The numbers of rows by date and then by number, both rising.
 unfoldable pub oldest_first : List Row → List ℕ
-oldest_first rows = map number_at (put_places [] rows)
+oldest_first rows = map number_beside (put_places [] rows)
 
 -- The rows of the thread of a number.
 abbrev pub thread_rows : List Entry → ℕ → List Row
-thread_rows entries n = rows_at entries (thread_in entries n)
+thread_rows entries n = rows_at entries (thread_in (live entries) n)
 
 -- The mail of a row in a tree.
 abbrev pub twig_of : Row → Twig

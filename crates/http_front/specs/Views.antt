@@ -3,18 +3,22 @@ use Rattle.std.specs.Prelude.{ℕ, Bool, nat_le, nat_lt, List, [], ◌∷◌, �
 use Rattle.std.specs.List.{flat_map}
 use Rattle.arch_base.specs.Moments.{last_moment}
 use Rattle.arch_model.specs.Archives.{Entry, live, text_of}
-use Rattle.arch_model.specs.Rows.{row_in, number_of_id}
+use Rattle.arch_model.specs.Listings.{row_in, number_of_id}
 use Rattle.atom_mbox.specs.declared.feeds.Shown.{Shown}
-use Rattle.mail_rows.specs.declared.row.Row.{Row}
+use Rattle.mail_forms.specs.declared.row.Row.{Row}
 use Rattle.mime_parts.specs.Texts.{body_text_of}
 
 -- The text of a live number.
 abbrev pub shown_text : List Entry → ℕ → Option (List ℕ)
 shown_text entries n = text_of (live entries) n
 
+-- The row of a live number.
+abbrev pub shown_row : List Entry → ℕ → Option Row
+shown_row entries n = row_in (live entries) n
+
 -- The live number of an id without its brackets.
 abbrev pub number_named : List Entry → List ℕ → Option ℕ
-number_named entries id = number_of_id entries (codes "<" ++ id ++ codes ">")
+number_named entries id = number_of_id (live entries) (codes "<" ++ id ++ codes ">")
 
 -- A row, if there is one.
 abbrev pub one_row : Option Row → List Row
@@ -27,7 +31,7 @@ is_number n = nat_lt n 4294967296
 
 -- The row of a number, if it is live.
 abbrev pub row_at : List Entry → ℕ → List Row
-row_at entries n = if is_number n then one_row (row_in entries n) else []
+row_at entries n = if is_number n then one_row (shown_row entries n) else []
 
 -- The rows of these numbers, in their order.
 abbrev pub rows_at : List Entry → List ℕ → List Row
@@ -45,7 +49,7 @@ shown_by (Some row) (Some text) =
 -- The mail of a number as a feed shows it, if it is live.
 abbrev pub shown_at : List Entry → ℕ → List Shown
 shown_at entries n =
-    if is_number n then shown_by (row_in entries n) (shown_text entries n) else []
+    if is_number n then shown_by (shown_row entries n) (shown_text entries n) else []
 
 -- The mails of these numbers, in their order.
 abbrev pub shown_all : List Entry → List ℕ → List Shown

@@ -2,10 +2,9 @@
 ghost use Rattle.std.specs.Prelude.{◌≡◌, ◌++◌, OnOk, IfSome, Some, true};
 ghost use Rattle.arch_base.specs.Moments.{IsMoment};
 ghost use Rattle.arch_model.specs.Archives.{Archive};
-ghost use Rattle.arch_model.specs.Rows.{row_in};
 ghost use Rattle.arch_model.specs.Shelves.{Stays, ReadCause};
 ghost use Rattle.atom_mbox.specs.Feeds.{feed_start, entries_of, updated_of};
-ghost use Rattle.http_front.specs.Views.{shown_at, shown_all, shown_by};
+ghost use Rattle.http_front.specs.Views.{shown_row, shown_at, shown_all, shown_by};
 ghost use Rattle.http_front.specs.Asking.{feed_found};
 ghost use Rattle.http_front.specs.Feeding.{Appends, later_of, latest_of};
 ghost use Rattle.http_front.specs.Sessions.{FindsIn};
@@ -16,7 +15,7 @@ use arch_base::{Bytes, LAST_MOMENT, Name, NoMemory, last_moment_is_defined};
 use arch_model::{Shelf, TextRefusal, is_live};
 use atom_mbox::{push_feed_end, push_feed_entry, push_feed_start};
 use http_heads::Body;
-use mail_rows::Row;
+use mail_forms::Row;
 use mime_parts::body_text;
 use std::alloc::Global;
 
@@ -162,7 +161,7 @@ fn push_read<S: Shelf>(
 ) -> Result<(), NoMemory>
     requires { S.ready shelf.now ≡ true }
     ensures { (a : Archive) → S.holds shelf.now a → OnOk result (into.new ≡ into.old
-        ++ entries_of a.config.name (shown_by (row_in a.entries n) (Some text.now))) }
+        ++ entries_of a.config.name (shown_by (shown_row a.entries n) (Some text.now))) }
 {
     match shelf.row(n) {
         Some(row) => push_entry(alloc, &shelf.config().name, row, text, into),

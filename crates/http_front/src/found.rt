@@ -1,12 +1,11 @@
 //! Finds what stands under the target of a request.
-ghost use Rattle.std.specs.Prelude.{◌≡◌, ◌++◌, IfOk, OnOk, true, false, take, reverse, codes, option_copied, option_map};
-ghost use Rattle.arch_model.specs.Archives.{Archive};
-ghost use Rattle.arch_model.specs.Rows.{row_in, listing as listing_of};
+ghost use Rattle.std.specs.Prelude.{◌≡◌, IfOk, true, take};
+ghost use Rattle.arch_model.specs.Archives.{Archive, live};
+ghost use Rattle.arch_model.specs.Listings.{listing};
 ghost use Rattle.arch_model.specs.Shelves.{Stays, ReadCause};
-ghost use Rattle.http_heads.specs.Addresses.{shown, segments_of, named_by};
+ghost use Rattle.http_heads.specs.Addresses.{shown};
 ghost use Rattle.http_front.specs.Views.{number_named};
-ghost use Rattle.http_front.specs.Threads.{thread_rows, oldest_first};
-ghost use Rattle.http_front.specs.Asking.{Reading, path_found, named_found, target_found, feed_found, found_of, feed_len, path_reads, reads_texts, target_reads};
+ghost use Rattle.http_front.specs.Asking.{named_found, target_found, feed_found, found_of, feed_len, reads_texts, target_reads};
 ghost use Rattle.http_front.specs.Sessions.{FindsIn, form_found, form_reads};
 
 use crate::feed::feed_at;
@@ -102,7 +101,7 @@ fn find_address<S: Shelf>(
 /// Makes the feed of the newest mails.
 fn find_newest<S: Shelf>(alloc: Global, shelf: &mut S) -> Result<Held, TextRefusal>
     requires { S.ready shelf.old ≡ true }
-    ensures found { FindsIn S.holds (λ reading a. feed_found a (take feed_len (listing_of a.entries)))
+    ensures found { FindsIn S.holds (λ reading a. feed_found a (take feed_len (listing (live a.entries))))
         (λ a. true) shelf.old result }
     ensures shelf { Stays S.holds S.ready S.alike S.faults shelf.old shelf.new }
     ensures cause { ReadCause (S.faults shelf.old) (S.faults shelf.new) result }

@@ -12,7 +12,7 @@ use arch_base::{Bytes, NoMemory};
 use arch_model::{Shelf, TextRefusal};
 use html_pages::listing_page;
 use http_heads::{Body, parameter, skip_of};
-use mail_rows::Row;
+use mail_forms::Row;
 use std::alloc::Global;
 
 /// The rows that a page needs: those that it shows, and one that says that there are more.

@@ -1,9 +1,8 @@
 //! The page and the text of a message.
 ghost use Rattle.std.specs.Prelude.{◌≡◌, Some, true};
 ghost use Rattle.arch_model.specs.Archives.{Archive};
-ghost use Rattle.arch_model.specs.Rows.{row_in};
 ghost use Rattle.arch_model.specs.Shelves.{Stays, ReadCause};
-ghost use Rattle.http_front.specs.Views.{shown_text};
+ghost use Rattle.http_front.specs.Views.{shown_row, shown_text};
 ghost use Rattle.http_front.specs.Asking.{message_found, text_found};
 ghost use Rattle.http_front.specs.Sessions.{FindsIn, MakesPage};
 
@@ -12,7 +11,7 @@ use arch_base::{Bytes, NoMemory};
 use arch_model::{Shelf, TextRefusal, is_live};
 use html_pages::message_page;
 use http_heads::Body;
-use mail_rows::Row;
+use mail_forms::Row;
 use mime_parts::body_text;
 use std::alloc::Global;
 
@@ -46,7 +45,7 @@ pub(crate) fn message_at<S: Shelf>(
 ) -> Result<Held, TextRefusal>
     requires { S.ready shelf.old ≡ true }
     ensures found { FindsIn S.holds
-        (λ reading a. message_found a (row_in a.entries n) (shown_text a.entries n)) (λ a. true)
+        (λ reading a. message_found a (shown_row a.entries n) (shown_text a.entries n)) (λ a. true)
         shelf.old result }
     ensures shelf { Stays S.holds S.ready S.alike S.faults shelf.old shelf.new }
     ensures cause { ReadCause (S.faults shelf.old) (S.faults shelf.new) result }
@@ -73,7 +72,7 @@ fn page_with<S: Shelf>(
 ) -> Result<Held, NoMemory>
     requires { S.ready shelf.now ≡ true }
     ensures { (a : Archive) → S.holds shelf.now a
-        → MakesPage (message_found a (row_in a.entries n) (Some text.now)) result }
+        → MakesPage (message_found a (shown_row a.entries n) (Some text.now)) result }
 {
     match shelf.row(n) {
         Some(row) => page_of(alloc, row, text, shelf),

@@ -3,9 +3,10 @@ ghost use Rattle.std.specs.Prelude.{◌≡◌, IfOk, OnOk, Some, true, [], map, 
 ghost use Rattle.std.specs.BTreeSet.{insert_key};
 ghost use Rattle.std.specs.List.{flat_map};
 ghost use Rattle.arch_model.specs.Archives.{Archive};
-ghost use Rattle.arch_model.specs.Rows.{row_in};
+ghost use Rattle.arch_model.specs.Listings.{date_cmp, number_beside};
 ghost use Rattle.html_pages.specs.Lines.{thread_line};
-ghost use Rattle.http_front.specs.Threads.{place_of, place_cmp, number_at, oldest_first, thread_rows, with_twig, twig_of, twigs_after, tree_line, IsEntryOf};
+ghost use Rattle.http_front.specs.Threads.{place_of, oldest_first, thread_rows, with_twig, twig_of, twigs_after, tree_line, IsEntryOf};
+ghost use Rattle.http_front.specs.Views.{shown_row};
 ghost use Rattle.http_front.specs.Asking.{Reading, IsReading, thread_found};
 ghost use Rattle.http_front.specs.Sessions.{MakesPage};
 
@@ -15,7 +16,7 @@ use arch_base::{NoMemory, Numbers};
 use arch_model::Shelf;
 use html_pages::{ThreadEntry, ThreadLine, thread_page};
 use http_heads::Body;
-use mail_rows::Row;
+use mail_forms::Row;
 use std::alloc::Global;
 use std::collections::BTreeSet;
 use thread_tree::{Line, Twigs, Who};
@@ -62,7 +63,7 @@ pub(crate) fn newest_of<S: Shelf>(
 fn places_of<S: Shelf>(alloc: Global, n: u32, shelf: &S) -> Result<BTreeSet<Place>, NoMemory>
     requires { S.ready shelf.now ≡ true }
     ensures { (a : Archive) → S.holds shelf.now a
-        → IfOk result (λ places. map number_at places.keys ≡ oldest_first (thread_rows a.entries n)) }
+        → IfOk result (λ places. map number_beside places.keys ≡ oldest_first (thread_rows a.entries n)) }
 {
     let members = shelf.thread_of(n)?;
     let rows = rows_of(alloc, members.as_slice(), shelf)?;
@@ -75,7 +76,7 @@ fn places_of<S: Shelf>(alloc: Global, n: u32, shelf: &S) -> Result<BTreeSet<Plac
 
 /// Puts the place of a row where it belongs.
 fn put_place(row: &Row, places: &mut BTreeSet<Place>) -> Result<(), NoMemory>
-    ensures { OnOk result (places.new.keys ≡ insert_key place_cmp places.old.keys (place_of row.now)) }
+    ensures { OnOk result (places.new.keys ≡ insert_key date_cmp places.old.keys (place_of row.now)) }
 {
     places.insert((row.date.secs, row.number))?;
     Ok(())
@@ -85,7 +86,7 @@ fn put_place(row: &Row, places: &mut BTreeSet<Place>) -> Result<(), NoMemory>
 pub(crate) fn thread_at<S: Shelf>(alloc: Global, n: u32, shelf: &S) -> Result<Held, NoMemory>
     requires { S.ready shelf.now ≡ true }
     ensures { (reading : Reading) → IsReading reading → (a : Archive) → S.holds shelf.now a
-        → MakesPage (thread_found reading a n (row_in a.entries n)) result }
+        → MakesPage (thread_found reading a n (shown_row a.entries n)) result }
 {
     match shelf.row(n) {
         Some(row) => page_at(alloc, n, row, shelf),
