@@ -1,6 +1,6 @@
 pub mod Fronts
+pub mod Ends
 pub mod Scanning
 pub mod Doors
 pub mod Acting
 pub mod Shelved
-pub mod Mailing
