@@ -3,4 +3,3 @@ pub mod Ends
 pub mod Scanning
 pub mod Doors
 pub mod Acting
-pub mod Shelved

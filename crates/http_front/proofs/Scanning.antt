@@ -1,13 +1,14 @@
 -- What is seen of a head's end, byte by byte, and where it is whole.
-use Rattle.std.proofs.Common.{◌≡◌, ◌<◌, ◌≤◌, ◌+◌, ◌-◌, ◌⊎◌, inl, inr, ℕ, suc, Bool, true, false, eqb, List, [], ◌∷◌, ◌++◌, length, take, drop, codes, Option, Some, None, refl, sym, ap, subst, ◌∙◌, append_assoc, length-append, arith, if◌then◌else◌}
+use Rattle.std.proofs.Common.{◌≡◌, ◌<◌, ◌≤◌, ◌+◌, ℕ, Bool, true, false, eqb, nat_le, nat_lt, List, [], ◌∷◌, ◌++◌, length, take, drop, Option, Some, None, refl, sym, ap, ◌∙◌, append_assoc, length-append, arith, if◌then◌else◌}
 use Rattle.std.proofs.Math.Seq.{take-append-add, drop-append-add}
 use Rattle.std.proofs.lemmas.Bool.{eqb-true, eqb-false, ne_eqb}
-use Rattle.std.proofs.lemmas.List.{append-nil}
+use Rattle.std.proofs.lemmas.Bool.Decides.{nat_tests}
+use Rattle.std.proofs.lemmas.List.{length-take-le, take-append-drop}
 use Rattle.http_front.specs.Fronts.{ends_here, plus_len, head_len, Front, Whole, Long, Partial, sized, front}
 use Rattle.http_front.specs.Scans.{started, next_seen, scan_by, scan, seen_by, seen_after, IsHeld}
 use Rattle.http_front.specs.declared.scan.Seen.{Seen}
 use Rattle.http_front.specs.declared.scan.Seen.TheVariants.{Nothing, Return, Line, LineReturn}
-use Rattle.http_front.proofs.Fronts.{len_by, head_len-cons, head_len-within, sized-whole, sized-over, sized-part, sized-long}
+use Rattle.http_front.proofs.Fronts.{len_by, head_len-cons, head_len-later, sized-whole, sized-over, sized-part, sized-long}
 
 -- The bytes of a head's end that are seen.
 abbrev pub pending : Seen → List ℕ
@@ -131,3 +132,97 @@ seen_after-append seen (b ∷ bs) ys e =
     ap (λ (o : Option Seen). seen_by o (λ (s : Seen). seen_after s (bs ++ ys))) open.1
     ∙ seen_after-append open.0 bs ys open.2
     ∙ sym (ap (λ (o : Option Seen). seen_after (seen_by o (λ (s : Seen). seen_after s bs)) ys) open.1)
+
+scan-by_some : (seen : Option Seen) (bs : List ℕ) (n : ℕ) → ((s : Seen) (m : ℕ) → scan s bs ≡ Some m → (0 < m) × (m ≤ length bs)) → scan_by seen (λ (s : Seen). scan s bs) ≡ Some n → (0 < n) × (n ≤ 1 + length bs)
+scan-by_some None bs n more e = let same : 1 ≡ n = cc in (omega (arith, same), omega (arith, same))
+scan-by_some (Some s) bs n more e = by (scan s bs) refl e
+  where
+    by : (o : Option ℕ) → scan s bs ≡ o → plus_len 1 o ≡ Some n → (0 < n) × (n ≤ 1 + length bs)
+    by None found e = absurd (cc e)
+    by (Some m) found e = let same : 1 + m ≡ n = cc in let bounds = more s m found in (omega (arith, same), omega (arith, same, bounds.1))
+
+-- It is made whole within the bytes, by one at least.
+pub scan-within : (seen : Seen) (bs : List ℕ) (n : ℕ) → scan seen bs ≡ Some n → (0 < n) × (n ≤ length bs)
+scan-within seen [] n e = absurd (cc e)
+scan-within seen (b ∷ bs) n e = let bounds = scan-by_some (next_seen seen b) bs n (λ s m is. scan-within s bs m is) e in (bounds.0, omega (arith, bounds.1))
+
+-- More bytes don't change where.
+pub scan-goes : (seen : Seen) (bs q : List ℕ) (n : ℕ) → scan seen bs ≡ Some n → scan seen (bs ++ q) ≡ Some n
+scan-goes seen [] q n e = absurd (cc e)
+scan-goes seen (b ∷ bs) q n e = by (next_seen seen b) e
+  where
+    by : (o : Option Seen) → scan_by o (λ (s : Seen). scan s bs) ≡ Some n → scan_by o (λ (s : Seen). scan s (bs ++ q)) ≡ Some n
+    by None e = e
+    by (Some s) e = over (scan s bs) refl e
+      where
+        over : (o : Option ℕ) → scan s bs ≡ o → plus_len 1 o ≡ Some n → plus_len 1 (scan s (bs ++ q)) ≡ Some n
+        over None found e = absurd (cc e)
+        over (Some m) found e = ap (plus_len 1) (scan-goes s bs q m found) ∙ e
+
+-- What a part of a head is: no end, and fewer bytes than the limit.
+part-of : (limit : ℕ) (bytes : List ℕ) (o : Option ℕ) → head_len bytes ≡ o → sized limit bytes o ≡ Partial → (o ≡ None) × (length bytes < limit)
+part-of limit bytes None found e = (refl, by (nat_lt (length bytes) limit) refl)
+  where
+    by : (t : Bool) → nat_lt (length bytes) limit ≡ t → length bytes < limit
+    by true h = grind (arith, nat_tests)
+    by false h = absurd (cc (rw h at e))
+part-of limit bytes (Some n) found e = absurd (never (nat_le n limit) e)
+  where
+    never : (t : Bool) → (if t then Whole (take n bytes) (drop n bytes) else Long) ≡ Partial → ⊥
+    never true e = cc e
+    never false e = cc e
+
+pub part-is : (limit : ℕ) (bytes : List ℕ) → front limit bytes ≡ Partial → (head_len bytes ≡ None) × (length bytes < limit)
+unfolding front
+part-is limit bytes e = part-of limit bytes (head_len bytes) refl e
+
+module _ (limit : ℕ) (held : List ℕ) (seen : Seen) (piece : List ℕ) (is : IsHeld limit held seen) where
+  none : scan Nothing held ≡ None
+  none = sym (head_len-is held) ∙ (part-is limit held is.part).0
+
+  -- The end of a head by what is seen of it and the piece.
+  joined : head_len (held ++ piece) ≡ plus_len (length held) (scan seen piece)
+  joined = head_len-is (held ++ piece) ∙ scan-later Nothing held piece none ∙ ap (λ (s : Seen). plus_len (length held) (scan s piece)) (sym is.mark)
+
+  -- The head ends within the piece, before the limit.
+  pub head_ends : (near : ℕ) (n : ℕ) → scan seen (take near piece) ≡ Some n → length held + near ≤ limit → near ≤ length piece → (0 < n) × (n ≤ length piece) × (length held + n ≤ limit) × (front limit (held ++ piece) ≡ Whole (held ++ take n piece) (drop n piece))
+  unfolding front
+  head_ends near n found room short =
+      let bounds = scan-within seen (take near piece) n found in
+      let size : length (take near piece) ≡ near = length-take-le near piece short in
+      let whole : scan seen piece ≡ Some n = ap (scan seen) (sym (take-append-drop near piece)) ∙ scan-goes seen (take near piece) (drop near piece) n found in
+      let at : head_len (held ++ piece) ≡ Some (length held + n) = joined ∙ ap (plus_len (length held)) whole in (
+        bounds.0,
+        omega (arith, bounds.1, size, short),
+        omega (arith, bounds.1, size, room),
+        ap (sized limit (held ++ piece)) at ∙ sized-whole limit (held ++ piece) (length held + n) (omega (arith, bounds.1, size, room))
+        ∙ ap (λ (front : List ℕ). Whole front (drop (length held + n) (held ++ piece))) (take-append-add held piece n) ∙ ap (Whole (held ++ take n piece)) (drop-append-add held piece n),
+      )
+
+  -- The piece doesn't end the head, which isn't too long.
+  pub still_part : scan seen piece ≡ None → length held + length piece < limit → IsHeld limit (held ++ piece) (seen_after seen piece)
+  unfolding front
+  still_part found short = record {
+    part = ap (sized limit (held ++ piece)) (joined ∙ ap (plus_len (length held)) found) ∙ sized-part limit (held ++ piece) (omega (arith, length-append held piece, short));
+    mark = ap (λ (s : Seen). seen_after s piece) is.mark ∙ sym (seen_after-append Nothing held piece none);
+  }
+
+  -- The limit holds no end of a head.
+  pub too_long : (near : ℕ) → scan seen (take near piece) ≡ None → length held + near ≡ limit → near ≤ length piece → front limit (held ++ piece) ≡ Long
+  unfolding front
+  too_long near found room short = by (head_len (held ++ piece)) refl
+    where
+      front_none : head_len (held ++ take near piece) ≡ None
+      front_none = head_len-is (held ++ take near piece) ∙ scan-later Nothing held (take near piece) none ∙ ap (λ (s : Seen). plus_len (length held) (scan s (take near piece))) (sym is.mark) ∙ ap (plus_len (length held)) found
+
+      apart : held ++ piece ≡ (held ++ take near piece) ++ drop near piece
+      apart = ap (λ (xs : List ℕ). held ++ xs) (sym (take-append-drop near piece)) ∙ sym (append_assoc held (take near piece) (drop near piece))
+
+      size : length (held ++ take near piece) ≡ limit
+      size = length-append held (take near piece) ∙ ap (λ (n : ℕ). length held + n) (length-take-le near piece short) ∙ room
+
+      by : (o : Option ℕ) → head_len (held ++ piece) ≡ o → sized limit (held ++ piece) o ≡ Long
+      by None at = sized-long limit (held ++ piece) (omega (arith, length-append held piece, room, short))
+      by (Some n) at =
+          let later = head_len-later (held ++ take near piece) (drop near piece) n (ap head_len (sym apart) ∙ at) front_none in
+          sized-over limit (held ++ piece) n (omega (arith, later, size))
