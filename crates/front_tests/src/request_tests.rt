@@ -895,7 +895,9 @@ fn reply(alloc: Global, case: &Case) -> Result<Bytes, NoMemory> {
     made.push_slice(b"\r\n")?;
     made.push_slice(case.more)?;
     made.push_slice(b"\r\n")?;
-    made.push_slice(if case.sends { case.body } else { b"" })?;
+    if case.sends {
+        made.push_slice(case.body)?;
+    }
     Ok(made)
 }
 

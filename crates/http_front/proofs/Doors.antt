@@ -14,7 +14,7 @@ use Rattle.http_heads.specs.declared.reply.Verdict.TheVariants.{Serve, Refuse}
 use Rattle.http_front.specs.Fronts.{Front, Whole, Long, Partial, front, is_whole, head_limit}
 use Rattle.http_front.specs.Asking.{Reading, Found, Gives, Streams, Missing, target_found, target_reads}
 use Rattle.http_front.specs.Replies.{word}
-use Rattle.http_front.specs.Door.{Says, replies, served, said_asked, said_verdict, said_head, unkept, said_at, said, has_request, with_piece}
+use Rattle.http_front.specs.Door.{Says, replies, served, said_found, said_verdict, said_head, unkept, said_at, said, has_request, with_piece}
 use Rattle.http_front.proofs.Fronts.{Goes, Same, Over, Open, front-goes, front-shorter, not_whole}
 
 goes-whole : (q : List ℕ) (f g : Front) → Goes q f g → is_whole f ≡ true → is_whole g ≡ true
@@ -36,16 +36,15 @@ either-after : (t : Bool) (x x' y : Says) (q : List ℕ) → y ≡ said_with (wi
 either-after true x x' y q closed is = closed
 either-after false x x' y q closed is = is
 
-asked-after : (reading : Reading) (moment : ℕ) (a : Archive) (asked : Asked) (sends : Bool) (rest q : List ℕ) (way : Way) → said_asked reading moment a asked sends (rest ++ q) way ≡ said_with (with_piece q) (said_asked reading moment a asked sends rest way)
-asked-after reading moment a asked sends rest q Plain = served-after moment a sends asked.closes rest q (target_found reading a asked.target)
-asked-after reading moment a asked sends rest q Memory = refl
-asked-after reading moment a asked sends rest q Disk =
-    either-after (target_reads a asked.target) (served moment a sends asked.closes rest (target_found reading a asked.target)) (served moment a sends asked.closes (rest ++ q) (target_found reading a asked.target)) (closes a (word ServerError moment sends true)) q refl
-    (served-after moment a sends asked.closes rest q (target_found reading a asked.target))
-asked-after reading moment a asked sends rest q Newer = served-after moment a sends asked.closes rest q (target_found reading a asked.target)
+found-after : (moment : ℕ) (a : Archive) (sends ends : Bool) (rest q : List ℕ) (found : Found) (reads : Bool) (way : Way) → said_found moment a sends ends (rest ++ q) found reads way ≡ said_with (with_piece q) (said_found moment a sends ends rest found reads way)
+found-after moment a sends ends rest q found reads Plain = served-after moment a sends ends rest q found
+found-after moment a sends ends rest q found reads Memory = refl
+found-after moment a sends ends rest q found reads Disk =
+    either-after reads (served moment a sends ends rest found) (served moment a sends ends (rest ++ q) found) (closes a (word ServerError moment sends true)) q refl (served-after moment a sends ends rest q found)
+found-after moment a sends ends rest q found reads Newer = served-after moment a sends ends rest q found
 
 verdict-after : (reading : Reading) (moment : ℕ) (a : Archive) (asked : Asked) (rest q : List ℕ) (verdict : Verdict) (way : Way) → said_verdict reading moment a asked (rest ++ q) verdict way ≡ said_with (with_piece q) (said_verdict reading moment a asked rest verdict way)
-verdict-after reading moment a asked rest q (Serve sends) way = asked-after reading moment a asked sends rest q way
+verdict-after reading moment a asked rest q (Serve sends) way = found-after moment a sends asked.closes rest q (target_found reading a asked.target) (target_reads a asked.target) way
 verdict-after reading moment a asked rest q (Refuse status sends) way = refl
 
 head-after : (reading : Reading) (moment : ℕ) (a : Archive) (asked : Option Asked) (rest q : List ℕ) (way : Way) → said_head reading moment a asked (rest ++ q) way ≡ said_with (with_piece q) (said_head reading moment a asked rest way)

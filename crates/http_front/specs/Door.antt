@@ -33,13 +33,18 @@ served moment a sends ends rest (Streams body bytes) =
     replies a rest ends sends (reply Done moment body bytes sends ends)
 served moment a sends ends rest Missing = replies a rest ends false (word NotFound moment sends ends)
 
--- A request in each way. Out of memory, or if the disk fails at a request that reads it, the
--- connection is closed with a word.
+-- What is found, in each way. Out of memory, or if the disk fails where it is read, the connection is
+-- closed with a word.
+abbrev pub said_found : ℕ → Archive → Bool → Bool → List ℕ → Found → Bool → Way → Says
+said_found moment a sends ends rest found reads way =
+    in_ways (served moment a sends ends rest found) (closes a (word Unavailable moment sends true))
+    (if reads then closes a (word ServerError moment sends true)
+    else served moment a sends ends rest found) way
+
+-- A request in each way.
 abbrev pub said_asked : Reading → ℕ → Archive → Asked → Bool → List ℕ → Way → Says
-said_asked reading moment a asked sends rest way =
-    let plain = served moment a sends asked.closes rest (target_found reading a asked.target) in
-    in_ways plain (closes a (word Unavailable moment sends true))
-    (if target_reads a asked.target then closes a (word ServerError moment sends true) else plain) way
+said_asked reading moment a asked sends rest way = said_found moment a sends asked.closes rest
+    (target_found reading a asked.target) (target_reads a asked.target) way
 
 -- A refusal, which closes the connection and needs no memory.
 abbrev pub said_verdict : Reading → ℕ → Archive → Asked → List ℕ → Verdict → Way → Says

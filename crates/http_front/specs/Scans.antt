@@ -25,7 +25,7 @@ scan_by (Some seen) more = plus_len 1 (more seen)
 -- The number of bytes that make CR LF CR LF whole.
 abbrev pub scan : Seen → List ℕ → Option ℕ
 scan seen [] = None
-scan seen (b ∷ bs) = scan_by (next_seen seen b) (λ (then : Seen). scan then bs)
+scan seen (b ∷ bs) = scan_by (next_seen seen b) (λ (after : Seen). scan after bs)
 
 -- What is seen after bytes that don't make it whole.
 abbrev pub seen_by : Option Seen → (Seen → Seen) → Seen
@@ -34,7 +34,7 @@ seen_by (Some seen) more = more seen
 
 abbrev pub seen_after : Seen → List ℕ → Seen
 seen_after seen [] = seen
-seen_after seen (b ∷ bs) = seen_by (next_seen seen b) (λ (then : Seen). seen_after then bs)
+seen_after seen (b ∷ bs) = seen_by (next_seen seen b) (λ (after : Seen). seen_after after bs)
 
 -- What is held is a part of a head, and this is what is seen of its end.
 pub record IsHeld (limit : ℕ) (held : List ℕ) (seen : Seen) : Type 0 where

@@ -19,13 +19,13 @@ use Rattle.http_heads.specs.declared.reply.Status.TheVariants.{Done, ServerError
 use Rattle.http_front.specs.Views.{shown_row, shown_text}
 use Rattle.http_front.specs.Threads.{thread_rows, oldest_first}
 use Rattle.http_front.specs.Asking.{Reading, IsReading, Found, Gives, Streams, Missing, message_found, text_found, thread_found, feed_found, feed_len}
-use Rattle.http_front.specs.Door.{Says, replies, served, said, said_head, said_asked, has_request}
+use Rattle.http_front.specs.Door.{Says, replies, said_found, said, said_head, said_asked, has_request}
 use Rattle.http_front.specs.Mailboxes.{mailbox_at, whole_mailbox}
 use Rattle.http_front.specs.Replies.{reply, word, word_of, damaged_line, unopened_word}
 use Rattle.http_front.specs.declared.session.Turn.{Turn}
 use Rattle.http_front.specs.declared.session.Turn.TheVariants.{Went, Kept, Closed}
 use Rattle.http_front.specs.declared.found.Held.{Held}
-use Rattle.http_front.specs.declared.found.Held.TheVariants as held
+use Rattle.http_front.specs.declared.found.Held.TheVariants as what
 use Rattle.http_front.specs.declared.found.Form.{Form}
 use Rattle.http_front.specs.declared.found.Form.TheVariants as form
 
@@ -50,10 +50,10 @@ Takes piece Closed = Unit {0}
 
 -- What was found under a target, as the code has it: the body, or the numbers of a mailbox file.
 abbrev pub IsHeldFor : Archive → Found → Held → Type 0
-IsHeldFor a found (held.Whole body bytes) = found ≡ Gives body bytes
-IsHeldFor a found held.EveryMail = found ≡ Streams Mailbox (whole_mailbox a.entries)
-IsHeldFor a found (held.Mails numbers) = found ≡ Streams Mailbox (mailbox_at a.entries numbers)
-IsHeldFor a found held.Nothing = found ≡ Missing
+IsHeldFor a found (what.Whole body bytes) = found ≡ Gives body bytes
+IsHeldFor a found what.EveryMail = found ≡ Streams Mailbox (whole_mailbox a.entries)
+IsHeldFor a found (what.Mails numbers) = found ≡ Streams Mailbox (mailbox_at a.entries numbers)
+IsHeldFor a found what.Nothing = found ≡ Missing
 
 -- What stands under a target was found, or memory ran out; or the disk failed, where texts are read.
 abbrev pub Finds : Archive → Found → Bool → Result Held TextRefusal → Type 0
@@ -64,10 +64,10 @@ Finds a found reads (Err refusal.NoMemory) = Unit {0}
 
 -- A page was made, or there is none; or memory ran out.
 abbrev pub MakesPage : Found → Result Held NoMemory → Type 0
-MakesPage found (Ok (held.Whole body bytes)) = found ≡ Gives body bytes
-MakesPage found (Ok held.Nothing) = found ≡ Missing
-MakesPage found (Ok held.EveryMail) = ⊥
-MakesPage found (Ok (held.Mails numbers)) = ⊥
+MakesPage found (Ok (what.Whole body bytes)) = found ≡ Gives body bytes
+MakesPage found (Ok what.Nothing) = found ≡ Missing
+MakesPage found (Ok what.EveryMail) = ⊥
+MakesPage found (Ok (what.Mails numbers)) = ⊥
 MakesPage found (Err refused) = Unit {0}
 
 -- What is found of a live number, by the form in which it is asked for.
@@ -97,9 +97,7 @@ said_stream moment a ends rest words = in_ways (replies a rest ends true words)
 -- The reply with a mailbox file in each way.
 abbrev pub said_mailbox : ℕ → Archive → Bool → Bool → List ℕ → List ℕ → Way → Says
 said_mailbox moment a sends ends rest bytes =
-    in_ways (served moment a sends ends rest (Streams Mailbox bytes))
-    (door.closes a (word Unavailable moment sends true))
-    (door.closes a (word ServerError moment sends true))
+    said_found moment a sends ends rest (Streams Mailbox bytes) true
 
 -- A shelf: the archives that it holds.
 module _ {S : Type 0} (holds : S → Archive → Type 0) where

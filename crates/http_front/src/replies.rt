@@ -4,7 +4,7 @@ ghost use Rattle.arch_base.specs.Moments.{IsMoment};
 ghost use Rattle.edge_io.specs.Phrases.{Says};
 ghost use Rattle.http_front.specs.Sessions.{SaysUnread};
 ghost use Rattle.http_heads.specs.Replies.{allow_line as allow, close_line as close, status_lines, body_lines};
-ghost use Rattle.http_front.specs.Replies.{reply, word, word_of, status_line as line_of, damaged_line as damaged};
+ghost use Rattle.http_front.specs.Replies.{reply, sent_body, word, word_of, status_line as line_of, damaged_line as damaged};
 
 use arch_base::{Bytes, NoMemory, ObjectId, hex_of};
 use arch_model::TextRefusal;
@@ -30,11 +30,14 @@ pub(crate) fn push_reply(
         ≡ into.old ++ reply status moment body bytes.now sends closes) }
 {
     push_reply_head(status, moment, body, bytes.len() as u128, closes, into)?;
-    if sends {
-        into.push_slice(bytes)
-    } else {
-        Ok(())
-    }
+    into.push_slice(sent(bytes, sends))
+}
+
+/// Returns the bytes of a body, or none in the reply to the method `HEAD`.
+fn sent(bytes: &[u8], sends: bool) -> &[u8]
+    ensures { result.now ≡ sent_body sends bytes.now }
+{
+    if sends { bytes } else { b"" }
 }
 
 /// Writes a status with its words. Needs no memory, but writes in one piece if there is some.
@@ -97,7 +100,7 @@ fn say_in_parts<O: Sink>(
     say(allow_line(status), out)?;
     say(close_line(closes), out)?;
     say(b"\r\n", out)?;
-    say(if sends { words } else { b"" }, out)
+    say(sent(words, sends), out)
 }
 
 /// Writes the line of a status, and the line of a moment's date.

@@ -59,15 +59,15 @@ pub(crate) fn head_in(held: &[u8], seen: Seen, piece: &[u8]) -> Ahead
 /// Finds out how bytes continue the end of a head.
 fn scan_bytes(seen: Seen, bytes: &[u8]) -> Scanned
     ensures whole { (n : ℕ) → result ≡ Scanned.Whole n → scan seen bytes.now ≡ Some n }
-    ensures open { (then : Seen) → result ≡ Scanned.Open then → (scan seen bytes.now ≡ None)
-        × (then ≡ seen_after seen bytes.now) }
+    ensures open { (after : Seen) → result ≡ Scanned.Open after → (scan seen bytes.now ≡ None)
+        × (after ≡ seen_after seen bytes.now) }
 {
     let mut seen = seen;
     let mut len = 0;
     for byte in bytes {
         len += 1;
         match seen.next(*byte) {
-            Some(then) => seen = then,
+            Some(after) => seen = after,
             None => return Scanned::Whole(len),
         }
     }
