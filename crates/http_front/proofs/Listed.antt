@@ -1,5 +1,5 @@
 -- Rows, mails and pieces of numbers, one after another.
-use Rattle.std.proofs.Common.{◌≡◌, ◌<◌, ◌≤◌, ◌+◌, ◌==◌, ℕ, zero, suc, Bool, true, false, List, [], ◌∷◌, ◌++◌, length, Option, Some, None, is_some, refl, sym, ap, subst, ◌∙◌, length-append, append_assoc, arith, add-one, if◌then◌else◌}
+use Rattle.std.proofs.Common.{◌≡◌, ◌<◌, ◌≤◌, ◌+◌, ◌-◌, ◌==◌, ℕ, zero, suc, Bool, true, false, List, [], ◌∷◌, ◌++◌, length, Option, Some, None, is_some, refl, sym, ap, subst, ◌∙◌, length-append, append_assoc, arith, add-one, if◌then◌else◌}
 use Rattle.std.proofs.lemmas.List.{append-nil}
 use Rattle.arch_model.specs.Archives.{Entry, live, text_of}
 use Rattle.arch_model.specs.Listings.{row_at, row_in}
@@ -74,3 +74,25 @@ pieces-skip entries low (suc gap) none =
     ∙ ap (λ (p : List ℕ). pieces_below entries (low + gap) ++ p) (pieces-none entries (low + gap) (none (low + gap) (omega arith) (omega arith)))
     ∙ append-nil (pieces_below entries (low + gap))
     ∙ pieces-skip entries low gap (λ m from to. none m from (omega (arith, to)))
+
+-- The number from which the next one is searched; past all numbers, their count.
+abbrev pub low_of : Option ℕ → ℕ
+low_of None = 4294967296
+low_of (Some low) = low
+
+-- The next live number after a low one, and its piece after those below.
+pub pieces-next : (entries : List Entry) (low n : ℕ) → IsLeastLive (live entries) low (Some n) → pieces_below entries (suc n) ≡ pieces_below entries low ++ piece_at entries n
+pieces-next entries low n least =
+    let gap : n ≡ low + (n - low) = omega (arith, least.0) in
+    let before : pieces_below entries n ≡ pieces_below entries low = ap (pieces_below entries) gap ∙ pieces-skip entries low (n - low) (λ m from to. least.2 m from (omega (arith, to, least.0))) in
+    ap (λ (p : List ℕ). p ++ piece_at entries n) before
+
+-- Without one, the pieces below are all.
+pub pieces-all : (entries : List Entry) (low : ℕ) → low ≤ 4294967296 → IsLeastLive (live entries) low None → whole_mailbox entries ≡ pieces_below entries low
+unfolding whole_mailbox
+pieces-all entries low within none =
+    ap (pieces_below entries) (omega (arith, within)) ∙ pieces-skip entries low (4294967296 - low) (λ m from to. none m from)
+
+pub pieces-are_all : (entries : List Entry) → whole_mailbox entries ≡ pieces_below entries 4294967296
+unfolding whole_mailbox
+pieces-are_all entries = refl
