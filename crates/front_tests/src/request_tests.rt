@@ -1,5 +1,8 @@
 //! Heads and targets, and their replies, which were worked out by hand from the formats.
-use crate::mails::{A, B, AFTER_ALL, AFTER_ONE, ALL_MBOX, FEED, LISTING, LONE_FEED, LONE_MBOX, MESSAGE_A, MESSAGE_B, MESSAGE_C, THREAD_A, THREAD_B, THREAD_C, THREAD_FEED, THREAD_MBOX, Connection};
+use crate::mails::{
+    A, AFTER_ALL, AFTER_ONE, ALL_MBOX, B, Connection, FEED, LISTING, LONE_FEED, LONE_MBOX,
+    MESSAGE_A, MESSAGE_B, MESSAGE_C, THREAD_A, THREAD_B, THREAD_C, THREAD_FEED, THREAD_MBOX,
+};
 use arch_base::{Bytes, NoMemory};
 use arch_model::Next;
 use itoa::Buffer;

@@ -42,7 +42,11 @@ fn is_answered_after(alloc: Global, request: &[u8], reply: &[u8]) -> bool {
 #[test]
 fn a_removed_mail_is_not_shown(rt: HostRuntime) {
     for (request, reply) in &AFTER_REMOVAL {
-        assert!(rt; is_answered_after(rt.alloc(), request, reply), "{:?}", request);
+        assert!(rt;
+            is_answered_after(rt.alloc(), request, reply),
+            "{:?}",
+            request
+        );
     }
 }
 
@@ -81,15 +85,28 @@ fn damage() -> OpenRefusal {
 
 #[test]
 fn the_node_has_words_of_the_door(rt: HostRuntime) {
-    assert!(rt; busy_is(rt.alloc(), b"HTTP/1.1 429 Too Many Requests\r\nDate: Thu, 01 Feb 2024 10:03:20 GMT\r\nContent-Type: text/plain; charset=utf-8\r\nContent-Length: 5\r\nConnection: close\r\n\r\nbusy\n"));
-    assert!(rt; no_memory_is(rt.alloc(), b"HTTP/1.1 503 Service Unavailable\r\nDate: Thu, 01 Feb 2024 10:03:20 GMT\r\nContent-Type: text/plain; charset=utf-8\r\nContent-Length: 14\r\nConnection: close\r\n\r\nout of memory\n"));
+    assert!(rt;
+        busy_is(
+            rt.alloc(),
+            b"HTTP/1.1 429 Too Many Requests\r\nDate: Thu, 01 Feb 2024 10:03:20 GMT\r\nContent-Type: text/plain; charset=utf-8\r\nContent-Length: 5\r\nConnection: close\r\n\r\nbusy\n"
+        )
+    );
+    assert!(rt;
+        no_memory_is(
+            rt.alloc(),
+            b"HTTP/1.1 503 Service Unavailable\r\nDate: Thu, 01 Feb 2024 10:03:20 GMT\r\nContent-Type: text/plain; charset=utf-8\r\nContent-Length: 14\r\nConnection: close\r\n\r\nout of memory\n"
+        )
+    );
 }
 
 #[test]
 fn an_archive_that_does_not_open_is_told(rt: HostRuntime) {
-    let fault = b"HTTP/1.1 500 Internal Server Error\r\nDate: Thu, 01 Feb 2024 10:03:20 GMT\r\nContent-Type: text/plain; charset=utf-8\r\nContent-Length: 11\r\nConnection: close\r\n\r\ndisk fault\n";
-    let root = b"HTTP/1.1 500 Internal Server Error\r\nDate: Thu, 01 Feb 2024 10:03:20 GMT\r\nContent-Type: text/plain; charset=utf-8\r\nContent-Length: 15\r\nConnection: close\r\n\r\ndamaged root 0\n";
-    let epoch = b"HTTP/1.1 500 Internal Server Error\r\nDate: Thu, 01 Feb 2024 10:03:20 GMT\r\nContent-Type: text/plain; charset=utf-8\r\nContent-Length: 18\r\nConnection: close\r\n\r\ndamaged epoch 3 8\n";
+    let fault =
+        b"HTTP/1.1 500 Internal Server Error\r\nDate: Thu, 01 Feb 2024 10:03:20 GMT\r\nContent-Type: text/plain; charset=utf-8\r\nContent-Length: 11\r\nConnection: close\r\n\r\ndisk fault\n";
+    let root =
+        b"HTTP/1.1 500 Internal Server Error\r\nDate: Thu, 01 Feb 2024 10:03:20 GMT\r\nContent-Type: text/plain; charset=utf-8\r\nContent-Length: 15\r\nConnection: close\r\n\r\ndamaged root 0\n";
+    let epoch =
+        b"HTTP/1.1 500 Internal Server Error\r\nDate: Thu, 01 Feb 2024 10:03:20 GMT\r\nContent-Type: text/plain; charset=utf-8\r\nContent-Length: 18\r\nConnection: close\r\n\r\ndamaged epoch 3 8\n";
     assert!(rt; unopened_is(rt.alloc(), OpenRefusal::DiskFault, fault));
     assert!(rt; unopened_is(rt.alloc(), OpenRefusal::NoArchive, root));
     assert!(rt; unopened_is(rt.alloc(), damage(), epoch));

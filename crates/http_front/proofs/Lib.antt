@@ -1,6 +1,7 @@
 pub mod Fronts
 pub mod Ends
 pub mod Scanning
+pub mod Trees
 pub mod Doors
 pub mod Acting
 pub mod Serving

@@ -68,9 +68,10 @@ pieces-none entries n none = by (is_number n)
 
 -- The pieces below a number go on from those below a lesser one, where the numbers between have none.
 pub pieces-skip : (entries : List Entry) (low gap : ℕ) → ((m : ℕ) → low ≤ m → m < low + gap → shown_text entries m ≡ None) → pieces_below entries (low + gap) ≡ pieces_below entries low
-pieces-skip entries low zero none = ap (pieces_below entries) (omega arith)
+pieces-skip entries low zero none = let same : low + 0 ≡ low = omega arith in ap (pieces_below entries) same
 pieces-skip entries low (suc gap) none =
-    ap (pieces_below entries) (omega arith)
+    let same : low + suc gap ≡ suc (low + gap) = omega arith in
+    ap (pieces_below entries) same
     ∙ ap (λ (p : List ℕ). pieces_below entries (low + gap) ++ p) (pieces-none entries (low + gap) (none (low + gap) (omega arith) (omega arith)))
     ∙ append-nil (pieces_below entries (low + gap))
     ∙ pieces-skip entries low gap (λ m from to. none m from (omega (arith, to)))
@@ -91,7 +92,8 @@ pieces-next entries low n least =
 pub pieces-all : (entries : List Entry) (low : ℕ) → low ≤ 4294967296 → IsLeastLive (live entries) low None → whole_mailbox entries ≡ pieces_below entries low
 unfolding whole_mailbox
 pieces-all entries low within none =
-    ap (pieces_below entries) (omega (arith, within)) ∙ pieces-skip entries low (4294967296 - low) (λ m from to. none m from)
+    let gap : 4294967296 ≡ low + (4294967296 - low) = omega (arith, within) in
+    ap (pieces_below entries) gap ∙ pieces-skip entries low (4294967296 - low) (λ m from to. none m from)
 
 pub pieces-are_all : (entries : List Entry) → whole_mailbox entries ≡ pieces_below entries 4294967296
 unfolding whole_mailbox

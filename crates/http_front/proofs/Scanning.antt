@@ -119,19 +119,19 @@ scan-some (Some s) xs e = (s, refl, none-of (scan s xs) e)
 pub scan-later : (seen : Seen) (xs ys : List ℕ) → scan seen xs ≡ None → scan seen (xs ++ ys) ≡ plus_len (length xs) (scan (seen_after seen xs) ys)
 scan-later seen [] ys e = sym (plus-none (scan seen ys))
 scan-later seen (b ∷ bs) ys e =
-    let open = scan-some (next_seen seen b) bs e in
-    ap (λ (o : Option Seen). scan_by o (λ (s : Seen). scan s (bs ++ ys))) open.1
-    ∙ ap (plus_len 1) (scan-later open.0 bs ys open.2)
-    ∙ plus-joined 1 (length bs) (scan (seen_after open.0 bs) ys)
-    ∙ sym (ap (λ (o : Option Seen). plus_len (1 + length bs) (scan (seen_by o (λ (s : Seen). seen_after s bs)) ys)) open.1)
+    let step = scan-some (next_seen seen b) bs e in
+    ap (λ (o : Option Seen). scan_by o (λ (s : Seen). scan s (bs ++ ys))) step.1
+    ∙ ap (plus_len 1) (scan-later step.0 bs ys step.2)
+    ∙ plus-joined 1 (length bs) (scan (seen_after step.0 bs) ys)
+    ∙ sym (ap (λ (o : Option Seen). plus_len (1 + length bs) (scan (seen_by o (λ (s : Seen). seen_after s bs)) ys)) step.1)
 
 pub seen_after-append : (seen : Seen) (xs ys : List ℕ) → scan seen xs ≡ None → seen_after seen (xs ++ ys) ≡ seen_after (seen_after seen xs) ys
 seen_after-append seen [] ys e = refl
 seen_after-append seen (b ∷ bs) ys e =
-    let open = scan-some (next_seen seen b) bs e in
-    ap (λ (o : Option Seen). seen_by o (λ (s : Seen). seen_after s (bs ++ ys))) open.1
-    ∙ seen_after-append open.0 bs ys open.2
-    ∙ sym (ap (λ (o : Option Seen). seen_after (seen_by o (λ (s : Seen). seen_after s bs)) ys) open.1)
+    let step = scan-some (next_seen seen b) bs e in
+    ap (λ (o : Option Seen). seen_by o (λ (s : Seen). seen_after s (bs ++ ys))) step.1
+    ∙ seen_after-append step.0 bs ys step.2
+    ∙ sym (ap (λ (o : Option Seen). seen_after (seen_by o (λ (s : Seen). seen_after s bs)) ys) step.1)
 
 scan-by_some : (seen : Option Seen) (bs : List ℕ) (n : ℕ) → ((s : Seen) (m : ℕ) → scan s bs ≡ Some m → (0 < m) × (m ≤ length bs)) → scan_by seen (λ (s : Seen). scan s bs) ≡ Some n → (0 < n) × (n ≤ 1 + length bs)
 scan-by_some None bs n more e = let same : 1 ≡ n = cc in (omega (arith, same), omega (arith, same))
@@ -196,7 +196,7 @@ module _ (limit : ℕ) (held : List ℕ) (seen : Seen) (piece : List ℕ) (is : 
         omega (arith, bounds.1, size, short),
         omega (arith, bounds.1, size, room),
         ap (sized limit (held ++ piece)) at ∙ sized-whole limit (held ++ piece) (length held + n) (omega (arith, bounds.1, size, room))
-        ∙ ap (λ (front : List ℕ). Whole front (drop (length held + n) (held ++ piece))) (take-append-add held piece n) ∙ ap (Whole (held ++ take n piece)) (drop-append-add held piece n),
+            ∙ ap (λ (front : List ℕ). Whole front (drop (length held + n) (held ++ piece))) (take-append-add held piece n) ∙ ap (Whole (held ++ take n piece)) (drop-append-add held piece n),
       )
 
   -- The piece doesn't end the head, which isn't too long.

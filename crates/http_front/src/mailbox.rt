@@ -66,7 +66,14 @@ pub(crate) fn say_every_mail<S: Shelf, O: Sink>(
 {
     let mut unsaid = Bytes::new(alloc);
     let len = every_len(shelf);
-    match push_reply_head(Status::Done, moment, Body::Mailbox, len, closes, &mut unsaid) {
+    match push_reply_head(
+        Status::Done,
+        moment,
+        Body::Mailbox,
+        len,
+        closes,
+        &mut unsaid,
+    ) {
         Ok(()) if sends => {
             let manner = Manner { moment, closes };
             say_every_piece(alloc, manner, unsaid, shelf, out)
@@ -105,7 +112,14 @@ pub(crate) fn say_mails<S: Shelf, O: Sink>(
 {
     let mut unsaid = Bytes::new(alloc);
     let len = len_of(numbers, shelf);
-    match push_reply_head(Status::Done, moment, Body::Mailbox, len, closes, &mut unsaid) {
+    match push_reply_head(
+        Status::Done,
+        moment,
+        Body::Mailbox,
+        len,
+        closes,
+        &mut unsaid,
+    ) {
         Ok(()) if sends => {
             let manner = Manner { moment, closes };
             say_pieces(alloc, numbers, manner, unsaid, shelf, out)

@@ -16,11 +16,7 @@ use mime_parts::body_text;
 use std::alloc::Global;
 
 /// Returns the text of a number, if it is live. Reads one text.
-pub(crate) fn text_at<S: Shelf>(
-    alloc: Global,
-    n: u32,
-    shelf: &mut S,
-) -> Result<Held, TextRefusal>
+pub(crate) fn text_at<S: Shelf>(alloc: Global, n: u32, shelf: &mut S) -> Result<Held, TextRefusal>
     requires { S.ready shelf.old ≡ true }
     ensures found { FindsIn S.holds (λ reading a. text_found (shown_text a.entries n)) (λ a. true)
         shelf.old result }
@@ -64,12 +60,7 @@ pub(crate) fn message_at<S: Shelf>(
 }
 
 /// Returns the page of a number with this text, if it has a row.
-fn page_with<S: Shelf>(
-    alloc: Global,
-    n: u32,
-    text: &[u8],
-    shelf: &S,
-) -> Result<Held, NoMemory>
+fn page_with<S: Shelf>(alloc: Global, n: u32, text: &[u8], shelf: &S) -> Result<Held, NoMemory>
     requires { S.ready shelf.now ≡ true }
     ensures { (a : Archive) → S.holds shelf.now a
         → MakesPage (message_found a (shown_row a.entries n) (Some text.now)) result }
@@ -81,12 +72,7 @@ fn page_with<S: Shelf>(
 }
 
 /// Returns the page of a row and its text.
-fn page_of<S: Shelf>(
-    alloc: Global,
-    row: &Row,
-    text: &[u8],
-    shelf: &S,
-) -> Result<Held, NoMemory>
+fn page_of<S: Shelf>(alloc: Global, row: &Row, text: &[u8], shelf: &S) -> Result<Held, NoMemory>
     requires { S.ready shelf.now ≡ true }
     ensures { (a : Archive) → S.holds shelf.now a
         → MakesPage (message_found a (Some row.now) (Some text.now)) result }

@@ -54,7 +54,15 @@ pub(crate) fn say_status<O: Sink>(
         (O.taken out.new) (O.faults out.new) result }
     ensures sink { O.alike out.old out.new }
 {
-    say_words(alloc, status, status_line(status), moment, sends, closes, out)
+    say_words(
+        alloc,
+        status,
+        status_line(status),
+        moment,
+        sends,
+        closes,
+        out,
+    )
 }
 
 /// Writes words with a status. Needs no memory, but writes in one piece if there is some.
@@ -147,7 +155,11 @@ fn allow_line(status: Status) -> &'static [u8]
 fn close_line(closes: bool) -> &'static [u8]
     ensures { result.now ≡ close closes }
 {
-    if closes { b"Connection: close\r\n" } else { b"" }
+    if closes {
+        b"Connection: close\r\n"
+    } else {
+        b""
+    }
 }
 
 /// Returns the words of a status.

@@ -59,7 +59,7 @@ pub(crate) fn head_in(held: &[u8], seen: Seen, piece: &[u8]) -> Ahead
 /// Finds out how bytes continue the end of a head.
 fn scan_bytes(seen: Seen, bytes: &[u8]) -> Scanned
     ensures whole { (n : ℕ) → result ≡ Scanned.Whole n → scan seen bytes.now ≡ Some n }
-    ensures open { (after : Seen) → result ≡ Scanned.Open after → (scan seen bytes.now ≡ None)
+    ensures more { (after : Seen) → result ≡ Scanned.Open after → (scan seen bytes.now ≡ None)
         × (after ≡ seen_after seen bytes.now) }
 {
     let mut seen = seen;
@@ -93,5 +93,9 @@ impl Seen {
 fn started(byte: u8) -> Seen
     ensures { result ≡ started_by byte }
 {
-    if byte == b'\r' { Seen::Return } else { Seen::Nothing }
+    if byte == b'\r' {
+        Seen::Return
+    } else {
+        Seen::Nothing
+    }
 }
