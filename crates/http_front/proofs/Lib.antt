@@ -7,3 +7,5 @@ pub mod Acting
 pub mod Serving
 pub mod Streaming
 pub mod Listed
+pub mod Finding
+pub mod Arrivals

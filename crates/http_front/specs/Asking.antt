@@ -1,8 +1,9 @@
 -- What an archive has under the target of a request.
-use Rattle.std.specs.Prelude.{◌≡◌, ℕ, Bool, true, false, List, [], ◌∷◌, take, drop, reverse, codes, Option, Some, None}
+use Rattle.std.specs.Prelude.{◌≡◌, ◌+◌, ℕ, Bool, true, false, List, [], ◌∷◌, take, drop, reverse, codes, Option, Some, None}
 use Rattle.arch_model.specs.Archives.{Archive, live}
 use Rattle.arch_model.specs.Listings.{listing}
 use Rattle.atom_mbox.specs.Feeds.{feed_of}
+use Rattle.html_pages.specs.Lines.{rows_shown}
 use Rattle.html_pages.specs.Pages.{listing_of, message_of}
 use Rattle.http_heads.specs.Addresses.{Named, TheListing, TextOf, ThreadOf, MessageOf, TheFeed, TheMailbox, ThreadFeedOf, ThreadMailboxOf, named_by, segments_of}
 use Rattle.http_heads.specs.Heads.{IsHead, Asked, asked_of}
@@ -41,10 +42,16 @@ pub data Found : Type 0 where
   Streams : Body → List ℕ → Found
   Missing : Found
 
+-- The rows that the page of a listing needs: those that it shows, and one that says that there are
+-- more.
+abbrev pub rows_needed : ℕ
+rows_needed = rows_shown + 1
+
 -- The page of a listing. Searches aren't served yet: a target with words to search for has no page.
 abbrev pub listing_found : Archive → Option (List ℕ) → ℕ → Found
 listing_found a None skip = Gives Page
-    (listing_of a.config.name (rows_at a.entries (drop skip (listing (live a.entries)))) skip)
+    (listing_of a.config.name
+    (rows_at a.entries (take rows_needed (drop skip (listing (live a.entries))))) skip)
 listing_found a (Some words) skip = Missing
 
 -- What is found of a number, if a live mail has the id.
