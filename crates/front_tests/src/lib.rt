@@ -3,6 +3,10 @@
 #![tactic(auto)]
 
 #[cfg(test)]
+mod failing_shelf;
+#[cfg(test)]
+mod failure_tests;
+#[cfg(test)]
 mod mails;
 #[cfg(test)]
 mod request_tests;

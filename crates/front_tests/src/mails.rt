@@ -95,16 +95,12 @@ pub(crate) struct Connection {
 impl Connection {
     /// Opens a connection to an archive without mails.
     pub(crate) fn to_nothing(alloc: Global) -> Option<Self> {
-        Some(Connection::to(alloc, archive(alloc)?))
+        Some(Connection::to(alloc, empty_archive(alloc)?))
     }
 
     /// Opens a connection to an archive with the three mails.
     pub(crate) fn to_three(alloc: Global) -> Option<Self> {
-        let mut archive = archive(alloc)?;
-        archive.command(&Command::Deliver(A), 1_706_781_700);
-        archive.command(&Command::Deliver(B), 1_706_785_300);
-        archive.command(&Command::Deliver(C), 1_706_788_900);
-        Some(Connection::to(alloc, archive))
+        Some(Connection::to(alloc, archive_of_three(alloc)?))
     }
 
     /// Opens a connection to an archive.
@@ -138,8 +134,17 @@ impl Connection {
     }
 }
 
+/// Creates an archive of the name `list` with the three mails.
+pub(crate) fn archive_of_three(alloc: Global) -> Option<MemArchive> {
+    let mut archive = empty_archive(alloc)?;
+    archive.command(&Command::Deliver(A), 1_706_781_700);
+    archive.command(&Command::Deliver(B), 1_706_785_300);
+    archive.command(&Command::Deliver(C), 1_706_788_900);
+    Some(archive)
+}
+
 /// Creates an archive without mails of the name `list`.
-fn archive(alloc: Global) -> Option<MemArchive> {
+pub(crate) fn empty_archive(alloc: Global) -> Option<MemArchive> {
     let name = Name::read(b"list")?;
     Some(MemArchive::new(alloc, config(name)))
 }
