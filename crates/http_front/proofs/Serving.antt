@@ -5,7 +5,7 @@ use Rattle.edge_io.specs.declared.sink.SinkFault.{SinkFault}
 use Rattle.httparse.specs.Grammar.{RequestHead}
 use Rattle.line_door.specs.Acts.{Outside, Way, Plain, Memory, Disk, Acts, held_if}
 use Rattle.line_door.specs.Making.{closes}
-use Rattle.line_door.proofs.Acting.{acts-closing, acts-words}
+use Rattle.line_door.proofs.Acting.{acts-closing, acts-from, acts-words}
 use Rattle.arch_model.specs.Archives.{Archive}
 use Rattle.arch_model.specs.Shelves.{ReadingWhy}
 use Rattle.arch_model.specs.declared.text_refusal.TextRefusal.{TextRefusal}
@@ -13,6 +13,7 @@ use Rattle.arch_model.specs.declared.text_refusal.TextRefusal.TheVariants as ref
 use Rattle.http_heads.specs.Heads.{IsHead, Asked, asked_of}
 use Rattle.http_heads.specs.Replies.{verdict_of}
 use Rattle.http_heads.specs.declared.reply.Body.{Body}
+use Rattle.http_heads.specs.declared.reply.Body.TheVariants.{Mailbox}
 use Rattle.http_heads.specs.declared.reply.Status.{Status}
 use Rattle.http_heads.specs.declared.reply.Status.TheVariants.{Done, BadRequest, NotFound, ServerError, Unavailable}
 use Rattle.http_heads.specs.declared.reply.Verdict.{Verdict}
@@ -20,7 +21,7 @@ use Rattle.http_heads.specs.declared.reply.Verdict.TheVariants.{Serve, Refuse}
 use Rattle.http_front.specs.Asking.{Reading, IsReading, Found, Gives, Streams, Missing, target_found, target_reads}
 use Rattle.http_front.specs.Replies.{reply, word}
 use Rattle.http_front.specs.Door.{replies, served, said_found, said_asked, said_verdict, said_head}
-use Rattle.http_front.specs.Sessions.{SaysThen, SaysWhole, SaysUnread, Finds}
+use Rattle.http_front.specs.Sessions.{SaysThen, SaysWhole, SaysUnread, Finds, said_mailbox}
 use Rattle.http_front.proofs.Acting.{acts-replied}
 
 -- What a head that was read asks.
@@ -78,3 +79,10 @@ module _ (moment : ℕ) (a : Archive) (sends ends : Bool) (rest : List ℕ) (fou
   acts-unread (refusal.Damaged named other) i j sent never cause later words = absurd never
   acts-unread refusal.NoMemory i j sent any cause later words =
       acts-closing (said_found moment a sends ends rest found reads) Memory (closes a (word Unavailable moment sends true)) i j a sent refl refl cause later words refl
+
+  -- A mailbox file was found, and its reply was said.
+  pub acts-mailbox : (bytes : List ℕ) (i j k : Outside) (held : Option (List ℕ)) → found ≡ Streams Mailbox bytes → reads ≡ true → j.out ≡ i.out → j.lost ≡ i.lost → j.disk ≡ i.disk → Acts (said_mailbox moment a sends ends rest bytes) j held a k → Acts (said_found moment a sends ends rest found reads) i held a k
+  acts-mailbox bytes i j k held is texts out lost disk acts =
+      acts-words (said_found moment a sends ends rest found reads) (said_mailbox moment a sends ends rest bytes) i held a k
+      (λ way. ap (λ (f : Found). said_found moment a sends ends rest f reads way) is ∙ ap (λ (b : Bool). said_found moment a sends ends rest (Streams Mailbox bytes) b way) texts)
+      (acts-from (said_mailbox moment a sends ends rest bytes) j i held a k (sym out) (sym lost) (sym disk) acts)

@@ -48,16 +48,19 @@ Takes piece (Went n) = (0 < n) × (n ≤ length piece)
 Takes piece Kept = Unit {0}
 Takes piece Closed = Unit {0}
 
--- What was found under a target, as the code has it: the body, or the numbers of a mailbox file.
-abbrev pub IsHeldFor : Archive → Found → Held → Type 0
-IsHeldFor a found (what.Whole body bytes) = found ≡ Gives body bytes
-IsHeldFor a found what.EveryMail = found ≡ Streams Mailbox (whole_mailbox a.entries)
-IsHeldFor a found (what.Mails numbers) = found ≡ Streams Mailbox (mailbox_at a.entries numbers)
-IsHeldFor a found what.Nothing = found ≡ Missing
+-- What was found under a target, as the code has it: the body, or the numbers of a mailbox file, for
+-- which texts are read.
+abbrev pub IsHeldFor : Archive → Found → Bool → Held → Type 0
+IsHeldFor a found reads (what.Whole body bytes) = found ≡ Gives body bytes
+IsHeldFor a found reads what.EveryMail = (found ≡ Streams Mailbox (whole_mailbox a.entries))
+    × (reads ≡ true)
+IsHeldFor a found reads (what.Mails numbers) =
+    (found ≡ Streams Mailbox (mailbox_at a.entries numbers)) × (reads ≡ true)
+IsHeldFor a found reads what.Nothing = found ≡ Missing
 
 -- What stands under a target was found, or memory ran out; or the disk failed, where texts are read.
 abbrev pub Finds : Archive → Found → Bool → Result Held TextRefusal → Type 0
-Finds a found reads (Ok held) = IsHeldFor a found held
+Finds a found reads (Ok held) = IsHeldFor a found reads held
 Finds a found reads (Err refusal.DiskFault) = reads ≡ true
 Finds a found reads (Err (refusal.Damaged named found')) = ⊥
 Finds a found reads (Err refusal.NoMemory) = Unit {0}
