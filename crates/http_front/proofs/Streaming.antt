@@ -5,18 +5,20 @@ use Rattle.arch_base.specs.Counts.{Rose}
 use Rattle.edge_io.specs.Phrases.{Says}
 use Rattle.edge_io.specs.declared.sink.SinkFault.{SinkFault}
 use Rattle.edge_io.proofs.Wording.{plus-none, Says-then}
-use Rattle.line_door.specs.Acts.{Outside, Plain, Memory, Disk, Acts, held_if}
+use Rattle.line_door.specs.Acts.{Outside, Way, Plain, Memory, Disk, Newer, Acts, held_if}
 use Rattle.line_door.specs.Making.{closes}
-use Rattle.line_door.proofs.Acting.{acts-closing}
+use Rattle.line_door.proofs.Acting.{acts-closing, acts-words}
 use Rattle.line_door.proofs.Streaming.{acts-short, acts-cut_off}
 use Rattle.arch_model.specs.Archives.{Archive}
 use Rattle.arch_model.specs.Shelves.{IsUndamaged, ReadingWhy}
 use Rattle.arch_model.specs.declared.text_refusal.TextRefusal.{TextRefusal}
 use Rattle.arch_model.specs.declared.text_refusal.TextRefusal.TheVariants as refusal
-use Rattle.http_heads.specs.declared.reply.Status.TheVariants.{ServerError, Unavailable}
-use Rattle.http_front.specs.Replies.{word}
+use Rattle.http_heads.specs.Replies.{reply_head}
+use Rattle.http_heads.specs.declared.reply.Body.TheVariants.{Mailbox}
+use Rattle.http_heads.specs.declared.reply.Status.TheVariants.{Done, ServerError, Unavailable}
+use Rattle.http_front.specs.Replies.{reply, word}
 use Rattle.http_front.specs.Door.{replies}
-use Rattle.http_front.specs.Sessions.{SaysThen, SaysStopped, said_stream}
+use Rattle.http_front.specs.Sessions.{SaysThen, SaysStopped, said_stream, said_mailbox}
 use Rattle.http_front.specs.Streaming.{SoFar, Stops, IsPart}
 use Rattle.http_front.specs.declared.mailbox.Part.TheVariants as part
 use Rattle.http_front.proofs.Acting.{acts-replied}
@@ -104,3 +106,34 @@ module _ (moment : ℕ) (a : Archive) (ends : Bool) (rest all : List ℕ) where
             (omega (arith, length-append unsaid (piece ++ more), length-append piece more, stops.some)) (cause why stops.whole stops.why) later
             (quiet.1 ∙ stops.lost ∙ before.says.0, quiet.0 ∙ stops.out ∙ before.says.1) refl
         by false no words = told why no stops.whole stops.why words
+
+module _ (moment : ℕ) (a : Archive) (ends : Bool) (rest bytes : List ℕ) where
+  -- The reply with a mailbox file, by its words.
+  pub mailbox-sent : (words : List ℕ) (i : Outside) (held : Option (List ℕ)) (j : Outside) → words ≡ reply Done moment Mailbox bytes true ends → Acts (said_stream moment a ends rest words) i held a j → Acts (said_mailbox moment a true ends rest bytes) i held a j
+  mailbox-sent words i held j is acts = acts-words (said_mailbox moment a true ends rest bytes) (said_stream moment a ends rest words) i held a j same acts
+    where
+      plain : replies a rest ends true (reply Done moment Mailbox bytes true ends) ≡ replies a rest ends true words
+      plain = ap (λ (w : List ℕ). replies a rest ends true w) (sym is)
+
+      same : (way : Way) → said_mailbox moment a true ends rest bytes way ≡ said_stream moment a ends rest words way
+      same Plain = plain
+      same Memory = refl
+      same Disk = refl
+      same Newer = plain
+
+  -- The head alone.
+  pub mailbox-head : (words : List ℕ) (i j : Outside) (goes : Bool) → words ≡ reply Done moment Mailbox bytes false ends → j.disk ≡ i.disk → SaysThen words ends i.out i.lost j.out j.lost goes → Acts (said_mailbox moment a false ends rest bytes) i (held_if goes rest) a j
+  mailbox-head words i j goes is kept said =
+      acts-replied (said_mailbox moment a false ends rest bytes) Plain a rest ends false words i j goes (ap (λ (w : List ℕ). replies a rest ends false w) (sym is)) refl kept said
+
+  -- Out of memory for the head.
+  pub mailbox-memory : (sends : Bool) (i j : Outside) (sent : Result Unit SinkFault) → j.disk ≡ i.disk → Says (word Unavailable moment sends true) i.out i.lost j.out j.lost sent → Acts (said_mailbox moment a sends ends rest bytes) i None a j
+  mailbox-memory sends i j sent kept words =
+      acts-closing (said_mailbox moment a sends ends rest bytes) Memory (closes a (word Unavailable moment sends true)) i j a sent refl refl kept (omega (arith, kept)) words refl
+
+-- The words of the reply by those of its head.
+pub reply-words : (moment : ℕ) (bytes unsaid : List ℕ) (len : ℕ) (ends : Bool) → unsaid ≡ reply_head Done moment Mailbox len ends → len ≡ length bytes → unsaid ++ bytes ≡ reply Done moment Mailbox bytes true ends
+reply-words moment bytes unsaid len ends is size = ap (λ (w : List ℕ). w ++ bytes) (is ∙ ap (λ (n : ℕ). reply_head Done moment Mailbox n ends) size)
+
+pub reply-head_words : (moment : ℕ) (bytes unsaid : List ℕ) (len : ℕ) (ends : Bool) → unsaid ≡ reply_head Done moment Mailbox len ends → len ≡ length bytes → unsaid ≡ reply Done moment Mailbox bytes false ends
+reply-head_words moment bytes unsaid len ends is size = is ∙ ap (λ (n : ℕ). reply_head Done moment Mailbox n ends) size ∙ sym (append-nil (reply_head Done moment Mailbox (length bytes) ends))
