@@ -14,3 +14,4 @@ pub mod Standing
 pub mod Untold
 pub mod Validity
 pub mod Walking
+pub mod Threading

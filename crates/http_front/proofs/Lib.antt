@@ -1,0 +1,11 @@
+pub mod Fronts
+pub mod Ends
+pub mod Scanning
+pub mod Trees
+pub mod Doors
+pub mod Acting
+pub mod Serving
+pub mod Streaming
+pub mod Listed
+pub mod Finding
+pub mod Arrivals

@@ -1,0 +1,89 @@
+//! The page of the listing.
+ghost use Rattle.std.specs.Prelude.{◌≡◌, IfOk, None, true, false, codes, map, option_copied};
+ghost use Rattle.arch_model.specs.Archives.{Archive};
+ghost use Rattle.http_heads.specs.Addresses.{TheListing};
+ghost use Rattle.http_heads.specs.Parameters.{parameter as parameter_of, skipped};
+ghost use Rattle.http_front.specs.Views.{one_row, row_at, rows_at};
+ghost use Rattle.http_front.specs.Asking.{Gives, named_found, listing_found};
+ghost use Rattle.http_front.specs.Sessions.{FindsIn};
+
+use crate::found::Held;
+use arch_base::{Bytes, NoMemory};
+use arch_model::{Shelf, TextRefusal};
+use html_pages::listing_page;
+use http_heads::{Body, parameter, skip_of};
+use mail_forms::Row;
+use std::alloc::Global;
+
+/// The rows that a page needs: those that it shows, and one that says that there are more.
+const ROWS_NEEDED: u64 = 201;
+
+/// Returns the page of the listing, by the parameters of its target. Reads no text.
+///
+/// Searches aren't served yet: with words to search for there is no page. The only error is
+/// `NoMemory`.
+pub(crate) fn listing_at<S: Shelf>(
+    alloc: Global,
+    query: &[u8],
+    shelf: &S,
+) -> Result<Held, TextRefusal>
+    requires { S.ready shelf.now ≡ true }
+    ensures { FindsIn S.holds (λ reading a. named_found reading a query.now TheListing) (λ a. false)
+        shelf.now result }
+{
+    match parameter(alloc, query, b"q") {
+        Ok(Some(_)) => Ok(Held::Nothing),
+        Ok(None) => match listing_from(alloc, query, shelf) {
+            Ok(page) => Ok(Held::Whole(Body::Page, page)),
+            Err(NoMemory) => Err(TextRefusal::NoMemory),
+        },
+        Err(NoMemory) => Err(TextRefusal::NoMemory),
+    }
+}
+
+/// Returns the page of the listing after the rows that the parameters skip.
+fn listing_from<S: Shelf>(alloc: Global, query: &[u8], shelf: &S) -> Result<Bytes, NoMemory>
+    requires { S.ready shelf.now ≡ true }
+    ensures { (a : Archive) → S.holds shelf.now a → IfOk result (λ page. listing_found a None
+        (skipped (parameter_of (codes "o") query.now)) ≡ Gives Body.Page page) }
+{
+    let skip = match parameter(alloc, query, b"o")? {
+        Some(value) => skip_of(Some(value.as_slice())),
+        None => 0,
+    };
+    let numbers = shelf.order_page(skip, ROWS_NEEDED)?;
+    let rows = rows_of(alloc, numbers.as_slice(), shelf)?;
+    listing_page(alloc, &shelf.config().name, rows.as_slice(), skip)
+}
+
+/// Returns the rows of these numbers, in their order.
+pub(crate) fn rows_of<'a, S: Shelf>(
+    alloc: Global,
+    numbers: &[u64],
+    shelf: &'a S,
+) -> Result<Vec<&'a Row>, NoMemory>
+    requires { S.ready shelf.now ≡ true }
+    ensures { (a : Archive) → S.holds shelf.now a → IfOk result (λ rows.
+        map (λ row. row.now) rows.items ≡ rows_at a.entries numbers.now) }
+{
+    let mut rows = Vec::new(alloc);
+    for n in numbers {
+        if let Some(row) = row_of_number(*n, shelf) {
+            rows.push(row)?;
+        }
+    }
+    Ok(rows)
+}
+
+/// Returns the row of a number, if it is live. Numbers of more than 32 bits aren't.
+pub(crate) fn row_of_number<S: Shelf>(n: u64, shelf: &S) -> Option<&Row>
+    requires { S.ready shelf.now ≡ true }
+    ensures { (a : Archive) → S.holds shelf.now a
+        → one_row (option_copied result) ≡ row_at a.entries n }
+{
+    if n <= u64::from(u32::MAX) {
+        shelf.row(n as u32)
+    } else {
+        None
+    }
+}
