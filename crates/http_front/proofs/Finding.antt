@@ -1,13 +1,19 @@
 -- What stands under a target, step by step.
-use Rattle.std.proofs.Common.{◌≡◌, ℕ, Bool, true, false, List, Option, Some, None, is_some, Result, Ok, Err, refl, sym, ap, subst, ◌∙◌}
+use Rattle.std.proofs.Common.{◌≡◌, ◌≤◌, ◌+◌, ℕ, Bool, true, false, List, take, drop, length, Option, Some, None, IfOk, is_some, Result, Ok, Err, refl, sym, ap, subst, ◌∙◌, arith}
+use Rattle.std.proofs.lemmas.List.{length-take}
 use Rattle.arch_base.specs.declared.sequence.NoMemory.{NoMemory}
-use Rattle.arch_model.specs.Archives.{Entry, Archive}
+use Rattle.arch_model.specs.Archives.{Entry, Archive, live}
+use Rattle.arch_model.specs.Listings.{listing}
 use Rattle.arch_model.specs.Standing.{GivesTextIn}
 use Rattle.arch_model.specs.declared.text_refusal.TextRefusal.{TextRefusal}
 use Rattle.arch_model.specs.declared.text_refusal.TextRefusal.TheVariants as refusal
 use Rattle.mail_forms.specs.declared.row.Row.{Row}
-use Rattle.http_heads.specs.Addresses.{Named}
-use Rattle.http_front.specs.Asking.{Reading, Found, Gives, Streams, Missing, message_found, text_found, found_of, named_found, path_found, reads_texts, path_reads}
+use Rattle.html_pages.specs.Pages.{listing_of}
+use Rattle.http_heads.specs.Addresses.{Named, named_by, segments_of}
+use Rattle.http_heads.specs.Parameters.{path_of}
+use Rattle.http_heads.specs.declared.reply.Body.TheVariants.{Page}
+use Rattle.http_front.specs.Views.{rows_at}
+use Rattle.http_front.specs.Asking.{Reading, Found, Gives, Streams, Missing, message_found, text_found, feed_found, listing_found, found_of, named_found, path_found, reads_texts, path_reads, texts_for, path_texts, feed_len, rows_needed, ReadsUpTo}
 use Rattle.http_front.specs.Sessions.{Finds, MakesPage}
 use Rattle.http_front.specs.declared.found.Held.{Held}
 use Rattle.http_front.specs.declared.found.Held.TheVariants as what
@@ -52,3 +58,47 @@ text-missing text is = ap text_found (no-text text is)
 pub message-missing : (a : Archive) (row : Option Row) (text : Option (List ℕ)) → is_some text ≡ false → message_found a row text ≡ Missing
 message-missing a None text is = refl
 message-missing a (Some row) text is = ap (message_found a (Some row)) (no-text text is)
+
+-- The page of a message whose text was read.
+pub finds-message : (a : Archive) (row : Option Row) (text : Option (List ℕ)) (read wanted : List ℕ) (held : Held) → text ≡ Some wanted → read ≡ wanted → MakesPage (message_found a row (Some read)) (Ok held) → Finds a (message_found a row text) true (Ok held)
+finds-message a row text read wanted held is same made =
+    finds-page a (message_found a row text) true held (subst (λ (o : Option (List ℕ)). MakesPage (message_found a row o) (Ok held)) (ap Some same ∙ sym is) made)
+
+-- A feed of the numbers that are wanted.
+pub finds-feed : (a : Archive) (numbers wanted : List ℕ) (result : Result Held TextRefusal) → numbers ≡ wanted → Finds a (feed_found a numbers) true result → Finds a (feed_found a wanted) true result
+finds-feed a numbers wanted result same found = subst (λ (ns : List ℕ). Finds a (feed_found a ns) true result) same found
+
+-- With words to search for there is no page.
+pub listing-searched : (a : Archive) (asked : Option (List ℕ)) (words : List ℕ) (skip : ℕ) → Some words ≡ asked → listing_found a asked skip ≡ Missing
+listing-searched a asked words skip is = ap (λ (o : Option (List ℕ)). listing_found a o skip) (sym is)
+
+-- Without such words the page that was made is that of the listing.
+pub listing-shown : (a : Archive) (asked : Option (List ℕ)) (skip : ℕ) (found : Found) → None ≡ asked → listing_found a None skip ≡ found → listing_found a asked skip ≡ found
+listing-shown a asked skip found is shown = ap (λ (o : Option (List ℕ)). listing_found a o skip) (sym is) ∙ shown
+
+-- The texts that are read for a path that names something, and for an id of a live mail.
+pub reads-named : (o : Option Named) (named : Named) (before now : ℕ) → o ≡ Some named → ReadsUpTo (texts_for named) before now → ReadsUpTo (path_texts o) before now
+reads-named o named before now is reads = subst (λ (x : Option Named). ReadsUpTo (path_texts x) before now) (sym is) reads
+
+pub reads-none : (most n : ℕ) → ReadsUpTo most n n
+reads-none most n = record { later = omega arith; bound = omega arith }
+
+-- A feed reads at most a text for each of its mails.
+pub reads-feed : (numbers all : List ℕ) (before now : ℕ) → numbers ≡ take feed_len all → ReadsUpTo (length numbers) before now → ReadsUpTo feed_len before now
+reads-feed numbers all before now is reads =
+    let few : length numbers ≤ feed_len = omega (arith, ap length is, length-take feed_len all) in
+    record { later = reads.later; bound = omega (arith, reads.bound, few) }
+
+-- The page of a listing is made of the rows that follow the skipped ones.
+pub listing-made : (a : Archive) (skip asked : ℕ) (name numbers shown : List ℕ) (rows : List Row) (result : Result (List ℕ) NoMemory) → skip ≡ asked → name ≡ a.config.name → numbers ≡ take rows_needed (drop skip (listing (live a.entries))) → shown ≡ numbers → rows ≡ rows_at a.entries shown
+    → IfOk result (λ made. made ≡ listing_of name rows skip) → IfOk result (λ made. listing_found a None asked ≡ Gives Page made)
+listing-made a skip asked name numbers shown rows (Ok made) skips named cut same read is =
+    let all : rows ≡ rows_at a.entries (take rows_needed (drop skip (listing (live a.entries)))) = read ∙ ap (rows_at a.entries) (same ∙ cut) in
+    subst (λ (k : ℕ). listing_found a None k ≡ Gives Page made) skips
+    (ap (Gives Page) (sym (is ∙ ap (λ (n : List ℕ). listing_of n rows skip) named ∙ ap (λ (rs : List Row). listing_of a.config.name rs skip) all)))
+listing-made a skip asked name numbers shown rows (Err refused) skips named cut same read is = tt
+
+-- What a path names, by its name and its segments.
+pub path-named : (a : Archive) (target name path : List ℕ) (parts : List (List ℕ)) (found : Option Named) → found ≡ named_by name parts → name ≡ a.config.name → parts ≡ segments_of path → path ≡ path_of target → named_by a.config.name (segments_of (path_of target)) ≡ found
+path-named a target name path parts found is named cut split =
+    sym (is ∙ ap (λ (n : List ℕ). named_by n parts) named ∙ ap (named_by a.config.name) (cut ∙ ap segments_of split))

@@ -1,5 +1,5 @@
 -- What an archive has under the target of a request.
-use Rattle.std.specs.Prelude.{◌≡◌, ◌+◌, ℕ, Bool, true, false, List, [], ◌∷◌, take, drop, reverse, codes, Option, Some, None}
+use Rattle.std.specs.Prelude.{◌≡◌, ◌≤◌, ◌+◌, ℕ, Bool, true, false, List, [], ◌∷◌, take, drop, reverse, codes, Option, Some, None}
 use Rattle.arch_model.specs.Archives.{Archive, live}
 use Rattle.arch_model.specs.Listings.{listing}
 use Rattle.atom_mbox.specs.Feeds.{feed_of}
@@ -132,3 +132,28 @@ path_reads (Some named) = reads_texts named
 -- Texts are read for a target.
 abbrev pub target_reads : Archive → List ℕ → Bool
 target_reads a target = path_reads (named_by a.config.name (segments_of (path_of target)))
+
+-- How many texts are read at most to find what is named: one for each mail of a feed, and none for a
+-- listing and for the page of a thread. Those of a mailbox file are read while it is said.
+abbrev pub texts_for : Named → ℕ
+texts_for TheListing = 0
+texts_for (MessageOf id) = 1
+texts_for (TextOf id) = 1
+texts_for (ThreadOf id) = 0
+texts_for TheFeed = feed_len
+texts_for (ThreadFeedOf id) = feed_len
+texts_for TheMailbox = 0
+texts_for (ThreadMailboxOf id) = 0
+
+abbrev pub path_texts : Option Named → ℕ
+path_texts None = 0
+path_texts (Some named) = texts_for named
+
+-- How many texts are read at most to find what stands under a target.
+abbrev pub target_texts : Archive → List ℕ → ℕ
+target_texts a target = path_texts (named_by a.config.name (segments_of (path_of target)))
+
+-- A call reads at most so many times.
+pub record ReadsUpTo (most before now : ℕ) : Type 0 where
+  pub later : before ≤ now
+  pub bound : now ≤ before + most

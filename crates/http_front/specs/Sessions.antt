@@ -18,7 +18,7 @@ use Rattle.http_heads.specs.declared.reply.Body.TheVariants.{Mailbox}
 use Rattle.http_heads.specs.declared.reply.Status.TheVariants.{Done, ServerError, Unavailable}
 use Rattle.http_front.specs.Views.{shown_row, shown_text}
 use Rattle.http_front.specs.Threads.{thread_rows, oldest_first}
-use Rattle.http_front.specs.Asking.{Reading, IsReading, Found, Gives, Streams, Missing, message_found, text_found, thread_found, feed_found, feed_len}
+use Rattle.http_front.specs.Asking.{Reading, IsReading, Found, Gives, Streams, Missing, message_found, text_found, thread_found, feed_found, feed_len, ReadsUpTo}
 use Rattle.http_front.specs.Door.{Says, replies, said_found, said, said_head, said_asked, has_request}
 use Rattle.http_front.specs.Mailboxes.{mailbox_at, whole_mailbox}
 use Rattle.http_front.specs.Replies.{reply, word, word_of, damaged_line, unopened_word}
@@ -91,6 +91,14 @@ form_reads form.Thread = false
 form_reads form.Feed = true
 form_reads form.Mailbox = true
 
+-- How many texts are read at most to find what is asked for in a form.
+abbrev pub form_texts : Form → ℕ
+form_texts form.Message = 1
+form_texts form.Text = 1
+form_texts form.Thread = 0
+form_texts form.Feed = feed_len
+form_texts form.Mailbox = 0
+
 -- A streamed reply of these words in each way: the words, or why no text was read.
 abbrev pub said_stream : ℕ → Archive → Bool → List ℕ → List ℕ → Way → Says
 said_stream moment a ends rest words = in_ways (replies a rest ends true words)
@@ -109,6 +117,10 @@ module _ {S : Type 0} (holds : S → Archive → Type 0) where
       → Type 0
   FindsIn found reads shelf result = (reading : Reading) → IsReading reading → (a : Archive)
       → holds shelf a → Finds a (found reading a) (reads a) result
+
+  -- Whichever archive is held, at most so many texts were read.
+  abbrev pub ReadsIn : (Archive → ℕ) → S → ℕ → ℕ → Type 0
+  ReadsIn most shelf before now = (a : Archive) → holds shelf a → ReadsUpTo (most a) before now
 
   -- Whichever archive is held and whatever follows, a head is answered.
   abbrev pub AnswersHead : ℕ → List ℕ → S → Outside → Bool → Outside → Type 0

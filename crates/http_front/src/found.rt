@@ -5,8 +5,8 @@ ghost use Rattle.arch_model.specs.Listings.{listing};
 ghost use Rattle.arch_model.specs.Shelves.{Stays, ReadCause};
 ghost use Rattle.http_heads.specs.Addresses.{shown};
 ghost use Rattle.http_front.specs.Views.{number_named};
-ghost use Rattle.http_front.specs.Asking.{named_found, target_found, feed_found, found_of, feed_len, reads_texts, target_reads};
-ghost use Rattle.http_front.specs.Sessions.{FindsIn, form_found, form_reads};
+ghost use Rattle.http_front.specs.Asking.{named_found, target_found, feed_found, found_of, feed_len, reads_texts, target_reads, texts_for, target_texts};
+ghost use Rattle.http_front.specs.Sessions.{FindsIn, ReadsIn, form_found, form_reads, form_texts};
 
 use crate::feed::feed_at;
 use crate::listing::listing_at;
@@ -62,6 +62,8 @@ pub(crate) fn find_target<S: Shelf>(
         (λ a. target_reads a target.now) shelf.old result }
     ensures shelf { Stays S.holds S.ready S.alike S.faults shelf.old shelf.new }
     ensures cause { ReadCause (S.faults shelf.old) (S.faults shelf.new) result }
+    ensures reads { ReadsIn S.holds (λ a. target_texts a target.now) shelf.old (S.reads shelf.old)
+        (S.reads shelf.new) }
 {
     let (path, query) = split_target(target);
     match segments(alloc, path) {
@@ -85,6 +87,8 @@ fn find_address<S: Shelf>(
         (λ a. reads_texts (shown address.entry)) shelf.old result }
     ensures shelf { Stays S.holds S.ready S.alike S.faults shelf.old shelf.new }
     ensures cause { ReadCause (S.faults shelf.old) (S.faults shelf.new) result }
+    ensures reads { ReadsIn S.holds (λ a. texts_for (shown address.entry)) shelf.old (S.reads shelf.old)
+        (S.reads shelf.new) }
 {
     match address {
         Address::Listing => listing_at(alloc, query, shelf),
@@ -105,6 +109,8 @@ fn find_newest<S: Shelf>(alloc: Global, shelf: &mut S) -> Result<Held, TextRefus
         (λ a. true) shelf.old result }
     ensures shelf { Stays S.holds S.ready S.alike S.faults shelf.old shelf.new }
     ensures cause { ReadCause (S.faults shelf.old) (S.faults shelf.new) result }
+    ensures reads { ReadsIn S.holds (λ a. feed_len) shelf.old (S.reads shelf.old)
+        (S.reads shelf.new) }
 {
     match shelf.order_page(0, FEED_LEN as u64) {
         Ok(numbers) => feed_at(alloc, numbers.as_slice(), shelf),
@@ -125,6 +131,8 @@ fn find_mail<S: Shelf>(
         (λ a. form_reads form) shelf.old result }
     ensures shelf { Stays S.holds S.ready S.alike S.faults shelf.old shelf.new }
     ensures cause { ReadCause (S.faults shelf.old) (S.faults shelf.new) result }
+    ensures reads { ReadsIn S.holds (λ a. form_texts form) shelf.old (S.reads shelf.old)
+        (S.reads shelf.new) }
 {
     match number_of(alloc, id, shelf) {
         Ok(Some(n)) => find_number(alloc, n, form, shelf),
@@ -158,6 +166,8 @@ fn find_number<S: Shelf>(
         shelf.old result }
     ensures shelf { Stays S.holds S.ready S.alike S.faults shelf.old shelf.new }
     ensures cause { ReadCause (S.faults shelf.old) (S.faults shelf.new) result }
+    ensures reads { ReadsIn S.holds (λ a. form_texts form) shelf.old (S.reads shelf.old)
+        (S.reads shelf.new) }
 {
     match form {
         Form::Message => message_at(alloc, n, shelf),

@@ -1,5 +1,5 @@
 //! The page of the listing.
-ghost use Rattle.std.specs.Prelude.{◌≡◌, IfOk, None, true, false, codes, map, option_copied};
+ghost use Rattle.std.specs.Prelude.{◌≡◌, ◌++◌, IfOk, OnOk, None, true, false, codes, map, option_copied};
 ghost use Rattle.arch_model.specs.Archives.{Archive};
 ghost use Rattle.http_heads.specs.Addresses.{TheListing};
 ghost use Rattle.http_heads.specs.Parameters.{parameter as parameter_of, skipped};
@@ -47,13 +47,20 @@ fn listing_from<S: Shelf>(alloc: Global, query: &[u8], shelf: &S) -> Result<Byte
     ensures { (a : Archive) → S.holds shelf.now a → IfOk result (λ page. listing_found a None
         (skipped (parameter_of (codes "o") query.now)) ≡ Gives Body.Page page) }
 {
-    let skip = match parameter(alloc, query, b"o")? {
-        Some(value) => skip_of(Some(value.as_slice())),
-        None => 0,
-    };
+    let skip = skip_in(alloc, query)?;
     let numbers = shelf.order_page(skip, ROWS_NEEDED)?;
     let rows = rows_of(alloc, numbers.as_slice(), shelf)?;
     listing_page(alloc, &shelf.config().name, rows.as_slice(), skip)
+}
+
+/// Returns how many rows the parameters of a target skip.
+fn skip_in(alloc: Global, query: &[u8]) -> Result<u64, NoMemory>
+    ensures { IfOk result (λ skip. skip ≡ skipped (parameter_of (codes "o") query.now)) }
+{
+    match parameter(alloc, query, b"o")? {
+        Some(value) => Ok(skip_of(Some(value.as_slice()))),
+        None => Ok(0),
+    }
 }
 
 /// Returns the rows of these numbers, in their order.
@@ -68,11 +75,23 @@ pub(crate) fn rows_of<'a, S: Shelf>(
 {
     let mut rows = Vec::new(alloc);
     for n in numbers {
-        if let Some(row) = row_of_number(*n, shelf) {
-            rows.push(row)?;
-        }
+        push_found(row_of_number(*n, shelf), &mut rows)?;
     }
     Ok(rows)
+}
+
+/// Appends a row, if there is one.
+fn push_found<'a>(found: Option<&'a Row>, rows: &mut Vec<&'a Row>) -> Result<(), NoMemory>
+    ensures { OnOk result (map (λ row. row.now) rows.new.items
+        ≡ map (λ row. row.now) rows.old.items ++ one_row (option_copied found.entry)) }
+{
+    match found {
+        Some(row) => {
+            rows.push(row)?;
+            Ok(())
+        }
+        None => Ok(()),
+    }
 }
 
 /// Returns the row of a number, if it is live. Numbers of more than 32 bits aren't.

@@ -1,7 +1,7 @@
 //! The page and the text of a message.
 ghost use Rattle.std.specs.Prelude.{◌≡◌, Some, true};
 ghost use Rattle.arch_model.specs.Archives.{Archive};
-ghost use Rattle.arch_model.specs.Shelves.{Stays, ReadCause};
+ghost use Rattle.arch_model.specs.Shelves.{Stays, ReadCause, ReadsOnce};
 ghost use Rattle.http_front.specs.Views.{shown_row, shown_text};
 ghost use Rattle.http_front.specs.Asking.{message_found, text_found};
 ghost use Rattle.http_front.specs.Sessions.{FindsIn, MakesPage};
@@ -22,6 +22,7 @@ pub(crate) fn text_at<S: Shelf>(alloc: Global, n: u32, shelf: &mut S) -> Result<
         shelf.old result }
     ensures shelf { Stays S.holds S.ready S.alike S.faults shelf.old shelf.new }
     ensures cause { ReadCause (S.faults shelf.old) (S.faults shelf.new) result }
+    ensures reads { ReadsOnce (S.reads shelf.old) (S.reads shelf.new) }
 {
     if !is_live(n, shelf) {
         return Ok(Held::Nothing);
@@ -45,6 +46,7 @@ pub(crate) fn message_at<S: Shelf>(
         shelf.old result }
     ensures shelf { Stays S.holds S.ready S.alike S.faults shelf.old shelf.new }
     ensures cause { ReadCause (S.faults shelf.old) (S.faults shelf.new) result }
+    ensures reads { ReadsOnce (S.reads shelf.old) (S.reads shelf.new) }
 {
     if !is_live(n, shelf) {
         return Ok(Held::Nothing);

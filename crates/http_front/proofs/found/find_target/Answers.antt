@@ -1,15 +1,24 @@
-use Rattle.std.proofs.Common.{◌≡◌, ◌∙◌, List, Option, Some, None, ap, sym}
+use Rattle.std.proofs.Common.{◌≡◌, ◌∙◌, List, ℕ, Option, Some, None, ap, sym}
 use Rattle.std.specs.Prelude.{option_map}
-use Rattle.http_heads.specs.Addresses.{shown, named_by, segments_of}
+use Rattle.arch_base.specs.declared.config.Config.{Config}
+use Rattle.http_heads.specs.Addresses.{Named, shown, named_by, segments_of}
 use Rattle.http_heads.specs.Parameters.{path_of}
-use Rattle.http_front.proofs.Finding.{finds-named, finds-nothing}
+use Rattle.http_front.proofs.Finding.{finds-named, finds-nothing, reads-named, path-named}
 use Rattle.http_front.proofs.found.find_target.Goals as goal
 
 pub returns-in-Some-clause-found : goal.returns-in-Some-clause-found
 returns-in-Some-clause-found g c = λ reading is a held.
-    finds-named reading a _ (named_by a.config.name (segments_of (path_of c.args.target.now))) (shown c.in-Some.address) _ (grind (c.address_of.ensures, c.as_slice.ensures, c.as_slice-2.ensures, c.config.ensures a held, c.in-Ok.ensures, c.split_target.ensures.path))
+    finds-named reading a _ (named_by a.config.name (segments_of (path_of c.args.target.now))) (shown c.in-Some.address) _
+    (path-named a c.args.target.now _ _ _ (Some (shown c.in-Some.address)) c.in-Some.ensures (c.as_slice.ensures.value ∙ ap (λ (k : Config). k.name) (c.config.ensures a held)) (c.as_slice-2.ensures ∙ c.in-Ok.ensures) c.split_target.ensures.path)
     (c.find_address.ensures.found reading is a held)
+
+pub returns-in-Some-clause-reads : goal.returns-in-Some-clause-reads
+returns-in-Some-clause-reads g c = λ a held.
+    reads-named (named_by a.config.name (segments_of (path_of c.args.target.now))) (shown c.in-Some.address) _ _
+    (path-named a c.args.target.now _ _ _ (Some (shown c.in-Some.address)) c.in-Some.ensures (c.as_slice.ensures.value ∙ ap (λ (k : Config). k.name) (c.config.ensures a held)) (c.as_slice-2.ensures ∙ c.in-Ok.ensures) c.split_target.ensures.path)
+    (c.find_address.ensures.reads a held)
 
 pub returns-in-None-clause-found : goal.returns-in-None-clause-found
 returns-in-None-clause-found g c = λ reading is a held.
-    finds-nothing reading a _ (named_by a.config.name (segments_of (path_of c.args.target.now))) (grind (c.address_of.ensures, c.as_slice.ensures, c.as_slice-2.ensures, c.config.ensures a held, c.in-Ok.ensures, c.split_target.ensures.path))
+    finds-nothing reading a _ (named_by a.config.name (segments_of (path_of c.args.target.now)))
+    (path-named a c.args.target.now _ _ _ None c.in-None.ensures (c.as_slice.ensures.value ∙ ap (λ (k : Config). k.name) (c.config.ensures a held)) (c.as_slice-2.ensures ∙ c.in-Ok.ensures) c.split_target.ensures.path)
