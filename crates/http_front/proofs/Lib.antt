@@ -8,4 +8,5 @@ pub mod Serving
 pub mod Streaming
 pub mod Listed
 pub mod Finding
+pub mod Paging
 pub mod Arrivals

@@ -1,5 +1,6 @@
 //! The laws of the door of pages, which hold for every archive and all bytes.
 ghost use Rattle.http_front.specs.Laws.{HttpLaws};
+ghost use Rattle.http_front.specs.Paging.{ListingIsWhole};
 
 /// Shows that the answers of the door of pages do not depend on how its bytes are cut.
 ///
@@ -13,4 +14,10 @@ ghost use Rattle.http_front.specs.Laws.{HttpLaws};
 /// * The lines of a tree are one list.
 pub fn http_laws()
     ensures { HttpLaws }
+{}
+
+/// Shows that a page of the listing is the one that all rows after the skipped ones make, although
+/// only as many are looked at as it needs.
+pub fn listing_is_whole()
+    ensures { ListingIsWhole }
 {}
