@@ -83,7 +83,7 @@ pub(crate) fn say_every_mail<S: Shelf, O: Sink>(
             next_after(said.is_ok(), closes)
         }
         Err(NoMemory) => {
-            let _ = say_status(alloc, Status::Unavailable, moment, sends, true, out);
+            let _ = say_status(Status::Unavailable, moment, sends, true, out);
             Next::Close
         }
     }
@@ -129,7 +129,7 @@ pub(crate) fn say_mails<S: Shelf, O: Sink>(
             next_after(said.is_ok(), closes)
         }
         Err(NoMemory) => {
-            let _ = say_status(alloc, Status::Unavailable, moment, sends, true, out);
+            let _ = say_status(Status::Unavailable, moment, sends, true, out);
             Next::Close
         }
     }
