@@ -74,7 +74,28 @@ pub(crate) fn say_every_mail<S: Shelf, O: Sink>(
     match head_of(alloc, len, moment, closes) {
         Ok(head) if sends => say_every_piece(alloc, Manner { moment, closes }, head, shelf, out),
         Ok(head) => say_rest(head, closes, out),
-        Err(NoMemory) => say_no_memory(alloc, moment, sends, out),
+        Err(NoMemory) => end_without_memory(moment, sends, out),
+||||||| 83ec6601
+    match push_reply_head(
+        Status::Done,
+        moment,
+        Body::Mailbox,
+        len,
+        closes,
+        &mut unsaid,
+    ) {
+        Ok(()) if sends => {
+            let manner = Manner { moment, closes };
+            say_every_piece(alloc, manner, unsaid, shelf, out)
+        }
+        Ok(()) => {
+            let said = say(unsaid.as_slice(), out);
+            next_after(said.is_ok(), closes)
+        }
+        Err(NoMemory) => {
+            let _ = say_status(Status::Unavailable, moment, sends, true, out);
+            Next::Close
+        }
     }
 }
 
@@ -110,7 +131,28 @@ pub(crate) fn say_mails<S: Shelf, O: Sink>(
             out,
         ),
         Ok(head) => say_rest(head, closes, out),
-        Err(NoMemory) => say_no_memory(alloc, moment, sends, out),
+        Err(NoMemory) => end_without_memory(moment, sends, out),
+||||||| 83ec6601
+    match push_reply_head(
+        Status::Done,
+        moment,
+        Body::Mailbox,
+        len,
+        closes,
+        &mut unsaid,
+    ) {
+        Ok(()) if sends => {
+            let manner = Manner { moment, closes };
+            say_pieces(alloc, numbers, manner, unsaid, shelf, out)
+        }
+        Ok(()) => {
+            let said = say(unsaid.as_slice(), out);
+            next_after(said.is_ok(), closes)
+        }
+        Err(NoMemory) => {
+            let _ = say_status(Status::Unavailable, moment, sends, true, out);
+            Next::Close
+        }
     }
 }
 
@@ -125,14 +167,14 @@ fn head_of(alloc: Global, len: u128, moment: u64, closes: bool) -> Result<Bytes,
 }
 
 /// Writes that memory ran out, in place of a reply, and ends the session.
-fn say_no_memory<O: Sink>(alloc: Global, moment: u64, sends: bool, out: &mut O) -> Next
+fn end_without_memory<O: Sink>(moment: u64, sends: bool, out: &mut O) -> Next
     requires { IsMoment moment }
     ensures said { (sent : Result Unit SinkFault) × Says (word Status.Unavailable moment sends true)
         (O.taken out.old) (O.faults out.old) (O.taken out.new) (O.faults out.new) sent }
     ensures next { continues result ≡ false }
     ensures sink { O.alike out.old out.new }
 {
-    let _ = say_status(alloc, Status::Unavailable, moment, sends, true, out);
+    let _ = say_status(Status::Unavailable, moment, sends, true, out);
     Next::Close
 }
 
