@@ -75,27 +75,6 @@ pub(crate) fn say_every_mail<S: Shelf, O: Sink>(
         Ok(head) if sends => say_every_piece(alloc, Manner { moment, closes }, head, shelf, out),
         Ok(head) => say_rest(head, closes, out),
         Err(NoMemory) => end_without_memory(moment, sends, out),
-||||||| 83ec6601
-    match push_reply_head(
-        Status::Done,
-        moment,
-        Body::Mailbox,
-        len,
-        closes,
-        &mut unsaid,
-    ) {
-        Ok(()) if sends => {
-            let manner = Manner { moment, closes };
-            say_every_piece(alloc, manner, unsaid, shelf, out)
-        }
-        Ok(()) => {
-            let said = say(unsaid.as_slice(), out);
-            next_after(said.is_ok(), closes)
-        }
-        Err(NoMemory) => {
-            let _ = say_status(Status::Unavailable, moment, sends, true, out);
-            Next::Close
-        }
     }
 }
 
@@ -132,27 +111,6 @@ pub(crate) fn say_mails<S: Shelf, O: Sink>(
         ),
         Ok(head) => say_rest(head, closes, out),
         Err(NoMemory) => end_without_memory(moment, sends, out),
-||||||| 83ec6601
-    match push_reply_head(
-        Status::Done,
-        moment,
-        Body::Mailbox,
-        len,
-        closes,
-        &mut unsaid,
-    ) {
-        Ok(()) if sends => {
-            let manner = Manner { moment, closes };
-            say_pieces(alloc, numbers, manner, unsaid, shelf, out)
-        }
-        Ok(()) => {
-            let said = say(unsaid.as_slice(), out);
-            next_after(said.is_ok(), closes)
-        }
-        Err(NoMemory) => {
-            let _ = say_status(Status::Unavailable, moment, sends, true, out);
-            Next::Close
-        }
     }
 }
 
