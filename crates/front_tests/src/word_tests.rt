@@ -56,13 +56,13 @@ const MOMENT: u64 = 1_706_781_800;
 /// Returns whether the reply to one connection too many is this.
 fn busy_is(alloc: Global, reply: &[u8]) -> bool {
     let mut out = MemSink::new(alloc, Numbers::new(alloc));
-    say_busy(alloc, MOMENT, &mut out).is_ok() && out.taken() == reply
+    say_busy(MOMENT, &mut out).is_ok() && out.taken() == reply
 }
 
 /// Returns whether the reply for want of memory is this.
 fn no_memory_is(alloc: Global, reply: &[u8]) -> bool {
     let mut out = MemSink::new(alloc, Numbers::new(alloc));
-    say_no_memory(alloc, MOMENT, &mut out).is_ok() && out.taken() == reply
+    say_no_memory(MOMENT, &mut out).is_ok() && out.taken() == reply
 }
 
 /// Returns whether the reply to a refusal is this.

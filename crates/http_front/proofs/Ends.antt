@@ -37,7 +37,9 @@ ends-after b bs n at = by at.0 at.1 at.2 at.3
     by (c ∷ front) rest size is = let back : bs ≡ front ++ codes "\r\n\r\n" ++ rest = cc in (front, rest, omega (arith, size), back)
 
 never-empty : (n : ℕ) → EndsAt [] n → ⊥
-never-empty n at = let sizes : 0 ≡ length (at.0 ++ codes "\r\n\r\n" ++ at.1) = ap length at.3 in absurd (omega (arith, sizes, length-append at.0 (codes "\r\n\r\n" ++ at.1), length-append (codes "\r\n\r\n") at.1))
+never-empty n at =
+    let sizes : 0 ≡ length (at.0 ++ codes "\r\n\r\n" ++ at.1) = ap length at.3 in
+    absurd (omega (arith, sizes, length-append (at.0 ++ codes "\r\n\r\n") at.1, length-append at.0 (codes "\r\n\r\n")))
 
 -- The first end of a head.
 pub record IsFirst (bytes : List ℕ) (len : ℕ) : Type 0 where

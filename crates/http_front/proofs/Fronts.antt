@@ -22,7 +22,7 @@ pub ends-goes : (bytes q : List ℕ) → 4 ≤ length bytes → ends_here (bytes
 ends-goes bytes q long = ap (λ (front : List ℕ). bytes_eq front (codes "\r\n\r\n")) (take-append-le 4 bytes q long)
 
 -- The length of the head, by whether it ends here.
-abbrev len_by : Bool → Option ℕ → Option ℕ
+abbrev pub len_by : Bool → Option ℕ → Option ℕ
 len_by true more = Some 4
 len_by false more = plus_len 1 more
 

@@ -1,5 +1,5 @@
 -- What is seen of a head's end, byte by byte, and where it is whole.
-use Rattle.std.proofs.Common.{◌≡◌, ◌<◌, ◌≤◌, ◌+◌, ℕ, Bool, true, false, eqb, nat_le, nat_lt, List, [], ◌∷◌, ◌++◌, length, take, drop, Option, Some, None, refl, sym, ap, ◌∙◌, append_assoc, length-append, arith, if◌then◌else◌}
+use Rattle.std.proofs.Common.{◌≡◌, ◌<◌, ◌≤◌, ◌+◌, ℕ, suc, Bool, true, false, eqb, nat_le, nat_lt, List, [], ◌∷◌, ◌++◌, length, take, drop, Option, Some, None, refl, sym, ap, ◌∙◌, append_assoc, length-append, arith, if◌then◌else◌}
 use Rattle.std.proofs.Math.Seq.{take-append-add, drop-append-add}
 use Rattle.std.proofs.lemmas.Bool.{eqb-true, eqb-false, ne_eqb}
 use Rattle.std.proofs.lemmas.Bool.Decides.{nat_tests}
@@ -64,48 +64,84 @@ ten : (bs : List ℕ) → head_len (10 ∷ bs) ≡ plus_len 1 (head_len bs)
 ten bs = other-front 10 bs (λ e. cc e)
 
 -- The length of a head whose start is seen, by what the bytes after that make whole.
-pub head_len-scan : (seen : Seen) (bs : List ℕ) → head_len (pending seen ++ bs) ≡ plus_len (size seen) (scan seen bs)
-head_len-scan seen [] = none-of seen
-  where
-    none-of : (s : Seen) → head_len (pending s ++ []) ≡ None
-    none-of Nothing = refl
-    none-of Return = refl
-    none-of Line = refl
-    none-of LineReturn = refl
-head_len-scan Nothing (b ∷ bs) = by (eqb b 13) refl
-  where
-    by : (t : Bool) → eqb b 13 ≡ t → head_len (b ∷ bs) ≡ plus_len 0 (scan Nothing (b ∷ bs))
-    by true h = let is : b ≡ 13 = eqb-true b 13 h in rw is (head_len-scan Return bs ∙ sym (plus-none (plus_len 1 (scan Return bs))))
-    by false h = rw h (other-front b bs (eqb-false b 13 h) ∙ ap (plus_len 1) (head_len-scan Nothing bs ∙ plus-none (scan Nothing bs)) ∙ sym (plus-none (plus_len 1 (scan Nothing bs))))
-head_len-scan Return (b ∷ bs) = by (eqb b 10) refl (eqb b 13) refl
-  where
-    by : (t : Bool) → eqb b 10 ≡ t → (u : Bool) → eqb b 13 ≡ u → head_len (13 ∷ b ∷ bs) ≡ plus_len 1 (scan Return (b ∷ bs))
-    by true h u k = let is : b ≡ 10 = eqb-true b 10 h in rw is (head_len-scan Line bs ∙ sym (plus-joined 1 1 (scan Line bs)))
-    by false h true k = let is : b ≡ 13 = eqb-true b 13 k in rw is (return-front 13 bs (λ e. cc e) ∙ ap (plus_len 1) (head_len-scan Return bs))
-    by false h false k = rw (h, k) (return-front b bs (eqb-false b 10 h) ∙ ap (plus_len 1) (other-front b bs (eqb-false b 13 k) ∙ ap (plus_len 1) (head_len-scan Nothing bs ∙ plus-none (scan Nothing bs))))
-head_len-scan Line (b ∷ bs) = by (eqb b 13) refl
-  where
-    by : (t : Bool) → eqb b 13 ≡ t → head_len (13 ∷ 10 ∷ b ∷ bs) ≡ plus_len 2 (scan Line (b ∷ bs))
-    by true h = let is : b ≡ 13 = eqb-true b 13 h in rw is (head_len-scan LineReturn bs ∙ sym (plus-joined 2 1 (scan LineReturn bs)))
-    by false h =
-        rw h
-        (line-front b bs (eqb-false b 13 h) ∙ ap (plus_len 1) (ten (b ∷ bs) ∙ ap (plus_len 1) (other-front b bs (eqb-false b 13 h) ∙ ap (plus_len 1) (head_len-scan Nothing bs ∙ plus-none (scan Nothing bs)))) ∙ plus-joined 1 1 (plus_len 1 (scan Nothing bs)))
-head_len-scan LineReturn (b ∷ bs) = by (eqb b 10) refl (eqb b 13) refl
-  where
-    by : (t : Bool) → eqb b 10 ≡ t → (u : Bool) → eqb b 13 ≡ u → head_len (13 ∷ 10 ∷ 13 ∷ b ∷ bs) ≡ plus_len 3 (scan LineReturn (b ∷ bs))
-    by true h u k = let is : b ≡ 10 = eqb-true b 10 h in rw is (head_len-cons 13 (10 ∷ 13 ∷ 10 ∷ bs))
-    by false h true k =
-        let is : b ≡ 13 = eqb-true b 13 k in
-        rw is (last-front 13 bs (λ e. cc e) ∙ ap (plus_len 1) (ten (13 ∷ 13 ∷ bs) ∙ ap (plus_len 1) (return-front 13 bs (λ e. cc e) ∙ ap (plus_len 1) (head_len-scan Return bs))) ∙ plus-joined 1 1 (plus_len 1 (plus_len 1 (scan Return bs))) ∙ plus-joined 2 1 (plus_len 1 (scan Return bs)))
-    by false h false k =
-        rw (h, k)
-        (last-front b bs (eqb-false b 10 h)
-        ∙ ap (plus_len 1) (ten (13 ∷ b ∷ bs) ∙ ap (plus_len 1) (return-front b bs (eqb-false b 10 h) ∙ ap (plus_len 1) (other-front b bs (eqb-false b 13 k) ∙ ap (plus_len 1) (head_len-scan Nothing bs ∙ plus-none (scan Nothing bs)))))
-        ∙ plus-joined 1 1 (plus_len 1 (plus_len 1 (scan Nothing bs))) ∙ plus-joined 2 1 (plus_len 1 (scan Nothing bs)))
+abbrev IsScanned : List ℕ → Seen → Type 0
+IsScanned bs seen = head_len (pending seen ++ bs) ≡ plus_len (size seen) (scan seen bs)
+
+scanned-none : (seen : Seen) → IsScanned [] seen
+scanned-none Nothing = refl
+scanned-none Return = refl
+scanned-none Line = refl
+scanned-none LineReturn = refl
+
+-- A byte that continues nothing of it.
+other-nothing : (b : ℕ) (bs : List ℕ) → eqb b 13 ≡ false → scan Nothing (b ∷ bs) ≡ plus_len 1 (scan Nothing bs)
+other-nothing b bs h = rw h refl
+
+other-return : (b : ℕ) (bs : List ℕ) → eqb b 10 ≡ false → eqb b 13 ≡ false → scan Return (b ∷ bs) ≡ plus_len 1 (scan Nothing bs)
+other-return b bs h k = rw (h, k) refl
+
+other-line : (b : ℕ) (bs : List ℕ) → eqb b 13 ≡ false → scan Line (b ∷ bs) ≡ plus_len 1 (scan Nothing bs)
+other-line b bs h = rw h refl
+
+other-last : (b : ℕ) (bs : List ℕ) → eqb b 10 ≡ false → eqb b 13 ≡ false → scan LineReturn (b ∷ bs) ≡ plus_len 1 (scan Nothing bs)
+other-last b bs h k = rw (h, k) refl
+
+-- One byte more, by what is seen before it.
+module _ (b : ℕ) (bs : List ℕ) (more : (s : Seen) → IsScanned bs s) where
+  start : head_len bs ≡ scan Nothing bs
+  start = more Nothing ∙ plus-none (scan Nothing bs)
+
+  scanned-nothing : IsScanned (b ∷ bs) Nothing
+  scanned-nothing = by (eqb b 13) refl
+    where
+      by : (t : Bool) → eqb b 13 ≡ t → head_len (b ∷ bs) ≡ plus_len 0 (scan Nothing (b ∷ bs))
+      by true h = let is : b ≡ 13 = eqb-true b 13 h in rw is (more Return ∙ sym (plus-none (plus_len 1 (scan Return bs))))
+      by false h = other-front b bs (eqb-false b 13 h) ∙ ap (plus_len 1) start ∙ sym (plus-none (plus_len 1 (scan Nothing bs))) ∙ ap (plus_len 0) (sym (other-nothing b bs h))
+
+  scanned-return : IsScanned (b ∷ bs) Return
+  scanned-return = by (eqb b 10) refl (eqb b 13) refl
+    where
+      by : (t : Bool) → eqb b 10 ≡ t → (u : Bool) → eqb b 13 ≡ u → head_len (13 ∷ b ∷ bs) ≡ plus_len 1 (scan Return (b ∷ bs))
+      by true h u k = let is : b ≡ 10 = eqb-true b 10 h in rw is (more Line ∙ sym (plus-joined 1 1 (scan Line bs)))
+      by false h true k = let is : b ≡ 13 = eqb-true b 13 k in rw is (return-front 13 bs (λ e. cc e) ∙ ap (plus_len 1) (more Return))
+      by false h false k = return-front b bs (eqb-false b 10 h) ∙ ap (plus_len 1) (other-front b bs (eqb-false b 13 k) ∙ ap (plus_len 1) start) ∙ ap (plus_len 1) (sym (other-return b bs h k))
+
+  scanned-line : IsScanned (b ∷ bs) Line
+  scanned-line = by (eqb b 13) refl
+    where
+      by : (t : Bool) → eqb b 13 ≡ t → head_len (13 ∷ 10 ∷ b ∷ bs) ≡ plus_len 2 (scan Line (b ∷ bs))
+      by true h = let is : b ≡ 13 = eqb-true b 13 h in rw is (more LineReturn ∙ sym (plus-joined 2 1 (scan LineReturn bs)))
+      by false h =
+          line-front b bs (eqb-false b 13 h) ∙ ap (plus_len 1) (ten (b ∷ bs) ∙ ap (plus_len 1) (other-front b bs (eqb-false b 13 h) ∙ ap (plus_len 1) start)) ∙ plus-joined 1 1 (plus_len 1 (scan Nothing bs)) ∙ ap (plus_len 2) (sym (other-line b bs h))
+
+  scanned-last : IsScanned (b ∷ bs) LineReturn
+  scanned-last = by (eqb b 10) refl (eqb b 13) refl
+    where
+      by : (t : Bool) → eqb b 10 ≡ t → (u : Bool) → eqb b 13 ≡ u → head_len (13 ∷ 10 ∷ 13 ∷ b ∷ bs) ≡ plus_len 3 (scan LineReturn (b ∷ bs))
+      by true h u k = let is : b ≡ 10 = eqb-true b 10 h in rw is (head_len-cons 13 (10 ∷ 13 ∷ 10 ∷ bs))
+      by false h true k =
+          let is : b ≡ 13 = eqb-true b 13 k in
+          rw is
+          (last-front 13 bs (λ e. cc e) ∙ ap (plus_len 1) (ten (13 ∷ 13 ∷ bs) ∙ ap (plus_len 1) (return-front 13 bs (λ e. cc e) ∙ ap (plus_len 1) (more Return))) ∙ plus-joined 1 1 (plus_len 1 (plus_len 1 (scan Return bs)))
+          ∙ plus-joined 2 1 (plus_len 1 (scan Return bs)))
+      by false h false k =
+          last-front b bs (eqb-false b 10 h)
+          ∙ ap (plus_len 1) (ten (13 ∷ b ∷ bs) ∙ ap (plus_len 1) (return-front b bs (eqb-false b 10 h) ∙ ap (plus_len 1) (other-front b bs (eqb-false b 13 k) ∙ ap (plus_len 1) start)))
+          ∙ plus-joined 1 1 (plus_len 1 (plus_len 1 (scan Nothing bs))) ∙ plus-joined 2 1 (plus_len 1 (scan Nothing bs)) ∙ ap (plus_len 3) (sym (other-last b bs h k))
+
+  scanned-more : (seen : Seen) → IsScanned (b ∷ bs) seen
+  scanned-more Nothing = scanned-nothing
+  scanned-more Return = scanned-return
+  scanned-more Line = scanned-line
+  scanned-more LineReturn = scanned-last
+
+scanned : (bs : List ℕ) (seen : Seen) → IsScanned bs seen
+scanned [] seen = scanned-none seen
+scanned (b ∷ bs) seen = scanned-more b bs (λ (s : Seen). scanned bs s) seen
 
 -- The same at the start of a head.
 pub head_len-is : (bs : List ℕ) → head_len bs ≡ scan Nothing bs
-head_len-is bs = head_len-scan Nothing bs ∙ plus-none (scan Nothing bs)
+head_len-is bs = scanned bs Nothing ∙ plus-none (scan Nothing bs)
 
 -- How many bytes more make it whole, after bytes that don't.
 scan-some : (seen : Option Seen) (xs : List ℕ) → scan_by seen (λ (s : Seen). scan s xs) ≡ None → (s : Seen) × (seen ≡ Some s) × (scan s xs ≡ None)
@@ -123,7 +159,8 @@ scan-later seen (b ∷ bs) ys e =
     ap (λ (o : Option Seen). scan_by o (λ (s : Seen). scan s (bs ++ ys))) step.1
     ∙ ap (plus_len 1) (scan-later step.0 bs ys step.2)
     ∙ plus-joined 1 (length bs) (scan (seen_after step.0 bs) ys)
-    ∙ sym (ap (λ (o : Option Seen). plus_len (1 + length bs) (scan (seen_by o (λ (s : Seen). seen_after s bs)) ys)) step.1)
+    ∙ ap (λ (n : ℕ). plus_len n (scan (seen_after step.0 bs) ys)) (omega arith)
+    ∙ sym (ap (λ (o : Option Seen). plus_len (suc (length bs)) (scan (seen_by o (λ (s : Seen). seen_after s bs)) ys)) step.1)
 
 pub seen_after-append : (seen : Seen) (xs ys : List ℕ) → scan seen xs ≡ None → seen_after seen (xs ++ ys) ≡ seen_after (seen_after seen xs) ys
 seen_after-append seen [] ys e = refl
@@ -146,18 +183,18 @@ pub scan-within : (seen : Seen) (bs : List ℕ) (n : ℕ) → scan seen bs ≡ S
 scan-within seen [] n e = absurd (cc e)
 scan-within seen (b ∷ bs) n e = let bounds = scan-by_some (next_seen seen b) bs n (λ s m is. scan-within s bs m is) e in (bounds.0, omega (arith, bounds.1))
 
+goes-plus : (o p : Option ℕ) (n : ℕ) → ((m : ℕ) → o ≡ Some m → p ≡ Some m) → plus_len 1 o ≡ Some n → plus_len 1 p ≡ Some n
+goes-plus None p n more e = absurd (cc e)
+goes-plus (Some m) p n more e = ap (plus_len 1) (more m refl) ∙ e
+
+goes-by : (o : Option Seen) (bs q : List ℕ) (n : ℕ) → ((s : Seen) (m : ℕ) → scan s bs ≡ Some m → scan s (bs ++ q) ≡ Some m) → scan_by o (λ (s : Seen). scan s bs) ≡ Some n → scan_by o (λ (s : Seen). scan s (bs ++ q)) ≡ Some n
+goes-by None bs q n more e = e
+goes-by (Some s) bs q n more e = goes-plus (scan s bs) (scan s (bs ++ q)) n (more s) e
+
 -- More bytes don't change where.
 pub scan-goes : (seen : Seen) (bs q : List ℕ) (n : ℕ) → scan seen bs ≡ Some n → scan seen (bs ++ q) ≡ Some n
 scan-goes seen [] q n e = absurd (cc e)
-scan-goes seen (b ∷ bs) q n e = by (next_seen seen b) e
-  where
-    by : (o : Option Seen) → scan_by o (λ (s : Seen). scan s bs) ≡ Some n → scan_by o (λ (s : Seen). scan s (bs ++ q)) ≡ Some n
-    by None e = e
-    by (Some s) e = over (scan s bs) refl e
-      where
-        over : (o : Option ℕ) → scan s bs ≡ o → plus_len 1 o ≡ Some n → plus_len 1 (scan s (bs ++ q)) ≡ Some n
-        over None found e = absurd (cc e)
-        over (Some m) found e = ap (plus_len 1) (scan-goes s bs q m found) ∙ e
+scan-goes seen (b ∷ bs) q n e = goes-by (next_seen seen b) bs q n (λ s m is. scan-goes s bs q m is) e
 
 -- What a part of a head is: no end, and fewer bytes than the limit.
 part-of : (limit : ℕ) (bytes : List ℕ) (o : Option ℕ) → head_len bytes ≡ o → sized limit bytes o ≡ Partial → (o ≡ None) × (length bytes < limit)

@@ -1,6 +1,5 @@
--- A mailbox file as a streamed reply: what of it was said so far, and what is still to be said.
-use Rattle.std.specs.Prelude.{◌≡◌, ◌⊎◌, ◌<◌, ◌≤◌, ℕ, Bool, true, false, List, [], ◌++◌, length, Result, Ok, Err}
-use Rattle.arch_base.specs.Counts.{Rose}
+-- The pieces of a mailbox file in a streamed reply.
+use Rattle.std.specs.Prelude.{◌≡◌, ◌<◌, ◌≤◌, ℕ, List, [], ◌++◌, length, Result, Ok, Err}
 use Rattle.arch_model.specs.Shelves.{IsUndamaged, ReadingWhy}
 use Rattle.arch_model.specs.declared.text_refusal.TextRefusal.{TextRefusal}
 use Rattle.edge_io.specs.Phrases.{Says}
@@ -8,16 +7,6 @@ use Rattle.edge_io.specs.declared.sink.SinkFault.{SinkFault}
 use Rattle.line_door.specs.Acts.{Outside}
 use Rattle.http_front.specs.declared.mailbox.Part.{Part}
 use Rattle.http_front.specs.declared.mailbox.Part.TheVariants as part
-
--- Of these words all but the last were said: those are still to be said. `begun` tells whether any
--- were said. The disk didn't fail.
-pub record SoFar (words unsaid : List ℕ) (begun : Bool) (i j : Outside) : Type 0 where
-  pub front : List ℕ
-  pub joined : words ≡ front ++ unsaid
-  pub says : Says front i.out i.lost j.out j.lost (Ok tt)
-  pub some : begun ≡ true → 0 < length front
-  pub none : begun ≡ false → front ≡ []
-  pub kept : j.disk ≡ i.disk
 
 -- Nothing was said, and the words that are to be said stay. The piece that isn't read has a byte.
 pub record Stops (piece old new : List ℕ) (i : Outside) (refusal : TextRefusal) (j : Outside)

@@ -1,6 +1,8 @@
 -- The thread of a mail: its mails by date, and its tree.
 use Rattle.std.specs.Prelude.{◌≡◌, ℕ, List, [], ◌∷◌, ◌++◌, map, Option, Some, None, codes, if◌then◌else◌}
-use Rattle.std.specs.List.{flat_map}
+use Rattle.std.specs.List.{flat_map, list_any}
+use Rattle.std.specs.Str.{bytes_eq}
+use Rattle.std.specs.Borrow.{Bor}
 use Rattle.std.specs.BTreeSet.{insert_key}
 use Rattle.arch_model.specs.Archives.{Entry, live}
 use Rattle.arch_model.specs.Listings.{date_cmp, number_beside}
@@ -42,6 +44,11 @@ twig_of row = record { number = row.number; id = row.id; refs = row.refs; secs =
 -- would stay.
 abbrev pub with_twig : List Twig → Twig → List Twig
 with_twig twigs twig = if names_id twigs twig.id then twigs else twigs ++ twig ∷ []
+
+-- These ids are those of the mails.
+abbrev pub AreIds : List (Bor (List ℕ)) → List Twig → Type 0
+AreIds ids twigs = (id : List ℕ)
+    → list_any (λ (key : Bor (List ℕ)). bytes_eq key.now id) ids ≡ names_id twigs id
 
 -- The mails of these rows in a tree.
 abbrev pub twigs_after : List Twig → List Row → List Twig

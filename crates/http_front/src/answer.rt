@@ -36,12 +36,12 @@ pub(crate) fn answer_head<S: Shelf, O: Sink>(
         Some(request) => match judge(Some(request)) {
             Verdict::Serve(sends) => serve(alloc, &request, sends, moment, shelf, out),
             Verdict::Refuse(status, sends) => {
-                let _ = say_status(alloc, status, moment, sends, true, out);
+                let _ = say_status(status, moment, sends, true, out);
                 Next::Close
             }
         },
         None => {
-            let _ = say_status(alloc, Status::BadRequest, moment, true, true, out);
+            let _ = say_status(Status::BadRequest, moment, true, true, out);
             Next::Close
         }
     }
@@ -74,7 +74,7 @@ fn serve<S: Shelf, O: Sink>(
             say_mails(alloc, numbers.as_slice(), moment, sends, closes, shelf, out)
         }
         Ok(Held::Nothing) => {
-            let said = say_status(alloc, Status::NotFound, moment, sends, closes, out);
+            let said = say_status(Status::NotFound, moment, sends, closes, out);
             next_after(said.is_ok(), closes)
         }
         Err(refusal) => {
@@ -106,7 +106,7 @@ fn say_whole<O: Sink>(
             next_after(said.is_ok(), closes)
         }
         Err(NoMemory) => {
-            let _ = say_status(alloc, Status::Unavailable, moment, sends, true, out);
+            let _ = say_status(Status::Unavailable, moment, sends, true, out);
             Next::Close
         }
     }

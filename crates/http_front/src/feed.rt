@@ -1,18 +1,19 @@
 //! Feeds.
-ghost use Rattle.std.specs.Prelude.{◌≡◌, ◌++◌, OnOk, IfSome, Some, true};
+ghost use Rattle.std.specs.Prelude.{◌≡◌, ◌++◌, length, OnOk, IfSome, Some, true, is_some};
 ghost use Rattle.arch_base.specs.Moments.{IsMoment};
-ghost use Rattle.arch_model.specs.Archives.{Archive};
-ghost use Rattle.arch_model.specs.Shelves.{Stays, ReadCause};
+ghost use Rattle.arch_model.specs.Archives.{Archive, live, text_of};
+ghost use Rattle.arch_model.specs.Shelves.{Stays, ReadCause, ReadsOnce};
 ghost use Rattle.atom_mbox.specs.Feeds.{feed_start, entries_of, updated_of};
-ghost use Rattle.http_front.specs.Views.{shown_row, shown_at, shown_all, shown_by};
-ghost use Rattle.http_front.specs.Asking.{feed_found};
+ghost use Rattle.http_front.specs.Views.{shown_row, shown_text, shown_at, shown_all, shown_by};
+ghost use Rattle.http_front.specs.Asking.{feed_found, ReadsUpTo};
 ghost use Rattle.http_front.specs.Feeding.{Appends, later_of, latest_of};
 ghost use Rattle.http_front.specs.Sessions.{FindsIn};
 
 use crate::found::Held;
 use crate::listing::row_of_number;
+use crate::numbers::live_number;
 use arch_base::{Bytes, LAST_MOMENT, Name, NoMemory, last_moment_is_defined};
-use arch_model::{Shelf, TextRefusal, is_live};
+use arch_model::{Shelf, TextRefusal};
 use atom_mbox::{push_feed_end, push_feed_entry, push_feed_start};
 use http_heads::Body;
 use mail_forms::Row;
@@ -30,6 +31,7 @@ pub(crate) fn feed_at<S: Shelf>(
         result }
     ensures shelf { Stays S.holds S.ready S.alike S.faults shelf.old shelf.new }
     ensures cause { ReadCause (S.faults shelf.old) (S.faults shelf.new) result }
+    ensures reads { ReadsUpTo (length numbers.now) (S.reads shelf.old) (S.reads shelf.new) }
 {
     let mut made = Bytes::new(alloc);
     match start_feed(numbers, shelf, &mut made) {
@@ -113,6 +115,7 @@ fn push_mails<S: Shelf>(
         (entries_of a.config.name (shown_all a.entries numbers.now)) into.old into.new result }
     ensures shelf { Stays S.holds S.ready S.alike S.faults shelf.old shelf.new }
     ensures cause { ReadCause (S.faults shelf.old) (S.faults shelf.new) result }
+    ensures reads { ReadsUpTo (length numbers.now) (S.reads shelf.old) (S.reads shelf.new) }
 {
     for n in numbers {
         match push_mail(alloc, *n, shelf, into) {
@@ -137,13 +140,35 @@ fn push_mail<S: Shelf>(
         (entries_of a.config.name (shown_at a.entries n)) into.old into.new result }
     ensures shelf { Stays S.holds S.ready S.alike S.faults shelf.old shelf.new }
     ensures cause { ReadCause (S.faults shelf.old) (S.faults shelf.new) result }
+    ensures reads { ReadsOnce (S.reads shelf.old) (S.reads shelf.new) }
 {
-    if n > u64::from(u32::MAX) || !is_live(n as u32, shelf) {
-        return Ok(());
+    match live_number(n, shelf) {
+        Some(number) => push_live(alloc, number, shelf, into),
+        None => Ok(()),
     }
+}
+
+/// Appends the entry of a live number.
+///
+/// A refusal may leave a part of it appended.
+fn push_live<S: Shelf>(
+    alloc: Global,
+    n: u32,
+    shelf: &mut S,
+    into: &mut Bytes,
+) -> Result<(), TextRefusal>
+    requires ready { S.ready shelf.old ≡ true }
+    requires live { (a : Archive) → S.holds shelf.old a
+        → is_some (text_of (live a.entries) n) ≡ true }
+    ensures entry { (a : Archive) → S.holds shelf.old a → Appends (entries_of a.config.name
+        (shown_by (shown_row a.entries n) (shown_text a.entries n))) into.old into.new result }
+    ensures shelf { Stays S.holds S.ready S.alike S.faults shelf.old shelf.new }
+    ensures cause { ReadCause (S.faults shelf.old) (S.faults shelf.new) result }
+    ensures reads { ReadsOnce (S.reads shelf.old) (S.reads shelf.new) }
+{
     let mut text = Bytes::new(alloc);
-    match shelf.text(n as u32, &mut text) {
-        Ok(()) => match push_read(alloc, n as u32, text.as_slice(), shelf, into) {
+    match shelf.text(n, &mut text) {
+        Ok(()) => match push_read(alloc, n, text.as_slice(), shelf, into) {
             Ok(()) => Ok(()),
             Err(NoMemory) => Err(TextRefusal::NoMemory),
         },

@@ -26,7 +26,7 @@ impl Model for HeldHead {
     ghost view = { λ h. take h.len h.buffer.items };
 
     ghost invariant = { λ h. (h.len ≤ length h.buffer.items)
-        × ((h.len ≡ 0) ⊎ (length h.buffer.items ≡ head_limit)) };
+        × ((length h.buffer.items ≡ 0) ⊎ (length h.buffer.items ≡ head_limit)) };
 }
 
 impl HeldHead {

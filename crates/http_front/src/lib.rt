@@ -9,6 +9,7 @@ mod laws;
 mod listing;
 mod mailbox;
 mod message;
+mod numbers;
 mod replies;
 mod scan;
 mod session;

@@ -1,22 +1,28 @@
 //! Mailbox files, as streamed replies whose length is said first.
-ghost use Rattle.std.specs.Prelude.{◌≡◌, ◌++◌, ◌<◌, ◌^◌, length, true, is_some, OnErr};
+ghost use Rattle.std.specs.Prelude.{◌≡◌, ◌++◌, ◌<◌, ◌^◌, ℕ, [], length, true, false, is_some, IfOk, OnErr, Result};
 ghost use Rattle.line_door.specs.Acts.{outside};
 ghost use Rattle.arch_base.specs.Moments.{IsMoment};
 ghost use Rattle.arch_model.specs.Archives.{Archive, live, text_of};
 ghost use Rattle.arch_model.specs.Next.{continues};
 ghost use Rattle.arch_model.specs.Shelves.{Stays, ReadCause};
-ghost use Rattle.http_front.specs.Mailboxes.{piece_at, mailbox_at, whole_mailbox};
+ghost use Rattle.edge_io.specs.Phrases.{Says};
+ghost use Rattle.edge_io.specs.declared.sink.SinkFault.{SinkFault};
+ghost use Rattle.http_heads.specs.Replies.{reply_head};
+ghost use Rattle.http_front.specs.Views.{shown_text};
+ghost use Rattle.http_front.specs.Mailboxes.{piece_by, piece_at, mailbox_at, whole_mailbox};
 ghost use Rattle.http_front.specs.Feeding.{Appends};
+ghost use Rattle.http_front.specs.Replies.{word};
 ghost use Rattle.http_front.specs.Sessions.{SaysThen, ServesMailbox, StreamsOn, SaysStopped};
 ghost use Rattle.http_front.specs.Streaming.{IsPart};
 
 use crate::answer::next_after;
 use crate::listing::row_of_number;
+use crate::numbers::{live_from, live_number};
 use crate::replies::{say_status, say_unread};
 use arch_base::{Bytes, NoMemory};
-use arch_model::{Next, Shelf, TextRefusal, is_live};
+use arch_model::{Next, Shelf, TextRefusal};
 use atom_mbox::mbox_piece;
-use edge_io::{Sink, say};
+use edge_io::{Sink, SinkFault, say};
 use http_heads::{Body, Status, push_reply_head};
 use std::alloc::Global;
 
@@ -64,28 +70,11 @@ pub(crate) fn say_every_mail<S: Shelf, O: Sink>(
     ensures shelf { Stays S.holds S.ready S.alike S.faults shelf.old shelf.new }
     ensures sink { O.alike out.old out.new }
 {
-    let mut unsaid = Bytes::new(alloc);
     let len = every_len(shelf);
-    match push_reply_head(
-        Status::Done,
-        moment,
-        Body::Mailbox,
-        len,
-        closes,
-        &mut unsaid,
-    ) {
-        Ok(()) if sends => {
-            let manner = Manner { moment, closes };
-            say_every_piece(alloc, manner, unsaid, shelf, out)
-        }
-        Ok(()) => {
-            let said = say(unsaid.as_slice(), out);
-            next_after(said.is_ok(), closes)
-        }
-        Err(NoMemory) => {
-            let _ = say_status(alloc, Status::Unavailable, moment, sends, true, out);
-            Next::Close
-        }
+    match head_of(alloc, len, moment, closes) {
+        Ok(head) if sends => say_every_piece(alloc, Manner { moment, closes }, head, shelf, out),
+        Ok(head) => say_rest(head, closes, out),
+        Err(NoMemory) => end_without_memory(moment, sends, out),
     }
 }
 
@@ -110,29 +99,41 @@ pub(crate) fn say_mails<S: Shelf, O: Sink>(
     ensures shelf { Stays S.holds S.ready S.alike S.faults shelf.old shelf.new }
     ensures sink { O.alike out.old out.new }
 {
-    let mut unsaid = Bytes::new(alloc);
     let len = len_of(numbers, shelf);
-    match push_reply_head(
-        Status::Done,
-        moment,
-        Body::Mailbox,
-        len,
-        closes,
-        &mut unsaid,
-    ) {
-        Ok(()) if sends => {
-            let manner = Manner { moment, closes };
-            say_pieces(alloc, numbers, manner, unsaid, shelf, out)
-        }
-        Ok(()) => {
-            let said = say(unsaid.as_slice(), out);
-            next_after(said.is_ok(), closes)
-        }
-        Err(NoMemory) => {
-            let _ = say_status(alloc, Status::Unavailable, moment, sends, true, out);
-            Next::Close
-        }
+    match head_of(alloc, len, moment, closes) {
+        Ok(head) if sends => say_pieces(
+            alloc,
+            numbers,
+            Manner { moment, closes },
+            head,
+            shelf,
+            out,
+        ),
+        Ok(head) => say_rest(head, closes, out),
+        Err(NoMemory) => end_without_memory(moment, sends, out),
     }
+}
+
+/// Returns the head of a reply with a mailbox file of this length.
+fn head_of(alloc: Global, len: u128, moment: u64, closes: bool) -> Result<Bytes, NoMemory>
+    requires { IsMoment moment }
+    ensures { IfOk result (λ head. head ≡ reply_head Status.Done moment Body.Mailbox len closes) }
+{
+    let mut head = Bytes::new(alloc);
+    push_reply_head(Status::Done, moment, Body::Mailbox, len, closes, &mut head)?;
+    Ok(head)
+}
+
+/// Writes that memory ran out, in place of a reply, and ends the session.
+fn end_without_memory<O: Sink>(moment: u64, sends: bool, out: &mut O) -> Next
+    requires { IsMoment moment }
+    ensures said { (sent : Result Unit SinkFault) × Says (word Status.Unavailable moment sends true)
+        (O.taken out.old) (O.faults out.old) (O.taken out.new) (O.faults out.new) sent }
+    ensures next { continues result ≡ false }
+    ensures sink { O.alike out.old out.new }
+{
+    let _ = say_status(Status::Unavailable, moment, sends, true, out);
+    Next::Close
 }
 
 /// Returns the length of the mailbox file of all mails, in bytes.
@@ -141,15 +142,10 @@ fn every_len<S: Shelf>(shelf: &S) -> u128
     ensures { (a : Archive) → S.holds shelf.now a → result ≡ length (whole_mailbox a.entries) }
 {
     let mut len: u128 = 0;
-    let mut from = Some(0);
-    while let Some(low) = from {
-        match shelf.live_from(low) {
-            Some(n) => {
-                len += piece_len(u64::from(n), shelf);
-                from = n.checked_add(1);
-            }
-            None => return len,
-        }
+    let mut low: u64 = 0;
+    while let Some(n) = live_from(low, shelf) {
+        len += piece_len(u64::from(n), shelf);
+        low = u64::from(n) + 1;
     }
     len
 }
@@ -197,20 +193,17 @@ fn say_every_piece<S: Shelf, O: Sink>(
     ensures sink { O.alike out.old out.new }
 {
     let mut begun = false;
-    let mut from = Some(0);
-    while let Some(low) = from {
-        let Some(n) = shelf.live_from(low) else {
-            return say_rest(unsaid, manner, out);
-        };
+    let mut low: u64 = 0;
+    while let Some(n) = live_from(low, shelf) {
         match say_part(alloc, u64::from(n), &mut unsaid, shelf, out) {
             Part::Added => {}
             Part::Said => begun = true,
             Part::Lost => return Next::Close,
-            Part::Unread(refusal) => return stop(alloc, begun, refusal, manner, out),
+            Part::Unread(refusal) => return stop(alloc, begun, refusal, manner.moment, out),
         }
-        from = n.checked_add(1);
+        low = u64::from(n) + 1;
     }
-    say_rest(unsaid, manner, out)
+    say_rest(unsaid, manner.closes, out)
 }
 
 /// Writes what is to be said and then the pieces of these numbers.
@@ -237,10 +230,10 @@ fn say_pieces<S: Shelf, O: Sink>(
             Part::Added => {}
             Part::Said => begun = true,
             Part::Lost => return Next::Close,
-            Part::Unread(refusal) => return stop(alloc, begun, refusal, manner, out),
+            Part::Unread(refusal) => return stop(alloc, begun, refusal, manner.moment, out),
         }
     }
-    say_rest(unsaid, manner, out)
+    say_rest(unsaid, manner.closes, out)
 }
 
 /// Puts the piece of a number after what is to be said, and says that if it is long.
@@ -258,13 +251,43 @@ fn say_part<S: Shelf, O: Sink>(
     ensures shelf { Stays S.holds S.ready S.alike S.faults shelf.old shelf.new }
     ensures sink { O.alike out.old out.new }
 {
-    if n > u64::from(u32::MAX) || !is_live(n as u32, shelf) {
-        return Part::Added;
+    match live_number(n, shelf) {
+        Some(number) => say_piece(alloc, number, unsaid, shelf, out),
+        None => Part::Added,
     }
-    match push_piece(alloc, n as u32, unsaid, shelf) {
-        Ok(()) => {}
-        Err(refusal) => return Part::Unread(refusal),
+}
+
+/// Puts the piece of a live number after what is to be said, and says that if it is long.
+fn say_piece<S: Shelf, O: Sink>(
+    alloc: Global,
+    n: u32,
+    unsaid: &mut Bytes,
+    shelf: &mut S,
+    out: &mut O,
+) -> Part
+    requires ready { S.ready shelf.old ≡ true }
+    requires live { (a : Archive) → S.holds shelf.old a
+        → is_some (text_of (live a.entries) n) ≡ true }
+    ensures part { (a : Archive) → S.holds shelf.old a
+        → IsPart (piece_by (shown_text a.entries n)) unsaid.old
+        (outside (O.taken out.old) (S.faults shelf.old) (O.faults out.old)) result unsaid.new
+        (outside (O.taken out.new) (S.faults shelf.new) (O.faults out.new)) }
+    ensures shelf { Stays S.holds S.ready S.alike S.faults shelf.old shelf.new }
+    ensures sink { O.alike out.old out.new }
+{
+    match push_piece(alloc, n, unsaid, shelf) {
+        Ok(()) => say_long(unsaid, out),
+        Err(refusal) => Part::Unread(refusal),
     }
+}
+
+/// Says what is to be said if it is long.
+fn say_long<O: Sink>(unsaid: &mut Bytes, out: &mut O) -> Part
+    ensures part { (disk : ℕ) → IsPart [] unsaid.old
+        (outside (O.taken out.old) disk (O.faults out.old)) result unsaid.new
+        (outside (O.taken out.new) disk (O.faults out.new)) }
+    ensures sink { O.alike out.old out.new }
+{
     if unsaid.as_slice().len() < PART_LEN {
         return Part::Added;
     }
@@ -273,7 +296,7 @@ fn say_part<S: Shelf, O: Sink>(
             unsaid.truncate(0);
             Part::Said
         }
-        Err(_) => Part::Lost,
+        Err(SinkFault) => Part::Lost,
     }
 }
 
@@ -290,7 +313,7 @@ fn push_piece<S: Shelf>(
     requires live { (a : Archive) → S.holds shelf.old a
         → is_some (text_of (live a.entries) n) ≡ true }
     ensures piece { (a : Archive) → S.holds shelf.old a
-        → Appends (piece_at a.entries n) into.old into.new result }
+        → Appends (piece_by (shown_text a.entries n)) into.old into.new result }
     ensures refused { OnErr result (into.new ≡ into.old) }
     ensures shelf { Stays S.holds S.ready S.alike S.faults shelf.old shelf.new }
     ensures cause { ReadCause (S.faults shelf.old) (S.faults shelf.new) result }
@@ -306,31 +329,26 @@ fn push_piece<S: Shelf>(
 }
 
 /// Writes the last words of a reply, and returns whether the session continues.
-fn say_rest<O: Sink>(unsaid: Bytes, manner: Manner, out: &mut O) -> Next
-    ensures said { SaysThen unsaid manner.closes (O.taken out.old) (O.faults out.old)
-        (O.taken out.new) (O.faults out.new) (continues result) }
+fn say_rest<O: Sink>(unsaid: Bytes, closes: bool, out: &mut O) -> Next
+    ensures said { SaysThen unsaid closes (O.taken out.old) (O.faults out.old) (O.taken out.new)
+        (O.faults out.new) (continues result) }
     ensures sink { O.alike out.old out.new }
 {
     let said = say(unsaid.as_slice(), out);
-    next_after(said.is_ok(), manner.closes)
+    next_after(said.is_ok(), closes)
 }
 
 /// Ends a reply for which a text was not read. If nothing was said of it, says why instead.
-fn stop<O: Sink>(
-    alloc: Global,
-    begun: bool,
-    refusal: TextRefusal,
-    manner: Manner,
-    out: &mut O,
-) -> Next
-    requires { IsMoment manner.moment }
-    ensures said { SaysStopped begun refusal manner.moment (O.taken out.old) (O.faults out.old)
+fn stop<O: Sink>(alloc: Global, begun: bool, refusal: TextRefusal, moment: u64, out: &mut O) -> Next
+    requires { IsMoment moment }
+    ensures said { SaysStopped begun refusal moment (O.taken out.old) (O.faults out.old)
         (O.taken out.new) (O.faults out.new) }
     ensures next { result ≡ Next.Close }
     ensures sink { O.alike out.old out.new }
 {
-    if !begun {
-        let _ = say_unread(alloc, refusal, manner.moment, true, out);
+    if begun {
+        return Next::Close;
     }
+    let _ = say_unread(alloc, refusal, moment, true, out);
     Next::Close
 }

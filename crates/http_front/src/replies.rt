@@ -3,15 +3,15 @@ ghost use Rattle.std.specs.Prelude.{◌≡◌, ◌++◌, IfOk, OnOk};
 ghost use Rattle.arch_base.specs.Moments.{IsMoment};
 ghost use Rattle.edge_io.specs.Phrases.{Says};
 ghost use Rattle.http_front.specs.Sessions.{SaysUnread};
-ghost use Rattle.http_heads.specs.Replies.{allow_line as allow, close_line as close, status_lines, body_lines};
+ghost use Rattle.http_heads.specs.Replies.{allow_line as allow, close_line as close};
 ghost use Rattle.http_front.specs.Replies.{reply, sent_body, word, word_of, status_line as line_of, damaged_line as damaged};
 
 use arch_base::{Bytes, NoMemory, ObjectId, hex_of};
 use arch_model::TextRefusal;
-use edge_io::{Sink, SinkFault, say};
+use edge_io::{Sink, SinkFault};
 use http_heads::{Body, Status, date_at, push_reply_head};
-use itoa::Buffer;
 use std::alloc::Global;
+use wire_replies::{Phrase, send};
 
 /// Appends a reply: its head, and its body unless the method is `HEAD`.
 ///
@@ -40,9 +40,8 @@ fn sent(bytes: &[u8], sends: bool) -> &[u8]
     if sends { bytes } else { b"" }
 }
 
-/// Writes a status with its words. Needs no memory, but writes in one piece if there is some.
+/// Writes a status with its words, in one piece.
 pub(crate) fn say_status<O: Sink>(
-    alloc: Global,
     status: Status,
     moment: u64,
     sends: bool,
@@ -54,21 +53,11 @@ pub(crate) fn say_status<O: Sink>(
         (O.taken out.new) (O.faults out.new) result }
     ensures sink { O.alike out.old out.new }
 {
-    say_words(
-        alloc,
-        status,
-        status_line(status),
-        moment,
-        sends,
-        closes,
-        out,
-    )
+    say_words(status, status_line(status), moment, sends, closes, out)
 }
 
-/// Writes words with a status. Needs no memory, but writes in one piece if there is some.
-#[tactic(auto, unfolding(crate::specs::Replies::word_of))]
+/// Writes words with a status, in one piece if there are not more than some thousand of them.
 pub(crate) fn say_words<O: Sink>(
-    alloc: Global,
     status: Status,
     words: &[u8],
     moment: u64,
@@ -81,64 +70,23 @@ pub(crate) fn say_words<O: Sink>(
         (O.faults out.old) (O.taken out.new) (O.faults out.new) result }
     ensures sink { O.alike out.old out.new }
 {
-    let mut made = Bytes::new(alloc);
-    match push_reply(status, moment, Body::Words, words, sends, closes, &mut made) {
-        Ok(()) => say(made.as_slice(), out),
-        Err(NoMemory) => say_in_parts(status, words, moment, sends, closes, out),
-    }
-}
-
-/// Writes words with a status, part by part.
-#[tactic(auto, unfolding(crate::specs::Replies::word_of))]
-fn say_in_parts<O: Sink>(
-    status: Status,
-    words: &[u8],
-    moment: u64,
-    sends: bool,
-    closes: bool,
-    out: &mut O,
-) -> Result<(), SinkFault>
-    requires { IsMoment moment }
-    ensures said { Says (word_of status words.now moment sends closes) (O.taken out.old)
-        (O.faults out.old) (O.taken out.new) (O.faults out.new) result }
-    ensures sink { O.alike out.old out.new }
-{
-    say_status_lines(status, moment, out)?;
-    say_body_lines(words.len(), out)?;
-    say(allow_line(status), out)?;
-    say(close_line(closes), out)?;
-    say(b"\r\n", out)?;
-    say(sent(words, sends), out)
-}
-
-/// Writes the line of a status, and the line of a moment's date.
-#[tactic(auto, unfolding(http_heads::specs::Replies::status_lines))]
-fn say_status_lines<O: Sink>(status: Status, moment: u64, out: &mut O) -> Result<(), SinkFault>
-    requires { IsMoment moment }
-    ensures said { Says (status_lines status moment) (O.taken out.old) (O.faults out.old)
-        (O.taken out.new) (O.faults out.new) result }
-    ensures sink { O.alike out.old out.new }
-{
-    say(b"HTTP/1.1 ", out)?;
-    say(status.words(), out)?;
-    say(b"\r\nDate: ", out)?;
-    say(&date_at(moment), out)?;
-    say(b"\r\n", out)
-}
-
-/// Writes the lines of the type and the length of words.
-#[tactic(auto, unfolding(http_heads::specs::Replies::body_lines))]
-fn say_body_lines<O: Sink>(len: usize, out: &mut O) -> Result<(), SinkFault>
-    ensures said { Says (body_lines Body.Words len) (O.taken out.old) (O.faults out.old)
-        (O.taken out.new) (O.faults out.new) result }
-    ensures sink { O.alike out.old out.new }
-{
-    let mut digits = Buffer::new();
-    say(b"Content-Type: ", out)?;
-    say(Body::Words.media_type(), out)?;
-    say(b"\r\nContent-Length: ", out)?;
-    say(digits.format(len).as_bytes(), out)?;
-    say(b"\r\n", out)
+    let date = date_at(moment);
+    let phrases = [
+        Phrase::Words(b"HTTP/1.1 "),
+        Phrase::Words(status.words()),
+        Phrase::Words(b"\r\nDate: "),
+        Phrase::Words(&date),
+        Phrase::Words(b"\r\nContent-Type: "),
+        Phrase::Words(Body::Words.media_type()),
+        Phrase::Words(b"\r\nContent-Length: "),
+        Phrase::Number(words.len() as u64),
+        Phrase::Words(b"\r\n"),
+        Phrase::Words(allow_line(status)),
+        Phrase::Words(close_line(closes)),
+        Phrase::Words(b"\r\n"),
+        Phrase::Words(sent(words, sends)),
+    ];
+    send(&phrases, out)
 }
 
 /// Returns the line that names the allowed methods, if the status refuses another one.
@@ -192,14 +140,14 @@ pub(crate) fn say_unread<O: Sink>(
     ensures sink { O.alike out.old out.new }
 {
     match refusal {
-        TextRefusal::DiskFault => say_status(alloc, Status::ServerError, moment, sends, true, out),
-        TextRefusal::NoMemory => say_status(alloc, Status::Unavailable, moment, sends, true, out),
+        TextRefusal::DiskFault => say_status(Status::ServerError, moment, sends, true, out),
+        TextRefusal::NoMemory => say_status(Status::Unavailable, moment, sends, true, out),
         TextRefusal::Damaged { named, found } => match damaged_line(alloc, &named, &found) {
             Ok(line) => {
                 let status = Status::ServerError;
-                say_words(alloc, status, line.as_slice(), moment, sends, true, out)
+                say_words(status, line.as_slice(), moment, sends, true, out)
             }
-            Err(NoMemory) => say_status(alloc, Status::Unavailable, moment, sends, true, out),
+            Err(NoMemory) => say_status(Status::Unavailable, moment, sends, true, out),
         },
     }
 }

@@ -132,7 +132,7 @@ impl HttpSession {
         match head_in(self.held.as_slice(), self.seen, piece) {
             Ahead::More(seen) => self.hold(piece, seen, moment, out),
             Ahead::Long => {
-                let _ = say_status(self.alloc, Status::HeadTooLarge, moment, true, true, out);
+                let _ = say_status(Status::HeadTooLarge, moment, true, true, out);
                 Turn::Closed
             }
             Ahead::Head(taken) => {
@@ -188,7 +188,7 @@ impl HttpSession {
             return Turn::Kept;
         }
         if self.held.keep(piece).is_err() {
-            let _ = say_status(self.alloc, Status::Unavailable, moment, true, true, out);
+            let _ = say_status(Status::Unavailable, moment, true, true, out);
             return Turn::Closed;
         }
         self.seen = seen;

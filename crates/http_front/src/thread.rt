@@ -1,11 +1,11 @@
 //! The thread of a mail: its mails by date, and its page.
-ghost use Rattle.std.specs.Prelude.{◌≡◌, IfOk, OnOk, Some, true, [], map, take, reverse};
+ghost use Rattle.std.specs.Prelude.{◌≡◌, ◌++◌, IfOk, OnOk, Some, true, [], map, take, reverse};
 ghost use Rattle.std.specs.BTreeSet.{insert_key};
 ghost use Rattle.std.specs.List.{flat_map};
 ghost use Rattle.arch_model.specs.Archives.{Archive};
 ghost use Rattle.arch_model.specs.Listings.{date_cmp, number_beside};
 ghost use Rattle.html_pages.specs.Lines.{thread_line};
-ghost use Rattle.http_front.specs.Threads.{place_of, oldest_first, thread_rows, with_twig, twig_of, twigs_after, tree_line, IsEntryOf};
+ghost use Rattle.http_front.specs.Threads.{place_of, oldest_first, thread_rows, with_twig, twig_of, twigs_after, tree_line, AreIds, IsEntryOf};
 ghost use Rattle.http_front.specs.Views.{shown_row};
 ghost use Rattle.http_front.specs.Asking.{Reading, IsReading, thread_found};
 ghost use Rattle.http_front.specs.Sessions.{MakesPage};
@@ -23,6 +23,9 @@ use thread_tree::{Line, Twigs, Who};
 
 /// A mail's place in the order of dates: the seconds of its date, and then its number.
 type Place = (u64, u32);
+
+/// The ids of mails.
+type Ids<'a> = BTreeSet<&'a [u8]>;
 
 /// Returns the numbers of the thread of a number, by date and then by number. Reads no text.
 pub(crate) fn oldest_of<S: Shelf>(alloc: Global, n: u32, shelf: &S) -> Result<Numbers, NoMemory>
@@ -50,12 +53,10 @@ pub(crate) fn newest_of<S: Shelf>(
     ensures { (a : Archive) → S.holds shelf.now a → IfOk result (λ numbers.
         numbers ≡ take count (reverse (oldest_first (thread_rows a.entries n)))) }
 {
-    let oldest = oldest_of(alloc, n, shelf)?;
-    let mut numbers = Numbers::new(alloc);
-    for number in oldest.as_slice().iter().rev().take(count) {
-        numbers.push(*number)?;
-    }
-    Ok(numbers)
+    let mut numbers = oldest_of(alloc, n, shelf)?.into_vec();
+    numbers.as_mut_slice().reverse();
+    numbers.truncate(count);
+    Ok(Numbers::from_vec(numbers))
 }
 
 /// Returns the places of the mails in the thread of a number.
@@ -115,21 +116,26 @@ fn twigs_of<S: Shelf>(alloc: Global, n: u32, shelf: &S) -> Result<Twigs, NoMemor
 {
     let members = shelf.thread_of(n)?;
     let rows = rows_of(alloc, members.as_slice(), shelf)?;
+    let mut ids = BTreeSet::new(alloc);
     let mut twigs = Twigs::new(alloc);
     for row in rows.as_slice() {
-        add_twig(*row, &mut twigs)?;
+        add_twig(*row, &mut ids, &mut twigs)?;
     }
     Ok(twigs)
 }
 
-/// Adds the mail of a row, unless one with its id is there.
-fn add_twig(row: &Row, twigs: &mut Twigs) -> Result<(), NoMemory>
-    ensures { OnOk result (twigs.new ≡ with_twig twigs.old (twig_of row.now)) }
+/// Adds the mail of a row, unless one with its id is there. `ids` are the ids of the mails that are
+/// there.
+fn add_twig<'a>(row: &'a Row, ids: &mut Ids<'a>, twigs: &mut Twigs) -> Result<(), NoMemory>
+    requires { AreIds ids.old.keys twigs.old }
+    ensures added { OnOk result (twigs.new ≡ with_twig twigs.old (twig_of row.now)) }
+    ensures ids { OnOk result (AreIds ids.new.keys twigs.new) }
 {
-    if twigs.contains(row.id.as_slice()) {
-        return Ok(());
+    if ids.insert(row.id.as_slice())? {
+        twigs.add(row.number, row.id.as_slice(), &row.refs, row.date.secs)
+    } else {
+        Ok(())
     }
-    twigs.add(row.number, row.id.as_slice(), &row.refs, row.date.secs)
 }
 
 /// Returns the lines of a page by those of a tree.
@@ -145,14 +151,31 @@ fn lines_of<'a, S: Shelf>(
 {
     let mut lines = Vec::new(alloc);
     for line in tree {
-        if let Some(entry) = entry_of(&line.who, shelf) {
-            lines.push(ThreadLine {
-                depth: line.depth,
-                entry,
-            })?;
-        }
+        push_line(line, shelf, &mut lines)?;
     }
     Ok(lines)
+}
+
+/// Appends the line of a page by a line of a tree, if there is one.
+fn push_line<'a, S: Shelf>(
+    line: &'a Line,
+    shelf: &'a S,
+    lines: &mut Vec<ThreadLine<'a>>,
+) -> Result<(), NoMemory>
+    requires { S.ready shelf.now ≡ true }
+    ensures { (a : Archive) → S.holds shelf.now a → OnOk result (
+        flat_map (thread_line a.config.name) lines.new.items
+        ≡ flat_map (thread_line a.config.name) lines.old.items
+        ++ tree_line a.config.name a.entries line.now) }
+{
+    match entry_of(&line.who, shelf) {
+        Some(entry) => {
+            let depth = line.depth;
+            lines.push(ThreadLine { depth, entry })?;
+            Ok(())
+        }
+        None => Ok(()),
+    }
 }
 
 /// Returns what a line of a tree stands for, unless it is a number without a row.

@@ -19,23 +19,23 @@ use itoa::Buffer;
 use std::alloc::Global;
 
 /// Writes that too many connections are open.
-pub fn say_busy<O: Sink>(alloc: Global, moment: u64, out: &mut O) -> Result<(), SinkFault>
+pub fn say_busy<O: Sink>(moment: u64, out: &mut O) -> Result<(), SinkFault>
     requires { IsMoment moment }
     ensures said { Says (word Status.TooManyRequests moment true true) (O.taken out.old)
         (O.faults out.old) (O.taken out.new) (O.faults out.new) result }
     ensures sink { O.alike out.old out.new }
 {
-    say_status(alloc, Status::TooManyRequests, moment, true, true, out)
+    say_status(Status::TooManyRequests, moment, true, true, out)
 }
 
 /// Writes that memory ran out.
-pub fn say_no_memory<O: Sink>(alloc: Global, moment: u64, out: &mut O) -> Result<(), SinkFault>
+pub fn say_no_memory<O: Sink>(moment: u64, out: &mut O) -> Result<(), SinkFault>
     requires { IsMoment moment }
     ensures said { Says (word Status.Unavailable moment true true) (O.taken out.old)
         (O.faults out.old) (O.taken out.new) (O.faults out.new) result }
     ensures sink { O.alike out.old out.new }
 {
-    say_status(alloc, Status::Unavailable, moment, true, true, out)
+    say_status(Status::Unavailable, moment, true, true, out)
 }
 
 /// Writes why an archive was not opened. If there is none, its root is called damaged.
@@ -55,16 +55,16 @@ pub fn say_unopened<O: Sink>(
     match refusal {
         OpenRefusal::NoArchive => {
             let line = b"damaged root 0\n";
-            say_words(alloc, Status::ServerError, line, moment, true, true, out)
+            say_words(Status::ServerError, line, moment, true, true, out)
         }
-        OpenRefusal::DiskFault => say_status(alloc, Status::ServerError, moment, true, true, out),
-        OpenRefusal::NoMemory => say_no_memory(alloc, moment, out),
+        OpenRefusal::DiskFault => say_status(Status::ServerError, moment, true, true, out),
+        OpenRefusal::NoMemory => say_no_memory(moment, out),
         OpenRefusal::Damaged { file, at } => match file_line(alloc, file, at) {
             Ok(line) => {
                 let status = Status::ServerError;
-                say_words(alloc, status, line.as_slice(), moment, true, true, out)
+                say_words(status, line.as_slice(), moment, true, true, out)
             }
-            Err(NoMemory) => say_no_memory(alloc, moment, out),
+            Err(NoMemory) => say_no_memory(moment, out),
         },
     }
 }
