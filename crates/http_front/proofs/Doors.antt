@@ -8,12 +8,12 @@ use Rattle.line_door.proofs.Cutting.{door_laws}
 use Rattle.arch_model.specs.Archives.{Archive}
 use Rattle.http_heads.specs.Heads.{Asked}
 use Rattle.http_heads.specs.Replies.{verdict_of}
-use Rattle.http_heads.specs.declared.reply.Status.TheVariants.{ServerError}
+use Rattle.http_heads.specs.declared.reply.Status.TheVariants.{Done, NotFound, ServerError}
 use Rattle.http_heads.specs.declared.reply.Verdict.{Verdict}
 use Rattle.http_heads.specs.declared.reply.Verdict.TheVariants.{Serve, Refuse}
 use Rattle.http_front.specs.Fronts.{Front, Whole, Long, Partial, front, is_whole, head_limit}
 use Rattle.http_front.specs.Asking.{Reading, Found, Gives, Streams, Missing, target_found, target_reads}
-use Rattle.http_front.specs.Replies.{word}
+use Rattle.http_front.specs.Replies.{reply, word}
 use Rattle.http_front.specs.Door.{Says, replies, served, said_found, said_verdict, said_head, unkept, said_at, said, has_request, with_piece}
 use Rattle.http_front.proofs.Fronts.{Goes, Same, Over, Open, front-goes, front-shorter, not_whole}
 
@@ -72,9 +72,9 @@ replies-left a rest true streamed words k e = absurd (cc e)
 replies-left a rest false streamed words k e = cc
 
 served-left : (moment : ℕ) (a : Archive) (sends ends : Bool) (rest : List ℕ) (found : Found) (k : List ℕ) → (served moment a sends ends rest found).next ≡ Some k → rest ≡ k
-served-left moment a sends ends rest (Gives body bytes) k e = replies-left a rest ends false _ k e
-served-left moment a sends ends rest (Streams body bytes) k e = replies-left a rest ends sends _ k e
-served-left moment a sends ends rest Missing k e = replies-left a rest ends false _ k e
+served-left moment a sends ends rest (Gives body bytes) k e = replies-left a rest ends false (reply Done moment body bytes sends ends) k e
+served-left moment a sends ends rest (Streams body bytes) k e = replies-left a rest ends sends (reply Done moment body bytes sends ends) k e
+served-left moment a sends ends rest Missing k e = replies-left a rest ends false (word NotFound moment sends ends) k e
 
 verdict-left : (reading : Reading) (moment : ℕ) (a : Archive) (asked : Asked) (rest : List ℕ) (verdict : Verdict) (k : List ℕ) → (said_verdict reading moment a asked rest verdict Plain).next ≡ Some k → rest ≡ k
 verdict-left reading moment a asked rest (Serve sends) k e = served-left moment a sends asked.closes rest (target_found reading a asked.target) k e

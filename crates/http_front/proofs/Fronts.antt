@@ -89,6 +89,11 @@ sized-part limit bytes short = let t : nat_lt (length bytes) limit ≡ true = gr
 pub sized-long : (limit : ℕ) (bytes : List ℕ) → limit ≤ length bytes → sized limit bytes None ≡ Long
 sized-long limit bytes long = let t : nat_lt (length bytes) limit ≡ false = grind (arith, nat_tests) in rw t refl
 
+-- No bytes are a part of a head.
+pub front-nil : (limit : ℕ) → 0 < limit → front limit [] ≡ Partial
+unfolding front
+front-nil limit some = sized-part limit [] some
+
 -- What is at the front stays there, and more bytes follow it.
 pub data Goes (q : List ℕ) : Front → Front → Type 0 where
   Same : (head rest : List ℕ) → Goes q (Whole head rest) (Whole head (rest ++ q))

@@ -30,7 +30,7 @@ reads-some reading is bytes head asked read same = is.heads.head bytes head read
 
 -- What is no head.
 pub reads-none : (reading : Reading) → IsReading reading → (bytes : List ℕ) → ((head : RequestHead) → IsHead bytes head → None ≡ Some (asked_of head)) → reading.reads bytes ≡ None
-reads-none reading is bytes no = is.heads.none bytes (λ head read. never (asked_of head) (no head read))
+reads-none reading is bytes other = is.heads.none bytes (λ head read. never (asked_of head) (other head read))
   where
     never : (asked : Asked) → None ≡ Some asked → ⊥
     never asked e = cc e

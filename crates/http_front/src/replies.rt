@@ -1,8 +1,9 @@
 //! Writes whole replies, and the words of statuses other than 200.
-ghost use Rattle.std.specs.Prelude.{◌≡◌, ◌++◌, IfOk, OnOk};
+ghost use Rattle.std.specs.Prelude.{◌≡◌, ◌++◌, ℕ, IfOk, OnOk, true};
 ghost use Rattle.arch_base.specs.Moments.{IsMoment};
 ghost use Rattle.edge_io.specs.Phrases.{Says};
 ghost use Rattle.http_front.specs.Sessions.{SaysUnread};
+ghost use Rattle.http_heads.specs.Dates.{reply_date};
 ghost use Rattle.http_heads.specs.Replies.{allow_line as allow, close_line as close};
 ghost use Rattle.http_front.specs.Replies.{reply, sent_body, word, word_of, status_line as line_of, damaged_line as damaged};
 
@@ -56,7 +57,7 @@ pub(crate) fn say_status<O: Sink>(
     say_words(status, status_line(status), moment, sends, closes, out)
 }
 
-/// Writes words with a status, in one piece if there are not more than some thousand of them.
+/// Writes words with a status, in one piece if there are at most 3,000 of them.
 pub(crate) fn say_words<O: Sink>(
     status: Status,
     words: &[u8],
@@ -70,23 +71,41 @@ pub(crate) fn say_words<O: Sink>(
         (O.faults out.old) (O.taken out.new) (O.faults out.new) result }
     ensures sink { O.alike out.old out.new }
 {
-    let date = date_at(moment);
-    let phrases = [
-        Phrase::Words(b"HTTP/1.1 "),
-        Phrase::Words(status.words()),
-        Phrase::Words(b"\r\nDate: "),
-        Phrase::Words(&date),
-        Phrase::Words(b"\r\nContent-Type: "),
-        Phrase::Words(Body::Words.media_type()),
-        Phrase::Words(b"\r\nContent-Length: "),
-        Phrase::Number(words.len() as u64),
-        Phrase::Words(b"\r\n"),
-        Phrase::Words(allow_line(status)),
-        Phrase::Words(close_line(closes)),
-        Phrase::Words(b"\r\n"),
-        Phrase::Words(sent(words, sends)),
-    ];
-    send(&phrases, out)
+    say_dated(status, words, &date_at(moment), sends, closes, out)
+}
+
+/// Writes words with a status and the date of a moment.
+fn say_dated<'a, O: Sink>(
+    status: Status,
+    words: &'a [u8],
+    date: &'a [u8],
+    sends: bool,
+    closes: bool,
+    out: &mut O,
+) -> Result<(), SinkFault>
+    ensures said { (moment : ℕ) → date.now ≡ reply_date moment
+        → Says (word_of status words.now moment sends closes) (O.taken out.old) (O.faults out.old)
+        (O.taken out.new) (O.faults out.new) result }
+    ensures sink { O.alike out.old out.new }
+{
+    send(
+        &[
+            Phrase::Words(b"HTTP/1.1 "),
+            Phrase::Words(status.words()),
+            Phrase::Words(b"\r\nDate: "),
+            Phrase::Words(date),
+            Phrase::Words(b"\r\nContent-Type: "),
+            Phrase::Words(Body::Words.media_type()),
+            Phrase::Words(b"\r\nContent-Length: "),
+            Phrase::Number(words.len() as u64),
+            Phrase::Words(b"\r\n"),
+            Phrase::Words(allow_line(status)),
+            Phrase::Words(close_line(closes)),
+            Phrase::Words(b"\r\n"),
+            Phrase::Words(sent(words, sends)),
+        ],
+        out,
+    )
 }
 
 /// Returns the line that names the allowed methods, if the status refuses another one.

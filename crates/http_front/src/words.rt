@@ -1,7 +1,7 @@
 //! The words of the door of pages for what no session of it answers.
 //!
 //! Each of them closes the connection.
-ghost use Rattle.std.specs.Prelude.{◌≡◌, ◌++◌, IfOk, OnOk, codes};
+ghost use Rattle.std.specs.Prelude.{◌≡◌, ◌++◌, true, IfOk, OnOk, codes};
 ghost use Rattle.std.specs.Fmt.{decimal};
 ghost use Rattle.arch_base.specs.Moments.{IsMoment};
 ghost use Rattle.arch_model.specs.Delivery.{file_words};

@@ -7,8 +7,8 @@ use Rattle.http_front.specs.Asking.{Reading, IsReading}
 use Rattle.http_front.specs.Door.{said, has_request}
 use Rattle.http_front.proofs.session.HttpSession.feed.Given as goal
 
-abbrev pub invariant-loop-rest : goal.invariant-loop-rest
-invariant-loop-rest g l = record {
+abbrev pub invariant-loop-taken : goal.invariant-loop-taken
+invariant-loop-taken g l = record {
   going :
       (reading : Reading) → IsReading reading → (a : Archive) → g.S.Shelf.holds l.fn.shelf a →
       Going (said reading l.moment) has_request
@@ -18,5 +18,5 @@ invariant-loop-rest g l = record {
   sink : g.O.Sink.alike l.fn.out l.out;
 }
 
-abbrev pub decreases-loop-rest : goal.decreases-loop-rest
-decreases-loop-rest g l = length l.rest
+abbrev pub decreases-loop-taken : goal.decreases-loop-taken
+decreases-loop-taken g l = length l.rest
