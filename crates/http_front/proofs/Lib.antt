@@ -2,11 +2,13 @@ pub mod Fronts
 pub mod Ends
 pub mod Scanning
 pub mod Trees
+pub mod Ids
+pub mod ThreadRows
 pub mod Doors
 pub mod Acting
 pub mod Serving
 pub mod Streaming
-pub mod Listed
+pub mod Pieces
 pub mod Finding
 pub mod Paging
 pub mod Arrivals

@@ -1,4 +1,5 @@
--- The parts of a mailbox file make an act.
+-- A mailbox file as a streamed reply: what of it was said so far, what is still to be said, and what
+-- is left; and how its parts make an act.
 use Rattle.std.proofs.Common.{◌≡◌, ◌<◌, ◌≤◌, ◌⊎◌, inl, inr, ℕ, Bool, true, false, List, [], ◌++◌, length, Option, None, Result, Ok, Err, refl, sym, ap, subst, ◌∙◌, append_assoc, length-append, arith}
 use Rattle.std.proofs.lemmas.List.{append-nil}
 use Rattle.arch_base.specs.Counts.{Rose}
@@ -19,23 +20,35 @@ use Rattle.http_heads.specs.declared.reply.Status.TheVariants.{Done, ServerError
 use Rattle.http_front.specs.Replies.{reply, word}
 use Rattle.http_front.specs.Door.{replies}
 use Rattle.http_front.specs.Sessions.{SaysThen, SaysStopped, said_stream, said_mailbox}
-use Rattle.http_front.specs.Streaming.{SoFar, Stops, IsPart}
+use Rattle.http_front.specs.Streaming.{Stops, IsPart}
+use Rattle.http_front.specs.declared.mailbox.Part.{Part}
 use Rattle.http_front.specs.declared.mailbox.Part.TheVariants as part
 use Rattle.http_front.proofs.Acting.{acts-replied}
 
+-- Of all words some were said, these are still to be said, and others are left. `begun` tells whether
+-- any were said. The disk didn't fail.
+pub record SoFar (all unsaid left : List ℕ) (begun : Bool) (i j : Outside) : Type 0 where
+  pub front : List ℕ
+  pub joined : all ≡ front ++ (unsaid ++ left)
+  pub says : Says front i.out i.lost j.out j.lost (Ok tt)
+  pub some : begun ≡ true → 0 < length front
+  pub none : begun ≡ false → front ≡ []
+  pub kept : j.disk ≡ i.disk
+
 -- Nothing was said yet.
-pub sofar-none : (unsaid : List ℕ) (i : Outside) → SoFar unsaid unsaid false i i
-sofar-none unsaid i = record { front = []; joined = refl; says = (refl, plus-none i.out); some = λ no. absurd (cc no); none = λ is. refl; kept = refl }
+pub sofar-none : (all unsaid left : List ℕ) (i : Outside) → all ≡ unsaid ++ left → SoFar all unsaid left false i i
+sofar-none all unsaid left i is = record { front = []; joined = is; says = (refl, plus-none i.out); some = λ no. absurd (cc no); none = λ no. refl; kept = refl }
 
-module _ (words unsaid piece : List ℕ) (begun : Bool) (i j k : Outside) (before : SoFar words unsaid begun i j) where
-  pub joined : words ++ piece ≡ before.front ++ (unsaid ++ piece)
-  joined = ap (λ (w : List ℕ). w ++ piece) before.joined ∙ append_assoc before.front unsaid piece
+module _ (all unsaid left piece more : List ℕ) (begun : Bool) (i j : Outside) (before : SoFar all unsaid left begun i j) (is : left ≡ piece ++ more) where
+  -- All words, where the next piece is taken apart.
+  pub parted : all ≡ before.front ++ ((unsaid ++ piece) ++ more)
+  parted = before.joined ∙ ap (λ (w : List ℕ). before.front ++ (unsaid ++ w)) is ∙ ap (λ (w : List ℕ). before.front ++ w) (sym (append_assoc unsaid piece more))
 
-  -- A piece is to be said after these words.
-  pub sofar-added : (new : List ℕ) → IsPart piece unsaid j part.Added new k → SoFar (words ++ piece) new begun i k
-  sofar-added new is = record {
+  -- The next piece is to be said after these words.
+  pub sofar-added : (new : List ℕ) (k : Outside) → IsPart piece unsaid j part.Added new k → SoFar all new more begun i k
+  sofar-added new k is = record {
     front = before.front;
-    joined = joined ∙ ap (λ (w : List ℕ). before.front ++ w) (sym is.0);
+    joined = parted ∙ ap (λ (w : List ℕ). before.front ++ (w ++ more)) (sym is.0);
     says = (is.2 ∙ before.says.0, is.1 ∙ before.says.1);
     some = before.some;
     none = before.none;
@@ -43,10 +56,10 @@ module _ (words unsaid piece : List ℕ) (begun : Bool) (i j k : Outside) (befor
   }
 
   -- It was said with them.
-  pub sofar-said : (new : List ℕ) → IsPart piece unsaid j part.Said new k → SoFar (words ++ piece) new true i k
-  sofar-said new is = record {
+  pub sofar-said : (new : List ℕ) (k : Outside) → IsPart piece unsaid j part.Said new k → SoFar all new more true i k
+  sofar-said new k is = record {
     front = before.front ++ (unsaid ++ piece);
-    joined = joined ∙ sym (append-nil (before.front ++ (unsaid ++ piece))) ∙ ap (λ (w : List ℕ). (before.front ++ (unsaid ++ piece)) ++ w) (sym is.0);
+    joined = parted ∙ sym (append_assoc before.front (unsaid ++ piece) more) ∙ ap (λ (w : List ℕ). (before.front ++ (unsaid ++ piece)) ++ (w ++ more)) (sym is.0);
     says = Says-then before.front (unsaid ++ piece) i.out j.out k.out i.lost j.lost k.lost tt (Ok tt) before.says is.2;
     some = λ yes. omega (arith, length-append before.front (unsaid ++ piece), is.1);
     none = λ no. absurd (cc no);
@@ -55,45 +68,47 @@ module _ (words unsaid piece : List ℕ) (begun : Bool) (i j k : Outside) (befor
 
 module _ (moment : ℕ) (a : Archive) (ends : Bool) (rest all : List ℕ) where
   -- All was said, or the last words were lost.
-  pub streams-end : (unsaid : List ℕ) (begun : Bool) (i j k : Outside) (goes : Bool) → SoFar all unsaid begun i j → k.disk ≡ j.disk → SaysThen unsaid ends j.out j.lost k.out k.lost goes → Acts (said_stream moment a ends rest all) i (held_if goes rest) a k
-  streams-end unsaid begun i j k goes before kept said =
+  pub streams-end : (unsaid left : List ℕ) (begun : Bool) (i j k : Outside) (goes : Bool) → SoFar all unsaid left begun i j → left ≡ [] → k.disk ≡ j.disk → SaysThen unsaid ends j.out j.lost k.out k.lost goes → Acts (said_stream moment a ends rest all) i (held_if goes rest) a k
+  streams-end unsaid left begun i j k goes before none kept said =
+      let whole : all ≡ before.front ++ unsaid = before.joined ∙ ap (λ (w : List ℕ). before.front ++ (unsaid ++ w)) none ∙ ap (λ (w : List ℕ). before.front ++ w) (append-nil unsaid) in
       acts-replied (said_stream moment a ends rest all) Plain a rest ends true all i k goes refl refl (kept ∙ before.kept) (record {
         sent = said.sent;
-        says = subst (λ (w : List ℕ). Says w i.out i.lost k.out k.lost said.sent) (sym before.joined) (Says-then before.front unsaid i.out j.out k.out i.lost j.lost k.lost tt said.sent before.says said.says);
+        says = subst (λ (w : List ℕ). Says w i.out i.lost k.out k.lost said.sent) (sym whole) (Says-then before.front unsaid i.out j.out k.out i.lost j.lost k.lost tt said.sent before.says said.says);
         next = said.next;
       })
 
-  module _ (words unsaid piece more : List ℕ) (begun : Bool) (i j k : Outside) (is : all ≡ (words ++ piece) ++ more) (before : SoFar words unsaid begun i j) where
-    apart : all ≡ (before.front ++ (unsaid ++ piece)) ++ more
-    apart = is ∙ ap (λ (w : List ℕ). w ++ more) (joined words unsaid piece begun i j k before)
+  module _ (unsaid left piece more : List ℕ) (begun : Bool) (i j : Outside) (before : SoFar all unsaid left begun i j) (is : left ≡ piece ++ more) where
+    apart : all ≡ before.front ++ ((unsaid ++ piece) ++ more)
+    apart = parted all unsaid left piece more begun i j before is
 
     -- A part was lost.
-    pub streams-lost : (new : List ℕ) → IsPart piece unsaid j part.Lost new k → Acts (said_stream moment a ends rest all) i None a k
-    streams-lost new lost =
-        acts-cut_off (said_stream moment a ends rest all) Plain (replies a rest ends true all) before.front (unsaid ++ piece) more i j k a lost.0.0 refl apart (lost.1 ∙ before.kept) (omega (arith, before.kept, lost.1)) before.says lost.0.1 refl
+    pub streams-lost : (new : List ℕ) (k : Outside) → IsPart piece unsaid j part.Lost new k → Acts (said_stream moment a ends rest all) i None a k
+    streams-lost new k lost =
+        acts-cut_off (said_stream moment a ends rest all) Plain (replies a rest ends true all) before.front (unsaid ++ piece) more i j k a lost.0.0 refl (apart ∙ sym (append_assoc before.front (unsaid ++ piece) more)) (lost.1 ∙ before.kept) (omega (arith, before.kept, lost.1))
+        before.says lost.0.1 refl
 
     -- A text wasn't read, and the reply stopped, or it was said why.
-    pub streams-stopped : (why : TextRefusal) (new : List ℕ) (l : Outside) → Stops piece unsaid new j why k → l.disk ≡ k.disk → SaysStopped begun why moment k.out k.lost l.out l.lost → Acts (said_stream moment a ends rest all) i None a l
-    streams-stopped why new l stops same said = by begun refl said
+    pub streams-stopped : (why : TextRefusal) (new : List ℕ) (k l : Outside) → Stops piece unsaid new j why k → l.disk ≡ k.disk → SaysStopped begun why moment k.out k.lost l.out l.lost → Acts (said_stream moment a ends rest all) i None a l
+    streams-stopped why new k l stops same said = by begun refl said
       where
         cause : (w : TextRefusal) → IsUndamaged w → ReadingWhy j.disk k.disk w → Rose i.disk l.disk ⊎ (l.disk ≡ i.disk)
-        cause refusal.DiskFault whole rose = inl (omega (arith, before.kept, same, rose))
+        cause refusal.DiskFault whole rose = let more_rose : Rose i.disk l.disk = omega (arith, before.kept, same, rose) in inl more_rose
         cause (refusal.Damaged named found) whole why = absurd whole
         cause refusal.NoMemory whole kept = inr (same ∙ kept ∙ before.kept)
 
         later : i.disk ≤ l.disk
         later = omega (arith, before.kept, same, stops.later)
 
-        short_is : all ≡ before.front ++ (unsaid ++ piece ++ more)
-        short_is = apart ∙ append_assoc before.front (unsaid ++ piece) more ∙ ap (λ (w : List ℕ). before.front ++ w) (append_assoc unsaid piece more)
+        short_some : 0 < length ((unsaid ++ piece) ++ more)
+        short_some = omega (arith, length-append (unsaid ++ piece) more, length-append unsaid piece, stops.some)
 
         nothing : begun ≡ false → Says [] i.out i.lost k.out k.lost (Ok tt)
         nothing no = let front : Says [] i.out i.lost j.out j.lost (Ok tt) = subst (λ (w : List ℕ). Says w i.out i.lost j.out j.lost (Ok tt)) (before.none no) before.says in (stops.lost ∙ front.0, stops.out ∙ front.1)
 
         told : (w : TextRefusal) → begun ≡ false → IsUndamaged w → ReadingWhy j.disk k.disk w → SaysStopped false w moment k.out k.lost l.out l.lost → Acts (said_stream moment a ends rest all) i None a l
         told refusal.DiskFault no whole rose words =
-            let rose' : Rose i.disk l.disk = omega (arith, before.kept, same, rose) in
-            acts-closing (said_stream moment a ends rest all) Disk (closes a (word ServerError moment true true)) i l a words.0 refl refl rose' later
+            let rose_all : Rose i.disk l.disk = omega (arith, before.kept, same, rose) in
+            acts-closing (said_stream moment a ends rest all) Disk (closes a (word ServerError moment true true)) i l a words.0 refl refl rose_all later
             (Says-then [] (word ServerError moment true true) i.out k.out l.out i.lost k.lost l.lost tt words.0 (nothing no) words.1) refl
         told (refusal.Damaged named found) no whole cause words = absurd whole
         told refusal.NoMemory no whole kept words =
@@ -102,10 +117,26 @@ module _ (moment : ℕ) (a : Archive) (ends : Bool) (rest all : List ℕ) where
 
         by : (b : Bool) → begun ≡ b → SaysStopped b why moment k.out k.lost l.out l.lost → Acts (said_stream moment a ends rest all) i None a l
         by true yes quiet =
-            acts-short (said_stream moment a ends rest all) (replies a rest ends true all) before.front (unsaid ++ piece ++ more) i l a refl refl short_is (before.some yes)
-            (omega (arith, length-append unsaid (piece ++ more), length-append piece more, stops.some)) (cause why stops.whole stops.why) later
+            acts-short (said_stream moment a ends rest all) (replies a rest ends true all) before.front ((unsaid ++ piece) ++ more) i l a refl refl apart (before.some yes) short_some (cause why stops.whole stops.why) later
             (quiet.1 ∙ stops.lost ∙ before.says.0, quiet.0 ∙ stops.out ∙ before.says.1) refl
         by false no words = told why no stops.whole stops.why words
+
+-- What is to be said after a piece was put there is said if it is long.
+pub part-long : (piece old mid new : List ℕ) (i j k : Outside) (p : Part) → mid ≡ old ++ piece → j.out ≡ i.out → j.lost ≡ i.lost → j.disk ≡ i.disk → IsPart [] mid j p new k → IsPart piece old i p new k
+part-long piece old mid new i j k part.Added put out lost disk is = (is.0 ∙ append-nil mid ∙ put, is.1 ∙ out, is.2 ∙ lost, is.3 ∙ disk)
+part-long piece old mid new i j k part.Said put out lost disk is =
+    let words : mid ++ [] ≡ old ++ piece = append-nil mid ∙ put in
+    (is.0, subst (λ (w : List ℕ). 0 < length w) words is.1, said-as words (Ok tt) is.2, is.3 ∙ disk)
+  where
+    said-as : {v w : List ℕ} → v ≡ w → (sent : Result Unit SinkFault) → Says v j.out j.lost k.out k.lost sent → Says w i.out i.lost k.out k.lost sent
+    said-as {v} {w} e sent says = subst (λ (x : List ℕ). Says x i.out i.lost k.out k.lost sent) e (subst (λ (o : Option (List ℕ)). Says v o i.lost k.out k.lost sent) out (subst (λ (l : ℕ). Says v j.out l k.out k.lost sent) lost says))
+part-long piece old mid new i j k part.Lost put out lost disk is =
+    let words : mid ++ [] ≡ old ++ piece = append-nil mid ∙ put in
+    ((is.0.0, said-as words (Err is.0.0) is.0.1), is.1 ∙ disk)
+  where
+    said-as : {v w : List ℕ} → v ≡ w → (sent : Result Unit SinkFault) → Says v j.out j.lost k.out k.lost sent → Says w i.out i.lost k.out k.lost sent
+    said-as {v} {w} e sent says = subst (λ (x : List ℕ). Says x i.out i.lost k.out k.lost sent) e (subst (λ (o : Option (List ℕ)). Says v o i.lost k.out k.lost sent) out (subst (λ (l : ℕ). Says v j.out l k.out k.lost sent) lost says))
+part-long piece old mid new i j k (part.Unread why) put out lost disk is = absurd (let never = is.some in omega arith)
 
 module _ (moment : ℕ) (a : Archive) (ends : Bool) (rest bytes : List ℕ) where
   -- The reply with a mailbox file, by its words.

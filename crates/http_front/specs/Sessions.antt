@@ -19,7 +19,7 @@ use Rattle.http_heads.specs.declared.reply.Status.TheVariants.{Done, ServerError
 use Rattle.http_front.specs.Views.{shown_row, shown_text}
 use Rattle.http_front.specs.Threads.{thread_rows, oldest_first}
 use Rattle.http_front.specs.Asking.{Reading, IsReading, Found, Gives, Streams, Missing, message_found, text_found, thread_found, feed_found, feed_len, ReadsUpTo}
-use Rattle.http_front.specs.Door.{Says, replies, said_found, said, said_head, said_asked, has_request}
+use Rattle.http_front.specs.Door.{Says as SaysAct, replies, said_found, said, said_head, said_asked, has_request}
 use Rattle.http_front.specs.Mailboxes.{mailbox_at, whole_mailbox}
 use Rattle.http_front.specs.Replies.{reply, word, word_of, damaged_line, unopened_word}
 use Rattle.http_front.specs.declared.session.Turn.{Turn}
@@ -100,13 +100,13 @@ form_texts form.Feed = feed_len
 form_texts form.Mailbox = 0
 
 -- A streamed reply of these words in each way: the words, or why no text was read.
-abbrev pub said_stream : ℕ → Archive → Bool → List ℕ → List ℕ → Way → Says
+abbrev pub said_stream : ℕ → Archive → Bool → List ℕ → List ℕ → Way → SaysAct
 said_stream moment a ends rest words = in_ways (replies a rest ends true words)
     (door.closes a (word Unavailable moment true true))
     (door.closes a (word ServerError moment true true))
 
 -- The reply with a mailbox file in each way.
-abbrev pub said_mailbox : ℕ → Archive → Bool → Bool → List ℕ → List ℕ → Way → Says
+abbrev pub said_mailbox : ℕ → Archive → Bool → Bool → List ℕ → List ℕ → Way → SaysAct
 said_mailbox moment a sends ends rest bytes =
     said_found moment a sends ends rest (Streams Mailbox bytes) true
 
