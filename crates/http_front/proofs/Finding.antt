@@ -19,8 +19,10 @@ use Rattle.http_front.specs.declared.found.Held.{Held}
 use Rattle.http_front.specs.declared.found.Held.TheVariants as what
 
 -- A path that names something.
-pub finds-named : (reading : Reading) (a : Archive) (query : List ℕ) (o : Option Named) (named : Named) (result : Result Held TextRefusal) → o ≡ Some named → Finds a (named_found reading a query named) (reads_texts named) result → Finds a (path_found reading a query o) (path_reads o) result
-finds-named reading a query o named result is found = subst (λ (x : Option Named). Finds a (path_found reading a query x) (path_reads x) result) (sym is) found
+pub finds-named : (reading : Reading) (a : Archive) (query asked : List ℕ) (o : Option Named) (named : Named) (result : Result Held TextRefusal) → o ≡ Some named → query ≡ asked → Finds a (named_found reading a query named) (reads_texts named) result → Finds a (path_found reading a asked o) (path_reads o) result
+finds-named reading a query asked o named result is same found =
+    subst (λ (x : Option Named). Finds a (path_found reading a asked x) (path_reads x) result) (sym is)
+    (subst (λ (q : List ℕ). Finds a (named_found reading a q named) (reads_texts named) result) same found)
 
 -- A path that names nothing.
 pub finds-nothing : (reading : Reading) (a : Archive) (query : List ℕ) (o : Option Named) → o ≡ None → Finds a (path_found reading a query o) (path_reads o) (Ok what.Nothing)
@@ -69,12 +71,14 @@ pub finds-feed : (a : Archive) (numbers wanted : List ℕ) (result : Result Held
 finds-feed a numbers wanted result same found = subst (λ (ns : List ℕ). Finds a (feed_found a ns) true result) same found
 
 -- With words to search for there is no page.
-pub listing-searched : (a : Archive) (asked : Option (List ℕ)) (words : List ℕ) (skip : ℕ) → Some words ≡ asked → listing_found a asked skip ≡ Missing
-listing-searched a asked words skip is = ap (λ (o : Option (List ℕ)). listing_found a o skip) (sym is)
+pub listing-searched : (a : Archive) (asked : Option (List ℕ)) (skip : ℕ) → is_some asked ≡ true → listing_found a asked skip ≡ Missing
+listing-searched a None skip is = absurd (cc is)
+listing-searched a (Some words) skip is = refl
 
 -- Without such words the page that was made is that of the listing.
-pub listing-shown : (a : Archive) (asked : Option (List ℕ)) (skip : ℕ) (found : Found) → None ≡ asked → listing_found a None skip ≡ found → listing_found a asked skip ≡ found
-listing-shown a asked skip found is shown = ap (λ (o : Option (List ℕ)). listing_found a o skip) (sym is) ∙ shown
+pub listing-shown : (a : Archive) (asked : Option (List ℕ)) (skip : ℕ) (found : Found) → is_some asked ≡ false → listing_found a None skip ≡ found → listing_found a asked skip ≡ found
+listing-shown a None skip found is shown = shown
+listing-shown a (Some words) skip found is shown = absurd (cc is)
 
 -- The texts that are read for a path that names something, and for an id of a live mail.
 pub reads-named : (o : Option Named) (named : Named) (before now : ℕ) → o ≡ Some named → ReadsUpTo (texts_for named) before now → ReadsUpTo (path_texts o) before now

@@ -74,16 +74,25 @@ rows-taken entries (m ∷ ms) (suc n) all =
     row-step n (row_shown entries m) one.0 (rows_at entries (take n ms)) (rows_at entries ms) one.1 (rows-taken entries ms n (All-tail (HasRow (live entries)) m ms all))
 
 -- One row more than are shown say as much as all.
-taken-twice : (n : ℕ) (rows : List Row) → take n (take (n + 1) rows) ≡ take n rows
+taken-twice : (n : ℕ) (rows : List Row) → take n (take (suc n) rows) ≡ take n rows
 taken-twice zero rows = refl
 taken-twice (suc n) [] = refl
 taken-twice (suc n) (row ∷ rows) = ap (λ (rs : List Row). row ∷ rs) (taken-twice n rows)
 
+zero-same : (m n : ℕ) → (m ≡ 0 → n ≡ 0) → (n ≡ 0 → m ≡ 0) → (m == 0) ≡ (n == 0)
+zero-same zero zero to from = refl
+zero-same zero (suc n) to from = absurd (cc (to refl))
+zero-same (suc m) zero to from = absurd (cc (from refl))
+zero-same (suc m) (suc n) to from =
+    let left : (suc m == 0) ≡ false = grind (arith, nat_tests) in
+    let right : (suc n == 0) ≡ false = grind (arith, nat_tests) in
+    left ∙ sym right
+
+chosen : (link : List ℕ) (s t : Bool) → s ≡ t → (if s then [] else link) ≡ (if t then [] else link)
+chosen link s t same = ap (λ (b : Bool). if b then [] else link) same
+
 older-same : (skip m n : ℕ) → (m ≡ 0 → n ≡ 0) → (n ≡ 0 → m ≡ 0) → older_link skip m ≡ older_link skip n
-older-same skip zero zero to from = refl
-older-same skip zero (suc n) to from = absurd (cc (to refl))
-older-same skip (suc m) zero to from = absurd (cc (from refl))
-older-same skip (suc m) (suc n) to from = refl
+older-same skip m n to from = chosen _ (m == 0) (n == 0) (zero-same m n to from)
 
 page-cut : (name : List ℕ) (rows : List Row) (skip : ℕ) → listing_of name (take rows_needed rows) skip ≡ listing_of name rows skip
 unfolding listing_of

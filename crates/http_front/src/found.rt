@@ -91,7 +91,10 @@ fn find_address<S: Shelf>(
         (S.reads shelf.new) }
 {
     match address {
-        Address::Listing => listing_at(alloc, query, shelf),
+        Address::Listing => match listing_at(alloc, query, shelf) {
+            Ok(held) => Ok(held),
+            Err(NoMemory) => Err(TextRefusal::NoMemory),
+        },
         Address::Feed => find_newest(alloc, shelf),
         Address::Mailbox => Ok(Held::EveryMail),
         Address::Message(id) => find_mail(alloc, id, Form::Message, shelf),

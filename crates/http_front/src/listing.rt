@@ -1,15 +1,14 @@
 //! The page of the listing.
-ghost use Rattle.std.specs.Prelude.{◌≡◌, ◌++◌, IfOk, OnOk, None, true, false, codes, map, option_copied};
+ghost use Rattle.std.specs.Prelude.{◌≡◌, ◌++◌, IfOk, OnOk, None, true, codes, map, is_some, option_copied};
 ghost use Rattle.arch_model.specs.Archives.{Archive};
-ghost use Rattle.http_heads.specs.Addresses.{TheListing};
 ghost use Rattle.http_heads.specs.Parameters.{parameter as parameter_of, skipped};
 ghost use Rattle.http_front.specs.Views.{one_row, row_at, rows_at};
-ghost use Rattle.http_front.specs.Asking.{Gives, named_found, listing_found};
-ghost use Rattle.http_front.specs.Sessions.{FindsIn};
+ghost use Rattle.http_front.specs.Asking.{Gives, listing_found};
+ghost use Rattle.http_front.specs.Sessions.{MakesPage};
 
 use crate::found::Held;
 use arch_base::{Bytes, NoMemory};
-use arch_model::{Shelf, TextRefusal};
+use arch_model::Shelf;
 use html_pages::listing_page;
 use http_heads::{Body, parameter, skip_of};
 use mail_forms::Row;
@@ -20,25 +19,26 @@ const ROWS_NEEDED: u64 = 201;
 
 /// Returns the page of the listing, by the parameters of its target. Reads no text.
 ///
-/// Searches aren't served yet: with words to search for there is no page. The only error is
-/// `NoMemory`.
-pub(crate) fn listing_at<S: Shelf>(
-    alloc: Global,
-    query: &[u8],
-    shelf: &S,
-) -> Result<Held, TextRefusal>
+/// Searches aren't served yet: with words to search for there is no page.
+pub(crate) fn listing_at<S: Shelf>(alloc: Global, query: &[u8], shelf: &S) -> Result<Held, NoMemory>
     requires { S.ready shelf.now ≡ true }
-    ensures { FindsIn S.holds (λ reading a. named_found reading a query.now TheListing) (λ a. false)
-        shelf.now result }
+    ensures { (a : Archive) → S.holds shelf.now a → MakesPage
+        (listing_found a (parameter_of (codes "q") query.now) (skipped (parameter_of (codes "o") query.now)))
+        result }
 {
-    match parameter(alloc, query, b"q") {
-        Ok(Some(_)) => Ok(Held::Nothing),
-        Ok(None) => match listing_from(alloc, query, shelf) {
-            Ok(page) => Ok(Held::Whole(Body::Page, page)),
-            Err(NoMemory) => Err(TextRefusal::NoMemory),
-        },
-        Err(NoMemory) => Err(TextRefusal::NoMemory),
+    let searches = has_words(alloc, query)?;
+    if searches {
+        return Ok(Held::Nothing);
     }
+    let page = listing_from(alloc, query, shelf)?;
+    Ok(Held::Whole(Body::Page, page))
+}
+
+/// Returns whether the parameters of a target have words to search for.
+fn has_words(alloc: Global, query: &[u8]) -> Result<bool, NoMemory>
+    ensures { IfOk result (λ has. has ≡ is_some (parameter_of (codes "q") query.now)) }
+{
+    Ok(parameter(alloc, query, b"q")?.is_some())
 }
 
 /// Returns the page of the listing after the rows that the parameters skip.

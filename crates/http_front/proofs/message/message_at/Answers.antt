@@ -19,4 +19,4 @@ returns-in-Ok-page_with-clause-found g c = λ reading is a held.
 
 pub returns-clause-found : goal.returns-clause-found
 returns-clause-found g c = λ reading is a held.
-    finds-unread a (message_found a (shown_row a.entries c.args.n) (shown_text a.entries c.args.n)) (live a.entries) c.args.n c.new-text.result c.text.new.into c.in-Err-text.refusal (c.in-Err-text.ensures.text a held)
+    finds-unread a (message_found a (shown_row a.entries c.args.n) (shown_text a.entries c.args.n)) (live a.entries) c.args.n c.new-text.result c.text.new.into c.in-Err.refusal (c.in-Err.ensures.text a held)

@@ -16,6 +16,6 @@ returns-in-Ok-clause-found g c = λ reading is a held.
     let text = c.in-Ok.ensures.text a held in
     rw (text.2 ∙ ap (λ (t : List ℕ). t ++ text.0) c.new-text.ensures) (ap text_found text.1)
 
-pub returns-clause-found : goal.returns-clause-found
-returns-clause-found g c = λ reading is a held.
+pub returns-in-Err-clause-found : goal.returns-in-Err-clause-found
+returns-in-Err-clause-found g c = λ reading is a held.
     finds-unread a (text_found (shown_text a.entries c.args.n)) (live a.entries) c.args.n c.new-text.result c.text.new.into c.in-Err.refusal (c.in-Err.ensures.text a held)
