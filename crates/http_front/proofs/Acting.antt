@@ -67,6 +67,11 @@ closes-keeping reading moment a old piece i j sent some part same words =
     acts-closing (said reading moment a (old ++ piece)) Memory (closes a (word Unavailable moment true true)) i j a sent
     (ap (λ (f : Front). said_at reading moment a (old ++ piece) f Memory) part ∙ unkept-closes moment a (old ++ piece) old piece some) refl same (omega (arith, same)) words refl
 
+-- A reply that closes the session does so whether it is sent or not.
+pub closed-always : (sent : Bool) → false ≡ (sent && not true)
+closed-always true = refl
+closed-always false = refl
+
 -- A reply was said, and the session continues unless the reply closes it.
 pub acts-replied : (words : Way → SaysAct) (way : Way) (a : Archive) (rest : List ℕ) (ends streamed : Bool) (text : List ℕ) (i j : Outside) (goes : Bool) → words way ≡ replies a rest ends streamed text → way ≡ Plain → j.disk ≡ i.disk → SaysThen text ends i.out i.lost j.out j.lost goes
     → Acts words i (held_if goes rest) a j

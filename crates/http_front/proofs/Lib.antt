@@ -7,6 +7,7 @@ pub mod ThreadRows
 pub mod Doors
 pub mod Acting
 pub mod Serving
+pub mod Replying
 pub mod Streaming
 pub mod Pieces
 pub mod Finding

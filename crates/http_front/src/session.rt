@@ -11,6 +11,7 @@ use crate::answer::answer_head;
 use crate::held::HeldHead;
 use crate::replies::say_status;
 use crate::scan::{Ahead, Seen, head_in};
+use arch_base::NoMemory;
 use arch_model::{Next, Shelf};
 use edge_io::Sink;
 use http_heads::Status;
@@ -187,12 +188,16 @@ impl HttpSession {
             self.seen = seen;
             return Turn::Kept;
         }
-        if self.held.keep(piece).is_err() {
-            let _ = say_status(Status::Unavailable, moment, true, true, out);
-            return Turn::Closed;
+        match self.held.keep(piece) {
+            Ok(()) => {
+                self.seen = seen;
+                Turn::Kept
+            }
+            Err(NoMemory) => {
+                let _ = say_status(Status::Unavailable, moment, true, true, out);
+                Turn::Closed
+            }
         }
-        self.seen = seen;
-        Turn::Kept
     }
 }
 

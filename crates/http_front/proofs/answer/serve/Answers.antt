@@ -1,29 +1,32 @@
-use Rattle.std.proofs.Common.{◌∙◌, List, ℕ, ap, sym, refl}
-use Rattle.http_front.specs.Asking.{Streams, target_found, target_reads}
+use Rattle.std.proofs.Common.{◌∙◌, ◌&&◌, not, List, ℕ, Bool, ap, sym, refl}
+use Rattle.http_front.specs.Asking.{Gives, Streams, target_found, target_reads}
 use Rattle.http_front.specs.Mailboxes.{mailbox_at}
 use Rattle.http_heads.specs.declared.reply.Body.TheVariants.{Mailbox}
 use Rattle.http_front.proofs.Serving.{acts-mailbox, acts-whole, acts-missing, acts-unread}
 use Rattle.http_front.proofs.answer.serve.Goals as goal
 
-pub returns-in-Whole-clause-acts : goal.returns-in-Whole-clause-acts
-returns-in-Whole-clause-acts g c = λ reading is a rest held.
-    acts-whole c.args.moment a c.args.sends c.args.request.now.closes rest (target_found reading a c.args.request.now.target.now) (target_reads a c.args.request.now.target.now) c.in-Whole.body _ _ _ _ (c.find_target.ensures.found reading is a held) c.find_target.ensures.cause c.say_whole.ensures.said
+pub returns-in-Ok-Whole-clause-acts : goal.returns-in-Ok-Whole-clause-acts
+returns-in-Ok-Whole-clause-acts g c = λ reading is a rest held.
+    let found = rw c.in-Ok-Whole.field-0-is at (c.in-Ok-Whole.ensures.found reading is a held) in
+    acts-whole c.args.moment a c.args.sends c.args.request.now.closes rest (target_found reading a c.args.request.now.target.now) (target_reads a c.args.request.now.target.now) c.in-Ok-Whole.body c.as_slice.result.now _ _ _ (found ∙ ap (Gives c.in-Ok-Whole.body) (sym c.as_slice.ensures)) c.in-Ok-Whole.ensures.cause c.say_whole.ensures.said
 
-pub returns-in-EveryMail-clause-acts : goal.returns-in-EveryMail-clause-acts
-returns-in-EveryMail-clause-acts g c = λ reading is a rest held.
-    let found = c.find_target.ensures.found reading is a held in
-    acts-mailbox c.args.moment a c.args.sends c.args.request.now.closes rest (target_found reading a c.args.request.now.target.now) (target_reads a c.args.request.now.target.now) _ _ _ _ _ found.0 found.1 refl refl c.find_target.ensures.cause (c.say_every_mail.ensures.acts a rest (c.find_target.ensures.shelf.kept a held))
+pub returns-in-Ok-EveryMail-clause-acts : goal.returns-in-Ok-EveryMail-clause-acts
+returns-in-Ok-EveryMail-clause-acts g c = λ reading is a rest held.
+    let found = rw c.in-Ok-EveryMail.field-0-is at (c.in-Ok-EveryMail.ensures.found reading is a held) in
+    acts-mailbox c.args.moment a c.args.sends c.args.request.now.closes rest (target_found reading a c.args.request.now.target.now) (target_reads a c.args.request.now.target.now) _ _ _ _ _ found.0 found.1 refl refl c.in-Ok-EveryMail.ensures.cause (c.say_every_mail.ensures.acts a rest (c.find_target.ensures.shelf.kept a held))
 
-pub returns-in-Mails-clause-acts : goal.returns-in-Mails-clause-acts
-returns-in-Mails-clause-acts g c = λ reading is a rest held.
-    let found = c.find_target.ensures.found reading is a held in
-    acts-mailbox c.args.moment a c.args.sends c.args.request.now.closes rest (target_found reading a c.args.request.now.target.now) (target_reads a c.args.request.now.target.now) _ _ _ _ _ (found.0 ∙ ap (λ (ns : List ℕ). Streams Mailbox (mailbox_at a.entries ns)) (sym c.as_slice-2.ensures)) found.1 refl refl c.find_target.ensures.cause
+pub returns-in-Ok-Mails-clause-acts : goal.returns-in-Ok-Mails-clause-acts
+returns-in-Ok-Mails-clause-acts g c = λ reading is a rest held.
+    let found = rw c.in-Ok-Mails.field-0-is at (c.in-Ok-Mails.ensures.found reading is a held) in
+    acts-mailbox c.args.moment a c.args.sends c.args.request.now.closes rest (target_found reading a c.args.request.now.target.now) (target_reads a c.args.request.now.target.now) _ _ _ _ _
+    (found.0 ∙ ap (λ (ns : List ℕ). Streams Mailbox (mailbox_at a.entries ns)) (sym c.as_slice-in-Ok-Mails.ensures)) found.1 refl refl c.in-Ok-Mails.ensures.cause
     (c.say_mails.ensures.acts a rest (c.find_target.ensures.shelf.kept a held))
 
-pub returns-in-Nothing-clause-acts : goal.returns-in-Nothing-clause-acts
-returns-in-Nothing-clause-acts g c = λ reading is a rest held.
-    acts-missing c.args.moment a c.args.sends c.args.request.now.closes rest (target_found reading a c.args.request.now.target.now) (target_reads a c.args.request.now.target.now) _ _ _ (c.find_target.ensures.found reading is a held) c.find_target.ensures.cause
-    (record { sent = c.say_status.result; says = c.say_status.ensures.said; next = c.next_after.ensures })
+pub returns-in-Ok-Nothing-clause-acts : goal.returns-in-Ok-Nothing-clause-acts
+returns-in-Ok-Nothing-clause-acts g c = λ reading is a rest held.
+    let found = rw c.in-Ok-Nothing.field-0-is at (c.in-Ok-Nothing.ensures.found reading is a held) in
+    acts-missing c.args.moment a c.args.sends c.args.request.now.closes rest (target_found reading a c.args.request.now.target.now) (target_reads a c.args.request.now.target.now) _ _ _ found c.in-Ok-Nothing.ensures.cause
+    (record { sent = c.say_status-said.result; says = c.say_status-said.ensures.said; next = c.next_after.ensures ∙ ap (λ (b : Bool). b && not c.args.request.now.closes) c.is_ok.ensures.value })
 
 pub returns-in-Err-clause-acts : goal.returns-in-Err-clause-acts
 returns-in-Err-clause-acts g c = λ reading is a rest held.
