@@ -12,3 +12,4 @@ pub mod Pieces
 pub mod Finding
 pub mod Paging
 pub mod Arrivals
+pub mod Feeds

@@ -46,24 +46,24 @@ module _ (all unsaid left piece more : List ℕ) (begun : Bool) (i j : Outside) 
 
   -- The next piece is to be said after these words.
   pub sofar-added : (new : List ℕ) (k : Outside) → IsPart piece unsaid j part.Added new k → SoFar all new more begun i k
-  sofar-added new k is = record {
+  sofar-added new k put = record {
     front = before.front;
-    joined = parted ∙ ap (λ (w : List ℕ). before.front ++ (w ++ more)) (sym is.0);
-    says = (is.2 ∙ before.says.0, is.1 ∙ before.says.1);
+    joined = parted ∙ ap (λ (w : List ℕ). before.front ++ (w ++ more)) (sym put.0);
+    says = (put.2 ∙ before.says.0, put.1 ∙ before.says.1);
     some = before.some;
     none = before.none;
-    kept = is.3 ∙ before.kept;
+    kept = put.3 ∙ before.kept;
   }
 
   -- It was said with them.
   pub sofar-said : (new : List ℕ) (k : Outside) → IsPart piece unsaid j part.Said new k → SoFar all new more true i k
-  sofar-said new k is = record {
+  sofar-said new k said = record {
     front = before.front ++ (unsaid ++ piece);
-    joined = parted ∙ sym (append_assoc before.front (unsaid ++ piece) more) ∙ ap (λ (w : List ℕ). (before.front ++ (unsaid ++ piece)) ++ (w ++ more)) (sym is.0);
-    says = Says-then before.front (unsaid ++ piece) i.out j.out k.out i.lost j.lost k.lost tt (Ok tt) before.says is.2;
-    some = λ yes. omega (arith, length-append before.front (unsaid ++ piece), is.1);
+    joined = parted ∙ sym (append_assoc before.front (unsaid ++ piece) more) ∙ ap (λ (w : List ℕ). (before.front ++ (unsaid ++ piece)) ++ (w ++ more)) (sym said.0);
+    says = Says-then before.front (unsaid ++ piece) i.out j.out k.out i.lost j.lost k.lost tt (Ok tt) before.says said.2;
+    some = λ yes. omega (arith, length-append before.front (unsaid ++ piece), said.1);
     none = λ no. absurd (cc no);
-    kept = is.3 ∙ before.kept;
+    kept = said.3 ∙ before.kept;
   }
 
 module _ (moment : ℕ) (a : Archive) (ends : Bool) (rest all : List ℕ) where
@@ -110,7 +110,7 @@ module _ (moment : ℕ) (a : Archive) (ends : Bool) (rest all : List ℕ) where
             let rose_all : Rose i.disk l.disk = omega (arith, before.kept, same, rose) in
             acts-closing (said_stream moment a ends rest all) Disk (closes a (word ServerError moment true true)) i l a words.0 refl refl rose_all later
             (Says-then [] (word ServerError moment true true) i.out k.out l.out i.lost k.lost l.lost tt words.0 (nothing no) words.1) refl
-        told (refusal.Damaged named found) no whole cause words = absurd whole
+        told (refusal.Damaged named found) no whole other words = absurd whole
         told refusal.NoMemory no whole kept words =
             acts-closing (said_stream moment a ends rest all) Memory (closes a (word Unavailable moment true true)) i l a words.0 refl refl (same ∙ kept ∙ before.kept) later
             (Says-then [] (word Unavailable moment true true) i.out k.out l.out i.lost k.lost l.lost tt words.0 (nothing no) words.1) refl
@@ -136,7 +136,7 @@ part-long piece old mid new i j k part.Lost put out lost disk is =
   where
     said-as : {v w : List ℕ} → v ≡ w → (sent : Result Unit SinkFault) → Says v j.out j.lost k.out k.lost sent → Says w i.out i.lost k.out k.lost sent
     said-as {v} {w} e sent says = subst (λ (x : List ℕ). Says x i.out i.lost k.out k.lost sent) e (subst (λ (o : Option (List ℕ)). Says v o i.lost k.out k.lost sent) out (subst (λ (l : ℕ). Says v j.out l k.out k.lost sent) lost says))
-part-long piece old mid new i j k (part.Unread why) put out lost disk is = absurd (let never = is.some in omega arith)
+part-long piece old mid new i j k (part.Unread why) put out lost disk is = absurd (omega (arith, is.some))
 
 module _ (moment : ℕ) (a : Archive) (ends : Bool) (rest bytes : List ℕ) where
   -- The reply with a mailbox file, by its words.
