@@ -1,5 +1,7 @@
 -- The ids of the mails of a tree, as a set has them.
 use Rattle.std.proofs.Common.{◌≡◌, ◌⊎◌, ℕ, Bool, true, false, not, ◌||◌, List, [], ◌∷◌, ◌++◌, if◌then◌else◌, inl, inr, refl, sym, ap, subst, ◌∙◌}
+use Rattle.std.specs.Prelude.{OnOk, Result, Ok, Err}
+use Rattle.arch_base.specs.declared.sequence.NoMemory.{NoMemory}
 use Rattle.std.specs.Borrow.{Bor}
 use Rattle.std.specs.List.{list_any}
 use Rattle.std.specs.Str.{bytes_eq}
@@ -8,9 +10,10 @@ use Rattle.std.specs.declared.cmp.Ordering.{Ordering}
 use Rattle.std.specs.declared.cmp.Ordering.TheVariants.{Less, Equal, Greater}
 use Rattle.std.specs.Cmp.Lexicographic.{slice_cmp}
 use Rattle.std.specs.BTreeSet.{insert_key}
-use Rattle.std.proofs.lemmas.List.{list_any-append}
+use Rattle.std.proofs.lemmas.List.Folds.{list_any-append}
 use Rattle.std.proofs.lemmas.Map.Text.{is_eq-slice_cmp}
 use Rattle.std.proofs.lemmas.Slice.Eq.{bytes_eq-Decides}
+use Rattle.mail_forms.specs.declared.row.Row.{Row}
 use Rattle.thread_model.specs.Members.{Among}
 use Rattle.thread_tree.specs.Trees.{names_id}
 use Rattle.thread_tree.specs.declared.twigs.Twig.{Twig}
@@ -88,6 +91,7 @@ ids-tell keys twigs key added are was = not-not added (names_id twigs key.now) (
 
 -- No mail has an id that isn't named.
 pub no-mail : (twigs : List Twig) (id : List ℕ) → names_id twigs id ≡ false → (t : Twig) → Among twigs t → t.id ≡ id → ⊥
+no-mail [] id none t never is = absurd never
 no-mail (u ∷ us) id none t (inl same) is =
     let here : bytes_eq u.id id ≡ true = (bytes_eq-Decides u.id id).1 (ap (λ (x : Twig). x.id) (sym same) ∙ is) in
     let named : names_id (u ∷ us) id ≡ true = ap (λ (b : Bool). b || names_id us id) here in
@@ -111,7 +115,21 @@ ids-added keys new twigs key twig are same put = λ id.
 
 -- A mail with a new id is added, and one with an id that is there isn't.
 pub with-new : (twigs : List Twig) (twig : Twig) → names_id twigs twig.id ≡ false → with_twig twigs twig ≡ twigs ++ twig ∷ []
-with-new twigs twig none = rw none refl
+with-new twigs twig none = ap (λ (b : Bool). if b then twigs else twigs ++ twig ∷ []) none
 
 pub with-known : (twigs : List Twig) (twig : Twig) → names_id twigs twig.id ≡ true → with_twig twigs twig ≡ twigs
-with-known twigs twig some = rw some refl
+with-known twigs twig some = ap (λ (b : Bool). if b then twigs else twigs ++ twig ∷ []) some
+
+-- The mail of a row with an id.
+abbrev pub twig_with : Row → List ℕ → Twig
+twig_with row id = record { number = row.number; id = id; refs = row.refs; secs = row.date.secs }
+
+-- What adding a mail with a new id leaves.
+pub on-added : (result : Result Unit NoMemory) (new twigs : List Twig) (twig other : Twig) → other ≡ twig → OnOk result (new ≡ twigs ++ other ∷ []) → names_id twigs twig.id ≡ false → OnOk result (new ≡ with_twig twigs twig)
+on-added (Ok done) new twigs twig other same added none = added ∙ ap (λ (t : Twig). twigs ++ t ∷ []) same ∙ sym (with-new twigs twig none)
+on-added (Err refused) new twigs twig other same added none = tt
+
+pub ids-on_added : (result : Result Unit NoMemory) (new : List Twig) (keys grown : List (Bor (List ℕ))) (twigs : List Twig) (key : Bor (List ℕ)) (twig : Twig) → AreIds keys twigs → twig.id ≡ key.now → grown ≡ insert_key key_cmp keys key → OnOk result (new ≡ twigs ++ twig ∷ [])
+    → OnOk result (AreIds grown new)
+ids-on_added (Ok done) new keys grown twigs key twig are same put added = subst (AreIds grown) (sym added) (ids-added keys grown twigs key twig are same put)
+ids-on_added (Err refused) new keys grown twigs key twig are same put added = tt

@@ -13,3 +13,4 @@ pub mod Pieces
 pub mod Finding
 pub mod Paging
 pub mod Arrivals
+pub mod Feeds

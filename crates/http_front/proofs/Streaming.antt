@@ -20,7 +20,7 @@ use Rattle.http_heads.specs.declared.reply.Status.TheVariants.{Done, ServerError
 use Rattle.http_front.specs.Replies.{reply, word}
 use Rattle.http_front.specs.Door.{replies}
 use Rattle.http_front.specs.Sessions.{SaysThen, SaysStopped, said_stream, said_mailbox}
-use Rattle.http_front.specs.Streaming.{Stops, IsPart}
+use Rattle.http_front.specs.Streaming.{Stops, IsAdded, IsSaid, IsLost, IsPart}
 use Rattle.http_front.specs.declared.mailbox.Part.{Part}
 use Rattle.http_front.specs.declared.mailbox.Part.TheVariants as part
 use Rattle.http_front.proofs.Acting.{acts-replied}
@@ -44,27 +44,30 @@ module _ (all unsaid left piece more : List ℕ) (begun : Bool) (i j : Outside) 
   pub parted : all ≡ before.front ++ ((unsaid ++ piece) ++ more)
   parted = before.joined ∙ ap (λ (w : List ℕ). before.front ++ (unsaid ++ w)) is ∙ ap (λ (w : List ℕ). before.front ++ w) (sym (append_assoc unsaid piece more))
 
-  -- The next piece is to be said after these words.
-  pub sofar-added : (new : List ℕ) (k : Outside) → IsPart piece unsaid j part.Added new k → SoFar all new more begun i k
-  sofar-added new k is = record {
+  sofar-added : (new : List ℕ) (k : Outside) → IsAdded piece unsaid new j k → SoFar all new more begun i k
+  sofar-added new k put = record {
     front = before.front;
-    joined = parted ∙ ap (λ (w : List ℕ). before.front ++ (w ++ more)) (sym is.0);
-    says = (is.2 ∙ before.says.0, is.1 ∙ before.says.1);
+    joined = parted ∙ ap (λ (w : List ℕ). before.front ++ (w ++ more)) (sym put.added);
+    says = (put.lost ∙ before.says.0, put.out ∙ before.says.1);
     some = before.some;
     none = before.none;
-    kept = is.3 ∙ before.kept;
+    kept = put.disk ∙ before.kept;
   }
 
-  -- It was said with them.
-  pub sofar-said : (new : List ℕ) (k : Outside) → IsPart piece unsaid j part.Said new k → SoFar all new more true i k
-  sofar-said new k is = record {
+  sofar-said : (new : List ℕ) (k : Outside) → IsSaid piece unsaid new j k → SoFar all new more true i k
+  sofar-said new k said = record {
     front = before.front ++ (unsaid ++ piece);
-    joined = parted ∙ sym (append_assoc before.front (unsaid ++ piece) more) ∙ ap (λ (w : List ℕ). (before.front ++ (unsaid ++ piece)) ++ (w ++ more)) (sym is.0);
-    says = Says-then before.front (unsaid ++ piece) i.out j.out k.out i.lost j.lost k.lost tt (Ok tt) before.says is.2;
-    some = λ yes. omega (arith, length-append before.front (unsaid ++ piece), is.1);
+    joined = parted ∙ sym (append_assoc before.front (unsaid ++ piece) more) ∙ ap (λ (w : List ℕ). (before.front ++ (unsaid ++ piece)) ++ (w ++ more)) (sym said.none);
+    says = Says-then before.front (unsaid ++ piece) i.out j.out k.out i.lost j.lost k.lost tt (Ok tt) before.says said.says;
+    some = λ yes. omega (arith, length-append before.front (unsaid ++ piece), said.some);
     none = λ no. absurd (cc no);
-    kept = is.3 ∙ before.kept;
+    kept = said.disk ∙ before.kept;
   }
+
+  -- The next piece is to be said after these words, or it was said with them.
+  pub sofar-put : (after : Bool) (new : List ℕ) (k : Outside) → IsPart piece begun unsaid j (part.Put after) new k → SoFar all new more after i k
+  sofar-put after new k (inl put) = subst (λ (b : Bool). SoFar all new more b i k) (sym put.0) (sofar-added new k put.1)
+  sofar-put after new k (inr said) = subst (λ (b : Bool). SoFar all new more b i k) (sym said.0) (sofar-said new k said.1)
 
 module _ (moment : ℕ) (a : Archive) (ends : Bool) (rest all : List ℕ) where
   -- All was said, or the last words were lost.
@@ -82,10 +85,9 @@ module _ (moment : ℕ) (a : Archive) (ends : Bool) (rest all : List ℕ) where
     apart = parted all unsaid left piece more begun i j before is
 
     -- A part was lost.
-    pub streams-lost : (new : List ℕ) (k : Outside) → IsPart piece unsaid j part.Lost new k → Acts (said_stream moment a ends rest all) i None a k
-    streams-lost new k lost =
-        acts-cut_off (said_stream moment a ends rest all) Plain (replies a rest ends true all) before.front (unsaid ++ piece) more i j k a lost.0.0 refl (apart ∙ sym (append_assoc before.front (unsaid ++ piece) more)) (lost.1 ∙ before.kept) (omega (arith, before.kept, lost.1))
-        before.says lost.0.1 refl
+    pub streams-lost : (k : Outside) → IsLost piece unsaid j k → Acts (said_stream moment a ends rest all) i None a k
+    streams-lost k lost =
+        acts-cut_off (said_stream moment a ends rest all) Plain (replies a rest ends true all) before.front (unsaid ++ piece) more i j k a lost.fault refl (apart ∙ sym (append_assoc before.front (unsaid ++ piece) more)) (lost.disk ∙ before.kept) (omega (arith, before.kept, lost.disk)) before.says lost.says refl
 
     -- A text wasn't read, and the reply stopped, or it was said why.
     pub streams-stopped : (why : TextRefusal) (new : List ℕ) (k l : Outside) → Stops piece unsaid new j why k → l.disk ≡ k.disk → SaysStopped begun why moment k.out k.lost l.out l.lost → Acts (said_stream moment a ends rest all) i None a l
@@ -110,7 +112,7 @@ module _ (moment : ℕ) (a : Archive) (ends : Bool) (rest all : List ℕ) where
             let rose_all : Rose i.disk l.disk = omega (arith, before.kept, same, rose) in
             acts-closing (said_stream moment a ends rest all) Disk (closes a (word ServerError moment true true)) i l a words.0 refl refl rose_all later
             (Says-then [] (word ServerError moment true true) i.out k.out l.out i.lost k.lost l.lost tt words.0 (nothing no) words.1) refl
-        told (refusal.Damaged named found) no whole cause words = absurd whole
+        told (refusal.Damaged named found) no whole other words = absurd whole
         told refusal.NoMemory no whole kept words =
             acts-closing (said_stream moment a ends rest all) Memory (closes a (word Unavailable moment true true)) i l a words.0 refl refl (same ∙ kept ∙ before.kept) later
             (Says-then [] (word Unavailable moment true true) i.out k.out l.out i.lost k.lost l.lost tt words.0 (nothing no) words.1) refl
@@ -121,22 +123,22 @@ module _ (moment : ℕ) (a : Archive) (ends : Bool) (rest all : List ℕ) where
             (quiet.1 ∙ stops.lost ∙ before.says.0, quiet.0 ∙ stops.out ∙ before.says.1) refl
         by false no words = told why no stops.whole stops.why words
 
--- What is to be said after a piece was put there is said if it is long.
-pub part-long : (piece old mid new : List ℕ) (i j k : Outside) (p : Part) → mid ≡ old ++ piece → j.out ≡ i.out → j.lost ≡ i.lost → j.disk ≡ i.disk → IsPart [] mid j p new k → IsPart piece old i p new k
-part-long piece old mid new i j k part.Added put out lost disk is = (is.0 ∙ append-nil mid ∙ put, is.1 ∙ out, is.2 ∙ lost, is.3 ∙ disk)
-part-long piece old mid new i j k part.Said put out lost disk is =
+-- Words by other ones, and by the outside before.
+said-as : {v w : List ℕ} {out out' end : Option (List ℕ)} {lost lost' last : ℕ} → v ≡ w → out' ≡ out → lost' ≡ lost → (sent : Result Unit SinkFault) → Says v out' lost' end last sent → Says w out lost end last sent
+said-as {v} {w} {out} {out'} {end} {lost} {lost'} {last} same outs losts sent says =
+    subst (λ (x : List ℕ). Says x out lost end last sent) same (subst (λ (o : Option (List ℕ)). Says v o lost end last sent) outs (subst (λ (l : ℕ). Says v out' l end last sent) losts says))
+
+-- After a piece was put after the words that are to be said, these are said if they are long.
+pub part-long : (piece : List ℕ) (begun : Bool) (old mid new : List ℕ) (i j k : Outside) (p : Part) → mid ≡ old ++ piece → j.out ≡ i.out → j.lost ≡ i.lost → j.disk ≡ i.disk → IsPart [] begun mid j p new k → IsPart piece begun old i p new k
+part-long piece begun old mid new i j k (part.Put after) put outs losts disks (inl more) =
+    inl (more.0, record { added = more.1.added ∙ append-nil mid ∙ put; out = more.1.out ∙ outs; lost = more.1.lost ∙ losts; disk = more.1.disk ∙ disks })
+part-long piece begun old mid new i j k (part.Put after) put outs losts disks (inr said) =
     let words : mid ++ [] ≡ old ++ piece = append-nil mid ∙ put in
-    (is.0, subst (λ (w : List ℕ). 0 < length w) words is.1, said-as words (Ok tt) is.2, is.3 ∙ disk)
-  where
-    said-as : {v w : List ℕ} → v ≡ w → (sent : Result Unit SinkFault) → Says v j.out j.lost k.out k.lost sent → Says w i.out i.lost k.out k.lost sent
-    said-as {v} {w} e sent says = subst (λ (x : List ℕ). Says x i.out i.lost k.out k.lost sent) e (subst (λ (o : Option (List ℕ)). Says v o i.lost k.out k.lost sent) out (subst (λ (l : ℕ). Says v j.out l k.out k.lost sent) lost says))
-part-long piece old mid new i j k part.Lost put out lost disk is =
+    inr (said.0, record { none = said.1.none; some = subst (λ (w : List ℕ). 0 < length w) words said.1.some; says = said-as words outs losts (Ok tt) said.1.says; disk = said.1.disk ∙ disks })
+part-long piece begun old mid new i j k part.Lost put outs losts disks lost_all =
     let words : mid ++ [] ≡ old ++ piece = append-nil mid ∙ put in
-    ((is.0.0, said-as words (Err is.0.0) is.0.1), is.1 ∙ disk)
-  where
-    said-as : {v w : List ℕ} → v ≡ w → (sent : Result Unit SinkFault) → Says v j.out j.lost k.out k.lost sent → Says w i.out i.lost k.out k.lost sent
-    said-as {v} {w} e sent says = subst (λ (x : List ℕ). Says x i.out i.lost k.out k.lost sent) e (subst (λ (o : Option (List ℕ)). Says v o i.lost k.out k.lost sent) out (subst (λ (l : ℕ). Says v j.out l k.out k.lost sent) lost says))
-part-long piece old mid new i j k (part.Unread why) put out lost disk is = absurd (let never = is.some in omega arith)
+    record { fault = lost_all.fault; says = said-as words outs losts (Err lost_all.fault) lost_all.says; disk = lost_all.disk ∙ disks }
+part-long piece begun old mid new i j k (part.Unread why) put outs losts disks never = absurd (omega (arith, never.some))
 
 module _ (moment : ℕ) (a : Archive) (ends : Bool) (rest bytes : List ℕ) where
   -- The reply with a mailbox file, by its words.

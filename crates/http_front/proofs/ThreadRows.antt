@@ -1,12 +1,22 @@
 -- The rows of a thread, one after another.
-use Rattle.std.proofs.Common.{◌≡◌, ◌+◌, ◌<◌, ◌×◌, ℕ, List, [], ◌∷◌, ◌++◌, length, take, get_or, map, refl, sym, ap, ◌∙◌}
+use Rattle.std.proofs.Common.{◌≡◌, ◌+◌, ◌<◌, ℕ, List, [], ◌∷◌, ◌++◌, length, take, get_or, map, refl, sym, ap, ◌∙◌}
 use Rattle.std.specs.Borrow.{Bor}
+use Rattle.std.specs.List.{flat_map}
 use Rattle.std.specs.BTreeSet.{insert_key}
 use Rattle.std.proofs.lemmas.List.{take_more, map_push}
 use Rattle.arch_model.specs.Listings.{date_cmp}
 use Rattle.mail_forms.specs.declared.row.Row.{Row}
 use Rattle.thread_tree.specs.declared.twigs.Twig.{Twig}
-use Rattle.http_front.specs.Threads.{place_of, put_places, with_twig, twig_of, twigs_after}
+use Rattle.arch_model.specs.Archives.{Archive}
+use Rattle.html_pages.specs.Lines.{thread_line}
+use Rattle.html_pages.specs.Pages.{page_of, thread_of}
+use Rattle.html_pages.specs.declared.thread_line.ThreadLine.{ThreadLine}
+use Rattle.http_heads.specs.declared.reply.Body.TheVariants.{Page}
+use Rattle.thread_tree.specs.Trees.{Prints, roots}
+use Rattle.thread_tree.specs.declared.lines.Line.{Line}
+use Rattle.web_text.specs.Escapes.{title_of}
+use Rattle.http_front.specs.Asking.{Reading, IsReading, Gives}
+use Rattle.http_front.specs.Threads.{place_of, put_places, thread_rows, tree_line, tree_page, with_twig, twig_of, twigs_after}
 
 -- The rows that references refer to.
 abbrev pub rows_lent : List (Bor Row) → List Row
@@ -40,3 +50,16 @@ twigs-more rows i d row start old new lt is before adds =
     ∙ ap (λ (r : Row). with_twig (twigs_after start (rows_lent (take i rows))) (twig_of r)) is
     ∙ sym (twigs-append start (rows_lent (take i rows)) (get_or rows i d).now)
     ∙ ap (twigs_after start) (sym (rows-more rows i d lt))
+
+-- The page that was made by the lines of a tree.
+pub page-made : (reading : Reading) → IsReading reading → (a : Archive) (n : ℕ) (row : Row) (twigs : List Twig) (tree shown : List Line) (items lines : List ThreadLine) (name page : List ℕ) → twigs ≡ twigs_after [] (thread_rows a.entries n) → Prints twigs 0 (roots twigs) tree → shown ≡ tree
+    → flat_map (thread_line a.config.name) items ≡ flat_map (tree_line a.config.name a.entries) shown → lines ≡ items → name ≡ a.config.name → page ≡ thread_of name row lines
+    → Gives Page (tree_page a.config.name a.entries row (reading.lays (twigs_after [] (thread_rows a.entries n)))) ≡ Gives Page page
+unfolding tree_page thread_of
+page-made reading is a n row twigs tree shown items lines name page mails prints same laid all named made =
+    let laid_is : reading.lays (twigs_after [] (thread_rows a.entries n)) ≡ shown = ap reading.lays (sym mails) ∙ is.trees twigs tree prints ∙ sym same in
+    ap (λ (ls : List Line). Gives Page (page_of (title_of row.subject) (flat_map (tree_line a.config.name a.entries) ls))) laid_is
+    ∙ ap (λ (w : List ℕ). Gives Page (page_of (title_of row.subject) w)) (sym laid)
+    ∙ ap (λ (ls : List ThreadLine). Gives Page (page_of (title_of row.subject) (flat_map (thread_line a.config.name) ls))) (sym all)
+    ∙ ap (λ (k : List ℕ). Gives Page (page_of (title_of row.subject) (flat_map (thread_line k) lines))) (sym named)
+    ∙ ap (Gives Page) (sym made)

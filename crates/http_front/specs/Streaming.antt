@@ -1,5 +1,5 @@
 -- The pieces of a mailbox file in a streamed reply.
-use Rattle.std.specs.Prelude.{◌≡◌, ◌<◌, ◌≤◌, ℕ, List, [], ◌++◌, length, Result, Ok, Err}
+use Rattle.std.specs.Prelude.{◌≡◌, ◌⊎◌, ◌<◌, ◌≤◌, ℕ, Bool, true, List, [], ◌++◌, length, Result, Ok, Err}
 use Rattle.arch_model.specs.Shelves.{IsUndamaged, ReadingWhy}
 use Rattle.arch_model.specs.declared.text_refusal.TextRefusal.{TextRefusal}
 use Rattle.edge_io.specs.Phrases.{Says}
@@ -19,13 +19,30 @@ pub record Stops (piece old new : List ℕ) (i : Outside) (refusal : TextRefusal
   pub lost : j.lost ≡ i.lost
   pub same : new ≡ old
 
+-- The piece was put after the words that are to be said.
+pub record IsAdded (piece old new : List ℕ) (i j : Outside) : Type 0 where
+  pub added : new ≡ old ++ piece
+  pub out : j.out ≡ i.out
+  pub lost : j.lost ≡ i.lost
+  pub disk : j.disk ≡ i.disk
+
+-- The words that were to be said were said with the piece, and there were some.
+pub record IsSaid (piece old new : List ℕ) (i j : Outside) : Type 0 where
+  pub none : new ≡ []
+  pub some : 0 < length (old ++ piece)
+  pub says : Says (old ++ piece) i.out i.lost j.out j.lost (Ok tt)
+  pub disk : j.disk ≡ i.disk
+
+-- The words that were to be said were lost with the piece.
+pub record IsLost (piece old : List ℕ) (i j : Outside) : Type 0 where
+  pub fault : SinkFault
+  pub says : Says (old ++ piece) i.out i.lost j.out j.lost (Err fault)
+  pub disk : j.disk ≡ i.disk
+
 -- The piece was put after the words that are to be said; or these were said with it, or lost; or the
--- piece couldn't be read.
-abbrev pub IsPart : List ℕ → List ℕ → Outside → Part → List ℕ → Outside → Type 0
-IsPart piece old i part.Added new j = (new ≡ old ++ piece) × (j.out ≡ i.out) × (j.lost ≡ i.lost)
-    × (j.disk ≡ i.disk)
-IsPart piece old i part.Said new j = (new ≡ []) × (0 < length (old ++ piece))
-    × Says (old ++ piece) i.out i.lost j.out j.lost (Ok tt) × (j.disk ≡ i.disk)
-IsPart piece old i part.Lost new j = ((fault : SinkFault)
-    × Says (old ++ piece) i.out i.lost j.out j.lost (Err fault)) × (j.disk ≡ i.disk)
-IsPart piece old i (part.Unread refusal) new j = Stops piece old new i refusal j
+-- piece couldn't be read. `begun` tells whether any words of the reply were said before.
+abbrev pub IsPart : List ℕ → Bool → List ℕ → Outside → Part → List ℕ → Outside → Type 0
+IsPart piece begun old i (part.Put after) new j = ((after ≡ begun) × IsAdded piece old new i j)
+    ⊎ ((after ≡ true) × IsSaid piece old new i j)
+IsPart piece begun old i part.Lost new j = IsLost piece old i j
+IsPart piece begun old i (part.Unread refusal) new j = Stops piece old new i refusal j

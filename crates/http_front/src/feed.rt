@@ -6,7 +6,7 @@ ghost use Rattle.arch_model.specs.Shelves.{Stays, ReadCause, ReadsOnce};
 ghost use Rattle.atom_mbox.specs.Feeds.{feed_start, entries_of, updated_of};
 ghost use Rattle.http_front.specs.Views.{shown_row, shown_text, shown_at, shown_all, shown_by};
 ghost use Rattle.http_front.specs.Asking.{feed_found, ReadsUpTo};
-ghost use Rattle.http_front.specs.Feeding.{Appends, later_of, latest_of};
+ghost use Rattle.http_front.specs.Feeding.{Appends, arrival_of, later_of, latest_of};
 ghost use Rattle.http_front.specs.Sessions.{FindsIn};
 
 use crate::found::Held;
@@ -54,12 +54,21 @@ fn start_feed<S: Shelf>(numbers: &[u64], shelf: &S, into: &mut Bytes) -> Result<
     ensures { (a : Archive) → S.holds shelf.now a → OnOk result (into.new ≡ into.old
         ++ feed_start a.config.name (updated_of a.config.born (shown_all a.entries numbers.now))) }
 {
-    let config = shelf.config();
-    let updated = match latest(numbers, shelf) {
+    push_feed_start(&shelf.config().name, updated(numbers, shelf), into)
+}
+
+/// Returns when the feed of these numbers was updated: at the last of their arrivals, or when the
+/// archive was created.
+fn updated<S: Shelf>(numbers: &[u64], shelf: &S) -> u64
+    requires { S.ready shelf.now ≡ true }
+    ensures value { (a : Archive) → S.holds shelf.now a
+        → result ≡ updated_of a.config.born (shown_all a.entries numbers.now) }
+    ensures moment { IsMoment result }
+{
+    match latest(numbers, shelf) {
         Some(last) => last,
-        None => u64::from(config.born),
-    };
-    push_feed_start(&config.name, updated, into)
+        None => u64::from(shelf.config().born),
+    }
 }
 
 /// Returns the last of the arrivals of these numbers, or `None` if none of them is live.
@@ -82,10 +91,22 @@ fn arrival<S: Shelf>(n: u64, shelf: &S) -> Option<u64>
     ensures value { (a : Archive) → S.holds shelf.now a → result ≡ latest_of (shown_at a.entries n) }
     ensures moment { IfSome result IsMoment }
 {
-    last_moment_is_defined();
     match row_of_number(n, shelf) {
-        Some(row) if row.arrived <= LAST_MOMENT => Some(row.arrived),
-        _ => None,
+        Some(row) => moment_of(row),
+        None => None,
+    }
+}
+
+/// Returns when the mail of a row arrived, if that is a moment.
+fn moment_of(row: &Row) -> Option<u64>
+    ensures value { result ≡ arrival_of row.now }
+    ensures moment { IfSome result IsMoment }
+{
+    last_moment_is_defined();
+    if row.arrived <= LAST_MOMENT {
+        Some(row.arrived)
+    } else {
+        None
     }
 }
 

@@ -29,11 +29,10 @@ use std::alloc::Global;
 /// What became of the piece of a number.
 #[derive(Drop)]
 pub(crate) enum Part {
-    /// It was put after the words that are still to be said.
-    Added,
-    /// These were said with it.
-    Said,
-    /// These were lost.
+    /// It was put after the words that are still to be said, or these were said with it. This tells
+    /// whether any words of the reply were said so far.
+    Put(bool),
+    /// The words that were to be said were lost.
     Lost,
     /// Its text wasn't read.
     Unread(TextRefusal),
@@ -195,13 +194,14 @@ fn say_every_piece<S: Shelf, O: Sink>(
     let mut begun = false;
     let mut low: u64 = 0;
     while let Some(n) = live_from(low, shelf) {
-        match say_part(alloc, u64::from(n), &mut unsaid, shelf, out) {
-            Part::Added => {}
-            Part::Said => begun = true,
+        match say_part(alloc, u64::from(n), begun, &mut unsaid, shelf, out) {
+            Part::Put(said) => {
+                begun = said;
+                low = u64::from(n) + 1;
+            }
             Part::Lost => return Next::Close,
             Part::Unread(refusal) => return stop(alloc, begun, refusal, manner.moment, out),
         }
-        low = u64::from(n) + 1;
     }
     say_rest(unsaid, manner.closes, out)
 }
@@ -226,9 +226,8 @@ fn say_pieces<S: Shelf, O: Sink>(
 {
     let mut begun = false;
     for n in numbers {
-        match say_part(alloc, *n, &mut unsaid, shelf, out) {
-            Part::Added => {}
-            Part::Said => begun = true,
+        match say_part(alloc, *n, begun, &mut unsaid, shelf, out) {
+            Part::Put(said) => begun = said,
             Part::Lost => return Next::Close,
             Part::Unread(refusal) => return stop(alloc, begun, refusal, manner.moment, out),
         }
@@ -240,20 +239,21 @@ fn say_pieces<S: Shelf, O: Sink>(
 fn say_part<S: Shelf, O: Sink>(
     alloc: Global,
     n: u64,
+    begun: bool,
     unsaid: &mut Bytes,
     shelf: &mut S,
     out: &mut O,
 ) -> Part
     requires { S.ready shelf.old ≡ true }
-    ensures part { (a : Archive) → S.holds shelf.old a → IsPart (piece_at a.entries n) unsaid.old
+    ensures part { (a : Archive) → S.holds shelf.old a → IsPart (piece_at a.entries n) begun unsaid.old
         (outside (O.taken out.old) (S.faults shelf.old) (O.faults out.old)) result unsaid.new
         (outside (O.taken out.new) (S.faults shelf.new) (O.faults out.new)) }
     ensures shelf { Stays S.holds S.ready S.alike S.faults shelf.old shelf.new }
     ensures sink { O.alike out.old out.new }
 {
     match live_number(n, shelf) {
-        Some(number) => say_piece(alloc, number, unsaid, shelf, out),
-        None => Part::Added,
+        Some(number) => say_piece(alloc, number, begun, unsaid, shelf, out),
+        None => Part::Put(begun),
     }
 }
 
@@ -261,6 +261,7 @@ fn say_part<S: Shelf, O: Sink>(
 fn say_piece<S: Shelf, O: Sink>(
     alloc: Global,
     n: u32,
+    begun: bool,
     unsaid: &mut Bytes,
     shelf: &mut S,
     out: &mut O,
@@ -269,32 +270,32 @@ fn say_piece<S: Shelf, O: Sink>(
     requires live { (a : Archive) → S.holds shelf.old a
         → is_some (text_of (live a.entries) n) ≡ true }
     ensures part { (a : Archive) → S.holds shelf.old a
-        → IsPart (piece_by (shown_text a.entries n)) unsaid.old
+        → IsPart (piece_by (shown_text a.entries n)) begun unsaid.old
         (outside (O.taken out.old) (S.faults shelf.old) (O.faults out.old)) result unsaid.new
         (outside (O.taken out.new) (S.faults shelf.new) (O.faults out.new)) }
     ensures shelf { Stays S.holds S.ready S.alike S.faults shelf.old shelf.new }
     ensures sink { O.alike out.old out.new }
 {
     match push_piece(alloc, n, unsaid, shelf) {
-        Ok(()) => say_long(unsaid, out),
+        Ok(()) => say_long(begun, unsaid, out),
         Err(refusal) => Part::Unread(refusal),
     }
 }
 
 /// Says what is to be said if it is long.
-fn say_long<O: Sink>(unsaid: &mut Bytes, out: &mut O) -> Part
-    ensures part { (disk : ℕ) → IsPart [] unsaid.old
+fn say_long<O: Sink>(begun: bool, unsaid: &mut Bytes, out: &mut O) -> Part
+    ensures part { (disk : ℕ) → IsPart [] begun unsaid.old
         (outside (O.taken out.old) disk (O.faults out.old)) result unsaid.new
         (outside (O.taken out.new) disk (O.faults out.new)) }
     ensures sink { O.alike out.old out.new }
 {
     if unsaid.as_slice().len() < PART_LEN {
-        return Part::Added;
+        return Part::Put(begun);
     }
     match say(unsaid.as_slice(), out) {
         Ok(()) => {
             unsaid.truncate(0);
-            Part::Said
+            Part::Put(true)
         }
         Err(SinkFault) => Part::Lost,
     }
