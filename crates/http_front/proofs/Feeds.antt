@@ -1,11 +1,11 @@
 -- The entries and the arrivals of a feed, one after another.
-use Rattle.std.proofs.Common.{◌≡◌, ◌<◌, ◌+◌, ℕ, Bool, true, false, List, [], ◌∷◌, ◌++◌, length, take, get_or, Option, Some, None, Result, Ok, Err, refl, sym, ap, subst, ◌∙◌, append_assoc, append-nil, nat_le, if◌then◌else◌}
+use Rattle.std.proofs.Common.{◌≡◌, ◌<◌, ◌+◌, ℕ, Bool, true, false, List, [], ◌∷◌, ◌++◌, length, take, get_or, Option, Some, None, Result, Ok, Err, refl, sym, ap, subst, ◌∙◌, append_assoc, append-nil, arith, nat_le, if◌then◌else◌}
 use Rattle.std.specs.List.{flat_map}
 use Rattle.std.proofs.lemmas.List.{take_more}
 use Rattle.std.proofs.lemmas.List.Concat.{flat_map-append}
 use Rattle.arch_base.specs.Moments.{last_moment}
 use Rattle.arch_model.specs.Archives.{Entry, Archive, live}
-use Rattle.arch_model.specs.Shelves.{IsUndamaged}
+use Rattle.arch_model.specs.Shelves.{IsUndamaged, ReadsOnce}
 use Rattle.arch_model.specs.Standing.{GivesTextIn}
 use Rattle.arch_model.specs.declared.text_refusal.TextRefusal.{TextRefusal}
 use Rattle.arch_model.specs.declared.text_refusal.TextRefusal.TheVariants as refusal
@@ -15,7 +15,7 @@ use Rattle.mail_forms.specs.declared.row.Row.{Row}
 use Rattle.mime_parts.specs.Texts.{body_text_of}
 use Rattle.http_heads.specs.declared.reply.Body.TheVariants.{Feed}
 use Rattle.http_front.specs.Views.{is_number, one_row, shown_row, shown_text, text_at, shown_by, shown_at, shown_all}
-use Rattle.http_front.specs.Asking.{Found, Gives, feed_found}
+use Rattle.http_front.specs.Asking.{Found, Gives, feed_found, ReadsUpTo}
 use Rattle.http_front.specs.Feeding.{Appends, arrival_of, later_of, latest_of}
 use Rattle.http_front.specs.Sessions.{Finds}
 use Rattle.http_front.proofs.Arrivals.{latest-append}
@@ -89,6 +89,25 @@ pub appends-live : (name : List ℕ) (entries : List Entry) (n found : ℕ) (old
 appends-live name entries n found old new result same text appended =
     subst (λ (t : Option (List ℕ)). Appends (entries_of name (shown_by (shown_row entries n) t)) old new result) (sym text)
     (subst (λ (k : ℕ). Appends (entries_of name (shown_by (shown_row entries k) (shown_text entries k))) old new result) same appended)
+
+-- A row and its text give the entry of a number; without a row there is none.
+pub appends-read : (name : List ℕ) (row : Option Row) (text : Option (List ℕ)) (read wanted old new : List ℕ) → text ≡ Some wanted → read ≡ wanted → new ≡ old ++ entries_of name (shown_by row (Some read)) → new ≡ old ++ entries_of name (shown_by row text)
+appends-read name row text read wanted old new is same appended = appended ∙ ap (λ (t : Option (List ℕ)). old ++ entries_of name (shown_by row t)) (ap Some same ∙ sym is)
+
+pub appends-no_row : (name : List ℕ) (row : Option Row) (text : Option (List ℕ)) (old : List ℕ) → None ≡ row → old ≡ old ++ entries_of name (shown_by row text)
+appends-no_row name row text old none = sym (append-nil old) ∙ ap (λ (o : Option Row). old ++ entries_of name (shown_by o text)) none
+
+-- A mail that arrived at no moment has no entry.
+pub appends-late : (name : List ℕ) (row : Row) (text old : List ℕ) → nat_le row.arrived last_moment ≡ false → old ≡ old ++ entries_of name (shown_by (Some row) (Some text))
+appends-late name row text old late =
+    sym (append-nil old) ∙ ap (λ (b : Bool). old ++ entries_of name (if b then record { row = row; body = body_text_of text } ∷ [] else [])) (sym late)
+
+-- The reads of one more number, and of a number at which a loop stops.
+pub reads-more : (i before mid now : ℕ) → ReadsUpTo i before mid → ReadsOnce mid now → ReadsUpTo (i + 1) before now
+reads-more i before mid now so_far once = record { later = omega (arith, so_far.later, once.later); bound = omega (arith, so_far.bound, once.most) }
+
+pub reads-stop : (i all before mid now : ℕ) → i < all → ReadsUpTo i before mid → ReadsOnce mid now → ReadsUpTo all before now
+reads-stop i all before mid now less so_far once = record { later = omega (arith, so_far.later, once.later); bound = omega (arith, less, so_far.bound, once.most) }
 
 -- A text that was not read, while an archive is held.
 pub unread-undamaged : (entries : List Entry) (n : ℕ) (old new : List ℕ) (why : TextRefusal) → GivesTextIn entries n old new (Err why) → IsUndamaged why

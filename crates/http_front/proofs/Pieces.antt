@@ -1,11 +1,12 @@
 -- The rows, texts and pieces of numbers, one after another.
-use Rattle.std.proofs.Common.{◌≡◌, ◌<◌, ◌≤◌, ◌+◌, ◌-◌, ◌==◌, ℕ, zero, suc, Bool, true, false, List, [], ◌∷◌, ◌++◌, length, drop, get_or, Option, Some, None, is_some, refl, sym, ap, ◌∙◌, arith, if◌then◌else◌}
+use Rattle.std.proofs.Common.{◌≡◌, ◌<◌, ◌≤◌, ◌+◌, ◌-◌, ◌==◌, ℕ, zero, suc, Bool, true, false, List, [], ◌∷◌, ◌++◌, length, drop, get_or, Option, Some, None, is_some, refl, sym, ap, ◌∙◌, length-append, arith, if◌then◌else◌}
 use Rattle.std.specs.List.{flat_map}
 use Rattle.std.proofs.lemmas.List.{at_drop_more, drop_all}
 use Rattle.arch_model.specs.Archives.{Entry, live, text_of}
 use Rattle.arch_model.specs.Listings.{row_at, row_in}
 use Rattle.arch_model.specs.Rows.{row_of}
-use Rattle.mail_forms.specs.Mailboxes.{mbox_of}
+use Rattle.mail_forms.specs.Mailboxes.{mbox_of, quoted, separator}
+use Rattle.mail_reader.specs.Lines.{lines_of}
 use Rattle.mail_forms.specs.declared.row.Row.{Row}
 use Rattle.http_front.specs.Views.{is_number, one_row, shown_row, shown_text, text_at, IsNext}
 use Rattle.http_front.specs.Mailboxes.{piece_by, piece_at, mailbox_at, pieces_from, whole_mailbox}
@@ -99,3 +100,31 @@ mailbox-next entries numbers i n lt is = at_drop_more (mailbox_at entries) numbe
 
 pub mailbox-none : (entries : List Entry) (numbers : List ℕ) (i : ℕ) → length numbers ≤ i → mailbox_at entries (drop i numbers) ≡ []
 mailbox-none entries numbers i past = ap (mailbox_at entries) (drop_all i numbers past)
+
+-- One more piece of all: its length, and what is left.
+pub len-more : (entries : List Entry) (low n len size all : ℕ) → n < 4294967296 → IsNext entries low (Some n) → len + length (pieces_left entries low) ≡ all → size ≡ length (piece_at entries n) → (len + size) + length (pieces_left entries (n + 1)) ≡ all
+len-more entries low n len size all small next before told =
+    let cut : length (pieces_left entries low) ≡ length (piece_at entries n) + length (pieces_left entries (n + 1)) = ap length (pieces-next entries low n small next) ∙ length-append (piece_at entries n) (pieces_left entries (n + 1)) in
+    omega (arith, before, told, cut)
+
+pub len-none : (entries : List Entry) (low len all : ℕ) → IsNext entries low None → len + length (pieces_left entries low) ≡ all → len ≡ all
+len-none entries low len all none before = let over : length (pieces_left entries low) ≡ 0 = ap length (pieces-none entries low none) in omega (arith, before, over)
+
+-- One more piece of these numbers, and none.
+pub len-next : (entries : List Entry) (numbers : List ℕ) (i n len size all : ℕ) → i < length numbers → n ≡ get_or numbers i n → len + length (mailbox_at entries (drop i numbers)) ≡ all → size ≡ length (piece_at entries n) → (len + size) + length (mailbox_at entries (drop (i + 1) numbers)) ≡ all
+len-next entries numbers i n len size all lt is before told =
+    let cut : length (mailbox_at entries (drop i numbers)) ≡ length (piece_at entries n) + length (mailbox_at entries (drop (i + 1) numbers)) = ap length (mailbox-next entries numbers i n lt is) ∙ length-append (piece_at entries n) (mailbox_at entries (drop (i + 1) numbers)) in
+    omega (arith, before, told, cut)
+
+pub len-past : (entries : List Entry) (numbers : List ℕ) (i len all : ℕ) → length numbers ≤ i → len + length (mailbox_at entries (drop i numbers)) ≡ all → len ≡ all
+len-past entries numbers i len all past before = let over : length (mailbox_at entries (drop i numbers)) ≡ 0 = ap length (mailbox-none entries numbers i past) in omega (arith, before, over)
+
+-- The piece of a text isn't empty.
+pub piece-some : (text : Option (List ℕ)) → is_some text ≡ true → 0 < length (piece_by text)
+unfolding mbox_of
+piece-some None e = absurd (cc e)
+piece-some (Some text) e = omega (arith, length-append separator (flat_map quoted (lines_of text) ++ 10 ∷ []))
+
+-- The text of a live number.
+pub live-as : (entries : List Entry) (n found : ℕ) → found ≡ n → is_some (shown_text entries n) ≡ true → is_some (shown_text entries found) ≡ true
+live-as entries n found same some = ap (λ (k : ℕ). is_some (shown_text entries k)) same ∙ some

@@ -10,7 +10,7 @@ use Rattle.line_door.specs.Acts.{Outside, Way, Plain, Memory, Disk, Newer, Acts,
 use Rattle.line_door.specs.Making.{closes}
 use Rattle.line_door.proofs.Acting.{acts-closing, acts-words}
 use Rattle.line_door.proofs.Streaming.{acts-short, acts-cut_off}
-use Rattle.arch_model.specs.Archives.{Archive}
+use Rattle.arch_model.specs.Archives.{Entry, Archive}
 use Rattle.arch_model.specs.Shelves.{IsUndamaged, ReadingWhy}
 use Rattle.arch_model.specs.declared.text_refusal.TextRefusal.{TextRefusal}
 use Rattle.arch_model.specs.declared.text_refusal.TextRefusal.TheVariants as refusal
@@ -20,6 +20,8 @@ use Rattle.http_heads.specs.declared.reply.Status.TheVariants.{Done, ServerError
 use Rattle.http_front.specs.Replies.{reply, word}
 use Rattle.http_front.specs.Door.{replies}
 use Rattle.http_front.specs.Sessions.{SaysThen, SaysStopped, said_stream, said_mailbox}
+use Rattle.http_front.specs.Views.{shown_text, text_at}
+use Rattle.http_front.specs.Mailboxes.{piece_by, piece_at}
 use Rattle.http_front.specs.Streaming.{Stops, IsAdded, IsSaid, IsLost, IsPart}
 use Rattle.http_front.specs.declared.mailbox.Part.{Part}
 use Rattle.http_front.specs.declared.mailbox.Part.TheVariants as part
@@ -139,6 +141,24 @@ part-long piece begun old mid new i j k part.Lost put outs losts disks lost_all 
     let words : mid ++ [] ≡ old ++ piece = append-nil mid ∙ put in
     record { fault = lost_all.fault; says = said-as words outs losts (Err lost_all.fault) lost_all.says; disk = lost_all.disk ∙ disks }
 part-long piece begun old mid new i j k (part.Unread why) put outs losts disks never = absurd (omega (arith, never.some))
+
+-- Few words wait; many are said, or lost.
+pub long-waits : (begun : Bool) (old : List ℕ) (i : Outside) → IsPart [] begun old i (part.Put begun) old i
+long-waits begun old i = inl (refl, record { added = sym (append-nil old); out = refl; lost = refl; disk = refl })
+
+pub long-said : (begun : Bool) (old new : List ℕ) (i j : Outside) → new ≡ [] → 0 < length old → Says old i.out i.lost j.out j.lost (Ok tt) → j.disk ≡ i.disk → IsPart [] begun old i (part.Put true) new j
+long-said begun old new i j none some says same =
+    inr (refl, record { none = none; some = subst (λ (w : List ℕ). 0 < length w) (sym (append-nil old)) some; says = said-as (sym (append-nil old)) refl refl (Ok tt) says; disk = same })
+
+pub long-lost : (begun : Bool) (old new : List ℕ) (i j : Outside) (fault : SinkFault) → Says old i.out i.lost j.out j.lost (Err fault) → j.disk ≡ i.disk → IsPart [] begun old i part.Lost new j
+long-lost begun old new i j fault says same = record { fault = fault; says = said-as (sym (append-nil old)) refl refl (Err fault) says; disk = same }
+
+-- The piece of a live number, and that of one that isn't live.
+pub part-at : (entries : List Entry) (n found : ℕ) (begun : Bool) (old : List ℕ) (i : Outside) (p : Part) (new : List ℕ) (k : Outside) → found ≡ n → text_at entries n ≡ shown_text entries n → IsPart (piece_by (shown_text entries found)) begun old i p new k → IsPart (piece_at entries n) begun old i p new k
+part-at entries n found begun old i p new k same text is = subst (λ (t : Option (List ℕ)). IsPart (piece_by t) begun old i p new k) (ap (shown_text entries) same ∙ sym text) is
+
+pub part-none : (entries : List Entry) (n : ℕ) (begun : Bool) (old : List ℕ) (i : Outside) → text_at entries n ≡ None → IsPart (piece_at entries n) begun old i (part.Put begun) old i
+part-none entries n begun old i none = inl (refl, record { added = sym (append-nil old) ∙ ap (λ (t : Option (List ℕ)). old ++ piece_by t) (sym none); out = refl; lost = refl; disk = refl })
 
 module _ (moment : ℕ) (a : Archive) (ends : Bool) (rest bytes : List ℕ) where
   -- The reply with a mailbox file, by its words.
