@@ -71,8 +71,13 @@ pub(crate) fn say_every_mail<S: Shelf, O: Sink>(
 {
     let len = every_len(shelf);
     match head_of(alloc, len, moment, closes) {
-        Ok(head) if sends => say_every_piece(alloc, Manner { moment, closes }, head, shelf, out),
-        Ok(head) => say_rest(head, closes, out),
+        Ok(head) => {
+            if sends {
+                say_every_piece(alloc, Manner { moment, closes }, head, shelf, out)
+            } else {
+                say_rest(head, closes, out)
+            }
+        }
         Err(NoMemory) => end_without_memory(moment, sends, out),
     }
 }
@@ -100,15 +105,13 @@ pub(crate) fn say_mails<S: Shelf, O: Sink>(
 {
     let len = len_of(numbers, shelf);
     match head_of(alloc, len, moment, closes) {
-        Ok(head) if sends => say_pieces(
-            alloc,
-            numbers,
-            Manner { moment, closes },
-            head,
-            shelf,
-            out,
-        ),
-        Ok(head) => say_rest(head, closes, out),
+        Ok(head) => {
+            if sends {
+                say_pieces(alloc, numbers, Manner { moment, closes }, head, shelf, out)
+            } else {
+                say_rest(head, closes, out)
+            }
+        }
         Err(NoMemory) => end_without_memory(moment, sends, out),
     }
 }
