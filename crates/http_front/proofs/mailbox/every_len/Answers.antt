@@ -12,7 +12,7 @@ loop-low-init g c = record {
 pub loop-low-preserved : goal.loop-low-preserved
 loop-low-preserved g c = record {
   value = λ a held.
-      len-more a.entries c.loop-low.low c.in-Some.n c.loop-low.len c.piece_len.result _ (omega arith) (c.in-Some.ensures.next a held) (c.loop-low.invariant.value a held) (rw c.from.ensures at (c.piece_len.ensures.value a held));
+      len-more a.entries c.loop-low.low c.in-Some.n c.loop-low.len c.piece_len.result _ c.in-Some.ensures.later.1 (c.in-Some.ensures.next a held) (c.loop-low.invariant.value a held) (c.piece_len.ensures.value a held);
   room = search rules;
   within = search rules;
 }
