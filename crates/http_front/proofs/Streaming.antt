@@ -190,3 +190,13 @@ reply-words moment bytes unsaid len ends is size = ap (λ (w : List ℕ). w ++ b
 
 pub reply-head_words : (moment : ℕ) (bytes unsaid : List ℕ) (len : ℕ) (ends : Bool) → unsaid ≡ reply_head Done moment Mailbox len ends → len ≡ length bytes → unsaid ≡ reply Done moment Mailbox bytes false ends
 reply-head_words moment bytes unsaid len ends is size = is ∙ ap (λ (n : ℕ). reply_head Done moment Mailbox n ends) size ∙ sym (append-nil (reply_head Done moment Mailbox (length bytes) ends))
+
+module _ (moment : ℕ) (a : Archive) (sends ends : Bool) (rest bytes head : List ℕ) (len : ℕ) (is : head ≡ reply_head Done moment Mailbox len ends) (size : len ≡ length bytes) where
+  -- After its head the reply has its body, or it is the head alone.
+  pub serves-body : (i : Outside) (held : Option (List ℕ)) (j : Outside) → sends ≡ true → Acts (said_stream moment a ends rest (head ++ bytes)) i held a j → Acts (said_mailbox moment a sends ends rest bytes) i held a j
+  serves-body i held j sent acts =
+      subst (λ (b : Bool). Acts (said_mailbox moment a b ends rest bytes) i held a j) (sym sent) (mailbox-sent moment a ends rest bytes (head ++ bytes) i held j (reply-words moment bytes head len ends is size) acts)
+
+  pub serves-head : (i j : Outside) (goes : Bool) → sends ≡ false → j.disk ≡ i.disk → SaysThen head ends i.out i.lost j.out j.lost goes → Acts (said_mailbox moment a sends ends rest bytes) i (held_if goes rest) a j
+  serves-head i j goes alone kept said =
+      subst (λ (b : Bool). Acts (said_mailbox moment a b ends rest bytes) i (held_if goes rest) a j) (sym alone) (mailbox-head moment a ends rest bytes head i j goes (reply-head_words moment bytes head len ends is size) kept said)

@@ -71,8 +71,13 @@ pub(crate) fn say_every_mail<S: Shelf, O: Sink>(
 {
     let len = every_len(shelf);
     match head_of(alloc, len, moment, closes) {
-        Ok(head) if sends => say_every_piece(alloc, Manner { moment, closes }, head, shelf, out),
-        Ok(head) => say_rest(head, closes, out),
+        Ok(head) => {
+            if sends {
+                say_every_piece(alloc, Manner { moment, closes }, head, shelf, out)
+            } else {
+                say_rest(head, closes, out)
+            }
+        }
         Err(NoMemory) => end_without_memory(moment, sends, out),
     }
 }
@@ -100,15 +105,13 @@ pub(crate) fn say_mails<S: Shelf, O: Sink>(
 {
     let len = len_of(numbers, shelf);
     match head_of(alloc, len, moment, closes) {
-        Ok(head) if sends => say_pieces(
-            alloc,
-            numbers,
-            Manner { moment, closes },
-            head,
-            shelf,
-            out,
-        ),
-        Ok(head) => say_rest(head, closes, out),
+        Ok(head) => {
+            if sends {
+                say_pieces(alloc, numbers, Manner { moment, closes }, head, shelf, out)
+            } else {
+                say_rest(head, closes, out)
+            }
+        }
         Err(NoMemory) => end_without_memory(moment, sends, out),
     }
 }
@@ -143,8 +146,8 @@ fn every_len<S: Shelf>(shelf: &S) -> u128
     let mut len: u128 = 0;
     let mut low: u64 = 0;
     while let Some(n) = live_from(low, shelf) {
-        len += piece_len(u64::from(n), shelf);
-        low = u64::from(n) + 1;
+        len += piece_len(n, shelf);
+        low = n + 1;
     }
     len
 }
@@ -194,10 +197,10 @@ fn say_every_piece<S: Shelf, O: Sink>(
     let mut begun = false;
     let mut low: u64 = 0;
     while let Some(n) = live_from(low, shelf) {
-        match say_part(alloc, u64::from(n), begun, &mut unsaid, shelf, out) {
+        match say_part(alloc, n, begun, &mut unsaid, shelf, out) {
             Part::Put(said) => {
                 begun = said;
-                low = u64::from(n) + 1;
+                low = n + 1;
             }
             Part::Lost => return Next::Close,
             Part::Unread(refusal) => return stop(alloc, begun, refusal, manner.moment, out),

@@ -7,8 +7,8 @@ use Rattle.http_front.proofs.Pieces.{pieces_left}
 use Rattle.http_front.proofs.Streaming.{SoFar}
 use Rattle.http_front.proofs.mailbox.say_every_piece.Given as goal
 
-abbrev pub invariant-loop-low : goal.invariant-loop-low
-invariant-loop-low g l = record {
+abbrev pub invariant-loop-n : goal.invariant-loop-n
+invariant-loop-n g l = record {
   so_far :
       (a : Archive) → g.S.Shelf.holds l.fn.shelf a →
       SoFar (l.fn.unsaid ++ whole_mailbox a.entries) l.unsaid (pieces_left a.entries l.low) l.begun (outside (g.O.Sink.taken l.fn.out) (g.S.Shelf.faults l.fn.shelf) (g.O.Sink.faults l.fn.out)) (outside (g.O.Sink.taken l.out) (g.S.Shelf.faults l.shelf) (g.O.Sink.faults l.out));
@@ -17,5 +17,5 @@ invariant-loop-low g l = record {
   sink : g.O.Sink.alike l.fn.out l.out;
 }
 
-abbrev pub decreases-loop-low : goal.decreases-loop-low
-decreases-loop-low g l = 4294967296 - l.low
+abbrev pub decreases-loop-n : goal.decreases-loop-n
+decreases-loop-n g l = 4294967296 - l.low
