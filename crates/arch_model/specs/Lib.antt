@@ -11,6 +11,7 @@ pub mod Overviews
 pub mod Rows
 pub mod Shelves
 pub mod Standing
+pub mod Threading
 pub mod Untold
 pub mod Validity
 pub mod Walking

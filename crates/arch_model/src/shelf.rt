@@ -4,6 +4,7 @@ ghost use Rattle.arch_model.specs.Archives.{Archive, live, text_of};
 ghost use Rattle.arch_model.specs.Listings.{row_in, number_of_id, listing};
 ghost use Rattle.arch_model.specs.Shelves.{IsGreatestLive, live_between, line_at, GivesBlobIn, AppendsTo, Stays, ReadCause, ReadsOnce};
 ghost use Rattle.arch_model.specs.Standing.{IsLeastLive, GivesTextIn, KeepsUnlessFound};
+ghost use Rattle.arch_model.specs.Threading.{thread_in};
 
 use crate::line::EntryLine;
 use crate::text_refusal::TextRefusal;
@@ -78,6 +79,14 @@ pub trait Shelf {
         requires ready { ready self.now ≡ true }
         ensures { (a : Archive) → holds self.now a
             → IfOk result (λ page. page ≡ take count (drop skip (listing (live a.entries)))) };
+
+    /// Returns the numbers in the thread of a live message, rising, or none if the number is not live.
+    ///
+    /// `NoMemory` if an allocation fails.
+    fn thread_of(&self, n: u32) -> Result<Numbers, NoMemory>
+        requires ready { ready self.now ≡ true }
+        ensures { (a : Archive) → holds self.now a
+            → IfOk result (λ numbers. numbers ≡ thread_in (live a.entries) n) };
 
     /// Returns the entry at an index, from 0, without its text, or `None` if there are not so many.
     fn entry(&self, index: u64) -> Option<EntryLine>

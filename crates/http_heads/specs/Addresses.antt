@@ -1,9 +1,9 @@
 -- The addresses of an archive (RFC 3986, section 3.3).
-use Rattle.std.specs.Prelude.{ℕ, Bool, ◌&&◌, ◌||◌, ◌==◌, List, [], ◌∷◌, length, map, codes, Option, Some, None, if◌then◌else◌}
+use Rattle.std.specs.Prelude.{ℕ, Bool, ◌&&◌, ◌==◌, List, [], ◌∷◌, length, map, codes, Option, Some, None, if◌then◌else◌}
 use Rattle.std.specs.Str.{bytes_eq}
 use Rattle.percent_encoding.specs.Percent.{percent_decode}
 use Rattle.http_heads.specs.declared.address.Address.{Address}
-use Rattle.http_heads.specs.declared.address.Address.TheVariants.{Listing, Text, Thread, Message}
+use Rattle.http_heads.specs.declared.address.Address.TheVariants.{Listing, Text, Thread, Message, Feed, Mailbox, ThreadFeed, ThreadMailbox}
 use Rattle.http_heads.specs.Pieces.{pieces_of}
 
 -- What a path names. The bytes are those of an id without its brackets.
@@ -12,6 +12,10 @@ pub data Named : Type 0 where
   TextOf : List ℕ → Named
   ThreadOf : List ℕ → Named
   MessageOf : List ℕ → Named
+  TheFeed : Named
+  TheMailbox : Named
+  ThreadFeedOf : List ℕ → Named
+  ThreadMailboxOf : List ℕ → Named
 
 -- What an address names, by the bytes of its id.
 abbrev pub shown : Address → Named
@@ -19,6 +23,10 @@ shown Listing = TheListing
 shown (Text id) = TextOf id.now
 shown (Thread id) = ThreadOf id.now
 shown (Message id) = MessageOf id.now
+shown Feed = TheFeed
+shown Mailbox = TheMailbox
+shown (ThreadFeed id) = ThreadFeedOf id.now
+shown (ThreadMailbox id) = ThreadMailboxOf id.now
 
 -- The segments of a path: its pieces between slashes, each decoded.
 abbrev pub segments_of : List ℕ → List (List ℕ)
@@ -32,12 +40,20 @@ is_word segment word = bytes_eq segment word
 abbrev pub is_empty : List ℕ → Bool
 is_empty segment = length segment == 0
 
--- After the name stands one segment. Feeds and mailboxes of a list aren't served yet.
+-- After the name stands one segment.
 abbrev pub one_segment : List ℕ → Option Named
 one_segment a =
     if is_empty a then Some TheListing
-    else if is_word a (codes "new.atom") || is_word a (codes "all.mbox") then None
+    else if is_word a (codes "new.atom") then Some TheFeed
+    else if is_word a (codes "all.mbox") then Some TheMailbox
     else Some (MessageOf a)
+
+-- The feed or the mailbox of a message's thread.
+abbrev pub thread_form : List ℕ → List ℕ → Option Named
+thread_form a b =
+    if is_word b (codes "t.atom") then Some (ThreadFeedOf a)
+    else if is_word b (codes "t.mbox") then Some (ThreadMailboxOf a)
+    else None
 
 -- After the name stand two segments. What is below `_` isn't served yet.
 abbrev pub two_segments : List ℕ → List ℕ → Option Named
@@ -45,7 +61,7 @@ two_segments a b =
     if is_word a (codes "_") then None
     else if is_empty b then Some (MessageOf a)
     else if is_word b (codes "raw") then Some (TextOf a)
-    else None
+    else thread_form a b
 
 -- After the name stand three segments.
 abbrev pub three_segments : List ℕ → List ℕ → List ℕ → Option Named
@@ -58,8 +74,8 @@ three_segments a b c =
 abbrev pub is_ours : List ℕ → List ℕ → List ℕ → Bool
 is_ours name first second = is_empty first && is_word second name
 
--- What a path names, by its segments: `/NAME/`, `/NAME/ID` with a slash after it or not,
--- `/NAME/ID/raw` and `/NAME/ID/t/`.
+-- What a path names, by its segments: `/NAME/`, `/NAME/new.atom`, `/NAME/all.mbox`, `/NAME/ID` with
+-- a slash after it or not, `/NAME/ID/raw`, `/NAME/ID/t/`, `/NAME/ID/t.atom` and `/NAME/ID/t.mbox`.
 abbrev pub named_by : List ℕ → List (List ℕ) → Option Named
 named_by name [] = None
 named_by name (first ∷ []) = None

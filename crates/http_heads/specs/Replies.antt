@@ -5,7 +5,7 @@ use Rattle.std.specs.Str.{bytes_eq}
 use Rattle.http_heads.specs.declared.reply.Status.{Status}
 use Rattle.http_heads.specs.declared.reply.Status.TheVariants.{Done, BadRequest, NotFound, MethodNotAllowed, TooManyRequests, HeadTooLarge, ServerError, Unavailable}
 use Rattle.http_heads.specs.declared.reply.Body.{Body}
-use Rattle.http_heads.specs.declared.reply.Body.TheVariants.{Page, Text, Words}
+use Rattle.http_heads.specs.declared.reply.Body.TheVariants.{Page, Text, Words, Feed, Mailbox}
 use Rattle.http_heads.specs.declared.reply.Verdict.{Verdict}
 use Rattle.http_heads.specs.declared.reply.Verdict.TheVariants.{Serve, Refuse}
 use Rattle.http_heads.specs.Dates.{reply_date}
@@ -27,6 +27,8 @@ abbrev pub media_type : Body → List ℕ
 media_type Page = codes "text/html; charset=utf-8"
 media_type Text = codes "text/plain"
 media_type Words = codes "text/plain; charset=utf-8"
+media_type Feed = codes "application/atom+xml; charset=utf-8"
+media_type Mailbox = codes "application/mbox"
 
 -- The end of a line.
 abbrev pub line_end : List ℕ

@@ -1,7 +1,7 @@
 //! What a path names.
 ghost use Rattle.std.specs.Prelude.{◌≡◌, IfOk, map, option_map};
 ghost use Rattle.percent_encoding.specs.Percent.{percent_decode as decoded};
-ghost use Rattle.http_heads.specs.Addresses.{segments_of, shown, is_ours as ours, one_segment as one, two_segments as two, three_segments as three, named_by};
+ghost use Rattle.http_heads.specs.Addresses.{segments_of, shown, is_ours as ours, one_segment as one, thread_form, two_segments as two, three_segments as three, named_by};
 
 use crate::pieces::Pieces;
 use arch_base::{Bytes, NoMemory, Texts};
@@ -19,6 +19,14 @@ pub enum Address<'a> {
     Thread(&'a [u8]),
     /// The page of a message.
     Message(&'a [u8]),
+    /// The feed of the newest messages.
+    Feed,
+    /// The mailbox file of all messages.
+    Mailbox,
+    /// The feed of a thread.
+    ThreadFeed(&'a [u8]),
+    /// The mailbox file of a thread.
+    ThreadMailbox(&'a [u8]),
 }
 
 /// Returns the segments of a path: its pieces between slashes, each with its escapes decoded.
@@ -73,8 +81,10 @@ fn one_segment(a: &[u8]) -> Option<Address<'_>>
 {
     if a.is_empty() {
         Some(Address::Listing)
-    } else if a == b"new.atom".as_slice() || a == b"all.mbox".as_slice() {
-        None
+    } else if a == b"new.atom".as_slice() {
+        Some(Address::Feed)
+    } else if a == b"all.mbox".as_slice() {
+        Some(Address::Mailbox)
     } else {
         Some(Address::Message(a))
     }
@@ -90,6 +100,19 @@ fn two_segments<'a>(a: &'a [u8], b: &[u8]) -> Option<Address<'a>>
         Some(Address::Message(a))
     } else if b == b"raw".as_slice() {
         Some(Address::Text(a))
+    } else {
+        of_thread(a, b)
+    }
+}
+
+/// Returns what of a thread a path with two segments after the name names, by the second.
+fn of_thread<'a>(a: &'a [u8], b: &[u8]) -> Option<Address<'a>>
+    ensures { option_map shown result ≡ thread_form a.now b.now }
+{
+    if b == b"t.atom".as_slice() {
+        Some(Address::ThreadFeed(a))
+    } else if b == b"t.mbox".as_slice() {
+        Some(Address::ThreadMailbox(a))
     } else {
         None
     }

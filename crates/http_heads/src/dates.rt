@@ -6,7 +6,7 @@ ghost use Rattle.http_heads.specs.Dates.{reply_date};
 use httpdate::HttpDate;
 
 /// Returns the date of a moment, in seconds since 1970 UTC, as the head of a reply has it.
-pub(crate) fn date_at(moment: u64) -> [u8; 29]
+pub fn date_at(moment: u64) -> [u8; 29]
     requires { IsMoment moment }
     ensures { result ≡ reply_date moment }
 {

@@ -10,6 +10,7 @@ mod pieces;
 mod reply;
 
 pub use address::{Address, address_of, segments};
+pub use dates::date_at;
 pub use head::{Request, read_head};
 pub use parameters::{parameter, skip_of, split_target};
 pub use pieces::{Pieces, split_piece};

@@ -39,6 +39,10 @@ pub enum Body {
     Text,
     /// Words on a status other than 200.
     Words,
+    /// A feed.
+    Feed,
+    /// A mailbox file.
+    Mailbox,
 }
 
 /// What becomes of a head.
@@ -103,6 +107,8 @@ impl Body {
             Body::Page => b"text/html; charset=utf-8",
             Body::Text => b"text/plain",
             Body::Words => b"text/plain; charset=utf-8",
+            Body::Feed => b"application/atom+xml; charset=utf-8",
+            Body::Mailbox => b"application/mbox",
         }
     }
 }
@@ -114,7 +120,7 @@ pub fn push_reply_head(
     status: Status,
     moment: u64,
     body: Body,
-    len: u64,
+    len: u128,
     closes: bool,
     into: &mut Bytes,
 ) -> Result<(), NoMemory>
@@ -141,7 +147,7 @@ fn push_status(status: Status, moment: u64, into: &mut Bytes) -> Result<(), NoMe
 }
 
 /// Appends the lines of the type and the length of a body.
-fn push_body(body: Body, len: u64, into: &mut Bytes) -> Result<(), NoMemory>
+fn push_body(body: Body, len: u128, into: &mut Bytes) -> Result<(), NoMemory>
     ensures { OnOk result (into.new ≡ into.old ++ body_lines body len) }
 {
     let mut digits = Buffer::new();

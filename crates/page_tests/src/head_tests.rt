@@ -236,7 +236,7 @@ fn reply(
     status: Status,
     moment: u64,
     body: Body,
-    len: u64,
+    len: u128,
     closes: bool,
 ) -> Option<Bytes> {
     let mut made = Bytes::new(alloc);
@@ -253,7 +253,7 @@ fn reply(
 }
 
 /// The heads of replies.
-const REPLIES: [(Status, u64, Body, u64, bool, &[u8]); 9] = [
+const REPLIES: [(Status, u64, Body, u128, bool, &[u8]); 9] = [
     (
         Status::Done,
         1_706_781_700,

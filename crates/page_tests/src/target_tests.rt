@@ -11,10 +11,14 @@ enum Kind {
     Text,
     Thread,
     Message,
+    Feed,
+    Mailbox,
+    ThreadFeed,
+    ThreadMailbox,
 }
 
 /// Targets, and what they name in an archive with the name `list`.
-const NAMED: [(&[u8], Kind, &[u8]); 38] = [
+const NAMED: [(&[u8], Kind, &[u8]); 45] = [
     (b"/list/", Kind::Listing, b""),
     (b"/list/?o=200", Kind::Listing, b""),
     (b"/list/a@x", Kind::Message, b"a@x"),
@@ -43,14 +47,21 @@ const NAMED: [(&[u8], Kind, &[u8]); 38] = [
     (b"http://host/list/", Kind::Nothing, b""),
     (b"*", Kind::Nothing, b""),
     (b"/", Kind::Nothing, b""),
-    (b"/list/new.atom", Kind::Nothing, b""),
-    (b"/list/%6Eew.atom", Kind::Nothing, b""),
-    (b"/list/all.mbox", Kind::Nothing, b""),
+    (b"/list/new.atom", Kind::Feed, b""),
+    (b"/list/%6Eew.atom", Kind::Feed, b""),
+    (b"/list/new.atom?q=d:x", Kind::Feed, b""),
+    (b"/list/all.mbox", Kind::Mailbox, b""),
+    (b"/list/a@x/t.atom", Kind::ThreadFeed, b"a@x"),
+    (b"/list/a%2Fb/t.%6Dbox", Kind::ThreadMailbox, b"a/b"),
+    (b"/list/new.atom/t.atom", Kind::ThreadFeed, b"new.atom"),
+    (b"/list/_/t.atom", Kind::Nothing, b""),
+    (b"/list/_/t.mbox", Kind::Nothing, b""),
+    (b"/list/a@x/T.atom", Kind::Nothing, b""),
+    (b"/list/a@x/t.atom/", Kind::Nothing, b""),
     (b"/list/_/", Kind::Nothing, b""),
     (b"/list/%5F/list", Kind::Nothing, b""),
     (b"/list/_/t/", Kind::Nothing, b""),
     (b"/list/a@x/t", Kind::Nothing, b""),
-    (b"/list/a@x/t.atom", Kind::Nothing, b""),
     (b"/list/a@x/raw/", Kind::Nothing, b""),
     (b"/list/a@x/t//", Kind::Nothing, b""),
 ];
@@ -63,6 +74,10 @@ fn is_address(found: Option<Address<'_>>, kind: Kind, id: &[u8]) -> bool {
         Some(Address::Text(named)) => kind == Kind::Text && named == id,
         Some(Address::Thread(named)) => kind == Kind::Thread && named == id,
         Some(Address::Message(named)) => kind == Kind::Message && named == id,
+        Some(Address::Feed) => kind == Kind::Feed,
+        Some(Address::Mailbox) => kind == Kind::Mailbox,
+        Some(Address::ThreadFeed(named)) => kind == Kind::ThreadFeed && named == id,
+        Some(Address::ThreadMailbox(named)) => kind == Kind::ThreadMailbox && named == id,
     }
 }
 

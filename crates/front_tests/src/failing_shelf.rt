@@ -1,0 +1,123 @@
+//! A shelf whose texts can't be read from a number on.
+ghost use Rattle.std.specs.Prelude.{◌≡◌, true, refl};
+ghost use Rattle.arch_base.specs.Counts.{Rose};
+ghost use Rattle.arch_model.specs.Untold.{HoldsNone};
+
+use arch_base::{Bytes, Config, NoMemory, Numbers, ObjectId};
+use arch_model::{EntryLine, Row, Shelf, TextRefusal};
+use mem_archive::MemArchive;
+
+/// Why a text isn't read.
+#[derive(Clone, Copy, Debug, PartialEq, Eq, Drop)]
+pub(crate) enum Failing {
+    /// The disk fails.
+    Disk,
+    /// Memory runs out.
+    Memory,
+}
+
+/// An archive in memory whose texts can't be read from a number on. It tells nothing of what it holds.
+#[derive(Drop)]
+pub(crate) struct FailingShelf {
+    archive: MemArchive,
+    failing: Failing,
+    from: u32,
+    faults: u64,
+}
+
+impl FailingShelf {
+    /// Keeps an archive whose texts from this number on can't be read.
+    pub(crate) fn new(archive: MemArchive, failing: Failing, from: u32) -> Self {
+        FailingShelf {
+            archive,
+            failing,
+            from,
+            faults: 0,
+        }
+    }
+
+    /// Counts a fault.
+    fn fail(&mut self)
+        ensures { Rose self.old.faults self.new.faults }
+    {
+        self.faults = self.faults.saturating_add(1);
+    }
+}
+
+impl Shelf for FailingShelf {
+    ghost holds = { HoldsNone };
+
+    ghost ready = { λ s. true };
+
+    ghost reads = { λ s. 0 };
+
+    ghost faults = { λ s. s.faults };
+
+    ghost alike = { λ s t. Unit {0} };
+
+    fn config(&self) -> &Config {
+        self.archive.config()
+    }
+
+    fn next_number(&self) -> u32 {
+        self.archive.next_number()
+    }
+
+    fn row(&self, n: u32) -> Option<&Row> {
+        self.archive.row(n)
+    }
+
+    fn by_id(&self, id: &[u8]) -> Option<u32> {
+        self.archive.by_id(id)
+    }
+
+    fn live_from(&self, n: u32) -> Option<u32> {
+        self.archive.live_from(n)
+    }
+
+    fn live_to(&self, n: u32) -> Option<u32> {
+        self.archive.live_to(n)
+    }
+
+    fn live_count(&self, low: u32, high: u32) -> u64 {
+        self.archive.live_count(low, high)
+    }
+
+    fn order_page(&self, skip: u64, count: u64) -> Result<Numbers, NoMemory> {
+        self.archive.order_page(skip, count)
+    }
+
+    fn thread_of(&self, n: u32) -> Result<Numbers, NoMemory> {
+        self.archive.thread_of(n)
+    }
+
+    fn entry(&self, index: u64) -> Option<EntryLine> {
+        self.archive.entry(index)
+    }
+
+    fn text(&mut self, n: u32, into: &mut Bytes) -> Result<(), TextRefusal> {
+        if n >= self.from {
+            if self.failing == Failing::Memory {
+                return Err(TextRefusal::NoMemory);
+            }
+            self.fail();
+            return Err(TextRefusal::DiskFault);
+        }
+        match self.archive.text(n) {
+            None => Ok(()),
+            Some(text) => {
+                into.push_slice(text)?;
+                Ok(())
+            }
+        }
+    }
+
+    fn blob(&mut self, _id: &ObjectId, _into: &mut Bytes) -> Result<bool, TextRefusal> {
+        self.fail();
+        Err(TextRefusal::DiskFault)
+    }
+
+    ghost alike_same = { λ s. tt };
+
+    ghost alike_joined = { λ s t u p q. tt };
+}

@@ -1,0 +1,142 @@
+//! What is said where texts can't be read, or a send is lost.
+use crate::failing_shelf::{Failing, FailingShelf};
+use crate::mails::{A, MOMENT, archive_of_three, empty_archive};
+use arch_base::Numbers;
+use arch_model::{Command, Keep, Next};
+use edge_io::MemSink;
+use http_front::HttpSession;
+use mem_archive::MemArchive;
+use std::alloc::Global;
+
+/// A request to the archive with three mails, whose texts from a number on can't be read.
+#[derive(Drop)]
+struct Failure {
+    from: u32,
+    failing: Failing,
+    request: &'static [u8],
+    reply: &'static [u8],
+}
+
+/// Requests that read such a text before a part of the reply is written.
+static FAILURES: [Failure; 7] = [
+    Failure {
+        from: 1,
+        failing: Failing::Disk,
+        request: b"GET /list/a@x/ HTTP/1.1\r\n\r\n",
+        reply: b"HTTP/1.1 500 Internal Server Error\r\nDate: Thu, 01 Feb 2024 10:03:20 GMT\r\nContent-Type: text/plain; charset=utf-8\r\nContent-Length: 11\r\nConnection: close\r\n\r\ndisk fault\n",
+    },
+    Failure {
+        from: 1,
+        failing: Failing::Disk,
+        request: b"HEAD /list/a@x/raw HTTP/1.1\r\n\r\n",
+        reply: b"HTTP/1.1 500 Internal Server Error\r\nDate: Thu, 01 Feb 2024 10:03:20 GMT\r\nContent-Type: text/plain; charset=utf-8\r\nContent-Length: 11\r\nConnection: close\r\n\r\n",
+    },
+    Failure {
+        from: 1,
+        failing: Failing::Memory,
+        request: b"GET /list/a@x/raw HTTP/1.1\r\n\r\n",
+        reply: b"HTTP/1.1 503 Service Unavailable\r\nDate: Thu, 01 Feb 2024 10:03:20 GMT\r\nContent-Type: text/plain; charset=utf-8\r\nContent-Length: 14\r\nConnection: close\r\n\r\nout of memory\n",
+    },
+    Failure {
+        from: 2,
+        failing: Failing::Disk,
+        request: b"GET /list/new.atom HTTP/1.1\r\n\r\n",
+        reply: b"HTTP/1.1 500 Internal Server Error\r\nDate: Thu, 01 Feb 2024 10:03:20 GMT\r\nContent-Type: text/plain; charset=utf-8\r\nContent-Length: 11\r\nConnection: close\r\n\r\ndisk fault\n",
+    },
+    Failure {
+        from: 2,
+        failing: Failing::Memory,
+        request: b"GET /list/a@x/t.atom HTTP/1.1\r\n\r\n",
+        reply: b"HTTP/1.1 503 Service Unavailable\r\nDate: Thu, 01 Feb 2024 10:03:20 GMT\r\nContent-Type: text/plain; charset=utf-8\r\nContent-Length: 14\r\nConnection: close\r\n\r\nout of memory\n",
+    },
+    Failure {
+        from: 2,
+        failing: Failing::Disk,
+        request: b"GET /list/all.mbox HTTP/1.1\r\n\r\n",
+        reply: b"HTTP/1.1 500 Internal Server Error\r\nDate: Thu, 01 Feb 2024 10:03:20 GMT\r\nContent-Type: text/plain; charset=utf-8\r\nContent-Length: 11\r\nConnection: close\r\n\r\ndisk fault\n",
+    },
+    Failure {
+        from: 2,
+        failing: Failing::Memory,
+        request: b"GET /list/b%2F2@x/t.mbox HTTP/1.1\r\n\r\n",
+        reply: b"HTTP/1.1 503 Service Unavailable\r\nDate: Thu, 01 Feb 2024 10:03:20 GMT\r\nContent-Type: text/plain; charset=utf-8\r\nContent-Length: 14\r\nConnection: close\r\n\r\nout of memory\n",
+    },
+];
+
+/// Returns whether a failure is told, and the connection closed.
+fn is_told(alloc: Global, failure: &Failure) -> bool {
+    let Some(archive) = archive_of_three(alloc) else {
+        return false;
+    };
+    let mut shelf = FailingShelf::new(archive, failure.failing, failure.from);
+    let mut out = MemSink::new(alloc, Numbers::new(alloc));
+    let mut session = HttpSession::open(alloc);
+    let next = session.feed(failure.request, MOMENT, &mut shelf, &mut out);
+    out.taken() == failure.reply && next == Next::Close
+}
+
+#[test]
+fn a_text_that_is_not_read_is_told(rt: HostRuntime) {
+    for failure in &FAILURES {
+        assert!(rt; is_told(rt.alloc(), failure), "{:?}", failure.request);
+    }
+}
+
+/// Creates an archive with a mail of 70022 bytes, and a small one.
+fn big_archive(alloc: Global) -> Option<MemArchive> {
+    let mut archive = empty_archive(alloc)?;
+    let mut big = Vec::new(alloc);
+    big.extend_from_slice(b"Message-ID: <big@x>\n\n").ok()?;
+    big.resize(70021, b'x').ok()?;
+    big.push(b'\n').ok()?;
+    archive.command(&Command::Deliver(big.as_slice()), MOMENT);
+    archive.command(&Command::Deliver(A), MOMENT);
+    Some(archive)
+}
+
+/// Returns whether the mailbox file of the big archive, whose texts from a number on can't be read,
+/// has this many bytes with its head, and the connection then continues or is closed.
+fn mailbox_has(alloc: Global, failing: Failing, from: u32, len: usize, wanted: Next) -> bool {
+    let Some(archive) = big_archive(alloc) else {
+        return false;
+    };
+    let mut shelf = FailingShelf::new(archive, failing, from);
+    let mut out = MemSink::new(alloc, Numbers::new(alloc));
+    let mut session = HttpSession::open(alloc);
+    let request = b"GET /list/all.mbox HTTP/1.1\r\n\r\n";
+    let next = session.feed(request, MOMENT, &mut shelf, &mut out);
+    out.taken().len() == len && next == wanted
+}
+
+#[test]
+fn a_mailbox_file_stops_where_a_text_is_not_read(rt: HostRuntime) {
+    assert!(rt; mailbox_has(rt.alloc(), Failing::Disk, 3, 70316, Next::Go));
+    assert!(rt; mailbox_has(rt.alloc(), Failing::Disk, 2, 70173, Next::Close));
+    assert!(rt; mailbox_has(rt.alloc(), Failing::Memory, 2, 70173, Next::Close));
+}
+
+/// Returns whether a request whose reply is lost, and another one, end the connection.
+fn is_lost(alloc: Global, request: &[u8]) -> Option<bool> {
+    let mut archive = archive_of_three(alloc)?;
+    let mut faults = Numbers::new(alloc);
+    faults.push(1).ok()?;
+    let mut out = MemSink::new(alloc, faults);
+    let mut session = HttpSession::open(alloc);
+    let next = session.feed(request, MOMENT, &mut archive, &mut out);
+    Some(next == Next::Close)
+}
+
+/// Requests of each kind.
+const REQUESTS: [&[u8]; 4] = [
+    b"GET /list/ HTTP/1.1\r\n\r\n",
+    b"GET /list/zz/ HTTP/1.1\r\n\r\n",
+    b"GET /list/all.mbox HTTP/1.1\r\n\r\n",
+    b"x\r\n\r\n",
+];
+
+#[test]
+fn a_lost_reply_ends_the_connection(rt: HostRuntime) {
+    for request in &REQUESTS {
+        assert!(rt; is_lost(rt.alloc(), request) == Some(true), "{:?}", request);
+    }
+}

@@ -1,0 +1,16 @@
+//! Tests of the door of pages, by its public calls alone. Requests, streams and their replies were
+//! worked out by hand from the formats.
+#![tactic(auto)]
+
+#[cfg(test)]
+mod failing_shelf;
+#[cfg(test)]
+mod failure_tests;
+#[cfg(test)]
+mod mails;
+#[cfg(test)]
+mod request_tests;
+#[cfg(test)]
+mod stream_tests;
+#[cfg(test)]
+mod word_tests;

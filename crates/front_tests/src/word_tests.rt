@@ -1,0 +1,113 @@
+//! What is shown after a removal, and the words for what no session answers.
+use crate::mails::Connection;
+use arch_base::Numbers;
+use arch_model::{Next, OpenRefusal};
+use disk_model::{FileKind, FileName};
+use edge_io::MemSink;
+use http_front::{say_busy, say_no_memory, say_unopened};
+use std::alloc::Global;
+
+/// Requests after the removal of the first mail, and their replies.
+static AFTER_REMOVAL: [(&[u8], &[u8]); 4] = [
+    (
+        b"GET /list/a@x/ HTTP/1.1\r\n\r\n",
+        b"HTTP/1.1 404 Not Found\r\nDate: Thu, 01 Feb 2024 10:03:20 GMT\r\nContent-Type: text/plain; charset=utf-8\r\nContent-Length: 10\r\n\r\nnot found\n",
+    ),
+    (
+        b"GET /list/a@x/t.mbox HTTP/1.1\r\n\r\n",
+        b"HTTP/1.1 404 Not Found\r\nDate: Thu, 01 Feb 2024 10:03:20 GMT\r\nContent-Type: text/plain; charset=utf-8\r\nContent-Length: 10\r\n\r\nnot found\n",
+    ),
+    (
+        b"GET /list/ HTTP/1.1\r\n\r\n",
+        b"HTTP/1.1 200 OK\r\nDate: Thu, 01 Feb 2024 10:03:20 GMT\r\nContent-Type: text/html; charset=utf-8\r\nContent-Length: 204\r\n\r\n<html><head><title>list</title></head><body><pre>2024-02-01 12:01 <a href=\"/list/c@x/\">lone</a> unknown\n2024-02-01 11:00 <a href=\"/list/b%2F2@x/\">Re: &lt;first&gt; &amp; more</a> Bob\n</pre></body></html>\n",
+    ),
+    (
+        b"GET /list/all.mbox HTTP/1.1\r\n\r\n",
+        b"HTTP/1.1 200 OK\r\nDate: Thu, 01 Feb 2024 10:03:20 GMT\r\nContent-Type: application/mbox\r\nContent-Length: 281\r\n\r\nFrom mboxrd@z Thu Jan  1 00:00:00 1970\nFrom: Bob <bob@example.org>\nDate: Thu, 1 Feb 2024 11:00:00 +0000\nSubject: Re: <first> & more\nMessage-ID: <b/2@x>\nReferences: <g@x> <a@x>\n\n>From here\n>>From there\n\nFrom mboxrd@z Thu Jan  1 00:00:00 1970\nSubject: lone\nMessage-ID: <c@x>\n\nthree\n\n",
+    ),
+];
+
+/// Returns whether a request after the removal gets its reply.
+fn is_answered_after(alloc: Global, request: &[u8], reply: &[u8]) -> bool {
+    match Connection::to_three(alloc) {
+        Some(mut connection) => {
+            connection.remove(1);
+            connection.hear(request);
+            connection.was_answered(reply, Next::Go)
+        }
+        None => false,
+    }
+}
+
+#[test]
+fn a_removed_mail_is_not_shown(rt: HostRuntime) {
+    for (request, reply) in &AFTER_REMOVAL {
+        assert!(rt;
+            is_answered_after(rt.alloc(), request, reply),
+            "{:?}",
+            request
+        );
+    }
+}
+
+/// The moment of the words, 2024-02-01 10:03:20.
+const MOMENT: u64 = 1_706_781_800;
+
+/// Returns whether the reply to one connection too many is this.
+fn busy_is(alloc: Global, reply: &[u8]) -> bool {
+    let mut out = MemSink::new(alloc, Numbers::new(alloc));
+    say_busy(MOMENT, &mut out).is_ok() && out.taken() == reply
+}
+
+/// Returns whether the reply for want of memory is this.
+fn no_memory_is(alloc: Global, reply: &[u8]) -> bool {
+    let mut out = MemSink::new(alloc, Numbers::new(alloc));
+    say_no_memory(MOMENT, &mut out).is_ok() && out.taken() == reply
+}
+
+/// Returns whether the reply to a refusal is this.
+fn unopened_is(alloc: Global, refusal: OpenRefusal, reply: &[u8]) -> bool {
+    let mut out = MemSink::new(alloc, Numbers::new(alloc));
+    say_unopened(alloc, refusal, MOMENT, &mut out).is_ok() && out.taken() == reply
+}
+
+/// Returns the refusal of an archive with a damaged epoch.
+fn damage() -> OpenRefusal {
+    OpenRefusal::Damaged {
+        file: FileName {
+            kind: FileKind::Epoch,
+            number: 3,
+            gen_: 5,
+        },
+        at: 8,
+    }
+}
+
+#[test]
+fn the_node_has_words_of_the_door(rt: HostRuntime) {
+    assert!(rt;
+        busy_is(
+            rt.alloc(),
+            b"HTTP/1.1 429 Too Many Requests\r\nDate: Thu, 01 Feb 2024 10:03:20 GMT\r\nContent-Type: text/plain; charset=utf-8\r\nContent-Length: 5\r\nConnection: close\r\n\r\nbusy\n"
+        )
+    );
+    assert!(rt;
+        no_memory_is(
+            rt.alloc(),
+            b"HTTP/1.1 503 Service Unavailable\r\nDate: Thu, 01 Feb 2024 10:03:20 GMT\r\nContent-Type: text/plain; charset=utf-8\r\nContent-Length: 14\r\nConnection: close\r\n\r\nout of memory\n"
+        )
+    );
+}
+
+#[test]
+fn an_archive_that_does_not_open_is_told(rt: HostRuntime) {
+    let fault =
+        b"HTTP/1.1 500 Internal Server Error\r\nDate: Thu, 01 Feb 2024 10:03:20 GMT\r\nContent-Type: text/plain; charset=utf-8\r\nContent-Length: 11\r\nConnection: close\r\n\r\ndisk fault\n";
+    let root =
+        b"HTTP/1.1 500 Internal Server Error\r\nDate: Thu, 01 Feb 2024 10:03:20 GMT\r\nContent-Type: text/plain; charset=utf-8\r\nContent-Length: 15\r\nConnection: close\r\n\r\ndamaged root 0\n";
+    let epoch =
+        b"HTTP/1.1 500 Internal Server Error\r\nDate: Thu, 01 Feb 2024 10:03:20 GMT\r\nContent-Type: text/plain; charset=utf-8\r\nContent-Length: 18\r\nConnection: close\r\n\r\ndamaged epoch 3 8\n";
+    assert!(rt; unopened_is(rt.alloc(), OpenRefusal::DiskFault, fault));
+    assert!(rt; unopened_is(rt.alloc(), OpenRefusal::NoArchive, root));
+    assert!(rt; unopened_is(rt.alloc(), damage(), epoch));
+}

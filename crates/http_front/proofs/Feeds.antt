@@ -1,0 +1,133 @@
+-- The entries and the arrivals of a feed, one after another.
+use Rattle.std.proofs.Common.{◌≡◌, ◌<◌, ◌+◌, ℕ, Bool, true, false, List, [], ◌∷◌, ◌++◌, length, take, get_or, Option, Some, None, Result, Ok, Err, refl, sym, ap, subst, ◌∙◌, append_assoc, append-nil, arith, nat_le, if◌then◌else◌}
+use Rattle.std.specs.List.{flat_map}
+use Rattle.std.proofs.lemmas.List.{take_more}
+use Rattle.std.proofs.lemmas.List.Concat.{flat_map-append}
+use Rattle.arch_base.specs.Moments.{last_moment}
+use Rattle.arch_model.specs.Archives.{Entry, Archive, live}
+use Rattle.arch_model.specs.Shelves.{IsUndamaged, ReadsOnce}
+use Rattle.arch_model.specs.Standing.{GivesTextIn}
+use Rattle.arch_model.specs.declared.text_refusal.TextRefusal.{TextRefusal}
+use Rattle.arch_model.specs.declared.text_refusal.TextRefusal.TheVariants as refusal
+use Rattle.atom_mbox.specs.Feeds.{entry_of_shown, entries_of, feed_start, feed_end, feed_of, updated_of}
+use Rattle.atom_mbox.specs.declared.feeds.Shown.{Shown}
+use Rattle.mail_forms.specs.declared.row.Row.{Row}
+use Rattle.mime_parts.specs.Texts.{body_text_of}
+use Rattle.http_heads.specs.declared.reply.Body.TheVariants.{Feed}
+use Rattle.http_front.specs.Views.{is_number, one_row, shown_row, shown_text, text_at, shown_by, shown_at, shown_all}
+use Rattle.http_front.specs.Asking.{Found, Gives, feed_found, ReadsUpTo}
+use Rattle.http_front.specs.Feeding.{Appends, arrival_of, later_of, latest_of}
+use Rattle.http_front.specs.Sessions.{Finds}
+use Rattle.http_front.proofs.Arrivals.{latest-append}
+use Rattle.http_front.proofs.Pieces.{RowAndText, Neither, Both, row-and-text, text-none}
+
+-- The mails of one more number.
+shown-more : (entries : List Entry) (numbers : List ℕ) (i n : ℕ) → i < length numbers → n ≡ get_or numbers i n → shown_all entries (take (i + 1) numbers) ≡ shown_all entries (take i numbers) ++ shown_at entries n
+shown-more entries numbers i n lt is =
+    ap (shown_all entries) (take_more numbers i n lt)
+    ∙ flat_map-append (shown_at entries) (take i numbers) (get_or numbers i n ∷ [])
+    ∙ ap (λ (xs : List Shown). shown_all entries (take i numbers) ++ xs) (append-nil (shown_at entries (get_or numbers i n)))
+    ∙ ap (λ (k : ℕ). shown_all entries (take i numbers) ++ shown_at entries k) (sym is)
+
+-- The entries of one more number.
+pub entries-more : (name : List ℕ) (entries : List Entry) (numbers : List ℕ) (i n : ℕ) (start old new : List ℕ) → i < length numbers → n ≡ get_or numbers i n → old ≡ start ++ entries_of name (shown_all entries (take i numbers)) → new ≡ old ++ entries_of name (shown_at entries n)
+    → new ≡ start ++ entries_of name (shown_all entries (take (i + 1) numbers))
+entries-more name entries numbers i n start old new lt is before appended =
+    appended
+    ∙ ap (λ (w : List ℕ). w ++ entries_of name (shown_at entries n)) before
+    ∙ append_assoc start (entries_of name (shown_all entries (take i numbers))) (entries_of name (shown_at entries n))
+    ∙ ap (λ (w : List ℕ). start ++ w) (sym (flat_map-append (entry_of_shown name) (shown_all entries (take i numbers)) (shown_at entries n)) ∙ ap (entries_of name) (sym (shown-more entries numbers i n lt is)))
+
+-- The last arrival with one more number.
+pub latest-more : (entries : List Entry) (numbers : List ℕ) (i n : ℕ) (last found next : Option ℕ) → i < length numbers → n ≡ get_or numbers i n → last ≡ latest_of (shown_all entries (take i numbers)) → found ≡ latest_of (shown_at entries n) → next ≡ later_of last found
+    → next ≡ latest_of (shown_all entries (take (i + 1) numbers))
+latest-more entries numbers i n last found next lt is before here joined =
+    joined
+    ∙ ap (λ (o : Option ℕ). later_of o found) before
+    ∙ ap (later_of (latest_of (shown_all entries (take i numbers)))) here
+    ∙ sym (latest-append (shown_all entries (take i numbers)) (shown_at entries n))
+    ∙ ap latest_of (sym (shown-more entries numbers i n lt is))
+
+-- The arrival of a row that is shown with a text.
+arrival-shown : (row : Row) (text : List ℕ) → latest_of (shown_by (Some row) (Some text)) ≡ arrival_of row
+arrival-shown row text = by (nat_le row.arrived last_moment)
+  where
+    by : (t : Bool) → latest_of (if t then record { row = row; body = body_text_of text } ∷ [] else []) ≡ (if t then Some row.arrived else None)
+    by true = refl
+    by false = refl
+
+row-shown : (o : Option Row) (text : Option (List ℕ)) → RowAndText o text → (row : Row) → one_row o ≡ row ∷ [] → latest_of (shown_by o text) ≡ arrival_of row
+row-shown None None Neither row e = absurd (cc e)
+row-shown (Some r) (Some text) (Both r' t is) row e = let same : r ≡ row = cc in arrival-shown r text ∙ ap arrival_of same
+
+-- When the mail of a number arrived, by its row.
+pub latest-row : (entries : List Entry) (n : ℕ) (row : Row) → row ∷ [] ≡ (if is_number n then one_row (shown_row entries n) else []) → arrival_of row ≡ latest_of (shown_at entries n)
+latest-row entries n row = by (is_number n)
+  where
+    by : (t : Bool) → row ∷ [] ≡ (if t then one_row (shown_row entries n) else []) → arrival_of row ≡ latest_of (shown_by (shown_row entries n) (if t then shown_text entries n else None))
+    by true e = sym (row-shown (shown_row entries n) (shown_text entries n) (row-and-text (live entries) n) row (sym e))
+    by false e = absurd (cc e)
+
+shown-none : (o : Option Row) → shown_by o None ≡ []
+shown-none None = refl
+shown-none (Some row) = refl
+
+-- A number without a text isn't shown.
+pub shown-without : (entries : List Entry) (n : ℕ) → text_at entries n ≡ None → shown_at entries n ≡ []
+shown-without entries n none = ap (shown_by (shown_row entries n)) none ∙ shown-none (shown_row entries n)
+
+pub latest-none : (entries : List Entry) (n : ℕ) → [] ≡ (if is_number n then one_row (shown_row entries n) else []) → None ≡ latest_of (shown_at entries n)
+latest-none entries n e = ap latest_of (sym (shown-without entries n (text-none entries n (sym e))))
+
+-- A number without a text has no entry.
+pub appends-none : (name : List ℕ) (entries : List Entry) (n : ℕ) (old : List ℕ) → text_at entries n ≡ None → old ≡ old ++ entries_of name (shown_at entries n)
+appends-none name entries n old none = sym (append-nil old) ∙ ap (λ (ms : List Shown). old ++ entries_of name ms) (sym (shown-without entries n none))
+
+-- A live number has the entry of its text.
+pub appends-live : (name : List ℕ) (entries : List Entry) (n found : ℕ) (old new : List ℕ) (result : Result Unit TextRefusal) → found ≡ n → text_at entries n ≡ shown_text entries n → Appends (entries_of name (shown_by (shown_row entries found) (shown_text entries found))) old new result
+    → Appends (entries_of name (shown_at entries n)) old new result
+appends-live name entries n found old new result same text appended =
+    subst (λ (t : Option (List ℕ)). Appends (entries_of name (shown_by (shown_row entries n) t)) old new result) (sym text)
+    (subst (λ (k : ℕ). Appends (entries_of name (shown_by (shown_row entries k) (shown_text entries k))) old new result) same appended)
+
+-- A row and its text give the entry of a number; without a row there is none.
+pub appends-read : (name : List ℕ) (row : Option Row) (text : Option (List ℕ)) (read wanted old new : List ℕ) → text ≡ Some wanted → read ≡ wanted → new ≡ old ++ entries_of name (shown_by row (Some read)) → new ≡ old ++ entries_of name (shown_by row text)
+appends-read name row text read wanted old new is same appended = appended ∙ ap (λ (t : Option (List ℕ)). old ++ entries_of name (shown_by row t)) (ap Some same ∙ sym is)
+
+pub appends-no_row : (name : List ℕ) (row : Option Row) (text : Option (List ℕ)) (old : List ℕ) → None ≡ row → old ≡ old ++ entries_of name (shown_by row text)
+appends-no_row name row text old none = sym (append-nil old) ∙ ap (λ (o : Option Row). old ++ entries_of name (shown_by o text)) none
+
+-- A mail that arrived at no moment has no entry.
+pub appends-late : (name : List ℕ) (row : Row) (text old : List ℕ) → nat_le row.arrived last_moment ≡ false → old ≡ old ++ entries_of name (shown_by (Some row) (Some text))
+appends-late name row text old late =
+    sym (append-nil old) ∙ ap (λ (b : Bool). old ++ entries_of name (if b then record { row = row; body = body_text_of text } ∷ [] else [])) (sym late)
+
+-- The reads of one more number, and of a number at which a loop stops.
+pub reads-more : (i before mid now : ℕ) → ReadsUpTo i before mid → ReadsOnce mid now → ReadsUpTo (i + 1) before now
+reads-more i before mid now so_far once = record { later = omega (arith, so_far.later, once.later); bound = omega (arith, so_far.bound, once.most) }
+
+pub reads-stop : (i all before mid now : ℕ) → i < all → ReadsUpTo i before mid → ReadsOnce mid now → ReadsUpTo all before now
+reads-stop i all before mid now less so_far once = record { later = omega (arith, so_far.later, once.later); bound = omega (arith, less, so_far.bound, once.most) }
+
+-- A text that was not read, while an archive is held.
+pub unread-undamaged : (entries : List Entry) (n : ℕ) (old new : List ℕ) (why : TextRefusal) → GivesTextIn entries n old new (Err why) → IsUndamaged why
+unread-undamaged entries n old new refusal.DiskFault given = tt
+unread-undamaged entries n old new (refusal.Damaged named found) given = given
+unread-undamaged entries n old new refusal.NoMemory given = tt
+
+-- A feed was not made.
+pub finds-refused : (a : Archive) (found : Found) (why : TextRefusal) → IsUndamaged why → Finds a found true (Err why)
+finds-refused a found refusal.DiskFault whole = refl
+finds-refused a found (refusal.Damaged named other) whole = whole
+finds-refused a found refusal.NoMemory whole = tt
+
+three-parts : (head body tail new start mails made : List ℕ) → new ≡ [] → start ≡ new ++ head → mails ≡ start ++ body → made ≡ mails ++ tail → head ++ (body ++ tail) ≡ made
+three-parts head body tail new start mails made none begun filled ended =
+    sym (ended ∙ ap (λ (w : List ℕ). w ++ tail) (filled ∙ ap (λ (w : List ℕ). w ++ body) (begun ∙ ap (λ (w : List ℕ). w ++ head) none)) ∙ append_assoc head body tail)
+
+-- A feed was made of its three parts.
+pub feed-made : (a : Archive) (numbers new start mails made : List ℕ) → new ≡ [] → start ≡ new ++ feed_start a.config.name (updated_of a.config.born (shown_all a.entries numbers)) → mails ≡ start ++ entries_of a.config.name (shown_all a.entries numbers) → made ≡ mails ++ feed_end
+    → feed_found a numbers ≡ Gives Feed made
+unfolding feed_of
+feed-made a numbers new start mails made none begun filled ended =
+    ap (Gives Feed) (three-parts (feed_start a.config.name (updated_of a.config.born (shown_all a.entries numbers))) (entries_of a.config.name (shown_all a.entries numbers)) feed_end new start mails made none begun filled ended)

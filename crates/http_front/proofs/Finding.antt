@@ -1,0 +1,108 @@
+-- What stands under a target, step by step.
+use Rattle.std.proofs.Common.{◌≡◌, ◌≤◌, ◌+◌, ℕ, Bool, true, false, List, take, drop, length, Option, Some, None, IfOk, is_some, Result, Ok, Err, refl, sym, ap, subst, ◌∙◌, arith}
+use Rattle.std.proofs.lemmas.List.{length-take}
+use Rattle.arch_base.specs.declared.sequence.NoMemory.{NoMemory}
+use Rattle.arch_model.specs.Archives.{Entry, Archive, live}
+use Rattle.arch_model.specs.Listings.{listing}
+use Rattle.arch_model.specs.Standing.{GivesTextIn}
+use Rattle.arch_model.specs.declared.text_refusal.TextRefusal.{TextRefusal}
+use Rattle.arch_model.specs.declared.text_refusal.TextRefusal.TheVariants as refusal
+use Rattle.mail_forms.specs.declared.row.Row.{Row}
+use Rattle.html_pages.specs.Pages.{listing_of}
+use Rattle.http_heads.specs.Addresses.{Named, named_by, segments_of}
+use Rattle.http_heads.specs.Parameters.{path_of}
+use Rattle.http_heads.specs.declared.reply.Body.TheVariants.{Page}
+use Rattle.http_front.specs.Views.{rows_at}
+use Rattle.http_front.specs.Asking.{Reading, Found, Gives, Streams, Missing, message_found, text_found, feed_found, listing_found, found_of, named_found, path_found, reads_texts, path_reads, texts_for, path_texts, feed_len, rows_needed, ReadsUpTo}
+use Rattle.http_front.specs.Sessions.{Finds, MakesPage}
+use Rattle.http_front.specs.declared.found.Held.{Held}
+use Rattle.http_front.specs.declared.found.Held.TheVariants as what
+
+-- A path that names something.
+pub finds-named : (reading : Reading) (a : Archive) (query asked : List ℕ) (o : Option Named) (named : Named) (result : Result Held TextRefusal) → o ≡ Some named → query ≡ asked → Finds a (named_found reading a query named) (reads_texts named) result → Finds a (path_found reading a asked o) (path_reads o) result
+finds-named reading a query asked o named result is same found =
+    subst (λ (x : Option Named). Finds a (path_found reading a asked x) (path_reads x) result) (sym is)
+    (subst (λ (q : List ℕ). Finds a (named_found reading a q named) (reads_texts named) result) same found)
+
+-- A path that names nothing.
+pub finds-nothing : (reading : Reading) (a : Archive) (query : List ℕ) (o : Option Named) → o ≡ None → Finds a (path_found reading a query o) (path_reads o) (Ok what.Nothing)
+finds-nothing reading a query o is = subst (λ (x : Option Named). Finds a (path_found reading a query x) (path_reads x) (Ok what.Nothing)) (sym is) refl
+
+-- An id of a live mail.
+pub finds-mail : (a : Archive) (o : Option ℕ) (n : ℕ) (give : ℕ → Found) (reads : Bool) (result : Result Held TextRefusal) → o ≡ Some n → Finds a (give n) reads result → Finds a (found_of o give) reads result
+finds-mail a o n give reads result is found = subst (λ (x : Option ℕ). Finds a (found_of x give) reads result) (sym is) found
+
+-- An id of no live mail.
+pub finds-no_mail : (a : Archive) (o : Option ℕ) (give : ℕ → Found) (reads : Bool) → o ≡ None → Finds a (found_of o give) reads (Ok what.Nothing)
+finds-no_mail a o give reads is = subst (λ (x : Option ℕ). Finds a (found_of x give) reads (Ok what.Nothing)) (sym is) refl
+
+-- A page that was made, or none.
+pub finds-page : (a : Archive) (found : Found) (reads : Bool) (held : Held) → MakesPage found (Ok held) → Finds a found reads (Ok held)
+finds-page a found reads (what.Whole body bytes) made = made
+finds-page a found reads what.EveryMail made = absurd made
+finds-page a found reads (what.Mails numbers) made = absurd made
+finds-page a found reads what.Nothing made = made
+
+-- A text that is needed was not read, while an archive is held.
+pub finds-unread : (a : Archive) (found : Found) (entries : List Entry) (n : ℕ) (old new : List ℕ) (why : TextRefusal) → GivesTextIn entries n old new (Err why) → Finds a found true (Err why)
+finds-unread a found entries n old new refusal.DiskFault given = refl
+finds-unread a found entries n old new (refusal.Damaged named other) given = given
+finds-unread a found entries n old new refusal.NoMemory given = tt
+
+no-text : (text : Option (List ℕ)) → is_some text ≡ false → text ≡ None
+no-text None is = refl
+no-text (Some text) is = absurd (cc is)
+
+-- A number that isn't live has no text and no page.
+pub text-missing : (text : Option (List ℕ)) → is_some text ≡ false → text_found text ≡ Missing
+text-missing text is = ap text_found (no-text text is)
+
+pub message-missing : (a : Archive) (row : Option Row) (text : Option (List ℕ)) → is_some text ≡ false → message_found a row text ≡ Missing
+message-missing a None text is = refl
+message-missing a (Some row) text is = ap (message_found a (Some row)) (no-text text is)
+
+-- The page of a message whose text was read.
+pub finds-message : (a : Archive) (row : Option Row) (text : Option (List ℕ)) (read wanted : List ℕ) (held : Held) → text ≡ Some wanted → read ≡ wanted → MakesPage (message_found a row (Some read)) (Ok held) → Finds a (message_found a row text) true (Ok held)
+finds-message a row text read wanted held is same made =
+    finds-page a (message_found a row text) true held (subst (λ (o : Option (List ℕ)). MakesPage (message_found a row o) (Ok held)) (ap Some same ∙ sym is) made)
+
+-- A feed of the numbers that are wanted.
+pub finds-feed : (a : Archive) (numbers wanted : List ℕ) (result : Result Held TextRefusal) → numbers ≡ wanted → Finds a (feed_found a numbers) true result → Finds a (feed_found a wanted) true result
+finds-feed a numbers wanted result same found = subst (λ (ns : List ℕ). Finds a (feed_found a ns) true result) same found
+
+-- With words to search for there is no page.
+pub listing-searched : (a : Archive) (asked : Option (List ℕ)) (skip : ℕ) → is_some asked ≡ true → listing_found a asked skip ≡ Missing
+listing-searched a None skip is = absurd (cc is)
+listing-searched a (Some words) skip is = refl
+
+-- Without such words the page that was made is that of the listing.
+pub listing-shown : (a : Archive) (asked : Option (List ℕ)) (skip : ℕ) (found : Found) → is_some asked ≡ false → listing_found a None skip ≡ found → listing_found a asked skip ≡ found
+listing-shown a None skip found is shown = shown
+listing-shown a (Some words) skip found is shown = absurd (cc is)
+
+-- The texts that are read for a path that names something, and for an id of a live mail.
+pub reads-named : (o : Option Named) (named : Named) (before now : ℕ) → o ≡ Some named → ReadsUpTo (texts_for named) before now → ReadsUpTo (path_texts o) before now
+reads-named o named before now is reads = subst (λ (x : Option Named). ReadsUpTo (path_texts x) before now) (sym is) reads
+
+pub reads-none : (most n : ℕ) → ReadsUpTo most n n
+reads-none most n = record { later = omega arith; bound = omega arith }
+
+-- A feed reads at most a text for each of its mails.
+pub reads-feed : (numbers all : List ℕ) (before now : ℕ) → numbers ≡ take feed_len all → ReadsUpTo (length numbers) before now → ReadsUpTo feed_len before now
+reads-feed numbers all before now is reads =
+    let few : length numbers ≤ feed_len = omega (arith, ap length is, length-take feed_len all) in
+    record { later = reads.later; bound = omega (arith, reads.bound, few) }
+
+-- The page of a listing is made of the rows that follow the skipped ones.
+pub listing-made : (a : Archive) (skip asked : ℕ) (name numbers shown : List ℕ) (rows : List Row) (result : Result (List ℕ) NoMemory) → skip ≡ asked → name ≡ a.config.name → numbers ≡ take rows_needed (drop skip (listing (live a.entries))) → shown ≡ numbers → rows ≡ rows_at a.entries shown
+    → IfOk result (λ made. made ≡ listing_of name rows skip) → IfOk result (λ made. listing_found a None asked ≡ Gives Page made)
+listing-made a skip asked name numbers shown rows (Ok made) skips named cut same read is =
+    let all : rows ≡ rows_at a.entries (take rows_needed (drop skip (listing (live a.entries)))) = read ∙ ap (rows_at a.entries) (same ∙ cut) in
+    subst (λ (k : ℕ). listing_found a None k ≡ Gives Page made) skips
+    (ap (Gives Page) (sym (is ∙ ap (λ (n : List ℕ). listing_of n rows skip) named ∙ ap (λ (rs : List Row). listing_of a.config.name rs skip) all)))
+listing-made a skip asked name numbers shown rows (Err refused) skips named cut same read is = tt
+
+-- What a path names, by its name and its segments.
+pub path-named : (a : Archive) (target name path : List ℕ) (parts : List (List ℕ)) (found : Option Named) → found ≡ named_by name parts → name ≡ a.config.name → parts ≡ segments_of path → path ≡ path_of target → named_by a.config.name (segments_of (path_of target)) ≡ found
+path-named a target name path parts found is named cut split =
+    sym (is ∙ ap (λ (n : List ℕ). named_by n parts) named ∙ ap (named_by a.config.name) (cut ∙ ap segments_of split))

@@ -1,0 +1,16 @@
+pub mod Fronts
+pub mod Ends
+pub mod Scanning
+pub mod Trees
+pub mod Ids
+pub mod ThreadRows
+pub mod Doors
+pub mod Acting
+pub mod Serving
+pub mod Replying
+pub mod Streaming
+pub mod Pieces
+pub mod Finding
+pub mod Paging
+pub mod Arrivals
+pub mod Feeds

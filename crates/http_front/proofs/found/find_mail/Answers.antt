@@ -1,0 +1,13 @@
+use Rattle.std.proofs.Common.{◌∙◌, sym}
+use Rattle.http_front.specs.Views.{number_named}
+use Rattle.http_front.specs.Sessions.{form_found, form_reads}
+use Rattle.http_front.proofs.Finding.{finds-mail, finds-no_mail}
+use Rattle.http_front.proofs.found.find_mail.Goals as goal
+
+pub returns-in-Ok-Some-clause-found : goal.returns-in-Ok-Some-clause-found
+returns-in-Ok-Some-clause-found g c = λ reading is a held.
+    finds-mail a (number_named a.entries c.args.id.now) _ (form_found reading a c.args.form) (form_reads c.args.form) _ (sym (c.in-Ok-Some.ensures a held) ∙ c.in-Ok-Some.field-0-is) (c.find_number.ensures.found reading is a held)
+
+pub returns-in-Ok-None-clause-found : goal.returns-in-Ok-None-clause-found
+returns-in-Ok-None-clause-found g c = λ reading is a held.
+    finds-no_mail a (number_named a.entries c.args.id.now) (form_found reading a c.args.form) (form_reads c.args.form) (sym (c.in-Ok-None.ensures a held) ∙ c.in-Ok-None.field-0-is)

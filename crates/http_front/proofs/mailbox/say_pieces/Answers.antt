@@ -1,0 +1,40 @@
+use Rattle.std.proofs.Common.{◌+◌, ◌++◌, drop, refl, arith, rules}
+use Rattle.http_front.specs.Mailboxes.{mailbox_at, piece_at}
+use Rattle.arch_model.proofs.Shelving.{stays-joined, stays-same}
+use Rattle.http_front.proofs.Pieces.{mailbox-next, mailbox-none}
+use Rattle.http_front.proofs.Streaming.{sofar-none, sofar-put, streams-end, streams-lost, streams-stopped}
+use Rattle.http_front.proofs.mailbox.say_pieces.Goals as goal
+
+pub loop-n-init : goal.loop-n-init
+loop-n-init g c = record {
+  so_far = λ a held. sofar-none (c.args.unsaid ++ mailbox_at a.entries c.args.numbers.now) c.args.unsaid (mailbox_at a.entries c.args.numbers.now) _ refl;
+  shelf = stays-same g.S.Shelf.holds g.S.Shelf.ready g.S.Shelf.alike g.S.Shelf.faults g.met.S.Shelf.alike_same _ c.requires.ready;
+  sink = g.met.O.Sink.alike_same _;
+}
+
+pub loop-n-preserved : goal.loop-n-preserved
+loop-n-preserved g c = record {
+  so_far = λ a held.
+      let now = c.loop-n.invariant.shelf.kept a held in
+      sofar-put (c.args.unsaid ++ mailbox_at a.entries c.args.numbers.now) c.loop-n.unsaid (mailbox_at a.entries (drop c.loop-n.n-index c.args.numbers.now)) (piece_at a.entries c.n-item.result) (mailbox_at a.entries (drop (c.loop-n.n-index + 1) c.args.numbers.now)) c.loop-n.begun _ _ (c.loop-n.invariant.so_far a held)
+      (mailbox-next a.entries c.args.numbers.now c.loop-n.n-index c.n-item.result c.loop-n-test.true c.n-item.is) c.in-Put.said c.say_part.new.unsaid _ (c.in-Put.ensures.part a now);
+  shelf = stays-joined g.S.Shelf.holds g.S.Shelf.ready g.S.Shelf.alike g.S.Shelf.faults g.met.S.Shelf.alike_joined _ _ _ c.loop-n.invariant.shelf c.say_part.ensures.shelf;
+  sink = g.met.O.Sink.alike_joined _ _ _ c.loop-n.invariant.sink c.say_part.ensures.sink;
+}
+
+pub returns-in-Lost-clause-acts : goal.returns-in-Lost-clause-acts
+returns-in-Lost-clause-acts g c = λ a rest held.
+    let now = c.loop-n.invariant.shelf.kept a held in
+    streams-lost c.args.manner.moment a c.args.manner.closes rest (c.args.unsaid ++ mailbox_at a.entries c.args.numbers.now) c.loop-n.unsaid (mailbox_at a.entries (drop c.loop-n.n-index c.args.numbers.now)) (piece_at a.entries c.n-item.result) (mailbox_at a.entries (drop (c.loop-n.n-index + 1) c.args.numbers.now)) c.loop-n.begun _ _
+    (c.loop-n.invariant.so_far a held) (mailbox-next a.entries c.args.numbers.now c.loop-n.n-index c.n-item.result c.loop-n-test.true c.n-item.is) _ (c.in-Lost.ensures.part a now)
+
+pub returns-in-Unread-clause-acts : goal.returns-in-Unread-clause-acts
+returns-in-Unread-clause-acts g c = λ a rest held.
+    let now = c.loop-n.invariant.shelf.kept a held in
+    rw c.stop.ensures.next (streams-stopped c.args.manner.moment a c.args.manner.closes rest (c.args.unsaid ++ mailbox_at a.entries c.args.numbers.now) c.loop-n.unsaid (mailbox_at a.entries (drop c.loop-n.n-index c.args.numbers.now)) (piece_at a.entries c.n-item.result) (mailbox_at a.entries (drop (c.loop-n.n-index + 1) c.args.numbers.now)) c.loop-n.begun _ _
+    (c.loop-n.invariant.so_far a held) (mailbox-next a.entries c.args.numbers.now c.loop-n.n-index c.n-item.result c.loop-n-test.true c.n-item.is) c.in-Unread.refusal c.say_part.new.unsaid _ _ (c.in-Unread.ensures.part a now) refl c.stop.ensures.said)
+
+pub returns-clause-acts : goal.returns-clause-acts
+returns-clause-acts g c = λ a rest held.
+    streams-end c.args.manner.moment a c.args.manner.closes rest (c.args.unsaid ++ mailbox_at a.entries c.args.numbers.now) c.loop-n.unsaid (mailbox_at a.entries (drop c.loop-n.n-index c.args.numbers.now)) c.loop-n.begun _ _ _ _ (c.loop-n.invariant.so_far a held)
+    (mailbox-none a.entries c.args.numbers.now c.loop-n.n-index (omega arith)) refl c.say_rest.ensures.said

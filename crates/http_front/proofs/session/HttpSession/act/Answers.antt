@@ -1,0 +1,22 @@
+use Rattle.std.proofs.Common.{◌≡◌, ◌++◌, ◌∙◌, List, ℕ, refl, ap, sym, drop}
+use Rattle.arch_model.specs.Next.{continues}
+use Rattle.http_front.specs.Fronts.{Whole, front, head_limit}
+use Rattle.http_front.proofs.Acting.{turn-went, turn-long}
+use Rattle.http_front.proofs.session.HttpSession.act.Goals as goal
+
+pub returns-in-More-clause-turn : goal.returns-in-More-clause-turn
+returns-in-More-clause-turn g c = λ reading is a held. c.hold.ensures.turn reading a (g.S.Shelf.faults c.args.shelf.now)
+
+pub returns-in-Long-clause-turn : goal.returns-in-Long-clause-turn
+returns-in-Long-clause-turn g c = λ reading is a held.
+    let bytes = c.as_slice.ensures ∙ c.self.view_is in
+    turn-long reading c.args.moment a c.args.self.now c.args.piece.now _ _ _ _ (rw bytes at c.in-Long.ensures) refl c.say_status.ensures.said
+
+pub returns-in-Head-clause-turn : goal.returns-in-Head-clause-turn
+returns-in-Head-clause-turn g c = λ reading is a held.
+    let bytes = c.as_slice.ensures ∙ c.self.view_is in
+    let whole = rw bytes at c.in-Head.ensures.3 in
+    let found : front head_limit (c.args.self.now ++ c.args.piece.now) ≡ Whole (c.args.self.now ++ c.split_at.result.0.now) (drop c.in-Head.taken c.args.piece.now) =
+    whole ∙ ap (λ (x : List ℕ). Whole (c.args.self.now ++ x) (drop c.in-Head.taken c.args.piece.now)) (sym c.split_at.ensures.front) in
+    rw c.went.ensures
+    (turn-went reading c.args.moment a c.args.self.now c.args.piece.now (c.args.self.now ++ c.split_at.result.0.now) c.in-Head.taken _ _ _ (continues c.answer.result) found c.answer.ensures.empty (c.answer.ensures.acts reading is a (drop c.in-Head.taken c.args.piece.now) held))

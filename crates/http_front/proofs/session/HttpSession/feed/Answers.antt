@@ -1,0 +1,35 @@
+use Rattle.std.proofs.Common.{◌++◌, Some, None, refl, inl, inr, arith}
+use Rattle.line_door.specs.Course.{talk}
+use Rattle.line_door.proofs.Courses.{Going-same, Going-more, Fed-last, Last-done}
+use Rattle.arch_model.proofs.Shelving.{stays-same, stays-joined}
+use Rattle.http_front.specs.Door.{said, has_request}
+use Rattle.http_front.proofs.session.HttpSession.feed.Goals as goal
+
+pub loop-taken-init : goal.loop-taken-init
+loop-taken-init g c = record {
+  going = λ reading is a held. Going-same (said reading c.args.moment) has_request _;
+  shelf = stays-same g.S.Shelf.holds g.S.Shelf.ready g.S.Shelf.alike g.S.Shelf.faults g.met.S.Shelf.alike_same c.args.shelf.now c.requires.ready;
+  sink = g.met.O.Sink.alike_same _;
+}
+
+pub loop-taken-preserved : goal.loop-taken-preserved
+loop-taken-preserved g c = rw c.split_at.ensures.back (record {
+  going = λ reading is a held.
+      let before = c.loop-taken.invariant.going reading is a held in
+      let turn = c.in-Went.ensures.turn reading is a (c.loop-taken.invariant.shelf.kept a held) in
+      Going-more (said reading c.args.moment) has_request _ (talk (Some (c.loop-taken.self ++ c.loop-taken.rest.now)) a _) _ (c.loop-taken.self ++ c.loop-taken.rest.now) before turn.0 (record { held = refl; acts = turn.1 });
+  shelf = stays-joined g.S.Shelf.holds g.S.Shelf.ready g.S.Shelf.alike g.S.Shelf.faults g.met.S.Shelf.alike_joined _ _ _ c.loop-taken.invariant.shelf c.act.ensures.shelf;
+  sink = g.met.O.Sink.alike_joined _ _ _ c.loop-taken.invariant.sink c.act.ensures.sink;
+})
+
+pub returns-in-Kept-clause-fed : goal.returns-in-Kept-clause-fed
+returns-in-Kept-clause-fed g c = λ reading is a held.
+    let before = c.loop-taken.invariant.going reading is a held in
+    let turn = c.in-Kept.ensures.turn reading is a (c.loop-taken.invariant.shelf.kept a held) in
+    Fed-last (said reading c.args.moment) has_request _ (talk (Some (c.loop-taken.self ++ c.loop-taken.rest.now)) a _) _ before (Last-done (said reading c.args.moment) has_request (c.loop-taken.self ++ c.loop-taken.rest.now) a _ _ a _ turn.2 (inr (turn.0, turn.1)))
+
+pub returns-in-Closed-clause-fed : goal.returns-in-Closed-clause-fed
+returns-in-Closed-clause-fed g c = λ reading is a held.
+    let before = c.loop-taken.invariant.going reading is a held in
+    let turn = c.in-Closed.ensures.turn reading is a (c.loop-taken.invariant.shelf.kept a held) in
+    Fed-last (said reading c.args.moment) has_request _ (talk (Some (c.loop-taken.self ++ c.loop-taken.rest.now)) a _) _ before (Last-done (said reading c.args.moment) has_request (c.loop-taken.self ++ c.loop-taken.rest.now) a _ None a _ turn (inl refl))

@@ -1,0 +1,159 @@
+-- What an archive has under the target of a request.
+use Rattle.std.specs.Prelude.{◌≡◌, ◌≤◌, ◌+◌, ℕ, Bool, true, false, List, [], ◌∷◌, take, drop, reverse, codes, Option, Some, None}
+use Rattle.arch_model.specs.Archives.{Archive, live}
+use Rattle.arch_model.specs.Listings.{listing}
+use Rattle.atom_mbox.specs.Feeds.{feed_of}
+use Rattle.html_pages.specs.Lines.{rows_shown}
+use Rattle.html_pages.specs.Pages.{listing_of, message_of}
+use Rattle.http_heads.specs.Addresses.{Named, TheListing, TextOf, ThreadOf, MessageOf, TheFeed, TheMailbox, ThreadFeedOf, ThreadMailboxOf, named_by, segments_of}
+use Rattle.http_heads.specs.Heads.{IsHead, Asked, asked_of}
+use Rattle.http_heads.specs.Parameters.{path_of, query_of, parameter, skipped}
+use Rattle.http_heads.specs.declared.reply.Body.{Body}
+use Rattle.http_heads.specs.declared.reply.Body.TheVariants.{Page, Text, Feed, Mailbox}
+use Rattle.httparse.specs.Grammar.{RequestHead}
+use Rattle.mail_forms.specs.declared.row.Row.{Row}
+use Rattle.mime_parts.specs.Texts.{body_text_of}
+use Rattle.thread_tree.specs.declared.twigs.Twig.{Twig}
+use Rattle.thread_tree.specs.declared.lines.Line.{Line}
+use Rattle.http_front.specs.Views.{number_named, shown_row, rows_at, shown_text, shown_all}
+use Rattle.http_front.specs.Threads.{LaysTrees, thread_rows, oldest_first, twigs_after, tree_page}
+use Rattle.http_front.specs.Mailboxes.{mailbox_at, whole_mailbox}
+
+-- How heads are read and how trees are laid out. Both are grammars, so each is given as a function.
+pub record Reading : Type 0 where
+  pub reads : List ℕ → Option Asked
+  pub lays : List Twig → List Line
+
+-- A function reads heads: it gives what a head asks, and nothing for what is no head.
+pub record ReadsHeads (reads : List ℕ → Option Asked) : Type 0 where
+  pub head : (bytes : List ℕ) (head : RequestHead) → IsHead bytes head
+      → reads bytes ≡ Some (asked_of head)
+  pub none : (bytes : List ℕ) → ((head : RequestHead) → IsHead bytes head → ⊥)
+      → reads bytes ≡ None
+
+-- The reading is that of both grammars.
+pub record IsReading (reading : Reading) : Type 0 where
+  pub heads : ReadsHeads reading.reads
+  pub trees : LaysTrees reading.lays
+
+-- What stands under a target: a body that is said whole, one that is streamed, or nothing.
+pub data Found : Type 0 where
+  Gives : Body → List ℕ → Found
+  Streams : Body → List ℕ → Found
+  Missing : Found
+
+-- The rows that the page of a listing needs: those that it shows, and one that says that there are
+-- more.
+abbrev pub rows_needed : ℕ
+rows_needed = rows_shown + 1
+
+-- The page of a listing. Searches aren't served yet: a target with words to search for has no page.
+abbrev pub listing_found : Archive → Option (List ℕ) → ℕ → Found
+listing_found a None skip = Gives Page
+    (listing_of a.config.name
+    (rows_at a.entries (take rows_needed (drop skip (listing (live a.entries))))) skip)
+listing_found a (Some words) skip = Missing
+
+-- What is found of a number, if a live mail has the id.
+abbrev pub found_of : Option ℕ → (ℕ → Found) → Found
+found_of None give = Missing
+found_of (Some n) give = give n
+
+-- The page of a message, by its row and its text.
+abbrev pub message_found : Archive → Option Row → Option (List ℕ) → Found
+message_found a None text = Missing
+message_found a (Some row) None = Missing
+message_found a (Some row) (Some text) =
+    Gives Page (message_of a.config.name row text (body_text_of text))
+
+-- The text of a message.
+abbrev pub text_found : Option (List ℕ) → Found
+text_found None = Missing
+text_found (Some text) = Gives Text text
+
+-- The page of the thread of a number, by its row.
+abbrev pub thread_found : Reading → Archive → ℕ → Option Row → Found
+thread_found reading a n None = Missing
+thread_found reading a n (Some row) = Gives Page
+    (tree_page a.config.name a.entries row (reading.lays (twigs_after [] (thread_rows a.entries n))))
+
+-- The feed of these numbers.
+abbrev pub feed_found : Archive → List ℕ → Found
+feed_found a numbers =
+    Gives Feed (feed_of a.config.name a.config.born (shown_all a.entries numbers))
+
+-- How many mails a feed shows.
+abbrev pub feed_len : ℕ
+feed_len = 25
+
+-- What an address names: the newest mails of the archive or of a thread in a feed, newest first; all
+-- mails by number, or those of a thread by date, in a mailbox file; and the pages.
+abbrev pub named_found : Reading → Archive → List ℕ → Named → Found
+named_found reading a query TheListing = listing_found a (parameter (codes "q") query)
+    (skipped (parameter (codes "o") query))
+named_found reading a query (MessageOf id) = found_of (number_named a.entries id)
+    (λ (n : ℕ). message_found a (shown_row a.entries n) (shown_text a.entries n))
+named_found reading a query (TextOf id) = found_of (number_named a.entries id)
+    (λ (n : ℕ). text_found (shown_text a.entries n))
+named_found reading a query (ThreadOf id) = found_of (number_named a.entries id)
+    (λ (n : ℕ). thread_found reading a n (shown_row a.entries n))
+named_found reading a query TheFeed = feed_found a (take feed_len (listing (live a.entries)))
+named_found reading a query (ThreadFeedOf id) = found_of (number_named a.entries id)
+    (λ (n : ℕ). feed_found a (take feed_len (reverse (oldest_first (thread_rows a.entries n)))))
+named_found reading a query TheMailbox = Streams Mailbox (whole_mailbox a.entries)
+named_found reading a query (ThreadMailboxOf id) = found_of (number_named a.entries id)
+    (λ (n : ℕ). Streams Mailbox (mailbox_at a.entries (oldest_first (thread_rows a.entries n))))
+
+-- What is found of an address, if the path names one.
+abbrev pub path_found : Reading → Archive → List ℕ → Option Named → Found
+path_found reading a query None = Missing
+path_found reading a query (Some named) = named_found reading a query named
+
+-- What stands under a target.
+abbrev pub target_found : Reading → Archive → List ℕ → Found
+target_found reading a target = path_found reading a (query_of target)
+    (named_by a.config.name (segments_of (path_of target)))
+
+-- Texts are read for what is named: for the page of a message, its text, feeds and mailbox files.
+abbrev pub reads_texts : Named → Bool
+reads_texts TheListing = false
+reads_texts (MessageOf id) = true
+reads_texts (TextOf id) = true
+reads_texts (ThreadOf id) = false
+reads_texts TheFeed = true
+reads_texts (ThreadFeedOf id) = true
+reads_texts TheMailbox = true
+reads_texts (ThreadMailboxOf id) = true
+
+abbrev pub path_reads : Option Named → Bool
+path_reads None = false
+path_reads (Some named) = reads_texts named
+
+-- Texts are read for a target.
+abbrev pub target_reads : Archive → List ℕ → Bool
+target_reads a target = path_reads (named_by a.config.name (segments_of (path_of target)))
+
+-- How many texts are read at most to find what is named: one for each mail of a feed, and none for a
+-- listing and for the page of a thread. Those of a mailbox file are read while it is said.
+abbrev pub texts_for : Named → ℕ
+texts_for TheListing = 0
+texts_for (MessageOf id) = 1
+texts_for (TextOf id) = 1
+texts_for (ThreadOf id) = 0
+texts_for TheFeed = feed_len
+texts_for (ThreadFeedOf id) = feed_len
+texts_for TheMailbox = 0
+texts_for (ThreadMailboxOf id) = 0
+
+abbrev pub path_texts : Option Named → ℕ
+path_texts None = 0
+path_texts (Some named) = texts_for named
+
+-- How many texts are read at most to find what stands under a target.
+abbrev pub target_texts : Archive → List ℕ → ℕ
+target_texts a target = path_texts (named_by a.config.name (segments_of (path_of target)))
+
+-- A call reads at most so many times.
+pub record ReadsUpTo (most before now : ℕ) : Type 0 where
+  pub later : before ≤ now
+  pub bound : now ≤ before + most

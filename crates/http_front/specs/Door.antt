@@ -1,0 +1,90 @@
+-- What the door of pages answers. Its session is the bytes that are not answered yet, and its
+-- requests read an archive and change nothing.
+use Rattle.std.specs.Prelude.{ℕ, Bool, true, false, List, [], ◌∷◌, ◌++◌, length, Option, Some, None, if◌then◌else◌}
+use Rattle.line_door.specs.Acts.{Said, Way, Plain, Memory, Disk, Newer}
+use Rattle.line_door.specs.Making.{closes, in_ways}
+use Rattle.line_door.specs.Plain.{silent}
+use Rattle.arch_model.specs.Archives.{Archive}
+use Rattle.http_heads.specs.Heads.{Asked}
+use Rattle.http_heads.specs.Replies.{verdict_of}
+use Rattle.http_heads.specs.declared.reply.Body.{Body}
+use Rattle.http_heads.specs.declared.reply.Status.TheVariants.{Done, BadRequest, NotFound, HeadTooLarge, ServerError, Unavailable}
+use Rattle.http_heads.specs.declared.reply.Verdict.{Verdict}
+use Rattle.http_heads.specs.declared.reply.Verdict.TheVariants.{Serve, Refuse}
+use Rattle.http_front.specs.Fronts.{Front, Whole, Long, Partial, front, is_whole, head_limit}
+use Rattle.http_front.specs.Asking.{Reading, Found, Gives, Streams, Missing, target_found, target_reads}
+use Rattle.http_front.specs.Replies.{reply, word}
+
+-- What an act of a session says, and the bytes and the archive after it.
+abbrev pub Says : Type 0
+Says = Said (List ℕ) Archive
+
+-- A reply. The session continues with the bytes after the request, or it is closed.
+abbrev pub replies : Archive → List ℕ → Bool → Bool → List ℕ → Says
+replies a rest ends streamed words =
+    record { next = if ends then None else Some rest; words = words; streamed = streamed; after = a }
+
+-- The reply to a request with what is found: a body, or `not found`. The body of a mailbox file is
+-- streamed. `sends` is false for the method `HEAD`.
+abbrev pub served : ℕ → Archive → Bool → Bool → List ℕ → Found → Says
+served moment a sends ends rest (Gives body bytes) =
+    replies a rest ends false (reply Done moment body bytes sends ends)
+served moment a sends ends rest (Streams body bytes) =
+    replies a rest ends sends (reply Done moment body bytes sends ends)
+served moment a sends ends rest Missing = replies a rest ends false (word NotFound moment sends ends)
+
+-- What is found, in each way. Out of memory, or if the disk fails where it is read, the connection is
+-- closed with a word.
+abbrev pub said_found : ℕ → Archive → Bool → Bool → List ℕ → Found → Bool → Way → Says
+said_found moment a sends ends rest found reads way =
+    in_ways (served moment a sends ends rest found) (closes a (word Unavailable moment sends true))
+    (if reads then closes a (word ServerError moment sends true)
+    else served moment a sends ends rest found) way
+
+-- A request in each way.
+abbrev pub said_asked : Reading → ℕ → Archive → Asked → Bool → List ℕ → Way → Says
+said_asked reading moment a asked sends rest way = said_found moment a sends asked.closes rest
+    (target_found reading a asked.target) (target_reads a asked.target) way
+
+-- A refusal, which closes the connection and needs no memory.
+abbrev pub said_verdict : Reading → ℕ → Archive → Asked → List ℕ → Verdict → Way → Says
+said_verdict reading moment a asked rest (Serve sends) way =
+    said_asked reading moment a asked sends rest way
+said_verdict reading moment a asked rest (Refuse status sends) way =
+    closes a (word status moment sends true)
+
+-- What is said to a head, by what it asks. What is no head is a bad request.
+abbrev pub said_head : Reading → ℕ → Archive → Option Asked → List ℕ → Way → Says
+said_head reading moment a None rest way = closes a (word BadRequest moment true true)
+said_head reading moment a (Some asked) rest way =
+    said_verdict reading moment a asked rest (verdict_of (Some asked)) way
+
+-- Out of memory for the beginning of a head, the connection is closed with a word. An empty rest
+-- needs no memory.
+abbrev pub unkept : ℕ → Archive → List ℕ → List ℕ → Says
+unkept moment a bytes [] = silent a bytes
+unkept moment a bytes (byte ∷ more) = closes a (word Unavailable moment true true)
+
+-- The beginning of a head is kept without a word, or memory runs out.
+abbrev pub said_keeping : ℕ → Archive → List ℕ → Way → Says
+said_keeping moment a bytes way =
+    in_ways (silent a bytes) (unkept moment a bytes bytes) (silent a bytes) way
+
+-- What is said to what is at the front. A head that is too long closes the connection.
+abbrev pub said_at : Reading → ℕ → Archive → List ℕ → Front → Way → Says
+said_at reading moment a bytes (Whole head rest) way =
+    said_head reading moment a (reading.reads head) rest way
+said_at reading moment a bytes Long way = closes a (word HeadTooLarge moment true true)
+said_at reading moment a bytes Partial way = said_keeping moment a bytes way
+
+-- What the door says to a session at a moment.
+abbrev pub said : Reading → ℕ → Archive → List ℕ → Way → Says
+said reading moment a bytes way = said_at reading moment a bytes (front head_limit bytes) way
+
+-- The session starts with a whole head, or with one that is too long.
+abbrev pub has_request : List ℕ → Bool
+has_request bytes = is_whole (front head_limit bytes)
+
+-- The session with a piece after its bytes.
+abbrev pub with_piece : List ℕ → List ℕ → List ℕ
+with_piece piece bytes = bytes ++ piece

@@ -1,0 +1,13 @@
+pub mod Fronts
+pub mod Scans
+pub mod Views
+pub mod Threads
+pub mod Mailboxes
+pub mod Asking
+pub mod Paging
+pub mod Replies
+pub mod Door
+pub mod Sessions
+pub mod Feeding
+pub mod Streaming
+pub mod Laws

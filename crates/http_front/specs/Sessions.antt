@@ -1,0 +1,206 @@
+-- The acts of the code are acts of a session.
+use Rattle.std.specs.Prelude.{◌≡◌, ◌<◌, ◌≤◌, ◌⊎◌, ◌&&◌, not, is_ok, ℕ, Bool, true, false, List, ◌++◌, length, take, drop, reverse, Option, Some, None, Result, Ok, Err}
+use Rattle.line_door.specs.Acts.{Outside, Way, Acts, held_if}
+use Rattle.line_door.specs.Making as door
+use Rattle.line_door.specs.Making.{in_ways}
+use Rattle.line_door.specs.Course.{talk, Fed}
+use Rattle.arch_model.specs.Archives.{Archive}
+use Rattle.arch_base.specs.declared.sequence.NoMemory.{NoMemory}
+use Rattle.arch_model.specs.declared.opening.OpenRefusal.{OpenRefusal}
+use Rattle.arch_model.specs.declared.opening.OpenRefusal.TheVariants as opening
+use Rattle.arch_model.specs.declared.text_refusal.TextRefusal.{TextRefusal}
+use Rattle.arch_model.specs.declared.text_refusal.TextRefusal.TheVariants as refusal
+use Rattle.edge_io.specs.Phrases.{Says}
+use Rattle.edge_io.specs.declared.sink.SinkFault.{SinkFault}
+use Rattle.http_heads.specs.Heads.{Asked}
+use Rattle.http_heads.specs.declared.reply.Body.{Body}
+use Rattle.http_heads.specs.declared.reply.Body.TheVariants.{Mailbox}
+use Rattle.http_heads.specs.declared.reply.Status.TheVariants.{Done, ServerError, Unavailable}
+use Rattle.http_front.specs.Views.{shown_row, shown_text}
+use Rattle.http_front.specs.Threads.{thread_rows, oldest_first}
+use Rattle.http_front.specs.Asking.{Reading, IsReading, Found, Gives, Streams, Missing, message_found, text_found, thread_found, feed_found, feed_len, ReadsUpTo}
+use Rattle.http_front.specs.Door.{Says as SaysAct, replies, said_found, said, said_head, said_asked, has_request}
+use Rattle.http_front.specs.Mailboxes.{mailbox_at, whole_mailbox}
+use Rattle.http_front.specs.Replies.{reply, word, word_of, damaged_line, unopened_word}
+use Rattle.http_front.specs.declared.session.Turn.{Turn}
+use Rattle.http_front.specs.declared.session.Turn.TheVariants.{Went, Kept, Closed}
+use Rattle.http_front.specs.declared.found.Held.{Held}
+use Rattle.http_front.specs.declared.found.Held.TheVariants as what
+use Rattle.http_front.specs.declared.found.Form.{Form}
+use Rattle.http_front.specs.declared.found.Form.TheVariants as form
+
+-- One act on the bytes at the front: a request that took `n` bytes of the piece and left the session
+-- open, or the keeping of the piece, or the close.
+abbrev pub IsTurn : Reading → ℕ → Archive → List ℕ → List ℕ → Outside → Turn → List ℕ → Outside
+    → Type 0
+IsTurn reading moment a old piece i (Went n) new j =
+    (has_request (old ++ piece) ≡ true)
+    × Acts (said reading moment a (old ++ piece)) i (Some (new ++ drop n piece)) a j
+IsTurn reading moment a old piece i Kept new j =
+    (has_request (old ++ piece) ≡ false) × (j.disk ≡ i.disk)
+    × Acts (said reading moment a (old ++ piece)) i (Some new) a j
+IsTurn reading moment a old piece i Closed new j =
+    Acts (said reading moment a (old ++ piece)) i None a j
+
+-- A request takes bytes of the piece.
+abbrev pub Takes : List ℕ → Turn → Type 0
+Takes piece (Went n) = (0 < n) × (n ≤ length piece)
+Takes piece Kept = Unit {0}
+Takes piece Closed = Unit {0}
+
+-- What was found under a target, as the code has it: the body, or the numbers of a mailbox file, for
+-- which texts are read.
+abbrev pub IsHeldFor : Archive → Found → Bool → Held → Type 0
+IsHeldFor a found reads (what.Whole body bytes) = found ≡ Gives body bytes
+IsHeldFor a found reads what.EveryMail = (found ≡ Streams Mailbox (whole_mailbox a.entries))
+    × (reads ≡ true)
+IsHeldFor a found reads (what.Mails numbers) =
+    (found ≡ Streams Mailbox (mailbox_at a.entries numbers)) × (reads ≡ true)
+IsHeldFor a found reads what.Nothing = found ≡ Missing
+
+-- What stands under a target was found, or memory ran out; or the disk failed, where texts are read.
+abbrev pub Finds : Archive → Found → Bool → Result Held TextRefusal → Type 0
+Finds a found reads (Ok held) = IsHeldFor a found reads held
+Finds a found reads (Err refusal.DiskFault) = reads ≡ true
+Finds a found reads (Err (refusal.Damaged named found')) = ⊥
+Finds a found reads (Err refusal.NoMemory) = Unit {0}
+
+-- A page was made, or there is none; or memory ran out.
+abbrev pub MakesPage : Found → Result Held NoMemory → Type 0
+MakesPage found (Ok (what.Whole body bytes)) = found ≡ Gives body bytes
+MakesPage found (Ok what.Nothing) = found ≡ Missing
+MakesPage found (Ok what.EveryMail) = ⊥
+MakesPage found (Ok (what.Mails numbers)) = ⊥
+MakesPage found (Err refused) = Unit {0}
+
+-- What is found of a live number, by the form in which it is asked for.
+abbrev pub form_found : Reading → Archive → Form → ℕ → Found
+form_found reading a form.Message n = message_found a (shown_row a.entries n) (shown_text a.entries n)
+form_found reading a form.Text n = text_found (shown_text a.entries n)
+form_found reading a form.Thread n = thread_found reading a n (shown_row a.entries n)
+form_found reading a form.Feed n =
+    feed_found a (take feed_len (reverse (oldest_first (thread_rows a.entries n))))
+form_found reading a form.Mailbox n =
+    Streams Mailbox (mailbox_at a.entries (oldest_first (thread_rows a.entries n)))
+
+-- Texts are read for a form.
+abbrev pub form_reads : Form → Bool
+form_reads form.Message = true
+form_reads form.Text = true
+form_reads form.Thread = false
+form_reads form.Feed = true
+form_reads form.Mailbox = true
+
+-- How many texts are read at most to find what is asked for in a form.
+abbrev pub form_texts : Form → ℕ
+form_texts form.Message = 1
+form_texts form.Text = 1
+form_texts form.Thread = 0
+form_texts form.Feed = feed_len
+form_texts form.Mailbox = 0
+
+-- A streamed reply of these words in each way: the words, or why no text was read.
+abbrev pub said_stream : ℕ → Archive → Bool → List ℕ → List ℕ → Way → SaysAct
+said_stream moment a ends rest words = in_ways (replies a rest ends true words)
+    (door.closes a (word Unavailable moment true true))
+    (door.closes a (word ServerError moment true true))
+
+-- The reply with a mailbox file in each way.
+abbrev pub said_mailbox : ℕ → Archive → Bool → Bool → List ℕ → List ℕ → Way → SaysAct
+said_mailbox moment a sends ends rest bytes =
+    said_found moment a sends ends rest (Streams Mailbox bytes) true
+
+-- A shelf: the archives that it holds.
+module _ {S : Type 0} (holds : S → Archive → Type 0) where
+  -- Whichever archive is held, this was found.
+  abbrev pub FindsIn : (Reading → Archive → Found) → (Archive → Bool) → S → Result Held TextRefusal
+      → Type 0
+  FindsIn found reads shelf result = (reading : Reading) → IsReading reading → (a : Archive)
+      → holds shelf a → Finds a (found reading a) (reads a) result
+
+  -- Whichever archive is held, at most so many texts were read.
+  abbrev pub ReadsIn : (Archive → ℕ) → S → ℕ → ℕ → Type 0
+  ReadsIn most shelf before now = (a : Archive) → holds shelf a → ReadsUpTo (most a) before now
+
+  -- Whichever archive is held and whatever follows, a head is answered.
+  abbrev pub AnswersHead : ℕ → List ℕ → S → Outside → Bool → Outside → Type 0
+  AnswersHead moment head shelf i goes_on j = (reading : Reading) → IsReading reading
+      → (a : Archive) (rest : List ℕ) → holds shelf a
+      → Acts (said_head reading moment a (reading.reads head) rest) i (held_if goes_on rest) a j
+
+  -- Whichever archive is held and whatever follows, a request is served.
+  abbrev pub Serves : ℕ → Asked → Bool → S → Outside → Bool → Outside → Type 0
+  Serves moment asked sends shelf i goes_on j = (reading : Reading) → IsReading reading
+      → (a : Archive) (rest : List ℕ) → holds shelf a
+      → Acts (said_asked reading moment a asked sends rest) i (held_if goes_on rest) a j
+
+  -- Whichever archive is held and whatever follows, the reply with a mailbox file is said.
+  abbrev pub ServesMailbox : (Archive → List ℕ) → ℕ → Bool → Bool → S → Outside → Bool → Outside
+      → Type 0
+  ServesMailbox bytes moment sends closes shelf i goes_on j = (a : Archive) (rest : List ℕ)
+      → holds shelf a → Acts (said_mailbox moment a sends closes rest (bytes a)) i
+      (held_if goes_on rest) a j
+
+  -- The same by the words of the reply, of which none were said yet.
+  abbrev pub StreamsOn : (Archive → List ℕ) → ℕ → Bool → S → Outside → Bool → Outside → Type 0
+  StreamsOn words moment closes shelf i goes_on j = (a : Archive) (rest : List ℕ) → holds shelf a
+      → Acts (said_stream moment a closes rest (words a)) i (held_if goes_on rest) a j
+
+  -- Whichever archive is held, one act is done.
+  abbrev pub Turns : ℕ → List ℕ → List ℕ → S → Outside → Turn → List ℕ → Outside → Type 0
+  Turns moment old piece shelf i turn new j = (reading : Reading) → IsReading reading
+      → (a : Archive) → holds shelf a → IsTurn reading moment a old piece i turn new j
+
+  -- Whichever archive is held, these bytes of a session are answered by a course.
+  abbrev pub Feeds : ℕ → List ℕ → S → Outside → Bool → List ℕ → Outside → Type 0
+  Feeds moment bytes shelf i goes_on left j = (reading : Reading) → IsReading reading
+      → (a : Archive) → holds shelf a → Fed (said reading moment) has_request
+      (talk (Some bytes) a i) (talk (held_if goes_on left) a j)
+
+-- The words were taken, and the session continues unless the reply closes it; or they were lost, and
+-- it is closed.
+pub record SaysThen (words : List ℕ) (closes : Bool) (out : Option (List ℕ)) (lost : ℕ)
+    (out' : Option (List ℕ)) (lost' : ℕ) (goes_on : Bool) : Type 0 where
+  pub sent : Result Unit SinkFault
+  pub says : Says words out lost out' lost' sent
+  pub next : goes_on ≡ is_ok sent && not closes
+
+-- A reply with a body was said, or that memory ran out, which closes the session.
+abbrev pub SaysWhole : Body → List ℕ → ℕ → Bool → Bool → Option (List ℕ) → ℕ → Option (List ℕ) → ℕ
+    → Bool → Type 0
+SaysWhole body bytes moment sends closes out lost out' lost' goes_on =
+    SaysThen (reply Done moment body bytes sends closes) closes out lost out' lost' goes_on
+    ⊎ SaysThen (word Unavailable moment sends true) true out lost out' lost' goes_on
+
+-- It was said why a text was not read, and that the connection is closed. Out of memory for the ids of
+-- a damaged text, that is said.
+abbrev pub SaysUnread : TextRefusal → ℕ → Bool → Option (List ℕ) → ℕ → Option (List ℕ) → ℕ
+    → Result Unit SinkFault → Type 0
+SaysUnread refusal.DiskFault moment sends out lost out' lost' sent =
+    Says (word ServerError moment sends true) out lost out' lost' sent
+SaysUnread refusal.NoMemory moment sends out lost out' lost' sent =
+    Says (word Unavailable moment sends true) out lost out' lost' sent
+SaysUnread (refusal.Damaged named found) moment sends out lost out' lost' sent =
+    Says (word_of ServerError (damaged_line named.0 found.0) moment sends true) out lost out' lost' sent
+    ⊎ Says (word Unavailable moment sends true) out lost out' lost' sent
+
+-- A reply stopped for a refusal: its words were begun, or it was said why.
+abbrev pub SaysStopped : Bool → TextRefusal → ℕ → Option (List ℕ) → ℕ → Option (List ℕ) → ℕ
+    → Type 0
+SaysStopped true refused moment out lost out' lost' = (out' ≡ out) × (lost' ≡ lost)
+SaysStopped false refused moment out lost out' lost' = (sent : Result Unit SinkFault)
+    × SaysUnread refused moment true out lost out' lost' sent
+
+-- It was said why an archive was not opened, and that the connection is closed. Out of memory for the
+-- name of a damaged file, that is said.
+abbrev pub SaysUnopened : OpenRefusal → ℕ → Option (List ℕ) → ℕ → Option (List ℕ) → ℕ
+    → Result Unit SinkFault → Type 0
+SaysUnopened (opening.Damaged file at) moment out lost out' lost' sent =
+    Says (unopened_word (opening.Damaged file at) moment) out lost out' lost' sent
+    ⊎ Says (word Unavailable moment true true) out lost out' lost' sent
+SaysUnopened opening.NoArchive moment out lost out' lost' sent =
+    Says (unopened_word opening.NoArchive moment) out lost out' lost' sent
+SaysUnopened opening.DiskFault moment out lost out' lost' sent =
+    Says (unopened_word opening.DiskFault moment) out lost out' lost' sent
+SaysUnopened opening.NoMemory moment out lost out' lost' sent =
+    Says (unopened_word opening.NoMemory moment) out lost out' lost' sent

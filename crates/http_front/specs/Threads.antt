@@ -1,0 +1,83 @@
+-- The thread of a mail: its mails by date, and its tree.
+use Rattle.std.specs.Prelude.{◌≡◌, ℕ, List, [], ◌∷◌, ◌++◌, map, Option, Some, None, codes, if◌then◌else◌}
+use Rattle.std.specs.List.{flat_map, list_any}
+use Rattle.std.specs.Str.{bytes_eq}
+use Rattle.std.specs.Borrow.{Bor}
+use Rattle.std.specs.BTreeSet.{insert_key}
+use Rattle.arch_model.specs.Archives.{Entry, live}
+use Rattle.arch_model.specs.Listings.{date_cmp, number_beside}
+use Rattle.arch_model.specs.Threading.{thread_in}
+use Rattle.html_pages.specs.Lines.{row_line, indent, entry_line}
+use Rattle.html_pages.specs.Pages.{page_of}
+use Rattle.html_pages.specs.declared.thread_line.ThreadEntry.{ThreadEntry}
+use Rattle.mail_forms.specs.declared.row.Row.{Row}
+use Rattle.thread_tree.specs.Trees.{Prints, roots, names_id}
+use Rattle.thread_tree.specs.declared.twigs.Twig.{Twig}
+use Rattle.thread_tree.specs.declared.lines.Line.{Line}
+use Rattle.thread_tree.specs.declared.lines.Who.{Who}
+use Rattle.thread_tree.specs.declared.lines.Who.TheVariants.{Live, Ghost}
+use Rattle.web_text.specs.Escapes.{escaped, title_of}
+use Rattle.http_front.specs.Views.{row_at, rows_at}
+
+-- A mail's place among others: the seconds of its date, and then its number.
+abbrev pub place_of : Row → ℕ × ℕ
+place_of row = (row.date.secs, row.number)
+
+-- Places put one after the other where they belong.
+abbrev pub put_places : List (ℕ × ℕ) → List Row → List (ℕ × ℕ)
+put_places done [] = done
+put_places done (row ∷ rows) = put_places (insert_key date_cmp done (place_of row)) rows
+
+-- The numbers of rows by date and then by number, both rising.
+unfoldable pub oldest_first : List Row → List ℕ
+oldest_first rows = map number_beside (put_places [] rows)
+
+-- The rows of the thread of a number.
+abbrev pub thread_rows : List Entry → ℕ → List Row
+thread_rows entries n = rows_at entries (thread_in (live entries) n)
+
+-- The mail of a row in a tree.
+abbrev pub twig_of : Row → Twig
+twig_of row = record { number = row.number; id = row.id; refs = row.refs; secs = row.date.secs }
+
+-- One more mail of a tree. No two mails of an archive have the same id; of two that had, the first
+-- would stay.
+abbrev pub with_twig : List Twig → Twig → List Twig
+with_twig twigs twig = if names_id twigs twig.id then twigs else twigs ++ twig ∷ []
+
+-- These ids are those of the mails.
+abbrev pub AreIds : List (Bor (List ℕ)) → List Twig → Type 0
+AreIds ids twigs = (id : List ℕ)
+    → list_any (λ (key : Bor (List ℕ)). bytes_eq key.now id) ids ≡ names_id twigs id
+
+-- The mails of these rows in a tree.
+abbrev pub twigs_after : List Twig → List Row → List Twig
+twigs_after twigs [] = twigs
+twigs_after twigs (row ∷ rows) = twigs_after (with_twig twigs (twig_of row)) rows
+
+-- A line of a page after its indent: the mail of a number, or the id of a mail that the archive doesn't
+-- have. Of a number without a mail, which no tree has, there is no line.
+abbrev pub who_line : List ℕ → List Entry → List ℕ → Who → List ℕ
+who_line name entries before (Live n) =
+    flat_map (λ (row : Row). before ++ row_line name row) (row_at entries n)
+who_line name entries before (Ghost id) = before ++ codes "[not found] " ++ escaped id ++ codes "\n"
+
+abbrev pub tree_line : List ℕ → List Entry → Line → List ℕ
+tree_line name entries line = who_line name entries (indent line.depth) line.who
+
+-- What a line of a tree stands for, as a page has it.
+abbrev pub IsEntryOf : List ℕ → List Entry → Who → Option ThreadEntry → Type 0
+IsEntryOf name entries who None = (before : List ℕ) → who_line name entries before who ≡ []
+IsEntryOf name entries who (Some entry) = (before : List ℕ)
+    → who_line name entries before who ≡ before ++ entry_line name entry
+
+-- The page of a thread by the lines of its tree. Its title is the subject of the row that was asked
+-- for.
+unfoldable pub tree_page : List ℕ → List Entry → Row → List Line → List ℕ
+tree_page name entries row lines =
+    page_of (title_of row.subject) (flat_map (tree_line name entries) lines)
+
+-- A function of mails gives the lines of their tree, wherever there are such lines.
+abbrev pub LaysTrees : (List Twig → List Line) → Type 0
+LaysTrees lays = (twigs : List Twig) (lines : List Line) → Prints twigs 0 (roots twigs) lines
+    → lays twigs ≡ lines

@@ -1,0 +1,70 @@
+-- What an archive shows of its mails.
+use Rattle.std.specs.Prelude.{◌≡◌, ◌≤◌, ◌<◌, ℕ, Bool, true, is_some, nat_le, nat_lt, List, [], ◌∷◌, ◌++◌, Option, Some, None, codes, if◌then◌else◌}
+use Rattle.std.specs.List.{flat_map}
+use Rattle.arch_base.specs.Moments.{last_moment}
+use Rattle.arch_model.specs.Archives.{Entry, live, text_of}
+use Rattle.arch_model.specs.Listings.{row_in, number_of_id}
+use Rattle.atom_mbox.specs.declared.feeds.Shown.{Shown}
+use Rattle.mail_forms.specs.declared.row.Row.{Row}
+use Rattle.mime_parts.specs.Texts.{body_text_of}
+
+-- The text of a live number.
+abbrev pub shown_text : List Entry → ℕ → Option (List ℕ)
+shown_text entries n = text_of (live entries) n
+
+-- The row of a live number.
+abbrev pub shown_row : List Entry → ℕ → Option Row
+shown_row entries n = row_in (live entries) n
+
+-- The number has 32 bits, as each number of an archive has.
+abbrev pub is_number : ℕ → Bool
+is_number n = nat_lt n 4294967296
+
+-- The text of a number, if it is live.
+abbrev pub text_at : List Entry → ℕ → Option (List ℕ)
+text_at entries n = if is_number n then shown_text entries n else None
+
+-- The number is live, or there is no text of it.
+abbrev pub IsLive : List Entry → ℕ → Option ℕ → Type 0
+IsLive entries n None = text_at entries n ≡ None
+IsLive entries n (Some found) = (found ≡ n) × (text_at entries n ≡ shown_text entries n)
+    × (is_some (shown_text entries n) ≡ true)
+
+-- The least live number from one on, of those that have 32 bits, or none.
+abbrev pub IsNext : List Entry → ℕ → Option ℕ → Type 0
+IsNext entries low None = (m : ℕ) → low ≤ m → text_at entries m ≡ None
+IsNext entries low (Some n) = (low ≤ n) × ((m : ℕ) → low ≤ m → m < n → text_at entries m ≡ None)
+
+-- The live number of an id without its brackets.
+abbrev pub number_named : List Entry → List ℕ → Option ℕ
+number_named entries id = number_of_id (live entries) (codes "<" ++ id ++ codes ">")
+
+-- A row, if there is one.
+abbrev pub one_row : Option Row → List Row
+one_row None = []
+one_row (Some row) = row ∷ []
+
+-- The row of a number, if it is live.
+abbrev pub row_at : List Entry → ℕ → List Row
+row_at entries n = if is_number n then one_row (shown_row entries n) else []
+
+-- The rows of these numbers, in their order.
+abbrev pub rows_at : List Entry → List ℕ → List Row
+rows_at entries numbers = flat_map (row_at entries) numbers
+
+-- A mail as a feed shows it. One with an arrival after the last moment, which no archive has, is left
+-- out.
+abbrev pub shown_by : Option Row → Option (List ℕ) → List Shown
+shown_by None text = []
+shown_by (Some row) None = []
+shown_by (Some row) (Some text) =
+    if nat_le row.arrived last_moment then record { row = row; body = body_text_of text } ∷ []
+    else []
+
+-- The mail of a number as a feed shows it, if it is live.
+abbrev pub shown_at : List Entry → ℕ → List Shown
+shown_at entries n = shown_by (shown_row entries n) (text_at entries n)
+
+-- The mails of these numbers, in their order.
+abbrev pub shown_all : List Entry → List ℕ → List Shown
+shown_all entries numbers = flat_map (shown_at entries) numbers

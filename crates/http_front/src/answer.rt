@@ -1,0 +1,124 @@
+//! Answers whole heads from a shelf.
+ghost use Rattle.std.specs.Prelude.{◌≡◌, ◌&&◌, not, true};
+ghost use Rattle.line_door.specs.Acts.{outside};
+ghost use Rattle.arch_base.specs.Moments.{IsMoment};
+ghost use Rattle.arch_model.specs.Next.{continues};
+ghost use Rattle.arch_model.specs.Shelves.{Stays};
+ghost use Rattle.http_heads.specs.Heads.{shown};
+ghost use Rattle.http_front.specs.Sessions.{AnswersHead, Serves, SaysWhole};
+
+use crate::found::{Held, find_target};
+use crate::mailbox::{say_every_mail, say_mails};
+use crate::replies::{push_reply, say_status, say_unread};
+use arch_base::{Bytes, NoMemory};
+use arch_model::{Next, Shelf};
+use edge_io::{Sink, say};
+use http_heads::{Body, Request, Status, Verdict, judge, read_head};
+use std::alloc::Global;
+
+/// Answers a whole head, and returns whether the session continues.
+pub(crate) fn answer_head<S: Shelf, O: Sink>(
+    alloc: Global,
+    head: &[u8],
+    moment: u64,
+    shelf: &mut S,
+    out: &mut O,
+) -> Next
+    requires ready { S.ready shelf.old ≡ true }
+    requires moment { IsMoment moment }
+    ensures acts { AnswersHead S.holds moment head.now shelf.old
+        (outside (O.taken out.old) (S.faults shelf.old) (O.faults out.old)) (continues result)
+        (outside (O.taken out.new) (S.faults shelf.new) (O.faults out.new)) }
+    ensures shelf { Stays S.holds S.ready S.alike S.faults shelf.old shelf.new }
+    ensures sink { O.alike out.old out.new }
+{
+    match read_head(head) {
+        Some(request) => match judge(Some(request)) {
+            Verdict::Serve(sends) => serve(alloc, &request, sends, moment, shelf, out),
+            Verdict::Refuse(status, sends) => {
+                let _ = say_status(status, moment, sends, true, out);
+                Next::Close
+            }
+        },
+        None => {
+            let _ = say_status(Status::BadRequest, moment, true, true, out);
+            Next::Close
+        }
+    }
+}
+
+/// Serves a request, with a body or without one, and returns whether the session continues.
+fn serve<S: Shelf, O: Sink>(
+    alloc: Global,
+    request: &Request<'_>,
+    sends: bool,
+    moment: u64,
+    shelf: &mut S,
+    out: &mut O,
+) -> Next
+    requires ready { S.ready shelf.old ≡ true }
+    requires moment { IsMoment moment }
+    ensures acts { Serves S.holds moment (shown request.now) sends shelf.old
+        (outside (O.taken out.old) (S.faults shelf.old) (O.faults out.old)) (continues result)
+        (outside (O.taken out.new) (S.faults shelf.new) (O.faults out.new)) }
+    ensures shelf { Stays S.holds S.ready S.alike S.faults shelf.old shelf.new }
+    ensures sink { O.alike out.old out.new }
+{
+    let closes = request.closes;
+    match find_target(alloc, request.target, shelf) {
+        Ok(Held::Whole(body, bytes)) => {
+            say_whole(alloc, body, bytes.as_slice(), moment, sends, closes, out)
+        }
+        Ok(Held::EveryMail) => say_every_mail(alloc, moment, sends, closes, shelf, out),
+        Ok(Held::Mails(numbers)) => {
+            say_mails(alloc, numbers.as_slice(), moment, sends, closes, shelf, out)
+        }
+        Ok(Held::Nothing) => {
+            let said = say_status(Status::NotFound, moment, sends, closes, out);
+            next_after(said.is_ok(), closes)
+        }
+        Err(refusal) => {
+            let _ = say_unread(alloc, refusal, moment, sends, out);
+            Next::Close
+        }
+    }
+}
+
+/// Writes a reply with a body, and returns whether the session continues.
+fn say_whole<O: Sink>(
+    alloc: Global,
+    body: Body,
+    bytes: &[u8],
+    moment: u64,
+    sends: bool,
+    closes: bool,
+    out: &mut O,
+) -> Next
+    requires moment { IsMoment moment }
+    ensures said { SaysWhole body bytes.now moment sends closes (O.taken out.old) (O.faults out.old)
+        (O.taken out.new) (O.faults out.new) (continues result) }
+    ensures sink { O.alike out.old out.new }
+{
+    let mut made = Bytes::new(alloc);
+    match push_reply(Status::Done, moment, body, bytes, sends, closes, &mut made) {
+        Ok(()) => {
+            let said = say(made.as_slice(), out);
+            next_after(said.is_ok(), closes)
+        }
+        Err(NoMemory) => {
+            let _ = say_status(Status::Unavailable, moment, sends, true, out);
+            Next::Close
+        }
+    }
+}
+
+/// Continues after a reply that was sent, unless it says that the connection is closed.
+pub(crate) fn next_after(sent: bool, closes: bool) -> Next
+    ensures { continues result ≡ sent && not closes }
+{
+    if sent && !closes {
+        Next::Go
+    } else {
+        Next::Close
+    }
+}

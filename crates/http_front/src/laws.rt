@@ -1,0 +1,23 @@
+//! The laws of the door of pages, which hold for every archive and all bytes.
+ghost use Rattle.http_front.specs.Laws.{HttpLaws};
+ghost use Rattle.http_front.specs.Paging.{ListingIsWhole};
+
+/// Shows that the answers of the door of pages do not depend on how its bytes are cut.
+///
+/// * However the bytes of a connection are cut into pieces, the same is said, and the same session
+///   is left.
+/// * The acts of one piece and then of another are acts of both at once, even if allocations, the
+///   disk or sends fail.
+/// * Acts without such failures do what the plain function does.
+/// * A head at the front ends with the first empty line, and has at most 16,384 bytes. More bytes
+///   leave it what it is, and so they leave a head that is too long.
+/// * The lines of a tree are one list.
+pub fn http_laws()
+    ensures { HttpLaws }
+{}
+
+/// Shows that a page of the listing is the one that all rows after the skipped ones make, although
+/// only as many are looked at as it needs.
+pub fn listing_is_whole()
+    ensures { ListingIsWhole }
+{}

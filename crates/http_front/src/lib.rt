@@ -1,0 +1,21 @@
+//! The door of pages, feeds and mailbox files: a connection over HTTP/1.1 that reads an archive.
+#![tactic(auto)]
+
+mod answer;
+mod feed;
+mod found;
+mod held;
+mod laws;
+mod listing;
+mod mailbox;
+mod message;
+mod numbers;
+mod replies;
+mod scan;
+mod session;
+mod thread;
+mod words;
+
+pub use laws::{http_laws, listing_is_whole};
+pub use session::HttpSession;
+pub use words::{say_busy, say_no_memory, say_unopened};

@@ -1,0 +1,108 @@
+//! The page of the listing.
+ghost use Rattle.std.specs.Prelude.{◌≡◌, ◌++◌, IfOk, OnOk, None, true, codes, map, is_some, option_copied};
+ghost use Rattle.arch_model.specs.Archives.{Archive};
+ghost use Rattle.http_heads.specs.Parameters.{parameter as parameter_of, skipped};
+ghost use Rattle.http_front.specs.Views.{one_row, row_at, rows_at};
+ghost use Rattle.http_front.specs.Asking.{Gives, listing_found};
+ghost use Rattle.http_front.specs.Sessions.{MakesPage};
+
+use crate::found::Held;
+use arch_base::{Bytes, NoMemory};
+use arch_model::Shelf;
+use html_pages::listing_page;
+use http_heads::{Body, parameter, skip_of};
+use mail_forms::Row;
+use std::alloc::Global;
+
+/// The rows that a page needs: those that it shows, and one that says that there are more.
+const ROWS_NEEDED: u64 = 201;
+
+/// Returns the page of the listing, by the parameters of its target. Reads no text.
+///
+/// Searches aren't served yet: with words to search for there is no page.
+pub(crate) fn listing_at<S: Shelf>(alloc: Global, query: &[u8], shelf: &S) -> Result<Held, NoMemory>
+    requires { S.ready shelf.now ≡ true }
+    ensures { (a : Archive) → S.holds shelf.now a → MakesPage
+        (listing_found a (parameter_of (codes "q") query.now) (skipped (parameter_of (codes "o") query.now)))
+        result }
+{
+    let searches = has_words(alloc, query)?;
+    if searches {
+        return Ok(Held::Nothing);
+    }
+    let page = listing_from(alloc, query, shelf)?;
+    Ok(Held::Whole(Body::Page, page))
+}
+
+/// Returns whether the parameters of a target have words to search for.
+fn has_words(alloc: Global, query: &[u8]) -> Result<bool, NoMemory>
+    ensures { IfOk result (λ has. has ≡ is_some (parameter_of (codes "q") query.now)) }
+{
+    Ok(parameter(alloc, query, b"q")?.is_some())
+}
+
+/// Returns the page of the listing after the rows that the parameters skip.
+fn listing_from<S: Shelf>(alloc: Global, query: &[u8], shelf: &S) -> Result<Bytes, NoMemory>
+    requires { S.ready shelf.now ≡ true }
+    ensures { (a : Archive) → S.holds shelf.now a → IfOk result (λ page. listing_found a None
+        (skipped (parameter_of (codes "o") query.now)) ≡ Gives Body.Page page) }
+{
+    let skip = skip_in(alloc, query)?;
+    let numbers = shelf.order_page(skip, ROWS_NEEDED)?;
+    let rows = rows_of(alloc, numbers.as_slice(), shelf)?;
+    listing_page(alloc, &shelf.config().name, rows.as_slice(), skip)
+}
+
+/// Returns how many rows the parameters of a target skip.
+fn skip_in(alloc: Global, query: &[u8]) -> Result<u64, NoMemory>
+    ensures { IfOk result (λ skip. skip ≡ skipped (parameter_of (codes "o") query.now)) }
+{
+    match parameter(alloc, query, b"o")? {
+        Some(value) => Ok(skip_of(Some(value.as_slice()))),
+        None => Ok(0),
+    }
+}
+
+/// Returns the rows of these numbers, in their order.
+pub(crate) fn rows_of<'a, S: Shelf>(
+    alloc: Global,
+    numbers: &[u64],
+    shelf: &'a S,
+) -> Result<Vec<&'a Row>, NoMemory>
+    requires { S.ready shelf.now ≡ true }
+    ensures { (a : Archive) → S.holds shelf.now a → IfOk result (λ rows.
+        map (λ row. row.now) rows.items ≡ rows_at a.entries numbers.now) }
+{
+    let mut rows = Vec::new(alloc);
+    for n in numbers {
+        push_found(row_of_number(*n, shelf), &mut rows)?;
+    }
+    Ok(rows)
+}
+
+/// Appends a row, if there is one.
+fn push_found<'a>(found: Option<&'a Row>, rows: &mut Vec<&'a Row>) -> Result<(), NoMemory>
+    ensures { OnOk result (map (λ row. row.now) rows.new.items
+        ≡ map (λ row. row.now) rows.old.items ++ one_row (option_copied found.entry)) }
+{
+    match found {
+        Some(row) => {
+            rows.push(row)?;
+            Ok(())
+        }
+        None => Ok(()),
+    }
+}
+
+/// Returns the row of a number, if it is live. Numbers of more than 32 bits aren't.
+pub(crate) fn row_of_number<S: Shelf>(n: u64, shelf: &S) -> Option<&Row>
+    requires { S.ready shelf.now ≡ true }
+    ensures { (a : Archive) → S.holds shelf.now a
+        → one_row (option_copied result) ≡ row_at a.entries n }
+{
+    if n <= u64::from(u32::MAX) {
+        shelf.row(n as u32)
+    } else {
+        None
+    }
+}

@@ -1,0 +1,185 @@
+//! Writes whole replies, and the words of statuses other than 200.
+ghost use Rattle.std.specs.Prelude.{◌≡◌, ◌++◌, ℕ, IfOk, OnOk, true};
+ghost use Rattle.arch_base.specs.Moments.{IsMoment};
+ghost use Rattle.edge_io.specs.Phrases.{Says};
+ghost use Rattle.http_front.specs.Sessions.{SaysUnread};
+ghost use Rattle.http_heads.specs.Dates.{reply_date};
+ghost use Rattle.http_heads.specs.Replies.{allow_line as allow, close_line as close};
+ghost use Rattle.http_front.specs.Replies.{reply, sent_body, word, word_of, status_line as line_of, damaged_line as damaged};
+
+use arch_base::{Bytes, NoMemory, ObjectId, hex_of};
+use arch_model::TextRefusal;
+use edge_io::{Sink, SinkFault};
+use http_heads::{Body, Status, date_at, push_reply_head};
+use std::alloc::Global;
+use wire_replies::{Phrase, send};
+
+/// Appends a reply: its head, and its body unless the method is `HEAD`.
+///
+/// `NoMemory` may leave a part of it appended.
+pub(crate) fn push_reply(
+    status: Status,
+    moment: u64,
+    body: Body,
+    bytes: &[u8],
+    sends: bool,
+    closes: bool,
+    into: &mut Bytes,
+) -> Result<(), NoMemory>
+    requires { IsMoment moment }
+    ensures { OnOk result (into.new
+        ≡ into.old ++ reply status moment body bytes.now sends closes) }
+{
+    push_reply_head(status, moment, body, bytes.len() as u128, closes, into)?;
+    into.push_slice(sent(bytes, sends))
+}
+
+/// Returns the bytes of a body, or none in the reply to the method `HEAD`.
+fn sent(bytes: &[u8], sends: bool) -> &[u8]
+    ensures { result.now ≡ sent_body sends bytes.now }
+{
+    if sends { bytes } else { b"" }
+}
+
+/// Writes a status with its words, in one piece.
+pub(crate) fn say_status<O: Sink>(
+    status: Status,
+    moment: u64,
+    sends: bool,
+    closes: bool,
+    out: &mut O,
+) -> Result<(), SinkFault>
+    requires { IsMoment moment }
+    ensures said { Says (word status moment sends closes) (O.taken out.old) (O.faults out.old)
+        (O.taken out.new) (O.faults out.new) result }
+    ensures sink { O.alike out.old out.new }
+{
+    say_words(status, status_line(status), moment, sends, closes, out)
+}
+
+/// Writes words with a status, in one piece if there are at most 3,000 of them.
+pub(crate) fn say_words<O: Sink>(
+    status: Status,
+    words: &[u8],
+    moment: u64,
+    sends: bool,
+    closes: bool,
+    out: &mut O,
+) -> Result<(), SinkFault>
+    requires { IsMoment moment }
+    ensures said { Says (word_of status words.now moment sends closes) (O.taken out.old)
+        (O.faults out.old) (O.taken out.new) (O.faults out.new) result }
+    ensures sink { O.alike out.old out.new }
+{
+    say_dated(status, words, &date_at(moment), sends, closes, out)
+}
+
+/// Writes words with a status and the date of a moment.
+fn say_dated<'a, O: Sink>(
+    status: Status,
+    words: &'a [u8],
+    date: &'a [u8],
+    sends: bool,
+    closes: bool,
+    out: &mut O,
+) -> Result<(), SinkFault>
+    ensures said { (moment : ℕ) → date.now ≡ reply_date moment
+        → Says (word_of status words.now moment sends closes) (O.taken out.old) (O.faults out.old)
+        (O.taken out.new) (O.faults out.new) result }
+    ensures sink { O.alike out.old out.new }
+{
+    send(
+        &[
+            Phrase::Words(b"HTTP/1.1 "),
+            Phrase::Words(status.words()),
+            Phrase::Words(b"\r\nDate: "),
+            Phrase::Words(date),
+            Phrase::Words(b"\r\nContent-Type: "),
+            Phrase::Words(Body::Words.media_type()),
+            Phrase::Words(b"\r\nContent-Length: "),
+            Phrase::Number(words.len() as u64),
+            Phrase::Words(b"\r\n"),
+            Phrase::Words(allow_line(status)),
+            Phrase::Words(close_line(closes)),
+            Phrase::Words(b"\r\n"),
+            Phrase::Words(sent(words, sends)),
+        ],
+        out,
+    )
+}
+
+/// Returns the line that names the allowed methods, if the status refuses another one.
+fn allow_line(status: Status) -> &'static [u8]
+    ensures { result.now ≡ allow status }
+{
+    match status {
+        Status::MethodNotAllowed => b"Allow: GET, HEAD\r\n",
+        _ => b"",
+    }
+}
+
+/// Returns the line that says that the connection is closed, if it is.
+fn close_line(closes: bool) -> &'static [u8]
+    ensures { result.now ≡ close closes }
+{
+    if closes {
+        b"Connection: close\r\n"
+    } else {
+        b""
+    }
+}
+
+/// Returns the words of a status.
+fn status_line(status: Status) -> &'static [u8]
+    ensures { result.now ≡ line_of status }
+{
+    match status {
+        Status::Done => b"",
+        Status::BadRequest => b"bad request\n",
+        Status::NotFound => b"not found\n",
+        Status::MethodNotAllowed => b"method not allowed\n",
+        Status::TooManyRequests => b"busy\n",
+        Status::HeadTooLarge => b"head too large\n",
+        Status::ServerError => b"disk fault\n",
+        Status::Unavailable => b"out of memory\n",
+    }
+}
+
+/// Writes why a text was not read.
+pub(crate) fn say_unread<O: Sink>(
+    alloc: Global,
+    refusal: TextRefusal,
+    moment: u64,
+    sends: bool,
+    out: &mut O,
+) -> Result<(), SinkFault>
+    requires { IsMoment moment }
+    ensures said { SaysUnread refusal moment sends (O.taken out.old) (O.faults out.old)
+        (O.taken out.new) (O.faults out.new) result }
+    ensures sink { O.alike out.old out.new }
+{
+    match refusal {
+        TextRefusal::DiskFault => say_status(Status::ServerError, moment, sends, true, out),
+        TextRefusal::NoMemory => say_status(Status::Unavailable, moment, sends, true, out),
+        TextRefusal::Damaged { named, found } => match damaged_line(alloc, &named, &found) {
+            Ok(line) => {
+                let status = Status::ServerError;
+                say_words(status, line.as_slice(), moment, sends, true, out)
+            }
+            Err(NoMemory) => say_status(Status::Unavailable, moment, sends, true, out),
+        },
+    }
+}
+
+/// Returns the line of a damaged text: its id, and the id of the bytes found in its place.
+fn damaged_line(alloc: Global, named: &ObjectId, found: &ObjectId) -> Result<Bytes, NoMemory>
+    ensures { IfOk result (λ made. made ≡ damaged named.now.0 found.now.0) }
+{
+    let mut made = Bytes::new(alloc);
+    made.push_slice(b"damaged ")?;
+    made.push_slice(&hex_of(named))?;
+    made.push_slice(b" ")?;
+    made.push_slice(&hex_of(found))?;
+    made.push_slice(b"\n")?;
+    Ok(made)
+}

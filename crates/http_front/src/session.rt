@@ -1,0 +1,212 @@
+//! A connection for pages: the bytes that are not answered yet, and the answer to a piece.
+ghost use Rattle.std.specs.Prelude.{◌≡◌, ◌⊎◌, ◌≤◌, ◌+◌, ◌++◌, ℕ, [], length, true, if◌then◌else◌};
+ghost use Rattle.line_door.specs.Acts.{outside};
+ghost use Rattle.arch_base.specs.Moments.{IsMoment};
+ghost use Rattle.arch_model.specs.Archives.{Archive};
+ghost use Rattle.arch_model.specs.Next.{continues};
+ghost use Rattle.arch_model.specs.Shelves.{Stays};
+ghost use Rattle.http_front.specs.Fronts.{head_limit};
+
+use crate::answer::answer_head;
+use crate::held::HeldHead;
+use crate::replies::say_status;
+use crate::scan::{Ahead, Seen, head_in};
+use arch_base::NoMemory;
+use arch_model::{Next, Shelf};
+use edge_io::Sink;
+use http_heads::Status;
+use std::alloc::Global;
+use std::marker::Model;
+
+/// The result of one act on the bytes at the front.
+#[derive(Clone, Copy, Drop)]
+pub(crate) enum Turn {
+    /// A request that took this many bytes of the piece was answered, and the session continues.
+    Went(usize),
+    /// The piece was appended to what is held.
+    Kept,
+    /// The session is closed.
+    Closed,
+}
+
+/// A session of a connection for pages.
+///
+/// A contract sees it as the bytes that are not answered yet.
+#[derive(Drop)]
+pub struct HttpSession {
+    alloc: Global,
+    held: HeldHead,
+    seen: Seen,
+}
+
+impl Model for HttpSession {
+    ghost use Rattle.std.specs.Prelude.{List, ℕ};
+    ghost use Rattle.http_front.specs.Fronts.{head_limit};
+    ghost use Rattle.http_front.specs.Scans.{IsHeld};
+
+    ghost Value = { List ℕ };
+
+    ghost view = { λ s. s.held };
+
+    ghost invariant = { λ s. IsHeld head_limit s.held s.seen };
+}
+
+impl HttpSession {
+    ghost use Rattle.http_front.specs.Scans.{IsHeld};
+    ghost use Rattle.http_front.specs.Asking.{Reading};
+    ghost use Rattle.http_front.specs.Sessions.{IsTurn, Takes, AnswersHead, Turns, Feeds};
+
+    /// Returns a session without bytes. Nothing is said before the first request. Allocates nothing.
+    pub fn open(alloc: Global) -> HttpSession
+        ensures { result ≡ [] }
+    {
+        HttpSession {
+            alloc,
+            held: HeldHead::new(alloc),
+            seen: Seen::Nothing,
+        }
+    }
+
+    /// Answers the whole requests of a piece in order, and keeps the rest. Returns whether the
+    /// session continues.
+    ///
+    /// A request is a head up to its empty line. `moment` is in seconds since 1970 UTC, and is the
+    /// date of each reply.
+    ///
+    /// The session ends, and the remaining bytes are dropped:
+    ///
+    /// * after the reply, if the head asks for that or its version is 1.0;
+    /// * after a status of 400, 405 or 431: at what is no head, at a head that says that a body
+    ///   follows, at another method than `GET` and `HEAD`, and as soon as 16,384 bytes hold no empty
+    ///   line;
+    /// * if out of memory, for a request or for a rest that isn't empty, which writes a status of
+    ///   503;
+    /// * if a text can't be read, which writes a status of 500, and the shelf's count of faults rose.
+    ///   It names a damaged text only if the shelf holds no archive. A mailbox file of which a part
+    ///   was written stops instead;
+    /// * if a send is lost. A prefix of the reply was taken, and the sink's count of faults rose.
+    ///
+    /// The contract then says nothing of what the session holds.
+    pub fn feed<S: Shelf, O: Sink>(
+        &mut self,
+        piece: &[u8],
+        moment: u64,
+        shelf: &mut S,
+        out: &mut O,
+    ) -> Next
+        requires ready { S.ready shelf.old ≡ true }
+        requires moment { IsMoment moment }
+        ensures fed { Feeds S.holds moment (self.old ++ piece.now) shelf.old
+            (outside (O.taken out.old) (S.faults shelf.old) (O.faults out.old))
+            (continues result) self.new
+            (outside (O.taken out.new) (S.faults shelf.new) (O.faults out.new)) }
+        ensures shelf { Stays S.holds S.ready S.alike S.faults shelf.old shelf.new }
+        ensures sink { O.alike out.old out.new }
+    {
+        let mut rest = piece;
+        loop {
+            match self.act(rest, moment, shelf, out) {
+                Turn::Went(taken) => rest = rest.split_at(taken).1,
+                Turn::Kept => return Next::Go,
+                Turn::Closed => return Next::Close,
+            }
+        }
+    }
+
+    /// Does one act on the bytes at the front.
+    fn act<S: Shelf, O: Sink>(
+        &mut self,
+        piece: &[u8],
+        moment: u64,
+        shelf: &mut S,
+        out: &mut O,
+    ) -> Turn
+        requires ready { S.ready shelf.old ≡ true }
+        requires moment { IsMoment moment }
+        ensures turn { Turns S.holds moment self.old piece.now shelf.old
+            (outside (O.taken out.old) (S.faults shelf.old) (O.faults out.old)) result self.new
+            (outside (O.taken out.new) (S.faults shelf.new) (O.faults out.new)) }
+        ensures takes { Takes piece.now result }
+        ensures shelf { Stays S.holds S.ready S.alike S.faults shelf.old shelf.new }
+        ensures sink { O.alike out.old out.new }
+    {
+        match head_in(self.held.as_slice(), self.seen, piece) {
+            Ahead::More(seen) => self.hold(piece, seen, moment, out),
+            Ahead::Long => {
+                let _ = say_status(Status::HeadTooLarge, moment, true, true, out);
+                Turn::Closed
+            }
+            Ahead::Head(taken) => {
+                let last = piece.split_at(taken).0;
+                went(taken, self.answer(last, moment, shelf, out))
+            }
+        }
+    }
+
+    /// Answers the head that ends with these bytes, and drops it.
+    fn answer<S: Shelf, O: Sink>(
+        &mut self,
+        last: &[u8],
+        moment: u64,
+        shelf: &mut S,
+        out: &mut O,
+    ) -> Next
+        requires ready { S.ready shelf.old ≡ true }
+        requires moment { IsMoment moment }
+        requires room { length self.old + length last.now ≤ head_limit }
+        ensures acts { AnswersHead S.holds moment (self.old ++ last.now) shelf.old
+            (outside (O.taken out.old) (S.faults shelf.old) (O.faults out.old))
+            (continues result)
+            (outside (O.taken out.new) (S.faults shelf.new) (O.faults out.new)) }
+        ensures empty { self.new ≡ [] }
+        ensures shelf { Stays S.holds S.ready S.alike S.faults shelf.old shelf.new }
+        ensures sink { O.alike out.old out.new }
+    {
+        if self.held.len() == 0 {
+            self.seen = Seen::Nothing;
+            return answer_head(self.alloc, last, moment, shelf, out);
+        }
+        self.held.join(last);
+        let next = answer_head(self.alloc, self.held.as_slice(), moment, shelf, out);
+        self.held.clear();
+        self.seen = Seen::Nothing;
+        next
+    }
+
+    /// Keeps a piece that doesn't end a head. An empty piece needs no memory.
+    fn hold<O: Sink>(&mut self, piece: &[u8], seen: Seen, moment: u64, out: &mut O) -> Turn
+        requires held { IsHeld head_limit (self.old ++ piece.now) seen }
+        requires moment { IsMoment moment }
+        ensures turn { (reading : Reading) (a : Archive) (disk : ℕ)
+            → IsTurn reading moment a self.old piece.now
+            (outside (O.taken out.old) disk (O.faults out.old)) result self.new
+            (outside (O.taken out.new) disk (O.faults out.new)) }
+        ensures ends { (result ≡ Turn.Kept) ⊎ (result ≡ Turn.Closed) }
+        ensures sink { O.alike out.old out.new }
+    {
+        if piece.is_empty() {
+            self.seen = seen;
+            return Turn::Kept;
+        }
+        match self.held.keep(piece) {
+            Ok(()) => {
+                self.seen = seen;
+                Turn::Kept
+            }
+            Err(NoMemory) => {
+                let _ = say_status(Status::Unavailable, moment, true, true, out);
+                Turn::Closed
+            }
+        }
+    }
+}
+
+/// Continues after a request that took `taken` bytes of the piece, or closes.
+fn went(taken: usize, next: Next) -> Turn
+    ensures { result ≡ (if continues next then Turn.Went taken else Turn.Closed) }
+{
+    match next {
+        Next::Go => Turn::Went(taken),
+        Next::Close => Turn::Closed,
+    }
+}
